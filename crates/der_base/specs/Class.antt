@@ -1,0 +1,11 @@
+-- Classes of tags (X.690 8.1.2.2, table 1).
+use Rattle.std.specs.Prelude.{ℕ, ◌*◌}
+use Rattle.der_base.specs.declared.tag.class.Class.{Class}
+use Rattle.der_base.specs.declared.tag.class.Class.TheVariants.{Universal, Application, ContextSpecific, Private}
+
+-- the class as a number, which bits 8 and 7 of an identifier hold
+abbrev pub class_number : Class → ℕ
+class_number Universal = 0
+class_number Application = 1
+class_number ContextSpecific = 2
+class_number Private = 3

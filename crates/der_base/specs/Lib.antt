@@ -1,0 +1,11 @@
+pub mod Digits
+pub mod Order
+pub mod Length
+pub mod Class
+pub mod Tag
+pub mod Identifier
+pub mod Body
+pub mod Header
+pub mod Error
+pub mod Refusal
+pub mod Text

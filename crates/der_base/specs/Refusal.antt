@@ -1,0 +1,39 @@
+-- What a grammar refuses, before it is told as an error: its numbers have no bound.
+use Rattle.std.specs.Prelude.{ℕ, ◌+◌, ◌^◌, Bool, false, nat_lt, not, if◌then◌else◌}
+use Rattle.der_base.specs.Length.{plain}
+use Rattle.der_base.specs.Error.{at, bare}
+use Rattle.der_base.specs.declared.error.Error.{Error}
+use Rattle.der_base.specs.declared.error.ErrorKind.{ErrorKind}
+use Rattle.der_base.specs.declared.error.ErrorKind.TheVariants.{Incomplete, Overflow}
+
+-- so many octets would have to be there and so many are, or another kind
+pub data Reason : Type 0 where
+  Wants : ℕ → ℕ → Reason
+  Kind : ErrorKind → Reason
+
+pub record Refusal : Type 0 where
+  pub reason : Reason
+  pub position : ℕ
+
+abbrev pub refusal : ErrorKind → ℕ → Refusal
+refusal k p = record { reason = Kind k; position = p }
+
+abbrev pub wants : ℕ → ℕ → ℕ → Refusal
+wants expected actual p = record { reason = Wants expected actual; position = p }
+
+-- the input ends at this position, and one octet more is wanted
+abbrev pub cut_at : ℕ → Refusal
+cut_at end = wants (end + 1) end end
+
+-- more octets are wanted than a length can count
+abbrev pub is_far : Reason → Bool
+is_far (Wants expected actual) = not (nat_lt expected (2 ^ 32))
+is_far (Kind k) = false
+
+abbrev pub kind_told : Reason → ErrorKind
+kind_told (Wants expected actual) = Incomplete (plain expected) (plain actual)
+kind_told (Kind k) = k
+
+-- the error that a refusal is told as; one that is too far is an overflow, without a position
+abbrev pub owed : Refusal → Error
+owed r = if is_far r.reason then bare Overflow else at (kind_told r.reason) (plain r.position)

@@ -1,0 +1,220 @@
+//! Errors.
+ghost use Rattle.std.specs.Prelude.{◌≡◌, Option, Some, None};
+
+use crate::length::Length;
+use crate::tag::Tag;
+use std::fmt;
+pub use std::str::Utf8Error;
+
+/// A result with this crate's error.
+pub type Result<T> = std::result::Result<T, Error>;
+
+/// Why reading or writing was refused, and at which position where one is known. Positions count
+/// octets from the beginning of the input or of the output.
+#[derive(Clone, Copy, Debug, PartialEq, Eq)]
+pub struct Error {
+    kind: ErrorKind,
+    position: Option<Length>,
+}
+
+impl Error {
+    ghost use Rattle.der_base.specs.Error.{at, kind_of, position_of};
+
+    /// An error of this kind at this position.
+    pub const fn new(kind: ErrorKind, position: Length) -> Self
+        ensures { result ≡ at kind position }
+    {
+        Error {
+            kind,
+            position: Some(position),
+        }
+    }
+
+    /// The kind.
+    pub const fn kind(self) -> ErrorKind
+        ensures { result ≡ kind_of self }
+    {
+        self.kind
+    }
+
+    /// The position, where one is known.
+    pub const fn position(self) -> Option<Length>
+        ensures { result ≡ position_of self }
+    {
+        self.position
+    }
+}
+
+impl From<ErrorKind> for Error {
+    ghost use Rattle.der_base.specs.Error.{bare};
+
+    ghost from_gives = { λ kind e. e ≡ bare kind };
+
+    fn from(kind: ErrorKind) -> Self {
+        Error {
+            kind,
+            position: None,
+        }
+    }
+}
+
+/// The kinds of error.
+#[derive(Clone, Copy, Debug, PartialEq, Eq)]
+pub enum ErrorKind {
+    /// A date or a time is none.
+    DateTime,
+    /// A name of encoding rules is none.
+    EncodingRules,
+    /// The reader or writer had failed before.
+    Failed,
+    /// The input ends too early.
+    Incomplete {
+        /// How many octets the input would have to have.
+        expected_len: Length,
+        /// How many octets it has.
+        actual_len: Length,
+    },
+    /// An indefinite length where none may stand, or one that is not closed rightly.
+    IndefiniteLength,
+    /// The length of an element with this tag is not spelled as it has to be.
+    Length {
+        /// The element's tag.
+        tag: Tag,
+    },
+    /// Elements are nested too deeply.
+    NestingDepth,
+    /// A value is not spelled canonically.
+    Noncanonical {
+        /// The value's tag.
+        tag: Tag,
+    },
+    /// An object identifier is malformed.
+    OidMalformed,
+    /// A SET OF holds an element twice.
+    SetDuplicate,
+    /// A SET OF is not in order.
+    SetOrdering,
+    /// A number of octets passes 4294967295.
+    Overflow,
+    /// A message, or the spelling of a length, is too long.
+    Overlength,
+    /// The reader cannot do what is asked.
+    Reader,
+    /// A name of a tagging mode is none.
+    TagModeUnknown,
+    /// A tag number is not spelled as it has to be, or passes 32 bits.
+    TagNumberInvalid,
+    /// Another tag was expected.
+    TagUnexpected {
+        /// The tag that was expected, where there was one.
+        expected: Option<Tag>,
+        /// The tag that was met.
+        actual: Tag,
+    },
+    /// No universal tag has this first octet.
+    TagUnknown {
+        /// The octet.
+        byte: u8,
+    },
+    /// Octets are left at the end.
+    TrailingData {
+        /// How many octets were read.
+        decoded: Length,
+        /// How many are left.
+        remaining: Length,
+    },
+    /// A text is not UTF-8.
+    Utf8(Utf8Error),
+    /// A value is malformed.
+    Value {
+        /// The value's tag.
+        tag: Tag,
+    },
+    /// Memory was refused.
+    OutOfMemory,
+}
+
+impl ErrorKind {
+    ghost use Rattle.der_base.specs.Error.{bare, at};
+
+    /// An error of this kind at this position.
+    pub const fn at(self, position: Length) -> Error
+        ensures { result ≡ at self position }
+    {
+        Error::new(self, position)
+    }
+
+    /// An error of this kind, without a position.
+    pub fn to_error(self) -> Error
+        ensures { result ≡ bare self }
+    {
+        Error::from(self)
+    }
+}
+
+/// What went wrong, with lengths and tags as they print.
+impl fmt::Display for ErrorKind {
+    ghost use Rattle.der_base.specs.Text.{kind_text};
+
+    ghost output = { kind_text };
+
+    fn fmt<W: fmt::Write>(&self, f: &mut fmt::Formatter<W>) -> fmt::Result {
+        match self {
+            ErrorKind::DateTime => f.write_str("date/time error"),
+            ErrorKind::EncodingRules => f.write_str("invalid encoding rules"),
+            ErrorKind::Failed => f.write_str("operation failed"),
+            ErrorKind::Incomplete {
+                expected_len,
+                actual_len,
+            } => write!(
+                f,
+                "ASN.1 DER message is incomplete: expected {expected_len}, actual {actual_len}"
+            ),
+            ErrorKind::IndefiniteLength => f.write_str("indefinite length disallowed/malformed"),
+            ErrorKind::Length { tag } => write!(f, "incorrect length for {tag}"),
+            ErrorKind::NestingDepth => f.write_str("too many nested productions encountered"),
+            ErrorKind::Noncanonical { tag } => {
+                write!(f, "ASN.1 {tag} not canonically encoded as DER")
+            }
+            ErrorKind::OidMalformed => f.write_str("malformed OID"),
+            ErrorKind::SetDuplicate => f.write_str("SET OF contains duplicate"),
+            ErrorKind::SetOrdering => f.write_str("SET OF ordering error"),
+            ErrorKind::Overflow => f.write_str("integer overflow"),
+            ErrorKind::Overlength => f.write_str("ASN.1 DER message is too long"),
+            ErrorKind::Reader => f.write_str("reader does not support the requested operation"),
+            ErrorKind::TagModeUnknown => f.write_str("unknown tag mode"),
+            ErrorKind::TagNumberInvalid => f.write_str("invalid tag number"),
+            ErrorKind::TagUnexpected { expected, actual } => match expected {
+                Some(tag) => write!(f, "unexpected ASN.1 DER tag: expected {tag}, got {actual}"),
+                None => write!(f, "unexpected ASN.1 DER tag: got {actual}"),
+            },
+            ErrorKind::TagUnknown { byte } => {
+                write!(f, "unknown/unsupported ASN.1 DER tag: 0x{byte:02x}")
+            }
+            ErrorKind::TrailingData { decoded, remaining } => write!(
+                f,
+                "trailing data at end of DER message: decoded {decoded} bytes, {remaining} bytes remaining"
+            ),
+            ErrorKind::Utf8(error) => write!(f, "{error}"),
+            ErrorKind::Value { tag } => write!(f, "malformed ASN.1 DER value for {tag}"),
+            ErrorKind::OutOfMemory => f.write_str("out of memory"),
+        }
+    }
+}
+
+/// The kind's text, and the position where there is one.
+impl fmt::Display for Error {
+    ghost use Rattle.der_base.specs.Text.{error_text};
+
+    ghost output = { error_text };
+
+    fn fmt<W: fmt::Write>(&self, f: &mut fmt::Formatter<W>) -> fmt::Result {
+        let kind = &self.kind;
+        match self.position {
+            Some(position) => write!(f, "{kind} at DER byte {position}"),
+            None => write!(f, "{kind}"),
+        }
+    }
+}
+
+impl std::error::Error for Error {}

@@ -1,0 +1,18 @@
+//! The values of the Distinguished Encoding Rules' lowest layer, after the crate `der`: lengths,
+//! tags, classes, encoding rules and errors, with their printed texts. Nothing here takes memory.
+//!
+//! The definitions of the standard, ITU-T X.690, stand in `specs/`, apart from any code.
+#![tactic(auto)]
+
+pub mod encoding_rules;
+pub mod error;
+pub mod length;
+pub mod tag;
+
+pub use encoding_rules::EncodingRules;
+pub use error::{Error, ErrorKind, Result};
+pub use length::Length;
+pub use tag::{
+    CLASS_APPLICATION, CLASS_CONTEXT_SPECIFIC, CLASS_PRIVATE, CLASS_UNIVERSAL, Class, Tag, TagMode,
+    TagNumber,
+};

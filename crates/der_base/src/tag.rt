@@ -1,0 +1,219 @@
+//! Tags.
+ghost use Rattle.std.specs.Prelude.{◌≡◌, Bool, true, false, Some};
+ghost use Rattle.der_base.specs.Text.{bit_text as spec_bit_text};
+
+pub mod class;
+pub mod mode;
+pub mod number;
+
+pub use class::{
+    CLASS_APPLICATION, CLASS_CONTEXT_SPECIFIC, CLASS_PRIVATE, CLASS_UNIVERSAL, Class,
+};
+pub use mode::TagMode;
+pub use number::TagNumber;
+
+use std::fmt;
+
+/// The tag of an element: a class, whether its contents are constructed, and a number
+/// (X.690 8.1.2). The derived order is that of the variants, then of the constructed bit, then of
+/// the number; it is not the order of the octets.
+#[derive(Clone, Copy, PartialEq, Eq, PartialOrd, Ord, Hash)]
+pub enum Tag {
+    /// `BOOLEAN`, 1.
+    Boolean,
+    /// `INTEGER`, 2.
+    Integer,
+    /// `BIT STRING`, 3.
+    BitString,
+    /// `OCTET STRING`, 4.
+    OctetString,
+    /// `NULL`, 5.
+    Null,
+    /// `OBJECT IDENTIFIER`, 6.
+    ObjectIdentifier,
+    /// `REAL`, 9.
+    Real,
+    /// `ENUMERATED`, 10.
+    Enumerated,
+    /// `UTF8String`, 12.
+    Utf8String,
+    /// `RELATIVE-OID`, 13.
+    RelativeOid,
+    /// `SEQUENCE` and `SEQUENCE OF`, 16, constructed.
+    Sequence,
+    /// `SET` and `SET OF`, 17, constructed.
+    Set,
+    /// `NumericString`, 18.
+    NumericString,
+    /// `PrintableString`, 19.
+    PrintableString,
+    /// `TeletexString`, 20.
+    TeletexString,
+    /// `VideotexString`, 21.
+    VideotexString,
+    /// `IA5String`, 22.
+    Ia5String,
+    /// `UTCTime`, 23.
+    UtcTime,
+    /// `GeneralizedTime`, 24.
+    GeneralizedTime,
+    /// `VisibleString`, 26.
+    VisibleString,
+    /// `GeneralString`, 27.
+    GeneralString,
+    /// `BMPString`, 30.
+    BmpString,
+    /// A tag of an application.
+    Application {
+        /// Whether the contents are constructed.
+        constructed: bool,
+        /// The number.
+        number: TagNumber,
+    },
+    /// A tag whose meaning the context gives.
+    ContextSpecific {
+        /// Whether the contents are constructed.
+        constructed: bool,
+        /// The number.
+        number: TagNumber,
+    },
+    /// A private tag.
+    Private {
+        /// Whether the contents are constructed.
+        constructed: bool,
+        /// The number.
+        number: TagNumber,
+    },
+}
+
+impl Tag {
+    ghost use Rattle.der_base.specs.Tag.{label};
+    ghost use Rattle.der_base.specs.Class.{class_number};
+
+    /// The class.
+    pub const fn class(self) -> Class
+        ensures { class_number result ≡ (label self).class }
+    {
+        match self {
+            Tag::Application { .. } => Class::Application,
+            Tag::ContextSpecific { .. } => Class::ContextSpecific,
+            Tag::Private { .. } => Class::Private,
+            _ => Class::Universal,
+        }
+    }
+
+    /// The number.
+    pub const fn number(self) -> TagNumber
+        ensures { result.0 ≡ (label self).number }
+    {
+        match self {
+            Tag::Boolean => TagNumber(1),
+            Tag::Integer => TagNumber(2),
+            Tag::BitString => TagNumber(3),
+            Tag::OctetString => TagNumber(4),
+            Tag::Null => TagNumber(5),
+            Tag::ObjectIdentifier => TagNumber(6),
+            Tag::Real => TagNumber(9),
+            Tag::Enumerated => TagNumber(10),
+            Tag::Utf8String => TagNumber(12),
+            Tag::RelativeOid => TagNumber(13),
+            Tag::Sequence => TagNumber(16),
+            Tag::Set => TagNumber(17),
+            Tag::NumericString => TagNumber(18),
+            Tag::PrintableString => TagNumber(19),
+            Tag::TeletexString => TagNumber(20),
+            Tag::VideotexString => TagNumber(21),
+            Tag::Ia5String => TagNumber(22),
+            Tag::UtcTime => TagNumber(23),
+            Tag::GeneralizedTime => TagNumber(24),
+            Tag::VisibleString => TagNumber(26),
+            Tag::GeneralString => TagNumber(27),
+            Tag::BmpString => TagNumber(30),
+            Tag::Application { number, .. }
+            | Tag::ContextSpecific { number, .. }
+            | Tag::Private { number, .. } => number,
+        }
+    }
+
+    /// Whether the contents are constructed: so they are of `Sequence` and `Set`, and of a tag
+    /// of another class where it says so.
+    pub const fn is_constructed(self) -> bool
+        ensures { result ≡ (label self).constructed }
+    {
+        match self {
+            Tag::Sequence | Tag::Set => true,
+            Tag::Application { constructed, .. }
+            | Tag::ContextSpecific { constructed, .. }
+            | Tag::Private { constructed, .. } => constructed,
+            _ => false,
+        }
+    }
+}
+
+/// The name of a universal tag; class, number and constructed bit of another.
+impl fmt::Display for Tag {
+    ghost use Rattle.der_base.specs.Text.{tag_text};
+
+    ghost output = { λ t. Some (tag_text t) };
+
+    fn fmt<W: fmt::Write>(&self, f: &mut fmt::Formatter<W>) -> fmt::Result {
+        match self {
+            Tag::Boolean => f.write_str("BOOLEAN"),
+            Tag::Integer => f.write_str("INTEGER"),
+            Tag::BitString => f.write_str("BIT STRING"),
+            Tag::OctetString => f.write_str("OCTET STRING"),
+            Tag::Null => f.write_str("NULL"),
+            Tag::ObjectIdentifier => f.write_str("OBJECT IDENTIFIER"),
+            Tag::Real => f.write_str("REAL"),
+            Tag::Enumerated => f.write_str("ENUMERATED"),
+            Tag::Utf8String => f.write_str("UTF8String"),
+            Tag::RelativeOid => f.write_str("RELATIVE OID"),
+            Tag::Sequence => f.write_str("SEQUENCE"),
+            Tag::Set => f.write_str("SET"),
+            Tag::NumericString => f.write_str("NumericString"),
+            Tag::PrintableString => f.write_str("PrintableString"),
+            Tag::TeletexString => f.write_str("TeletexString"),
+            Tag::VideotexString => f.write_str("VideotexString"),
+            Tag::Ia5String => f.write_str("IA5String"),
+            Tag::UtcTime => f.write_str("UTCTime"),
+            Tag::GeneralizedTime => f.write_str("GeneralizedTime"),
+            Tag::VisibleString => f.write_str("VisibleString"),
+            Tag::GeneralString => f.write_str("GeneralString"),
+            Tag::BmpString => f.write_str("BMPString"),
+            Tag::Application {
+                constructed,
+                number,
+            } => write!(f, "APPLICATION [{}{}", number.0, bit_text(*constructed)),
+            Tag::ContextSpecific {
+                constructed,
+                number,
+            } => write!(f, "CONTEXT-SPECIFIC [{}{}", number.0, bit_text(*constructed)),
+            Tag::Private {
+                constructed,
+                number,
+            } => write!(f, "PRIVATE [{}{}", number.0, bit_text(*constructed)),
+        }
+    }
+}
+
+fn bit_text(constructed: bool) -> &'static str
+    ensures { result.now ≡ spec_bit_text constructed }
+{
+    if constructed {
+        "] (constructed)"
+    } else {
+        "] (primitive)"
+    }
+}
+
+/// The number in hexadecimal and the printed name, as `Tag(0x10: SEQUENCE)`.
+impl fmt::Debug for Tag {
+    ghost use Rattle.der_base.specs.Text.{tag_debug};
+
+    ghost debug_output = { λ t. Some (tag_debug t) };
+
+    fn fmt<W: fmt::Write>(&self, f: &mut fmt::Formatter<W>) -> fmt::Result {
+        let number = self.number().0;
+        write!(f, "Tag(0x{number:02x}: {self})")
+    }
+}
