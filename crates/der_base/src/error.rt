@@ -191,10 +191,10 @@ impl fmt::Display for ErrorKind {
             ErrorKind::TagUnknown { byte } => {
                 write!(f, "unknown/unsupported ASN.1 DER tag: 0x{byte:02x}")
             }
-            ErrorKind::TrailingData { decoded, remaining } => write!(
-                f,
-                "trailing data at end of DER message: decoded {decoded} bytes, {remaining} bytes remaining"
-            ),
+            ErrorKind::TrailingData { decoded, remaining } => {
+                write!(f, "trailing data at end of DER message: decoded {decoded} bytes, ")?;
+                write!(f, "{remaining} bytes remaining")
+            }
             ErrorKind::Utf8(error) => write!(f, "{error}"),
             ErrorKind::Value { tag } => write!(f, "malformed ASN.1 DER value for {tag}"),
             ErrorKind::OutOfMemory => f.write_str("out of memory"),

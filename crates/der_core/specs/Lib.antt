@@ -1,0 +1,5 @@
+pub mod State
+pub mod Outcome
+pub mod Reader
+pub mod SliceReader
+pub mod Refused

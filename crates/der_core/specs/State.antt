@@ -1,0 +1,64 @@
+-- What a reader means.
+use Rattle.std.specs.Prelude.{◌≡◌, ℕ, ◌+◌, ◌-◌, ◌^◌, ◌<◌, ◌≤◌, Bool, true, false, IsTrue, List, ◌++◌, length, take, drop, if◌then◌else◌}
+use Rattle.der_base.specs.Length.{plain}
+use Rattle.der_base.specs.Refusal.{Refusal, is_far}
+use Rattle.der_base.specs.declared.length.Length.{Length}
+use Rattle.der_base.specs.declared.encoding_rules.EncodingRules.{EncodingRules}
+
+pub record State : Type 0 where
+  pub input : List ℕ
+  pub rules : EncodingRules
+  -- how far may be read: inside a part, its end
+  pub end : ℕ
+  pub position : ℕ
+  pub depth : ℕ
+  pub failed : Bool
+  -- whether the reader keeps a failed state
+  pub marks : Bool
+
+-- a reader of a whole input that nothing was read of
+abbrev pub beginning : EncodingRules → List ℕ → State
+beginning rules input = record { input = input; rules = rules; end = length input; position = 0; depth = 0; failed = false; marks = true }
+
+-- what is left up to the present end
+abbrev pub rest : State → List ℕ
+rest s = take (s.end - s.position) (drop s.position s.input)
+
+-- the position as a length
+abbrev pub here : State → Length
+here s = plain s.position
+
+abbrev pub advanced : State → ℕ → State
+advanced s n = record s { position = s.position + n }
+
+-- at a position, failed where the reader keeps such a state
+abbrev pub stopped : State → ℕ → State
+stopped s at = record s { position = at; failed = s.marks }
+
+-- how a reader is left that is refused so: stopped at the position of the refusal, but where that
+-- is told as an overflow not failed
+abbrev pub left : State → Refusal → State
+left s r = if is_far r.reason then record s { position = r.position } else stopped s r.position
+
+-- the facts of every reader
+pub record Sound (s : State) : Type 0 where
+  pub ordered : s.position ≤ s.end
+  pub in_input : s.end ≤ length s.input
+  pub addressable : length s.input < 2 ^ 32
+  pub shallow : s.depth ≤ 64
+
+-- the same reader is handed back: not earlier, within its end, and not less failed
+pub record Same (s t : State) : Type 0 where
+  pub input : t.input ≡ s.input
+  pub rules : t.rules ≡ s.rules
+  pub end : t.end ≡ s.end
+  pub depth : t.depth ≡ s.depth
+  pub marks : t.marks ≡ s.marks
+  pub forward : s.position ≤ t.position
+  pub within : t.position ≤ t.end
+  pub failed : IsTrue s.failed → IsTrue t.failed
+
+-- these octets were read, and nothing else changed
+pub record Reads (s t : State) (octets : List ℕ) : Type 0 where
+  pub split : rest s ≡ octets ++ rest t
+  pub state : t ≡ advanced s (length octets)

@@ -1,0 +1,150 @@
+//! Readers of a slice.
+ghost use Rattle.std.specs.Prelude.{◌≡◌, ℕ, ◌+◌, ◌-◌, ◌^◌, ◌<◌, ◌≤◌, ◌↔◌, Bool, true, false, length, IfOk, IfErr, IsOk};
+
+use crate::reader::Reader;
+use der_base::{EncodingRules, Error, ErrorKind, Length};
+
+/// A reader of the octets of a slice, which it lends.
+#[derive(Debug)]
+pub struct SliceReader<'a> {
+    bytes: &'a [u8],
+    encoding_rules: EncodingRules,
+    end: u32,
+    position: u32,
+    failed: bool,
+    ghost ordered: { position ≤ end },
+    ghost in_input: { end ≤ length bytes.now },
+    ghost addressable: { length bytes.now < 2 ^ 32 },
+}
+
+impl Drop for SliceReader<'_> {
+    fn drop(self) {
+        let SliceReader {
+            bytes: _,
+            encoding_rules: _,
+            end: _,
+            position: _,
+            failed: _,
+        } = self;
+    }
+}
+
+impl<'a> SliceReader<'a> {
+    ghost use Rattle.der_base.specs.Error.{bare};
+    ghost use Rattle.der_base.specs.Refusal.{wants, owed};
+    ghost use Rattle.der_base.specs.declared.error.ErrorKind.TheVariants.{Overflow};
+    ghost use Rattle.der_base.specs.declared.encoding_rules.EncodingRules.TheVariants.{Der};
+    ghost use Rattle.der_core.specs.State.{beginning, left};
+    ghost use Rattle.der_core.specs.SliceReader.{slice_state};
+
+    /// A reader of these octets under the Distinguished Encoding Rules, at their beginning;
+    /// `Overflow` without a position for more than 4294967295 of them.
+    pub fn new(bytes: &'a [u8]) -> Result<Self, Error>
+        ensures ok { IfOk result (λ r. slice_state r ≡ beginning Der bytes.now) }
+        ensures fits { IsOk result ↔ (length bytes.now < 2 ^ 32) }
+        ensures refused { IfErr result (λ e. e ≡ bare Overflow) }
+    {
+        if bytes.len() > u32::MAX as usize {
+            return Err(ErrorKind::Overflow.to_error());
+        }
+        Ok(SliceReader {
+            bytes,
+            encoding_rules: EncodingRules::Der,
+            end: bytes.len() as u32,
+            position: 0,
+            failed: false,
+        })
+    }
+
+    // so many octets are not there
+    #[cold]
+    fn incomplete(&mut self, count: u32) -> Error
+        ensures told { result ≡ owed (wants (self.old.position + count) self.old.end self.old.position) }
+        ensures leaves { slice_state self.new ≡ left (slice_state self.old) (wants (self.old.position + count) self.old.end self.old.position) }
+    {
+        if count > u32::MAX - self.position {
+            return ErrorKind::Overflow.to_error();
+        }
+        self.failed = true;
+        ErrorKind::Incomplete {
+            expected_len: Length::new(self.position + count),
+            actual_len: Length::new(self.end),
+        }
+        .at(Length::new(self.position))
+    }
+}
+
+impl<'a> Reader for SliceReader<'a> {
+    ghost use Rattle.der_core.specs.SliceReader.{slice_state};
+
+    type Lent = &'a [u8];
+
+    ghost state = { slice_state };
+
+    ghost reliable = { true };
+
+    ghost lends = { true };
+
+    const CAN_READ_SLICE: bool = true;
+
+    fn can_lend() -> bool {
+        true
+    }
+
+    fn encoding_rules(&self) -> EncodingRules {
+        self.encoding_rules
+    }
+
+    fn input_len(&self) -> Length {
+        Length::new(self.end)
+    }
+
+    fn position(&self) -> Length {
+        Length::new(self.position)
+    }
+
+    fn is_failed(&self) -> bool {
+        self.failed
+    }
+
+    #[inline]
+    fn read_slice(&mut self, len: Length) -> Result<&'a [u8], Error> {
+        if self.failed {
+            return Err(ErrorKind::Failed.at(Length::new(self.position)));
+        }
+        let count = u32::from(len);
+        let start = self.position;
+        if count > self.end - start {
+            return Err(self.incomplete(count));
+        }
+        let stop = start + count;
+        self.position = stop;
+        Ok(&self.bytes[start as usize..stop as usize])
+    }
+
+    #[inline]
+    fn read_into(&mut self, buf: &mut [u8]) -> Result<(), Error> {
+        if buf.len() > u32::MAX as usize {
+            return Err(ErrorKind::Overflow.to_error());
+        }
+        let octets = self.read_slice(Length::new(buf.len() as u32))?;
+        buf.copy_from_slice(octets);
+        Ok(())
+    }
+
+    fn error(&mut self, kind: ErrorKind) -> Error {
+        self.failed = true;
+        kind.at(Length::new(self.position))
+    }
+
+    fn remaining(&self) -> Result<&'a [u8], Error> {
+        if self.failed {
+            return Err(ErrorKind::Failed.at(Length::new(self.position)));
+        }
+        Ok(&self.bytes[self.position as usize..self.end as usize])
+    }
+
+    ghost lawful = { λ s. record { ordered = s.ordered; in_input = s.in_input; addressable = s.addressable; shallow = nothing_nested s.position } };
+
+    ghost lending = { λ h. h };
+}
