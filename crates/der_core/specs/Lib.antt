@@ -3,3 +3,5 @@ pub mod Outcome
 pub mod Reader
 pub mod SliceReader
 pub mod Refused
+pub mod Header
+pub mod Decode

@@ -5,6 +5,17 @@
 //! X.690 stands in the crate `der_base`.
 #![tactic(auto)]
 
+pub mod decode;
+pub mod header;
+mod length;
 pub mod reader;
+mod tag;
 
+pub use decode::{Decode, DecodeBytes, DecodeError};
+pub use der_base::{
+    CLASS_APPLICATION, CLASS_CONTEXT_SPECIFIC, CLASS_PRIVATE, CLASS_UNIVERSAL, Class,
+    EncodingRules, Error, ErrorKind, Length, Result, Tag, TagMode, TagNumber,
+};
+pub use header::Header;
+pub use length::decode_length;
 pub use reader::{Octets, Reader, ReaderExt, SliceReader};

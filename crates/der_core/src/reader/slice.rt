@@ -75,6 +75,7 @@ impl<'a> SliceReader<'a> {
 }
 
 impl<'a> Reader for SliceReader<'a> {
+    ghost use Rattle.std.proofs.Common.{rules};
     ghost use Rattle.der_core.specs.SliceReader.{slice_state};
 
     type Lent = &'a [u8];
@@ -87,7 +88,9 @@ impl<'a> Reader for SliceReader<'a> {
 
     const CAN_READ_SLICE: bool = true;
 
-    fn can_lend() -> bool {
+    fn can_lend() -> bool
+        ensures { result ≡ true }
+    {
         true
     }
 
@@ -144,7 +147,7 @@ impl<'a> Reader for SliceReader<'a> {
         Ok(&self.bytes[self.position as usize..self.end as usize])
     }
 
-    ghost lawful = { λ s. record { ordered = s.ordered; in_input = s.in_input; addressable = s.addressable; shallow = nothing_nested s.position } };
+    ghost lawful = { λ s. record { ordered = s.ordered; in_input = s.in_input; addressable = s.addressable; shallow = Prim.search rules } };
 
     ghost lending = { λ h. h };
 }

@@ -1,0 +1,67 @@
+-- What decoding answers.
+use Rattle.std.specs.Prelude.{◌≡◌, ℕ, ◌^◌, ◌<◌, ◌≤◌, ◌⊎◌, Bool, true, false, List, length, Result, Ok, Err, IsOk, IsErrAnd, if◌then◌else◌}
+use Rattle.der_base.specs.Error.{at, bare}
+use Rattle.der_base.specs.Refusal.{Refusal}
+use Rattle.der_base.specs.Header.{TagAhead, LengthAhead, HeaderAhead}
+use Rattle.der_base.specs.declared.length.Length.{Length}
+use Rattle.der_base.specs.declared.tag.Tag.{Tag}
+use Rattle.der_base.specs.declared.error.Error.{Error}
+use Rattle.der_base.specs.declared.error.ErrorKind.{ErrorKind}
+use Rattle.der_base.specs.declared.error.ErrorKind.TheVariants.{Failed, Overflow, OutOfMemory}
+use Rattle.der_base.specs.declared.encoding_rules.EncodingRules.{EncodingRules}
+use Rattle.der_base.specs.declared.encoding_rules.EncodingRules.TheVariants.{Ber, Der}
+use Rattle.der_core.specs.State.{State, beginning, rest, here, advanced}
+use Rattle.der_core.specs.Refused.{Refused}
+use Rattle.der_core.specs.Header.{head_of}
+use Rattle.der_core.specs.declared.header.Header.{Header}
+
+-- whether a kind says that memory was refused
+abbrev pub is_out_of_memory_kind : ErrorKind → Bool
+is_out_of_memory_kind OutOfMemory = true
+is_out_of_memory_kind _ = false
+
+-- the first octets of the rest are this, and the reader has passed them
+pub record Passed (Ahead : EncodingRules → List ℕ → ℕ → Type 0) (s t : State) : Type 0 where
+  pub octets : ℕ
+  pub working : s.failed ≡ false
+  pub ahead : Ahead s.rules (rest s) octets
+  pub there : octets ≤ length (rest s)
+  pub leaves : t ≡ advanced s octets
+
+-- a decoder succeeds and passes m octets, or it takes memory and was refused it
+abbrev pub ReadsOrLacks : {A E : Type 0} → (E → Bool) → Bool → State → ℕ → Result A E → State → Type 0
+ReadsOrLacks oom takes_memory s m result t =
+    (IsOk result × (t ≡ advanced s m)) ⊎ ((takes_memory ≡ true) × IsErrAnd result (λ e. oom e ≡ true))
+
+-- a decoder of a grammar: what it read is ahead, or the rest has a fault
+abbrev pub GrammarAnswers : {A : Type 0} → (EncodingRules → List ℕ → A → ℕ → Type 0) → (EncodingRules → ℕ → List ℕ → Refusal → Type 0)
+    → State → Result A Error → State → Type 0
+GrammarAnswers Ahead Fault s (Ok v) t = Passed (λ rules octets m. Ahead rules octets v m) s t
+GrammarAnswers Ahead Fault s (Err e) t = s.rules ≡ Der → Refused Fault s e t
+
+-- how many levels of nesting a header wants: under BER more than any reader has, since octet 24 and
+-- indefinite lengths are not read yet, so nothing is promised there
+abbrev pub header_levels : EncodingRules → ℕ
+header_levels Ber = 65
+header_levels Der = 0
+
+abbrev pub tag_ahead : EncodingRules → List ℕ → Tag → ℕ → Type 0
+tag_ahead rules octets t m = (b : Bool) × TagAhead rules octets t b m
+
+abbrev pub header_ahead : EncodingRules → List ℕ → Header → ℕ → Type 0
+header_ahead rules octets h m = HeaderAhead rules octets (head_of h) m
+
+-- what follows the answer of a decoder: its error, or the value with the rest of a reader that is
+-- not failed
+abbrev pub PartialThen : {A E : Type 0} → (Error → E → Type 0) → Result A E → State → Result (A × List ℕ) E → Type 0
+PartialThen converts (Err e) t result = result ≡ Err e
+PartialThen converts (Ok v) t result =
+    ((t.failed ≡ false) × (result ≡ Ok (v, rest t)))
+    ⊎ ((t.failed ≡ true) × IsErrAnd result (λ e. converts (at Failed (here t)) e))
+
+-- a value at the front of octets: too many octets are an overflow; else the first step that fails
+pub data PartialAnswer {A E : Type 0} (answers : State → Result A E → State → Type 0) (converts : Error → E → Type 0) (octets : List ℕ)
+    (result : Result (A × List ℕ) E) : Type 0 where
+  too_long : 2 ^ 32 ≤ length octets → IsErrAnd result (λ e. converts (bare Overflow) e) → PartialAnswer answers converts octets result
+  decoded : (answer : Result A E) (t : State) → length octets < 2 ^ 32 → answers (beginning Der octets) answer t
+      → PartialThen converts answer t result → PartialAnswer answers converts octets result

@@ -1,0 +1,90 @@
+//! Decoding.
+ghost use Rattle.std.specs.Prelude.{◌≡◌, ℕ, ◌+◌, ◌^◌, ◌<◌, ◌≤◌, ◌⊎◌, Bool, true, false, List, length, drop, IfOk, IsOk, IsErrAnd, Result as AResult};
+ghost use Rattle.std.proofs.Common.{ap};
+ghost use Rattle.der_base.specs.Error.{kind_of};
+ghost use Rattle.der_base.specs.declared.error.Error.{Error as AnError};
+ghost use Rattle.der_base.specs.declared.encoding_rules.EncodingRules.{EncodingRules as Rules};
+ghost use Rattle.der_base.specs.declared.encoding_rules.EncodingRules.TheVariants.{Der};
+ghost use Rattle.der_core.specs.State.{State, rest, Same};
+ghost use Rattle.der_core.specs.Outcome.{seen};
+ghost use Rattle.der_core.specs.Decode.{is_out_of_memory_kind, Passed, ReadsOrLacks, PartialAnswer};
+
+use crate::reader::{Reader, SliceReader};
+use der_base::{Error, ErrorKind};
+use std::alloc::Global;
+
+/// The errors that decoding may answer: an [`Error`] converts to each of them.
+pub trait DecodeError: From<Error> + Drop {
+    ghost out_of_memory: { Self → Bool };
+
+    /// Whether memory was refused.
+    fn is_out_of_memory(&self) -> bool
+        ensures { result ≡ out_of_memory self.now };
+
+    // a converted error says so exactly where the error did
+    ghost carries: { (e : AnError) (d : Self) → Self.from_gives e d → out_of_memory d ≡ is_out_of_memory_kind (kind_of e) };
+}
+
+impl DecodeError for Error {
+    ghost out_of_memory = { λ e. is_out_of_memory_kind (kind_of e) };
+
+    fn is_out_of_memory(&self) -> bool {
+        match self.kind() {
+            ErrorKind::OutOfMemory => true,
+            _ => false,
+        }
+    }
+
+    ghost carries = { λ e d same. ap (λ x. is_out_of_memory_kind (kind_of x)) same };
+}
+
+/// Types that are decoded from the octets of a reader `R`.
+///
+/// `heads` says which values stand at the front of octets, and in how many of them; it is a relation
+/// over all that is left, since an indefinite length depends on what follows. `needs` is how many
+/// levels of nesting decoding wants, `takes_memory` whether it takes memory, and `answers` is the
+/// exact outcome on a reliable reader, refusals and their states included.
+pub trait Decode<R: Reader>: Sized + Drop {
+    /// The error of decoding.
+    type Error: DecodeError;
+
+    ghost heads: { Rules → List ℕ → Self → ℕ → Type 0 };
+
+    ghost needs: { Rules → ℕ };
+
+    ghost takes_memory: { Bool };
+
+    ghost answers: { State → AResult Self Self.Error → State → Type 0 };
+
+    /// Decodes a value from the front of the reader's rest.
+    fn decode(alloc: Global, reader: &mut R) -> Result<Self, Self::Error>
+        ensures same { Same (R.state reader.old) (R.state reader.new) }
+        ensures ok { IfOk result (λ v. (R.state reader.old).failed ≡ false → (R.state reader.new).failed ≡ false → Passed (λ rules octets m. heads rules octets v m) (R.state reader.old) (R.state reader.new)) }
+        ensures complete { (v : Self) (m : ℕ) → R.reliable ≡ true → (R.state reader.old).failed ≡ false → heads (R.state reader.old).rules (rest (R.state reader.old)) v m → (R.state reader.old).depth + needs (R.state reader.old).rules ≤ 64 → ReadsOrLacks Self.Error.out_of_memory takes_memory (R.state reader.old) m result (R.state reader.new) }
+        ensures exact { R.reliable ≡ true → answers (R.state reader.old) result (R.state reader.new) };
+}
+
+/// Decoding from octets in memory, for every type that is decoded from a [`SliceReader`].
+pub trait DecodeBytes<'a>: Decode<SliceReader<'a>> {
+    /// The value at the front of the octets under the Distinguished Encoding Rules, and the octets
+    /// behind it.
+    final fn from_der_partial(
+        alloc: Global,
+        bytes: &'a [u8],
+    ) -> Result<(Self, &'a [u8]), <Self as Decode<SliceReader<'a>>>::Error>
+        ensures ok { IfOk result (λ p. (m : ℕ) × Self.heads Der bytes.now p.0 m × (m ≤ length bytes.now) × (p.1.now ≡ drop m bytes.now)) }
+        ensures complete { (v : Self) (m : ℕ) → length bytes.now < 2 ^ 32 → Self.heads Der bytes.now v m → Self.needs Der ≤ 64 → IsOk result ⊎ ((Self.takes_memory ≡ true) × IsErrAnd result (λ e. Self.Error.out_of_memory e ≡ true)) }
+        ensures exact { PartialAnswer Self.answers Self.Error.from_gives bytes.now (seen (λ p. (p.0, p.1.now)) result) }
+    {
+        let mut reader = SliceReader::new(bytes)?;
+        match Self::decode(alloc, &mut reader) {
+            Ok(value) => match reader.remaining() {
+                Ok(rest) => Ok((value, rest)),
+                Err(error) => Err(error.into()),
+            },
+            Err(error) => Err(error),
+        }
+    }
+}
+
+impl<'a, T: Decode<SliceReader<'a>>> DecodeBytes<'a> for T {}
