@@ -1,6 +1,7 @@
 -- Tags and their identifier octets (X.690 8.1.2).
-use Rattle.std.specs.Prelude.{ℕ, ◌+◌, ◌*◌, ◌^◌, ◌<◌, Bool, true, false, nat_lt, List, [], ◌∷◌, if◌then◌else◌}
+use Rattle.std.specs.Prelude.{ℕ, ◌+◌, ◌*◌, ◌/◌, ◌%◌, ◌^◌, ◌<◌, Bool, true, false, nat_lt, nat_eq, Option, Some, None, List, [], ◌∷◌, if◌then◌else◌}
 use Rattle.der_base.specs.Digits.{digits, continued}
+use Rattle.der_base.specs.declared.tag.number.TagNumber.{TagNumber}
 use Rattle.der_base.specs.declared.tag.Tag.{Tag}
 use Rattle.der_base.specs.declared.tag.Tag.TheVariants.{Boolean, Integer, BitString, OctetString, Null, ObjectIdentifier, Real, Enumerated, Utf8String, RelativeOid, Sequence, Set, NumericString, PrintableString, TeletexString, VideotexString, Ia5String, UtcTime, GeneralizedTime, VisibleString, GeneralString, BmpString, Application, ContextSpecific, Private}
 
@@ -61,3 +62,33 @@ label_octets l =
 
 abbrev pub tag_octets : Tag → List ℕ
 tag_octets t = label_octets (label t)
+
+-- the universal tags by their first octets, which are all that they have
+abbrev pub universal_rows : List (ℕ × Tag)
+universal_rows =
+    (1, Boolean) ∷ (2, Integer) ∷ (3, BitString) ∷ (4, OctetString) ∷ (5, Null) ∷ (6, ObjectIdentifier) ∷ (9, Real) ∷ (10, Enumerated)
+    ∷ (12, Utf8String) ∷ (13, RelativeOid) ∷ (18, NumericString) ∷ (19, PrintableString) ∷ (20, TeletexString) ∷ (21, VideotexString)
+    ∷ (22, Ia5String) ∷ (23, UtcTime) ∷ (24, GeneralizedTime) ∷ (26, VisibleString) ∷ (27, GeneralString) ∷ (30, BmpString)
+    ∷ (48, Sequence) ∷ (49, Set) ∷ []
+
+abbrev pub tag_among : List (ℕ × Tag) → ℕ → Option Tag
+tag_among [] o = None
+tag_among (row ∷ rows) o = if nat_eq o row.0 then Some row.1 else tag_among rows o
+
+-- the universal tag of an octet, if it is one
+abbrev pub universal_tag : ℕ → Option Tag
+universal_tag o = tag_among universal_rows o
+
+-- bit 6 of an octet
+abbrev pub is_constructed : ℕ → Bool
+is_constructed o = nat_eq (o / 32 % 2) 1
+
+abbrev pub tag_number : ℕ → TagNumber
+tag_number n = record { 0 = n }
+
+-- the tag of another class that a first octet from 64 on says, with a number
+abbrev pub other_tag : ℕ → ℕ → Tag
+other_tag o n =
+    if nat_lt o 128 then Application (is_constructed o) (tag_number n)
+    else if nat_lt o 192 then ContextSpecific (is_constructed o) (tag_number n)
+    else Private (is_constructed o) (tag_number n)

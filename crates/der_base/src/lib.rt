@@ -6,6 +6,7 @@
 
 pub mod encoding_rules;
 pub mod error;
+pub mod laws;
 pub mod length;
 pub mod tag;
 
