@@ -5,3 +5,4 @@ pub mod SliceReader
 pub mod Refused
 pub mod Header
 pub mod Decode
+pub mod Behind

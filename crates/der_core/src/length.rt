@@ -2,12 +2,11 @@
 ghost use Rattle.std.specs.Prelude.{◌≡◌, ◌≢◌, ℕ, ◌+◌, ◌-◌, ◌^◌, ◌<◌, ◌≤◌, true, false, List, ◌∷◌, max, Ok, IfOk, IfErr, IsOkAnd};
 ghost use Rattle.der_base.specs.Length.{plain, length_octets};
 ghost use Rattle.der_base.specs.Header.{LengthAhead, LengthFault};
-ghost use Rattle.der_base.specs.Refusal.{Refusal};
 ghost use Rattle.der_base.specs.declared.error.ErrorKind.TheVariants.{Overlength};
 ghost use Rattle.der_base.specs.declared.length.Length.{Length as ALength};
 ghost use Rattle.der_base.specs.declared.encoding_rules.EncodingRules.TheVariants.{Der};
 ghost use Rattle.der_core.specs.State.{rest, advanced, Same, Reads};
-ghost use Rattle.der_core.specs.Refused.{Stops};
+ghost use Rattle.der_core.specs.Behind.{LongLengthRefused};
 ghost use Rattle.der_core.specs.Decode.{Passed, GrammarAnswers, header_levels};
 
 use crate::decode::Decode;
@@ -45,7 +44,7 @@ fn decode_long_length<R: Reader>(reader: &mut R, first: u8) -> Result<u32, Error
     requires { 128 ≤ first }
     ensures same { Same (R.state reader.old) (R.state reader.new) }
     ensures ok { IfOk result (λ n. (l : List ℕ) × (length_octets n ≡ first ∷ l) × Reads (R.state reader.old) (R.state reader.new) l) }
-    ensures exact { (at : ℕ) → (R.state reader.old).position ≡ at + 1 → R.reliable ≡ true → (R.state reader.old).failed ≡ false → (R.state reader.old).rules ≡ Der → IfErr result (λ e. (r : Refusal) × LengthFault Overlength at Der (first ∷ rest (R.state reader.old)) r × Stops (R.state reader.old) r e (R.state reader.new)) }
+    ensures exact { R.reliable ≡ true → IfErr result (λ e. LongLengthRefused first (R.state reader.old) e (R.state reader.new)) }
 {
     if first == INDEFINITE {
         return Err(reader.error(ErrorKind::IndefiniteLength));

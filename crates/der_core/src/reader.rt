@@ -86,6 +86,7 @@ pub trait Reader: Sized + Drop {
 
     /// The error of this kind at the position; the reader has failed, where it keeps such a state.
     fn error(&mut self, kind: ErrorKind) -> Error
+        ensures same { Same (state self.old) (state self.new) }
         ensures at_position { result ≡ at kind (here (state self.old)) }
         ensures failed { state self.new ≡ stopped (state self.old) (state self.old).position };
 

@@ -3,12 +3,13 @@ ghost use Rattle.std.specs.Prelude.{◌≡◌, ℕ, ◌+◌, ◌^◌, ◌<◌, �
 ghost use Rattle.der_base.specs.Digits.{digits, continued};
 ghost use Rattle.der_base.specs.Tag.{universal_tag, other_tag};
 ghost use Rattle.der_base.specs.Header.{TagAhead};
-ghost use Rattle.der_base.specs.Identifier.{IdentifierFault};
+ghost use Rattle.der_base.specs.Identifier.{IdentifierFault, identifier_kind};
 ghost use Rattle.der_base.specs.Refusal.{Refusal};
 ghost use Rattle.der_base.specs.declared.tag.Tag.{Tag as ATag};
 ghost use Rattle.der_base.specs.declared.encoding_rules.EncodingRules.TheVariants.{Der};
 ghost use Rattle.der_core.specs.State.{rest, advanced, Same, Reads};
-ghost use Rattle.der_core.specs.Refused.{Refused, Stops};
+ghost use Rattle.der_core.specs.Refused.{Refused};
+ghost use Rattle.der_core.specs.Behind.{NumberRefused};
 ghost use Rattle.der_core.specs.Decode.{Passed, GrammarAnswers, header_levels, tag_ahead};
 
 use crate::decode::Decode;
@@ -68,6 +69,96 @@ fn other(first: u8, number: u32) -> Tag
         Tag::Private {
             constructed,
             number,
+        }
+    }
+}
+
+/// Decodes a tag (X.690 8.1.2), and tells the constructed bit of its identifier.
+#[inline(always)]
+pub(crate) fn decode_with_constructed_bit<R: Reader>(reader: &mut R) -> Result<(Tag, bool), Error>
+    ensures same { Same (R.state reader.old) (R.state reader.new) }
+    ensures ok { IfOk result (λ r. Passed (λ rules octets m. TagAhead rules octets r.0 r.1 m) (R.state reader.old) (R.state reader.new)) }
+    ensures exact { R.reliable ≡ true → IfErr result (λ e. (R.state reader.old).rules ≡ Der → Refused IdentifierFault (R.state reader.old) e (R.state reader.new)) }
+{
+    let first = match reader.read_byte() {
+        Ok(octet) => octet,
+        Err(error) => return Err(error),
+    };
+    let constructed = first / 32 % 2 == 1;
+    if let Some(tag) = universal(first) {
+        return Ok((tag, constructed));
+    }
+    if first < 0x40 {
+        return Err(reader.error(unknown(first)));
+    }
+    let low = first % 32;
+    if low < 31 {
+        return Ok((other(first, low as u32), constructed));
+    }
+    match decode_long_number(reader) {
+        Ok(number) => Ok((other(first, number), constructed)),
+        Err(error) => Err(error),
+    }
+}
+
+// What is said of a first octet below 40 that no universal tag has.
+#[cold]
+fn unknown(first: u8) -> ErrorKind
+    ensures { result ≡ identifier_kind [] first }
+{
+    if first == 0x1F {
+        ErrorKind::TagNumberInvalid
+    } else {
+        ErrorKind::TagUnknown { byte: first }
+    }
+}
+
+// The number behind a first octet whose five number bits are set (X.690 8.1.2.4).
+fn decode_long_number<R: Reader>(reader: &mut R) -> Result<u32, Error>
+    ensures same { Same (R.state reader.old) (R.state reader.new) }
+    ensures ok { IfOk result (λ n. Reads (R.state reader.old) (R.state reader.new) (continued (digits 128 n)) × (31 ≤ n)) }
+    ensures exact { R.reliable ≡ true → IfErr result (λ e. NumberRefused (R.state reader.old) e (R.state reader.new)) }
+{
+    let mut number = 0u32;
+    'octets: loop {
+        let octet = match reader.read_byte() {
+            Ok(octet) => octet,
+            Err(error) => return Err(error),
+        };
+        let digit = octet % 128;
+        if number == 0 && digit == 0 {
+            return Err(reader.error(ErrorKind::TagNumberInvalid));
+        }
+        let next = number * 128 + digit as u32;
+        if octet < 128 {
+            if next < 31 {
+                return Err(reader.error(ErrorKind::TagNumberInvalid));
+            }
+            return Ok(next);
+        }
+        if next >= 1 << 25 {
+            return Err(reader.error(ErrorKind::TagNumberInvalid));
+        }
+        number = next;
+    }
+}
+
+impl<R: Reader> Decode<R> for Tag {
+    type Error = Error;
+
+    ghost heads = { tag_ahead };
+
+    ghost needs = { header_levels };
+
+    ghost takes_memory = { false };
+
+    ghost answers = { GrammarAnswers tag_ahead IdentifierFault };
+
+    #[inline(always)]
+    fn decode(_alloc: Global, reader: &mut R) -> Result<Tag, Error> {
+        match decode_with_constructed_bit(reader) {
+            Ok((tag, _)) => Ok(tag),
+            Err(error) => Err(error),
         }
     }
 }
