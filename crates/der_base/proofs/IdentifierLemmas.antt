@@ -64,3 +64,77 @@ identifier_front {rules} {a} {b} {t} {u} {c} {d} h k x y e = go (identifier_view
     go (segmented p f g z) (segmented q v w s) =
         let r : 36 ∷ x ≡ 36 ∷ y = ap (λ l. l ++ x) (sym f) ∙ e ∙ ap (λ l. l ++ y) v in
         (f ∙ sym v, g ∙ sym w, z ∙ sym s, cc)
+
+-- octets are cut: they begin the identifier of a number, and it goes on
+some_identifier : (rules : EncodingRules) → IsCutIdentifier rules []
+some_identifier rules = (1, [], Boolean, false, of_tag (omega arith))
+
+-- nothing is cut
+pub fault_nothing : {rules : EncodingRules} (at : ℕ) → IdentifierFault rules at [] (cut_at at)
+fault_nothing {rules} at =
+    let here : at + 0 ≡ at = omega arith in
+    subst (λ n. IdentifierFault rules at [] (cut_at n)) here (cut [] (some_identifier rules))
+
+-- a tag that begins with an octet below 64 is the universal one of that octet
+below_64 : (t : Tag) (o : ℕ) (more : List ℕ) → o < 64 → tag_octets t ≡ o ∷ more → universal_tag o ≡ Some t
+below_64 t o more l e =
+    ⊎_elim
+    (λ a. let u = universal_found t a in let w : u.0 ≡ o = (let v : u.0 ∷ [] ≡ o ∷ more = sym u.1 ∙ e in cc) in subst (λ k. universal_tag k ≡ Some t) w u.2)
+    (λ a. ⊎_elim
+    (λ b. let v : first_octet (label t) (label t).number ∷ [] ≡ o ∷ more = sym (label_small (label t) b) ∙ e in let w : first_octet (label t) (label t).number ≡ o = cc in absurd (omega arith))
+    (λ b. let v : first_octet (label t) 31 ∷ continued (digits 128 (label t).number) ≡ o ∷ more = sym (label_large (label t) b) ∙ e in let w : first_octet (label t) 31 ≡ o = cc in absurd (omega arith))
+    (cases_lt (label t).number 31))
+    (cases_eq (label t).class 0)
+
+-- no identifier begins with an octet below 64 that is no universal tag, but with 24 under BER
+no_universal : (rules : EncodingRules) (o : ℕ) → o < 64 → universal_tag o ≡ None → (rules ≡ Der) ⊎ (o ≢ 36) → BeginsNoIdentifier rules (o ∷ [])
+no_universal rules o l none ok more t b h = go (identifier_view h)
+  where
+    go : IdentifierView rules (o ∷ more) t b → ⊥
+    go (tagged p f g) = let w : None ≡ Some t = sym none ∙ below_64 t o more l (sym f) in cc
+    go (segmented p f g z) = ⊎_elim (λ d. let w : Ber ≡ Der = sym p ∙ d in cc) (λ ne. ne (cc)) ok
+
+-- an octet below 64 that is no universal tag is refused
+pub fault_universal : {rules : EncodingRules} (at o : ℕ) (rest : List ℕ) → o < 64 → universal_tag o ≡ None → (rules ≡ Der) ⊎ (o ≢ 36) → IdentifierFault rules at (o ∷ rest) (refusal (identifier_kind [] o) (at + 1))
+fault_universal {rules} at o rest l none ok =
+    let here : at + 0 + 1 ≡ at + 1 = omega arith in
+    subst (λ n. IdentifierFault rules at (o ∷ rest) (refusal (identifier_kind [] o) n)) here
+    (refused [] o rest (some_identifier rules) (no_universal rules o l none ok))
+
+-- octets that are cut are no identifier with more octets behind it
+no_cut_identifier : {rules : EncodingRules} {id : List ℕ} {t : Tag} {b : Bool} (s x : List ℕ) → IsIdentifier rules id t b → IsCutIdentifier rules s → s ≡ id ++ x → ⊥
+no_cut_identifier {id = id} s x d h e =
+    let r = identifier_front d h.4 (x ++ h.0 ∷ h.1) [] (sym (append_assoc id x (h.0 ∷ h.1)) ∙ ap (λ l. l ++ h.0 ∷ h.1) (sym e) ∙ sym (append-nil (s ++ h.0 ∷ h.1))) in
+    let l = ap length r.3 in omega (arith, simp length-append at l)
+
+-- octets that begin with an identifier have no fault
+pub no_identifier : {rules : EncodingRules} {at : ℕ} {s id : List ℕ} {r : Refusal} {t : Tag} {b : Bool} (x : List ℕ) → IdentifierFault rules at s r → IsIdentifier rules id t b → s ≡ id ++ x → ⊥
+no_identifier x (cut s h) d f = no_cut_identifier s x d h f
+no_identifier {rules = rules} {id = id} {t = u} {b = b} x (refused s o rest h none) d f =
+    ⊎_elim
+    (λ r. go r.0 r.1 r.2)
+    (λ r. no_cut_identifier s (r.0 ∷ r.1) d h r.2)
+    (two_fronts s id (o ∷ rest) x f)
+  where
+    go : (t : List ℕ) → id ≡ s ++ t → o ∷ rest ≡ t ++ x → ⊥
+    go [] g w = no_cut_identifier s [] d h (sym (append-nil s) ∙ sym g ∙ sym (append-nil id))
+    go (p ∷ t) g w = let same : o ≡ p = cc in none t u b (subst (λ l. IsIdentifier rules l u b) (g ∙ ap (λ m. s ++ m ∷ t) (sym same) ∙ sym (append_assoc s (o ∷ []) t)) d)
+
+-- octets that are cut go on with no octet that is refused
+no_cut_refused : (rules : EncodingRules) (s t x : List ℕ) (o : ℕ) → IsCutIdentifier rules s → BeginsNoIdentifier rules (t ++ o ∷ []) → s ≡ t ++ o ∷ x → ⊥
+no_cut_refused rules s t x o (d, more, u, b, i) none e = none (x ++ d ∷ more) u b (subst (λ l. IsIdentifier rules l u b) (ap (λ l. l ++ d ∷ more) e ∙ simp append_assoc) i)
+
+-- octets have one fault of an identifier
+pub one_identifier_fault : {rules : EncodingRules} {at : ℕ} {a b : List ℕ} {r q : Refusal} → IdentifierFault rules at a r → IdentifierFault rules at b q → a ≡ b → r ≡ q
+one_identifier_fault {at = at} (cut s h) (cut t g) f = ap (λ l. cut_at (at + length l)) f
+one_identifier_fault {rules = rules} (cut s h) (refused t o rest g none) f = absurd (no_cut_refused rules s t rest o h none f)
+one_identifier_fault {rules = rules} (refused t o rest g none) (cut s h) f = absurd (no_cut_refused rules s t rest o h none (sym f))
+one_identifier_fault {rules = rules} {at = at} (refused s o rest h never) (refused t p more g none) f =
+    ⊎_elim (λ a. left a.0 a.1 a.2) (λ a. absurd (no_cut_refused rules s t a.1 p h none (a.2 ∙ (let w : p ≡ a.0 = (let v : p ∷ more ≡ a.0 ∷ (a.1 ++ o ∷ rest) = a.3 in cc) in ap (λ z. t ++ z ∷ a.1) (sym w))))) (two_fronts s t (o ∷ rest) (p ∷ more) f)
+  where
+    left : (x : List ℕ) → t ≡ s ++ x → o ∷ rest ≡ x ++ p ∷ more → refusal (identifier_kind s o) (at + length s + 1) ≡ refusal (identifier_kind t p) (at + length t + 1)
+    left [] u v =
+        let w : o ≡ p = cc in
+        let same : s ≡ t = sym (append-nil s) ∙ sym u in
+        ap (λ l. refusal (identifier_kind l o) (at + length l + 1)) same ∙ ap (λ z. refusal (identifier_kind t z) (at + length t + 1)) w
+    left (z ∷ x) u v = let w : o ≡ z = cc in absurd (no_cut_refused rules t s x o g never (u ∙ ap (λ y. s ++ y ∷ x) (sym w)))

@@ -1,3 +1,4 @@
 pub mod DigitLemmas
 pub mod TagLemmas
 pub mod IdentifierLemmas
+pub mod LongNumberLemmas
