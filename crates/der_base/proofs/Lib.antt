@@ -1,4 +1,5 @@
+pub mod CountLemmas
 pub mod DigitLemmas
-pub mod TagLemmas
 pub mod IdentifierLemmas
 pub mod LongNumberLemmas
+pub mod TagLemmas

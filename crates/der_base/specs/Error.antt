@@ -1,8 +1,10 @@
 -- Errors: a kind, and a position or none.
-use Rattle.std.specs.Prelude.{Option, Some, None}
+use Rattle.std.specs.Prelude.{◌+◌, ◌-◌, ◌^◌, ◌==◌, Option, Some, None, if◌then◌else◌}
+use Rattle.der_base.specs.Length.{number, plain}
 use Rattle.der_base.specs.declared.length.Length.{Length}
 use Rattle.der_base.specs.declared.error.Error.{Error}
 use Rattle.der_base.specs.declared.error.ErrorKind.{ErrorKind}
+use Rattle.der_base.specs.declared.error.ErrorKind.TheVariants.{Incomplete, Overflow}
 
 abbrev pub kind_of : Error → ErrorKind
 kind_of e = e.kind
@@ -16,3 +18,7 @@ bare k = record { kind = k; position = None }
 
 abbrev pub at : ErrorKind → Length → Error
 at k p = record { kind = k; position = Some p }
+
+-- the input ends after so many octets, and one more is wanted, which 32 bits may not count
+abbrev pub ends_after : Length → Error
+ends_after l = at (if number l == 2 ^ 32 - 1 then Overflow else Incomplete (plain (number l + 1)) l) l

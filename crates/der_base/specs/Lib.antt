@@ -9,3 +9,5 @@ pub mod Header
 pub mod Error
 pub mod Refusal
 pub mod Text
+pub mod Arithmetic
+pub mod Names

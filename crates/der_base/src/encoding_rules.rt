@@ -1,6 +1,10 @@
 //! The encoding rules that octets are read by.
-ghost use Rattle.std.specs.Prelude.{◌≡◌, ◌↔◌, IsTrue};
+ghost use Rattle.std.specs.Prelude.{◌≡◌, ◌↔◌, IsTrue, Some};
 ghost use Rattle.der_base.specs.declared.encoding_rules.EncodingRules.TheVariants.{Ber, Der};
+
+use crate::error::{Error, ErrorKind, Result};
+use std::fmt;
+use std::str::FromStr;
 
 /// Which encoding rules a reader keeps to.
 #[derive(Clone, Copy, Debug, Default, PartialEq, Eq, PartialOrd, Ord)]
@@ -31,5 +35,36 @@ impl EncodingRules {
             EncodingRules::Ber => false,
             EncodingRules::Der => true,
         }
+    }
+}
+
+/// Reads `ber`, `BER`, `der` and `DER`. Any other text is kind `EncodingRules` without a position.
+impl FromStr for EncodingRules {
+    type Err = Error;
+
+    ghost use Rattle.der_base.specs.Names.{rules_named};
+
+    ghost from_str_gives = { λ text r. r ≡ rules_named text };
+
+    fn from_str(text: &str) -> Result<Self> {
+        match text {
+            "ber" | "BER" => Ok(EncodingRules::Ber),
+            "der" | "DER" => Ok(EncodingRules::Der),
+            _ => Err(ErrorKind::EncodingRules.to_error()),
+        }
+    }
+}
+
+/// The rules' abbreviation, in capitals.
+impl fmt::Display for EncodingRules {
+    ghost use Rattle.der_base.specs.Text.{rules_text};
+
+    ghost output = { λ r. Some (rules_text r) };
+
+    fn fmt<W: fmt::Write>(&self, f: &mut fmt::Formatter<W>) -> fmt::Result {
+        f.write_str(match self {
+            EncodingRules::Ber => "BER",
+            EncodingRules::Der => "DER",
+        })
     }
 }

@@ -1,9 +1,11 @@
 //! Errors.
 ghost use Rattle.std.specs.Prelude.{◌≡◌, Option, Some, None};
+ghost use Rattle.der_base.specs.declared.error.ErrorKind.TheVariants.{Overflow, Utf8};
 
 use crate::length::Length;
 use crate::tag::Tag;
 use std::fmt;
+use std::num::TryFromIntError;
 pub use std::str::Utf8Error;
 
 /// A result with this crate's error.
@@ -18,7 +20,7 @@ pub struct Error {
 }
 
 impl Error {
-    ghost use Rattle.der_base.specs.Error.{at, kind_of, position_of};
+    ghost use Rattle.der_base.specs.Error.{at, kind_of, position_of, ends_after};
 
     /// An error of this kind at this position.
     pub const fn new(kind: ErrorKind, position: Length) -> Self
@@ -27,6 +29,21 @@ impl Error {
         Error {
             kind,
             position: Some(position),
+        }
+    }
+
+    /// The input ends after `actual_len` octets, and one more is wanted: kind `Incomplete`, or
+    /// `Overflow` where the wanted length would pass 4294967295. The position is the input's end.
+    pub fn incomplete(actual_len: Length) -> Self
+        ensures { result ≡ ends_after actual_len }
+    {
+        match actual_len + Length::ONE {
+            Ok(expected_len) => ErrorKind::Incomplete {
+                expected_len,
+                actual_len,
+            }
+            .at(actual_len),
+            Err(error) => error.kind().at(actual_len),
         }
     }
 
@@ -51,10 +68,29 @@ impl From<ErrorKind> for Error {
     ghost from_gives = { λ kind e. e ≡ bare kind };
 
     fn from(kind: ErrorKind) -> Self {
-        Error {
-            kind,
-            position: None,
-        }
+        kind.to_error()
+    }
+}
+
+/// A number that does not fit is kind `Overflow`.
+impl From<TryFromIntError> for Error {
+    ghost use Rattle.der_base.specs.Error.{bare};
+
+    ghost from_gives = { λ _ e. e ≡ bare Overflow };
+
+    fn from(_error: TryFromIntError) -> Self {
+        ErrorKind::Overflow.to_error()
+    }
+}
+
+/// A text that is not UTF-8 is kind `Utf8`.
+impl From<Utf8Error> for Error {
+    ghost use Rattle.der_base.specs.Error.{bare};
+
+    ghost from_gives = { λ error e. e ≡ bare (Utf8 error) };
+
+    fn from(error: Utf8Error) -> Self {
+        ErrorKind::Utf8(error).to_error()
     }
 }
 
@@ -145,10 +181,13 @@ impl ErrorKind {
     }
 
     /// An error of this kind, without a position.
-    pub fn to_error(self) -> Error
+    pub const fn to_error(self) -> Error
         ensures { result ≡ bare self }
     {
-        Error::from(self)
+        Error {
+            kind: self,
+            position: None,
+        }
     }
 }
 
@@ -191,10 +230,10 @@ impl fmt::Display for ErrorKind {
             ErrorKind::TagUnknown { byte } => {
                 write!(f, "unknown/unsupported ASN.1 DER tag: 0x{byte:02x}")
             }
-            ErrorKind::TrailingData { decoded, remaining } => {
-                write!(f, "trailing data at end of DER message: decoded {decoded} bytes, ")?;
-                write!(f, "{remaining} bytes remaining")
-            }
+            ErrorKind::TrailingData { decoded, remaining } => write!(
+                f,
+                "trailing data at end of DER message: decoded {decoded} bytes, {remaining} bytes remaining"
+            ),
             ErrorKind::Utf8(error) => write!(f, "{error}"),
             ErrorKind::Value { tag } => write!(f, "malformed ASN.1 DER value for {tag}"),
             ErrorKind::OutOfMemory => f.write_str("out of memory"),

@@ -1,6 +1,11 @@
 //! Numbers of octets.
-ghost use Rattle.std.specs.Prelude.{◌≡◌, Bool, true, false, Some};
+ghost use Rattle.std.specs.Prelude.{◌≡◌, ◌↔◌, IsTrue, Bool, true, false, Some};
 
+mod arithmetic;
+mod convert;
+mod element;
+
+use crate::error::{ErrorKind, Result};
 use std::fmt;
 
 /// A number of octets, to 4294967295, and whether it was read in the indefinite form
@@ -14,6 +19,7 @@ pub struct Length {
 
 impl Length {
     ghost use Rattle.der_base.specs.Length.{number, flagged, plain, length_of};
+    ghost use Rattle.der_base.specs.Arithmetic.{counted, without_end};
 
     /// No octets.
     pub const ZERO: Self = Length {
@@ -53,31 +59,42 @@ impl Length {
         }
     }
 
+    /// A length of so many octets, unflagged. A number above 4294967295 is kind `Overflow`
+    /// without a position.
+    pub const fn new_usize(value: usize) -> Result<Self>
+        ensures { result ≡ counted value }
+    {
+        if value > u32::MAX as usize {
+            return Err(ErrorKind::Overflow.to_error());
+        }
+        Ok(Length::new(value as u32))
+    }
+
+    /// Whether these are no octets, whatever the flag.
+    pub const fn is_zero(self) -> bool
+        ensures { IsTrue result ↔ (number self ≡ 0) }
+    {
+        self.inner == 0
+    }
+
     /// Whether the length was read in the indefinite form.
     pub const fn is_indefinite(self) -> bool
         ensures { result ≡ flagged self }
     {
         self.indefinite
     }
-}
 
-impl From<u32> for Length {
-    ghost use Rattle.der_base.specs.Length.{plain};
-
-    ghost from_gives = { λ n l. l ≡ plain n };
-
-    fn from(value: u32) -> Self {
-        Length::new(value)
-    }
-}
-
-impl From<Length> for u32 {
-    ghost use Rattle.der_base.specs.Length.{number};
-
-    ghost from_gives = { λ l n. n ≡ number l };
-
-    fn from(length: Length) -> Self {
-        length.inner
+    /// The octets of an indefinite length without the two end marks that it counts (X.690 8.1.5),
+    /// flagged as before; of fewer than two none. A definite length has no end marks and is
+    /// answered as it is.
+    pub const fn sans_eoc(self) -> Self
+        ensures { result ≡ without_end self }
+    {
+        if self.indefinite {
+            Length::new_indefinite(self.inner.saturating_sub(2))
+        } else {
+            self
+        }
     }
 }
 

@@ -1,5 +1,5 @@
 //! Tags.
-ghost use Rattle.std.specs.Prelude.{◌≡◌, Bool, true, false, Some};
+ghost use Rattle.std.specs.Prelude.{◌≡◌, ◌≢◌, ◌↔◌, IsTrue, Bool, true, false, Some, Ok, Err};
 ghost use Rattle.der_base.specs.Text.{bit_text as spec_bit_text};
 
 pub mod class;
@@ -12,6 +12,7 @@ pub use class::{
 pub use mode::TagMode;
 pub use number::TagNumber;
 
+use crate::error::{ErrorKind, Result};
 use std::fmt;
 
 /// The tag of an element: a class, whether its contents are constructed, and a number
@@ -89,6 +90,8 @@ pub enum Tag {
 impl Tag {
     ghost use Rattle.der_base.specs.Tag.{label};
     ghost use Rattle.der_base.specs.Class.{class_number};
+    ghost use Rattle.der_base.specs.declared.tag.class.Class.TheVariants.{Universal, Application, ContextSpecific, Private};
+    ghost use Rattle.der_base.specs.Error.{bare};
 
     /// The class.
     pub const fn class(self) -> Class
@@ -147,6 +150,80 @@ impl Tag {
             | Tag::Private { constructed, .. } => constructed,
             _ => false,
         }
+    }
+
+    /// Whether the class is APPLICATION.
+    pub const fn is_application(self) -> bool
+        ensures { IsTrue result ↔ ((label self).class ≡ class_number Application) }
+    {
+        matches!(self, Tag::Application { .. })
+    }
+
+    /// Whether the class is CONTEXT-SPECIFIC.
+    pub const fn is_context_specific(self) -> bool
+        ensures { IsTrue result ↔ ((label self).class ≡ class_number ContextSpecific) }
+    {
+        matches!(self, Tag::ContextSpecific { .. })
+    }
+
+    /// Whether the class is PRIVATE.
+    pub const fn is_private(self) -> bool
+        ensures { IsTrue result ↔ ((label self).class ≡ class_number Private) }
+    {
+        matches!(self, Tag::Private { .. })
+    }
+
+    /// Whether the class is UNIVERSAL.
+    pub const fn is_universal(self) -> bool
+        ensures { IsTrue result ↔ ((label self).class ≡ class_number Universal) }
+    {
+        !matches!(
+            self,
+            Tag::Application { .. } | Tag::ContextSpecific { .. } | Tag::Private { .. }
+        )
+    }
+
+    /// This tag where it is the expected one, else kind `TagUnexpected` without a position.
+    pub fn assert_eq(self, expected: Tag) -> Result<Tag>
+        ensures expected_tag { self ≡ expected → result ≡ Ok self }
+        ensures other_tag { self ≢ expected → result ≡ Err (bare (ErrorKind.TagUnexpected (Some expected) self)) }
+    {
+        if self == expected {
+            Ok(self)
+        } else {
+            Err(self.unexpected_error(Some(expected)).to_error())
+        }
+    }
+
+    /// That the length of an element with this tag is not spelled as it has to be.
+    pub const fn length_error(self) -> ErrorKind
+        ensures { result ≡ ErrorKind.Length self }
+    {
+        ErrorKind::Length { tag: self }
+    }
+
+    /// That a value with this tag is not spelled canonically.
+    pub const fn non_canonical_error(self) -> ErrorKind
+        ensures { result ≡ ErrorKind.Noncanonical self }
+    {
+        ErrorKind::Noncanonical { tag: self }
+    }
+
+    /// That this tag stands where another was expected, or where none can stand.
+    pub const fn unexpected_error(self, expected: Option<Self>) -> ErrorKind
+        ensures { result ≡ ErrorKind.TagUnexpected expected self }
+    {
+        ErrorKind::TagUnexpected {
+            expected,
+            actual: self,
+        }
+    }
+
+    /// That a value with this tag is malformed.
+    pub const fn value_error(self) -> ErrorKind
+        ensures { result ≡ ErrorKind.Value self }
+    {
+        ErrorKind::Value { tag: self }
     }
 }
 

@@ -1,5 +1,7 @@
 //! Classes of tags.
-ghost use Rattle.std.specs.Prelude.{◌≡◌};
+ghost use Rattle.std.specs.Prelude.{◌≡◌, ◌*◌, ◌/◌, Some};
+
+use std::fmt;
 
 /// The two highest bits of a universal tag's first octet.
 pub const CLASS_UNIVERSAL: u8 = 0x00;
@@ -24,4 +26,59 @@ pub enum Class {
     ContextSpecific,
     /// A type of one enterprise.
     Private,
+}
+
+impl Class {
+    ghost use Rattle.der_base.specs.Class.{class_number};
+
+    /// The class in the two highest bits of an octet whose other bits are 0.
+    pub const fn bits(&self) -> u8
+        ensures { result ≡ 64 * class_number self.now }
+    {
+        match self {
+            Class::Universal => CLASS_UNIVERSAL,
+            Class::Application => CLASS_APPLICATION,
+            Class::ContextSpecific => CLASS_CONTEXT_SPECIFIC,
+            Class::Private => CLASS_PRIVATE,
+        }
+    }
+
+    /// The class that the two highest bits of an octet hold, whatever its other bits.
+    pub const fn from_bits(bits: u8) -> Self
+        ensures { class_number result ≡ bits / 64 }
+    {
+        match bits >> 6 {
+            0 => Class::Universal,
+            1 => Class::Application,
+            2 => Class::ContextSpecific,
+            _ => Class::Private,
+        }
+    }
+}
+
+/// The class that the two highest bits hold.
+impl From<u8> for Class {
+    ghost use Rattle.der_base.specs.Class.{class_number};
+
+    ghost from_gives = { λ octet class. class_number class ≡ octet / 64 };
+
+    fn from(octet: u8) -> Self {
+        Class::from_bits(octet)
+    }
+}
+
+/// The standard's name of the class, in capitals.
+impl fmt::Display for Class {
+    ghost use Rattle.der_base.specs.Text.{class_text};
+
+    ghost output = { λ c. Some (class_text c) };
+
+    fn fmt<W: fmt::Write>(&self, f: &mut fmt::Formatter<W>) -> fmt::Result {
+        f.write_str(match self {
+            Class::Universal => "UNIVERSAL",
+            Class::Application => "APPLICATION",
+            Class::ContextSpecific => "CONTEXT-SPECIFIC",
+            Class::Private => "PRIVATE",
+        })
+    }
 }

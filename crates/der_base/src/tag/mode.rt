@@ -1,4 +1,9 @@
 //! Modes of tagging.
+ghost use Rattle.std.specs.Prelude.{◌≡◌, Some};
+
+use crate::error::{Error, ErrorKind, Result};
+use std::fmt;
+use std::str::FromStr;
 
 /// Whether a context-specific tag stands around a value's own tag or in its place.
 #[derive(Clone, Copy, Debug, Default, PartialEq, Eq, PartialOrd, Ord)]
@@ -8,4 +13,36 @@ pub enum TagMode {
     Explicit,
     /// The value's own tag is left out.
     Implicit,
+}
+
+/// Reads `EXPLICIT`, `explicit`, `IMPLICIT` and `implicit`. Any other text is kind
+/// `TagModeUnknown` without a position.
+impl FromStr for TagMode {
+    type Err = Error;
+
+    ghost use Rattle.der_base.specs.Names.{mode_named};
+
+    ghost from_str_gives = { λ text r. r ≡ mode_named text };
+
+    fn from_str(text: &str) -> Result<Self> {
+        match text {
+            "EXPLICIT" | "explicit" => Ok(TagMode::Explicit),
+            "IMPLICIT" | "implicit" => Ok(TagMode::Implicit),
+            _ => Err(ErrorKind::TagModeUnknown.to_error()),
+        }
+    }
+}
+
+/// The keyword of ASN.1, in capitals.
+impl fmt::Display for TagMode {
+    ghost use Rattle.der_base.specs.Text.{mode_text};
+
+    ghost output = { λ m. Some (mode_text m) };
+
+    fn fmt<W: fmt::Write>(&self, f: &mut fmt::Formatter<W>) -> fmt::Result {
+        f.write_str(match self {
+            TagMode::Explicit => "EXPLICIT",
+            TagMode::Implicit => "IMPLICIT",
+        })
+    }
 }

@@ -1,5 +1,8 @@
 //! Tag numbers.
-ghost use Rattle.std.specs.Prelude.{◌≡◌};
+ghost use Rattle.std.specs.Prelude.{◌≡◌, Some};
+
+use crate::tag::Tag;
+use std::fmt;
 
 /// The number of a tag. The universal tags have numbers to 30, the tags of the other classes any
 /// number of 32 bits (X.690 8.1.2.2, 8.1.2.4).
@@ -7,6 +10,8 @@ ghost use Rattle.std.specs.Prelude.{◌≡◌};
 pub struct TagNumber(pub u32);
 
 impl TagNumber {
+    ghost use Rattle.der_base.specs.declared.tag.Tag.{Tag};
+
     /// A tag number.
     pub const fn new(value: u32) -> Self
         ensures { result.0 ≡ value }
@@ -19,6 +24,36 @@ impl TagNumber {
         ensures { result ≡ self.0 }
     {
         self.0
+    }
+
+    /// The tag of class APPLICATION with this number.
+    pub const fn application(self, constructed: bool) -> Tag
+        ensures { result ≡ Tag.Application constructed self }
+    {
+        Tag::Application {
+            constructed,
+            number: self,
+        }
+    }
+
+    /// The tag of class CONTEXT-SPECIFIC with this number.
+    pub const fn context_specific(self, constructed: bool) -> Tag
+        ensures { result ≡ Tag.ContextSpecific constructed self }
+    {
+        Tag::ContextSpecific {
+            constructed,
+            number: self,
+        }
+    }
+
+    /// The tag of class PRIVATE with this number.
+    pub const fn private(self, constructed: bool) -> Tag
+        ensures { result ≡ Tag.Private constructed self }
+    {
+        Tag::Private {
+            constructed,
+            number: self,
+        }
     }
 }
 
@@ -35,5 +70,16 @@ impl From<TagNumber> for u32 {
 
     fn from(number: TagNumber) -> Self {
         number.0
+    }
+}
+
+/// The number in decimal.
+impl fmt::Display for TagNumber {
+    ghost use Rattle.std.specs.Fmt.{decimal};
+
+    ghost output = { λ n. Some (decimal n.0) };
+
+    fn fmt<W: fmt::Write>(&self, f: &mut fmt::Formatter<W>) -> fmt::Result {
+        self.0.fmt(f)
     }
 }
