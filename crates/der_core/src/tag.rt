@@ -116,7 +116,7 @@ fn unknown(first: u8) -> ErrorKind
 // The number behind a first octet whose five number bits are set (X.690 8.1.2.4).
 fn decode_long_number<R: Reader>(reader: &mut R) -> Result<u32, Error>
     ensures same { Same (R.state reader.old) (R.state reader.new) }
-    ensures ok { IfOk result (λ n. Reads (R.state reader.old) (R.state reader.new) (continued (digits 128 n)) × (31 ≤ n)) }
+    ensures ok { IfOk result (λ n. Reads (R.state reader.old) (R.state reader.new) (continued (digits 128 n)) × (31 ≤ n) × (n < 2 ^ 32)) }
     ensures exact { R.reliable ≡ true → IfErr result (λ e. NumberRefused (R.state reader.old) e (R.state reader.new)) }
 {
     let mut number = 0u32;
