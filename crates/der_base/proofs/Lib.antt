@@ -4,3 +4,4 @@ pub mod IdentifierLemmas
 pub mod LongNumberLemmas
 pub mod LengthLemmas
 pub mod BodyLemmas
+pub mod HeaderLemmas
