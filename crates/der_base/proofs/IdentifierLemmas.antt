@@ -108,9 +108,9 @@ no_cut_identifier {id = id} s x d h e =
     let l = ap length r.3 in omega (arith, simp length-append at l)
 
 -- octets that begin with an identifier have no fault
-pub no_identifier : {rules : EncodingRules} {at : ℕ} {s id : List ℕ} {r : Refusal} {t : Tag} {b : Bool} (x : List ℕ) → IdentifierFault rules at s r → IsIdentifier rules id t b → s ≡ id ++ x → ⊥
-no_identifier x (cut s h) d f = no_cut_identifier s x d h f
-no_identifier {rules = rules} {id = id} {t = u} {b = b} x (refused s o rest h none) d f =
+pub no_identifier_fault : {rules : EncodingRules} {at : ℕ} {s id : List ℕ} {r : Refusal} {t : Tag} {b : Bool} (x : List ℕ) → IdentifierFault rules at s r → IsIdentifier rules id t b → s ≡ id ++ x → ⊥
+no_identifier_fault x (cut s h) d f = no_cut_identifier s x d h f
+no_identifier_fault {rules = rules} {id = id} {t = u} {b = b} x (refused s o rest h none) d f =
     ⊎_elim
     (λ r. go r.0 r.1 r.2)
     (λ r. no_cut_identifier s (r.0 ∷ r.1) d h r.2)
