@@ -43,7 +43,7 @@ pub fn decode_length<R: Reader>(reader: &mut R) -> Result<Length, Error>
 fn decode_long_length<R: Reader>(reader: &mut R, first: u8) -> Result<u32, Error>
     requires { 128 ≤ first }
     ensures same { Same (R.state reader.old) (R.state reader.new) }
-    ensures ok { IfOk result (λ n. (l : List ℕ) × (length_octets n ≡ first ∷ l) × Reads (R.state reader.old) (R.state reader.new) l) }
+    ensures ok { IfOk result (λ n. (l : List ℕ) × (length_octets n ≡ first ∷ l) × Reads (R.state reader.old) (R.state reader.new) l × (n < 2 ^ 32)) }
     ensures exact { R.reliable ≡ true → IfErr result (λ e. LongLengthRefused first (R.state reader.old) e (R.state reader.new)) }
 {
     if first == INDEFINITE {

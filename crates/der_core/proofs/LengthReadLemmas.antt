@@ -1,0 +1,147 @@
+-- Lengths, octet by octet.
+use Rattle.std.proofs.Common.{◌≡◌, ◌≢◌, ℕ, suc, max, ◌+◌, ◌-◌, ◌*◌, ◌^◌, ◌<◌, ◌≤◌, true, false, List, [], ◌∷◌, ◌++◌, length, refl, sym, ap, ◌∙◌, subst, append-nil, length-append, arith}
+use Rattle.std.specs.Int.Digits.{number_from_digits, AllBelowBase}
+use Rattle.std.proofs.lemmas.Int.Digits.{number_push, number_lt}
+use Rattle.std.proofs.Math.Nat.{pow-le-pow_right}
+use Rattle.der_base.specs.Error.{at as error_at}
+use Rattle.der_base.specs.Length.{plain, length_of, length_octets}
+use Rattle.der_base.specs.Header.{LengthAhead, definite, LengthFault, nothing, far, indefinite_form}
+use Rattle.der_base.specs.Refusal.{Refusal, refusal, cut_at}
+use Rattle.der_base.specs.declared.length.Length.{Length}
+use Rattle.der_base.specs.declared.error.Error.{Error}
+use Rattle.der_base.specs.declared.error.ErrorKind.TheVariants.{Overlength, IndefiniteLength}
+use Rattle.der_base.specs.declared.encoding_rules.EncodingRules.{EncodingRules}
+use Rattle.der_base.specs.declared.encoding_rules.EncodingRules.TheVariants.{Der}
+use Rattle.der_base.proofs.DigitLemmas.{all_below_push, number_small}
+use Rattle.der_base.proofs.LengthLemmas.{found_short, octet_shortest, octet_cut, octet_longer}
+use Rattle.der_base.proofs.HeaderLemmas.{no_length_fault, one_length}
+use Rattle.der_core.specs.State.{State, rest, here, advanced, stopped, Reads}
+use Rattle.der_core.specs.Refused.{Refused, at_fault, has_failed, Stops}
+use Rattle.der_core.specs.Decode.{Passed}
+use Rattle.der_core.specs.Behind.{LongLengthRefused}
+use Rattle.der_core.proofs.StateLemmas.{reads_none, reads_on, position_on, failed_on, stops_on, error_stops, ByteRefused, byte_failed, byte_cut}
+
+-- some octets of a length were read, which are digits of the number so far
+pub record DigitsSoFar (a b : State) (i value : ℕ) : Type 0 where
+  pub digits : List ℕ
+  pub reads : Reads a b digits
+  pub count : length digits ≡ i
+  pub below : AllBelowBase 256 digits
+  pub is : value ≡ number_from_digits 256 digits
+
+pub digits_none : (a : State) → DigitsSoFar a a 0 0
+digits_none a = record { digits = []; reads = reads_none a; count = refl; below = tt; is = refl }
+
+pub digits_next : {a b c : State} {i value o : ℕ} → DigitsSoFar a b i value → Reads b c (o ∷ []) → o < 256 → DigitsSoFar a c (i + 1) (value * 256 + o)
+digits_next {o = o} h g l =
+    record {
+      digits = h.digits ++ o ∷ [];
+      reads = reads_on h.reads g;
+      count = omega (arith, length-append h.digits (o ∷ []), h.count);
+      below = all_below_push 256 h.digits o h.below l;
+      is = ap (λ v. v * 256 + o) h.is ∙ sym (number_push 256 h.digits o);
+    }
+
+pub digits_small : {a b : State} {i value : ℕ} → DigitsSoFar a b i value → i ≤ 4 → value < 2 ^ 32
+digits_small h l = omega (arith, number_small h.digits (omega (arith, h.count)) h.below, h.is)
+
+-- with three octets or fewer there is room for one more
+pub digits_fit : {a b : State} {i value : ℕ} → DigitsSoFar a b i value → i < 4 → value < 2 ^ 24
+digits_fit h l =
+    let few : 256 ^ length h.digits ≤ 256 ^ 3 = (let q : length h.digits ≤ 3 = omega (arith, h.count) in pow-le-pow_right (omega arith) q) in
+    omega (arith, number_lt 256 h.digits h.below, few, h.is)
+
+-- refusals behind the first octet
+pub refused_indefinite : {a t : State} {o : ℕ} {e : Error} → o ≡ 128 → e ≡ error_at IndefiniteLength (here a) → t ≡ stopped a a.position → LongLengthRefused o a e t
+refused_indefinite {a} {t} {o} {e} is told leaves at here working = (
+  refusal IndefiniteLength (at + 1),
+  subst (λ x. LengthFault Overlength at Der (x ∷ rest a) (refusal IndefiniteLength (at + 1))) (sym is) (indefinite_form (rest a)),
+  subst (λ n. Stops a (refusal IndefiniteLength n) e t) here (error_stops a t IndefiniteLength e told leaves),
+)
+
+pub refused_far : {a t : State} {o : ℕ} {e : Error} → 133 ≤ o → e ≡ error_at Overlength (here a) → t ≡ stopped a a.position → LongLengthRefused o a e t
+refused_far {a} {t} {o} {e} high told leaves at here working = (
+  refusal Overlength (at + 1),
+  far o (rest a) high,
+  subst (λ n. Stops a (refusal Overlength n) e t) here (error_stops a t Overlength e told leaves),
+)
+
+pub refused_cut : {a b t : State} {o i value : ℕ} {e : Error} → DigitsSoFar a b i value → 128 ≤ o → o < 133 → i < o - 128
+    → (rest b ≡ []) × Stops b (cut_at b.position) e t → (at : ℕ) → a.position ≡ at + 1 → (r : Refusal) × LengthFault Overlength at Der (o ∷ rest a) r × Stops a r e t
+refused_cut {a} {b} {t} {o} {e = e} h low high short g at here =
+    let whole : h.digits ≡ rest a = sym (h.reads.split ∙ ap (λ l. h.digits ++ l) g.0 ∙ append-nil h.digits) in
+    let end : at + 1 + length h.digits ≡ b.position = omega (arith, position_on h.reads) in (
+      cut_at (at + 1 + length h.digits),
+      subst (λ l. LengthFault Overlength at Der (o ∷ l) (cut_at (at + 1 + length h.digits))) whole (octet_cut at o h.digits low high (omega (arith, h.count))),
+      subst (λ n. Stops a (cut_at n) e t) (sym end) (stops_on h.reads g.1),
+    )
+
+pub refused_longer : {a b t : State} {o value least : ℕ} {e : Error} → DigitsSoFar a b (o - 128) value → 128 < o → o < 133 → least ≡ max 128 (256 ^ (o - 128 - 1))
+    → value < least → e ≡ error_at Overlength (here b) → t ≡ stopped b b.position → LongLengthRefused o a e t
+refused_longer {a} {b} {t} {o} {value} {least} {e} h low high is small told leaves at here working =
+    let below : number_from_digits 256 h.digits < max 128 (256 ^ (o - 128 - 1)) = omega (arith, h.is) in
+    let there : at + 1 + (o - 128) ≡ b.position = omega (arith, position_on h.reads, h.count) in (
+      refusal Overlength (at + 1 + (o - 128)),
+      subst (λ l. LengthFault Overlength at Der (o ∷ l) (refusal Overlength (at + 1 + (o - 128)))) (sym h.reads.split) (octet_longer at o h.digits (rest b) low high h.count below),
+      subst (λ n. Stops a (refusal Overlength n) e t) (sym there) (stops_on h.reads (error_stops b t Overlength e told leaves)),
+    )
+
+pub found_long : {a b : State} {o value least : ℕ} → DigitsSoFar a b (o - 128) value → 128 < o → least ≡ max 128 (256 ^ (o - 128 - 1)) → least ≤ value
+    → o < 133 → (l : List ℕ) × (length_octets value ≡ o ∷ l) × Reads a b l × (value < 2 ^ 32)
+found_long {o = o} h low is large high =
+    let enough : max 128 (256 ^ (o - 128 - 1)) ≤ number_from_digits 256 h.digits = omega (arith, h.is) in
+    (h.digits, ap length_octets h.is ∙ octet_shortest o h.digits low h.count h.below enough, h.reads, digits_small h (omega arith))
+
+-- a length was read
+pub passed_length : {a t : State} {n : ℕ} → a.failed ≡ false → Reads a t (length_octets n) → n < 2 ^ 32 → Passed (λ rules octets m. LengthAhead rules octets (plain n) m) a t
+passed_length {a} {t} {n} working h small =
+    record {
+      octets = length (length_octets n);
+      working = working;
+      ahead = subst (λ l. LengthAhead a.rules l (plain n) (length (length_octets n))) (sym h.split) (definite n (rest t) small);
+      there = omega (arith, ap length h.split, length-append (length_octets n) (rest t));
+      leaves = h.state;
+    }
+
+pub passed_short : {a t : State} {o : ℕ} → a.failed ≡ false → Reads a t (o ∷ []) → o < 128 → Passed (λ rules octets m. LengthAhead rules octets (plain o) m) a t
+passed_short {a} {t} {o} working h small =
+    record {
+      octets = 1;
+      working = working;
+      ahead = subst (λ l. LengthAhead a.rules l (plain o) 1) (sym h.split) (found_short o (rest t) small);
+      there = omega (arith, ap length h.split);
+      leaves = h.state;
+    }
+
+pub passed_long : {a b t : State} {o n : ℕ} → a.failed ≡ false → Reads a b (o ∷ []) → (l : List ℕ) × (length_octets n ≡ o ∷ l) × Reads b t l × (n < 2 ^ 32)
+    → Passed (λ rules octets m. LengthAhead rules octets (plain n) m) a t
+passed_long {a} {b} {t} working h g = passed_length working (subst (Reads a t) (sym g.1) (reads_on h g.2)) g.3
+
+-- a length is refused
+under_der : {a t : State} {e : Error} {r : Refusal} → a.rules ≡ Der → a.failed ≡ false → LengthFault Overlength a.position Der (rest a) r → Stops a r e t
+    → Refused (λ rules at. LengthFault Overlength at rules) a e t
+under_der {a} {r = r} der working fault stops = at_fault r working (subst (λ rules. LengthFault Overlength a.position rules (rest a) r) (sym der) fault) stops
+
+pub length_ends : {a t : State} {e : Error} → a.rules ≡ Der → ByteRefused a e t → Refused (λ rules at. LengthFault Overlength at rules) a e t
+length_ends der (byte_failed f told leaves) = has_failed f told leaves
+length_ends {a} der (byte_cut working none stops) =
+    under_der der working (subst (λ l. LengthFault Overlength a.position Der l (cut_at a.position)) (sym none) nothing) stops
+
+pub length_refused : {a b t : State} {o : ℕ} {e : Error} → a.rules ≡ Der → a.failed ≡ false → Reads a b (o ∷ []) → LongLengthRefused o b e t
+    → Refused (λ rules at. LengthFault Overlength at rules) a e t
+length_refused {a} {b} {t} {o} {e} der working h n =
+    let r = n a.position (position_on h) (failed_on h ∙ working) in
+    under_der der working (subst (λ l. LengthFault Overlength a.position Der l r.0) (sym h.split) r.1) (stops_on h r.2)
+
+-- where a length stands ahead it is read
+pub length_accepted : {a t : State} {l k : Length} {m : ℕ} → Passed (λ rules octets m. LengthAhead rules octets l m) a t → a.rules ≡ Der → LengthAhead Der (rest a) k m
+    → (l ≡ k) × (t ≡ advanced a m)
+length_accepted {a} {t} {l} {k} {m} h der ahead =
+    let one = one_length h.ahead (subst (λ rules. LengthAhead rules (rest a) k m) (sym der) ahead) refl in
+    (one.0, h.leaves ∙ ap (advanced a) one.1)
+
+pub length_not_refused : {a t : State} {e : Error} {k : Length} {m : ℕ} → Refused (λ rules at. LengthFault Overlength at rules) a e t → a.failed ≡ false → a.rules ≡ Der
+    → LengthAhead Der (rest a) k m → ⊥
+length_not_refused (has_failed f told leaves) working der ahead = (let no : true ≡ false = sym f ∙ working in cc)
+length_not_refused {a} {k = k} {m = m} (at_fault r w fault stops) working der ahead =
+    no_length_fault fault (subst (λ rules. LengthAhead rules (rest a) k m) (sym der) ahead) refl

@@ -1,0 +1,40 @@
+use Rattle.std.proofs.Common.{◌≡◌, ℕ, ◌-◌, ◌∙◌, subst, arith}
+use Rattle.der_core.specs.State.{State}
+use Rattle.der_core.proofs.StateLemmas.{byte_read, byte_refused, cut_refused, failed_on}
+use Rattle.der_core.proofs.LengthReadLemmas.{DigitsSoFar, digits_next, digits_fit, refused_indefinite, refused_far, refused_cut, refused_longer, found_long}
+use Rattle.der_core.proofs.length.decode_long_length.Goals as goal
+
+pub returns-then-first-eq-INDEFINITE-clause-exact : goal.returns-then-first-eq-INDEFINITE-clause-exact
+returns-then-first-eq-INDEFINITE-clause-exact g c reliable = refused_indefinite c.if-first-eq-INDEFINITE.true c.error.ensures.at_position c.error.ensures.failed
+
+pub returns-then-first-gt132-clause-exact : goal.returns-then-first-gt132-clause-exact
+returns-then-first-gt132-clause-exact g c reliable =
+    refused_far (omega arith) c.error-then-first-gt132.ensures.at_position c.error-then-first-gt132.ensures.failed
+
+pub returns-in-Err-clause-exact : goal.returns-in-Err-clause-exact
+returns-in-Err-clause-exact g c reliable at here working =
+    let so_far = c.loop-i.invariant in
+    let refused = byte_refused (g.met.R.Reader.lawful c.loop-i.reader) (c.in-Err.ensures.exact reliable) in
+    refused_cut so_far (omega arith) (omega arith) (omega arith) (cut_refused (failed_on so_far.reads ∙ working) refused) at here
+
+pub overflow_mul-number : goal.overflow_mul-number
+overflow_mul-number g c = omega (arith, digits_fit c.loop-i.invariant (omega arith))
+
+pub overflow_add-number : goal.overflow_add-number
+overflow_add-number g c = omega (arith, digits_fit c.loop-i.invariant (omega arith))
+
+pub loop-i-preserved : goal.loop-i-preserved
+loop-i-preserved g c = digits_next c.loop-i.invariant (byte_read c.in-Ok.ensures.exact) (omega arith)
+
+-- all octets that the first announces
+whole : (i o : ℕ) → i ≡ o - 128 → (a b : State) (n : ℕ) → DigitsSoFar a b i n → DigitsSoFar a b (o - 128) n
+whole i o e a b n h = subst (λ k. DigitsSoFar a b k n) e h
+
+pub returns-then-number-least_of-clause-exact : goal.returns-then-number-least_of-clause-exact
+returns-then-number-least_of-clause-exact g c reliable =
+    refused_longer (whole c.loop-i.i c.args.first (omega arith) _ _ _ c.loop-i.invariant) (omega (arith, c.requires)) (omega arith) c.least_of.ensures c.if-number-least_of.true
+    c.error-then-number-least_of.ensures.at_position c.error-then-number-least_of.ensures.failed
+
+pub returns-clause-ok : goal.returns-clause-ok
+returns-clause-ok g c =
+    found_long (whole c.loop-i.i c.args.first (omega arith) _ _ _ c.loop-i.invariant) (omega (arith, c.requires)) c.least_of.ensures c.if-number-least_of.false (omega arith)
