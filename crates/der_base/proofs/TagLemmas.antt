@@ -118,6 +118,7 @@ data UniversalRows : List (ℕ × Tag) → Type 0 where
   ◌and◌ : {o : ℕ} {t : Tag} {rows : List (ℕ × Tag)} → UniversalRow o t → UniversalRows rows → UniversalRows ((o, t) ∷ rows)
 
 infixr 5 ◌and◌
+-- the row that is found
 row_among : (rows : List (ℕ × Tag)) (o : ℕ) (t : Tag) → UniversalRows rows → tag_among rows o ≡ Some t → UniversalRow o t
 row_among _ o t none e = cc
 row_among _ o t (◌and◌ {o = p} {t = u} {rows = rows} h more) e =
@@ -134,7 +135,12 @@ universal_row o t = row_among universal_rows o t rows
   where
     rows : UniversalRows universal_rows
     rows =
-        (refl, omega arith, refl, refl) and (refl, omega arith, refl, refl) and (refl, omega arith, refl, refl) and (refl, omega arith, refl, refl) and (refl, omega arith, refl, refl) and (refl, omega arith, refl, refl) and (refl, omega arith, refl, refl) and (refl, omega arith, refl, refl) and (refl, omega arith, refl, refl) and (refl, omega arith, refl, refl) and (refl, omega arith, refl, refl) and (refl, omega arith, refl, refl) and (refl, omega arith, refl, refl) and (refl, omega arith, refl, refl) and (refl, omega arith, refl, refl) and (refl, omega arith, refl, refl) and (refl, omega arith, refl, refl) and (refl, omega arith, refl, refl) and (refl, omega arith, refl, refl) and (refl, omega arith, refl, refl) and (refl, omega arith, refl, refl) and (refl, omega arith, refl, refl) and none
+        (refl, omega arith, refl, refl) and (refl, omega arith, refl, refl) and (refl, omega arith, refl, refl) and (refl, omega arith, refl, refl)
+        and (refl, omega arith, refl, refl) and (refl, omega arith, refl, refl) and (refl, omega arith, refl, refl) and (refl, omega arith, refl, refl)
+        and (refl, omega arith, refl, refl) and (refl, omega arith, refl, refl) and (refl, omega arith, refl, refl) and (refl, omega arith, refl, refl)
+        and (refl, omega arith, refl, refl) and (refl, omega arith, refl, refl) and (refl, omega arith, refl, refl) and (refl, omega arith, refl, refl)
+        and (refl, omega arith, refl, refl) and (refl, omega arith, refl, refl) and (refl, omega arith, refl, refl) and (refl, omega arith, refl, refl)
+        and (refl, omega arith, refl, refl) and (refl, omega arith, refl, refl) and none
 
 -- a universal tag is one octet, the one that it is looked up by
 pub universal_octets : (o : ℕ) (t : Tag) → universal_tag o ≡ Some t → tag_octets t ≡ o ∷ []
