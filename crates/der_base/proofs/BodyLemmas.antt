@@ -1,5 +1,5 @@
 -- No item and no body begins another.
-use Rattle.std.proofs.Common.{◌≡◌, ◌≢◌, ℕ, suc, ◌+◌, ◌^◌, ◌<◌, Bool, true, List, [], ◌∷◌, ◌++◌, length, refl, sym, ap, ◌∙◌, append_assoc, arith}
+use Rattle.std.proofs.Common.{◌≡◌, ◌≢◌, ℕ, suc, ◌+◌, Bool, List, ◌∷◌, ◌++◌, length, refl, sym, ap, ◌∙◌, append_assoc}
 use Rattle.der_base.specs.Length.{length_octets}
 use Rattle.der_base.specs.Identifier.{IsIdentifier}
 use Rattle.der_base.specs.Body.{Item, Body, definite, indefinite, ends, more}

@@ -1,9 +1,9 @@
 -- Fronts of lists, and digits of numbers.
-use Rattle.std.proofs.Common.{◌≡◌, ◌≢◌, ℕ, suc, ◌+◌, ◌*◌, ◌/◌, ◌%◌, ◌^◌, ◌<◌, ◌≤◌, ◌⊎◌, List, [], ◌∷◌, ◌++◌, map, length, take, drop, get_or, refl, sym, ap, ◌∙◌, ⊎_elim, inl, inr, append_assoc, append-nil, length-append, arith}
+use Rattle.std.proofs.Common.{◌≡◌, ◌≢◌, ℕ, suc, ◌+◌, ◌*◌, ◌%◌, ◌^◌, ◌<◌, ◌≤◌, ◌⊎◌, List, [], ◌∷◌, ◌++◌, length, take, drop, refl, sym, ap, ◌∙◌, ⊎_elim, inl, inr, append_assoc, append-nil, arith}
 use Rattle.std.proofs.lemmas.Bool.{ne_eqb}
 use Rattle.std.proofs.lemmas.List.{take_at, drop_at}
 use Rattle.std.proofs.lemmas.Nat.{mul-le, div-mul-add, mod-mul-add}
-use Rattle.std.proofs.lemmas.Int.Digits.{digits_of_step, length-digits_of_step, first_digits_of, all_below_base_digits_of, same_from_digits_of, number_digits_of, number_lt}
+use Rattle.std.proofs.lemmas.Int.Digits.{digits_of_step, length-digits_of_step, all_below_base_digits_of, same_from_digits_of, number_lt}
 use Rattle.std.proofs.Math.Nat.{pow-le-pow_right, pow-suc, mul-le-mul_right}
 use Rattle.std.specs.Int.Digits.{digits_of, number_from_digits, number_from_digits_after, AllBelowBase}
 use Rattle.der_base.specs.Digits.{digits, continued}
@@ -50,7 +50,7 @@ digits_of_number b d ds two ne all =
     let pos : 0 < 0 * b + d = omega arith in
     digits_of_after b (0 * b + d) ds two pos all.1 ∙ ap (λ l. l ++ ds) (digits_of_push b 0 d two all.0 pos)
 
--- one octet more at the end is below 256
+-- one digit more at the end is below the base
 pub all_below_push : (b : ℕ) (ds : List ℕ) (d : ℕ) → AllBelowBase b ds → d < b → AllBelowBase b (ds ++ d ∷ [])
 all_below_push b [] d h l = (l, tt)
 all_below_push b (x ∷ xs) d h l = (h.0, all_below_push b xs d h.1 l)
@@ -75,7 +75,7 @@ number_at_least d ds h =
     let all : (0 * 256 + d) * 256 ^ length ds ≤ number_from_digits 256 (d ∷ ds) = number_after_at_least (0 * 256 + d) ds in
     omega (arith, one, all)
 
--- digits that go on: no such list begins another
+-- no continued digits begin others
 pub continued_front : (ds es x y : List ℕ) → 0 < length ds → 0 < length es → AllBelowBase 128 ds → AllBelowBase 128 es → continued ds ++ x ≡ continued es ++ y → (ds ≡ es) × (x ≡ y)
 continued_front [] es x y p q a b e = absurd (omega arith)
 continued_front (d ∷ ds) [] x y p q a b e = absurd (omega arith)
@@ -90,15 +90,21 @@ continued_front (d ∷ c ∷ ds) (e ∷ f ∷ fs) x y p q a b h =
     let s : c ∷ ds ≡ f ∷ fs = r.0 in
     (cc, r.1)
 
--- continued digits of octets' size are octets
+-- continued digits are octets
 pub continued_octets : (ds : List ℕ) → AllBelowBase 128 ds → AllBelowBase 256 (continued ds)
 continued_octets [] h = tt
 continued_octets (d ∷ []) h = (omega (arith, h.0), tt)
 continued_octets (d ∷ e ∷ ds) h = (omega (arith, h.0), continued_octets (e ∷ ds) h.1)
 
--- the digits of two numbers in base 128, spelled as continued, at one front
+-- no number in base 128 begins another
 pub number_front : (m n : ℕ) (x y : List ℕ) → 0 < m → 0 < n → continued (digits 128 m) ++ x ≡ continued (digits 128 n) ++ y → (m ≡ n) × (x ≡ y)
 number_front m n x y p q e =
     let f : continued (digits_of 128 m) ++ x ≡ continued (digits_of 128 n) ++ y = ap (λ l. continued l ++ x) (sym (digits_positive 128 m p)) ∙ e ∙ ap (λ l. continued l ++ y) (digits_positive 128 n q) in
     let s = continued_front (digits_of 128 m) (digits_of 128 n) x y (length_digits_positive 128 m (omega arith) p) (length_digits_positive 128 n (omega arith) q) (all_below_base_digits_of 128 m (omega arith)) (all_below_base_digits_of 128 n (omega arith)) f in
     (same_from_digits_of 128 m n (omega arith) s.0, s.1)
+
+-- as many octets as digits
+pub length_continued : (ds : List ℕ) → length (continued ds) ≡ length ds
+length_continued [] = refl
+length_continued (d ∷ []) = refl
+length_continued (d ∷ e ∷ ds) = ap suc (length_continued (e ∷ ds))

@@ -1,11 +1,10 @@
 -- Tags, lengths and headers at the front of octets: there is one at most, and none where there is
 -- a fault, and one fault at most.
-use Rattle.std.proofs.Common.{◌≡◌, ◌≢◌, ℕ, ◌+◌, ◌^◌, ◌<◌, Bool, true, false, List, [], ◌∷◌, ◌++◌, length, if◌then◌else◌, refl, sym, ap, ◌∙◌, subst, append_assoc, arith}
-use Rattle.der_base.specs.Length.{number, flagged, length_of, plain, length_octets}
-use Rattle.der_base.specs.Tag.{tag_octets}
+use Rattle.std.proofs.Common.{◌≡◌, ℕ, ◌+◌, ◌^◌, ◌<◌, ◌≤◌, Bool, true, false, List, ◌∷◌, ◌++◌, length, if◌then◌else◌, refl, sym, ap, ◌∙◌, subst, append_assoc, length-append, arith}
+use Rattle.der_base.specs.Length.{flagged, length_of, plain, length_octets, number}
 use Rattle.der_base.specs.Identifier.{IsIdentifier, IdentifierFault}
 use Rattle.der_base.specs.Body.{Body}
-use Rattle.der_base.specs.Refusal.{Refusal, Reason, Wants, Kind, refusal, is_far, kind_told, owed}
+use Rattle.der_base.specs.Refusal.{Refusal, Reason, Wants, Kind, is_far, kind_told, owed}
 use Rattle.der_base.specs.Error.{at, bare}
 use Rattle.der_base.specs.Header.{header_octets, TagAhead, tag, LengthAhead, definite, indefinite, Head, head, HeaderAhead, header, LengthFault, nothing, few, far, longer, indefinite_form, HeaderFault, no_identifier, no_length}
 use Rattle.der_base.specs.declared.length.Length.{Length}
@@ -17,7 +16,7 @@ use Rattle.der_base.specs.declared.encoding_rules.EncodingRules.{EncodingRules}
 use Rattle.der_base.specs.declared.encoding_rules.EncodingRules.TheVariants.{Ber, Der}
 use Rattle.der_base.proofs.TagLemmas.{tag_front}
 use Rattle.der_base.proofs.IdentifierLemmas.{identifier_front, no_identifier_fault, one_identifier_fault}
-use Rattle.der_base.proofs.LengthLemmas.{length_front, length_definite, no_definite_fault, no_open_fault, one_length_fault}
+use Rattle.der_base.proofs.LengthLemmas.{length_front, length_definite, no_definite_fault, no_open_fault, one_length_fault, length_octets_some, length_octets_few}
 use Rattle.der_base.proofs.BodyLemmas.{body_front}
 
 -- no header of a definite length begins another
@@ -95,6 +94,13 @@ no_length_fault {m = m} {rules = rules} {t = t} {l = l} f h e = go (length_view 
     go (view_definite n rest small q c z) = no_definite_fault n rest small f (e ∙ q)
     go (view_indefinite body rest ber d q c z) = no_open_fault (body ++ rest) ber f (e ∙ q)
 
+-- octets that begin with a tag have no fault
+pub no_tag_fault : {rules : EncodingRules} {at m : ℕ} {s t : List ℕ} {r : Refusal} {u : Tag} {b : Bool} → IdentifierFault rules at s r → TagAhead rules t u b m → s ≡ t → ⊥
+no_tag_fault {rules} {m = m} {t = t} {u = u} {b = b} f h e = go (tag_view h)
+  where
+    go : TagView rules t u b m → ⊥
+    go (tag_view_of id rest d q c) = no_identifier_fault rest f d (e ∙ q)
+
 -- octets that begin with a header have no fault
 pub no_header_fault : {rules : EncodingRules} {at m : ℕ} {s t : List ℕ} {r : Refusal} {h : Head} → HeaderFault rules at s r → HeaderAhead rules t h m → s ≡ t → ⊥
 no_header_fault {rules = rules} {m = m} {t = t} {h = h} fault ahead e = go fault (header_view ahead) e
@@ -112,6 +118,34 @@ one_header_fault (no_length {more = more} d g) (no_identifier f) e = absurd (no_
 one_header_fault {rules = rules} {at = at} {r = p} (no_length {id = a} {more = x} {t = t} d f) (no_length {id = b} {more = y} {t = u} o g) e =
     let r = identifier_front d o x y e in
     one_length_fault (subst (λ v. LengthFault (IncorrectLength v) (at + length b) rules x p) r.1 (subst (λ i. LengthFault (IncorrectLength t) (at + length i) rules x p) r.0 f)) g r.3
+
+-- a tag ahead is within the octets
+pub tag_fits : {rules : EncodingRules} {s : List ℕ} {t : Tag} {b : Bool} {m : ℕ} → TagAhead rules s t b m → m ≤ length s
+tag_fits (tag {id = id} rest h) = omega (arith, length-append id rest)
+
+-- a length ahead is within the octets
+pub length_fits : {rules : EncodingRules} {s : List ℕ} {l : Length} {m : ℕ} → LengthAhead rules s l m → m ≤ length s
+length_fits (definite n rest h) = omega (arith, length-append (length_octets n) rest)
+length_fits (indefinite {body = body} rest h) = omega arith
+
+-- a length ahead has from one to five octets
+pub length_size : {rules : EncodingRules} {s : List ℕ} {l : Length} {m : ℕ} → LengthAhead rules s l m → (1 ≤ m) × (m ≤ 5)
+length_size (definite n rest h) = (length_octets_some n, length_octets_few n h)
+length_size (indefinite {body = body} rest h) = (omega arith, omega arith)
+
+-- a definite length ahead has 32 bits
+pub length_bits : {rules : EncodingRules} {s : List ℕ} {l : Length} {m : ℕ} → LengthAhead rules s l m → flagged l ≡ false → number l < 2 ^ 32
+length_bits (definite n rest h) e = h
+length_bits (indefinite {body = body} rest h) e = cc
+
+-- under DER each length ahead is definite
+pub length_definite_form : {rules : EncodingRules} {s : List ℕ} {l : Length} {m : ℕ} → rules ≡ Der → LengthAhead rules s l m → flagged l ≡ false
+length_definite_form d (definite n rest h) = refl
+length_definite_form d (indefinite {body = body} rest h) = cc
+
+-- a header ahead is within the octets
+pub header_fits : {rules : EncodingRules} {s : List ℕ} {h : Head} {m : ℕ} → HeaderAhead rules s h m → m ≤ length s
+header_fits (header {id = id} {more = more} d l ok) = omega (arith, length-append id more, length_fits l)
 
 -- a kind that stands for a length that is not spelled rightly, told as another
 abbrev pub retold_kind : ErrorKind → ErrorKind → ErrorKind

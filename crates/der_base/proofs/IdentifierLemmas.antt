@@ -1,17 +1,17 @@
 -- Identifiers at the front of octets, and where octets begin with none.
-use Rattle.std.proofs.Common.{◌≡◌, ◌≢◌, ℕ, suc, ◌+◌, ◌*◌, ◌/◌, ◌%◌, ◌^◌, ◌<◌, ◌≤◌, ◌⊎◌, Bool, true, false, Option, Some, None, List, [], ◌∷◌, ◌++◌, length, refl, sym, ap, ◌∙◌, subst, ⊎_elim, inl, inr, append_assoc, append-nil, length-append, arith}
-use Rattle.std.proofs.lemmas.Bool.{cases_lt, cases_eq}
-use Rattle.std.specs.Int.Digits.{AllBelowBase}
+use Rattle.std.proofs.Common.{◌≡◌, ◌≢◌, ℕ, ◌+◌, ◌%◌, ◌^◌, ◌<◌, ◌≤◌, ◌⊎◌, Bool, true, false, Some, None, List, [], ◌∷◌, ◌++◌, length, refl, sym, ap, ◌∙◌, subst, ⊎_elim, append_assoc, append-nil, length-append, arith}
+use Rattle.std.proofs.lemmas.Bool.{cases_lt, cases_eq, ne_eqb}
 use Rattle.der_base.specs.Digits.{digits, continued}
-use Rattle.der_base.specs.Tag.{label, label_of, first_octet, tag_octets, IsTag, universal_tag, is_constructed, other_tag}
+use Rattle.der_base.specs.Tag.{label, first_octet, tag_octets, IsTag, universal_tag, is_constructed, other_tag}
 use Rattle.der_base.specs.Refusal.{Refusal, refusal, cut_at}
 use Rattle.der_base.specs.Identifier.{IsIdentifier, of_tag, of_segments, IsCutIdentifier, BeginsNoIdentifier, identifier_kind, IdentifierFault, cut, refused}
+use Rattle.der_base.specs.declared.error.ErrorKind.TheVariants.{TagNumberInvalid, TagUnknown}
 use Rattle.der_base.specs.declared.encoding_rules.EncodingRules.{EncodingRules}
 use Rattle.der_base.specs.declared.encoding_rules.EncodingRules.TheVariants.{Ber, Der}
 use Rattle.der_base.specs.declared.tag.Tag.{Tag}
 use Rattle.der_base.specs.declared.tag.Tag.TheVariants.{Boolean, OctetString}
 use Rattle.der_base.proofs.DigitLemmas.{two_fronts}
-use Rattle.der_base.proofs.TagLemmas.{label_small, label_large, octet_parts, octet_back, tag_begins, tag_front, no_segments, universal_found, universal_octets, universal_is_tag, universal_constructed, other_constructed, other_number, other_octet, other_octets}
+use Rattle.der_base.proofs.TagLemmas.{label_small, label_large, tag_begins, tag_front, no_segments, universal_found, universal_octets, universal_is_tag, other_constructed, other_number, other_octet, other_octets}
 
 -- moved to equal octets and an equal bit
 pub identifier_at : {rules : EncodingRules} {a b : List ℕ} {t : Tag} {c d : Bool} → a ≡ b → c ≡ d → IsIdentifier rules a t c → IsIdentifier rules b t d
@@ -65,7 +65,7 @@ identifier_front {rules} {a} {b} {t} {u} {c} {d} h k x y e = go (identifier_view
         let r : 36 ∷ x ≡ 36 ∷ y = ap (λ l. l ++ x) (sym f) ∙ e ∙ ap (λ l. l ++ y) v in
         (f ∙ sym v, g ∙ sym w, z ∙ sym s, cc)
 
--- octets are cut: they begin the identifier of a number, and it goes on
+-- some identifier begins with nothing
 some_identifier : (rules : EncodingRules) → IsCutIdentifier rules []
 some_identifier rules = (1, [], Boolean, false, of_tag (omega arith))
 
@@ -100,6 +100,14 @@ fault_universal {rules} at o rest l none ok =
     let here : at + 0 + 1 ≡ at + 1 = omega arith in
     subst (λ n. IdentifierFault rules at (o ∷ rest) (refusal (identifier_kind [] o) n)) here
     (refused [] o rest (some_identifier rules) (no_universal rules o l none ok))
+
+-- octet 31 is refused as a wrong number
+pub kind_invalid : (o : ℕ) → o ≡ 31 → identifier_kind [] o ≡ TagNumberInvalid
+kind_invalid o h = rw h refl
+
+-- another octet is refused as unknown
+pub kind_unknown : (o : ℕ) → o ≢ 31 → identifier_kind [] o ≡ TagUnknown o
+kind_unknown o h = rw (ne_eqb o 31 h) refl
 
 -- octets that are cut are no identifier with more octets behind it
 no_cut_identifier : {rules : EncodingRules} {id : List ℕ} {t : Tag} {b : Bool} (s x : List ℕ) → IsIdentifier rules id t b → IsCutIdentifier rules s → s ≡ id ++ x → ⊥

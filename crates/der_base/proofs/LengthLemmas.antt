@@ -1,17 +1,15 @@
 -- Lengths: their octets, what a decoder sees of them, and where octets begin with none.
-use Rattle.std.proofs.Common.{◌≡◌, ◌≢◌, ℕ, zero, suc, max, ◌+◌, ◌-◌, ◌*◌, ◌^◌, ◌<◌, ◌≤◌, ◌⊎◌, Bool, true, false, List, [], ◌∷◌, ◌++◌, length, get_or, refl, sym, ap, ◌∙◌, subst, ⊎_elim, inl, inr, append_assoc, length-append, arith}
-use Rattle.std.proofs.lemmas.Bool.{cases_lt, cases_eq, lt-ltb, le-ltb}
+use Rattle.std.proofs.Common.{◌≡◌, ◌≢◌, ℕ, max, ◌+◌, ◌-◌, ◌^◌, ◌<◌, ◌≤◌, ◌⊎◌, false, List, [], ◌∷◌, ◌++◌, length, get_or, refl, sym, ap, ◌∙◌, subst, ⊎_elim, length-append, arith}
+use Rattle.std.proofs.lemmas.Bool.{cases_lt, lt-ltb, le-ltb}
 use Rattle.std.proofs.lemmas.Int.Digits.{length-digits_of-le, first_digits_of, number_digits_of, number_lt, same_from_digits_of, all_below_base_digits_of}
 use Rattle.std.specs.Int.Digits.{digits_of, number_from_digits, AllBelowBase}
 use Rattle.der_base.specs.Digits.{digits}
-use Rattle.der_base.specs.Length.{number, flagged, length_of, length_octets}
-use Rattle.der_base.specs.Refusal.{Refusal, Reason, Kind, Wants, refusal, cut_at}
-use Rattle.der_base.specs.Header.{LengthAhead, definite, indefinite, LengthFault, nothing, few, far, longer, indefinite_form}
-use Rattle.der_base.specs.declared.length.Length.{Length}
+use Rattle.der_base.specs.Length.{length_of, length_octets}
+use Rattle.der_base.specs.Refusal.{Refusal, refusal, cut_at}
+use Rattle.der_base.specs.Header.{LengthAhead, definite, LengthFault, nothing, few, far, longer, indefinite_form}
 use Rattle.der_base.specs.declared.error.ErrorKind.{ErrorKind}
-use Rattle.der_base.specs.declared.error.ErrorKind.TheVariants.{IndefiniteLength}
 use Rattle.der_base.specs.declared.encoding_rules.EncodingRules.{EncodingRules}
-use Rattle.der_base.specs.declared.encoding_rules.EncodingRules.TheVariants.{Ber, Der}
+use Rattle.der_base.specs.declared.encoding_rules.EncodingRules.TheVariants.{Ber}
 use Rattle.der_base.proofs.DigitLemmas.{same_length_front, digits_positive, length_digits_positive, digits_of_number, number_small, number_at_least}
 
 -- the octet of a length below 128
@@ -68,6 +66,14 @@ length_octets_some n =
     ⊎_elim
     (λ a. subst (λ l. 1 ≤ length l) (sym (length_small n a)) (omega arith))
     (λ a. subst (λ l. 1 ≤ length l) (sym (large_of n a)) (omega arith))
+    (cases_lt n 128)
+
+-- the octets of a length of 32 bits are below 256
+pub length_octets_below : (n : ℕ) → n < 2 ^ 32 → AllBelowBase 256 (length_octets n)
+length_octets_below n h =
+    ⊎_elim
+    (λ a. subst (AllBelowBase 256) (sym (length_small n a)) (omega arith, tt))
+    (λ a. subst (AllBelowBase 256) (sym (large_of n a)) (omega (arith, length-digits_of-le 256 4 n (omega arith) h), all_below_base_digits_of 256 n (omega arith)))
     (cases_lt n 128)
 
 -- the least length that takes so many octets behind the first

@@ -1,15 +1,14 @@
 -- A tag number of 31 or more, octet by octet, and the octets that cannot go on.
-use Rattle.std.proofs.Common.{◌≡◌, ◌≢◌, ℕ, zero, suc, ◌+◌, ◌-◌, ◌*◌, ◌/◌, ◌%◌, ◌^◌, ◌<◌, ◌≤◌, ◌⊎◌, Bool, List, [], ◌∷◌, ◌++◌, map, length, get_or, refl, sym, ap, ◌∙◌, subst, ⊎_elim, inl, inr, append_assoc, arith}
+use Rattle.std.proofs.Common.{◌≡◌, ◌≢◌, ℕ, ◌+◌, ◌-◌, ◌*◌, ◌/◌, ◌%◌, ◌^◌, ◌<◌, ◌≤◌, ◌⊎◌, List, [], ◌∷◌, ◌++◌, map, length, get_or, refl, sym, ap, ◌∙◌, ⊎_elim, inl, inr, append_assoc, arith}
 use Rattle.std.proofs.lemmas.Bool.{cases_lt}
 use Rattle.std.proofs.lemmas.Int.Digits.{first_digits_of, number_digits_of, number_push, number_after_append, number_after_ge, all_below_base_digits_of}
 use Rattle.std.specs.Int.Digits.{digits_of, number_from_digits, number_from_digits_after, AllBelowBase}
 use Rattle.der_base.specs.Digits.{digits, continued}
-use Rattle.der_base.specs.Tag.{label, label_of, first_octet, tag_octets, IsTag, is_constructed, other_tag}
+use Rattle.der_base.specs.Tag.{label, label_of, first_octet, is_constructed, other_tag}
 use Rattle.der_base.specs.Refusal.{refusal, cut_at}
 use Rattle.der_base.specs.Identifier.{IsIdentifier, IsCutIdentifier, BeginsNoIdentifier, IdentifierFault, cut, refused}
 use Rattle.der_base.specs.declared.encoding_rules.EncodingRules.{EncodingRules}
 use Rattle.der_base.specs.declared.error.ErrorKind.TheVariants.{TagNumberInvalid}
-use Rattle.der_base.specs.declared.tag.Tag.{Tag}
 use Rattle.der_base.proofs.DigitLemmas.{digits_positive, length_digits_positive, digits_of_push}
 use Rattle.der_base.proofs.TagLemmas.{label_small, label_large, octet_parts, octet_back}
 use Rattle.der_base.proofs.IdentifierLemmas.{IdentifierView, tagged, segmented, identifier_view, identifier_at, long_identifier}

@@ -1,16 +1,13 @@
 -- Tags and their octets: what an octet says, and that no tag begins another.
-use Rattle.std.proofs.Common.{◌≡◌, ◌≢◌, ℕ, suc, ◌+◌, ◌*◌, ◌/◌, ◌%◌, ◌^◌, ◌<◌, ◌≤◌, ◌⊎◌, Bool, true, false, eqb, nat_eq, Option, Some, None, if◌then◌else◌, List, [], ◌∷◌, ◌++◌, length, refl, sym, ap, ◌∙◌, subst, ⊎_elim, inl, inr, append-nil, arith}
+use Rattle.std.proofs.Common.{◌≡◌, ◌≢◌, ℕ, ◌+◌, ◌*◌, ◌/◌, ◌%◌, ◌<◌, ◌≤◌, Bool, true, false, nat_eq, Option, Some, None, if◌then◌else◌, List, [], ◌∷◌, ◌++◌, refl, sym, ap, ◌∙◌, subst, ⊎_elim, arith, length}
 use Rattle.std.proofs.lemmas.Bool.{cases_lt, cases_eq, lt-ltb, le-ltb, ne_eqb, eq-eqb, eqb-true, eqb-false}
-use Rattle.std.proofs.lemmas.Int.Digits.{all_below_base_digits_of}
+use Rattle.std.proofs.lemmas.Int.Digits.{all_below_base_digits_of, length-digits_of-le}
 use Rattle.std.specs.Int.Digits.{digits_of, AllBelowBase}
 use Rattle.der_base.specs.Digits.{digits, continued}
 use Rattle.der_base.specs.Tag.{Label, label_of, label, bit, first_octet, label_octets, tag_octets, IsTag, universal_rows, tag_among, universal_tag, is_constructed, tag_number, other_tag}
-use Rattle.der_base.specs.Identifier.{IsIdentifier, of_tag, of_segments}
-use Rattle.der_base.specs.declared.encoding_rules.EncodingRules.{EncodingRules}
-use Rattle.der_base.specs.declared.encoding_rules.EncodingRules.TheVariants.{Ber, Der}
 use Rattle.der_base.specs.declared.tag.Tag.{Tag}
 use Rattle.der_base.specs.declared.tag.Tag.TheVariants.{Boolean, Integer, BitString, OctetString, Null, ObjectIdentifier, Real, Enumerated, Utf8String, RelativeOid, Sequence, Set, NumericString, PrintableString, TeletexString, VideotexString, Ia5String, UtcTime, GeneralizedTime, VisibleString, GeneralString, BmpString, Application, ContextSpecific, Private}
-use Rattle.der_base.proofs.DigitLemmas.{digits_positive, number_front, continued_octets}
+use Rattle.der_base.proofs.DigitLemmas.{digits_positive, number_front, continued_octets, length_continued}
 
 -- a number below 31 stands in the first octet
 pub label_small : (l : Label) → l.number < 31 → label_octets l ≡ first_octet l l.number ∷ []
@@ -116,31 +113,34 @@ class_small t = omega arith
 UniversalRow : ℕ → Tag → Type 0
 UniversalRow o t = (tag_octets t ≡ o ∷ []) × (IsTag t) × ((label t).constructed ≡ is_constructed o) × ((label t).class ≡ 0)
 
-abbrev UniversalRows : List (ℕ × Tag) → Type 0
-UniversalRows [] = Unit {0}
-UniversalRows (row ∷ rows) = UniversalRow row.0 row.1 × UniversalRows rows
+data UniversalRows : List (ℕ × Tag) → Type 0 where
+  none : UniversalRows []
+  ◌and◌ : {o : ℕ} {t : Tag} {rows : List (ℕ × Tag)} → UniversalRow o t → UniversalRows rows → UniversalRows ((o, t) ∷ rows)
 
+infixr 5 ◌and◌
+-- the row that is found
 row_among : (rows : List (ℕ × Tag)) (o : ℕ) (t : Tag) → UniversalRows rows → tag_among rows o ≡ Some t → UniversalRow o t
-row_among [] o t h e = cc
-row_among (row ∷ rows) o t h e =
+row_among _ o t none e = cc
+row_among _ o t (◌and◌ {o = p} {t = u} {rows = rows} h more) e =
     ⊎_elim
-    (λ same. let f : Some row.1 ≡ Some t = rw (eq-eqb o row.0 same) at e in
-    let g : row.1 ≡ t = cc in
-    subst (λ u. UniversalRow o u) g (subst (λ k. UniversalRow k row.1) (sym same) h.0))
-    (λ other. row_among rows o t h.1 (rw (ne_eqb o row.0 other) at e))
-    (cases_eq o row.0)
+    (λ same. let f : Some u ≡ Some t = rw (eq-eqb o p same) at e in
+    let g : u ≡ t = cc in
+    subst (λ v. UniversalRow o v) g (subst (λ k. UniversalRow k u) (sym same) h))
+    (λ other. row_among rows o t more (rw (ne_eqb o p other) at e))
+    (cases_eq o p)
 
 universal_row : (o : ℕ) (t : Tag) → universal_tag o ≡ Some t → UniversalRow o t
 unfolding UniversalRow
-universal_row o t = row_among universal_rows o t
-    ((refl, omega arith, refl, refl), ((refl, omega arith, refl, refl), ((refl, omega arith, refl, refl), 
-    ((refl, omega arith, refl, refl), ((refl, omega arith, refl, refl), ((refl, omega arith, refl, refl), 
-    ((refl, omega arith, refl, refl), ((refl, omega arith, refl, refl), ((refl, omega arith, refl, refl), 
-    ((refl, omega arith, refl, refl), ((refl, omega arith, refl, refl), ((refl, omega arith, refl, refl), 
-    ((refl, omega arith, refl, refl), ((refl, omega arith, refl, refl), ((refl, omega arith, refl, refl), 
-    ((refl, omega arith, refl, refl), ((refl, omega arith, refl, refl), ((refl, omega arith, refl, refl), 
-    ((refl, omega arith, refl, refl), ((refl, omega arith, refl, refl), ((refl, omega arith, refl, refl), 
-    ((refl, omega arith, refl, refl), tt))))))))))))))))))))))
+universal_row o t = row_among universal_rows o t rows
+  where
+    rows : UniversalRows universal_rows
+    rows =
+        (refl, omega arith, refl, refl) and (refl, omega arith, refl, refl) and (refl, omega arith, refl, refl) and (refl, omega arith, refl, refl)
+        and (refl, omega arith, refl, refl) and (refl, omega arith, refl, refl) and (refl, omega arith, refl, refl) and (refl, omega arith, refl, refl)
+        and (refl, omega arith, refl, refl) and (refl, omega arith, refl, refl) and (refl, omega arith, refl, refl) and (refl, omega arith, refl, refl)
+        and (refl, omega arith, refl, refl) and (refl, omega arith, refl, refl) and (refl, omega arith, refl, refl) and (refl, omega arith, refl, refl)
+        and (refl, omega arith, refl, refl) and (refl, omega arith, refl, refl) and (refl, omega arith, refl, refl) and (refl, omega arith, refl, refl)
+        and (refl, omega arith, refl, refl) and (refl, omega arith, refl, refl) and none
 
 -- a universal tag is one octet, the one that it is looked up by
 pub universal_octets : (o : ℕ) (t : Tag) → universal_tag o ≡ Some t → tag_octets t ≡ o ∷ []
@@ -265,6 +265,15 @@ tag_begins t =
           label_large (label t) b,
           (λ z. omega arith),
           subst (AllBelowBase 256) (sym (label_large (label t) b))
-          (omega (arith, class_small t, bit_small (label t).constructed), subst (λ l. AllBelowBase 256 (continued l)) (sym (digits_positive 128 (label t).number (omega arith))) (continued_octets (digits_of 128 (label t).number) (all_below_base_digits_of 128 (label t).number (omega arith)))),
+              (omega (arith, class_small t, bit_small (label t).constructed), subst (λ l. AllBelowBase 256 (continued l)) (sym (digits_positive 128 (label t).number (omega arith))) (continued_octets (digits_of 128 (label t).number) (all_below_base_digits_of 128 (label t).number (omega arith)))),
         ))
         (cases_lt (label t).number 31)
+
+-- a tag has at most six octets
+pub tag_octets_few : (t : Tag) → IsTag t → length (tag_octets t) ≤ 6
+tag_octets_few t h =
+    ⊎_elim
+    (λ a. subst (λ l. length l ≤ 6) (sym (label_small (label t) a)) (omega arith))
+    (λ a. subst (λ l. length l ≤ 6) (sym (label_large (label t) a))
+    (omega (arith, length_continued (digits 128 (label t).number), ap length (digits_positive 128 (label t).number (omega arith)), length-digits_of-le 128 5 (label t).number (omega arith) (omega arith))))
+    (cases_lt (label t).number 31)
