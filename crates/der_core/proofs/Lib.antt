@@ -1,3 +1,5 @@
 pub mod StateLemmas
 pub mod TagReadLemmas
 pub mod LengthReadLemmas
+pub mod HeaderReadLemmas
+pub mod DecodeLemmas

@@ -16,6 +16,6 @@ pub use der_base::{
     CLASS_APPLICATION, CLASS_CONTEXT_SPECIFIC, CLASS_PRIVATE, CLASS_UNIVERSAL, Class,
     EncodingRules, Error, ErrorKind, Length, Result, Tag, TagMode, TagNumber,
 };
-pub use header::Header;
+pub use header::{Header, decode_header};
 pub use length::decode_length;
 pub use reader::{Octets, Reader, ReaderExt, SliceReader};
