@@ -6,8 +6,10 @@
 
 pub mod encoding_rules;
 pub mod error;
+mod laws;
 pub mod length;
 pub mod tag;
+
 
 pub use encoding_rules::EncodingRules;
 pub use error::{Error, ErrorKind, Result};
