@@ -73,7 +73,7 @@ made c d = tag_order (enum.make c) (enum.make d)
 derived-same : (s t : Tag) → place s ≡ place t → ghosts.cmp s t ≡ tag_order s t
 derived-same s t e =
     let same : ghosts.cmp s t ≡ tag_order (enum.make (enum.as_values s)) (enum.make (enum.as_values t)) =
-        agrees enum.parts _ made (search rules) (enum.as_values s) (enum.as_values t) (omega (arith, place-is s, place-is t)) in
+    agrees enum.parts _ made (search rules) (enum.as_values s) (enum.as_values t) (omega (arith, place-is s, place-is t)) in
     cc (enum.eta s, enum.eta t)
 
 by_place : (j k : ℕ) (answer rest : Ordering) → (j < k → answer ≡ Less) → (k < j → answer ≡ Greater) → (j ≡ k → answer ≡ ordering_then (nat_cmp j k) rest)

@@ -44,4 +44,4 @@ place (Private b n) = 24
 abbrev pub tag_order : Tag → Tag → Ordering
 tag_order a b =
     ordering_then (nat_cmp (place a) (place b))
-        (ordering_then (bool_cmp (label a).constructed (label b).constructed) (nat_cmp (label a).number (label b).number))
+    (ordering_then (bool_cmp (label a).constructed (label b).constructed) (nat_cmp (label a).number (label b).number))

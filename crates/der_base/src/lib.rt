@@ -10,7 +10,6 @@ mod laws;
 pub mod length;
 pub mod tag;
 
-
 pub use encoding_rules::EncodingRules;
 pub use error::{Error, ErrorKind, Result};
 pub use length::Length;
@@ -18,3 +17,6 @@ pub use tag::{
     CLASS_APPLICATION, CLASS_CONTEXT_SPECIFIC, CLASS_PRIVATE, CLASS_UNIVERSAL, Class, Tag, TagMode,
     TagNumber,
 };
+
+#[cfg(test)]
+mod tests;

@@ -6,13 +6,10 @@ pub mod class;
 pub mod mode;
 pub mod number;
 
-pub use class::{
-    CLASS_APPLICATION, CLASS_CONTEXT_SPECIFIC, CLASS_PRIVATE, CLASS_UNIVERSAL, Class,
-};
+use crate::error::{ErrorKind, Result};
+pub use class::{CLASS_APPLICATION, CLASS_CONTEXT_SPECIFIC, CLASS_PRIVATE, CLASS_UNIVERSAL, Class};
 pub use mode::TagMode;
 pub use number::TagNumber;
-
-use crate::error::{ErrorKind, Result};
 use std::fmt;
 
 /// The tag of an element: a class, whether its contents are constructed, and a number
@@ -264,7 +261,12 @@ impl fmt::Display for Tag {
             Tag::ContextSpecific {
                 constructed,
                 number,
-            } => write!(f, "CONTEXT-SPECIFIC [{}{}", number.0, bit_text(*constructed)),
+            } => write!(
+                f,
+                "CONTEXT-SPECIFIC [{}{}",
+                number.0,
+                bit_text(*constructed)
+            ),
             Tag::Private {
                 constructed,
                 number,
