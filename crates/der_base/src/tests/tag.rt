@@ -1,10 +1,12 @@
 //! Tags and tag numbers.
 use crate::{Class, ErrorKind, Tag, TagNumber};
+use std::alloc::Global;
 use std::cmp::Ordering;
+use std::process::Abort;
 use std::test::Fail;
 
-/// The 22 universal tags (X.680 8.6, table 1), each with its number and its printed name.
-const UNIVERSAL: [(Tag, u32, &str); 22] = [
+/// The universal tags to `SEQUENCE` (X.680 8.6, table 1), each with its number and printed name.
+const TO_SEQUENCE: [(Tag, u32, &str); 11] = [
     (Tag::Boolean, 1, "BOOLEAN"),
     (Tag::Integer, 2, "INTEGER"),
     (Tag::BitString, 3, "BIT STRING"),
@@ -16,6 +18,10 @@ const UNIVERSAL: [(Tag, u32, &str); 22] = [
     (Tag::Utf8String, 12, "UTF8String"),
     (Tag::RelativeOid, 13, "RELATIVE OID"),
     (Tag::Sequence, 16, "SEQUENCE"),
+];
+
+/// The universal tags behind `SEQUENCE`, likewise.
+const FROM_SET: [(Tag, u32, &str); 11] = [
     (Tag::Set, 17, "SET"),
     (Tag::NumericString, 18, "NumericString"),
     (Tag::PrintableString, 19, "PrintableString"),
@@ -29,17 +35,30 @@ const UNIVERSAL: [(Tag, u32, &str); 22] = [
     (Tag::BmpString, 30, "BMPString"),
 ];
 
+fn universal(
+    rt: &impl Abort,
+    alloc: Global,
+    tag: Tag,
+    number: u32,
+    name: &str,
+) -> Result<(), Fail> {
+    let is_constructed = number == 16 || number == 17;
+    assert_eq!(rt; tag.class(), Class::Universal, "at {name}");
+    assert_eq!(rt; tag.number().value(), number, "at {name}");
+    assert_eq!(rt; tag.is_constructed(), is_constructed, "at {name}");
+    assert!(rt; tag.is_universal() && !tag.is_application());
+    assert!(rt; !tag.is_context_specific() && !tag.is_private());
+    assert_eq!(rt; tag.to_string(alloc)?.as_str(), name);
+    Ok(())
+}
+
 #[test]
 fn universal_tags(rt: HostRuntime) -> Result<(), Fail> {
-    for (tag, number, name) in UNIVERSAL {
-        let alloc = rt.alloc();
-        let is_constructed = number == 16 || number == 17;
-        assert_eq!(rt; tag.class(), Class::Universal, "at {name}");
-        assert_eq!(rt; tag.number().value(), number, "at {name}");
-        assert_eq!(rt; tag.is_constructed(), is_constructed, "at {name}");
-        assert!(rt; tag.is_universal() && !tag.is_application());
-        assert!(rt; !tag.is_context_specific() && !tag.is_private());
-        assert_eq!(rt; tag.to_string(alloc)?.as_str(), name);
+    for (tag, number, name) in TO_SEQUENCE {
+        universal(&rt, rt.alloc(), tag, number, name)?;
+    }
+    for (tag, number, name) in FROM_SET {
+        universal(&rt, rt.alloc(), tag, number, name)?;
     }
     Ok(())
 }
