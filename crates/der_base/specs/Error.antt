@@ -2,9 +2,10 @@
 use Rattle.std.specs.Prelude.{◌+◌, ◌-◌, ◌^◌, ◌==◌, Option, Some, None, if◌then◌else◌}
 use Rattle.der_base.specs.Length.{number, plain}
 use Rattle.der_base.specs.declared.length.Length.{Length}
+use Rattle.der_base.specs.declared.tag.Tag.{Tag}
 use Rattle.der_base.specs.declared.error.Error.{Error}
 use Rattle.der_base.specs.declared.error.ErrorKind.{ErrorKind}
-use Rattle.der_base.specs.declared.error.ErrorKind.TheVariants.{Incomplete, Overflow, Overlength}
+use Rattle.der_base.specs.declared.error.ErrorKind.TheVariants.{Incomplete, Overflow, Overlength, TagUnexpected}
 
 abbrev pub kind_of : Error → ErrorKind
 kind_of e = e.kind
@@ -30,3 +31,7 @@ retold_kind k other = other
 
 abbrev pub retold_error : ErrorKind → Error → Error
 retold_error k e = record { kind = retold_kind k e.kind; position = e.position }
+
+-- another tag was expected
+abbrev pub unexpected_tag : Tag → Tag → Error
+unexpected_tag expected actual = bare (TagUnexpected (Some expected) actual)
