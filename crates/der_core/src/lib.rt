@@ -10,6 +10,8 @@ pub mod header;
 mod length;
 pub mod reader;
 mod tag;
+#[cfg(test)]
+mod tests;
 
 pub use decode::{Decode, DecodeBytes, DecodeError};
 pub use der_base::{
