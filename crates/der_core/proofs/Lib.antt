@@ -3,3 +3,4 @@ pub mod TagReadLemmas
 pub mod LengthReadLemmas
 pub mod HeaderReadLemmas
 pub mod DecodeLemmas
+pub mod NestedLemmas

@@ -1,11 +1,13 @@
 -- The tables of a reader's calls.
-use Rattle.std.specs.Prelude.{ℕ, ◌+◌, ◌^◌, List, [], ◌∷◌, take, Result, Ok, Err, if◌then◌else◌, nat_lt, nat_le}
+use Rattle.std.specs.Prelude.{◌≡◌, ℕ, ◌+◌, ◌-◌, ◌*◌, ◌/◌, ◌^◌, ◌⊎◌, Bool, true, List, [], ◌∷◌, take, min, Option, Some, None, Result, Ok, Err, IsOk, if◌then◌else◌, nat_lt, nat_le, ◌==◌, ◌&&◌, not}
+use Rattle.der_base.specs.Length.{number, flagged, plain}
 use Rattle.der_base.specs.Error.{at, bare}
-use Rattle.der_base.specs.Refusal.{wants}
+use Rattle.der_base.specs.Refusal.{wants, cut_at, owed}
+use Rattle.der_base.specs.declared.length.Length.{Length}
 use Rattle.der_base.specs.declared.error.Error.{Error}
-use Rattle.der_base.specs.declared.error.ErrorKind.TheVariants.{Failed, Overflow}
-use Rattle.der_core.specs.State.{State, rest, here, advanced}
-use Rattle.der_core.specs.Outcome.{Outcome, answers_and, refused}
+use Rattle.der_base.specs.declared.error.ErrorKind.TheVariants.{Failed, Overflow, OutOfMemory, NestingDepth, TrailingData, IndefiniteLength}
+use Rattle.der_core.specs.State.{State, rest, here, advanced, inside, stopped}
+use Rattle.der_core.specs.Outcome.{Outcome, Gives, answers_and, refused, seen}
 
 -- n octets are not there
 abbrev pub short_outcome : (A : Type 0) → State → ℕ → Outcome A
@@ -33,3 +35,45 @@ read_byte_outcome s = unless_failed s (first_octet s (rest s))
 
 abbrev pub remaining_answer : State → Result (List ℕ) Error
 remaining_answer s = if s.failed then Err (at Failed (here s)) else Ok (rest s)
+
+-- the octets that whole steps of sixteen take of those that are left
+abbrev pub whole_steps : State → ℕ
+whole_steps s = 16 * ((s.end - s.position) / 16)
+
+-- an answer without its value
+abbrev pub emptied : {A : Type 0} → Outcome A → Outcome (Unit {0})
+emptied o = answers_and (seen (λ _. tt) o.answer) o.after
+
+-- a plain zero passes nothing, also on a failed reader; where too few are left whole steps of
+-- sixteen are passed, and then a step is read that is too long
+abbrev pub drain_outcome : Length → State → Outcome (Unit {0})
+drain_outcome n s =
+    if (number n == 0) && not (flagged n) then answers_and (Ok tt) s
+    else unless_failed s
+    (if nat_le (s.position + number n) s.end then answers_and (Ok tt) (advanced s (number n))
+     else emptied (read_slice_outcome (min 16 (number n - whole_steps s)) (advanced s (whole_steps s))))
+
+abbrev pub finish_answer : State → Result (Unit {0}) Error
+finish_answer s =
+    if s.failed then Err (at Failed (here s))
+    else if nat_lt s.position s.end then Err (at (TrailingData (here s) (plain (s.end - s.position))) (here s))
+    else Ok tt
+
+-- a part of n octets does not pass the end, nor stand inside 64 others
+abbrev pub enter_nested_outcome : ℕ → State → Outcome (ℕ × ℕ)
+enter_nested_outcome n s =
+    if not (nat_lt (s.position + n) (2 ^ 32)) then answers_and (Err (bare Overflow)) s
+    else if nat_lt s.end (s.position + n) then answers_and (Err (owed (cut_at s.end))) s
+    else if nat_lt s.depth 64 then answers_and (Ok (s.end, s.depth)) (inside s n)
+    else answers_and (Err (at NestingDepth (here s))) (stopped s s.position)
+
+-- octets in memory of their own: as they are lent, or memory is refused and the reader unchanged
+abbrev pub VecMeets : Bool → ℕ → State → Result (List ℕ) Error → State → Type 0
+VecMeets reliable n s (Ok octets) t = Gives (read_slice_outcome n) s (Ok octets) t
+VecMeets reliable n s (Err e) t = reliable ≡ true → Gives (read_slice_outcome n) s (Err e) t ⊎ ((e ≡ bare OutOfMemory) × (t ≡ s))
+
+-- memory is asked for only where the octets are there
+abbrev pub VecGives : ℕ → State → Result (List ℕ) Error → State → Type 0
+VecGives n s answer t =
+    Gives (read_slice_outcome n) s answer t
+    ⊎ ((answer ≡ Err (bare OutOfMemory)) × (t ≡ s) × IsOk (read_slice_outcome n s).answer)

@@ -31,6 +31,14 @@ here s = plain s.position
 abbrev pub advanced : State → ℕ → State
 advanced s n = record s { position = s.position + n }
 
+-- inside a part of n octets
+abbrev pub inside : State → ℕ → State
+inside s n = record s { end = s.position + n; depth = s.depth + 1 }
+
+-- outside of a part again, with this end and depth
+abbrev pub resumed : State → ℕ → ℕ → State
+resumed s end depth = record s { end = end; depth = depth }
+
 -- at a position, failed where the reader keeps such a state
 abbrev pub stopped : State → ℕ → State
 stopped s at = record s { position = at; failed = s.marks }
@@ -46,6 +54,7 @@ pub record Sound (s : State) : Type 0 where
   pub in_input : s.end ≤ length s.input
   pub addressable : length s.input < 2 ^ 32
   pub shallow : s.depth ≤ 64
+  pub marked : IsTrue s.failed → IsTrue s.marks
 
 -- the same reader is handed back: not earlier, within its end, and not less failed
 pub record Same (s t : State) : Type 0 where

@@ -20,4 +20,4 @@ pub use der_base::{
 };
 pub use header::{Header, decode_header};
 pub use length::decode_length;
-pub use reader::{Octets, Reader, ReaderExt, SliceReader};
+pub use reader::{Octets, Reader, ReaderExt, Resumption, SliceReader};

@@ -1,16 +1,23 @@
 //! Readers of octets.
-ghost use Rattle.std.specs.Prelude.{◌≡◌, ℕ, Bool, true, false, List, length, Ok, Err, IfOk, OnErr};
+ghost use Rattle.std.specs.Prelude.{◌≡◌, ℕ, Bool, true, false, List, length, Ok, Err, IfOk, OnOk, OnErr};
 ghost use Rattle.der_base.specs.Error.{at};
 ghost use Rattle.der_base.specs.Length.{number, plain};
 ghost use Rattle.der_base.specs.declared.error.ErrorKind.TheVariants.{Reader as CannotRead};
-ghost use Rattle.der_core.specs.State.{State, rest, here, stopped, Same, Sound};
+ghost use Rattle.der_core.specs.State.{State, here, stopped, resumed, Same, Sound};
 ghost use Rattle.der_core.specs.Outcome.{Meets, seen};
-ghost use Rattle.der_core.specs.Reader.{read_slice_outcome, read_into_outcome, read_byte_outcome, remaining_answer};
+ghost use Rattle.der_core.specs.Reader.{read_slice_outcome, read_into_outcome, remaining_answer, drain_outcome, finish_answer, enter_nested_outcome, VecMeets};
+ghost use Rattle.der_core.specs.Resumption.{outer, outer_end, outer_depth};
+ghost use Rattle.der_core.specs.Nested.{CanLeave};
 
+mod extension;
+pub mod position;
 pub mod slice;
 
 use der_base::{EncodingRules, Error, ErrorKind, Length};
+pub use extension::ReaderExt;
+pub use position::Resumption;
 pub use slice::SliceReader;
+use std::alloc::Global;
 
 /// Octets that a reader has lent.
 pub trait Octets: Drop {
@@ -96,27 +103,44 @@ pub trait Reader: Sized + Drop {
         ensures exact { reliable ≡ true → seen Self.Lent.octets result ≡ remaining_answer (state self.now) }
         ensures unlent { lends ≡ false → seen Self.Lent.octets result ≡ Err (at CannotRead (here (state self.now))) };
 
+    /// An equal reader; it takes no memory, and what is read by it leaves this one as it is.
+    fn fork(&self) -> Self
+        ensures { state result ≡ state self.now };
+
+    /// The next `len` octets in memory of their own; refused as [`Reader::read_slice`] is, or by
+    /// `OutOfMemory` without a position, the reader unchanged.
+    fn read_vec(&mut self, alloc: Global, len: Length) -> Result<Vec<u8>, Error>
+        ensures same { Same (state self.old) (state self.new) }
+        ensures exact { VecMeets reliable (number len) (state self.old) (seen (λ v. v.items) result) (state self.new) };
+
+    /// Passes so many octets. An unflagged zero passes none, also on a failed reader. Where fewer
+    /// are left, whole steps of sixteen of them are passed, and then the next step is refused.
+    fn drain(&mut self, amount: Length) -> Result<(), Error>
+        ensures same { Same (state self.old) (state self.new) }
+        ensures exact { Meets reliable (drain_outcome amount) (state self.old) result (state self.new) };
+
+    /// Ends the reading: refused by `Failed` at the position on a failed reader, and by
+    /// `TrailingData` at the position where octets are left.
+    fn finish(self) -> Result<(), Error>
+        ensures ok { OnOk result (finish_answer (state self) ≡ Ok tt) }
+        ensures exact { reliable ≡ true → result ≡ finish_answer (state self) };
+
+    /// Enters a part of `len` octets: until it is left, they are all that may be read, and the
+    /// depth is one more. A part past 4294967295 is refused by `Overflow` without a position, one
+    /// past the end by `Incomplete` at the end, both unchanged; a part inside 64 others by
+    /// `NestingDepth` at the position, and the reader has failed.
+    fn enter_nested(&mut self, len: Length) -> Result<Resumption, Error>
+        ensures exact { Meets reliable (enter_nested_outcome (number len)) (state self.old) (seen outer result) (state self.new) }
+        ensures err { OnErr result (Same (state self.old) (state self.new)) };
+
+    /// Leaves a part, with the end and the depth around it.
+    fn leave_nested(&mut self, resumption: Resumption)
+        requires { CanLeave (state self.old) (outer_end resumption) (outer_depth resumption) (length (state self.old).input) }
+        ensures { state self.new ≡ resumed (state self.old) (outer_end resumption) (outer_depth resumption) };
+
     // what is so of every reader
     ghost lawful: { (s : Self) → Sound (state s) };
 
     // a reliable reader lends
     ghost lending: { reliable ≡ true → lends ≡ true };
 }
-
-/// The calls that every reader has, by those of [`Reader`] alone.
-pub trait ReaderExt: Reader {
-    /// The next octet; refused as [`Reader::read_slice`] of one octet is.
-    #[inline(always)]
-    final fn read_byte(&mut self) -> Result<u8, Error>
-        ensures same { Same (Self.state self.old) (Self.state self.new) }
-        ensures exact { Meets Self.reliable read_byte_outcome (Self.state self.old) result (Self.state self.new) }
-    {
-        let mut octet = [0u8];
-        match self.read_into(&mut octet) {
-            Ok(()) => Ok(octet[0]),
-            Err(error) => Err(error),
-        }
-    }
-}
-
-impl<R: Reader> ReaderExt for R {}

@@ -1,8 +1,15 @@
 //! Readers of a slice.
 ghost use Rattle.std.specs.Prelude.{◌≡◌, ℕ, ◌+◌, ◌-◌, ◌^◌, ◌<◌, ◌≤◌, ◌↔◌, Bool, true, false, length, IfOk, IfErr, IsOk};
 
-use crate::reader::Reader;
+use crate::reader::{Reader, Resumption};
 use der_base::{EncodingRules, Error, ErrorKind, Length};
+use std::alloc::{Allocator, Global};
+
+// how many parts may stand inside each other
+const MAX_DEPTH: u8 = 64;
+
+// how many octets `drain` passes in one step
+const STEP: u32 = 16;
 
 /// A reader of the octets of a slice, which it lends.
 #[derive(Debug)]
@@ -11,10 +18,12 @@ pub struct SliceReader<'a> {
     encoding_rules: EncodingRules,
     end: u32,
     position: u32,
+    depth: u8,
     failed: bool,
     ghost ordered: { position ≤ end },
     ghost in_input: { end ≤ length bytes.now },
     ghost addressable: { length bytes.now < 2 ^ 32 },
+    ghost shallow: { depth ≤ 64 },
 }
 
 impl Drop for SliceReader<'_> {
@@ -24,6 +33,7 @@ impl Drop for SliceReader<'_> {
             encoding_rules: _,
             end: _,
             position: _,
+            depth: _,
             failed: _,
         } = self;
     }
@@ -34,7 +44,10 @@ impl<'a> SliceReader<'a> {
     ghost use Rattle.der_base.specs.Refusal.{wants, owed};
     ghost use Rattle.der_base.specs.declared.error.ErrorKind.TheVariants.{Overflow};
     ghost use Rattle.der_base.specs.declared.encoding_rules.EncodingRules.TheVariants.{Der};
-    ghost use Rattle.der_core.specs.State.{beginning, left};
+    ghost use Rattle.der_base.specs.Length.{number};
+    ghost use Rattle.der_core.specs.State.{beginning, left, Same};
+    ghost use Rattle.der_core.specs.Outcome.{seen};
+    ghost use Rattle.der_core.specs.Reader.{VecGives};
     ghost use Rattle.der_core.specs.SliceReader.{slice_state};
 
     /// A reader of these octets under the Distinguished Encoding Rules, at their beginning;
@@ -52,8 +65,25 @@ impl<'a> SliceReader<'a> {
             encoding_rules: EncodingRules::Der,
             end: bytes.len() as u32,
             position: 0,
+            depth: 0,
             failed: false,
         })
+    }
+
+    // The next octets in memory of any allocator; memory is asked for once they are there.
+    fn read_vec_in<A: Allocator>(&mut self, alloc: A, len: Length) -> Result<Vec<u8, A>, Error>
+        ensures same { Same (slice_state self.old) (slice_state self.new) }
+        ensures gives { VecGives (number len) (slice_state self.old) (seen (λ v. v.items) result) (slice_state self.new) }
+    {
+        let before = self.position;
+        let octets = self.read_slice(len)?;
+        match octets.to_vec(alloc) {
+            Ok(copy) => Ok(copy),
+            Err(_) => {
+                self.position = before;
+                Err(ErrorKind::OutOfMemory.to_error())
+            }
+        }
     }
 
     // so many octets are not there
@@ -147,7 +177,78 @@ impl<'a> Reader for SliceReader<'a> {
         Ok(&self.bytes[self.position as usize..self.end as usize])
     }
 
-    ghost lawful = { λ s. record { ordered = s.ordered; in_input = s.in_input; addressable = s.addressable; shallow = Prim.search rules } };
+    fn fork(&self) -> Self {
+        SliceReader {
+            bytes: self.bytes,
+            encoding_rules: self.encoding_rules,
+            end: self.end,
+            position: self.position,
+            depth: self.depth,
+            failed: self.failed,
+        }
+    }
+
+    fn read_vec(&mut self, alloc: Global, len: Length) -> Result<Vec<u8>, Error> {
+        self.read_vec_in(alloc, len)
+    }
+
+    fn drain(&mut self, amount: Length) -> Result<(), Error> {
+        if amount == Length::ZERO {
+            return Ok(());
+        }
+        if self.failed {
+            return Err(ErrorKind::Failed.at(Length::new(self.position)));
+        }
+        let count = u32::from(amount);
+        let left = self.end - self.position;
+        if count <= left {
+            self.position += count;
+            return Ok(());
+        }
+        let whole = left - left % STEP;
+        self.position += whole;
+        Err(self.incomplete((count - whole).min(STEP)))
+    }
+
+    fn finish(self) -> Result<(), Error> {
+        let position = Length::new(self.position);
+        if self.failed {
+            return Err(ErrorKind::Failed.at(position));
+        }
+        if self.position < self.end {
+            return Err(ErrorKind::TrailingData {
+                decoded: position,
+                remaining: Length::new(self.end - self.position),
+            }
+            .at(position));
+        }
+        Ok(())
+    }
+
+    fn enter_nested(&mut self, len: Length) -> Result<Resumption, Error> {
+        let count = u32::from(len);
+        let end = self.end;
+        if count > u32::MAX - self.position {
+            return Err(ErrorKind::Overflow.to_error());
+        }
+        if count > end - self.position {
+            return Err(Error::incomplete(Length::new(end)));
+        }
+        if self.depth >= MAX_DEPTH {
+            return Err(self.error(ErrorKind::NestingDepth));
+        }
+        let outer = Resumption::new(Length::new(end), self.depth);
+        self.end = self.position + count;
+        self.depth += 1;
+        Ok(outer)
+    }
+
+    fn leave_nested(&mut self, resumption: Resumption) {
+        self.end = u32::from(resumption.input_len());
+        self.depth = resumption.depth();
+    }
+
+    ghost lawful = { λ s. record { ordered = s.ordered; in_input = s.in_input; addressable = s.addressable; shallow = s.shallow; marked = λ failed. Prim.search rules } };
 
     ghost lending = { λ h. h };
 }

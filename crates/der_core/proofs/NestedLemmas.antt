@@ -1,0 +1,107 @@
+-- Parts, entered and left.
+use Rattle.std.proofs.Common.{◌≡◌, ◌≢◌, ℕ, ◌+◌, ◌-◌, ◌^◌, ◌<◌, ◌≤◌, ◌⊎◌, Bool, true, false, IsTrue, IsErrAnd, Result, Ok, Err, List, length, nat_lt, refl, sym, ap, ◌∙◌, subst, inl, inr, arith}
+use Rattle.std.proofs.lemmas.Bool.{lt-ltb, le-ltb, cases_lt}
+use Rattle.der_base.specs.Error.{at}
+use Rattle.der_base.specs.Length.{number, plain}
+use Rattle.der_base.specs.declared.length.Length.{Length}
+use Rattle.der_base.specs.declared.error.Error.{Error}
+use Rattle.der_base.specs.declared.error.ErrorKind.TheVariants.{TrailingData}
+use Rattle.der_core.specs.State.{State, rest, here, inside, resumed, stopped, advanced, Sound, Same}
+use Rattle.der_core.specs.Outcome.{Gives}
+use Rattle.der_core.specs.Reader.{enter_nested_outcome}
+use Rattle.der_core.specs.Nested.{CanNest, CanLeave, Closes, handed_on, left_over, whole, NestedAnswers, entered}
+
+-- what entering gives: the part, and what to go back to
+pub record Entered (s : State) (n : ℕ) (e d : ℕ) (t : State) : Type 0 where
+  pub can : CanNest s n
+  pub state : t ≡ inside s n
+  pub outer_end : e ≡ s.end
+  pub outer_depth : d ≡ s.depth
+
+pub enter_ok : {s t : State} {n end depth : ℕ} → Gives (enter_nested_outcome n) s (Ok (end, depth)) t → Entered s n end depth t
+enter_ok {s} {t} {n} {end = e} {depth = d} h = go (nat_lt (s.position + n) (2 ^ 32)) (nat_lt s.end (s.position + n)) (nat_lt s.depth 64) refl refl refl
+  where
+    go : (x y z : Bool) → nat_lt (s.position + n) (2 ^ 32) ≡ x → nat_lt s.end (s.position + n) ≡ y → nat_lt s.depth 64 ≡ z → Entered s n e d t
+    go false y z p q r = absurd (let a = h.answered in grind arith)
+    go true true z p q r = absurd (let a = h.answered in grind arith)
+    go true false false p q r = absurd (let a = h.answered in grind arith)
+    go true false true p q r =
+        let a = h.answered in
+        let l = h.leaves in
+        record { can = (grind arith, grind arith); state = grind arith; outer_end = grind arith; outer_depth = grind arith }
+
+-- a part that a closure hands back can be left
+pub can_leave : {s t u : State} {n end depth : ℕ} → Entered s n end depth t → Sound s → Same t u → CanLeave u end depth (length u.input)
+can_leave {s} {t} {u} {n} {end = e} {depth = d} h sound same =
+    let limit : t.end ≡ s.position + n = ap (λ (x : State). x.end) h.state in
+    let input : t.input ≡ s.input = ap (λ (x : State). x.input) h.state in
+    record {
+      passed = omega (arith, same.within, same.end, h.can.0, h.outer_end, limit);
+      in_input = omega (arith, sound.in_input, h.outer_end, ap length same.input, ap length input);
+      shallow = omega (arith, sound.shallow, h.outer_depth);
+    }
+
+-- the same reader is handed back behind a part
+pub same_behind : {s t u : State} {n end depth : ℕ} → Entered s n end depth t → Same t u → Same s (resumed u end depth)
+same_behind {s} {t} {u} {n} {end = e} {depth = d} h same =
+    let state = h.state in
+    let limit : t.end ≡ s.position + n = ap (λ (x : State). x.end) h.state in
+    record {
+      input = same.input ∙ ap (λ (x : State). x.input) h.state;
+      rules = same.rules ∙ ap (λ (x : State). x.rules) h.state;
+      end = h.outer_end;
+      depth = h.outer_depth;
+      marks = same.marks ∙ ap (λ (x : State). x.marks) h.state;
+      forward = omega (arith, same.forward, ap (λ (x : State). x.position) h.state);
+      within = omega (arith, same.within, same.end, h.can.0, h.outer_end, limit);
+      failed = λ f. same.failed (subst IsTrue (sym (ap (λ (x : State). x.failed) h.state)) f);
+    }
+
+same_at : {s t u : State} → u ≡ t → Same s t → Same s u
+same_at {s} e h = subst (λ x. Same s x) (sym e) h
+
+-- a closed part leaves the same reader
+pub closed_same : {T E : Type 0} {converts : Error → E → Type 0} {answer result : Result T E} {s u v : State} {end depth : ℕ} → Same s (resumed u end depth)
+    → (IsTrue u.failed → IsTrue u.marks) → Closes converts answer u end depth result v → Same s v
+closed_same same marked (handed_on e p q leaves) = same_at leaves same
+closed_same same marked (whole w p q r leaves) = same_at leaves same
+closed_same same marked (left_over w e p q r x leaves) =
+    same_at leaves
+    (record {
+      input = same.input;
+      rules = same.rules;
+      end = same.end;
+      depth = same.depth;
+      marks = same.marks;
+      forward = same.forward;
+      within = same.within;
+      failed = λ f. marked (same.failed f);
+    })
+
+-- octets that were left, told as the code tells them
+module _ {T E : Type 0} {converts : Error → E → Type 0} {answer result : Result T E} (s u : State) {end depth : ℕ} (zero : Bool) (left : Length) (v : T) where
+  pub close_left_over : (t : State) (e : E) (x : Error) (position : Length) → answer ≡ Ok v → u ≡ resumed s end depth → left ≡ plain (s.end - s.position)
+      → (number left ≡ 0 → IsTrue zero) → zero ≡ false → position ≡ here u → x ≡ at (TrailingData position left) (here u) → t ≡ stopped u u.position → converts x e
+      → result ≡ Err e → Closes converts answer s end depth result t
+  close_left_over t e x position is leaves l f z p told stopped_at converted q =
+      let here_is : here u ≡ here s = ap here leaves in
+      let some : s.end - s.position ≢ 0 = λ none. (let w : false ≡ true = sym z ∙ f (ap number l ∙ none) in cc) in
+      let same : x ≡ at (TrailingData (here s) (plain (s.end - s.position))) (here s) =
+      told ∙ ap (λ k. at (TrailingData k left) (here u)) (p ∙ here_is) ∙ ap (λ k. at (TrailingData (here s) k) (here u)) l
+      ∙ ap (λ k. at (TrailingData (here s) (plain (s.end - s.position))) k) here_is in
+      left_over v e is (omega arith) (subst (λ y. converts y e) same converted) q (stopped_at ∙ ap (λ x. stopped x x.position) leaves)
+
+  pub close_whole : s.position ≤ s.end → answer ≡ Ok v → u ≡ resumed s end depth → left ≡ plain (s.end - s.position) → (IsTrue zero → number left ≡ 0) → zero ≡ true
+      → result ≡ Ok v → Closes converts answer s end depth result u
+  close_whole ordered is leaves l f z q =
+      let none : s.end - s.position ≡ 0 = sym (ap number l) ∙ f z in
+      whole v is (omega arith) q leaves
+
+-- what a closure made of a part, in the end
+pub nested_entered : {P Q T E : Type 0} {converts : Error → E → Type 0} {post : P → Result T E → Q → Type 0} {before : P → State} {after : Q → State} (s : State) {n : ℕ} {end depth : ℕ}
+    {inner t : State} (p : P) (answer : Result T E) (q : Q) (closed result : Result T E) → Entered s n end depth inner → before p ≡ inner → post p answer q
+    → Closes converts answer (after q) end depth closed t → result ≡ closed → NestedAnswers converts post before after n s result t
+nested_entered {converts = converts} {post = post} {before = before} {after = after} s {n} {depth = depth} {t = t} p answer q closed result way here ran closes e =
+    let same_end = subst (λ x. Closes converts answer (after q) x depth closed t) way.outer_end closes in
+    let same_depth = subst (λ x. Closes converts answer (after q) s.end x closed t) way.outer_depth same_end in
+    entered p answer q way.can (here ∙ way.state) ran (subst (λ r. Closes converts answer (after q) s.end s.depth r t) (sym e) same_depth)

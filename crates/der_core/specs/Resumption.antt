@@ -1,0 +1,12 @@
+-- What a part that is left goes back to.
+use Rattle.std.specs.Prelude.{ℕ}
+use Rattle.der_core.specs.declared.reader.position.Resumption.{Resumption}
+
+abbrev pub outer_end : Resumption → ℕ
+outer_end r = r.end
+
+abbrev pub outer_depth : Resumption → ℕ
+outer_depth r = r.depth
+
+abbrev pub outer : Resumption → ℕ × ℕ
+outer r = (r.end, r.depth)
