@@ -2,14 +2,15 @@
 use Rattle.std.proofs.Common.{◌≡◌, ◌≢◌, ℕ, ◌+◌, ◌-◌, ◌^◌, ◌<◌, ◌≤◌, ◌⊎◌, Bool, true, false, IsTrue, IsErrAnd, Result, Ok, Err, List, length, nat_lt, refl, sym, ap, ◌∙◌, subst, inl, inr, arith}
 use Rattle.std.proofs.lemmas.Bool.{lt-ltb, le-ltb, cases_lt}
 use Rattle.der_base.specs.Error.{at}
-use Rattle.der_base.specs.Length.{number, plain}
+use Rattle.der_base.specs.Length.{number, flagged, plain}
 use Rattle.der_base.specs.declared.length.Length.{Length}
 use Rattle.der_base.specs.declared.error.Error.{Error}
 use Rattle.der_base.specs.declared.error.ErrorKind.TheVariants.{TrailingData}
 use Rattle.der_core.specs.State.{State, rest, here, inside, resumed, stopped, advanced, Sound, Same}
 use Rattle.der_core.specs.Outcome.{Gives}
+use Rattle.der_core.proofs.StateLemmas.{same_trans}
 use Rattle.der_core.specs.Reader.{enter_nested_outcome}
-use Rattle.der_core.specs.Nested.{CanNest, CanLeave, Closes, handed_on, left_over, whole, NestedAnswers, entered}
+use Rattle.der_core.specs.Nested.{CanNest, CanLeave, Closes, handed_on, left_over, whole, NestedAnswers, entered, ClosesValue, ValueAnswers, opened, not_opened}
 
 -- what entering gives: the part, and what to go back to
 pub record Entered (s : State) (n : ℕ) (e d : ℕ) (t : State) : Type 0 where
@@ -29,6 +30,9 @@ enter_ok {s} {t} {n} {end = e} {depth = d} h = go (nat_lt (s.position + n) (2 ^ 
         let a = h.answered in
         let l = h.leaves in
         record { can = (grind arith, grind arith); state = grind arith; outer_end = grind arith; outer_depth = grind arith }
+
+pub entered_at : {s t : State} {of l : Length} {end depth : ℕ} → l ≡ of → Entered s (number l) end depth t → Entered s (number of) end depth t
+entered_at {s} {t} {end = e} {depth = d} same h = subst (λ x. Entered s (number x) e d t) same h
 
 -- a part that a closure hands back can be left
 pub can_leave : {s t u : State} {n end depth : ℕ} → Entered s n end depth t → Sound s → Same t u → CanLeave u end depth (length u.input)
@@ -57,26 +61,9 @@ same_behind {s} {t} {u} {n} {end = e} {depth = d} h same =
       failed = λ f. same.failed (subst IsTrue (sym (ap (λ (x : State). x.failed) h.state)) f);
     }
 
-same_at : {s t u : State} → u ≡ t → Same s t → Same s u
-same_at {s} e h = subst (λ x. Same s x) (sym e) h
-
--- a closed part leaves the same reader
-pub closed_same : {T E : Type 0} {converts : Error → E → Type 0} {answer result : Result T E} {s u v : State} {end depth : ℕ} → Same s (resumed u end depth)
-    → (IsTrue u.failed → IsTrue u.marks) → Closes converts answer u end depth result v → Same s v
-closed_same same marked (handed_on e p q leaves) = same_at leaves same
-closed_same same marked (whole w p q r leaves) = same_at leaves same
-closed_same same marked (left_over w e p q r x leaves) =
-    same_at leaves
-    (record {
-      input = same.input;
-      rules = same.rules;
-      end = same.end;
-      depth = same.depth;
-      marks = same.marks;
-      forward = same.forward;
-      within = same.within;
-      failed = λ f. marked (same.failed f);
-    })
+-- a part that is closed leaves the same reader
+pub same_closed : {s t u v : State} {n end depth : ℕ} → Entered s n end depth t → Same t u → Same (resumed u end depth) v → Same s v
+same_closed way same closed = same_trans (same_behind way same) closed
 
 -- octets that were left, told as the code tells them
 module _ {T E : Type 0} {converts : Error → E → Type 0} {answer result : Result T E} (s u : State) {end depth : ℕ} (zero : Bool) (left : Length) (v : T) where
@@ -105,3 +92,17 @@ nested_entered {converts = converts} {post = post} {before = before} {after = af
     let same_end = subst (λ x. Closes converts answer (after q) x depth closed t) way.outer_end closes in
     let same_depth = subst (λ x. Closes converts answer (after q) s.end x closed t) way.outer_depth same_end in
     entered p answer q way.can (here ∙ way.state) ran (subst (λ r. Closes converts answer (after q) s.end s.depth r t) (sym e) same_depth)
+
+-- what a closure made of the contents of a length, in the end
+pub value_opened : {P Q T E : Type 0} {converts : Error → E → Type 0} {post : P → Result T E → Q → Type 0} {before : P → State} {after : Q → State} (s : State) {end depth : ℕ}
+    {inner t : State} (of l : Length) (p : P) (answer : Result T E) (q : Q) (result : Result T E) → Entered s (number l) end depth inner → before p ≡ inner → post p answer q
+    → l ≡ of → ClosesValue converts answer (after q) end depth (flagged l) result t → ValueAnswers converts post before after of s result t
+value_opened {converts = converts} {after = after} s {depth = depth} {t = t} of l p answer q result way there ran e closes =
+    let same_end = subst (λ x. ClosesValue converts answer (after q) x depth (flagged l) result t) way.outer_end closes in
+    let same_depth = subst (λ x. ClosesValue converts answer (after q) s.end x (flagged l) result t) way.outer_depth same_end in
+    opened p answer q (subst (λ x. CanNest s (number x)) e way.can) (there ∙ way.state ∙ ap (λ x. inside s (number x)) e) ran
+    (subst (λ x. ClosesValue converts answer (after q) s.end s.depth (flagged x) result t) e same_depth)
+
+pub value_not_opened : {P Q T E : Type 0} {converts : Error → E → Type 0} {post : P → Result T E → Q → Type 0} {before : P → State} {after : Q → State} (s t : State) (of l : Length) (e : Error)
+    (f : E) → l ≡ of → Gives (enter_nested_outcome (number l)) s (Err e) t → converts e f → ValueAnswers converts post before after of s (Err f) t
+value_not_opened s t of l e f same h told = not_opened e f (subst (λ x. Gives (enter_nested_outcome (number x)) s (Err e) t) same h) told refl

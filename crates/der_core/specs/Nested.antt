@@ -1,12 +1,19 @@
 -- Reading a part by a closure.
-use Rattle.std.specs.Prelude.{◌≡◌, ℕ, ◌+◌, ◌-◌, ◌<◌, ◌≤◌, Bool, true, Result, Ok, Err}
-use Rattle.der_base.specs.Error.{at}
-use Rattle.der_base.specs.Length.{plain}
+use Rattle.std.specs.Prelude.{◌≡◌, ◌≢◌, ℕ, ◌+◌, ◌-◌, ◌<◌, ◌≤◌, Bool, true, false, Result, Ok, Err}
+use Rattle.der_base.specs.Arithmetic.{without_end}
+use Rattle.der_base.specs.Error.{at, unexpected_tag}
+use Rattle.der_base.specs.Length.{number, flagged, plain}
+use Rattle.der_base.specs.Header.{HeaderFault}
+use Rattle.der_base.specs.declared.length.Length.{Length}
+use Rattle.der_base.specs.declared.tag.Tag.TheVariants.{Sequence}
 use Rattle.der_base.specs.declared.error.Error.{Error}
 use Rattle.der_base.specs.declared.error.ErrorKind.TheVariants.{TrailingData}
 use Rattle.der_core.specs.State.{State, here, inside, resumed, stopped, Same}
 use Rattle.der_core.specs.Outcome.{Gives}
-use Rattle.der_core.specs.Reader.{enter_nested_outcome}
+use Rattle.der_core.specs.Reader.{enter_nested_outcome, read_eoc_outcome}
+use Rattle.der_core.specs.Header.{head_of}
+use Rattle.der_core.specs.Decode.{Passed, GrammarAnswers, header_ahead}
+use Rattle.der_core.specs.declared.header.Header.{Header}
 
 -- a part of n octets can be entered
 abbrev pub CanNest : State → ℕ → Type 0
@@ -38,7 +45,28 @@ pub data NestedAnswers {P Q T E : Type 0} (converts : Error → E → Type 0) (p
   entered : (p : P) (answer : Result T E) (q : Q) → CanNest s n → before p ≡ inside s n → post p answer q
       → Closes converts answer (after q) s.end s.depth result t → NestedAnswers converts post before after n s result t
 
--- an answer is owed by every reader where it is Ok, and by a reliable one always
-abbrev pub Owed : {T E : Type 0} → Bool → Result T E → Type 0
-Owed reliable (Ok v) = Unit {0}
-Owed reliable (Err e) = reliable ≡ true
+-- a part and the end marks that close it, where its length was read in the indefinite form
+pub data ClosesValue {T E : Type 0} (converts : Error → E → Type 0) (answer : Result T E) (s : State) (end depth : ℕ) (marked : Bool) (result : Result T E) (t : State) : Type 0 where
+  part_refused : (e : E) → Closes converts answer s end depth (Err e) t → result ≡ Err e → ClosesValue converts answer s end depth marked result t
+  without_marks : (v : T) → Closes converts answer s end depth (Ok v) t → marked ≡ false → result ≡ Ok v → ClosesValue converts answer s end depth marked result t
+  with_marks : (v : T) (u : State) → Closes converts answer s end depth (Ok v) u → marked ≡ true → Gives read_eoc_outcome u (Ok tt) t → result ≡ Ok v
+      → ClosesValue converts answer s end depth marked result t
+  marks_refused : (v : T) (u : State) (e : Error) (f : E) → Closes converts answer s end depth (Ok v) u → marked ≡ true → Gives read_eoc_outcome u (Err e) t → converts e f
+      → result ≡ Err f → ClosesValue converts answer s end depth marked result t
+
+-- the closure ran inside the contents of a length, and this is made of what it answered
+pub data ValueAnswers {P Q T E : Type 0} (converts : Error → E → Type 0) (post : P → Result T E → Q → Type 0) (before : P → State) (after : Q → State)
+    (length : Length) (s : State) (result : Result T E) (t : State) : Type 0 where
+  not_opened : (e : Error) (f : E) → Gives (enter_nested_outcome (number length)) s (Err e) t → converts e f → result ≡ Err f
+      → ValueAnswers converts post before after length s result t
+  opened : (p : P) (answer : Result T E) (q : Q) → CanNest s (number length) → before p ≡ inside s (number length) → post p answer q
+      → ClosesValue converts answer (after q) s.end s.depth (flagged length) result t → ValueAnswers converts post before after length s result t
+
+-- a sequence: its header, its tag, and its contents
+pub data SequenceAnswers {P Q T E : Type 0} (converts : Error → E → Type 0) (post : P → Result T E → Q → Type 0) (before : P → State) (after : Q → State)
+    (s : State) (result : Result T E) (t : State) : Type 0 where
+  no_header : (e : Error) (f : E) → GrammarAnswers header_ahead HeaderFault s (Err e) t → converts e f → result ≡ Err f → SequenceAnswers converts post before after s result t
+  other_tag : (h : Header) (f : E) → Passed (λ rules octets m. header_ahead rules octets h m) s t → (head_of h).tag ≢ Sequence
+      → converts (unexpected_tag Sequence (head_of h).tag) f → result ≡ Err f → SequenceAnswers converts post before after s result t
+  in_sequence : (h : Header) (u : State) → Passed (λ rules octets m. header_ahead rules octets h m) s u → (head_of h).tag ≡ Sequence
+      → ValueAnswers converts post before after (without_end (head_of h).length) u result t → SequenceAnswers converts post before after s result t

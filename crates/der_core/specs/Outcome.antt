@@ -26,6 +26,24 @@ abbrev pub Meets : {A : Type 0} → Bool → (State → Outcome A) → State →
 Meets reliable table s (Ok a) t = Gives table s (Ok a) t
 Meets reliable table s (Err e) t = reliable ≡ true → Gives table s (Err e) t
 
+-- the same of the answer alone, where the reader stays as it is
+abbrev pub AnswersAs : {A : Type 0} → Bool → (State → Outcome A) → State → Result A Error → Type 0
+AnswersAs reliable table s (Ok a) = Ok a ≡ (table s).answer
+AnswersAs reliable table s (Err e) = reliable ≡ true → Err e ≡ (table s).answer
+
+-- what follows an answer
+abbrev pub follow : {A B : Type 0} → Result A Error → State → (A → State → Outcome B) → Outcome B
+follow (Ok a) t next = next a t
+follow (Err e) t next = answers_and (Err e) t
+
+abbrev pub then_ : {A B : Type 0} → Outcome A → (A → State → Outcome B) → Outcome B
+then_ o next = follow o.answer o.after next
+
+-- an answer is owed by every reader where it is Ok, and by a reliable one always
+abbrev pub Owed : {T E : Type 0} → Bool → Result T E → Type 0
+Owed reliable (Ok v) = Unit {0}
+Owed reliable (Err e) = reliable ≡ true
+
 -- what an answer lends or fills, seen as octets
 abbrev pub seen : {A B F : Type 0} → (A → B) → Result A F → Result B F
 seen f (Ok a) = Ok (f a)

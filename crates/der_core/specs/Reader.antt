@@ -5,9 +5,10 @@ use Rattle.der_base.specs.Error.{at, bare}
 use Rattle.der_base.specs.Refusal.{wants, cut_at, owed}
 use Rattle.der_base.specs.declared.length.Length.{Length}
 use Rattle.der_base.specs.declared.error.Error.{Error}
+use Rattle.der_base.specs.declared.error.ErrorKind.{ErrorKind}
 use Rattle.der_base.specs.declared.error.ErrorKind.TheVariants.{Failed, Overflow, OutOfMemory, NestingDepth, TrailingData, IndefiniteLength}
 use Rattle.der_core.specs.State.{State, rest, here, advanced, inside, stopped}
-use Rattle.der_core.specs.Outcome.{Outcome, Gives, answers_and, refused, seen}
+use Rattle.der_core.specs.Outcome.{Outcome, Gives, answers_and, refused, seen, then_}
 
 -- n octets are not there
 abbrev pub short_outcome : (A : Type 0) → State → ℕ → Outcome A
@@ -77,3 +78,17 @@ abbrev pub VecGives : ℕ → State → Result (List ℕ) Error → State → Ty
 VecGives n s answer t =
     Gives (read_slice_outcome n) s answer t
     ⊎ ((answer ≡ Err (bare OutOfMemory)) × (t ≡ s) × IsOk (read_slice_outcome n s).answer)
+
+-- refused with this kind where the reader stands, which is then failed
+abbrev pub refused_here : (A : Type 0) → ErrorKind → State → Outcome A
+refused_here A k s = answers_and (Err (at k (here s))) (stopped s s.position)
+
+abbrev pub end_mark : ℕ → State → Outcome (Unit {0})
+end_mark o s = if o == 0 then answers_and (Ok tt) s else refused_here (Unit {0}) IndefiniteLength s
+
+abbrev pub read_end_mark_outcome : State → Outcome (Unit {0})
+read_end_mark_outcome s = then_ (read_byte_outcome s) end_mark
+
+-- the two end marks of an indefinite length (X.690 8.1.5)
+abbrev pub read_eoc_outcome : State → Outcome (Unit {0})
+read_eoc_outcome s = then_ (read_end_mark_outcome s) (λ _ t. read_end_mark_outcome t)

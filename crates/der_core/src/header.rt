@@ -76,6 +76,21 @@ impl Header {
     }
 }
 
+impl Header {
+    ghost use Rattle.der_core.specs.Header.{contents_header};
+
+    // The header with the length of the contents alone, without end marks.
+    pub(crate) fn contents(self) -> Self
+        ensures { result ≡ contents_header self }
+    {
+        Header {
+            tag: self.tag,
+            length: self.length.sans_eoc(),
+            constructed: self.constructed,
+        }
+    }
+}
+
 /// Decodes a header (X.690 8.1.2, 8.1.3, 10.1), as [`Header::decode`] does, without an allocator.
 ///
 /// A length that is not spelled as it has to be is told as `Length` with the tag.

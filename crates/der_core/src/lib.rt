@@ -20,4 +20,6 @@ pub use der_base::{
 };
 pub use header::{Header, decode_header};
 pub use length::decode_length;
-pub use reader::{Octets, Reader, ReaderExt, Resumption, SliceReader};
+pub use reader::{
+    Octets, Reader, ReaderExt, Resumption, SliceReader, close_value, read_eoc, read_value,
+};

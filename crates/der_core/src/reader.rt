@@ -12,11 +12,13 @@ ghost use Rattle.der_core.specs.Nested.{CanLeave};
 mod extension;
 pub mod position;
 pub mod slice;
+pub mod value;
 
 use der_base::{EncodingRules, Error, ErrorKind, Length};
 pub use extension::ReaderExt;
 pub use position::Resumption;
 pub use slice::SliceReader;
+pub use value::{close_value, read_eoc, read_value};
 use std::alloc::Global;
 
 /// Octets that a reader has lent.

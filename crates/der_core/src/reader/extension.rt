@@ -1,11 +1,11 @@
 //! The calls that every reader has.
 ghost use Rattle.std.specs.Prelude.{◌≡◌, ◌↔◌, ℕ, ◌-◌, IsTrue, length, Ok, Err};
 ghost use Rattle.der_base.specs.Length.{number, plain};
-ghost use Rattle.der_core.specs.State.{Same};
-ghost use Rattle.der_core.specs.Outcome.{Meets};
+ghost use Rattle.der_core.specs.State.{Same, resumed};
+ghost use Rattle.der_core.specs.Outcome.{Meets, Owed};
 ghost use Rattle.der_core.specs.Reader.{read_byte_outcome};
 ghost use Rattle.der_core.specs.Resumption.{outer_end, outer_depth};
-ghost use Rattle.der_core.specs.Nested.{CanLeave, Closes, HandsBack, NestedAnswers, Owed};
+ghost use Rattle.der_core.specs.Nested.{CanLeave, Closes, HandsBack, NestedAnswers};
 
 use crate::reader::{Reader, Resumption};
 use der_base::{Error, ErrorKind, Length};
@@ -54,7 +54,8 @@ pub trait ReaderExt: Reader {
         answer: Result<T, E>,
     ) -> Result<T, E>
         requires { CanLeave (Self.state self.old) (outer_end outer) (outer_depth outer) (length (Self.state self.old).input) }
-        ensures { Closes E.from_gives answer (Self.state self.old) (outer_end outer) (outer_depth outer) result (Self.state self.new) }
+        ensures same { Same (resumed (Self.state self.old) (outer_end outer) (outer_depth outer)) (Self.state self.new) }
+        ensures exact { Closes E.from_gives answer (Self.state self.old) (outer_end outer) (outer_depth outer) result (Self.state self.new) }
     {
         let left = self.remaining_len();
         self.leave_nested(outer);

@@ -1,0 +1,90 @@
+//! The contents of an element, read by a closure.
+ghost use Rattle.std.specs.Prelude.{◌≡◌, length as list_length};
+ghost use Rattle.der_base.specs.Arithmetic.{without_end};
+ghost use Rattle.der_base.specs.Length.{number, flagged};
+ghost use Rattle.der_core.specs.State.{Same, resumed};
+ghost use Rattle.der_core.specs.Outcome.{Meets, Owed};
+ghost use Rattle.der_core.specs.Reader.{read_eoc_outcome, read_end_mark_outcome};
+ghost use Rattle.der_core.specs.Resumption.{outer_end, outer_depth};
+ghost use Rattle.der_core.specs.Header.{head_of, contents_header};
+ghost use Rattle.der_core.specs.Nested.{CanLeave, ClosesValue, HandsBack, ValueAnswers};
+
+use crate::header::Header;
+use crate::reader::{Reader, ReaderExt, Resumption};
+use der_base::{Error, ErrorKind, Length};
+
+/// Reads the two end marks that close an indefinite length (X.690 8.1.5). The first octet that is
+/// not zero is refused by `IndefiniteLength` at the position after it, and the reader has failed.
+pub fn read_eoc<R: Reader>(reader: &mut R) -> Result<(), Error>
+    ensures same { Same (R.state reader.old) (R.state reader.new) }
+    ensures exact { Meets R.reliable read_eoc_outcome (R.state reader.old) result (R.state reader.new) }
+{
+    match read_end_mark(reader) {
+        Ok(()) => read_end_mark(reader),
+        Err(error) => Err(error),
+    }
+}
+
+fn read_end_mark<R: Reader>(reader: &mut R) -> Result<(), Error>
+    ensures same { Same (R.state reader.old) (R.state reader.new) }
+    ensures exact { Meets R.reliable read_end_mark_outcome (R.state reader.old) result (R.state reader.new) }
+{
+    let octet = match reader.read_byte() {
+        Ok(octet) => octet,
+        Err(error) => return Err(error),
+    };
+    if octet != 0 {
+        return Err(reader.error(ErrorKind::IndefiniteLength));
+    }
+    Ok(())
+}
+
+/// Leaves the contents of an element with what was made of them, as [`ReaderExt::close_nested`]
+/// does, and reads the end marks behind them where the length was read in the indefinite form.
+pub fn close_value<R: Reader, T: Drop, E: From<Error> + Drop>(
+    reader: &mut R,
+    length: Length,
+    outer: Resumption,
+    answer: Result<T, E>,
+) -> Result<T, E>
+    requires { CanLeave (R.state reader.old) (outer_end outer) (outer_depth outer) (list_length (R.state reader.old).input) }
+    ensures same { Same (resumed (R.state reader.old) (outer_end outer) (outer_depth outer)) (R.state reader.new) }
+    ensures exact { Owed R.reliable result → ClosesValue E.from_gives answer (R.state reader.old) (outer_end outer) (outer_depth outer) (flagged length) result (R.state reader.new) }
+{
+    let value = match reader.close_nested(outer, answer) {
+        Ok(value) => value,
+        Err(error) => return Err(error),
+    };
+    if !length.is_indefinite() {
+        return Ok(value);
+    }
+    match read_eoc(reader) {
+        Ok(()) => Ok(value),
+        Err(error) => Err(E::from(error)),
+    }
+}
+
+/// Reads the contents behind a header by `f`, which gets the reader inside them and the header with
+/// the length of the contents alone; where that was read in the indefinite form, the end marks are
+/// read behind them.
+pub fn read_value<R: Reader, T: Drop, E: From<Error> + Drop, F: FnOnce(&mut R, Header) -> Result<T, E>>(
+    reader: &mut R,
+    header: Header,
+    f: F,
+) -> Result<T, E>
+    requires { HandsBack (λ p. F.pre f p (contents_header header)) (λ p a q. (h : _) × (h ≡ contents_header header) × F.post f p h a q) (λ p. R.state p.now) (λ q. R.state q.now) (R.state reader.old) (number (without_end (head_of header).length)) }
+    ensures same { Same (R.state reader.old) (R.state reader.new) }
+    ensures exact { Owed R.reliable result → ValueAnswers E.from_gives (λ p a q. (h : _) × (h ≡ contents_header header) × F.post f p h a q) (λ p. R.state p.now) (λ q. R.state q.now) (without_end (head_of header).length) (R.state reader.old) result (R.state reader.new) }
+{
+    let contents = header.contents();
+    let length = contents.length();
+    let outer = match reader.enter_nested(length) {
+        Ok(outer) => outer,
+        Err(error) => return Err(E::from(error)),
+    };
+    let answer = f(reader, contents);
+    match close_value(reader, length, outer, answer) {
+        Ok(value) => Ok(value),
+        Err(error) => Err(error),
+    }
+}
