@@ -4,3 +4,4 @@ pub mod LengthReadLemmas
 pub mod HeaderReadLemmas
 pub mod DecodeLemmas
 pub mod NestedLemmas
+pub mod PeekLemmas

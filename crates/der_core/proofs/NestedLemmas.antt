@@ -106,3 +106,8 @@ value_opened {converts = converts} {after = after} s {depth = depth} {t = t} of 
 pub value_not_opened : {P Q T E : Type 0} {converts : Error → E → Type 0} {post : P → Result T E → Q → Type 0} {before : P → State} {after : Q → State} (s t : State) (of l : Length) (e : Error)
     (f : E) → l ≡ of → Gives (enter_nested_outcome (number l)) s (Err e) t → converts e f → ValueAnswers converts post before after of s (Err f) t
 value_not_opened s t of l e f same h told = not_opened e f (subst (λ x. Gives (enter_nested_outcome (number x)) s (Err e) t) same h) told refl
+
+-- contents of a length that is told otherwise
+pub value_at : {P Q T E : Type 0} {converts : Error → E → Type 0} {post : P → Result T E → Q → Type 0} {before : P → State} {after : Q → State} {s t : State} {of l : Length}
+    {result : Result T E} → l ≡ of → ValueAnswers converts post before after l s result t → ValueAnswers converts post before after of s result t
+value_at {converts = converts} {post = post} {before = before} {after = after} {s = s} {t = t} {result = result} e h = subst (λ x. ValueAnswers converts post before after x s result t) e h

@@ -1,8 +1,9 @@
 -- What decoding answers.
-use Rattle.std.specs.Prelude.{◌≡◌, ℕ, ◌^◌, ◌<◌, ◌≤◌, ◌⊎◌, Bool, true, false, List, length, Result, Ok, Err, IsOk, IsErrAnd, if◌then◌else◌}
+use Rattle.std.specs.Prelude.{◌≡◌, ℕ, ◌^◌, ◌<◌, ◌≤◌, ◌⊎◌, Bool, true, false, List, length, Result, Ok, Err, IsOk, IsErr, IsErrAnd, ◌+◌, if◌then◌else◌}
 use Rattle.der_base.specs.Error.{at, bare}
 use Rattle.der_base.specs.Refusal.{Refusal}
-use Rattle.der_base.specs.Header.{TagAhead, LengthAhead, HeaderAhead}
+use Rattle.der_base.specs.Length.{number}
+use Rattle.der_base.specs.Header.{TagAhead, LengthAhead, HeaderAhead, HeaderFault}
 use Rattle.der_base.specs.declared.length.Length.{Length}
 use Rattle.der_base.specs.declared.tag.Tag.{Tag}
 use Rattle.der_base.specs.declared.error.Error.{Error}
@@ -10,7 +11,9 @@ use Rattle.der_base.specs.declared.error.ErrorKind.{ErrorKind}
 use Rattle.der_base.specs.declared.error.ErrorKind.TheVariants.{Failed, Overflow, OutOfMemory}
 use Rattle.der_base.specs.declared.encoding_rules.EncodingRules.{EncodingRules}
 use Rattle.der_base.specs.declared.encoding_rules.EncodingRules.TheVariants.{Ber, Der}
-use Rattle.der_core.specs.State.{State, beginning, rest, here, advanced}
+use Rattle.der_core.specs.State.{State, beginning, rest, here, advanced, stopped}
+use Rattle.der_core.specs.Outcome.{Gives}
+use Rattle.der_core.specs.Reader.{tlv_outcome}
 use Rattle.der_core.specs.Refused.{Refused}
 use Rattle.der_core.specs.Header.{head_of}
 use Rattle.der_core.specs.declared.header.Header.{Header}
@@ -65,3 +68,21 @@ pub data PartialAnswer {A E : Type 0} (answers : State → Result A E → State 
   too_long : 2 ^ 32 ≤ length octets → IsErrAnd result (λ e. converts (bare Overflow) e) → PartialAnswer answers converts octets result
   decoded : (answer : Result A E) (t : State) → length octets < 2 ^ 32 → answers (beginning Der octets) answer t
       → PartialThen converts answer t result → PartialAnswer answers converts octets result
+
+-- what a peek tells is what decoding would answer; the reader stays
+abbrev pub Peeks : {A : Type 0} → (EncodingRules → List ℕ → A → ℕ → Type 0) → (EncodingRules → ℕ → List ℕ → Refusal → Type 0)
+    → State → Result A Error → Type 0
+Peeks Ahead Fault s answer = (t : State) × GrammarAnswers Ahead Fault s answer t
+
+-- the octets of a whole element: its header is looked at first, which leaves the reader; header and
+-- contents together are then lent, or pass every length
+pub data TlvAnswers (s : State) (answer : Result (List ℕ) Error) (t : State) : Type 0 where
+  no_header : (e : Error) → Peeks header_ahead HeaderFault s (Err e) → answer ≡ Err e → t ≡ s → TlvAnswers s answer t
+  with_header : (h : Header) (m : ℕ) → header_ahead s.rules (rest s) h m → s.failed ≡ false → Gives (tlv_outcome (m + number (head_of h).length)) s answer t
+      → TlvAnswers s answer t
+
+-- a reader decodes: one that has failed refuses, and any refusal leaves it failed
+pub data ReaderDecodes {A E : Type 0} (answers : State → Result A E → State → Type 0) (converts : Error → E → Type 0) (s : State) (result : Result A E) (t : State) : Type 0 where
+  had_failed : s.failed ≡ true → IsErrAnd result (λ e. converts (at Failed (here s)) e) → t ≡ stopped s s.position → ReaderDecodes answers converts s result t
+  decodes : s.failed ≡ false → IsOk result → answers s result t → ReaderDecodes answers converts s result t
+  refuses : (u : State) → s.failed ≡ false → IsErr result → answers s result u → t ≡ stopped u u.position → ReaderDecodes answers converts s result t

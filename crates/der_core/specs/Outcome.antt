@@ -1,6 +1,6 @@
 -- What a call on a reader answers and leaves: a table, whose cases are the rows of that call in the
 -- order of their refusals.
-use Rattle.std.specs.Prelude.{◌≡◌, Bool, true, Result, Ok, Err}
+use Rattle.std.specs.Prelude.{◌≡◌, Bool, true, Option, Some, None, Result, Ok, Err, IsErr}
 use Rattle.der_base.specs.Refusal.{Refusal, owed}
 use Rattle.der_base.specs.declared.error.Error.{Error}
 use Rattle.der_core.specs.State.{State, left}
@@ -48,3 +48,8 @@ Owed reliable (Err e) = reliable ≡ true
 abbrev pub seen : {A B F : Type 0} → (A → B) → Result A F → Result B F
 seen f (Ok a) = Ok (f a)
 seen f (Err e) = Err e
+
+-- whether there is an answer, without its error
+abbrev pub PeeksAs : {A : Type 0} → Bool → Result A Error → Option A → Type 0
+PeeksAs reliable answer (Some a) = answer ≡ Ok a
+PeeksAs reliable answer None = reliable ≡ true → IsErr answer

@@ -92,3 +92,7 @@ read_end_mark_outcome s = then_ (read_byte_outcome s) end_mark
 -- the two end marks of an indefinite length (X.690 8.1.5)
 abbrev pub read_eoc_outcome : State → Outcome (Unit {0})
 read_eoc_outcome s = then_ (read_end_mark_outcome s) (λ _ t. read_end_mark_outcome t)
+
+-- octets of a header and its contents, where a length can count them
+abbrev pub tlv_outcome : ℕ → State → Outcome (List ℕ)
+tlv_outcome n s = if nat_lt n (2 ^ 32) then read_slice_outcome n s else answers_and (Err (bare Overflow)) s

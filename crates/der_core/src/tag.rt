@@ -143,6 +143,19 @@ fn decode_long_number<R: Reader>(reader: &mut R) -> Result<u32, Error>
     }
 }
 
+/// Decodes a tag (X.690 8.1.2), as [`Tag::decode`] does, without an allocator.
+#[inline(always)]
+pub(crate) fn decode_tag<R: Reader>(reader: &mut R) -> Result<Tag, Error>
+    ensures same { Same (R.state reader.old) (R.state reader.new) }
+    ensures ok { IfOk result (λ t. Passed (λ rules octets m. tag_ahead rules octets t m) (R.state reader.old) (R.state reader.new)) }
+    ensures exact { R.reliable ≡ true → GrammarAnswers tag_ahead IdentifierFault (R.state reader.old) result (R.state reader.new) }
+{
+    match decode_with_constructed_bit(reader) {
+        Ok((tag, _)) => Ok(tag),
+        Err(error) => Err(error),
+    }
+}
+
 impl<R: Reader> Decode<R> for Tag {
     type Error = Error;
 
@@ -156,8 +169,8 @@ impl<R: Reader> Decode<R> for Tag {
 
     #[inline(always)]
     fn decode(_alloc: Global, reader: &mut R) -> Result<Tag, Error> {
-        match decode_with_constructed_bit(reader) {
-            Ok((tag, _)) => Ok(tag),
+        match decode_tag(reader) {
+            Ok(tag) => Ok(tag),
             Err(error) => Err(error),
         }
     }

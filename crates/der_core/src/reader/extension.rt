@@ -1,14 +1,25 @@
 //! The calls that every reader has.
-ghost use Rattle.std.specs.Prelude.{◌≡◌, ◌↔◌, ℕ, ◌-◌, IsTrue, length, Ok, Err};
+ghost use Rattle.std.specs.Prelude.{◌≡◌, ◌↔◌, ℕ, ◌-◌, true, false, IsTrue, length, Ok, Err, IfOk, OnErr};
+ghost use Rattle.der_base.specs.Header.{HeaderFault};
+ghost use Rattle.der_base.specs.Identifier.{IdentifierFault};
 ghost use Rattle.der_base.specs.Length.{number, plain};
-ghost use Rattle.der_core.specs.State.{Same, resumed};
-ghost use Rattle.der_core.specs.Outcome.{Meets, Owed};
-ghost use Rattle.der_core.specs.Reader.{read_byte_outcome};
+ghost use Rattle.der_core.specs.State.{State, Same, resumed};
+ghost use Rattle.der_core.specs.Outcome.{Meets, AnswersAs, PeeksAs, Owed, seen};
+ghost use Rattle.der_core.specs.Reader.{read_byte_outcome, read_into_outcome};
 ghost use Rattle.der_core.specs.Resumption.{outer_end, outer_depth};
-ghost use Rattle.der_core.specs.Nested.{CanLeave, Closes, HandsBack, NestedAnswers};
+ghost use Rattle.der_core.specs.Decode.{Passed, Peeks, TlvAnswers, ReaderDecodes, header_ahead, tag_ahead};
+ghost use Rattle.der_core.specs.Header.{head_of};
+ghost use Rattle.der_core.specs.declared.header.Header.{Header as AHeader};
+ghost use Rattle.der_base.specs.Arithmetic.{without_end};
+ghost use Rattle.der_core.specs.Nested.{CanLeave, Closes, HandsBack, NestedAnswers, SequenceAnswers};
 
+use crate::decode::Decode;
+use crate::header::{Header, decode_header};
+use crate::reader::value::read_contents;
 use crate::reader::{Reader, Resumption};
-use der_base::{Error, ErrorKind, Length};
+use crate::tag::decode_tag;
+use der_base::{Error, ErrorKind, Length, Tag};
+use std::alloc::Global;
 
 /// The calls that every reader has, by those of [`Reader`] alone.
 pub trait ReaderExt: Reader {
@@ -93,6 +104,115 @@ pub trait ReaderExt: Reader {
         match self.close_nested(outer, answer) {
             Ok(value) => Ok(value),
             Err(error) => Err(error),
+        }
+    }
+
+    /// The next octet, or none where reading it would be refused; the reader stays.
+    final fn peek_byte(&self) -> Option<u8>
+        ensures { PeeksAs Self.reliable (read_byte_outcome (Self.state self.now)).answer result }
+    {
+        let mut fork = self.fork();
+        match fork.read_byte() {
+            Ok(octet) => Some(octet),
+            Err(_) => None,
+        }
+    }
+
+    /// Fills the buffer with the next octets, as [`Reader::read_into`] does; the reader stays.
+    final fn peek_into(&self, buf: &mut [u8]) -> Result<(), Error>
+        ensures exact { AnswersAs Self.reliable (read_into_outcome (length buf.old)) (Self.state self.now) (seen (λ _. buf.new) result) }
+        ensures kept { OnErr result (buf.new ≡ buf.old) }
+    {
+        let mut fork = self.fork();
+        match fork.read_into(buf) {
+            Ok(()) => Ok(()),
+            Err(error) => Err(error),
+        }
+    }
+
+    /// The header ahead, as [`decode_header`] would answer; the reader stays.
+    final fn peek_header(&self) -> Result<Header, Error>
+        ensures { Owed Self.reliable result → Peeks header_ahead HeaderFault (Self.state self.now) result }
+    {
+        let mut fork = self.fork();
+        match decode_header(&mut fork) {
+            Ok(header) => Ok(header),
+            Err(error) => Err(error),
+        }
+    }
+
+    /// The tag ahead, as decoding it would answer; the reader stays.
+    final fn peek_tag(&self) -> Result<Tag, Error>
+        ensures { Owed Self.reliable result → Peeks tag_ahead IdentifierFault (Self.state self.now) result }
+    {
+        let mut fork = self.fork();
+        match decode_tag(&mut fork) {
+            Ok(tag) => Ok(tag),
+            Err(error) => Err(error),
+        }
+    }
+
+    /// Lends the octets of the whole element ahead, header and contents. A header that is refused
+    /// leaves the reader as it is, and so does a length that passes 4294967295 together with the
+    /// header's octets: `Overflow` without a position.
+    final fn tlv_bytes(&mut self) -> Result<Self::Lent, Error>
+        ensures same { Same (Self.state self.old) (Self.state self.new) }
+        ensures exact { Owed Self.reliable result → TlvAnswers (Self.state self.old) (seen Self.Lent.octets result) (Self.state self.new) }
+    {
+        let mut fork = self.fork();
+        let header = match decode_header(&mut fork) {
+            Ok(header) => header,
+            Err(error) => return Err(error),
+        };
+        let header_len = fork.position().saturating_sub(self.position());
+        match header_len + header.length() {
+            Ok(len) => self.read_slice(len),
+            Err(error) => Err(error),
+        }
+    }
+
+    /// Decodes a value. A reader that has failed refuses by `Failed` at its position, and every
+    /// refusal leaves it failed, where it keeps such a state.
+    final fn decode<T: Decode<Self>>(&mut self, alloc: Global) -> Result<T, <T as Decode<Self>>::Error>
+        ensures same { Same (Self.state self.old) (Self.state self.new) }
+        ensures ok { IfOk result (λ v. (Self.state self.new).failed ≡ false → Passed (λ rules octets m. T.heads rules octets v m) (Self.state self.old) (Self.state self.new)) }
+        ensures exact { Self.reliable ≡ true → ReaderDecodes T.answers T.Error.from_gives (Self.state self.old) result (Self.state self.new) }
+    {
+        if self.is_failed() {
+            return Err(self.error(ErrorKind::Failed).into());
+        }
+        match T::decode(alloc, self) {
+            Ok(value) => Ok(value),
+            Err(error) => {
+                let _ = self.error(ErrorKind::Failed);
+                Err(error)
+            }
+        }
+    }
+
+    /// Reads a SEQUENCE by `f`, which gets this reader inside its contents. A header with another
+    /// tag is refused by `TagUnexpected` without a position, the reader behind the header.
+    final fn sequence<T: Drop, E: From<Error> + Drop, F: FnOnce(&mut Self) -> Result<T, E>>(
+        &mut self,
+        f: F,
+    ) -> Result<T, E>
+        requires { (h : AHeader) (s : State) → Passed (λ rules octets m. header_ahead rules octets h m) (Self.state self.old) s → HandsBack (F.pre f) (F.post f) (λ p. Self.state p.now) (λ q. Self.state q.now) s (number (without_end (head_of h).length)) }
+        ensures same { Same (Self.state self.old) (Self.state self.new) }
+        ensures exact { Owed Self.reliable result → SequenceAnswers E.from_gives (F.post f) (λ p. Self.state p.now) (λ q. Self.state q.now) (Self.state self.old) result (Self.state self.new) }
+    {
+        let header = match decode_header(self) {
+            Ok(header) => header,
+            Err(error) => return Err(E::from(error)),
+        };
+        match header.tag() {
+            Tag::Sequence => match read_contents(self, header.length().sans_eoc(), f) {
+                Ok(value) => Ok(value),
+                Err(error) => Err(error),
+            },
+            tag => {
+                let kind = tag.unexpected_error(Some(Tag::Sequence));
+                Err(E::from(kind.to_error()))
+            }
         }
     }
 }

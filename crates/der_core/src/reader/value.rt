@@ -88,3 +88,24 @@ pub fn read_value<R: Reader, T: Drop, E: From<Error> + Drop, F: FnOnce(&mut R, H
         Err(error) => Err(error),
     }
 }
+
+// The same for a closure that wants no header: the contents of so many octets.
+pub(crate) fn read_contents<R: Reader, T: Drop, E: From<Error> + Drop, F: FnOnce(&mut R) -> Result<T, E>>(
+    reader: &mut R,
+    length: Length,
+    f: F,
+) -> Result<T, E>
+    requires { HandsBack (F.pre f) (F.post f) (λ p. R.state p.now) (λ q. R.state q.now) (R.state reader.old) (number length) }
+    ensures same { Same (R.state reader.old) (R.state reader.new) }
+    ensures exact { Owed R.reliable result → ValueAnswers E.from_gives (F.post f) (λ p. R.state p.now) (λ q. R.state q.now) length (R.state reader.old) result (R.state reader.new) }
+{
+    let outer = match reader.enter_nested(length) {
+        Ok(outer) => outer,
+        Err(error) => return Err(E::from(error)),
+    };
+    let answer = f(reader);
+    match close_value(reader, length, outer, answer) {
+        Ok(value) => Ok(value),
+        Err(error) => Err(error),
+    }
+}
