@@ -5,3 +5,4 @@ pub mod HeaderReadLemmas
 pub mod DecodeLemmas
 pub mod NestedLemmas
 pub mod PeekLemmas
+pub mod PartialLemmas

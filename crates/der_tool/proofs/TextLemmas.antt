@@ -1,0 +1,61 @@
+-- What is refused has a text.
+use Rattle.std.proofs.Common.{◌≡◌, ℕ, ◌++◌, ◌==◌, List, [], ◌∷◌, Option, Some, refl, inl, inr}
+use Rattle.std.proofs.lemmas.Bool.{cases_Bool}
+use Rattle.der_base.specs.Header.{Head, LengthFault, HeaderFault}
+use Rattle.der_base.specs.Identifier.{IdentifierFault}
+use Rattle.der_base.specs.Refusal.{Refusal, is_far, kind_told, owed}
+use Rattle.der_base.specs.Error.{kind_of, position_of, at}
+use Rattle.der_base.specs.Length.{plain}
+use Rattle.der_base.specs.Text.{kind_text, position_text, error_text}
+use Rattle.der_base.specs.declared.error.Error.{Error}
+use Rattle.der_base.specs.declared.error.ErrorKind.{ErrorKind}
+use Rattle.der_base.specs.declared.encoding_rules.EncodingRules.{EncodingRules}
+use Rattle.der_tool.specs.Text.{header_lines}
+use Rattle.der_tool.specs.Answer.{IsHeaderRead, IsRefusedFor, TellsError, AnswersHead}
+
+abbrev HasText : Option (List ℕ) → Type 0
+HasText printed = (text : List ℕ) × (printed ≡ Some text)
+
+error_text_of_kind : (e : Error) → HasText (kind_text (kind_of e)) → HasText (error_text e)
+error_text_of_kind e (t, is) = (t ++ position_text (position_of e), rw is refl)
+
+owed_text : (r : Refusal) → HasText (kind_text (kind_told r.reason)) → HasText (error_text (owed r))
+owed_text r told =
+    elim (cases_Bool (is_far r.reason)) [
+      | inl far ↦ rw far (_, refl)
+      | inr near ↦ rw near (error_text_of_kind (at (kind_told r.reason) (plain r.position)) told)
+    ]
+
+identifier_text : {rules : EncodingRules} {at : ℕ} {s : List ℕ} {r : Refusal} → IdentifierFault rules at s r → HasText (kind_text (kind_told r.reason))
+identifier_text (IdentifierFault.cut s c) = (_, refl)
+identifier_text (IdentifierFault.refused [] o rest c n) =
+    elim (cases_Bool (o == 31)) [
+      | inl long ↦ rw long (_, refl)
+      | inr unknown ↦ rw unknown (_, refl)
+    ]
+identifier_text (IdentifierFault.refused (first ∷ s) o rest c n) = (_, refl)
+
+length_text : {wrong : ErrorKind} {at : ℕ} {rules : EncodingRules} {s : List ℕ} {r : Refusal} → HasText (kind_text wrong) → LengthFault wrong at rules s r
+    → HasText (kind_text (kind_told r.reason))
+length_text t LengthFault.nothing = (_, refl)
+length_text t (LengthFault.few k ds a b) = (_, refl)
+length_text t (LengthFault.far o rest a) = t
+length_text t (LengthFault.longer k ds rest a b c d) = t
+length_text t (LengthFault.indefinite_form rest) = (_, refl)
+
+header_text : {rules : EncodingRules} {at : ℕ} {s : List ℕ} {r : Refusal} → HeaderFault rules at s r → HasText (kind_text (kind_told r.reason))
+header_text (HeaderFault.no_identifier f) = identifier_text f
+header_text (HeaderFault.no_length i f) = length_text (_, refl) f
+
+-- each error that a refused input is told as prints
+pub refused_text : (octets : List ℕ) (e : Error) → IsRefusedFor octets e → (reason : List ℕ) × (error_text e ≡ Some reason)
+refused_text octets e (inl (long, told)) = rw told (_, refl)
+refused_text octets e (inr (r, fault, told)) = rw told (owed_text r (header_text fault))
+
+pub answer_told : (octets text rest : List ℕ) (h : Head) → IsHeaderRead octets h rest → text ≡ header_lines h rest → AnswersHead octets 0 text
+answer_told octets text rest h read lines = AnswersHead.told record { head = h; rest = rest; read = read; lines = lines }
+
+pub answer_refused : (octets text : List ℕ) (e : Error) → IsRefusedFor octets e → TellsError e text → AnswersHead octets 1 text
+answer_refused octets text e refused tells =
+    let printed = refused_text octets e refused in
+    AnswersHead.refused record { error = e; reason = printed.0; refused = refused; says = printed.1; line = tells printed.0 printed.1 }

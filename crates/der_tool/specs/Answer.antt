@@ -1,0 +1,79 @@
+-- What the program may say to its words.
+use Rattle.std.specs.Prelude.{◌≡◌, ℕ, ◌^◌, ◌≤◌, ◌⊎◌, List, length, drop, codes, Option, Some, Ok, string_bytes}
+use Rattle.std.specs.Io.KnownBytes.{Appends}
+use Rattle.hex.specs.Hex.{decode_of}
+use Rattle.der_base.specs.Header.{Head, HeaderAhead, HeaderFault}
+use Rattle.der_base.specs.Refusal.{Refusal, owed}
+use Rattle.der_base.specs.Error.{bare}
+use Rattle.der_base.specs.Text.{error_text}
+use Rattle.der_base.specs.declared.error.Error.{Error}
+use Rattle.der_base.specs.declared.error.ErrorKind.TheVariants.{Overflow}
+use Rattle.der_base.specs.declared.encoding_rules.EncodingRules.TheVariants.{Der}
+use Rattle.der_tool.specs.Command.{IsCommand, head_words}
+use Rattle.der_tool.specs.Text.{usage_line, error_line, header_lines}
+use Rattle.der_tool.specs.declared.command.Command.{Command}
+use Rattle.der_tool.specs.declared.command.Command.TheVariants.{Head as HeadOf}
+use Rattle.der_tool.specs.declared.answer.Answer.{Answer}
+use Rattle.der_tool.specs.declared.answer.Answer.TheVariants as answer
+
+-- the octets begin with this header, and these are left behind it
+pub record IsHeaderRead (octets : List ℕ) (h : Head) (rest : List ℕ) : Type 0 where
+  pub count : ℕ
+  pub ahead : HeaderAhead Der octets h count
+  pub behind : rest ≡ drop count octets
+
+-- the octets are more than can be counted, or begin with no header; the error tells which
+abbrev pub IsRefusedFor : List ℕ → Error → Type 0
+IsRefusedFor octets e = ((2 ^ 32 ≤ length octets) × (e ≡ bare Overflow)) ⊎ ((r : Refusal) × HeaderFault Der 0 octets r × (e ≡ owed r))
+
+-- the lines tell the header that the octets begin with
+pub record Tells (octets text : List ℕ) : Type 0 where
+  pub head : Head
+  pub rest : List ℕ
+  pub read : IsHeaderRead octets head rest
+  pub lines : text ≡ header_lines head rest
+
+-- the line tells the error, where its text is known
+abbrev pub TellsError : Error → List ℕ → Type 0
+TellsError e text = (reason : List ℕ) → error_text e ≡ Some reason → text ≡ error_line reason
+
+-- the line tells why the octets are refused
+pub record Refuses (octets text : List ℕ) : Type 0 where
+  pub error : Error
+  pub reason : List ℕ
+  pub refused : IsRefusedFor octets error
+  pub says : error_text error ≡ Some reason
+  pub line : text ≡ error_line reason
+
+-- what `head` says to octets: a status and a text
+pub data AnswersHead (octets : List ℕ) : ℕ → List ℕ → Type 0 where
+  told : {text : List ℕ} → Tells octets text → AnswersHead octets 0 text
+  refused : {text : List ℕ} → Refuses octets text → AnswersHead octets 1 text
+
+-- what a command is answered, memory aside
+abbrev pub Fulfils : Command → ℕ → List ℕ → Type 0
+Fulfils (HeadOf hex) status text = (octets : List ℕ) × (decode_of hex.now ≡ Ok octets) × AnswersHead octets status text
+
+-- what the program may say to its words
+pub data Answers (words : List (List ℕ)) : ℕ → List ℕ → Type 0 where
+  misused : (IsCommand words → ⊥) → Answers words 2 usage_line
+  head : {hex octets text : List ℕ} {status : ℕ} → words ≡ head_words hex → decode_of hex ≡ Ok octets
+      → AnswersHead octets status text → Answers words status text
+  no_memory : IsCommand words → Answers words 1 (error_line (codes "out of memory"))
+
+-- the output took an answer to the words whole, and nothing else
+abbrev pub Writes : List (List ℕ) → ℕ → Option (List ℕ) → Option (List ℕ) → Type 0
+Writes words status old new = (text : List ℕ) × Answers words status text × Appends old new text
+
+-- an answer's status and text
+abbrev pub status_of : {A : Type 0} → Answer A → ℕ
+status_of (answer.Told lines) = 0
+status_of (answer.Refused line) = 1
+status_of answer.OutOfMemory = 1
+status_of answer.Usage = 2
+
+abbrev pub text_of : {A : Type 0} → Answer A → List ℕ
+text_of (answer.Told lines) = string_bytes lines
+text_of (answer.Refused line) = string_bytes line
+text_of answer.OutOfMemory = error_line (codes "out of memory")
+text_of answer.Usage = usage_line

@@ -1,0 +1,31 @@
+-- What the program writes, in the octets of the text.
+use Rattle.std.specs.Prelude.{ℕ, Bool, List, [], ◌∷◌, ◌++◌, codes, if◌then◌else◌}
+use Rattle.hex.specs.Hex.{encode_lower}
+use Rattle.der_base.specs.Header.{Head}
+use Rattle.der_base.specs.Length.{flagged}
+use Rattle.der_base.specs.Text.{tag_text, length_text}
+
+abbrev pub usage_line : List ℕ
+usage_line = codes "usage: der_tool head [--ber] HEX | tlv [--ber] HEX | order HEX HEX\n"
+
+abbrev pub error_line : List ℕ → List ℕ
+error_line reason = codes "error: " ++ reason ++ codes "\n"
+
+abbrev pub yes_or_no : Bool → List ℕ
+yes_or_no b = if b then codes "yes" else codes "no"
+
+-- behind a length that was read in the indefinite form
+abbrev pub indefinite_mark : Bool → List ℕ
+indefinite_mark b = if b then codes " indefinite" else []
+
+-- octets in lower case hexadecimal, or a dash for none
+abbrev pub octets_text : List ℕ → List ℕ
+octets_text [] = codes "-"
+octets_text (o ∷ os) = encode_lower (o ∷ os)
+
+-- the four lines of a header and the octets behind it
+abbrev pub header_lines : Head → List ℕ → List ℕ
+header_lines h rest =
+    codes "tag: " ++ tag_text h.tag ++ codes "\nconstructed: " ++ yes_or_no h.constructed
+    ++ codes "\nlength: " ++ length_text h.length ++ indefinite_mark (flagged h.length)
+    ++ codes "\nrest: " ++ octets_text rest ++ codes "\n"

@@ -1,0 +1,44 @@
+//! Answers of the program.
+ghost use Rattle.std.specs.Prelude.{◌≡◌};
+
+use std::alloc::Allocator;
+
+/// What the program says, and how it ends.
+#[derive(Drop)]
+pub enum Answer<A: Allocator> {
+    /// What the octets begin with, as these lines.
+    Told(String<A>),
+    /// The octets are refused, for the reason that this line gives.
+    Refused(String<A>),
+    /// Memory was refused.
+    OutOfMemory,
+    /// The words are no command.
+    Usage,
+}
+
+impl<A: Allocator> Answer<A> {
+    ghost use Rattle.der_tool.specs.Answer.{status_of, text_of};
+
+    /// The status that the program ends with.
+    pub fn status(&self) -> u8
+        ensures { result ≡ status_of self.now }
+    {
+        match self {
+            Answer::Told(_) => 0,
+            Answer::Refused(_) | Answer::OutOfMemory => 1,
+            Answer::Usage => 2,
+        }
+    }
+
+    /// What the program writes.
+    pub fn text(&self) -> &str
+        ensures { result.now ≡ text_of self.now }
+    {
+        match self {
+            Answer::Told(lines) => lines,
+            Answer::Refused(line) => line,
+            Answer::OutOfMemory => "error: out of memory\n",
+            Answer::Usage => "usage: der_tool head [--ber] HEX | tlv [--ber] HEX | order HEX HEX\n",
+        }
+    }
+}

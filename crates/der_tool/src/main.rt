@@ -1,0 +1,44 @@
+//! Tells the header at the front of DER octets that are given as hexadecimal text.
+#![tactic(auto)]
+
+ghost use Rattle.std.specs.Prelude.{◌≡◌, ◌⊎◌, ℕ, List};
+ghost use Rattle.der_tool.specs.Answer.{Writes};
+
+mod answer;
+mod command;
+mod head;
+mod output;
+mod program;
+
+use answer::Answer;
+use output::Output;
+use program::{run, say};
+use std::alloc::Global;
+use std::process::ExitCode;
+use std::rt::Env;
+use std::{env, io};
+
+fn main(rt: HostRuntime) -> ExitCode {
+    ExitCode::from(run_arguments(&rt, &mut rt.stdout()))
+}
+
+/// Answers the arguments on the output, and gives the status.
+fn run_arguments<W: Output>(rt: &(impl Env + AllocGlobal), out: &mut W) -> u8
+    ensures { (result ≡ 1) ⊎ ((words : List (List ℕ))
+        × Writes words result (W.contents out.old) (W.contents out.new)) }
+{
+    match arguments(rt) {
+        Ok(words) => run(rt.alloc(), &words, out),
+        // An argument that is not text is no word of a command, so no words answer for all.
+        Err(error) if error.kind() == io::ErrorKind::InvalidData => run(rt.alloc(), &[], out),
+        Err(_) => say(&Answer::<Global>::OutOfMemory, out).unwrap_or(1),
+    }
+}
+
+/// The arguments, without the program's name.
+fn arguments(rt: &(impl Env + AllocGlobal)) -> io::Result<Vec<String>> {
+    Ok(env::args(rt)?.skip(1).collect(rt.alloc())?)
+}
+
+#[cfg(test)]
+mod tests;
