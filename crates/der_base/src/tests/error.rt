@@ -1,5 +1,7 @@
 //! Errors and their printed texts.
 use crate::{Error, ErrorKind, Length, Tag};
+use std::alloc::Global;
+use std::process::Abort;
 use std::str;
 use std::test::Fail;
 
@@ -30,19 +32,20 @@ const PLAIN: [(ErrorKind, &str); 14] = [
     (ErrorKind::OutOfMemory, "out of memory"),
 ];
 
+fn plain(rt: &impl Abort, alloc: Global, kind: ErrorKind, text: &str) -> Result<(), Fail> {
+    assert_eq!(rt; kind.to_string(alloc)?.as_str(), text);
+    assert_eq!(rt; kind.to_error().to_string(alloc)?.as_str(), text);
+    let placed = format!(in alloc; "{text} at DER byte 7")?;
+    let error = kind.at(Length::new(7));
+    assert_eq!(rt; error.to_string(alloc)?.as_str(), placed.as_str());
+    Ok(())
+}
+
 #[test]
 fn plain_kinds_printed(rt: HostRuntime) -> Result<(), Fail> {
     for (kind, text) in PLAIN {
-        let alloc = rt.alloc();
-        assert_eq!(rt; kind.to_string(alloc)?.as_str(), text);
-        assert_eq!(rt; kind.to_error().to_string(alloc)?.as_str(), text);
+        plain(&rt, rt.alloc(), kind, text)?;
     }
-    let alloc = rt.alloc();
-    let error = ErrorKind::Failed.at(Length::new(7));
-    assert_eq!(rt;
-        error.to_string(alloc)?.as_str(),
-        "operation failed at DER byte 7"
-    );
     Ok(())
 }
 
