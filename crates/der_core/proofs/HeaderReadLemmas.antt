@@ -15,7 +15,7 @@ use Rattle.der_base.specs.declared.encoding_rules.EncodingRules.TheVariants.{Der
 use Rattle.der_base.proofs.HeaderLemmas.{TagView, tag_view_of, tag_view, one_tag, no_tag_fault, one_header, no_header_fault, length_definite_form, retold, retold_reason, retold_fault, owed_retold}
 use Rattle.der_core.specs.State.{State, rest, advanced, left, Reads}
 use Rattle.der_core.specs.Refused.{Refused, at_fault, has_failed, Stops}
-use Rattle.der_core.specs.Decode.{Passed}
+use Rattle.der_core.specs.Decode.{Passed, tag_ahead}
 use Rattle.der_core.specs.Header.{head_of}
 use Rattle.der_core.specs.declared.header.Header.{Header}
 use Rattle.der_core.proofs.StateLemmas.{reads_front, reads_on, position_on, failed_on, rules_on, stops_on}
@@ -108,9 +108,9 @@ unfolding header_saying
 same_header h g e = ap header_saying e
 
 -- where a tag stands ahead it is read
-pub tag_accepted : {a t : State} {x y : Tag} {b c : Bool} {m : ℕ} → Passed (λ rules octets m. TagAhead rules octets x b m) a t → TagAhead a.rules (rest a) y c m
+pub tag_accepted : {a t : State} {x y : Tag} {c : Bool} {m : ℕ} → Passed (λ rules octets m. tag_ahead rules octets x m) a t → TagAhead a.rules (rest a) y c m
     → (x ≡ y) × (t ≡ advanced a m)
-tag_accepted {a} h ahead = let one = one_tag h.ahead ahead in (one.0, h.leaves ∙ ap (advanced a) one.2)
+tag_accepted {a} h ahead = let one = one_tag h.ahead.1 ahead in (one.0, h.leaves ∙ ap (advanced a) one.2)
 
 pub tag_not_refused : {a t : State} {e : Error} {y : Tag} {c : Bool} {m : ℕ} → Refused IdentifierFault a e t → a.failed ≡ false → TagAhead a.rules (rest a) y c m → ⊥
 tag_not_refused (has_failed f told leaves) working ahead = (let no : true ≡ false = sym f ∙ working in cc)

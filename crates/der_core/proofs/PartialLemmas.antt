@@ -19,17 +19,17 @@ fault_at_beginning : {octets : List ℕ} {e : Error} {t : State} → Refused Hea
 fault_at_beginning (has_failed f told leaves) = absurd (let no : false ≡ true = f in cc)
 fault_at_beginning {octets} (at_fault r w fault stops) = (r, subst (λ l. HeaderFault Der 0 l r) (rest-beginning Der octets) fault, stops.told)
 
-then_refused : {octets : List ℕ} {converts : Error → Error → Type 0} (answer : Result Header Error) (t : State) (e : Error) → GrammarAnswers header_ahead HeaderFault (beginning Der octets) answer t
+then_refused : {octets : List ℕ} (converts : Error → Error → Type 0) (answer : Result Header Error) (t : State) (e : Error) → GrammarAnswers header_ahead HeaderFault (beginning Der octets) answer t
     → PartialThen converts answer t (Err e) → (r : Refusal) × HeaderFault Der 0 octets r × (e ≡ owed r)
-then_refused (Err f) t e h same =
+then_refused converts (Err f) t e h same =
     let one : e ≡ f = (let q : Err e ≡ Err f = same in cc) in
     let found = fault_at_beginning (h refl) in
     (found.0, found.1, one ∙ found.2)
-then_refused (Ok v) t e h (inl ok) = absurd (let no : Err e ≡ Ok (v, rest t) = ok.1 in cc)
-then_refused (Ok v) t e h (inr lost) = absurd (let no : true ≡ false = sym lost.0 ∙ ap (λ (s : State). s.failed) h.leaves in cc)
+then_refused converts (Ok v) t e h (inl ok) = absurd (let no : Err e ≡ Ok (v, rest t) = ok.1 in cc)
+then_refused converts (Ok v) t e h (inr lost) = absurd (let no : true ≡ false = sym lost.0 ∙ ap (λ (s : State). s.failed) h.leaves in cc)
 
 -- a refused header is told by its fault, or there are more octets than can be counted
 pub header_refused_for : {octets : List ℕ} {converts : Error → Error → Type 0} {e : Error} → ((a b : Error) → converts a b → b ≡ a)
     → PartialAnswer (GrammarAnswers header_ahead HeaderFault) converts octets (Err e) → HeaderRefusedFor octets e
 header_refused_for same (too_long l told) = inl (l, same _ _ told)
-header_refused_for {converts = converts} {e = e} same (decoded answer t small h then) = inr (then_refused {converts = converts} answer t e h then)
+header_refused_for {converts = converts} {e = e} same (decoded answer t small h then) = inr (then_refused converts answer t e h then)
