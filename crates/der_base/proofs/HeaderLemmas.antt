@@ -9,7 +9,6 @@ use Rattle.der_base.specs.Error.{at, bare, retold_kind, retold_error}
 use Rattle.der_base.specs.Header.{header_octets, TagAhead, tag, LengthAhead, definite, indefinite, Head, head, HeaderAhead, header, LengthFault, nothing, few, far, longer, indefinite_form, HeaderFault, no_identifier, no_length}
 use Rattle.der_base.specs.declared.length.Length.{Length}
 use Rattle.der_base.specs.declared.tag.Tag.{Tag}
-use Rattle.der_base.specs.declared.error.Error.{Error}
 use Rattle.der_base.specs.declared.error.ErrorKind.{ErrorKind}
 use Rattle.der_base.specs.declared.error.ErrorKind.TheVariants.{Overlength, Overflow, Length as IncorrectLength}
 use Rattle.der_base.specs.declared.encoding_rules.EncodingRules.{EncodingRules}

@@ -1,5 +1,5 @@
 -- Identifiers at the front of octets, and where octets begin with none (X.690 8.1.2).
-use Rattle.std.specs.Prelude.{◌≡◌, ℕ, ◌+◌, ◌==◌, Bool, true, List, [], ◌∷◌, ◌++◌, length, if◌then◌else◌}
+use Rattle.std.specs.Prelude.{ℕ, ◌+◌, ◌==◌, Bool, true, List, [], ◌∷◌, ◌++◌, length, if◌then◌else◌}
 use Rattle.der_base.specs.Tag.{label, IsTag, tag_octets}
 use Rattle.der_base.specs.Refusal.{Refusal, refusal, cut_at}
 use Rattle.der_base.specs.declared.tag.Tag.{Tag}

@@ -1,5 +1,5 @@
 -- What is left behind a value, and what was promised of one that stands ahead.
-use Rattle.std.proofs.Common.{◌≡◌, ℕ, ◌+◌, ◌≤◌, ◌^◌, ◌<◌, ◌⊎◌, Bool, true, false, IsOk, IsErrAnd, Result, Ok, Err, List, length, take, ◌-◌, refl, sym, ap, ◌∙◌, subst, inl, inr, ⊎_elim, arith}
+use Rattle.std.proofs.Common.{◌≡◌, ℕ, ◌+◌, ◌≤◌, ◌^◌, ◌<◌, Bool, true, false, Result, Ok, Err, List, length, take, ◌-◌, refl, sym, ap, ◌∙◌, subst, inl, inr, arith}
 use Rattle.std.proofs.lemmas.List.{take_all}
 use Rattle.der_base.specs.Error.{at}
 use Rattle.der_base.specs.declared.error.Error.{Error}

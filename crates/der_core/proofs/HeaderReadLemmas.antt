@@ -1,10 +1,10 @@
 -- Headers, by their tag and their length.
-use Rattle.std.proofs.Common.{◌≡◌, ℕ, ◌+◌, ◌≤◌, ◌⊎◌, Bool, true, false, List, ◌++◌, length, refl, sym, ap, ◌∙◌, subst, inl, inr, length-append, arith}
-use Rattle.der_base.specs.Error.{at as error_at, retold_error}
+use Rattle.std.proofs.Common.{◌≡◌, ℕ, ◌+◌, ◌⊎◌, Bool, true, false, List, ◌++◌, length, refl, sym, ap, ◌∙◌, subst, inl, inr, length-append, arith}
+use Rattle.der_base.specs.Error.{retold_error}
 use Rattle.der_base.specs.Length.{flagged}
 use Rattle.der_base.specs.Identifier.{IsIdentifier, IdentifierFault}
 use Rattle.der_base.specs.Header.{Head, head, TagAhead, LengthAhead, HeaderAhead, header, LengthFault, HeaderFault, no_identifier, no_length}
-use Rattle.der_base.specs.Refusal.{Refusal, Reason, Wants, Kind, owed, is_far}
+use Rattle.der_base.specs.Refusal.{Refusal, Reason, Wants, Kind}
 use Rattle.der_base.specs.declared.length.Length.{Length}
 use Rattle.der_base.specs.declared.tag.Tag.{Tag}
 use Rattle.der_base.specs.declared.error.Error.{Error}
@@ -14,11 +14,11 @@ use Rattle.der_base.specs.declared.encoding_rules.EncodingRules.{EncodingRules}
 use Rattle.der_base.specs.declared.encoding_rules.EncodingRules.TheVariants.{Der}
 use Rattle.der_base.proofs.HeaderLemmas.{TagView, tag_view_of, tag_view, one_tag, no_tag_fault, one_header, no_header_fault, length_definite_form, retold, retold_reason, retold_fault, owed_retold}
 use Rattle.der_core.specs.State.{State, rest, advanced, left, Reads}
-use Rattle.der_core.specs.Refused.{Refused, at_fault, has_failed, Stops}
+use Rattle.der_core.specs.Refused.{Refused, at_fault, has_failed}
 use Rattle.der_core.specs.Decode.{Passed, tag_ahead}
 use Rattle.der_core.specs.Header.{head_of}
 use Rattle.der_core.specs.declared.header.Header.{Header}
-use Rattle.der_core.proofs.StateLemmas.{reads_front, reads_on, position_on, failed_on, rules_on, stops_on}
+use Rattle.der_core.proofs.StateLemmas.{reads_front, position_on, failed_on, rules_on, stops_on}
 
 -- the identifier of a tag that was read
 pub record IdentifierRead (a b : State) (x : Tag) (bit : Bool) : Type 0 where

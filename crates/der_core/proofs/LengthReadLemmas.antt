@@ -1,16 +1,15 @@
 -- Lengths, octet by octet.
-use Rattle.std.proofs.Common.{◌≡◌, ◌≢◌, ℕ, suc, max, ◌+◌, ◌-◌, ◌*◌, ◌^◌, ◌<◌, ◌≤◌, true, false, List, [], ◌∷◌, ◌++◌, length, refl, sym, ap, ◌∙◌, subst, append-nil, length-append, arith}
+use Rattle.std.proofs.Common.{◌≡◌, ℕ, max, ◌+◌, ◌-◌, ◌*◌, ◌^◌, ◌<◌, ◌≤◌, true, false, List, [], ◌∷◌, ◌++◌, length, refl, sym, ap, ◌∙◌, subst, append-nil, length-append, arith}
 use Rattle.std.specs.Int.Digits.{number_from_digits, AllBelowBase}
 use Rattle.std.proofs.lemmas.Int.Digits.{number_push, number_lt}
 use Rattle.std.proofs.Math.Nat.{pow-le-pow_right}
 use Rattle.der_base.specs.Error.{at as error_at}
-use Rattle.der_base.specs.Length.{plain, length_of, length_octets}
+use Rattle.der_base.specs.Length.{plain, length_octets}
 use Rattle.der_base.specs.Header.{LengthAhead, definite, LengthFault, nothing, far, indefinite_form}
 use Rattle.der_base.specs.Refusal.{Refusal, refusal, cut_at}
 use Rattle.der_base.specs.declared.length.Length.{Length}
 use Rattle.der_base.specs.declared.error.Error.{Error}
 use Rattle.der_base.specs.declared.error.ErrorKind.TheVariants.{Overlength, IndefiniteLength}
-use Rattle.der_base.specs.declared.encoding_rules.EncodingRules.{EncodingRules}
 use Rattle.der_base.specs.declared.encoding_rules.EncodingRules.TheVariants.{Der}
 use Rattle.der_base.proofs.DigitLemmas.{all_below_push, number_small}
 use Rattle.der_base.proofs.LengthLemmas.{length_small, octet_shortest, octet_cut, octet_longer}

@@ -5,4 +5,3 @@ pub mod HeaderReadLemmas
 pub mod DecodeLemmas
 pub mod NestedLemmas
 pub mod PeekLemmas
-pub mod PartialLemmas

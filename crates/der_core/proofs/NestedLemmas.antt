@@ -1,16 +1,15 @@
 -- Parts, entered and left.
-use Rattle.std.proofs.Common.{◌≡◌, ◌≢◌, ℕ, ◌+◌, ◌-◌, ◌^◌, ◌<◌, ◌≤◌, ◌⊎◌, Bool, true, false, IsTrue, IsErrAnd, Result, Ok, Err, List, length, nat_lt, refl, sym, ap, ◌∙◌, subst, inl, inr, arith}
-use Rattle.std.proofs.lemmas.Bool.{lt-ltb, le-ltb, cases_lt}
+use Rattle.std.proofs.Common.{◌≡◌, ◌≢◌, ℕ, ◌+◌, ◌-◌, ◌^◌, ◌≤◌, Bool, true, false, IsTrue, Result, Ok, Err, length, nat_lt, refl, sym, ap, ◌∙◌, subst, arith}
 use Rattle.der_base.specs.Error.{at}
 use Rattle.der_base.specs.Length.{number, flagged, plain}
 use Rattle.der_base.specs.declared.length.Length.{Length}
 use Rattle.der_base.specs.declared.error.Error.{Error}
 use Rattle.der_base.specs.declared.error.ErrorKind.TheVariants.{TrailingData}
-use Rattle.der_core.specs.State.{State, rest, here, inside, resumed, stopped, advanced, Sound, Same}
+use Rattle.der_core.specs.State.{State, here, inside, resumed, stopped, Sound, Same}
 use Rattle.der_core.specs.Outcome.{Gives}
 use Rattle.der_core.proofs.StateLemmas.{same_trans}
 use Rattle.der_core.specs.Reader.{enter_nested_outcome}
-use Rattle.der_core.specs.Nested.{CanNest, CanLeave, Closes, handed_on, left_over, whole, NestedAnswers, entered, ClosesValue, ValueAnswers, opened, not_opened}
+use Rattle.der_core.specs.Nested.{CanNest, CanLeave, Closes, left_over, whole, NestedAnswers, entered, ClosesValue, ValueAnswers, opened, not_opened}
 
 -- what entering gives: the part, and what to go back to
 pub record Entered (s : State) (n : ℕ) (e d : ℕ) (t : State) : Type 0 where

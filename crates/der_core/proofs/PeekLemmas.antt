@@ -1,22 +1,21 @@
 -- What is seen on a fork, and what follows it.
-use Rattle.std.proofs.Common.{◌≡◌, ℕ, ◌+◌, ◌-◌, ◌^◌, ◌<◌, ◌≤◌, Bool, true, false, IsOk, IsErr, IsErrAnd, Result, Ok, Err, List, length, nat_lt, refl, sym, ap, ◌∙◌, subst, ⊎_elim, arith}
+use Rattle.std.proofs.Common.{◌≡◌, ℕ, ◌+◌, ◌-◌, ◌^◌, ◌<◌, ◌≤◌, Bool, false, Result, Ok, Err, List, refl, sym, ap, ◌∙◌, subst, ⊎_elim, arith}
 use Rattle.std.proofs.lemmas.Bool.{lt-ltb, le-ltb, cases_lt}
 use Rattle.der_base.specs.Error.{bare}
 use Rattle.der_base.specs.Length.{number, plain}
-use Rattle.der_base.specs.Header.{HeaderFault}
 use Rattle.der_base.specs.Refusal.{Refusal}
 use Rattle.der_base.specs.declared.length.Length.{Length}
 use Rattle.der_base.specs.declared.error.Error.{Error}
 use Rattle.der_base.specs.declared.error.ErrorKind.TheVariants.{Overflow}
 use Rattle.der_base.specs.declared.encoding_rules.EncodingRules.{EncodingRules}
 use Rattle.der_base.specs.declared.encoding_rules.EncodingRules.TheVariants.{Der}
-use Rattle.der_core.specs.State.{State, rest, advanced, stopped}
+use Rattle.der_core.specs.State.{State, rest}
 use Rattle.der_base.specs.Arithmetic.{counted}
 use Rattle.der_core.specs.Outcome.{Outcome, Gives, Meets, Owed, seen}
 use Rattle.der_core.specs.Reader.{read_slice_outcome, tlv_outcome}
 use Rattle.der_core.specs.Refused.{Refused}
 use Rattle.der_core.specs.Header.{head_of}
-use Rattle.der_core.specs.Decode.{Passed, Peeks, TlvAnswers, no_header, with_header, header_ahead, ReaderDecodes, refuses}
+use Rattle.der_core.specs.Decode.{Passed, Peeks, TlvAnswers, with_header, header_ahead}
 use Rattle.der_core.specs.declared.header.Header.{Header}
 
 module _ {A : Type 0} (Ahead : EncodingRules → List ℕ → A → ℕ → Type 0) (Fault : EncodingRules → ℕ → List ℕ → Refusal → Type 0) (s f t : State) where

@@ -1,16 +1,15 @@
 -- How reading goes on.
-use Rattle.std.proofs.Common.{◌≡◌, ℕ, ◌+◌, ◌-◌, ◌<◌, ◌≤◌, ◌^◌, Bool, true, false, IsTrue, Ok, Err, List, [], ◌∷◌, ◌++◌, length, take, drop, refl, sym, ap, ◌∙◌, subst, append_assoc, length-append, length-take, length-take-le, length-drop, drop-drop, add-zero, arith}
+use Rattle.std.proofs.Common.{◌≡◌, ℕ, ◌+◌, ◌-◌, ◌≤◌, Bool, true, false, IsTrue, Ok, Err, List, [], ◌∷◌, ◌++◌, length, take, drop, refl, sym, ap, ◌∙◌, subst, append_assoc, length-append, length-take, length-take-le, length-drop, drop-drop, add-zero, arith}
 use Rattle.std.proofs.lemmas.List.{drop-take}
 use Rattle.der_base.specs.Error.{at}
 use Rattle.der_base.specs.Refusal.{Refusal, refusal, is_far, owed, cut_at, wants}
 use Rattle.der_base.specs.declared.error.Error.{Error}
 use Rattle.der_base.specs.declared.error.ErrorKind.{ErrorKind}
 use Rattle.der_base.specs.declared.error.ErrorKind.TheVariants.{Failed}
-use Rattle.der_base.specs.declared.encoding_rules.EncodingRules.{EncodingRules}
 use Rattle.der_core.specs.State.{State, rest, here, advanced, stopped, left, Sound, Same, Reads}
 use Rattle.der_core.specs.Outcome.{Gives}
-use Rattle.der_core.specs.Reader.{first_octet, short_outcome, unless_failed, read_byte_outcome}
-use Rattle.der_core.specs.Refused.{Stops, Refused, has_failed, at_fault}
+use Rattle.der_core.specs.Reader.{first_octet, short_outcome, read_byte_outcome}
+use Rattle.der_core.specs.Refused.{Stops}
 
 pub reads_none : (s : State) → Reads s s []
 reads_none s = record { split = refl; state = ap (λ p. record s { position = p }) (sym (add-zero s.position)) }

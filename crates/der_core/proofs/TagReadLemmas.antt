@@ -1,20 +1,19 @@
 -- Tags, octet by octet.
-use Rattle.std.proofs.Common.{◌≡◌, ◌≢◌, ℕ, suc, ◌+◌, ◌-◌, ◌*◌, ◌/◌, ◌%◌, ◌^◌, ◌<◌, ◌≤◌, ◌⊎◌, Bool, true, false, Option, Some, None, List, [], ◌∷◌, ◌++◌, length, refl, sym, ap, ◌∙◌, subst, ⊎_elim, inl, inr, append-nil, length-append, arith}
+use Rattle.std.proofs.Common.{◌≡◌, ℕ, ◌+◌, ◌*◌, ◌%◌, ◌^◌, ◌<◌, ◌≤◌, ◌⊎◌, Bool, false, Some, None, List, [], ◌∷◌, ◌++◌, length, refl, sym, ap, ◌∙◌, subst, ⊎_elim, inl, append-nil, length-append, arith}
 use Rattle.der_base.specs.Digits.{digits, continued}
 use Rattle.der_base.specs.Error.{at as error_at}
-use Rattle.der_base.specs.Tag.{label, universal_tag, other_tag, is_constructed}
+use Rattle.der_base.specs.Tag.{universal_tag, other_tag, is_constructed}
 use Rattle.der_base.specs.Identifier.{IsIdentifier, IdentifierFault, identifier_kind}
 use Rattle.der_base.specs.Header.{TagAhead, tag}
 use Rattle.der_base.specs.Refusal.{Refusal, refusal, cut_at}
 use Rattle.der_base.specs.declared.tag.Tag.{Tag}
 use Rattle.der_base.specs.declared.error.Error.{Error}
 use Rattle.der_base.specs.declared.error.ErrorKind.TheVariants.{TagNumberInvalid}
-use Rattle.der_base.specs.declared.encoding_rules.EncodingRules.{EncodingRules}
 use Rattle.der_base.specs.declared.encoding_rules.EncodingRules.TheVariants.{Der}
 use Rattle.der_base.proofs.LongNumberLemmas.{SoFar, so_far_none as none_so_far, so_far_more, number_found as found, number_cut, number_refused_first, number_refused_few, number_refused_many}
 use Rattle.der_base.proofs.IdentifierLemmas.{identifier_at, universal_identifier, short_identifier, long_identifier, fault_nothing, fault_universal}
 use Rattle.der_base.proofs.TagLemmas.{universal_constructed}
-use Rattle.der_core.specs.State.{State, rest, here, advanced, stopped, Reads}
+use Rattle.der_core.specs.State.{State, rest, here, stopped, Reads}
 use Rattle.der_core.specs.Refused.{Refused, at_fault, has_failed, Stops}
 use Rattle.der_core.specs.Decode.{Passed}
 use Rattle.der_core.specs.Behind.{NumberRefused}

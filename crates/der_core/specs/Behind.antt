@@ -1,5 +1,5 @@
 -- What is refused behind a first octet, which stood at a position and was read.
-use Rattle.std.specs.Prelude.{◌≡◌, ℕ, ◌+◌, ◌%◌, ◌^◌, ◌<◌, ◌≤◌, false, ◌∷◌}
+use Rattle.std.specs.Prelude.{◌≡◌, ℕ, ◌+◌, ◌%◌, ◌<◌, ◌≤◌, false, ◌∷◌}
 use Rattle.der_base.specs.Identifier.{IdentifierFault}
 use Rattle.der_base.specs.Header.{LengthFault}
 use Rattle.der_base.specs.Refusal.{Refusal}

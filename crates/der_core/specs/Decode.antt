@@ -1,10 +1,9 @@
 -- What decoding answers.
-use Rattle.std.specs.Prelude.{◌≡◌, ℕ, ◌^◌, ◌<◌, ◌≤◌, ◌⊎◌, Bool, true, false, List, length, Result, Ok, Err, IsOk, IsErr, IsErrAnd, ◌+◌, if◌then◌else◌}
+use Rattle.std.specs.Prelude.{◌≡◌, ℕ, ◌^◌, ◌<◌, ◌≤◌, ◌⊎◌, Bool, true, false, List, length, Result, Ok, Err, IsOk, IsErr, IsErrAnd, ◌+◌}
 use Rattle.der_base.specs.Error.{at, bare}
 use Rattle.der_base.specs.Refusal.{Refusal}
 use Rattle.der_base.specs.Length.{number}
-use Rattle.der_base.specs.Header.{TagAhead, LengthAhead, HeaderAhead, HeaderFault}
-use Rattle.der_base.specs.declared.length.Length.{Length}
+use Rattle.der_base.specs.Header.{TagAhead, HeaderAhead, HeaderFault}
 use Rattle.der_base.specs.declared.tag.Tag.{Tag}
 use Rattle.der_base.specs.declared.error.Error.{Error}
 use Rattle.der_base.specs.declared.error.ErrorKind.{ErrorKind}

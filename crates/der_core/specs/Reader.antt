@@ -1,5 +1,5 @@
 -- The tables of a reader's calls.
-use Rattle.std.specs.Prelude.{◌≡◌, ℕ, ◌+◌, ◌-◌, ◌*◌, ◌/◌, ◌^◌, ◌⊎◌, Bool, true, List, [], ◌∷◌, take, min, Option, Some, None, Result, Ok, Err, IsOk, if◌then◌else◌, nat_lt, nat_le, ◌==◌, ◌&&◌, not}
+use Rattle.std.specs.Prelude.{◌≡◌, ℕ, ◌+◌, ◌-◌, ◌*◌, ◌/◌, ◌^◌, ◌⊎◌, Bool, true, List, [], ◌∷◌, take, min, Result, Ok, Err, IsOk, if◌then◌else◌, nat_lt, nat_le, ◌==◌, ◌&&◌, not}
 use Rattle.der_base.specs.Length.{number, flagged, plain}
 use Rattle.der_base.specs.Error.{at, bare}
 use Rattle.der_base.specs.Refusal.{wants, cut_at, owed}
@@ -52,7 +52,7 @@ drain_outcome n s =
     if (number n == 0) && not (flagged n) then answers_and (Ok tt) s
     else unless_failed s
     (if nat_le (s.position + number n) s.end then answers_and (Ok tt) (advanced s (number n))
-     else emptied (read_slice_outcome (min 16 (number n - whole_steps s)) (advanced s (whole_steps s))))
+    else emptied (read_slice_outcome (min 16 (number n - whole_steps s)) (advanced s (whole_steps s))))
 
 abbrev pub finish_answer : State → Result (Unit {0}) Error
 finish_answer s =

@@ -83,10 +83,15 @@ impl Header {
     pub(crate) fn contents(self) -> Self
         ensures { result ≡ contents_header self }
     {
+        let Header {
+            tag,
+            length,
+            constructed,
+        } = self;
         Header {
-            tag: self.tag,
-            length: self.length.sans_eoc(),
-            constructed: self.constructed,
+            tag,
+            length: length.sans_eoc(),
+            constructed,
         }
     }
 }

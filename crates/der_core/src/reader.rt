@@ -18,8 +18,8 @@ use der_base::{EncodingRules, Error, ErrorKind, Length};
 pub use extension::ReaderExt;
 pub use position::Resumption;
 pub use slice::SliceReader;
-pub use value::{close_value, read_eoc, read_value};
 use std::alloc::Global;
+pub use value::{close_value, read_eoc, read_value};
 
 /// Octets that a reader has lent.
 pub trait Octets: Drop {

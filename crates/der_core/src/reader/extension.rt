@@ -173,7 +173,10 @@ pub trait ReaderExt: Reader {
 
     /// Decodes a value. A reader that has failed refuses by `Failed` at its position, and every
     /// refusal leaves it failed, where it keeps such a state.
-    final fn decode<T: Decode<Self>>(&mut self, alloc: Global) -> Result<T, <T as Decode<Self>>::Error>
+    final fn decode<T: Decode<Self>>(
+        &mut self,
+        alloc: Global,
+    ) -> Result<T, <T as Decode<Self>>::Error>
         ensures same { Same (Self.state self.old) (Self.state self.new) }
         ensures ok { IfOk result (λ v. (Self.state self.new).failed ≡ false → Passed (λ rules octets m. T.heads rules octets v m) (Self.state self.old) (Self.state self.new)) }
         ensures exact { Self.reliable ≡ true → ReaderDecodes T.answers T.Error.from_gives (Self.state self.old) result (Self.state self.new) }

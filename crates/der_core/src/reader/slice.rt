@@ -228,17 +228,18 @@ impl<'a> Reader for SliceReader<'a> {
     fn enter_nested(&mut self, len: Length) -> Result<Resumption, Error> {
         let count = u32::from(len);
         let end = self.end;
-        if count > u32::MAX - self.position {
+        let start = self.position;
+        if count > u32::MAX - start {
             return Err(ErrorKind::Overflow.to_error());
         }
-        if count > end - self.position {
+        if count > end - start {
             return Err(Error::incomplete(Length::new(end)));
         }
         if self.depth >= MAX_DEPTH {
             return Err(self.error(ErrorKind::NestingDepth));
         }
         let outer = Resumption::new(Length::new(end), self.depth);
-        self.end = self.position + count;
+        self.end = start + count;
         self.depth += 1;
         Ok(outer)
     }

@@ -67,11 +67,12 @@ pub fn close_value<R: Reader, T: Drop, E: From<Error> + Drop>(
 /// Reads the contents behind a header by `f`, which gets the reader inside them and the header with
 /// the length of the contents alone; where that was read in the indefinite form, the end marks are
 /// read behind them.
-pub fn read_value<R: Reader, T: Drop, E: From<Error> + Drop, F: FnOnce(&mut R, Header) -> Result<T, E>>(
-    reader: &mut R,
-    header: Header,
-    f: F,
-) -> Result<T, E>
+pub fn read_value<
+    R: Reader,
+    T: Drop,
+    E: From<Error> + Drop,
+    F: FnOnce(&mut R, Header) -> Result<T, E>,
+>(reader: &mut R, header: Header, f: F) -> Result<T, E>
     requires { HandsBack (λ p. F.pre f p (contents_header header)) (λ p a q. (h : _) × (h ≡ contents_header header) × F.post f p h a q) (λ p. R.state p.now) (λ q. R.state q.now) (R.state reader.old) (number (without_end (head_of header).length)) }
     ensures same { Same (R.state reader.old) (R.state reader.new) }
     ensures exact { Owed R.reliable result → ValueAnswers E.from_gives (λ p a q. (h : _) × (h ≡ contents_header header) × F.post f p h a q) (λ p. R.state p.now) (λ q. R.state q.now) (without_end (head_of header).length) (R.state reader.old) result (R.state reader.new) }
@@ -90,11 +91,12 @@ pub fn read_value<R: Reader, T: Drop, E: From<Error> + Drop, F: FnOnce(&mut R, H
 }
 
 // The same for a closure that wants no header: the contents of so many octets.
-pub(crate) fn read_contents<R: Reader, T: Drop, E: From<Error> + Drop, F: FnOnce(&mut R) -> Result<T, E>>(
-    reader: &mut R,
-    length: Length,
-    f: F,
-) -> Result<T, E>
+pub(crate) fn read_contents<
+    R: Reader,
+    T: Drop,
+    E: From<Error> + Drop,
+    F: FnOnce(&mut R) -> Result<T, E>,
+>(reader: &mut R, length: Length, f: F) -> Result<T, E>
     requires { HandsBack (F.pre f) (F.post f) (λ p. R.state p.now) (λ q. R.state q.now) (R.state reader.old) (number length) }
     ensures same { Same (R.state reader.old) (R.state reader.new) }
     ensures exact { Owed R.reliable result → ValueAnswers E.from_gives (F.post f) (λ p. R.state p.now) (λ q. R.state q.now) length (R.state reader.old) result (R.state reader.new) }

@@ -1,4 +1,4 @@
-use Rattle.std.proofs.Common.{sym, ap, ◌∙◌, Ok}
+use Rattle.std.proofs.Common.{ap, ◌∙◌, Ok}
 use Rattle.der_core.proofs.HeaderReadLemmas.{passed_header, header_tag_refused, header_length_refused, bit_of_flag, rules_after, same_header, header_accepted, header_not_refused}
 use Rattle.der_core.proofs.header.decode_header.Goals as goal
 

@@ -1,4 +1,4 @@
-use Rattle.std.proofs.Common.{◌≡◌, sym, ap, ◌∙◌, Ok, arith}
+use Rattle.std.proofs.Common.{ap, Ok}
 use Rattle.der_core.proofs.StateLemmas.{byte_working, byte_read, byte_refused}
 use Rattle.der_core.proofs.LengthReadLemmas.{passed_short, passed_long, length_ends, length_refused, length_accepted, length_not_refused}
 use Rattle.der_core.proofs.length.decode_length.Goals as goal

@@ -1,4 +1,4 @@
-use Rattle.std.proofs.Common.{◌≡◌, refl, ap, ◌∙◌}
+use Rattle.std.proofs.Common.{refl, ap, ◌∙◌}
 use Rattle.der_base.specs.Arithmetic.{without_end}
 use Rattle.der_base.specs.Length.{number}
 use Rattle.der_core.specs.declared.header.Header.{Header}

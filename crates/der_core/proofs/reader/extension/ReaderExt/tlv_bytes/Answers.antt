@@ -1,4 +1,4 @@
-use Rattle.std.proofs.Common.{◌≡◌, ◌+◌, refl, ap, arith}
+use Rattle.std.proofs.Common.{◌+◌, refl, ap, arith}
 use Rattle.der_base.specs.Header.{HeaderFault}
 use Rattle.der_base.specs.Length.{number}
 use Rattle.der_core.specs.Decode.{header_ahead, no_header}
