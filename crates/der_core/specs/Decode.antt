@@ -1,8 +1,10 @@
 -- What decoding answers.
-use Rattle.std.specs.Prelude.{◌≡◌, ℕ, ◌^◌, ◌<◌, ◌≤◌, ◌⊎◌, Bool, true, false, List, length, Result, Ok, Err, IsOk, IsErr, IsErrAnd, ◌+◌}
+use Rattle.std.specs.Prelude.{◌≡◌, ℕ, ◌^◌, ◌<◌, ◌≤◌, ◌⊎◌, Bool, true, false, List, length, Result, Ok, Err, IsOk, IsErr, IsErrAnd, IsTrue, ◌↔◌, ◌+◌}
 use Rattle.der_base.specs.Error.{at, bare}
 use Rattle.der_base.specs.Refusal.{Refusal}
+use Rattle.der_base.specs.Identifier.{IdentifierFault}
 use Rattle.der_base.specs.Length.{number}
+use Rattle.der_base.specs.Tag.{label}
 use Rattle.der_base.specs.Header.{TagAhead, HeaderAhead, HeaderFault}
 use Rattle.der_base.specs.declared.tag.Tag.{Tag}
 use Rattle.der_base.specs.declared.error.Error.{Error}
@@ -85,3 +87,10 @@ pub data ReaderDecodes {A E : Type 0} (answers : State → Result A E → State 
   had_failed : s.failed ≡ true → IsErrAnd result (λ e. converts (at Failed (here s)) e) → t ≡ stopped s s.position → ReaderDecodes answers converts s result t
   decodes : s.failed ≡ false → IsOk result → answers s result t → ReaderDecodes answers converts s result t
   refuses : (u : State) → s.failed ≡ false → IsErr result → answers s result u → t ≡ stopped u u.position → ReaderDecodes answers converts s result t
+
+-- whether the tag ahead has this class and number: none is ahead of a finished reader
+pub data MatchAnswers (class number : ℕ) (s : State) (answer : Result Bool Error) : Type 0 where
+  finished : s.position ≡ s.end → answer ≡ Ok false → MatchAnswers class number s answer
+  tag_ahead_is : (t : Tag) (matches : Bool) → Peeks tag_ahead IdentifierFault s (Ok t) → answer ≡ Ok matches
+      → (IsTrue matches ↔ (((label t).class ≡ class) × ((label t).number ≡ number))) → MatchAnswers class number s answer
+  no_tag : (e : Error) → s.position < s.end → Peeks tag_ahead IdentifierFault s (Err e) → answer ≡ Err e → MatchAnswers class number s answer

@@ -8,3 +8,4 @@ pub mod Decode
 pub mod Behind
 pub mod Resumption
 pub mod Nested
+pub mod Position

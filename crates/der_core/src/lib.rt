@@ -8,6 +8,7 @@
 pub mod decode;
 pub mod header;
 mod length;
+mod peek;
 pub mod reader;
 mod tag;
 #[cfg(test)]
@@ -20,6 +21,7 @@ pub use der_base::{
 };
 pub use header::{Header, decode_header};
 pub use length::decode_length;
+pub use peek::TagPeek;
 pub use reader::{
-    Octets, Reader, ReaderExt, Resumption, SliceReader, close_value, read_eoc, read_value,
+    Octets, Position, Reader, ReaderExt, Resumption, SliceReader, close_value, read_eoc, read_value,
 };

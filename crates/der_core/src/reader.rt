@@ -16,7 +16,7 @@ pub mod value;
 
 use der_base::{EncodingRules, Error, ErrorKind, Length};
 pub use extension::ReaderExt;
-pub use position::Resumption;
+pub use position::{Position, Resumption};
 pub use slice::SliceReader;
 use std::alloc::Global;
 pub use value::{close_value, read_eoc, read_value};

@@ -1,7 +1,126 @@
 //! Positions in an input, and parts of it.
 ghost use Rattle.std.specs.Prelude.{◌≡◌, ◌≤◌};
 
-use der_base::Length;
+use der_base::{Error, ErrorKind, Length};
+
+// how many parts may stand inside each other
+pub(crate) const MAX_DEPTH: u8 = 64;
+
+/// A position in an input, the end up to which may be read, and how many parts stand around it.
+#[derive(Clone, Debug, Drop)]
+pub struct Position {
+    end: u32,
+    position: u32,
+    depth: u8,
+}
+
+impl Position {
+    ghost use Rattle.std.specs.Prelude.{◌-◌};
+    ghost use Rattle.der_base.specs.Error.{at};
+    ghost use Rattle.der_base.specs.Length.{number, plain};
+    ghost use Rattle.der_core.specs.Outcome.{seen};
+    ghost use Rattle.der_core.specs.Position.{place, place_of, Moves, advance_outcome, split_nested_outcome};
+    ghost use Rattle.der_core.specs.Resumption.{outer, outer_end, outer_depth};
+
+    /// The beginning of an input of this length.
+    pub fn new(input_len: Length) -> Self
+        ensures { place result ≡ place_of (number input_len) 0 0 }
+    {
+        Position {
+            end: u32::from(input_len),
+            position: 0,
+            depth: 0,
+        }
+    }
+
+    /// The position, in octets from the beginning.
+    pub fn current(&self) -> Length
+        ensures { result ≡ plain (place self.now).position }
+    {
+        Length::new(self.position)
+    }
+
+    /// How far may be read.
+    pub fn input_len(&self) -> Length
+        ensures { result ≡ plain (place self.now).end }
+    {
+        Length::new(self.end)
+    }
+
+    /// How many octets are left, up to the end.
+    pub fn remaining_len(&self) -> Length
+        ensures { result ≡ plain ((place self.now).end - (place self.now).position) }
+    {
+        self.input_len().saturating_sub(self.current())
+    }
+
+    /// How many parts stand around the position.
+    pub fn depth(&self) -> u8
+        ensures { result ≡ (place self.now).depth }
+    {
+        self.depth
+    }
+
+    /// The error of this kind at the position.
+    pub fn error(&self, kind: ErrorKind) -> Error
+        ensures { result ≡ at kind (plain (place self.now).position) }
+    {
+        kind.at(self.current())
+    }
+
+    /// Passes so many octets and gives the new position. A position past 4294967295 is refused by
+    /// `Overflow` without a position, one past the end by `Incomplete` at the old position; both
+    /// leave it as it is.
+    pub fn advance(&mut self, amount: Length) -> Result<Length, Error>
+        ensures { Moves (advance_outcome (number amount)) (place self.old) result (place self.new) }
+    {
+        let count = u32::from(amount);
+        if count > u32::MAX - self.position {
+            return Err(ErrorKind::Overflow.to_error());
+        }
+        let stop = self.position + count;
+        if stop > self.end {
+            let kind = ErrorKind::Incomplete {
+                expected_len: Length::new(stop),
+                actual_len: self.input_len(),
+            };
+            return Err(self.error(kind));
+        }
+        self.position = stop;
+        Ok(Length::new(stop))
+    }
+
+    /// Enters a part of `len` octets and gives what to go back to. A part inside 64 others is
+    /// refused by `NestingDepth` at the position, one past 4294967295 by `Overflow` without a
+    /// position, one past the end by `Incomplete` at the end; all leave the position as it is.
+    pub fn split_nested(&mut self, len: Length) -> Result<Resumption, Error>
+        ensures { Moves (split_nested_outcome (number len)) (place self.old) (seen outer result) (place self.new) }
+    {
+        let count = u32::from(len);
+        if self.depth >= MAX_DEPTH {
+            return Err(self.error(ErrorKind::NestingDepth));
+        }
+        if count > u32::MAX - self.position {
+            return Err(ErrorKind::Overflow.to_error());
+        }
+        let stop = self.position + count;
+        if stop > self.end {
+            return Err(Error::incomplete(self.input_len()));
+        }
+        let around = Resumption::new(self.input_len(), self.depth);
+        self.end = stop;
+        self.depth += 1;
+        Ok(around)
+    }
+
+    /// Leaves a part: end and depth are again those around it.
+    pub fn resume_nested(&mut self, resumption: Resumption)
+        ensures { place self.new ≡ place_of (outer_end resumption) (place self.old).position (outer_depth resumption) }
+    {
+        self.end = u32::from(resumption.input_len());
+        self.depth = resumption.depth();
+    }
+}
 
 /// What a part that is left goes back to: the end and the depth around it.
 #[derive(Debug, Drop)]

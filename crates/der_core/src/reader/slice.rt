@@ -1,12 +1,10 @@
 //! Readers of a slice.
 ghost use Rattle.std.specs.Prelude.{◌≡◌, ℕ, ◌+◌, ◌-◌, ◌^◌, ◌<◌, ◌≤◌, ◌↔◌, Bool, true, false, length, IfOk, IfErr, IsOk};
 
+use crate::reader::position::MAX_DEPTH;
 use crate::reader::{Reader, Resumption};
 use der_base::{EncodingRules, Error, ErrorKind, Length};
 use std::alloc::{Allocator, Global};
-
-// how many parts may stand inside each other
-const MAX_DEPTH: u8 = 64;
 
 // how many octets `drain` passes in one step
 const STEP: u32 = 16;

@@ -1,0 +1,91 @@
+//! Tags and headers ahead of a reader, which stays.
+ghost use Rattle.std.specs.Prelude.{◌≡◌, ◌↔◌, true, IsTrue, IfOk, IfErr};
+ghost use Rattle.der_base.specs.Tag.{label};
+ghost use Rattle.der_base.specs.Class.{class_number};
+ghost use Rattle.der_base.specs.Header.{TagAhead, HeaderFault};
+ghost use Rattle.der_base.specs.Identifier.{IdentifierFault};
+ghost use Rattle.der_base.specs.declared.encoding_rules.EncodingRules.TheVariants.{Der};
+ghost use Rattle.der_core.specs.State.{Same};
+ghost use Rattle.der_core.specs.Outcome.{Owed};
+ghost use Rattle.der_core.specs.Refused.{Refused};
+ghost use Rattle.der_core.specs.Decode.{Passed, Peeks, MatchAnswers, header_ahead, tag_ahead};
+
+use crate::header::Header;
+use crate::reader::{Reader, ReaderExt};
+use crate::tag::decode_with_constructed_bit;
+use der_base::{Class, Error, Tag, TagNumber};
+
+/// Calls on the type `Tag` that want a reader.
+pub trait TagPeek: Sized {
+    /// The tag ahead, as decoding it would answer; the reader stays.
+    fn peek<R: Reader>(reader: &R) -> Result<Self, Error>;
+
+    /// Whether the tag ahead has this class and number; false where no octets are left. The reader
+    /// stays.
+    fn peek_matches<R: Reader>(
+        reader: &mut R,
+        expected_class: Class,
+        expected_tag_number: TagNumber,
+    ) -> Result<bool, Error>;
+
+    /// Decodes a tag (X.690 8.1.2), and tells the constructed bit of its identifier.
+    fn decode_with_constructed_bit<R: Reader>(reader: &mut R) -> Result<(Self, bool), Error>;
+}
+
+impl TagPeek for Tag {
+    fn peek<R: Reader>(reader: &R) -> Result<Self, Error>
+        ensures { Owed R.reliable result → Peeks tag_ahead IdentifierFault (R.state reader.now) result }
+    {
+        match reader.peek_tag() {
+            Ok(tag) => Ok(tag),
+            Err(error) => Err(error),
+        }
+    }
+
+    fn peek_matches<R: Reader>(
+        reader: &mut R,
+        expected_class: Class,
+        expected_tag_number: TagNumber,
+    ) -> Result<bool, Error>
+        ensures stays { R.state reader.new ≡ R.state reader.old }
+        ensures exact { Owed R.reliable result → MatchAnswers (class_number expected_class) expected_tag_number.0 (R.state reader.old) result }
+    {
+        if reader.is_finished() {
+            return Ok(false);
+        }
+        match reader.peek_tag() {
+            Ok(tag) => Ok(has(tag, expected_class, expected_tag_number)),
+            Err(error) => Err(error),
+        }
+    }
+
+    fn decode_with_constructed_bit<R: Reader>(reader: &mut R) -> Result<(Self, bool), Error>
+        ensures same { Same (R.state reader.old) (R.state reader.new) }
+        ensures ok { IfOk result (λ r. Passed (λ rules octets m. TagAhead rules octets r.0 r.1 m) (R.state reader.old) (R.state reader.new)) }
+        ensures exact { R.reliable ≡ true → IfErr result (λ e. (R.state reader.old).rules ≡ Der → Refused IdentifierFault (R.state reader.old) e (R.state reader.new)) }
+    {
+        match decode_with_constructed_bit(reader) {
+            Ok(identifier) => Ok(identifier),
+            Err(error) => Err(error),
+        }
+    }
+}
+
+// Whether a tag has this class and number.
+fn has(tag: Tag, class: Class, number: TagNumber) -> bool
+    ensures { IsTrue result ↔ (((label tag).class ≡ class_number class) × ((label tag).number ≡ number.0)) }
+{
+    tag.class() == class && tag.number() == number
+}
+
+impl Header {
+    /// The header ahead, as [`decode_header`](crate::decode_header) would answer; the reader stays.
+    pub fn peek<R: Reader>(reader: &R) -> Result<Self, Error>
+        ensures { Owed R.reliable result → Peeks header_ahead HeaderFault (R.state reader.now) result }
+    {
+        match reader.peek_header() {
+            Ok(header) => Ok(header),
+            Err(error) => Err(error),
+        }
+    }
+}
