@@ -7,10 +7,13 @@ use crate::{
 use std::alloc::Global;
 use std::test::Fail;
 
+mod ahead;
 mod headers;
 mod lengths;
+mod nested;
 mod readers;
 mod tags;
+mod unlent;
 
 fn incomplete(expected: u32, actual: u32, position: u32) -> Error {
     ErrorKind::Incomplete {

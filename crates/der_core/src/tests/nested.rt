@@ -1,0 +1,184 @@
+ghost use Rattle.der_core.specs.SliceReader.{slice_state};
+ghost use Rattle.der_core.specs.State.{Same};
+
+use super::*;
+use crate::{Position, read_eoc, read_value};
+
+fn trailing(decoded: u32, remaining: u32) -> Error {
+    ErrorKind::TrailingData {
+        decoded: Length::new(decoded),
+        remaining: Length::new(remaining),
+    }
+    .at(Length::new(decoded))
+}
+
+fn read_one(reader: &mut SliceReader<'_>) -> Result<u8, Error>
+    ensures { Same (slice_state reader.old) (slice_state reader.new) }
+{
+    reader.read_byte()
+}
+
+fn read_header(reader: &mut SliceReader<'_>) -> Result<Header, Error>
+    ensures { Same (slice_state reader.old) (slice_state reader.new) }
+{
+    decode_header(reader)
+}
+
+fn read_none(reader: &mut SliceReader<'_>) -> Result<(), Error>
+    ensures { Same (slice_state reader.old) (slice_state reader.new) }
+{
+    let _ = reader.position();
+    Ok(())
+}
+
+#[test]
+fn a_part_is_read_to_its_end(rt: HostRuntime) -> Result<(), Fail> {
+    let octets = [0x01, 0x02];
+    let mut reader = SliceReader::new(&octets)?;
+    assert_eq!(rt; reader.read_nested(Length::ONE, read_one), Ok(0x01));
+    assert_eq!(rt; reader.position(), Length::ONE);
+    assert_eq!(rt; reader.input_len(), Length::new(2));
+    Ok(())
+}
+
+#[test]
+fn a_part_with_octets_left(rt: HostRuntime) -> Result<(), Fail> {
+    let octets = [0x01, 0x02];
+    let mut reader = SliceReader::new(&octets)?;
+    assert_eq!(rt;
+        reader.read_nested(Length::new(2), read_one),
+        Err(trailing(1, 1))
+    );
+    assert!(rt; reader.is_failed());
+    Ok(())
+}
+
+#[test]
+fn a_part_past_the_end(rt: HostRuntime) -> Result<(), Fail> {
+    let octets = [0x01, 0x02, 0x03];
+    let mut reader = SliceReader::new(&octets)?;
+    assert_eq!(rt; reader.read_byte(), Ok(0x01));
+    let past = Err(incomplete(4, 3, 3));
+    assert_eq!(rt; reader.read_nested(Length::new(3), read_one), past);
+    assert!(rt; !reader.is_failed());
+    assert_eq!(rt; reader.position(), Length::ONE);
+    let overflow = Err(ErrorKind::Overflow.to_error());
+    assert_eq!(rt; reader.read_nested(Length::MAX, read_one), overflow);
+    Ok(())
+}
+
+#[test]
+fn a_sequence_that_is_not_read_whole(rt: HostRuntime) -> Result<(), Fail> {
+    let octets = [0x30, 0x03, 0x05, 0x00, 0x00];
+    let mut reader = SliceReader::new(&octets)?;
+    assert_eq!(rt; reader.sequence(read_header), Err(trailing(4, 1)));
+    assert!(rt; reader.is_failed());
+    Ok(())
+}
+
+#[test]
+fn a_sequence(rt: HostRuntime) -> Result<(), Fail> {
+    let octets = [0x30, 0x02, 0x05, 0x00, 0x01];
+    let mut reader = SliceReader::new(&octets)?;
+    let null = Header::new(Tag::Null, Length::ZERO);
+    assert_eq!(rt; reader.sequence(read_header), Ok(null));
+    assert_eq!(rt; reader.position(), Length::new(4));
+    assert_eq!(rt; reader.remaining_len(), Length::ONE);
+    Ok(())
+}
+
+#[test]
+fn no_sequence(rt: HostRuntime) -> Result<(), Fail> {
+    let set = [0x31, 0x00];
+    let mut reader = SliceReader::new(&set)?;
+    let unexpected = ErrorKind::TagUnexpected {
+        expected: Some(Tag::Sequence),
+        actual: Tag::Set,
+    };
+    assert_eq!(rt; reader.sequence(read_none), Err(unexpected.to_error()));
+    assert_eq!(rt; reader.position(), Length::new(2));
+    assert!(rt; !reader.is_failed());
+    let cut = [0x30, 0x04, 0x05, 0x00];
+    let mut reader = SliceReader::new(&cut)?;
+    assert_eq!(rt; reader.sequence(read_none), Err(incomplete(5, 4, 4)));
+    assert_eq!(rt; reader.position(), Length::new(2));
+    assert!(rt; !reader.is_failed());
+    Ok(())
+}
+
+fn dive(reader: &mut SliceReader<'_>, levels: u8) -> Result<(), Error> {
+    for _level in 0..levels {
+        let _ = reader.enter_nested(Length::ZERO)?;
+    }
+    Ok(())
+}
+
+#[test]
+fn parts_inside_each_other(rt: HostRuntime) -> Result<(), Fail> {
+    let mut reader = SliceReader::new(&[])?;
+    dive(&mut reader, 64)?;
+    assert!(rt; !reader.is_failed());
+    let too_deep = ErrorKind::NestingDepth.at(Length::ZERO);
+    assert_eq!(rt; reader.enter_nested(Length::ZERO).err(), Some(too_deep));
+    assert!(rt; reader.is_failed());
+    assert_eq!(rt; reader.input_len(), Length::ZERO);
+    Ok(())
+}
+
+#[test]
+fn positions(rt: HostRuntime) -> Result<(), Fail> {
+    let mut position = Position::new(Length::new(42));
+    assert_eq!(rt; position.advance(Length::ONE), Ok(Length::ONE));
+    assert_eq!(rt; position.advance(Length::new(41)), Ok(Length::new(42)));
+    assert_eq!(rt; position.advance(Length::ONE), Err(incomplete(43, 42, 42)));
+    assert_eq!(rt; position.current(), Length::new(42));
+    let mut position = Position::new(Length::new(42));
+    let resumption = position.split_nested(Length::ONE)?;
+    assert_eq!(rt; resumption.input_len(), Length::new(42));
+    assert_eq!(rt; position.advance(Length::ONE), Ok(Length::ONE));
+    assert_eq!(rt; position.advance(Length::ONE), Err(incomplete(2, 1, 1)));
+    position.resume_nested(resumption);
+    assert_eq!(rt; position.current(), Length::ONE);
+    assert_eq!(rt; position.input_len(), Length::new(42));
+    assert_eq!(rt; position.remaining_len(), Length::new(41));
+    let past = position.split_nested(Length::new(42)).err();
+    assert_eq!(rt; past, Some(incomplete(43, 42, 42)));
+    assert_eq!(rt; position.current(), Length::ONE);
+    assert_eq!(rt; position.depth(), 0);
+    assert_eq!(rt;
+        position.error(ErrorKind::Failed),
+        ErrorKind::Failed.at(Length::ONE)
+    );
+    Ok(())
+}
+
+#[test]
+fn a_value_and_its_end_marks(rt: HostRuntime) -> Result<(), Fail> {
+    let octets = [0x07, 0x00, 0x00, 0x05];
+    let mut reader = SliceReader::new(&octets)?;
+    let header = Header::new(Tag::OctetString, Length::new_indefinite(3));
+    let read = read_value(&mut reader, header, read_contents);
+    assert_eq!(rt; read, Ok((0x07, Length::new_indefinite(1))));
+    assert_eq!(rt; reader.position(), Length::new(3));
+    let mut reader = SliceReader::new(&octets)?;
+    let plain = Header::new(Tag::OctetString, Length::ONE);
+    assert_eq!(rt;
+        read_value(&mut reader, plain, read_contents),
+        Ok((0x07, Length::ONE))
+    );
+    assert_eq!(rt; read_eoc(&mut reader), Ok(()));
+    assert_eq!(rt; reader.position(), Length::new(3));
+    let wrong = ErrorKind::IndefiniteLength.at(Length::new(4));
+    assert_eq!(rt; read_eoc(&mut reader), Err(wrong));
+    assert!(rt; reader.is_failed());
+    Ok(())
+}
+
+fn read_contents(reader: &mut SliceReader<'_>, header: Header) -> Result<(u8, Length), Error>
+    ensures { Same (slice_state reader.old) (slice_state reader.new) }
+{
+    match reader.read_byte() {
+        Ok(octet) => Ok((octet, header.length())),
+        Err(error) => Err(error),
+    }
+}
