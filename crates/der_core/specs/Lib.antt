@@ -6,3 +6,5 @@ pub mod Refused
 pub mod Header
 pub mod Decode
 pub mod Behind
+pub mod Writer
+pub mod SliceWriter

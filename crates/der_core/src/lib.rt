@@ -10,6 +10,7 @@ pub mod header;
 mod length;
 pub mod reader;
 mod tag;
+pub mod writer;
 
 pub use decode::{Decode, DecodeBytes, DecodeError};
 pub use der_base::{
@@ -19,3 +20,4 @@ pub use der_base::{
 pub use header::Header;
 pub use length::decode_length;
 pub use reader::{Octets, Reader, ReaderExt, SliceReader};
+pub use writer::{SliceWriter, Writer};

@@ -1,0 +1,39 @@
+//! Writers of octets.
+ghost use Rattle.std.specs.Prelude.{◌≡◌, ◌+◌, ◌≤◌, Bool, true, false, [], ◌∷◌, length, OnOk, IsOk};
+ghost use Rattle.der_core.specs.Writer.{WriterState, Kept, Writes, appended, write_outcome};
+
+pub mod slice;
+
+pub use slice::SliceWriter;
+
+use der_base::Error;
+
+/// A writer of octets: what was written, how much room there is, and whether it has failed.
+///
+/// A writer that has not failed takes every write that fits into its room. One that is reliable
+/// refuses exactly as the table of a call says; a writer that vows nothing counts as failed.
+pub trait Writer {
+    ghost state: { Self → WriterState };
+
+    ghost reliable: { Bool };
+
+    /// Appends the octets. A failed writer refuses by `Failed` at its position. Where the end
+    /// would pass 4294967295 octets, that is `Overflow` at the position, and where there is no
+    /// room `Overlength` at the end that was wished; the writer has then failed, and its position
+    /// stands.
+    fn write(&mut self, octets: &[u8]) -> Result<(), Error>
+        ensures kept { Kept (state self.old) (state self.new) }
+        ensures ok { OnOk result (state self.new ≡ appended (state self.old) octets.now) }
+        ensures succeeds { (state self.old).failed ≡ false → length (state self.old).octets + length octets.now ≤ (state self.old).stop → IsOk result }
+        ensures exact { reliable ≡ true → Writes (write_outcome octets.now (state self.old)) result (state self.new) };
+
+    /// Appends one octet, as [`Writer::write`] does.
+    final fn write_byte(&mut self, octet: u8) -> Result<(), Error>
+        ensures kept { Kept (Self.state self.old) (Self.state self.new) }
+        ensures ok { OnOk result (Self.state self.new ≡ appended (Self.state self.old) (octet ∷ [])) }
+        ensures succeeds { (Self.state self.old).failed ≡ false → length (Self.state self.old).octets + 1 ≤ (Self.state self.old).stop → IsOk result }
+        ensures exact { Self.reliable ≡ true → Writes (write_outcome (octet ∷ []) (Self.state self.old)) result (Self.state self.new) }
+    {
+        self.write(&[octet])
+    }
+}
