@@ -1,3 +1,4 @@
 pub mod StateLemmas
 pub mod TagReadLemmas
 pub mod LengthReadLemmas
+pub mod EncodeLemmas

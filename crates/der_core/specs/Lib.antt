@@ -8,3 +8,4 @@ pub mod Decode
 pub mod Behind
 pub mod Writer
 pub mod SliceWriter
+pub mod Encode

@@ -6,6 +6,7 @@
 #![tactic(auto)]
 
 pub mod decode;
+pub mod encode;
 pub mod header;
 mod length;
 pub mod reader;
@@ -17,7 +18,9 @@ pub use der_base::{
     CLASS_APPLICATION, CLASS_CONTEXT_SPECIFIC, CLASS_PRIVATE, CLASS_UNIVERSAL, Class,
     EncodingRules, Error, ErrorKind, Length, Result, Tag, TagMode, TagNumber,
 };
+pub use encode::{Encode, EncodeValue, WrittenValue, encode_tlv, encoded_len_tlv};
 pub use header::Header;
 pub use length::decode_length;
 pub use reader::{Octets, Reader, ReaderExt, SliceReader};
+pub use tag::fixed::{FixedTag, IsConstructed, Tagged};
 pub use writer::{SliceWriter, Writer};

@@ -1,0 +1,94 @@
+//! Encoding.
+ghost use Rattle.std.specs.Prelude.{◌≡◌, ℕ, ◌+◌, ◌^◌, ◌<◌, ◌≤◌, false, true, Bool, List, ◌++◌, length, OnOk, IfOk, IsOk, Result as AResult};
+ghost use Rattle.der_base.specs.Length.{number};
+ghost use Rattle.der_base.specs.Header.{header_octets};
+ghost use Rattle.der_base.specs.declared.error.Error.{Error as AnError};
+ghost use Rattle.der_base.specs.declared.length.Length.{Length as ALength};
+ghost use Rattle.der_core.specs.Writer.{WriterState, Kept, appended};
+ghost use Rattle.der_core.specs.Encode.{element_size, ElementAnswers};
+
+mod header;
+mod length;
+mod tag;
+pub mod value;
+
+pub use value::{EncodeValue, WrittenValue};
+
+use crate::tag::fixed::Tagged;
+use crate::writer::Writer;
+use der_base::{Error, Length};
+
+/// Types whose values are written as octets.
+///
+/// `encoding` is the octets of a value, `encodable` whether it can be written at all. `size` is the
+/// exact answer of [`Encode::encoded_len`], and `answers` the exact outcome of [`Encode::encode`] on
+/// a reliable writer, refusals and their states included.
+pub trait Encode {
+    ghost encoding: { Self → List ℕ };
+
+    ghost encodable: { Self → Type 0 };
+
+    ghost size: { Self → AResult ALength AnError };
+
+    ghost answers: { Self → WriterState → AResult (Unit {0}) AnError → WriterState → Type 0 };
+
+    /// How many octets the encoding has.
+    fn encoded_len(&self) -> Result<Length, Error>
+        ensures ok { IfOk result (λ l. number l ≡ length (encoding self.now)) }
+        ensures succeeds { encodable self.now → length (encoding self.now) < 2 ^ 32 → IsOk result }
+        ensures exact { result ≡ size self.now };
+
+    /// Writes the encoding.
+    fn encode<W: Writer>(&self, writer: &mut W) -> Result<(), Error>
+        ensures kept { Kept (W.state writer.old) (W.state writer.new) }
+        ensures ok { OnOk result (W.state writer.new ≡ appended (W.state writer.old) (encoding self.now)) }
+        ensures succeeds { encodable self.now → length (encoding self.now) < 2 ^ 32 → (W.state writer.old).failed ≡ false → length (W.state writer.old).octets + length (encoding self.now) ≤ (W.state writer.old).stop → IsOk result }
+        ensures exact { W.reliable ≡ true → answers self.now (W.state writer.old) result (W.state writer.new) };
+}
+
+impl<T: EncodeValue + Tagged> Encode for T {
+    ghost encoding = { λ v. header_octets (T.tag_of v) (length (T.contents v)) ++ T.contents v };
+
+    ghost encodable = { T.writable };
+
+    ghost size = { λ v. element_size (T.tag_of v) (T.value_size v) };
+
+    ghost answers = { λ v. ElementAnswers (T.tag_of v) (T.value_size v) (T.value_answers v) };
+
+    fn encoded_len(&self) -> Result<Length, Error> {
+        encoded_len_tlv(self)
+    }
+
+    fn encode<W: Writer>(&self, writer: &mut W) -> Result<(), Error> {
+        encode_tlv(self, writer)
+    }
+}
+
+/// How many octets the element of a value has: its tag, its length, and its contents.
+pub fn encoded_len_tlv<T: EncodeValue + Tagged>(value: &T) -> Result<Length, Error>
+    ensures ok { IfOk result (λ l. number l ≡ length (header_octets (T.tag_of value.now) (length (T.contents value.now)) ++ T.contents value.now)) }
+    ensures succeeds { T.writable value.now → length (header_octets (T.tag_of value.now) (length (T.contents value.now)) ++ T.contents value.now) < 2 ^ 32 → IsOk result }
+    ensures exact { result ≡ element_size (T.tag_of value.now) (T.value_size value.now) }
+{
+    match value.value_len() {
+        Ok(len) => len.for_tlv(value.tag()),
+        Err(error) => Err(error),
+    }
+}
+
+/// Writes the element of a value: its header, and then its contents (X.690 8.1.1).
+pub fn encode_tlv<T: EncodeValue + Tagged, W: Writer>(value: &T, writer: &mut W) -> Result<(), Error>
+    ensures kept { Kept (W.state writer.old) (W.state writer.new) }
+    ensures ok { OnOk result (W.state writer.new ≡ appended (W.state writer.old) (header_octets (T.tag_of value.now) (length (T.contents value.now)) ++ T.contents value.now)) }
+    ensures succeeds { T.writable value.now → length (header_octets (T.tag_of value.now) (length (T.contents value.now)) ++ T.contents value.now) < 2 ^ 32 → (W.state writer.old).failed ≡ false → length (W.state writer.old).octets + length (header_octets (T.tag_of value.now) (length (T.contents value.now)) ++ T.contents value.now) ≤ (W.state writer.old).stop → IsOk result }
+    ensures exact { W.reliable ≡ true → ElementAnswers (T.tag_of value.now) (T.value_size value.now) (T.value_answers value.now) (W.state writer.old) result (W.state writer.new) }
+{
+    let header = match value.header() {
+        Ok(header) => header,
+        Err(error) => return Err(error),
+    };
+    match header.encode(writer) {
+        Ok(()) => value.encode_value(writer),
+        Err(error) => Err(error),
+    }
+}

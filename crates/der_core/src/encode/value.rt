@@ -1,0 +1,58 @@
+//! Encoding of contents.
+ghost use Rattle.std.specs.Prelude.{◌≡◌, ℕ, ◌+◌, ◌^◌, ◌<◌, ◌≤◌, false, true, List, length, OnOk, IfOk, IsOk, Result as AResult};
+ghost use Rattle.der_base.specs.Length.{number};
+ghost use Rattle.der_base.specs.declared.error.Error.{Error as AnError};
+ghost use Rattle.der_base.specs.declared.length.Length.{Length as ALength};
+ghost use Rattle.der_core.specs.Header.{head_of};
+ghost use Rattle.der_core.specs.Writer.{WriterState, Kept, appended};
+ghost use Rattle.der_core.specs.Encode.{HeaderAnswers};
+
+use crate::header::Header;
+use crate::tag::fixed::Tagged;
+use crate::writer::Writer;
+use der_base::{Error, Length};
+
+/// What a value means when it is written: the octets of its contents, and whether it can be
+/// written.
+pub trait WrittenValue {
+    ghost contents: { Self → List ℕ };
+
+    ghost writable: { Self → Type 0 };
+}
+
+/// Types whose values have contents, which stand behind a header.
+///
+/// `value_size` is the exact answer of [`EncodeValue::value_len`], and `value_answers` the exact
+/// outcome of [`EncodeValue::encode_value`] on a reliable writer.
+pub trait EncodeValue: WrittenValue {
+    ghost value_size: { Self → AResult ALength AnError };
+
+    ghost value_answers: { Self → WriterState → AResult (Unit {0}) AnError → WriterState → Type 0 };
+
+    /// The header of the value's element: its tag, and the number of octets of its contents.
+    fn header(&self) -> Result<Header, Error>
+    where
+        Self: Tagged,
+        ensures ok { IfOk result (λ h. ((head_of h).tag ≡ Self.tag_of self.now) × (number (head_of h).length ≡ length (Self.contents self.now))) }
+        ensures succeeds { Self.writable self.now → length (Self.contents self.now) < 2 ^ 32 → IsOk result }
+        ensures exact { HeaderAnswers (Self.tag_of self.now) (value_size self.now) result }
+    {
+        match self.value_len() {
+            Ok(len) => Ok(Header::new(self.tag(), len)),
+            Err(error) => Err(error),
+        }
+    }
+
+    /// How many octets the contents have.
+    fn value_len(&self) -> Result<Length, Error>
+        ensures ok { IfOk result (λ l. number l ≡ length (Self.contents self.now)) }
+        ensures succeeds { Self.writable self.now → length (Self.contents self.now) < 2 ^ 32 → IsOk result }
+        ensures exact { result ≡ value_size self.now };
+
+    /// Writes the contents.
+    fn encode_value<W: Writer>(&self, writer: &mut W) -> Result<(), Error>
+        ensures kept { Kept (W.state writer.old) (W.state writer.new) }
+        ensures ok { OnOk result (W.state writer.new ≡ appended (W.state writer.old) (Self.contents self.now)) }
+        ensures succeeds { Self.writable self.now → length (Self.contents self.now) < 2 ^ 32 → (W.state writer.old).failed ≡ false → length (W.state writer.old).octets + length (Self.contents self.now) ≤ (W.state writer.old).stop → IsOk result }
+        ensures exact { W.reliable ≡ true → value_answers self.now (W.state writer.old) result (W.state writer.new) };
+}
