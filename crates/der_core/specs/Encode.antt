@@ -58,3 +58,45 @@ abbrev pub ElementAnswers : Tag → Result Length Error → WriterAnswer → Wri
 ElementAnswers t (Ok l) contents s r u =
     ThenAnswers (header_outcome t (number l) s).answer (header_outcome t (number l) s).after contents s r u
 ElementAnswers t (Err e) contents s r u = (r ≡ Err e) × (u ≡ s)
+
+-- what a finished writer answers: the octets written, where it has not failed
+abbrev pub finish_answer : WriterState → Result (List ℕ) Error
+finish_answer t = if t.failed then Err (at Failed (here t)) else Ok t.octets
+
+-- the same after an answer, which comes first if it is an error
+abbrev pub finished : Result (Unit {0}) Error → WriterState → Result (List ℕ) Error
+finished (Ok _) t = finish_answer t
+finished (Err e) t = Err e
+
+-- what is answered where a writer over n octets is written to and finished
+abbrev pub SliceAnswer : WriterAnswer → ℕ → Result (List ℕ) Error → Type 0
+SliceAnswer answers n result =
+    (reference : ℕ) × (r : Result (Unit {0}) Error) × (t : WriterState) × answers (fresh n reference) r t × (result ≡ finished r t)
+
+-- why an encoding, of this size and with these answers, is not appended to so many octets: no size;
+-- more octets than a vector can have; memory refused; or refused by what writes into that room
+pub data NotAppended (size : Result Length Error) (answers : WriterAnswer) (before : ℕ) : Error → Type 0 where
+  no_size : (e : Error) → size ≡ Err e → NotAppended size answers before e
+  too_many : (l : Length) → size ≡ Ok l → 2 ^ 64 ≤ before + number l → NotAppended size answers before (bare Overflow)
+  no_memory : (l : Length) → size ≡ Ok l → before + number l < 2 ^ 64 → NotAppended size answers before (bare OutOfMemory)
+  not_written : (l : Length) (reference : ℕ) (e : Error) (t : WriterState) → size ≡ Ok l → answers (fresh (number l) reference) (Err e) t
+      → NotAppended size answers before e
+
+-- an error's position, or the writer's where it has none
+abbrev pub placed_at : Option Length → WriterState → Error → Error
+placed_at None t e = at (kind_of e) (here t)
+placed_at (Some p) t e = e
+
+abbrev pub placed : WriterState → Result (Unit {0}) Error → Result (Unit {0}) Error
+placed t (Ok u) = Ok u
+placed t (Err e) = Err (placed_at (position_of e) t e)
+
+-- failed after an error
+abbrev pub left_by : Result (Unit {0}) Error → WriterState → WriterState
+left_by (Ok _) t = t
+left_by (Err e) t = fallen t
+
+-- what a slice writer that has not failed answers to a value, and how it is left
+abbrev pub PlacedAnswer : WriterAnswer → WriterAnswer
+PlacedAnswer answers s result u =
+    (r : Result (Unit {0}) Error) × (t : WriterState) × answers s r t × (result ≡ placed t r) × (u ≡ left_by r t)

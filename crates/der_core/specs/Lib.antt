@@ -9,3 +9,4 @@ pub mod Behind
 pub mod Writer
 pub mod SliceWriter
 pub mod Encode
+pub mod Sequence

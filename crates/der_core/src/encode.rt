@@ -1,22 +1,28 @@
 //! Encoding.
-ghost use Rattle.std.specs.Prelude.{◌≡◌, ℕ, ◌+◌, ◌^◌, ◌<◌, ◌≤◌, false, true, Bool, List, ◌++◌, length, OnOk, IfOk, IsOk, Result as AResult};
-ghost use Rattle.der_base.specs.Length.{number};
+ghost use Rattle.std.specs.Prelude.{◌≡◌, ℕ, ◌+◌, ◌^◌, ◌<◌, ◌≤◌, ◌⊎◌, false, true, List, ◌++◌, length, Err, OnOk, OnErr, IfOk, IfErr, IsOk, IsErrAnd, Result as AResult};
+ghost use Rattle.der_base.specs.Length.{number, plain};
+ghost use Rattle.der_base.specs.Error.{bare};
+ghost use Rattle.der_base.specs.declared.error.ErrorKind.TheVariants.{OutOfMemory};
 ghost use Rattle.der_base.specs.Header.{header_octets};
 ghost use Rattle.der_base.specs.declared.error.Error.{Error as AnError};
 ghost use Rattle.der_base.specs.declared.length.Length.{Length as ALength};
 ghost use Rattle.der_core.specs.Writer.{WriterState, Kept, appended};
-ghost use Rattle.der_core.specs.Encode.{element_size, ElementAnswers};
+ghost use Rattle.der_core.specs.Outcome.{seen};
+ghost use Rattle.der_core.specs.Encode.{element_size, ElementAnswers, SliceAnswer, NotAppended};
 
 mod header;
 mod length;
 mod tag;
 pub mod value;
+mod vec;
 
-pub use value::{EncodeValue, WrittenValue};
+pub use value::{EncodeValue, WrittenValue, encode_value_to_slice};
 
 use crate::tag::fixed::Tagged;
-use crate::writer::Writer;
+use crate::encode::vec::{append, to_der_in};
+use crate::writer::{SliceWriter, Writer};
 use der_base::{Error, Length};
+use std::alloc::Global;
 
 /// Types whose values are written as octets.
 ///
@@ -44,6 +50,42 @@ pub trait Encode {
         ensures ok { OnOk result (W.state writer.new ≡ appended (W.state writer.old) (encoding self.now)) }
         ensures succeeds { encodable self.now → length (encoding self.now) < 2 ^ 32 → (W.state writer.old).failed ≡ false → length (W.state writer.old).octets + length (encoding self.now) ≤ (W.state writer.old).stop → IsOk result }
         ensures exact { W.reliable ≡ true → answers self.now (W.state writer.old) result (W.state writer.new) };
+
+    /// Writes the encoding to the beginning of the buffer, and answers it. Takes no memory. After a
+    /// refusal nothing is promised of the buffer.
+    final fn encode_to_slice<'b>(&self, buf: &'b mut [u8]) -> Result<&'b [u8], Error>
+        ensures ok { IfOk result (λ r. r.now ≡ Self.encoding self.now) }
+        ensures succeeds { Self.encodable self.now → length (Self.encoding self.now) < 2 ^ 32 → length (Self.encoding self.now) ≤ length buf.old → IsOk result }
+        ensures exact { SliceAnswer (Self.answers self.now) (length buf.old) (seen (λ r. r.now) result) }
+    {
+        let mut writer = SliceWriter::new(buf);
+        match self.encode(&mut writer) {
+            Ok(()) => writer.finish(),
+            Err(error) => Err(error),
+        }
+    }
+
+    /// Appends the encoding, and answers its number of octets. Where the vector would pass the
+    /// greatest `usize` that is `Overflow`, where memory is refused `OutOfMemory`, both without a
+    /// position. After each refusal the vector's contents are as before.
+    final fn encode_to_vec(&self, out: &mut Vec<u8>) -> Result<Length, Error>
+        ensures ok { OnOk result (out.new.items ≡ out.old.items ++ Self.encoding self.now) }
+        ensures count { IfOk result (λ l. l ≡ plain (length (Self.encoding self.now))) }
+        ensures refused { OnErr result (out.new.items ≡ out.old.items) }
+        ensures succeeds { Self.encodable self.now → length (Self.encoding self.now) < 2 ^ 32 → length out.old.items + length (Self.encoding self.now) < 2 ^ 64 → IsOk result ⊎ (result ≡ Err (bare OutOfMemory)) }
+        ensures exact { IfErr result (NotAppended (Self.size self.now) (Self.answers self.now) (length out.old.items)) }
+    {
+        append(self, out)
+    }
+
+    /// The encoding; `OutOfMemory` without a position where memory is refused.
+    final fn to_der(&self, alloc: Global) -> Result<Vec<u8>, Error>
+        ensures ok { IfOk result (λ v. v.items ≡ Self.encoding self.now) }
+        ensures succeeds { Self.encodable self.now → length (Self.encoding self.now) < 2 ^ 32 → IsOk result ⊎ IsErrAnd result (λ e. e ≡ bare OutOfMemory) }
+        ensures exact { IfErr result (NotAppended (Self.size self.now) (Self.answers self.now) 0) }
+    {
+        to_der_in(alloc, self)
+    }
 }
 
 impl<T: EncodeValue + Tagged> Encode for T {

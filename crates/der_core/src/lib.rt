@@ -7,6 +7,7 @@
 
 pub mod decode;
 pub mod encode;
+pub mod encode_ref;
 pub mod header;
 mod length;
 pub mod reader;
@@ -18,7 +19,10 @@ pub use der_base::{
     CLASS_APPLICATION, CLASS_CONTEXT_SPECIFIC, CLASS_PRIVATE, CLASS_UNIVERSAL, Class,
     EncodingRules, Error, ErrorKind, Length, Result, Tag, TagMode, TagNumber,
 };
-pub use encode::{Encode, EncodeValue, WrittenValue, encode_tlv, encoded_len_tlv};
+pub use encode::{
+    Encode, EncodeValue, WrittenValue, encode_tlv, encode_value_to_slice, encoded_len_tlv,
+};
+pub use encode_ref::{EncodeRef, EncodeValueRef};
 pub use header::Header;
 pub use length::decode_length;
 pub use reader::{Octets, Reader, ReaderExt, SliceReader};

@@ -4,12 +4,13 @@ ghost use Rattle.der_base.specs.Length.{number};
 ghost use Rattle.der_base.specs.declared.error.Error.{Error as AnError};
 ghost use Rattle.der_base.specs.declared.length.Length.{Length as ALength};
 ghost use Rattle.der_core.specs.Header.{head_of};
+ghost use Rattle.der_core.specs.Outcome.{seen};
 ghost use Rattle.der_core.specs.Writer.{WriterState, Kept, appended};
-ghost use Rattle.der_core.specs.Encode.{HeaderAnswers};
+ghost use Rattle.der_core.specs.Encode.{HeaderAnswers, SliceAnswer};
 
 use crate::header::Header;
 use crate::tag::fixed::Tagged;
-use crate::writer::Writer;
+use crate::writer::{SliceWriter, Writer};
 use der_base::{Error, Length};
 
 /// What a value means when it is written: the octets of its contents, and whether it can be
@@ -55,4 +56,21 @@ pub trait EncodeValue: WrittenValue {
         ensures ok { OnOk result (W.state writer.new ≡ appended (W.state writer.old) (Self.contents self.now)) }
         ensures succeeds { Self.writable self.now → length (Self.contents self.now) < 2 ^ 32 → (W.state writer.old).failed ≡ false → length (W.state writer.old).octets + length (Self.contents self.now) ≤ (W.state writer.old).stop → IsOk result }
         ensures exact { W.reliable ≡ true → value_answers self.now (W.state writer.old) result (W.state writer.new) };
+}
+
+/// Writes the contents to the beginning of the buffer, and answers them. Takes no memory. After a
+/// refusal nothing is promised of the buffer.
+pub fn encode_value_to_slice<'a, T: EncodeValue>(
+    buf: &'a mut [u8],
+    value: &T,
+) -> Result<&'a [u8], Error>
+    ensures ok { IfOk result (λ r. r.now ≡ T.contents value.now) }
+    ensures succeeds { T.writable value.now → length (T.contents value.now) < 2 ^ 32 → length (T.contents value.now) ≤ length buf.old → IsOk result }
+    ensures exact { SliceAnswer (T.value_answers value.now) (length buf.old) (seen (λ r. r.now) result) }
+{
+    let mut writer = SliceWriter::new(buf);
+    match value.encode_value(&mut writer) {
+        Ok(()) => writer.finish(),
+        Err(error) => Err(error),
+    }
 }
