@@ -1,8 +1,10 @@
 //! Writers into a slice.
-ghost use Rattle.std.specs.Prelude.{◌≡◌, ◌+◌, ◌-◌, ◌^◌, ◌<◌, ◌≤◌, true, false, length, Err, IfOk, IfErr, IsOk};
+ghost use Rattle.std.specs.Prelude.{◌≡◌, ◌+◌, ◌-◌, ◌^◌, ◌<◌, ◌≤◌, true, false, length, Err, OnOk, IfOk, IfErr, IsOk};
 
+use crate::encode::Encode;
+use crate::header::Header;
 use crate::writer::Writer;
-use der_base::{Error, ErrorKind, Length};
+use der_base::{Error, ErrorKind, Length, Tag};
 
 /// A writer into a slice, which takes no memory. It writes at most 4294967295 octets.
 ///
@@ -24,7 +26,10 @@ pub struct SliceWriter<'a> {
 impl<'a> SliceWriter<'a> {
     ghost use Rattle.der_base.specs.Error.{at};
     ghost use Rattle.der_base.specs.declared.error.ErrorKind.TheVariants.{Failed};
-    ghost use Rattle.der_core.specs.Writer.{fresh, here, fallen, with_room, Kept, Writes};
+    ghost use Rattle.der_base.specs.Length.{number};
+    ghost use Rattle.der_core.specs.Writer.{fresh, here, fallen, appended, with_room, Kept, Writes};
+    ghost use Rattle.der_core.specs.Encode.{PlacedAnswer};
+    ghost use Rattle.der_core.specs.Sequence.{headed, MayFill, HandsBack, FilledBy, PartAnswer, SequenceAnswer};
     ghost use Rattle.der_core.specs.Outcome.{seen};
     ghost use Rattle.der_core.specs.SliceWriter.{slice_writer_state};
 
@@ -70,6 +75,102 @@ impl<'a> SliceWriter<'a> {
         let end = self.start + self.position as usize;
         let bytes = self.bytes;
         Ok(&bytes[..end])
+    }
+
+    /// Writes a value. A writer that has failed refuses by `Failed` at its position. A refused
+    /// value's error keeps its position, or gets the writer's where it has none, and the writer
+    /// has failed.
+    pub fn encode<T: Encode>(&mut self, value: &T) -> Result<(), Error>
+        ensures kept { Kept (slice_writer_state self.old) (slice_writer_state self.new) }
+        ensures ok { OnOk result (slice_writer_state self.new ≡ appended (slice_writer_state self.old) (T.encoding value.now)) }
+        ensures succeeds { T.encodable value.now → length (T.encoding value.now) < 2 ^ 32 → (slice_writer_state self.old).failed ≡ false → length (slice_writer_state self.old).octets + length (T.encoding value.now) ≤ (slice_writer_state self.old).stop → IsOk result }
+        ensures was_failed { (slice_writer_state self.old).failed ≡ true → (result ≡ Err (at Failed (here (slice_writer_state self.old)))) × (slice_writer_state self.new ≡ slice_writer_state self.old) }
+        ensures exact { (slice_writer_state self.old).failed ≡ false → PlacedAnswer (T.answers value.now) (slice_writer_state self.old) result (slice_writer_state self.new) }
+    {
+        if self.failed {
+            return Err(ErrorKind::Failed.at(Length::new(self.position)));
+        }
+        match value.encode(self) {
+            Ok(()) => Ok(()),
+            Err(error) => {
+                self.failed = true;
+                match error.position() {
+                    Some(_) => Err(error),
+                    None => Err(error.kind().at(Length::new(self.position))),
+                }
+            }
+        }
+    }
+
+    /// Writes the header of a SEQUENCE, and has its contents written by `f`, which is handed this
+    /// writer over the next `length` octets alone: at position 0 and not failed. Afterwards the
+    /// writer is over its own part again, whatever `f` answered.
+    ///
+    /// Where there is no room for the header or the contents that is refused as by a write of so
+    /// many octets. An error of `f` is handed on. A part whose writer has failed is `Failed` at its
+    /// position in the part, and one that is not filled `Length` at the position behind it. After
+    /// each refusal the writer has failed.
+    pub fn sequence<F: FnOnce(&mut SliceWriter<'a>) -> Result<(), Error>>(
+        &mut self,
+        length: Length,
+        f: F,
+    ) -> Result<(), Error>
+        requires callable { MayFill (λ p. F.pre f p) (headed (slice_writer_state self.old) (number length)) (number length) }
+        requires same { HandsBack (λ p r q. F.post f p r q) (headed (slice_writer_state self.old) (number length)) (number length) }
+        ensures kept { Kept (slice_writer_state self.old) (slice_writer_state self.new) }
+        ensures ok { OnOk result (FilledBy (λ p r q. F.post f p r q) (headed (slice_writer_state self.old) (number length)) (number length) (slice_writer_state self.new)) }
+        ensures exact { SequenceAnswer (λ p r q. F.post f p r q) (slice_writer_state self.old) (number length) result (slice_writer_state self.new) }
+    {
+        match Header::new(Tag::Sequence, length).encode(self) {
+            Ok(()) => match self.fill_part(length, f) {
+                Ok(()) => Ok(()),
+                Err(error) => Err(error),
+            },
+            Err(error) => Err(error),
+        }
+    }
+
+    // Sets so many octets apart and has them written by `f`.
+    fn fill_part<F: FnOnce(&mut SliceWriter<'a>) -> Result<(), Error>>(
+        &mut self,
+        length: Length,
+        f: F,
+    ) -> Result<(), Error>
+        requires callable { MayFill (λ p. F.pre f p) (slice_writer_state self.old) (number length) }
+        requires same { HandsBack (λ p r q. F.post f p r q) (slice_writer_state self.old) (number length) }
+        ensures kept { Kept (slice_writer_state self.old) (slice_writer_state self.new) }
+        ensures ok { OnOk result (FilledBy (λ p r q. F.post f p r q) (slice_writer_state self.old) (number length) (slice_writer_state self.new)) }
+        ensures exact { PartAnswer (λ p r q. F.post f p r q) (slice_writer_state self.old) (number length) result (slice_writer_state self.new) }
+    {
+        let count = u32::from(length);
+        let from = match self.admit(count as usize) {
+            Ok(from) => from,
+            Err(error) => return Err(error),
+        };
+        let (start, stop, behind) = (self.start, self.stop, self.position + count);
+        self.start = from;
+        self.stop = from + count as usize;
+        self.position = 0;
+        let answer = f(self);
+        let filled = self.position;
+        self.start = start;
+        self.stop = stop;
+        self.position = behind;
+        match answer {
+            Ok(()) => {
+                if self.failed {
+                    return Err(ErrorKind::Failed.at(Length::new(filled)));
+                }
+                if filled < count {
+                    return self.error(Tag::Sequence.length_error());
+                }
+                Ok(())
+            }
+            Err(error) => {
+                self.failed = true;
+                Err(error)
+            }
+        }
     }
 
     // Refuses so many octets where there is no room for them; answers where the next one goes.
