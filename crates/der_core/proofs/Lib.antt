@@ -2,3 +2,4 @@ pub mod StateLemmas
 pub mod TagReadLemmas
 pub mod LengthReadLemmas
 pub mod EncodeLemmas
+pub mod WriterLemmas
