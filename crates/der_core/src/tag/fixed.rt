@@ -36,10 +36,22 @@ impl<T: FixedTag> Tagged for T {
 
 /// Types whose tag says whether their contents are constructed.
 pub trait IsConstructed {
+    ghost constructed: { Bool };
+
     /// Whether the tag has the constructed bit.
     const CONSTRUCTED: bool;
+
+    /// The same as a function, which generic code calls.
+    fn has_constructed_bit() -> bool
+        ensures { result ≡ constructed };
 }
 
 impl<T: FixedTag> IsConstructed for T {
+    ghost constructed = { (label T.tag_is).constructed };
+
     const CONSTRUCTED: bool = Tag::is_constructed(T::TAG);
+
+    fn has_constructed_bit() -> bool {
+        T::fixed_tag().is_constructed()
+    }
 }
