@@ -7,7 +7,7 @@ use Rattle.der_core.specs.SliceWriter.{slice_writer_state}
 use Rattle.der_base.specs.declared.error.Error.{Error}
 use Rattle.der_base.specs.declared.tag.Tag.TheVariants.{Sequence}
 use Rattle.der_core.specs.Encode.{header_outcome}
-use Rattle.der_core.specs.Sequence.{Run, part, headed, Abandoned, FilledBy, PartAnswer, SequenceAnswer, with_header}
+use Rattle.der_core.specs.Sequence.{Run, part, headed, Abandoned, FilledBy, Ran, PartAnswer, no_room, ran, SequenceAnswer, with_header}
 use Rattle.der_core.specs.declared.writer.slice.SliceWriter.{SliceWriter}
 
 -- where there is room nothing is changed, and there was room
@@ -87,3 +87,21 @@ behind_header run s t u n r same wrote answer =
 -- the same where it was filled
 pub filled_behind_header : (run : Run) (s t u : WriterState) (n : ℕ) → u ≡ headed s n → FilledBy run u n t → FilledBy run (headed s n) n t
 filled_behind_header run s t u n same fills = subst (λ v. FilledBy run v n t) same fills
+
+-- and where the closure ran over it
+pub ran_behind_header : (run : Run) (s t u : WriterState) (n : ℕ) (r : Result (Unit {0}) Error) → u ≡ headed s n → Ran run u n r t → Ran run (headed s n) n r t
+ran_behind_header run s t u n r same did = subst (λ v. Ran run v n r t) same did
+
+-- there is room for so many octets
+pub room_there : (w : SliceWriter) (n : ℕ) → w.failed ≡ false → length (slice_writer_state w).octets + n ≤ w.stop
+    → (with_room n (slice_writer_state w) (slice_writer_state w)).answer ≡ Ok tt
+room_there w n alive room =
+    let at = stands_at w in
+    let countable = w.countable in
+    let few : length (slice_writer_state w).octets - w.start + n < 2 ^ 32 = omega (arith, at, room, countable) in
+    grind (arith, nat_tests)
+
+-- where there is room the closure ran
+pub runs : (run : Run) (s t : WriterState) (n : ℕ) (r : Result (Unit {0}) Error) → (with_room n s s).answer ≡ Ok tt → PartAnswer run s n r t → Ran run s n r t
+runs run s t n r room (no_room e none w) = let wrong : Ok tt ≡ Err e = sym room ∙ none in cc
+runs run s t n r room (ran some did) = did

@@ -29,7 +29,9 @@ impl<'a> SliceWriter<'a> {
     ghost use Rattle.der_base.specs.Length.{number};
     ghost use Rattle.der_core.specs.Writer.{fresh, here, fallen, appended, with_room, Kept, Writes};
     ghost use Rattle.der_core.specs.Encode.{PlacedAnswer};
-    ghost use Rattle.der_core.specs.Sequence.{headed, MayFill, HandsBack, FilledBy, PartAnswer, SequenceAnswer};
+    ghost use Rattle.der_core.specs.Sequence.{headed, MayFill, HandsBack, FilledBy, Ran, PartAnswer, SequenceAnswer};
+    ghost use Rattle.der_base.specs.Header.{header_octets};
+    ghost use Rattle.der_base.specs.declared.tag.Tag.TheVariants.{Sequence};
     ghost use Rattle.der_core.specs.Outcome.{seen};
     ghost use Rattle.der_core.specs.SliceWriter.{slice_writer_state};
 
@@ -103,7 +105,7 @@ impl<'a> SliceWriter<'a> {
     }
 
     /// Writes the header of a SEQUENCE, and has its contents written by `f`, which is handed this
-    /// writer over the next `length` octets alone: at position 0 and not failed. Afterwards the
+    /// writer over the next `len` octets alone: at position 0 and not failed. Afterwards the
     /// writer is over its own part again, whatever `f` answered.
     ///
     /// Where there is no room for the header or the contents that is refused as by a write of so
@@ -112,17 +114,18 @@ impl<'a> SliceWriter<'a> {
     /// each refusal the writer has failed.
     pub fn sequence<F: FnOnce(&mut SliceWriter<'a>) -> Result<(), Error>>(
         &mut self,
-        length: Length,
+        len: Length,
         f: F,
     ) -> Result<(), Error>
-        requires callable { MayFill (λ p. F.pre f p) (headed (slice_writer_state self.old) (number length)) (number length) }
-        requires same { HandsBack (λ p r q. F.post f p r q) (headed (slice_writer_state self.old) (number length)) (number length) }
+        requires callable { MayFill (λ p. F.pre f p) (headed (slice_writer_state self.old) (number len)) (number len) }
+        requires same { HandsBack (λ p r q. F.post f p r q) (headed (slice_writer_state self.old) (number len)) (number len) }
         ensures kept { Kept (slice_writer_state self.old) (slice_writer_state self.new) }
-        ensures ok { OnOk result (FilledBy (λ p r q. F.post f p r q) (headed (slice_writer_state self.old) (number length)) (number length) (slice_writer_state self.new)) }
-        ensures exact { SequenceAnswer (λ p r q. F.post f p r q) (slice_writer_state self.old) (number length) result (slice_writer_state self.new) }
+        ensures ok { OnOk result (FilledBy (λ p r q. F.post f p r q) (headed (slice_writer_state self.old) (number len)) (number len) (slice_writer_state self.new)) }
+        ensures runs { (slice_writer_state self.old).failed ≡ false → length (slice_writer_state self.old).octets + length (header_octets Sequence (number len)) + number len ≤ (slice_writer_state self.old).stop → Ran (λ p r q. F.post f p r q) (headed (slice_writer_state self.old) (number len)) (number len) result (slice_writer_state self.new) }
+        ensures exact { SequenceAnswer (λ p r q. F.post f p r q) (slice_writer_state self.old) (number len) result (slice_writer_state self.new) }
     {
-        match Header::new(Tag::Sequence, length).encode(self) {
-            Ok(()) => match self.fill_part(length, f) {
+        match Header::new(Tag::Sequence, len).encode(self) {
+            Ok(()) => match self.fill_part(len, f) {
                 Ok(()) => Ok(()),
                 Err(error) => Err(error),
             },
@@ -133,16 +136,17 @@ impl<'a> SliceWriter<'a> {
     // Sets so many octets apart and has them written by `f`.
     fn fill_part<F: FnOnce(&mut SliceWriter<'a>) -> Result<(), Error>>(
         &mut self,
-        length: Length,
+        len: Length,
         f: F,
     ) -> Result<(), Error>
-        requires callable { MayFill (λ p. F.pre f p) (slice_writer_state self.old) (number length) }
-        requires same { HandsBack (λ p r q. F.post f p r q) (slice_writer_state self.old) (number length) }
+        requires callable { MayFill (λ p. F.pre f p) (slice_writer_state self.old) (number len) }
+        requires same { HandsBack (λ p r q. F.post f p r q) (slice_writer_state self.old) (number len) }
         ensures kept { Kept (slice_writer_state self.old) (slice_writer_state self.new) }
-        ensures ok { OnOk result (FilledBy (λ p r q. F.post f p r q) (slice_writer_state self.old) (number length) (slice_writer_state self.new)) }
-        ensures exact { PartAnswer (λ p r q. F.post f p r q) (slice_writer_state self.old) (number length) result (slice_writer_state self.new) }
+        ensures ok { OnOk result (FilledBy (λ p r q. F.post f p r q) (slice_writer_state self.old) (number len) (slice_writer_state self.new)) }
+        ensures runs { (slice_writer_state self.old).failed ≡ false → length (slice_writer_state self.old).octets + number len ≤ (slice_writer_state self.old).stop → Ran (λ p r q. F.post f p r q) (slice_writer_state self.old) (number len) result (slice_writer_state self.new) }
+        ensures exact { PartAnswer (λ p r q. F.post f p r q) (slice_writer_state self.old) (number len) result (slice_writer_state self.new) }
     {
-        let count = u32::from(length);
+        let count = u32::from(len);
         let from = match self.admit(count as usize) {
             Ok(from) => from,
             Err(error) => return Err(error),

@@ -7,7 +7,7 @@ use Rattle.der_core.specs.declared.writer.slice.SliceWriter.{SliceWriter}
 use Rattle.der_core.specs.Writer.{WriterState, Kept, Writes, with_room, written, here}
 use Rattle.der_core.specs.SliceWriter.{slice_writer_state}
 use Rattle.der_core.specs.Sequence.{part, Ran, Closed, no_room, ran, refused, failed, unfilled, filled}
-use Rattle.der_core.proofs.WriterLemmas.{granted, stands_at, over_part, behind_part, abandon, fill}
+use Rattle.der_core.proofs.WriterLemmas.{granted, stands_at, over_part, behind_part, abandon, fill, room_there, runs}
 use Rattle.der_core.proofs.writer.slice.SliceWriter.fill_part.Goals as goal
 
 pub returns-in-Err-clause-exact : goal.returns-in-Err-clause-exact
@@ -19,7 +19,7 @@ returns-in-Err-clause-exact g c =
 pub returns-in-Err-answer-clause-exact : goal.returns-in-Err-answer-clause-exact
 returns-in-Err-answer-clause-exact g c =
     let s : WriterState = slice_writer_state c.args.self.now in
-    let n : ℕ = number c.args.length in
+    let n : ℕ = number c.args.len in
     let e = subst (λ m. Writes (with_room m s s) (Ok tt) (slice_writer_state c.admit.new.self)) c.from-count.ensures c.in-Ok.ensures.exact in
     let room = granted n s (slice_writer_state c.admit.new.self) e in
     let over = over_part c.admit.new.self s n c.from-count.result c.in-Ok.from room.1 room.2 (c.in-Ok.ensures.ok ∙ sym (stands_at c.args.self.now)) c.from-count.ensures in
@@ -30,7 +30,7 @@ returns-in-Err-answer-clause-exact g c =
 pub returns-then-self-clause-exact : goal.returns-then-self-clause-exact
 returns-then-self-clause-exact g c =
     let s : WriterState = slice_writer_state c.args.self.now in
-    let n : ℕ = number c.args.length in
+    let n : ℕ = number c.args.len in
     let e = subst (λ m. Writes (with_room m s s) (Ok tt) (slice_writer_state c.admit.new.self)) c.from-count.ensures c.in-Ok.ensures.exact in
     let room = granted n s (slice_writer_state c.admit.new.self) e in
     let over = over_part c.admit.new.self s n c.from-count.result c.in-Ok.from room.1 room.2 (c.in-Ok.ensures.ok ∙ sym (stands_at c.args.self.now)) c.from-count.ensures in
@@ -46,7 +46,7 @@ returns-then-self-clause-exact g c =
 pub returns-then-filled-count-clause-exact : goal.returns-then-filled-count-clause-exact
 returns-then-filled-count-clause-exact g c =
     let s : WriterState = slice_writer_state c.args.self.now in
-    let n : ℕ = number c.args.length in
+    let n : ℕ = number c.args.len in
     let e = subst (λ m. Writes (with_room m s s) (Ok tt) (slice_writer_state c.admit.new.self)) c.from-count.ensures c.in-Ok.ensures.exact in
     let room = granted n s (slice_writer_state c.admit.new.self) e in
     let over = over_part c.admit.new.self s n c.from-count.result c.in-Ok.from room.1 room.2 (c.in-Ok.ensures.ok ∙ sym (stands_at c.args.self.now)) c.from-count.ensures in
@@ -67,7 +67,7 @@ returns-then-filled-count-clause-exact g c =
 pub returns-else-filled-count-clause-ok : goal.returns-else-filled-count-clause-ok
 returns-else-filled-count-clause-ok g c =
     let s : WriterState = slice_writer_state c.args.self.now in
-    let n : ℕ = number c.args.length in
+    let n : ℕ = number c.args.len in
     let e = subst (λ m. Writes (with_room m s s) (Ok tt) (slice_writer_state c.admit.new.self)) c.from-count.ensures c.in-Ok.ensures.exact in
     let room = granted n s (slice_writer_state c.admit.new.self) e in
     let over = over_part c.admit.new.self s n c.from-count.result c.in-Ok.from room.1 room.2 (c.in-Ok.ensures.ok ∙ sym (stands_at c.args.self.now)) c.from-count.ensures in
@@ -79,7 +79,7 @@ returns-else-filled-count-clause-ok g c =
 pub returns-else-filled-count-clause-exact : goal.returns-else-filled-count-clause-exact
 returns-else-filled-count-clause-exact g c =
     let s : WriterState = slice_writer_state c.args.self.now in
-    let n : ℕ = number c.args.length in
+    let n : ℕ = number c.args.len in
     let e = subst (λ m. Writes (with_room m s s) (Ok tt) (slice_writer_state c.admit.new.self)) c.from-count.ensures c.in-Ok.ensures.exact in
     let room = granted n s (slice_writer_state c.admit.new.self) e in
     let over = over_part c.admit.new.self s n c.from-count.result c.in-Ok.from room.1 room.2 (c.in-Ok.ensures.ok ∙ sym (stands_at c.args.self.now)) c.from-count.ensures in
@@ -87,3 +87,18 @@ returns-else-filled-count-clause-exact g c =
     let kept = subst (λ p. Kept p (slice_writer_state c.f-answer.new.arg2)) over (c.requires.same _ _ _ over did) in
     let whole = fill s n c.from-count.result c.admit.new.self c.f-answer.new.arg2 room.1 c.from-count.ensures room.2 kept c.if-self.false (omega (arith, c.if-filled-count.false)) in
     ran room.0 (record { given = _; answer = _; after = _; over_part = over; ran = did; closed = filled c.if-self.false whole.0 whole.1 })
+
+pub returns-in-Err-clause-runs : goal.returns-in-Err-clause-runs
+returns-in-Err-clause-runs g c alive room = runs _ _ _ _ _ (room_there c.args.self.now (number c.args.len) alive room) (returns-in-Err-clause-exact g c)
+
+pub returns-in-Err-answer-clause-runs : goal.returns-in-Err-answer-clause-runs
+returns-in-Err-answer-clause-runs g c alive room = runs _ _ _ _ _ (room_there c.args.self.now (number c.args.len) alive room) (returns-in-Err-answer-clause-exact g c)
+
+pub returns-then-self-clause-runs : goal.returns-then-self-clause-runs
+returns-then-self-clause-runs g c alive room = runs _ _ _ _ _ (room_there c.args.self.now (number c.args.len) alive room) (returns-then-self-clause-exact g c)
+
+pub returns-then-filled-count-clause-runs : goal.returns-then-filled-count-clause-runs
+returns-then-filled-count-clause-runs g c alive room = runs _ _ _ _ _ (room_there c.args.self.now (number c.args.len) alive room) (returns-then-filled-count-clause-exact g c)
+
+pub returns-else-filled-count-clause-runs : goal.returns-else-filled-count-clause-runs
+returns-else-filled-count-clause-runs g c alive room = runs _ _ _ _ _ (room_there c.args.self.now (number c.args.len) alive room) (returns-else-filled-count-clause-exact g c)
