@@ -1,12 +1,12 @@
 -- How many octets tags and lengths take.
-use Rattle.std.proofs.Common.{◌≡◌, ℕ, suc, ◌+◌, ◌*◌, ◌^◌, ◌<◌, ◌≤◌, ◌⊎◌, inl, inr, Bool, true, false, List, [], ◌∷◌, length, ltb, eqb, cond, refl, sym, ◌∙◌, ap, subst, arith}
-use Rattle.std.specs.Int.Digits.{digits_of, number_from_digits}
+use Rattle.std.proofs.Common.{◌≡◌, ℕ, suc, ◌+◌, ◌^◌, ◌<◌, ◌≤◌, List, [], ◌∷◌, length, refl, ap, subst, arith}
+use Rattle.std.specs.Int.Digits.{digits_of}
 use Rattle.std.proofs.lemmas.Int.Digits.{number_lt, number_digits_of, length-digits_of-le, all_below_base_digits_of}
 use Rattle.std.proofs.Math.Nat.{pow-le-pow_right}
 use Rattle.std.proofs.lemmas.Bool.Decides.{nat_tests}
 use Rattle.der_base.specs.Digits.{digits, continued}
 use Rattle.der_base.specs.Length.{length_octets}
-use Rattle.der_base.specs.Tag.{label, label_octets, first_octet, Label, tag_octets}
+use Rattle.der_base.specs.Tag.{label, tag_octets}
 use Rattle.der_base.specs.declared.tag.Tag.{Tag}
 
 -- a number with fewer than k + 1 digits is below the k-th power of the base

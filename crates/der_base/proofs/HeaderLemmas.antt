@@ -5,7 +5,7 @@ use Rattle.der_base.specs.Length.{flagged, length_of, plain, length_octets, numb
 use Rattle.der_base.specs.Identifier.{IsIdentifier, IdentifierFault}
 use Rattle.der_base.specs.Body.{Body}
 use Rattle.der_base.specs.Refusal.{Refusal, Reason, Wants, Kind, is_far, kind_told, owed}
-use Rattle.der_base.specs.Error.{at, bare}
+use Rattle.der_base.specs.Error.{at, bare, retold_kind, retold_error}
 use Rattle.der_base.specs.Header.{header_octets, TagAhead, tag, LengthAhead, definite, indefinite, Head, head, HeaderAhead, header, LengthFault, nothing, few, far, longer, indefinite_form, HeaderFault, no_identifier, no_length}
 use Rattle.der_base.specs.declared.length.Length.{Length}
 use Rattle.der_base.specs.declared.tag.Tag.{Tag}
@@ -147,20 +147,13 @@ length_definite_form d (indefinite {body = body} rest h) = cc
 pub header_fits : {rules : EncodingRules} {s : List ℕ} {h : Head} {m : ℕ} → HeaderAhead rules s h m → m ≤ length s
 header_fits (header {id = id} {more = more} d l ok) = omega (arith, length-append id more, length_fits l)
 
--- a kind that stands for a length that is not spelled rightly, told as another
-abbrev pub retold_kind : ErrorKind → ErrorKind → ErrorKind
-retold_kind k Overlength = k
-retold_kind k other = other
-
+-- a refused length, told by another kind
 abbrev pub retold_reason : ErrorKind → Reason → Reason
 retold_reason k (Wants expected actual) = Wants expected actual
 retold_reason k (Kind other) = Kind (retold_kind k other)
 
 abbrev pub retold : ErrorKind → Refusal → Refusal
 retold k r = record { reason = retold_reason k r.reason; position = r.position }
-
-abbrev pub retold_error : ErrorKind → Error → Error
-retold_error k e = record { kind = retold_kind k e.kind; position = e.position }
 
 -- the fault of a length, told by another kind
 pub retold_fault : {at : ℕ} {rules : EncodingRules} {s : List ℕ} {r : Refusal} (k : ErrorKind) → LengthFault Overlength at rules s r → LengthFault k at rules s (retold k r)

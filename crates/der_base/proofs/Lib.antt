@@ -1,4 +1,5 @@
 pub mod BodyLemmas
+pub mod CompareLemmas
 pub mod CountLemmas
 pub mod DigitLemmas
 pub mod HeaderLemmas

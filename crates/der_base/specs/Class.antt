@@ -1,5 +1,5 @@
 -- Classes of tags (X.690 8.1.2.2, table 1).
-use Rattle.std.specs.Prelude.{ℕ, ◌*◌}
+use Rattle.std.specs.Prelude.{ℕ}
 use Rattle.der_base.specs.declared.tag.class.Class.{Class}
 use Rattle.der_base.specs.declared.tag.class.Class.TheVariants.{Universal, Application, ContextSpecific, Private}
 

@@ -1,5 +1,5 @@
 -- Lengths (X.690 8.1.3).
-use Rattle.std.specs.Prelude.{ℕ, ◌+◌, ◌^◌, ◌<◌, Bool, false, List, [], ◌∷◌, length, nat_lt, if◌then◌else◌}
+use Rattle.std.specs.Prelude.{ℕ, ◌+◌, Bool, false, List, [], ◌∷◌, length, nat_lt, if◌then◌else◌}
 use Rattle.der_base.specs.Digits.{digits}
 use Rattle.der_base.specs.declared.length.Length.{Length}
 

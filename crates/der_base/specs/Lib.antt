@@ -11,3 +11,4 @@ pub mod Refusal
 pub mod Text
 pub mod Arithmetic
 pub mod Names
+pub mod Compare

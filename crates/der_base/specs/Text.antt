@@ -7,7 +7,6 @@ use Rattle.der_base.specs.Error.{kind_of, position_of}
 use Rattle.der_base.specs.declared.length.Length.{Length}
 use Rattle.der_base.specs.declared.tag.Tag.{Tag}
 use Rattle.der_base.specs.declared.tag.Tag.TheVariants as tag
-use Rattle.der_base.specs.declared.tag.number.TagNumber.{TagNumber}
 use Rattle.der_base.specs.declared.tag.class.Class.{Class}
 use Rattle.der_base.specs.declared.tag.class.Class.TheVariants as class
 use Rattle.der_base.specs.declared.tag.mode.TagMode.{TagMode}

@@ -54,8 +54,8 @@ impl Length {
         ensures { result ≡ length_of value true }
     {
         Length {
-            inner: value,
             indefinite: true,
+            ..Length::new(value)
         }
     }
 

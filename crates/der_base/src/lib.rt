@@ -4,6 +4,7 @@
 //! The definitions of the standard, ITU-T X.690, stand in `specs/`, apart from any code.
 #![tactic(auto)]
 
+mod comparisons;
 pub mod encoding_rules;
 pub mod error;
 pub mod laws;
@@ -17,3 +18,6 @@ pub use tag::{
     CLASS_APPLICATION, CLASS_CONTEXT_SPECIFIC, CLASS_PRIVATE, CLASS_UNIVERSAL, Class, Tag, TagMode,
     TagNumber,
 };
+
+#[cfg(test)]
+mod tests;

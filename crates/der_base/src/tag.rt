@@ -6,13 +6,10 @@ pub mod class;
 pub mod mode;
 pub mod number;
 
-pub use class::{
-    CLASS_APPLICATION, CLASS_CONTEXT_SPECIFIC, CLASS_PRIVATE, CLASS_UNIVERSAL, Class,
-};
+use crate::error::{ErrorKind, Result};
+pub use class::{CLASS_APPLICATION, CLASS_CONTEXT_SPECIFIC, CLASS_PRIVATE, CLASS_UNIVERSAL, Class};
 pub use mode::TagMode;
 pub use number::TagNumber;
-
-use crate::error::{ErrorKind, Result};
 use std::fmt;
 
 /// The tag of an element: a class, whether its contents are constructed, and a number
@@ -90,8 +87,7 @@ pub enum Tag {
 impl Tag {
     ghost use Rattle.der_base.specs.Tag.{label};
     ghost use Rattle.der_base.specs.Class.{class_number};
-    ghost use Rattle.der_base.specs.declared.tag.class.Class.TheVariants.{Universal, Application, ContextSpecific, Private};
-    ghost use Rattle.der_base.specs.Error.{bare};
+    ghost use Rattle.der_base.specs.Error.{unexpected_tag};
 
     /// The class.
     pub const fn class(self) -> Class
@@ -154,28 +150,28 @@ impl Tag {
 
     /// Whether the class is APPLICATION.
     pub const fn is_application(self) -> bool
-        ensures { IsTrue result ↔ ((label self).class ≡ class_number Application) }
+        ensures { IsTrue result ↔ ((label self).class ≡ class_number Class.Application) }
     {
         matches!(self, Tag::Application { .. })
     }
 
     /// Whether the class is CONTEXT-SPECIFIC.
     pub const fn is_context_specific(self) -> bool
-        ensures { IsTrue result ↔ ((label self).class ≡ class_number ContextSpecific) }
+        ensures { IsTrue result ↔ ((label self).class ≡ class_number Class.ContextSpecific) }
     {
         matches!(self, Tag::ContextSpecific { .. })
     }
 
     /// Whether the class is PRIVATE.
     pub const fn is_private(self) -> bool
-        ensures { IsTrue result ↔ ((label self).class ≡ class_number Private) }
+        ensures { IsTrue result ↔ ((label self).class ≡ class_number Class.Private) }
     {
         matches!(self, Tag::Private { .. })
     }
 
     /// Whether the class is UNIVERSAL.
     pub const fn is_universal(self) -> bool
-        ensures { IsTrue result ↔ ((label self).class ≡ class_number Universal) }
+        ensures { IsTrue result ↔ ((label self).class ≡ class_number Class.Universal) }
     {
         !matches!(
             self,
@@ -186,7 +182,7 @@ impl Tag {
     /// This tag where it is the expected one, else kind `TagUnexpected` without a position.
     pub fn assert_eq(self, expected: Tag) -> Result<Tag>
         ensures expected_tag { self ≡ expected → result ≡ Ok self }
-        ensures other_tag { self ≢ expected → result ≡ Err (bare (ErrorKind.TagUnexpected (Some expected) self)) }
+        ensures other_tag { self ≢ expected → result ≡ Err (unexpected_tag expected self) }
     {
         if self == expected {
             Ok(self)
@@ -264,7 +260,12 @@ impl fmt::Display for Tag {
             Tag::ContextSpecific {
                 constructed,
                 number,
-            } => write!(f, "CONTEXT-SPECIFIC [{}{}", number.0, bit_text(*constructed)),
+            } => write!(
+                f,
+                "CONTEXT-SPECIFIC [{}{}",
+                number.0,
+                bit_text(*constructed)
+            ),
             Tag::Private {
                 constructed,
                 number,

@@ -13,7 +13,7 @@ use Rattle.der_base.specs.declared.error.ErrorKind.TheVariants.{Overlength, Inde
 use Rattle.der_base.specs.declared.encoding_rules.EncodingRules.{EncodingRules}
 use Rattle.der_base.specs.declared.encoding_rules.EncodingRules.TheVariants.{Der}
 use Rattle.der_base.proofs.DigitLemmas.{all_below_push, number_small}
-use Rattle.der_base.proofs.LengthLemmas.{found_short, octet_shortest, octet_cut, octet_longer}
+use Rattle.der_base.proofs.LengthLemmas.{length_small, octet_shortest, octet_cut, octet_longer}
 use Rattle.der_base.proofs.HeaderLemmas.{no_length_fault, one_length}
 use Rattle.der_core.specs.State.{State, rest, here, advanced, stopped, Reads}
 use Rattle.der_core.specs.Refused.{Refused, at_fault, has_failed, Stops}
@@ -93,8 +93,8 @@ found_long {o = o} h low is large high =
     (h.digits, ap length_octets h.is ∙ octet_shortest o h.digits low h.count h.below enough, h.reads, digits_small h (omega arith))
 
 -- a length was read
-pub passed_length : {a t : State} {n : ℕ} → a.failed ≡ false → Reads a t (length_octets n) → n < 2 ^ 32 → Passed (λ rules octets m. LengthAhead rules octets (plain n) m) a t
-passed_length {a} {t} {n} working h small =
+passed_octets : {a t : State} {n : ℕ} → a.failed ≡ false → Reads a t (length_octets n) → n < 2 ^ 32 → Passed (λ rules octets m. LengthAhead rules octets (plain n) m) a t
+passed_octets {a} {t} {n} working h small =
     record {
       octets = length (length_octets n);
       working = working;
@@ -103,19 +103,15 @@ passed_length {a} {t} {n} working h small =
       leaves = h.state;
     }
 
-pub passed_short : {a t : State} {o : ℕ} → a.failed ≡ false → Reads a t (o ∷ []) → o < 128 → Passed (λ rules octets m. LengthAhead rules octets (plain o) m) a t
-passed_short {a} {t} {o} working h small =
-    record {
-      octets = 1;
-      working = working;
-      ahead = subst (λ l. LengthAhead a.rules l (plain o) 1) (sym h.split) (found_short o (rest t) small);
-      there = omega (arith, ap length h.split);
-      leaves = h.state;
-    }
+as_length : {a t : State} {l k : Length} → k ≡ l → Passed (λ rules octets m. LengthAhead rules octets l m) a t → Passed (λ rules octets m. LengthAhead rules octets k m) a t
+as_length {a} {t} e h = subst (λ x. Passed (λ rules octets m. LengthAhead rules octets x m) a t) (sym e) h
 
-pub passed_long : {a b t : State} {o n : ℕ} → a.failed ≡ false → Reads a b (o ∷ []) → (l : List ℕ) × (length_octets n ≡ o ∷ l) × Reads b t l × (n < 2 ^ 32)
-    → Passed (λ rules octets m. LengthAhead rules octets (plain n) m) a t
-passed_long {a} {b} {t} working h g = passed_length working (subst (Reads a t) (sym g.1) (reads_on h g.2)) g.3
+pub passed_short : {a t : State} {o : ℕ} {l : Length} → a.failed ≡ false → Reads a t (o ∷ []) → o < 128 → l ≡ plain o → Passed (λ rules octets m. LengthAhead rules octets l m) a t
+passed_short {a} {t} {o} working h small e = as_length e (passed_octets working (subst (Reads a t) (sym (length_small o small)) h) (omega arith))
+
+pub passed_long : {a b t : State} {o n : ℕ} {l : Length} → a.failed ≡ false → Reads a b (o ∷ []) → (x : List ℕ) × (length_octets n ≡ o ∷ x) × Reads b t x × (n < 2 ^ 32)
+    → l ≡ plain n → Passed (λ rules octets m. LengthAhead rules octets l m) a t
+passed_long {a} {b} {t} working h g e = as_length e (passed_octets working (subst (Reads a t) (sym g.1) (reads_on h g.2)) g.3)
 
 -- a length is refused
 under_der : {a t : State} {e : Error} {r : Refusal} → a.rules ≡ Der → a.failed ≡ false → LengthFault Overlength a.position Der (rest a) r → Stops a r e t

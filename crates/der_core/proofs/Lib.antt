@@ -3,3 +3,5 @@ pub mod TagReadLemmas
 pub mod LengthReadLemmas
 pub mod EncodeLemmas
 pub mod WriterLemmas
+pub mod HeaderReadLemmas
+pub mod DecodeLemmas

@@ -1,11 +1,22 @@
 //! Headers.
-ghost use Rattle.std.specs.Prelude.{◌≡◌, ℕ, ◌||◌, true, false, IfOk, IsOkAnd};
+ghost use Rattle.std.specs.Prelude.{◌≡◌, ℕ, ◌||◌, true, false, Ok, IfOk};
+ghost use Rattle.der_base.specs.Error.{retold_error};
 ghost use Rattle.der_base.specs.Length.{flagged};
 ghost use Rattle.der_base.specs.Tag.{label};
+ghost use Rattle.der_base.specs.Header.{HeaderAhead, HeaderFault};
+ghost use Rattle.der_base.specs.declared.error.ErrorKind.TheVariants.{Length as IncorrectLength};
 ghost use Rattle.der_base.specs.declared.encoding_rules.EncodingRules.TheVariants.{Der};
-ghost use Rattle.der_base.specs.Header.{HeaderFault};
+ghost use Rattle.der_core.specs.State.{rest, advanced, Same};
+ghost use Rattle.der_core.specs.Header.{head_of};
+ghost use Rattle.der_core.specs.Decode.{Passed, GrammarAnswers, header_levels, header_ahead};
+ghost use Rattle.der_core.specs.declared.header.Header.{Header as AHeader};
 
-use der_base::{Length, Tag};
+use crate::decode::Decode;
+use crate::length::decode_length;
+use crate::reader::Reader;
+use crate::tag::decode_with_constructed_bit;
+use der_base::{Error, ErrorKind, Length, Tag};
+use std::alloc::Global;
 
 /// The header of an element: its tag, the length of its contents, and whether the identifier has
 /// the constructed bit (X.690 8.1.2, 8.1.3).
@@ -18,7 +29,6 @@ pub struct Header {
 
 impl Header {
     ghost use Rattle.der_base.specs.Header.{head};
-    ghost use Rattle.der_core.specs.Header.{head_of};
 
     /// The header of a tag and a length: constructed where the tag is, or the length was read in
     /// the indefinite form.
@@ -63,5 +73,64 @@ impl Header {
             length,
             constructed: self.constructed,
         }
+    }
+}
+
+/// Decodes a header (X.690 8.1.2, 8.1.3, 10.1), as [`Header::decode`] does, without an allocator.
+///
+/// A length that is not spelled as it has to be is told as `Length` with the tag.
+#[inline(always)]
+pub fn decode_header<R: Reader>(reader: &mut R) -> Result<Header, Error>
+    ensures same { Same (R.state reader.old) (R.state reader.new) }
+    ensures ok { IfOk result (λ h. Passed (λ rules octets m. header_ahead rules octets h m) (R.state reader.old) (R.state reader.new)) }
+    ensures accepts { R.reliable ≡ true → (R.state reader.old).rules ≡ Der → (R.state reader.old).failed ≡ false → (h : AHeader) (m : ℕ) → HeaderAhead Der (rest (R.state reader.old)) (head_of h) m → (result ≡ Ok h) × (R.state reader.new ≡ advanced (R.state reader.old) m) }
+    ensures exact { R.reliable ≡ true → GrammarAnswers header_ahead HeaderFault (R.state reader.old) result (R.state reader.new) }
+{
+    let (tag, constructed) = match decode_with_constructed_bit(reader) {
+        Ok(identifier) => identifier,
+        Err(error) => return Err(error),
+    };
+    let length = match decode_length(reader) {
+        Ok(length) => length,
+        Err(error) => return Err(incorrect_length(tag, error)),
+    };
+    if length.is_indefinite() && !constructed {
+        return Err(reader.error(ErrorKind::IndefiniteLength));
+    }
+    Ok(Header {
+        tag,
+        length,
+        constructed,
+    })
+}
+
+// A length behind a tag that is not spelled rightly, told with the tag, at the same position.
+#[cold]
+fn incorrect_length(tag: Tag, error: Error) -> Error
+    ensures { result ≡ retold_error (IncorrectLength tag) error }
+{
+    match error.kind() {
+        ErrorKind::Overlength => match error.position() {
+            Some(position) => tag.length_error().at(position),
+            None => tag.length_error().to_error(),
+        },
+        _ => error,
+    }
+}
+
+impl<R: Reader> Decode<R> for Header {
+    type Error = Error;
+
+    ghost heads = { header_ahead };
+
+    ghost needs = { header_levels };
+
+    ghost takes_memory = { false };
+
+    ghost answers = { GrammarAnswers header_ahead HeaderFault };
+
+    #[inline(always)]
+    fn decode(_alloc: Global, reader: &mut R) -> Result<Header, Error> {
+        decode_header(reader)
     }
 }

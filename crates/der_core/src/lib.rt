@@ -12,6 +12,8 @@ pub mod header;
 mod length;
 pub mod reader;
 mod tag;
+#[cfg(test)]
+mod tests;
 pub mod writer;
 
 pub use decode::{Decode, DecodeBytes, DecodeError};
@@ -23,7 +25,7 @@ pub use encode::{
     Encode, EncodeValue, WrittenValue, encode_tlv, encode_value_to_slice, encoded_len_tlv,
 };
 pub use encode_ref::{EncodeRef, EncodeValueRef};
-pub use header::Header;
+pub use header::{Header, decode_header};
 pub use length::decode_length;
 pub use reader::{Octets, Reader, ReaderExt, SliceReader};
 pub use tag::fixed::{FixedTag, IsConstructed, Tagged};

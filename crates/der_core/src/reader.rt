@@ -9,9 +9,8 @@ ghost use Rattle.der_core.specs.Reader.{read_slice_outcome, read_into_outcome, r
 
 pub mod slice;
 
-pub use slice::SliceReader;
-
 use der_base::{EncodingRules, Error, ErrorKind, Length};
+pub use slice::SliceReader;
 
 /// Octets that a reader has lent.
 pub trait Octets: Drop {

@@ -48,7 +48,7 @@ impl Add<u8> for Length {
     ghost add_gives = { λ a n r. r ≡ counted (number a + n) };
 
     fn add(self, rhs: u8) -> Result<Self> {
-        self + u32::from(rhs)
+        self + u16::from(rhs)
     }
 }
 

@@ -10,7 +10,7 @@ impl From<u8> for Length {
     ghost from_gives = { λ n l. l ≡ plain n };
 
     fn from(value: u8) -> Self {
-        Length::new(u32::from(value))
+        Length::from(u16::from(value))
     }
 }
 
@@ -66,6 +66,6 @@ impl TryFrom<Length> for usize {
     ghost try_from_gives = { λ l r. r ≡ Ok (number l) };
 
     fn try_from(length: Length) -> Result<Self> {
-        Ok(length.inner as usize)
+        Ok(u32::from(length) as usize)
     }
 }

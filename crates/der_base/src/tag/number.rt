@@ -61,7 +61,7 @@ impl From<u32> for TagNumber {
     ghost from_gives = { λ n t. t.0 ≡ n };
 
     fn from(value: u32) -> Self {
-        TagNumber(value)
+        TagNumber::new(value)
     }
 }
 
@@ -80,6 +80,6 @@ impl fmt::Display for TagNumber {
     ghost output = { λ n. Some (decimal n.0) };
 
     fn fmt<W: fmt::Write>(&self, f: &mut fmt::Formatter<W>) -> fmt::Result {
-        self.0.fmt(f)
+        self.value().fmt(f)
     }
 }

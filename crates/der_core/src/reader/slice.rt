@@ -91,7 +91,7 @@ impl<'a> Reader for SliceReader<'a> {
     fn can_lend() -> bool
         ensures { result ≡ true }
     {
-        true
+        Self::CAN_READ_SLICE
     }
 
     fn encoding_rules(&self) -> EncodingRules {

@@ -1,0 +1,128 @@
+-- Headers, by their tag and their length.
+use Rattle.std.proofs.Common.{◌≡◌, ℕ, ◌+◌, ◌≤◌, ◌⊎◌, Bool, true, false, List, ◌++◌, length, refl, sym, ap, ◌∙◌, subst, inl, inr, length-append, arith}
+use Rattle.der_base.specs.Error.{at as error_at, retold_error}
+use Rattle.der_base.specs.Length.{flagged}
+use Rattle.der_base.specs.Identifier.{IsIdentifier, IdentifierFault}
+use Rattle.der_base.specs.Header.{Head, head, TagAhead, LengthAhead, HeaderAhead, header, LengthFault, HeaderFault, no_identifier, no_length}
+use Rattle.der_base.specs.Refusal.{Refusal, Reason, Wants, Kind, owed, is_far}
+use Rattle.der_base.specs.declared.length.Length.{Length}
+use Rattle.der_base.specs.declared.tag.Tag.{Tag}
+use Rattle.der_base.specs.declared.error.Error.{Error}
+use Rattle.der_base.specs.declared.error.ErrorKind.{ErrorKind}
+use Rattle.der_base.specs.declared.error.ErrorKind.TheVariants.{Overlength, Length as IncorrectLength}
+use Rattle.der_base.specs.declared.encoding_rules.EncodingRules.{EncodingRules}
+use Rattle.der_base.specs.declared.encoding_rules.EncodingRules.TheVariants.{Der}
+use Rattle.der_base.proofs.HeaderLemmas.{TagView, tag_view_of, tag_view, one_tag, no_tag_fault, one_header, no_header_fault, length_definite_form, retold, retold_reason, retold_fault, owed_retold}
+use Rattle.der_core.specs.State.{State, rest, advanced, left, Reads}
+use Rattle.der_core.specs.Refused.{Refused, at_fault, has_failed, Stops}
+use Rattle.der_core.specs.Decode.{Passed}
+use Rattle.der_core.specs.Header.{head_of}
+use Rattle.der_core.specs.declared.header.Header.{Header}
+use Rattle.der_core.proofs.StateLemmas.{reads_front, reads_on, position_on, failed_on, rules_on, stops_on}
+
+-- the identifier of a tag that was read
+pub record IdentifierRead (a b : State) (x : Tag) (bit : Bool) : Type 0 where
+  pub octets : List ℕ
+  pub is_identifier : IsIdentifier a.rules octets x bit
+  pub reads : Reads a b octets
+
+pub identifier_read : {a b : State} {x : Tag} {bit : Bool} → Passed (λ rules octets m. TagAhead rules octets x bit m) a b → IdentifierRead a b x bit
+identifier_read {a} {b} {x} {bit} h = go (tag_view h.ahead)
+  where
+    go : TagView a.rules (rest a) x bit h.octets → IdentifierRead a b x bit
+    go (tag_view_of id more d q c) =
+        let there : advanced a (length id) ≡ b = ap (advanced a) (sym c) ∙ sym h.leaves in
+        record { octets = id; is_identifier = d; reads = subst (λ t. Reads a t id) there (reads_front a id more q) }
+
+-- a header was read
+pub passed_header : {a b t : State} {x : Tag} {bit : Bool} {l : Length} → Passed (λ rules octets m. TagAhead rules octets x bit m) a b
+    → Passed (λ rules octets m. LengthAhead rules octets l m) b t → (flagged l ≡ true → bit ≡ true)
+    → Passed (λ rules octets m. HeaderAhead rules octets (head x l bit) m) a t
+passed_header {a} {b} {t} {x} {bit} {l} h g ok =
+    let id = identifier_read h in
+    let behind : LengthAhead a.rules (rest b) l g.octets = subst (λ rules. LengthAhead rules (rest b) l g.octets) (rules_on id.reads) g.ahead in
+    let ahead : HeaderAhead a.rules (id.octets ++ rest b) (head x l bit) (length id.octets + g.octets) = header id.is_identifier behind ok in
+    let sum : a.position + length id.octets + g.octets ≡ a.position + (length id.octets + g.octets) = omega arith in
+    record {
+      octets = length id.octets + g.octets;
+      working = h.working;
+      ahead = subst (λ s. HeaderAhead a.rules s (head x l bit) (length id.octets + g.octets)) (sym id.reads.split) ahead;
+      there = omega (arith, ap length id.reads.split, length-append id.octets (rest b), g.there);
+      leaves = g.leaves ∙ ap (λ s. advanced s g.octets) id.reads.state ∙ ap (λ p. record a { position = p }) sum;
+    }
+
+-- a header is refused
+pub header_tag_refused : {a t : State} {e : Error} → Refused IdentifierFault a e t → Refused HeaderFault a e t
+header_tag_refused (has_failed f told leaves) = has_failed f told leaves
+header_tag_refused (at_fault r w fault stops) = at_fault r w (no_identifier fault) stops
+
+left_retold : (a : State) (k : ErrorKind) (r : Refusal) → left a (retold k r) ≡ left a r
+left_retold a k r = go r.reason r.position
+  where
+    go : (o : Reason) (p : ℕ) → left a (record { reason = retold_reason k o; position = p }) ≡ left a (record { reason = o; position = p })
+    go (Wants x y) p = refl
+    go (Kind other) p = refl
+
+pub header_length_refused : {a b t : State} {x : Tag} {bit : Bool} {e told : Error} → Passed (λ rules octets m. TagAhead rules octets x bit m) a b
+    → Refused (λ rules at. LengthFault Overlength at rules) b e t → told ≡ retold_error (IncorrectLength x) e → Refused HeaderFault a told t
+header_length_refused h (has_failed f p q) same =
+    let id = identifier_read h in
+    absurd (let no : true ≡ false = sym f ∙ failed_on id.reads ∙ h.working in cc)
+header_length_refused {a} {b} {t} {x} {e = e} {told = told} h (at_fault r w fault stops) same =
+    let id = identifier_read h in
+    let k = IncorrectLength x in
+    let here : b.position ≡ a.position + length id.octets = position_on id.reads in
+    let length_fault : LengthFault (IncorrectLength x) b.position b.rules (rest b) (retold (IncorrectLength x) r) = retold_fault (IncorrectLength x) fault in
+    let moved : LengthFault (IncorrectLength x) (a.position + length id.octets) a.rules (rest b) (retold (IncorrectLength x) r) =
+    subst (λ n. LengthFault (IncorrectLength x) n a.rules (rest b) (retold (IncorrectLength x) r)) here
+    (subst (λ rules. LengthFault (IncorrectLength x) b.position rules (rest b) (retold (IncorrectLength x) r)) (rules_on id.reads) length_fault) in
+    at_fault (retold (IncorrectLength x) r) h.working
+    (subst (λ s. HeaderFault a.rules a.position s (retold (IncorrectLength x) r)) (sym id.reads.split) (no_length id.is_identifier moved))
+    (record {
+      told = same ∙ ap (retold_error (IncorrectLength x)) stops.told ∙ sym (owed_retold (IncorrectLength x) r);
+      leaves = (stops_on id.reads stops).leaves ∙ sym (left_retold a (IncorrectLength x) r);
+    })
+
+-- a flag that was seen beside a bit
+pub bit_of_flag : {b c d : Bool} → b ≡ c → ((b ≡ true) × (d ≡ true)) ⊎ (b ≡ false) → c ≡ true → d ≡ true
+bit_of_flag e (inl h) f = h.1
+bit_of_flag e (inr h) f = absurd (let no : false ≡ true = sym h ∙ e ∙ f in cc)
+
+-- under DER no length is indefinite
+pub not_flagged : {a b t : State} {x : Tag} {bit : Bool} {l : Length} → Passed (λ rules octets m. TagAhead rules octets x bit m) a b
+    → Passed (λ rules octets m. LengthAhead rules octets l m) b t → a.rules ≡ Der → flagged l ≡ true → ⊥
+not_flagged {l = l} h g der f =
+    let id = identifier_read h in
+    let no : flagged l ≡ false = length_definite_form (rules_on id.reads ∙ der) g.ahead in
+    (let w : true ≡ false = sym f ∙ no in cc)
+
+pub rules_after : {Ahead : EncodingRules → List ℕ → ℕ → Type 0} {a b : State} → Passed Ahead a b → b.rules ≡ a.rules
+rules_after h = ap (λ (s : State). s.rules) h.leaves
+
+-- two headers that say the same are the same
+header_saying : Head → Header
+header_saying x = record { tag = x.tag; length = x.length; constructed = x.constructed }
+
+pub same_header : (h g : Header) → head_of h ≡ head_of g → h ≡ g
+unfolding header_saying
+same_header h g e = ap header_saying e
+
+-- where a tag stands ahead it is read
+pub tag_accepted : {a t : State} {x y : Tag} {b c : Bool} {m : ℕ} → Passed (λ rules octets m. TagAhead rules octets x b m) a t → TagAhead a.rules (rest a) y c m
+    → (x ≡ y) × (t ≡ advanced a m)
+tag_accepted {a} h ahead = let one = one_tag h.ahead ahead in (one.0, h.leaves ∙ ap (advanced a) one.2)
+
+pub tag_not_refused : {a t : State} {e : Error} {y : Tag} {c : Bool} {m : ℕ} → Refused IdentifierFault a e t → a.failed ≡ false → TagAhead a.rules (rest a) y c m → ⊥
+tag_not_refused (has_failed f told leaves) working ahead = (let no : true ≡ false = sym f ∙ working in cc)
+tag_not_refused (at_fault r w fault stops) working ahead = no_tag_fault fault ahead refl
+
+-- where a header stands ahead it is read
+pub header_accepted : {a t : State} {h g : Head} {m : ℕ} → Passed (λ rules octets m. HeaderAhead rules octets h m) a t → a.rules ≡ Der → HeaderAhead Der (rest a) g m
+    → (h ≡ g) × (t ≡ advanced a m)
+header_accepted {a} {g = g} {m = m} h der ahead =
+    let one = one_header h.ahead (subst (λ rules. HeaderAhead rules (rest a) g m) (sym der) ahead) in (one.0, h.leaves ∙ ap (advanced a) one.1)
+
+pub header_not_refused : {a t : State} {e : Error} {h : Head} {m : ℕ} → Refused HeaderFault a e t → a.failed ≡ false → a.rules ≡ Der → HeaderAhead Der (rest a) h m → ⊥
+header_not_refused (has_failed f told leaves) working der ahead = (let no : true ≡ false = sym f ∙ working in cc)
+header_not_refused {a} {h = h} {m = m} (at_fault r w fault stops) working der ahead =
+    no_header_fault fault (subst (λ rules. HeaderAhead rules (rest a) h m) (sym der) ahead) refl
