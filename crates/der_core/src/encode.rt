@@ -16,13 +16,12 @@ mod tag;
 pub mod value;
 mod vec;
 
-pub use value::{EncodeValue, WrittenValue, encode_value_to_slice};
-
-use crate::tag::fixed::Tagged;
 use crate::encode::vec::{append, to_der_in};
+use crate::tag::fixed::Tagged;
 use crate::writer::{SliceWriter, Writer};
 use der_base::{Error, Length};
 use std::alloc::Global;
+pub use value::{EncodeValue, WrittenValue, encode_value_to_slice};
 
 /// Types whose values are written as octets.
 ///
@@ -119,7 +118,10 @@ pub fn encoded_len_tlv<T: EncodeValue + Tagged>(value: &T) -> Result<Length, Err
 }
 
 /// Writes the element of a value: its header, and then its contents (X.690 8.1.1).
-pub fn encode_tlv<T: EncodeValue + Tagged, W: Writer>(value: &T, writer: &mut W) -> Result<(), Error>
+pub fn encode_tlv<T: EncodeValue + Tagged, W: Writer>(
+    value: &T,
+    writer: &mut W,
+) -> Result<(), Error>
     ensures kept { Kept (W.state writer.old) (W.state writer.new) }
     ensures ok { OnOk result (W.state writer.new ≡ appended (W.state writer.old) (header_octets (T.tag_of value.now) (length (T.contents value.now)) ++ T.contents value.now)) }
     ensures succeeds { T.writable value.now → length (header_octets (T.tag_of value.now) (length (T.contents value.now)) ++ T.contents value.now) < 2 ^ 32 → (W.state writer.old).failed ≡ false → length (W.state writer.old).octets + length (header_octets (T.tag_of value.now) (length (T.contents value.now)) ++ T.contents value.now) ≤ (W.state writer.old).stop → IsOk result }

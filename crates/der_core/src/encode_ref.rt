@@ -3,11 +3,10 @@ ghost use Rattle.std.specs.Prelude.{◌≡◌};
 
 mod value;
 
-pub use value::EncodeValueRef;
-
 use crate::encode::Encode;
 use crate::writer::Writer;
 use der_base::{Error, Length};
+pub use value::EncodeValueRef;
 
 /// A reference to a value, encoded as the value is.
 #[derive(Debug, Drop)]

@@ -1,4 +1,4 @@
-//! Worked cases of reading; what is expected is worked out by hand from X.690 and from the rules of
+//! Worked cases of reading and writing; what is expected is worked out by hand from X.690 and from the rules of
 //! refusals.
 use crate::{
     Decode, DecodeBytes, Error, ErrorKind, Header, Length, Octets, Reader, ReaderExt, SliceReader,
@@ -7,10 +7,17 @@ use crate::{
 use std::alloc::Global;
 use std::test::Fail;
 
+mod encoding;
 mod headers;
 mod lengths;
+mod month;
 mod readers;
+mod references;
+mod sequences;
 mod tags;
+mod writers;
+mod wrong;
+mod zeros;
 
 fn incomplete(expected: u32, actual: u32, position: u32) -> Error {
     ErrorKind::Incomplete {

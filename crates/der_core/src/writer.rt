@@ -4,9 +4,8 @@ ghost use Rattle.der_core.specs.Writer.{WriterState, Kept, Writes, appended, wri
 
 pub mod slice;
 
-pub use slice::SliceWriter;
-
 use der_base::Error;
+pub use slice::SliceWriter;
 
 /// A writer of octets: what was written, how much room there is, and whether it has failed.
 ///

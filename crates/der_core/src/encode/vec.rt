@@ -6,6 +6,9 @@ ghost use Rattle.der_base.specs.declared.error.ErrorKind.TheVariants.{OutOfMemor
 ghost use Rattle.der_core.specs.Writer.{WriterState, fresh};
 ghost use Rattle.der_core.specs.Encode.{NotAppended};
 
+#[cfg(test)]
+mod tests;
+
 use crate::encode::Encode;
 use crate::writer::SliceWriter;
 use der_base::{Error, ErrorKind, Length};

@@ -60,7 +60,7 @@ returns-then-filled-count-clause-exact g c =
     let size : length left.octets ≡ length s.octets + n = sym (ap (λ (u : WriterState). length u.octets) c.error.ensures.failed) ∙ gone.behind in
     let start : left.start ≡ s.start = ap (λ (u : WriterState). u.start) room.1 in
     let unfilled_at : c.error.result ≡ Err (at (IncorrectLength Sequence) (plain (written s + n))) =
-        c.error.ensures.at_position ∙ ap (λ k. Err (at k (here left))) c.length_error.ensures ∙ ap (λ m. Err (at (IncorrectLength Sequence) (plain m))) (omega (arith, size, start, stands_at c.args.self.now)) in
+    c.error.ensures.at_position ∙ ap (λ k. Err (at k (here left))) c.length_error.ensures ∙ ap (λ m. Err (at (IncorrectLength Sequence) (plain m))) (omega (arith, size, start, stands_at c.args.self.now)) in
     let ends = subst (λ x. Closed s n (slice_writer_state new) (slice_writer_state c.error.new.self) (Ok tt) x) (sym unfilled_at) (unfilled c.if-self.false short gone) in
     ran room.0 (record { given = _; answer = _; after = _; over_part = over; ran = did; closed = ends })
 

@@ -1,0 +1,65 @@
+//! A type with contents of any length, which it does not write.
+ghost use Rattle.std.specs.Prelude.{◌≡◌, Ok, Err, replicate};
+ghost use Rattle.der_base.specs.Length.{plain};
+ghost use Rattle.der_base.specs.Error.{bare};
+ghost use Rattle.der_base.specs.declared.tag.Tag.{Tag as ATag};
+ghost use Rattle.der_base.specs.declared.tag.Tag.TheVariants.{OctetString};
+ghost use Rattle.der_base.specs.declared.error.ErrorKind.TheVariants.{Overlength};
+
+use super::*;
+use crate::{Encode, EncodeValue, Tagged, Writer, WrittenValue, encoded_len_tlv};
+
+#[derive(Clone, Copy)]
+pub struct Zeros {
+    pub count: u32,
+}
+
+impl Tagged for Zeros {
+    ghost tag_of = { λ _. OctetString };
+
+    fn tag(&self) -> Tag {
+        Tag::OctetString
+    }
+}
+
+impl WrittenValue for Zeros {
+    ghost contents = { λ zeros. replicate zeros.count 0 };
+
+    ghost writable = { λ _. ⊥ };
+}
+
+impl EncodeValue for Zeros {
+    ghost value_size = { λ zeros. Ok (plain zeros.count) };
+
+    ghost value_answers = { λ _ s r t. (r ≡ Err (bare Overlength)) × (t ≡ s) };
+
+    fn value_len(&self) -> Result<Length, Error> {
+        Ok(Length::new(self.count))
+    }
+
+    fn encode_value<W: Writer>(&self, _writer: &mut W) -> Result<(), Error> {
+        Err(ErrorKind::Overlength.to_error())
+    }
+}
+
+#[test]
+fn elements_that_are_too_long(rt: HostRuntime) -> Result<(), Fail> {
+    let overflow = ErrorKind::Overflow.to_error();
+    let longest = Zeros { count: 4294967289 };
+    assert_eq!(rt; longest.encoded_len(), Ok(Length::MAX));
+    let zeros = Zeros { count: 4294967290 };
+    assert_eq!(rt; zeros.encoded_len(), Err(overflow));
+    assert_eq!(rt; encoded_len_tlv(&zeros), Err(overflow));
+    assert!(rt; matches!(zeros.to_der(rt.alloc()), Err(error) if error == overflow));
+    let mut out = Vec::from_slice(rt.alloc(), &[0xBBu8])?;
+    assert_eq!(rt; zeros.encode_to_vec(&mut out), Err(overflow));
+    assert_eq!(rt; out.as_slice(), [0xBB].as_slice());
+    Ok(())
+}
+
+#[test]
+fn contents_that_are_not_written(rt: HostRuntime) {
+    let mut buf = [0; 4];
+    let refused = Zeros { count: 1 }.encode_to_slice(&mut buf);
+    assert!(rt; matches!(refused, Err(error) if error == ErrorKind::Overlength.to_error()));
+}
