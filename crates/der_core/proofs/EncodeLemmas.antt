@@ -13,7 +13,7 @@ use Rattle.der_base.specs.declared.tag.Tag.{Tag}
 use Rattle.der_base.specs.declared.error.Error.{Error}
 use Rattle.der_base.proofs.TagLemmas.{label_large}
 use Rattle.der_core.specs.Writer.{WriterState, WriterOutcome, Writes, write_outcome, write_pieces, then_call, succeeded, appended}
-use Rattle.der_core.specs.Encode.{singly, first_and_others, length_outcome}
+use Rattle.der_core.specs.Encode.{singly, high_digits, first_and_others, length_outcome}
 
 -- the k lowest digits in base 256
 abbrev low_digits : ℕ → ℕ → List ℕ
@@ -97,11 +97,7 @@ continued_push [] d = refl
 continued_push (e ∷ []) d = refl
 continued_push (e ∷ f ∷ ds) d = ap (λ l. (128 + e) ∷ l) (continued_push (f ∷ ds) d)
 
--- the digits of a number, bit 8 set on each
-abbrev pub high_digits : ℕ → List ℕ
-high_digits n = map (λ d. 128 + d) (digits_of 128 n)
-
--- the last of them apart
+-- the last digit of a number apart
 pub high_push : (n : ℕ) → 0 < n → high_digits n ≡ high_digits (n / 128) ++ (128 + n % 128) ∷ []
 high_push n pos = ap (map (λ d. 128 + d)) (digits_of_step 128 n (omega arith) pos) ∙ map_push (digits_of 128 (n / 128)) (n % 128)
   where

@@ -1,5 +1,5 @@
 -- A SEQUENCE that is written by a closure: its header, and a part of the buffer for its contents.
-use Rattle.std.specs.Prelude.{◌≡◌, ℕ, ◌+◌, ◌<◌, ◌≤◌, true, false, length, take, Result, Ok, Err}
+use Rattle.std.specs.Prelude.{◌≡◌, ℕ, ◌+◌, ◌<◌, ◌≤◌, true, false, length, take, Result, Ok, Err, OnOk}
 use Rattle.std.specs.Borrow.{MutBor}
 use Rattle.der_base.specs.Length.{plain, length_octets}
 use Rattle.der_base.specs.Header.{header_octets}
@@ -73,6 +73,14 @@ pub record FilledBy (run : Run) (s : WriterState) (n : ℕ) (t : WriterState) : 
   pub working : (slice_writer_state after.now).failed ≡ false
   pub full : length (slice_writer_state after.now).octets ≡ length s.octets + n
   pub leaves : t ≡ record s { octets = (slice_writer_state after.now).octets }
+
+-- where the closure's call succeeded it filled the part
+abbrev pub Fills : Run → WriterState → ℕ → Result (Unit {0}) Error → WriterState → Type 0
+Fills run s n result t = OnOk result (FilledBy run s n t)
+
+-- where there is room the closure ran
+abbrev pub RunsInRoom : Run → WriterState → ℕ → Result (Unit {0}) Error → WriterState → Type 0
+RunsInRoom run s n result t = s.failed ≡ false → length s.octets + n ≤ s.stop → Ran run s n result t
 
 -- n octets are set apart and filled: no room, or the closure ran
 pub data PartAnswer (run : Run) (s : WriterState) (n : ℕ) (result : Result (Unit {0}) Error) (t : WriterState) : Type 0 where

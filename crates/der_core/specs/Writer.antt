@@ -1,5 +1,5 @@
 -- What a writer means, and what a write answers and leaves.
-use Rattle.std.specs.Prelude.{◌≡◌, ℕ, ◌+◌, ◌-◌, ◌^◌, Bool, true, false, List, [], ◌∷◌, ◌++◌, length, take, Result, Ok, Err, min, nat_lt, if◌then◌else◌}
+use Rattle.std.specs.Prelude.{◌≡◌, ℕ, ◌+◌, ◌-◌, ◌^◌, Bool, true, false, List, [], ◌∷◌, ◌++◌, length, take, Result, Ok, Err, OnOk, IsOk, ◌≤◌, min, nat_lt, if◌then◌else◌}
 use Rattle.der_base.specs.Length.{plain}
 use Rattle.der_base.specs.Error.{at}
 use Rattle.der_base.specs.declared.length.Length.{Length}
@@ -45,6 +45,14 @@ pub record Kept (s t : WriterState) : Type 0 where
   pub reference : t.reference ≡ s.reference
   pub before : take (length s.octets) t.octets ≡ s.octets
   pub fails : s.failed ≡ true → t.failed ≡ true
+
+-- where a call succeeded it appended the octets
+abbrev pub Appends : WriterState → List ℕ → Result (Unit {0}) Error → WriterState → Type 0
+Appends s octets result t = OnOk result (t ≡ appended s octets)
+
+-- a call on a writer that has not failed and has room for the octets succeeds
+abbrev pub Takes : WriterState → List ℕ → Result (Unit {0}) Error → Type 0
+Takes s octets result = s.failed ≡ false → length s.octets + length octets ≤ s.stop → IsOk result
 
 -- what a call answers, and how it leaves the writer
 pub record WriterOutcome : Type 0 where

@@ -1,14 +1,11 @@
 //! Encoding.
-ghost use Rattle.std.specs.Prelude.{◌≡◌, ℕ, ◌+◌, ◌^◌, ◌<◌, ◌≤◌, ◌⊎◌, false, true, List, ◌++◌, length, Err, OnOk, OnErr, IfOk, IfErr, IsOk, IsErrAnd, Result as AResult};
-ghost use Rattle.der_base.specs.Length.{number, plain};
-ghost use Rattle.der_base.specs.Error.{bare};
-ghost use Rattle.der_base.specs.declared.error.ErrorKind.TheVariants.{OutOfMemory};
-ghost use Rattle.der_base.specs.Header.{header_octets};
+ghost use Rattle.std.specs.Prelude.{◌≡◌, ◌++◌, ℕ, true, List, length, OnOk, OnErr, IfOk, IfErr, Result as AResult};
+ghost use Rattle.der_base.specs.Length.{plain};
 ghost use Rattle.der_base.specs.declared.error.Error.{Error as AnError};
 ghost use Rattle.der_base.specs.declared.length.Length.{Length as ALength};
-ghost use Rattle.der_core.specs.Writer.{WriterState, Kept, appended};
 ghost use Rattle.der_core.specs.Outcome.{seen};
-ghost use Rattle.der_core.specs.Encode.{element_size, ElementAnswers, SliceAnswer, NotAppended};
+ghost use Rattle.der_core.specs.Writer.{WriterState, Kept, Appends};
+ghost use Rattle.der_core.specs.Encode.{Counts, HasSize, TakesCounted, FitsInto, GrowsBy, element_octets, element_size, ElementAnswers, SliceAnswer, NotAppended};
 
 mod header;
 mod length;
@@ -25,9 +22,9 @@ pub use value::{EncodeValue, WrittenValue, encode_value_to_slice};
 
 /// Types whose values are written as octets.
 ///
-/// `encoding` is the octets of a value, `encodable` whether it can be written at all. `size` is the
-/// exact answer of [`Encode::encoded_len`], and `answers` the exact outcome of [`Encode::encode`] on
-/// a reliable writer, refusals and their states included.
+/// `encoding` is the octets of a value, `encodable` whether it can be written at all. `size` is
+/// the exact answer of [`Encode::encoded_len`], and `answers` the exact outcome of
+/// [`Encode::encode`] on a reliable writer, refusals and their states included.
 pub trait Encode {
     ghost encoding: { Self → List ℕ };
 
@@ -39,23 +36,27 @@ pub trait Encode {
 
     /// How many octets the encoding has.
     fn encoded_len(&self) -> Result<Length, Error>
-        ensures ok { IfOk result (λ l. number l ≡ length (encoding self.now)) }
-        ensures succeeds { encodable self.now → length (encoding self.now) < 2 ^ 32 → IsOk result }
+        ensures ok { Counts (encoding self.now) result }
+        ensures succeeds { encodable self.now → HasSize (encoding self.now) result }
         ensures exact { result ≡ size self.now };
 
     /// Writes the encoding.
     fn encode<W: Writer>(&self, writer: &mut W) -> Result<(), Error>
         ensures kept { Kept (W.state writer.old) (W.state writer.new) }
-        ensures ok { OnOk result (W.state writer.new ≡ appended (W.state writer.old) (encoding self.now)) }
-        ensures succeeds { encodable self.now → length (encoding self.now) < 2 ^ 32 → (W.state writer.old).failed ≡ false → length (W.state writer.old).octets + length (encoding self.now) ≤ (W.state writer.old).stop → IsOk result }
-        ensures exact { W.reliable ≡ true → answers self.now (W.state writer.old) result (W.state writer.new) };
+        ensures ok { Appends (W.state writer.old) (encoding self.now) result (W.state writer.new) }
+        ensures succeeds { encodable self.now
+            → TakesCounted (W.state writer.old) (encoding self.now) result }
+        ensures exact { W.reliable ≡ true
+            → answers self.now (W.state writer.old) result (W.state writer.new) };
 
     /// Writes the encoding to the beginning of the buffer, and answers it. Takes no memory. After a
     /// refusal nothing is promised of the buffer.
     final fn encode_to_slice<'b>(&self, buf: &'b mut [u8]) -> Result<&'b [u8], Error>
         ensures ok { IfOk result (λ r. r.now ≡ Self.encoding self.now) }
-        ensures succeeds { Self.encodable self.now → length (Self.encoding self.now) < 2 ^ 32 → length (Self.encoding self.now) ≤ length buf.old → IsOk result }
-        ensures exact { SliceAnswer (Self.answers self.now) (length buf.old) (seen (λ r. r.now) result) }
+        ensures succeeds { Self.encodable self.now
+            → FitsInto (Self.encoding self.now) (length buf.old) result }
+        ensures exact { SliceAnswer (Self.answers self.now) (length buf.old)
+            (seen (λ r. r.now) result) }
     {
         let mut writer = SliceWriter::new(buf);
         match self.encode(&mut writer) {
@@ -71,8 +72,10 @@ pub trait Encode {
         ensures ok { OnOk result (out.new.items ≡ out.old.items ++ Self.encoding self.now) }
         ensures count { IfOk result (λ l. l ≡ plain (length (Self.encoding self.now))) }
         ensures refused { OnErr result (out.new.items ≡ out.old.items) }
-        ensures succeeds { Self.encodable self.now → length (Self.encoding self.now) < 2 ^ 32 → length out.old.items + length (Self.encoding self.now) < 2 ^ 64 → IsOk result ⊎ (result ≡ Err (bare OutOfMemory)) }
-        ensures exact { IfErr result (NotAppended (Self.size self.now) (Self.answers self.now) (length out.old.items)) }
+        ensures succeeds { Self.encodable self.now
+            → GrowsBy (Self.encoding self.now) (length out.old.items) result }
+        ensures exact { IfErr result
+            (NotAppended (Self.size self.now) (Self.answers self.now) (length out.old.items)) }
     {
         append(self, out)
     }
@@ -80,7 +83,7 @@ pub trait Encode {
     /// The encoding; `OutOfMemory` without a position where memory is refused.
     final fn to_der(&self, alloc: Global) -> Result<Vec<u8>, Error>
         ensures ok { IfOk result (λ v. v.items ≡ Self.encoding self.now) }
-        ensures succeeds { Self.encodable self.now → length (Self.encoding self.now) < 2 ^ 32 → IsOk result ⊎ IsErrAnd result (λ e. e ≡ bare OutOfMemory) }
+        ensures succeeds { Self.encodable self.now → GrowsBy (Self.encoding self.now) 0 result }
         ensures exact { IfErr result (NotAppended (Self.size self.now) (Self.answers self.now) 0) }
     {
         to_der_in(alloc, self)
@@ -88,7 +91,7 @@ pub trait Encode {
 }
 
 impl<T: EncodeValue + Tagged> Encode for T {
-    ghost encoding = { λ v. header_octets (T.tag_of v) (length (T.contents v)) ++ T.contents v };
+    ghost encoding = { λ v. element_octets (T.tag_of v) (T.contents v) };
 
     ghost encodable = { T.writable };
 
@@ -107,8 +110,9 @@ impl<T: EncodeValue + Tagged> Encode for T {
 
 /// How many octets the element of a value has: its tag, its length, and its contents.
 pub fn encoded_len_tlv<T: EncodeValue + Tagged>(value: &T) -> Result<Length, Error>
-    ensures ok { IfOk result (λ l. number l ≡ length (header_octets (T.tag_of value.now) (length (T.contents value.now)) ++ T.contents value.now)) }
-    ensures succeeds { T.writable value.now → length (header_octets (T.tag_of value.now) (length (T.contents value.now)) ++ T.contents value.now) < 2 ^ 32 → IsOk result }
+    ensures ok { Counts (element_octets (T.tag_of value.now) (T.contents value.now)) result }
+    ensures succeeds { T.writable value.now
+        → HasSize (element_octets (T.tag_of value.now) (T.contents value.now)) result }
     ensures exact { result ≡ element_size (T.tag_of value.now) (T.value_size value.now) }
 {
     match value.value_len() {
@@ -123,9 +127,12 @@ pub fn encode_tlv<T: EncodeValue + Tagged, W: Writer>(
     writer: &mut W,
 ) -> Result<(), Error>
     ensures kept { Kept (W.state writer.old) (W.state writer.new) }
-    ensures ok { OnOk result (W.state writer.new ≡ appended (W.state writer.old) (header_octets (T.tag_of value.now) (length (T.contents value.now)) ++ T.contents value.now)) }
-    ensures succeeds { T.writable value.now → length (header_octets (T.tag_of value.now) (length (T.contents value.now)) ++ T.contents value.now) < 2 ^ 32 → (W.state writer.old).failed ≡ false → length (W.state writer.old).octets + length (header_octets (T.tag_of value.now) (length (T.contents value.now)) ++ T.contents value.now) ≤ (W.state writer.old).stop → IsOk result }
-    ensures exact { W.reliable ≡ true → ElementAnswers (T.tag_of value.now) (T.value_size value.now) (T.value_answers value.now) (W.state writer.old) result (W.state writer.new) }
+    ensures ok { Appends (W.state writer.old)
+        (element_octets (T.tag_of value.now) (T.contents value.now)) result (W.state writer.new) }
+    ensures succeeds { T.writable value.now → TakesCounted (W.state writer.old)
+        (element_octets (T.tag_of value.now) (T.contents value.now)) result }
+    ensures exact { W.reliable ≡ true → ElementAnswers (T.tag_of value.now) (T.value_size value.now)
+        (T.value_answers value.now) (W.state writer.old) result (W.state writer.new) }
 {
     let header = match value.header() {
         Ok(header) => header,

@@ -1,6 +1,6 @@
 //! Writers of octets.
-ghost use Rattle.std.specs.Prelude.{◌≡◌, ◌+◌, ◌≤◌, Bool, true, false, [], ◌∷◌, length, OnOk, IsOk};
-ghost use Rattle.der_core.specs.Writer.{WriterState, Kept, Writes, appended, write_outcome};
+ghost use Rattle.std.specs.Prelude.{◌≡◌, Bool, true, [], ◌∷◌};
+ghost use Rattle.der_core.specs.Writer.{WriterState, Kept, Appends, Takes, Writes, write_outcome};
 
 pub mod slice;
 
@@ -22,16 +22,19 @@ pub trait Writer {
     /// stands.
     fn write(&mut self, octets: &[u8]) -> Result<(), Error>
         ensures kept { Kept (state self.old) (state self.new) }
-        ensures ok { OnOk result (state self.new ≡ appended (state self.old) octets.now) }
-        ensures succeeds { (state self.old).failed ≡ false → length (state self.old).octets + length octets.now ≤ (state self.old).stop → IsOk result }
-        ensures exact { reliable ≡ true → Writes (write_outcome octets.now (state self.old)) result (state self.new) };
+        ensures ok { Appends (state self.old) octets.now result (state self.new) }
+        ensures succeeds { Takes (state self.old) octets.now result }
+        ensures exact { reliable ≡ true
+            → Writes (write_outcome octets.now (state self.old)) result (state self.new) };
 
     /// Appends one octet, as [`Writer::write`] does.
     final fn write_byte(&mut self, octet: u8) -> Result<(), Error>
         ensures kept { Kept (Self.state self.old) (Self.state self.new) }
-        ensures ok { OnOk result (Self.state self.new ≡ appended (Self.state self.old) (octet ∷ [])) }
-        ensures succeeds { (Self.state self.old).failed ≡ false → length (Self.state self.old).octets + 1 ≤ (Self.state self.old).stop → IsOk result }
-        ensures exact { Self.reliable ≡ true → Writes (write_outcome (octet ∷ []) (Self.state self.old)) result (Self.state self.new) }
+        ensures ok { Appends (Self.state self.old) (octet ∷ []) result (Self.state self.new) }
+        ensures succeeds { Takes (Self.state self.old) (octet ∷ []) result }
+        ensures exact { Self.reliable ≡ true
+            → Writes (write_outcome (octet ∷ []) (Self.state self.old)) result
+            (Self.state self.new) }
     {
         self.write(&[octet])
     }

@@ -18,9 +18,11 @@ impl Encode for Header {
 
     ghost encodable = { λ _. Unit {0} };
 
-    ghost size = { λ h. Ok (plain (length (header_octets (head_of h).tag (number (head_of h).length)))) };
+    ghost size = { λ h. Ok (plain (length
+        (header_octets (head_of h).tag (number (head_of h).length)))) };
 
-    ghost answers = { λ h s r t. Writes (header_outcome (head_of h).tag (number (head_of h).length) s) r t };
+    ghost answers = { λ h s r t.
+        Writes (header_outcome (head_of h).tag (number (head_of h).length) s) r t };
 
     fn encoded_len(&self) -> Result<Length, Error> {
         let count = tag::octet_count(self.tag()) + length::octet_count(self.length());

@@ -1,10 +1,9 @@
 //! Tags, written.
-ghost use Rattle.std.specs.Prelude.{◌≡◌, ◌+◌, ◌≤◌, ◌<◌, ◌/◌, length, map, Ok, OnOk, IsOk, false, true};
-ghost use Rattle.std.specs.Int.Digits.{digits_of};
+ghost use Rattle.std.specs.Prelude.{◌≡◌, ◌≤◌, ◌<◌, length, Ok, true};
 ghost use Rattle.der_base.specs.Length.{plain};
 ghost use Rattle.der_base.specs.Tag.{label, tag_octets, first_octet};
-ghost use Rattle.der_core.specs.Writer.{Writes, Kept, appended, write_pieces};
-ghost use Rattle.der_core.specs.Encode.{singly, tag_outcome};
+ghost use Rattle.der_core.specs.Writer.{Writes, Kept, Appends, Takes, write_pieces};
+ghost use Rattle.der_core.specs.Encode.{singly, high_digits, tag_outcome};
 
 use crate::encode::Encode;
 use crate::writer::Writer;
@@ -52,9 +51,11 @@ fn first_octet_of(tag: Tag, low: u8) -> u8
 // (X.690 8.1.2.4.2).
 fn encode_high_digits<W: Writer>(number: u32, writer: &mut W) -> Result<(), Error>
     ensures kept { Kept (W.state writer.old) (W.state writer.new) }
-    ensures ok { OnOk result (W.state writer.new ≡ appended (W.state writer.old) (map (λ d. 128 + d) (digits_of 128 number))) }
-    ensures succeeds { (W.state writer.old).failed ≡ false → length (W.state writer.old).octets + length (digits_of 128 number) ≤ (W.state writer.old).stop → IsOk result }
-    ensures exact { W.reliable ≡ true → Writes (write_pieces (singly (map (λ d. 128 + d) (digits_of 128 number))) (W.state writer.old)) result (W.state writer.new) }
+    ensures ok { Appends (W.state writer.old) (high_digits number) result (W.state writer.new) }
+    ensures succeeds { Takes (W.state writer.old) (high_digits number) result }
+    ensures exact { W.reliable ≡ true → Writes
+        (write_pieces (singly (high_digits number)) (W.state writer.old)) result
+        (W.state writer.new) }
 {
     if number == 0 {
         return Ok(());

@@ -1,12 +1,10 @@
 //! Encoding of contents.
-ghost use Rattle.std.specs.Prelude.{◌≡◌, ℕ, ◌+◌, ◌^◌, ◌<◌, ◌≤◌, false, true, List, length, OnOk, IfOk, IsOk, Result as AResult};
-ghost use Rattle.der_base.specs.Length.{number};
+ghost use Rattle.std.specs.Prelude.{◌≡◌, ℕ, true, List, length, IfOk, Result as AResult};
 ghost use Rattle.der_base.specs.declared.error.Error.{Error as AnError};
 ghost use Rattle.der_base.specs.declared.length.Length.{Length as ALength};
-ghost use Rattle.der_core.specs.Header.{head_of};
 ghost use Rattle.der_core.specs.Outcome.{seen};
-ghost use Rattle.der_core.specs.Writer.{WriterState, Kept, appended};
-ghost use Rattle.der_core.specs.Encode.{HeaderAnswers, SliceAnswer};
+ghost use Rattle.der_core.specs.Writer.{WriterState, Kept, Appends};
+ghost use Rattle.der_core.specs.Encode.{Counts, HasSize, TakesCounted, FitsInto, HeaderOf, HeaderAnswers, SliceAnswer};
 
 use crate::header::Header;
 use crate::tag::fixed::Tagged;
@@ -34,8 +32,8 @@ pub trait EncodeValue: WrittenValue {
     fn header(&self) -> Result<Header, Error>
     where
         Self: Tagged,
-        ensures ok { IfOk result (λ h. ((head_of h).tag ≡ Self.tag_of self.now) × (number (head_of h).length ≡ length (Self.contents self.now))) }
-        ensures succeeds { Self.writable self.now → length (Self.contents self.now) < 2 ^ 32 → IsOk result }
+        ensures ok { HeaderOf (Self.tag_of self.now) (Self.contents self.now) result }
+        ensures succeeds { Self.writable self.now → HasSize (Self.contents self.now) result }
         ensures exact { HeaderAnswers (Self.tag_of self.now) (value_size self.now) result }
     {
         match self.value_len() {
@@ -46,16 +44,19 @@ pub trait EncodeValue: WrittenValue {
 
     /// How many octets the contents have.
     fn value_len(&self) -> Result<Length, Error>
-        ensures ok { IfOk result (λ l. number l ≡ length (Self.contents self.now)) }
-        ensures succeeds { Self.writable self.now → length (Self.contents self.now) < 2 ^ 32 → IsOk result }
+        ensures ok { Counts (Self.contents self.now) result }
+        ensures succeeds { Self.writable self.now → HasSize (Self.contents self.now) result }
         ensures exact { result ≡ value_size self.now };
 
     /// Writes the contents.
     fn encode_value<W: Writer>(&self, writer: &mut W) -> Result<(), Error>
         ensures kept { Kept (W.state writer.old) (W.state writer.new) }
-        ensures ok { OnOk result (W.state writer.new ≡ appended (W.state writer.old) (Self.contents self.now)) }
-        ensures succeeds { Self.writable self.now → length (Self.contents self.now) < 2 ^ 32 → (W.state writer.old).failed ≡ false → length (W.state writer.old).octets + length (Self.contents self.now) ≤ (W.state writer.old).stop → IsOk result }
-        ensures exact { W.reliable ≡ true → value_answers self.now (W.state writer.old) result (W.state writer.new) };
+        ensures ok { Appends (W.state writer.old) (Self.contents self.now) result
+            (W.state writer.new) }
+        ensures succeeds { Self.writable self.now
+            → TakesCounted (W.state writer.old) (Self.contents self.now) result }
+        ensures exact { W.reliable ≡ true
+            → value_answers self.now (W.state writer.old) result (W.state writer.new) };
 }
 
 /// Writes the contents to the beginning of the buffer, and answers them. Takes no memory. After a
@@ -65,8 +66,10 @@ pub fn encode_value_to_slice<'a, T: EncodeValue>(
     value: &T,
 ) -> Result<&'a [u8], Error>
     ensures ok { IfOk result (λ r. r.now ≡ T.contents value.now) }
-    ensures succeeds { T.writable value.now → length (T.contents value.now) < 2 ^ 32 → length (T.contents value.now) ≤ length buf.old → IsOk result }
-    ensures exact { SliceAnswer (T.value_answers value.now) (length buf.old) (seen (λ r. r.now) result) }
+    ensures succeeds { T.writable value.now
+        → FitsInto (T.contents value.now) (length buf.old) result }
+    ensures exact { SliceAnswer (T.value_answers value.now) (length buf.old)
+        (seen (λ r. r.now) result) }
 {
     let mut writer = SliceWriter::new(buf);
     match value.encode_value(&mut writer) {

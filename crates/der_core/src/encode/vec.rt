@@ -1,10 +1,7 @@
 //! Encoding into memory of any allocator.
-ghost use Rattle.std.specs.Prelude.{◌≡◌, ◌+◌, ◌^◌, ◌<◌, ◌≤◌, ◌⊎◌, ℕ, ◌++◌, length, take, Err, OnOk, OnErr, IfOk, IfErr, IsOk, IsErrAnd};
+ghost use Rattle.std.specs.Prelude.{◌≡◌, ◌++◌, length, OnOk, OnErr, IfOk, IfErr};
 ghost use Rattle.der_base.specs.Length.{plain};
-ghost use Rattle.der_base.specs.Error.{bare};
-ghost use Rattle.der_base.specs.declared.error.ErrorKind.TheVariants.{OutOfMemory};
-ghost use Rattle.der_core.specs.Writer.{WriterState, fresh};
-ghost use Rattle.der_core.specs.Encode.{NotAppended};
+ghost use Rattle.der_core.specs.Encode.{Begins, FitsInto, FreshAnswer, GrowsBy, NotAppended};
 
 #[cfg(test)]
 mod tests;
@@ -17,7 +14,7 @@ use std::alloc::Allocator;
 // The body of `Encode::to_der`.
 pub(super) fn to_der_in<T: Encode, A: Allocator>(alloc: A, value: &T) -> Result<Vec<u8, A>, Error>
     ensures ok { IfOk result (λ v. v.items ≡ T.encoding value.now) }
-    ensures succeeds { T.encodable value.now → length (T.encoding value.now) < 2 ^ 32 → IsOk result ⊎ IsErrAnd result (λ e. e ≡ bare OutOfMemory) }
+    ensures succeeds { T.encodable value.now → GrowsBy (T.encoding value.now) 0 result }
     ensures exact { IfErr result (NotAppended (T.size value.now) (T.answers value.now) 0) }
 {
     let mut out = Vec::new(alloc);
@@ -35,8 +32,10 @@ pub(super) fn append<T: Encode, A: Allocator>(
     ensures ok { OnOk result (out.new.items ≡ out.old.items ++ T.encoding value.now) }
     ensures count { IfOk result (λ l. l ≡ plain (length (T.encoding value.now))) }
     ensures refused { OnErr result (out.new.items ≡ out.old.items) }
-    ensures succeeds { T.encodable value.now → length (T.encoding value.now) < 2 ^ 32 → length out.old.items + length (T.encoding value.now) < 2 ^ 64 → IsOk result ⊎ (result ≡ Err (bare OutOfMemory)) }
-    ensures exact { IfErr result (NotAppended (T.size value.now) (T.answers value.now) (length out.old.items)) }
+    ensures succeeds { T.encodable value.now
+        → GrowsBy (T.encoding value.now) (length out.old.items) result }
+    ensures exact { IfErr result
+        (NotAppended (T.size value.now) (T.answers value.now) (length out.old.items)) }
 {
     let before = out.len();
     let count = match value.encoded_len() {
@@ -61,9 +60,10 @@ pub(super) fn append<T: Encode, A: Allocator>(
 
 // Writes the encoding to the beginning of the buffer.
 fn fill<T: Encode>(value: &T, buf: &mut [u8]) -> Result<(), Error>
-    ensures ok { OnOk result (take (length (T.encoding value.now)) buf.new ≡ T.encoding value.now) }
-    ensures succeeds { T.encodable value.now → length (T.encoding value.now) < 2 ^ 32 → length (T.encoding value.now) ≤ length buf.old → IsOk result }
-    ensures exact { (reference : ℕ) × (t : WriterState) × T.answers value.now (fresh (length buf.old) reference) result t }
+    ensures ok { Begins (T.encoding value.now) result buf.new }
+    ensures succeeds { T.encodable value.now
+        → FitsInto (T.encoding value.now) (length buf.old) result }
+    ensures exact { FreshAnswer (T.answers value.now) (length buf.old) result }
 {
     let mut writer = SliceWriter::new(buf);
     value.encode(&mut writer)

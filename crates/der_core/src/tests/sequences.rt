@@ -1,8 +1,8 @@
-ghost use Rattle.std.specs.Prelude.{◌≡◌, ◌+◌, ◌<◌, ◌≤◌, ◌^◌, ◌++◌, false, length, OnOk, IsOk};
+ghost use Rattle.std.specs.Prelude.{◌≡◌, ◌++◌, length, OnOk};
 ghost use Rattle.der_base.specs.Length.{number};
 ghost use Rattle.der_base.specs.Header.{header_octets};
 ghost use Rattle.der_base.specs.declared.tag.Tag.TheVariants.{Sequence};
-ghost use Rattle.der_core.specs.Writer.{Kept, appended};
+ghost use Rattle.der_core.specs.Writer.{Kept, Appends};
 ghost use Rattle.der_core.specs.SliceWriter.{slice_writer_state};
 
 use super::*;
@@ -15,7 +15,9 @@ fn encode_in_sequence<T: Encode>(
     value: &T,
 ) -> Result<(), Error>
     ensures kept { Kept (slice_writer_state writer.old) (slice_writer_state writer.new) }
-    ensures ok { OnOk result (slice_writer_state writer.new ≡ appended (slice_writer_state writer.old) (header_octets Sequence (number len) ++ T.encoding value.now)) }
+    ensures ok { Appends (slice_writer_state writer.old)
+        (header_octets Sequence (number len) ++ T.encoding value.now) result
+        (slice_writer_state writer.new) }
     ensures fills { OnOk result (length (T.encoding value.now) ≡ number len) }
 {
     match writer.sequence(len, |w| value.encode(w)) {
@@ -98,26 +100,30 @@ fn a_sequence_that_is_refused_inside(rt: HostRuntime) {
     assert_eq!(rt; writer.sequence(Length::ZERO, |_w| Ok(())), Err(failed));
 }
 
+// A SEQUENCE whose contents are not written.
+fn sequence_of_nothing(writer: &mut SliceWriter<'_>, len: Length) -> Result<(), Error> {
+    writer.sequence(len, |_writer| Ok(()))
+}
+
 #[test]
 fn sequences_for_which_there_is_no_room(rt: HostRuntime) {
-    let mut buf = [0; 10];
-    let mut writer = SliceWriter::new(&mut buf);
-    assert_eq!(rt;
-        writer.sequence(Length::MAX, |_w| Ok(())),
-        Err(ErrorKind::Overflow.at(Length::new(6)))
-    );
-    assert!(rt; writer.is_failed());
-    let mut buf = [0; 10];
-    let mut writer = SliceWriter::new(&mut buf);
-    assert_eq!(rt;
-        writer.sequence(Length::new(9), |_w| Ok(())),
-        Err(ErrorKind::Overlength.at(Length::new(11)))
-    );
-    assert!(rt; writer.is_failed());
-    let mut buf = [0; 1];
-    let mut writer = SliceWriter::new(&mut buf);
-    assert_eq!(rt;
-        writer.sequence(Length::ZERO, |_w| Ok(())),
-        Err(ErrorKind::Overlength.at(Length::new(2)))
-    );
+    let rows = [
+        (10, Length::MAX, ErrorKind::Overflow.at(Length::new(6))),
+        (
+            10,
+            Length::new(9),
+            ErrorKind::Overlength.at(Length::new(11)),
+        ),
+        (1, Length::ZERO, ErrorKind::Overlength.at(Length::new(2))),
+    ];
+    for (room, len, want) in rows {
+        let mut buf = [0; 10];
+        let mut writer = SliceWriter::new(&mut buf[..room]);
+        assert_eq!(rt;
+            sequence_of_nothing(&mut writer, len),
+            Err(want),
+            "at {len}"
+        );
+        assert!(rt; writer.is_failed());
+    }
 }

@@ -19,7 +19,8 @@ impl Encode for Wrong {
 
     ghost size = { λ _. Ok (plain 1) };
 
-    ghost answers = { λ _ s r t. ThenAnswers (write_outcome (170 ∷ []) s).answer (write_outcome (170 ∷ []) s).after (λ u r t. (r ≡ Err (bare Overflow)) × (t ≡ u)) s r t };
+    ghost answers = { λ _ s r t. ThenAnswers (write_outcome (170 ∷ []) s).answer
+        (write_outcome (170 ∷ []) s).after (λ u r t. (r ≡ Err (bare Overflow)) × (t ≡ u)) s r t };
 
     fn encoded_len(&self) -> Result<Length, Error> {
         Ok(Length::ONE)

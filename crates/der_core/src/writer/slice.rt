@@ -1,5 +1,5 @@
 //! Writers into a slice.
-ghost use Rattle.std.specs.Prelude.{◌≡◌, ◌+◌, ◌-◌, ◌^◌, ◌<◌, ◌≤◌, true, false, length, Err, OnOk, IfOk, IfErr, IsOk};
+ghost use Rattle.std.specs.Prelude.{◌≡◌, ◌+◌, ◌^◌, ◌<◌, ◌≤◌, true, length, Err, IfOk};
 
 use crate::encode::Encode;
 use crate::header::Header;
@@ -25,15 +25,12 @@ pub struct SliceWriter<'a> {
 
 impl<'a> SliceWriter<'a> {
     ghost use Rattle.der_base.specs.Error.{at};
-    ghost use Rattle.der_base.specs.declared.error.ErrorKind.TheVariants.{Failed};
     ghost use Rattle.der_base.specs.Length.{number};
-    ghost use Rattle.der_core.specs.Writer.{fresh, here, fallen, appended, with_room, Kept, Writes};
-    ghost use Rattle.der_core.specs.Encode.{PlacedAnswer};
-    ghost use Rattle.der_core.specs.Sequence.{headed, MayFill, HandsBack, FilledBy, Ran, PartAnswer, SequenceAnswer};
-    ghost use Rattle.der_base.specs.Header.{header_octets};
-    ghost use Rattle.der_base.specs.declared.tag.Tag.TheVariants.{Sequence};
     ghost use Rattle.der_core.specs.Outcome.{seen};
+    ghost use Rattle.der_core.specs.Writer.{Kept, Appends, Writes, fresh, here, fallen, with_room};
+    ghost use Rattle.der_core.specs.Encode.{TakesCounted, RefusesFailed, PlacesErrors, finish_answer};
     ghost use Rattle.der_core.specs.SliceWriter.{slice_writer_state};
+    ghost use Rattle.der_core.specs.Sequence.{MayFill, HandsBack, Fills, RunsInRoom, PartAnswer, SequenceAnswer, headed};
 
     /// A writer into these octets, at their beginning.
     pub fn new(bytes: &'a mut [u8]) -> Self
@@ -67,9 +64,7 @@ impl<'a> SliceWriter<'a> {
 
     /// The octets written, or `Failed` at the position of a writer that has failed.
     pub fn finish(self) -> Result<&'a [u8], Error>
-        ensures ok { IfOk result (λ r. (r.now ≡ (slice_writer_state self.entry).octets) × ((slice_writer_state self.entry).failed ≡ false)) }
-        ensures succeeds { (slice_writer_state self.entry).failed ≡ false → IsOk result }
-        ensures refused { IfErr result (λ e. e ≡ at Failed (here (slice_writer_state self.entry))) }
+        ensures { seen (λ r. r.now) result ≡ finish_answer (slice_writer_state self.entry) }
     {
         if self.failed {
             return Err(ErrorKind::Failed.at(Length::new(self.position)));
@@ -84,10 +79,14 @@ impl<'a> SliceWriter<'a> {
     /// has failed.
     pub fn encode<T: Encode>(&mut self, value: &T) -> Result<(), Error>
         ensures kept { Kept (slice_writer_state self.old) (slice_writer_state self.new) }
-        ensures ok { OnOk result (slice_writer_state self.new ≡ appended (slice_writer_state self.old) (T.encoding value.now)) }
-        ensures succeeds { T.encodable value.now → length (T.encoding value.now) < 2 ^ 32 → (slice_writer_state self.old).failed ≡ false → length (slice_writer_state self.old).octets + length (T.encoding value.now) ≤ (slice_writer_state self.old).stop → IsOk result }
-        ensures was_failed { (slice_writer_state self.old).failed ≡ true → (result ≡ Err (at Failed (here (slice_writer_state self.old)))) × (slice_writer_state self.new ≡ slice_writer_state self.old) }
-        ensures exact { (slice_writer_state self.old).failed ≡ false → PlacedAnswer (T.answers value.now) (slice_writer_state self.old) result (slice_writer_state self.new) }
+        ensures ok { Appends (slice_writer_state self.old) (T.encoding value.now) result
+            (slice_writer_state self.new) }
+        ensures succeeds { T.encodable value.now
+            → TakesCounted (slice_writer_state self.old) (T.encoding value.now) result }
+        ensures was_failed { RefusesFailed (slice_writer_state self.old) result
+            (slice_writer_state self.new) }
+        ensures exact { PlacesErrors (T.answers value.now) (slice_writer_state self.old) result
+            (slice_writer_state self.new) }
     {
         if self.failed {
             return Err(ErrorKind::Failed.at(Length::new(self.position)));
@@ -117,12 +116,19 @@ impl<'a> SliceWriter<'a> {
         len: Length,
         f: F,
     ) -> Result<(), Error>
-        requires callable { MayFill (λ p. F.pre f p) (headed (slice_writer_state self.old) (number len)) (number len) }
-        requires same { HandsBack (λ p r q. F.post f p r q) (headed (slice_writer_state self.old) (number len)) (number len) }
+        requires callable { MayFill (λ p. F.pre f p)
+            (headed (slice_writer_state self.old) (number len)) (number len) }
+        requires same { HandsBack (λ p r q. F.post f p r q)
+            (headed (slice_writer_state self.old) (number len)) (number len) }
         ensures kept { Kept (slice_writer_state self.old) (slice_writer_state self.new) }
-        ensures ok { OnOk result (FilledBy (λ p r q. F.post f p r q) (headed (slice_writer_state self.old) (number len)) (number len) (slice_writer_state self.new)) }
-        ensures runs { (slice_writer_state self.old).failed ≡ false → length (slice_writer_state self.old).octets + length (header_octets Sequence (number len)) + number len ≤ (slice_writer_state self.old).stop → Ran (λ p r q. F.post f p r q) (headed (slice_writer_state self.old) (number len)) (number len) result (slice_writer_state self.new) }
-        ensures exact { SequenceAnswer (λ p r q. F.post f p r q) (slice_writer_state self.old) (number len) result (slice_writer_state self.new) }
+        ensures ok { Fills (λ p r q. F.post f p r q)
+            (headed (slice_writer_state self.old) (number len)) (number len) result
+            (slice_writer_state self.new) }
+        ensures runs { RunsInRoom (λ p r q. F.post f p r q)
+            (headed (slice_writer_state self.old) (number len)) (number len) result
+            (slice_writer_state self.new) }
+        ensures exact { SequenceAnswer (λ p r q. F.post f p r q) (slice_writer_state self.old)
+            (number len) result (slice_writer_state self.new) }
     {
         match Header::new(Tag::Sequence, len).encode(self) {
             Ok(()) => match self.fill_part(len, f) {
@@ -140,11 +146,15 @@ impl<'a> SliceWriter<'a> {
         f: F,
     ) -> Result<(), Error>
         requires callable { MayFill (λ p. F.pre f p) (slice_writer_state self.old) (number len) }
-        requires same { HandsBack (λ p r q. F.post f p r q) (slice_writer_state self.old) (number len) }
+        requires same { HandsBack (λ p r q. F.post f p r q)
+            (slice_writer_state self.old) (number len) }
         ensures kept { Kept (slice_writer_state self.old) (slice_writer_state self.new) }
-        ensures ok { OnOk result (FilledBy (λ p r q. F.post f p r q) (slice_writer_state self.old) (number len) (slice_writer_state self.new)) }
-        ensures runs { (slice_writer_state self.old).failed ≡ false → length (slice_writer_state self.old).octets + number len ≤ (slice_writer_state self.old).stop → Ran (λ p r q. F.post f p r q) (slice_writer_state self.old) (number len) result (slice_writer_state self.new) }
-        ensures exact { PartAnswer (λ p r q. F.post f p r q) (slice_writer_state self.old) (number len) result (slice_writer_state self.new) }
+        ensures ok { Fills (λ p r q. F.post f p r q) (slice_writer_state self.old) (number len)
+            result (slice_writer_state self.new) }
+        ensures runs { RunsInRoom (λ p r q. F.post f p r q)
+            (slice_writer_state self.old) (number len) result (slice_writer_state self.new) }
+        ensures exact { PartAnswer (λ p r q. F.post f p r q) (slice_writer_state self.old)
+            (number len) result (slice_writer_state self.new) }
     {
         let count = u32::from(len);
         let from = match self.admit(count as usize) {
@@ -181,7 +191,9 @@ impl<'a> SliceWriter<'a> {
     fn admit(&mut self, count: usize) -> Result<usize, Error>
         ensures kept { Kept (slice_writer_state self.old) (slice_writer_state self.new) }
         ensures ok { IfOk result (λ from. from ≡ self.old.start + self.old.position) }
-        ensures exact { Writes (with_room count (slice_writer_state self.old) (slice_writer_state self.old)) (seen (λ _. tt) result) (slice_writer_state self.new) }
+        ensures exact { Writes
+            (with_room count (slice_writer_state self.old) (slice_writer_state self.old))
+            (seen (λ _. tt) result) (slice_writer_state self.new) }
     {
         if self.failed {
             return Err(ErrorKind::Failed.at(Length::new(self.position)));

@@ -1,8 +1,8 @@
 use Rattle.std.proofs.Common.{arith, ◌≡◌, ℕ, ◌+◌, ◌/◌, ◌%◌, ◌<◌, ◌≤◌, List, [], ◌∷◌, ◌++◌, length, length-append, sym, ap, ◌∙◌, subst, OnOk, Ok, Err}
 use Rattle.der_base.specs.Tag.{label, tag_octets, first_octet}
 use Rattle.der_core.specs.Writer.{appended, Writes, write_pieces}
-use Rattle.der_core.specs.Encode.{singly}
-use Rattle.der_core.proofs.EncodeLemmas.{high_digits, length_high_digits, tag_spelled, appended_twice, pieces_then, pieces_stop, one_piece, singly_then, singly_stop, room_then}
+use Rattle.der_core.specs.Encode.{singly, high_digits}
+use Rattle.der_core.proofs.EncodeLemmas.{tag_spelled, appended_twice, pieces_then, pieces_stop, one_piece, singly_then, singly_stop, room_then}
 use Rattle.der_core.proofs.encode.tag.TagEncode.encode.Goals as goal
 
 pub returns-in-Ok-encode_high_digits-clause-ok : goal.returns-in-Ok-encode_high_digits-clause-ok
@@ -42,7 +42,7 @@ returns-in-Err-encode_high_digits-clause-succeeds g c can small alive room =
     let size = ap length spelled in
     let sum = length-append (high_digits (n / 128)) (n % 128 ∷ []) in
     let first = room_then (x ∷ []) (length (high_digits (n / 128))) _ _ c.in-Ok.ensures.ok alive (omega (arith, room, size, sum)) in
-    c.in-Err-encode_high_digits.ensures.succeeds first.0 (omega (arith, first.1, length_high_digits (n / 128)))
+    c.in-Err-encode_high_digits.ensures.succeeds first.0 first.1
 
 pub returns-in-Err-encode_high_digits-clause-exact : goal.returns-in-Err-encode_high_digits-clause-exact
 returns-in-Err-encode_high_digits-clause-exact g c reliable =

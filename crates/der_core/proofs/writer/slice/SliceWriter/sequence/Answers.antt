@@ -1,4 +1,4 @@
-use Rattle.std.proofs.Common.{arith, ◌≡◌, ℕ, ◌+◌, ◌<◌, length, refl, sym, ap, ◌∙◌, subst, Ok, Err}
+use Rattle.std.proofs.Common.{arith, ◌≡◌, ℕ, ◌+◌, ◌<◌, length, length-append, refl, sym, ap, ◌∙◌, subst, Ok, Err}
 use Rattle.der_base.specs.Length.{number}
 use Rattle.der_base.specs.Header.{Head, header_octets}
 use Rattle.der_base.specs.declared.tag.Tag.TheVariants.{Sequence}
@@ -38,7 +38,8 @@ returns-in-Ok-fill_part-clause-runs g c alive room =
     let s : WriterState = slice_writer_state c.args.self.now in
     let n : ℕ = number c.args.len in
     let same : slice_writer_state c.encode.new.writer ≡ headed s n = c.in-Ok.ensures.ok ∙ ap (λ (h : Head). appended s (header_octets h.tag (number h.length))) c.new.ensures in
-    let more = room_then (header_octets Sequence n) n s _ same alive (omega (arith, room)) in
+    let sum = length-append s.octets (header_octets Sequence n) in
+    let more = room_then (header_octets Sequence n) n s _ same alive (omega (arith, room, sum)) in
     ran_behind_header _ s _ _ _ _ same (c.in-Ok-fill_part.ensures.runs more.0 more.1)
 
 pub returns-in-Err-fill_part-clause-runs : goal.returns-in-Err-fill_part-clause-runs
@@ -46,7 +47,8 @@ returns-in-Err-fill_part-clause-runs g c alive room =
     let s : WriterState = slice_writer_state c.args.self.now in
     let n : ℕ = number c.args.len in
     let same : slice_writer_state c.encode.new.writer ≡ headed s n = c.in-Ok.ensures.ok ∙ ap (λ (h : Head). appended s (header_octets h.tag (number h.length))) c.new.ensures in
-    let more = room_then (header_octets Sequence n) n s _ same alive (omega (arith, room)) in
+    let sum = length-append s.octets (header_octets Sequence n) in
+    let more = room_then (header_octets Sequence n) n s _ same alive (omega (arith, room, sum)) in
     ran_behind_header _ s _ _ _ _ same (c.in-Err-fill_part.ensures.runs more.0 more.1)
 
 pub returns-in-Err-clause-runs : goal.returns-in-Err-clause-runs
@@ -54,7 +56,8 @@ returns-in-Err-clause-runs g c alive room =
     let s : WriterState = slice_writer_state c.args.self.now in
     let n : ℕ = number c.args.len in
     let size : length (header_octets c.new.result.tag (number c.new.result.length)) ≡ length (header_octets Sequence n) = ap (λ (h : Head). length (header_octets h.tag (number h.length))) c.new.ensures in
+    let sum = length-append s.octets (header_octets Sequence n) in
     let at = stands_at c.args.self.now in
     let countable = c.args.self.now.countable in
-    let wrong = c.in-Err.ensures.succeeds tt (omega (arith, room, size, at, countable)) alive (omega (arith, room, size)) in
+    let wrong = c.in-Err.ensures.succeeds tt (omega (arith, room, size, sum, at, countable)) alive (omega (arith, room, size, sum)) in
     cc
