@@ -19,10 +19,49 @@ pub trait WrittenValue {
     ghost writable: { Self → Type 0 };
 }
 
-/// Types whose values have contents, which stand behind a header.
+/// Types whose values have contents, which stand behind a header. Such a type that also has a tag
+/// is encoded by [`crate::Encode`]: its header, and then its contents.
 ///
 /// `value_size` is the exact answer of [`EncodeValue::value_len`], and `value_answers` the exact
 /// outcome of [`EncodeValue::encode_value`] on a reliable writer.
+///
+/// A month as an `OCTET STRING` of one octet:
+///
+/// ```
+/// pub struct Month {
+///     pub number: u8,
+/// }
+///
+/// impl FixedTag for Month {
+///     ghost tag_is = { OctetString };
+///
+///     const TAG: Tag = Tag::OctetString;
+///
+///     fn fixed_tag() -> Tag {
+///         Self::TAG
+///     }
+/// }
+///
+/// impl WrittenValue for Month {
+///     ghost contents = { λ month. month.number ∷ [] };
+///
+///     ghost writable = { λ _. Unit {0} };
+/// }
+///
+/// impl EncodeValue for Month {
+///     ghost value_size = { λ _. Ok (plain 1) };
+///
+///     ghost value_answers = { λ month s r t. Writes (write_outcome (month.number ∷ []) s) r t };
+///
+///     fn value_len(&self) -> Result<Length, Error> {
+///         Ok(Length::ONE)
+///     }
+///
+///     fn encode_value<W: Writer>(&self, writer: &mut W) -> Result<(), Error> {
+///         writer.write_byte(self.number)
+///     }
+/// }
+/// ```
 pub trait EncodeValue: WrittenValue {
     ghost value_size: { Self → AResult ALength AnError };
 
