@@ -9,3 +9,7 @@ pub mod Behind
 pub mod Resumption
 pub mod Nested
 pub mod Position
+pub mod Writer
+pub mod SliceWriter
+pub mod Encode
+pub mod Sequence

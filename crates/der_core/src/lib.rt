@@ -6,6 +6,8 @@
 #![tactic(auto)]
 
 pub mod decode;
+pub mod encode;
+pub mod encode_ref;
 pub mod header;
 mod length;
 mod peek;
@@ -13,15 +15,22 @@ pub mod reader;
 mod tag;
 #[cfg(test)]
 mod tests;
+pub mod writer;
 
 pub use decode::{Decode, DecodeBytes, DecodeError};
 pub use der_base::{
     CLASS_APPLICATION, CLASS_CONTEXT_SPECIFIC, CLASS_PRIVATE, CLASS_UNIVERSAL, Class,
     EncodingRules, Error, ErrorKind, Length, Result, Tag, TagMode, TagNumber,
 };
+pub use encode::{
+    Encode, EncodeValue, WrittenValue, encode_tlv, encode_value_to_slice, encoded_len_tlv,
+};
+pub use encode_ref::{EncodeRef, EncodeValueRef};
 pub use header::{Header, decode_header};
 pub use length::decode_length;
 pub use peek::TagPeek;
 pub use reader::{
     Octets, Position, Reader, ReaderExt, Resumption, SliceReader, close_value, read_eoc, read_value,
 };
+pub use tag::fixed::{FixedTag, IsConstructed, Tagged};
+pub use writer::{SliceWriter, Writer};

@@ -12,6 +12,8 @@ ghost use Rattle.der_core.specs.Refused.{Refused};
 ghost use Rattle.der_core.specs.Behind.{NumberRefused};
 ghost use Rattle.der_core.specs.Decode.{Passed, GrammarAnswers, header_levels, tag_ahead};
 
+pub mod fixed;
+
 use crate::decode::Decode;
 use crate::reader::{Reader, ReaderExt};
 use der_base::{Error, ErrorKind, Tag, TagNumber};

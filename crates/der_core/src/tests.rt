@@ -1,5 +1,5 @@
-//! Worked cases of reading; what is expected is worked out by hand from X.690 and from the rules of
-//! refusals.
+//! Worked cases of reading and writing; what is expected is worked out by hand from X.690 and from
+//! the rules of refusals.
 use crate::{
     Decode, DecodeBytes, Error, ErrorKind, Header, Length, Octets, Reader, ReaderExt, SliceReader,
     Tag, TagNumber, decode_header, decode_length,
@@ -8,12 +8,19 @@ use std::alloc::Global;
 use std::test::Fail;
 
 mod ahead;
+mod encoding;
 mod headers;
 mod lengths;
+mod month;
 mod nested;
 mod readers;
+mod references;
+mod sequences;
 mod tags;
 mod unlent;
+mod writers;
+mod wrong;
+mod zeros;
 
 fn incomplete(expected: u32, actual: u32, position: u32) -> Error {
     ErrorKind::Incomplete {

@@ -1,6 +1,9 @@
 //! Readers of a slice.
 ghost use Rattle.std.specs.Prelude.{◌≡◌, ℕ, ◌+◌, ◌-◌, ◌^◌, ◌<◌, ◌≤◌, ◌↔◌, Bool, true, false, length, IfOk, IfErr, IsOk};
 
+#[cfg(test)]
+mod tests;
+
 use crate::reader::position::MAX_DEPTH;
 use crate::reader::{Reader, Resumption};
 use der_base::{EncodingRules, Error, ErrorKind, Length};

@@ -1,0 +1,19 @@
+use Rattle.std.proofs.Common.{rules, arith, ◌≡◌, ◌+◌, ◌≤◌, length, Ok, ℕ, ◌-◌, ◌*◌, ◌<◌, List, [], ◌∷◌, ◌++◌, ◌∙◌, ap, take, drop, w32}
+use Rattle.std.specs.Int.{to_be_bytes}
+use Rattle.std.proofs.lemmas.List.{take_rest}
+use Rattle.der_base.specs.Length.{number, plain, length_octets}
+use Rattle.der_core.specs.Encode.{length_outcome}
+use Rattle.der_core.proofs.EncodeLemmas.{length_appended, length_outcome_of}
+use Rattle.der_core.proofs.encode.length.LengthEncode.encode.Goals as goal
+
+pub returns-in-Ok-clause-ok : goal.returns-in-Ok-clause-ok
+returns-in-Ok-clause-ok g c =
+    let size = c.octet_count-digits.ensures in
+    let k : ℕ = c.octet_count-digits.result - 1 in
+    length_appended k (number c.args.self.now) _ _ _ _ _ (omega (arith, size.some, c.if-digits-eq0.false)) (omega (arith, size.most)) (omega (arith, size.octets, size.some)) (ap (λ l. take (4 - (4 - k)) (drop (4 - k) l)) (c.to_be_bytes.ensures ∙ ap (to_be_bytes w32) c.from-number.ensures) ∙ take_rest (to_be_bytes w32 (number c.args.self.now)) (4 - k)) c.in-Ok.ensures.ok c.write.ensures.ok
+
+pub returns-in-Ok-clause-exact : goal.returns-in-Ok-clause-exact
+returns-in-Ok-clause-exact g c reliable =
+    let size = c.octet_count-digits.ensures in
+    let k : ℕ = c.octet_count-digits.result - 1 in
+    length_outcome_of k (number c.args.self.now) _ _ _ _ _ (omega (arith, size.some, c.if-digits-eq0.false)) (omega (arith, size.most)) (omega (arith, size.octets, size.some)) (ap (λ l. take (4 - (4 - k)) (drop (4 - k) l)) (c.to_be_bytes.ensures ∙ ap (to_be_bytes w32) c.from-number.ensures) ∙ take_rest (to_be_bytes w32 (number c.args.self.now)) (4 - k)) (c.in-Ok.ensures.exact reliable) (c.write.ensures.exact reliable)

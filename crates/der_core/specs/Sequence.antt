@@ -1,0 +1,94 @@
+-- A SEQUENCE that is written by a closure: its header, and a part of the buffer for its contents.
+use Rattle.std.specs.Prelude.{◌≡◌, ℕ, ◌+◌, ◌<◌, ◌≤◌, true, false, length, take, Result, Ok, Err, OnOk}
+use Rattle.std.specs.Borrow.{MutBor}
+use Rattle.der_base.specs.Length.{plain, length_octets}
+use Rattle.der_base.specs.Header.{header_octets}
+use Rattle.der_base.specs.Error.{at}
+use Rattle.der_base.specs.declared.tag.Tag.TheVariants.{Sequence}
+use Rattle.der_base.specs.declared.error.Error.{Error}
+use Rattle.der_base.specs.declared.error.ErrorKind.TheVariants.{Failed, Length as IncorrectLength}
+use Rattle.der_core.specs.Writer.{WriterState, Kept, Writes, appended, written, here, with_room}
+use Rattle.der_core.specs.Encode.{header_outcome}
+use Rattle.der_core.specs.SliceWriter.{slice_writer_state}
+use Rattle.der_core.specs.declared.writer.slice.SliceWriter.{SliceWriter}
+
+-- what may run, and what a run answers and leaves
+abbrev pub Condition : Type 1
+Condition = MutBor SliceWriter → Type 0
+
+abbrev pub Run : Type 1
+Run = MutBor SliceWriter → Result (Unit {0}) Error → MutBor SliceWriter → Type 0
+
+-- a writer over the next n octets alone, which nothing was written to
+abbrev pub part : WriterState → ℕ → WriterState
+part s n = record s { start = length s.octets; stop = length s.octets + n; failed = false }
+
+-- behind the header of a SEQUENCE of n octets
+abbrev pub headed : WriterState → ℕ → WriterState
+headed s n = appended s (header_octets Sequence n)
+
+-- the closure may be called with a writer over the part
+abbrev pub MayFill : Condition → WriterState → ℕ → Type 0
+MayFill pre s n = (p : MutBor SliceWriter) → slice_writer_state p.now ≡ part s n → pre p
+
+-- and it hands the same writer back
+abbrev pub HandsBack : Run → WriterState → ℕ → Type 0
+HandsBack post s n =
+    (p : MutBor SliceWriter) (r : Result (Unit {0}) Error) (q : MutBor SliceWriter) → slice_writer_state p.now ≡ part s n → post p r q
+    → Kept (slice_writer_state p.now) (slice_writer_state q.now)
+
+-- failed behind a part of n octets, of which those that were written stand
+pub record Abandoned (s : WriterState) (n : ℕ) (q t : WriterState) : Type 0 where
+  pub start : t.start ≡ s.start
+  pub stop : t.stop ≡ s.stop
+  pub capacity : t.capacity ≡ s.capacity
+  pub reference : t.reference ≡ s.reference
+  pub failed : t.failed ≡ true
+  pub behind : length t.octets ≡ length s.octets + n
+  pub stands : take (length q.octets) t.octets ≡ q.octets
+
+-- what follows a closure that was handed the part, answered r and left the writer q
+pub data Closed (s : WriterState) (n : ℕ) (q : WriterState) (t : WriterState) : Result (Unit {0}) Error → Result (Unit {0}) Error → Type 0 where
+  refused : (e : Error) → Abandoned s n q t → Closed s n q t (Err e) (Err e)
+  failed : q.failed ≡ true → Abandoned s n q t → Closed s n q t (Ok tt) (Err (at Failed (here q)))
+  unfilled : q.failed ≡ false → length q.octets < length s.octets + n → Abandoned s n q t
+      → Closed s n q t (Ok tt) (Err (at (IncorrectLength Sequence) (plain (written s + n))))
+  filled : q.failed ≡ false → length q.octets ≡ length s.octets + n → t ≡ record s { octets = q.octets } → Closed s n q t (Ok tt) (Ok tt)
+
+-- the closure ran over the part, and the answer is as it follows
+pub record Ran (run : Run) (s : WriterState) (n : ℕ) (result : Result (Unit {0}) Error) (t : WriterState) : Type 0 where
+  pub given : MutBor SliceWriter
+  pub answer : Result (Unit {0}) Error
+  pub after : MutBor SliceWriter
+  pub over_part : slice_writer_state given.now ≡ part s n
+  pub ran : run given answer after
+  pub closed : Closed s n (slice_writer_state after.now) t answer result
+
+-- the closure ran over the part and filled it, without a refusal
+pub record FilledBy (run : Run) (s : WriterState) (n : ℕ) (t : WriterState) : Type 0 where
+  pub given : MutBor SliceWriter
+  pub after : MutBor SliceWriter
+  pub over_part : slice_writer_state given.now ≡ part s n
+  pub ran : run given (Ok tt) after
+  pub working : (slice_writer_state after.now).failed ≡ false
+  pub full : length (slice_writer_state after.now).octets ≡ length s.octets + n
+  pub leaves : t ≡ record s { octets = (slice_writer_state after.now).octets }
+
+-- where the closure's call succeeded it filled the part
+abbrev pub Fills : Run → WriterState → ℕ → Result (Unit {0}) Error → WriterState → Type 0
+Fills run s n result t = OnOk result (FilledBy run s n t)
+
+-- where there is room the closure ran
+abbrev pub RunsInRoom : Run → WriterState → ℕ → Result (Unit {0}) Error → WriterState → Type 0
+RunsInRoom run s n result t = s.failed ≡ false → length s.octets + n ≤ s.stop → Ran run s n result t
+
+-- n octets are set apart and filled: no room, or the closure ran
+pub data PartAnswer (run : Run) (s : WriterState) (n : ℕ) (result : Result (Unit {0}) Error) (t : WriterState) : Type 0 where
+  no_room : (e : Error) → (with_room n s s).answer ≡ Err e → Writes (with_room n s s) result t → PartAnswer run s n result t
+  ran : (with_room n s s).answer ≡ Ok tt → Ran run s n result t → PartAnswer run s n result t
+
+-- the rows of `sequence`: no room for the header; else the part behind it
+pub data SequenceAnswer (run : Run) (s : WriterState) (n : ℕ) (result : Result (Unit {0}) Error) (t : WriterState) : Type 0 where
+  no_header : (e : Error) → (header_outcome Sequence n s).answer ≡ Err e → Writes (header_outcome Sequence n s) result t
+      → SequenceAnswer run s n result t
+  with_header : Writes (header_outcome Sequence n s) (Ok tt) (headed s n) → PartAnswer run (headed s n) n result t → SequenceAnswer run s n result t

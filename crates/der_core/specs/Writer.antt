@@ -1,0 +1,90 @@
+-- What a writer means, and what a write answers and leaves.
+use Rattle.std.specs.Prelude.{◌≡◌, ℕ, ◌+◌, ◌-◌, ◌^◌, Bool, true, false, List, [], ◌∷◌, ◌++◌, length, take, Result, Ok, Err, OnOk, IsOk, ◌≤◌, min, nat_lt, if◌then◌else◌}
+use Rattle.der_base.specs.Length.{plain}
+use Rattle.der_base.specs.Error.{at}
+use Rattle.der_base.specs.declared.length.Length.{Length}
+use Rattle.der_base.specs.declared.error.Error.{Error}
+use Rattle.der_base.specs.declared.error.ErrorKind.TheVariants.{Failed, Overflow, Overlength}
+
+pub record WriterState : Type 0 where
+  -- all octets written since the buffer began
+  pub octets : List ℕ
+  -- where the part of the buffer that may be written begins and ends
+  pub start : ℕ
+  pub stop : ℕ
+  -- the buffer's length
+  pub capacity : ℕ
+  pub failed : Bool
+  -- which buffer it is
+  pub reference : ℕ
+
+-- a writer over a whole buffer of n octets, of which it takes no more than a length can count
+abbrev pub fresh : ℕ → ℕ → WriterState
+fresh n reference =
+    record { octets = []; start = 0; stop = min n (2 ^ 32 - 1); capacity = n; failed = false; reference = reference }
+
+-- how many octets were written into the part
+abbrev pub written : WriterState → ℕ
+written s = length s.octets - s.start
+
+-- the position: that number as a length
+abbrev pub here : WriterState → Length
+here s = plain (written s)
+
+abbrev pub appended : WriterState → List ℕ → WriterState
+appended s octets = record s { octets = s.octets ++ octets }
+
+abbrev pub fallen : WriterState → WriterState
+fallen s = record s { failed = true }
+
+-- the same writer is handed back, which is not less failed, and what was written before still stands
+pub record Kept (s t : WriterState) : Type 0 where
+  pub start : t.start ≡ s.start
+  pub stop : t.stop ≡ s.stop
+  pub capacity : t.capacity ≡ s.capacity
+  pub reference : t.reference ≡ s.reference
+  pub before : take (length s.octets) t.octets ≡ s.octets
+  pub fails : s.failed ≡ true → t.failed ≡ true
+
+-- where a call succeeded it appended the octets
+abbrev pub Appends : WriterState → List ℕ → Result (Unit {0}) Error → WriterState → Type 0
+Appends s octets result t = OnOk result (t ≡ appended s octets)
+
+-- a call on a writer that has not failed and has room for the octets succeeds
+abbrev pub Takes : WriterState → List ℕ → Result (Unit {0}) Error → Type 0
+Takes s octets result = s.failed ≡ false → length s.octets + length octets ≤ s.stop → IsOk result
+
+-- what a call answers, and how it leaves the writer
+pub record WriterOutcome : Type 0 where
+  pub answer : Result (Unit {0}) Error
+  pub after : WriterState
+
+pub record Writes (outcome : WriterOutcome) (answer : Result (Unit {0}) Error) (t : WriterState) : Type 0 where
+  pub answered : answer ≡ outcome.answer
+  pub leaves : t ≡ outcome.after
+
+abbrev pub succeeded : WriterState → WriterOutcome
+succeeded t = record { answer = Ok tt; after = t }
+
+abbrev pub refused : Error → WriterState → WriterOutcome
+refused e t = record { answer = Err e; after = t }
+
+-- n octets more, for which there has to be room; each refusal leaves the writer failed
+abbrev pub with_room : ℕ → WriterState → WriterState → WriterOutcome
+with_room n s granted =
+    if s.failed then refused (at Failed (here s)) s
+    else if nat_lt (written s + n) (2 ^ 32) then (if nat_lt s.stop (length s.octets + n) then refused (at Overlength (plain (written s + n))) (fallen s) else succeeded granted)
+    else refused (at Overflow (here s)) (fallen s)
+
+abbrev pub write_outcome : List ℕ → WriterState → WriterOutcome
+write_outcome octets s = with_room (length octets) s (appended s octets)
+
+-- a call, and where it succeeds another
+abbrev pub then_call : Result (Unit {0}) Error → WriterState → (WriterState → WriterOutcome) → WriterOutcome
+then_call (Ok _) t next = next t
+then_call (Err e) t next = refused e t
+
+-- octets that go out in pieces, a write for each
+abbrev pub write_pieces : List (List ℕ) → WriterState → WriterOutcome
+write_pieces [] s = succeeded s
+write_pieces (piece ∷ pieces) s = then_call (write_outcome piece s).answer (write_outcome piece s).after (write_pieces pieces)

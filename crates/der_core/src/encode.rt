@@ -1,0 +1,145 @@
+//! Encoding.
+ghost use Rattle.std.specs.Prelude.{◌≡◌, ◌++◌, ℕ, true, List, length, OnOk, OnErr, IfOk, IfErr, Result as AResult};
+ghost use Rattle.der_base.specs.Length.{plain};
+ghost use Rattle.der_base.specs.declared.error.Error.{Error as AnError};
+ghost use Rattle.der_base.specs.declared.length.Length.{Length as ALength};
+ghost use Rattle.der_core.specs.Outcome.{seen};
+ghost use Rattle.der_core.specs.Writer.{WriterState, Kept, Appends};
+ghost use Rattle.der_core.specs.Encode.{Counts, HasSize, TakesCounted, FitsInto, GrowsBy, element_octets, element_size, ElementAnswers, SliceAnswer, NotAppended};
+
+mod header;
+mod length;
+mod tag;
+pub mod value;
+mod vec;
+
+use crate::encode::vec::{append, to_der_in};
+use crate::tag::fixed::Tagged;
+use crate::writer::{SliceWriter, Writer};
+use der_base::{Error, Length};
+use std::alloc::Global;
+pub use value::{EncodeValue, WrittenValue, encode_value_to_slice};
+
+/// Types whose values are written as octets.
+///
+/// `encoding` is the octets of a value, `encodable` whether it can be written at all. `size` is
+/// the exact answer of [`Encode::encoded_len`], and `answers` the exact outcome of
+/// [`Encode::encode`] on a reliable writer, refusals and their states included.
+pub trait Encode {
+    ghost encoding: { Self → List ℕ };
+
+    ghost encodable: { Self → Type 0 };
+
+    ghost size: { Self → AResult ALength AnError };
+
+    ghost answers: { Self → WriterState → AResult (Unit {0}) AnError → WriterState → Type 0 };
+
+    /// How many octets the encoding has.
+    fn encoded_len(&self) -> Result<Length, Error>
+        ensures ok { Counts (encoding self.now) result }
+        ensures succeeds { encodable self.now → HasSize (encoding self.now) result }
+        ensures exact { result ≡ size self.now };
+
+    /// Writes the encoding.
+    fn encode<W: Writer>(&self, writer: &mut W) -> Result<(), Error>
+        ensures kept { Kept (W.state writer.old) (W.state writer.new) }
+        ensures ok { Appends (W.state writer.old) (encoding self.now) result (W.state writer.new) }
+        ensures succeeds { encodable self.now
+            → TakesCounted (W.state writer.old) (encoding self.now) result }
+        ensures exact { W.reliable ≡ true
+            → answers self.now (W.state writer.old) result (W.state writer.new) };
+
+    /// Writes the encoding to the beginning of the buffer, and answers it. Takes no memory. After a
+    /// refusal nothing is promised of the buffer.
+    final fn encode_to_slice<'b>(&self, buf: &'b mut [u8]) -> Result<&'b [u8], Error>
+        ensures ok { IfOk result (λ r. r.now ≡ Self.encoding self.now) }
+        ensures succeeds { Self.encodable self.now
+            → FitsInto (Self.encoding self.now) (length buf.old) result }
+        ensures exact { SliceAnswer (Self.answers self.now) (length buf.old)
+            (seen (λ r. r.now) result) }
+    {
+        let mut writer = SliceWriter::new(buf);
+        match self.encode(&mut writer) {
+            Ok(()) => writer.finish(),
+            Err(error) => Err(error),
+        }
+    }
+
+    /// Appends the encoding, and answers its number of octets. Where the vector would pass the
+    /// greatest `usize` that is `Overflow`, where memory is refused `OutOfMemory`, both without a
+    /// position. After each refusal the vector's contents are as before.
+    final fn encode_to_vec(&self, out: &mut Vec<u8>) -> Result<Length, Error>
+        ensures ok { OnOk result (out.new.items ≡ out.old.items ++ Self.encoding self.now) }
+        ensures count { IfOk result (λ l. l ≡ plain (length (Self.encoding self.now))) }
+        ensures refused { OnErr result (out.new.items ≡ out.old.items) }
+        ensures succeeds { Self.encodable self.now
+            → GrowsBy (Self.encoding self.now) (length out.old.items) result }
+        ensures exact { IfErr result
+            (NotAppended (Self.size self.now) (Self.answers self.now) (length out.old.items)) }
+    {
+        append(self, out)
+    }
+
+    /// The encoding; `OutOfMemory` without a position where memory is refused.
+    final fn to_der(&self, alloc: Global) -> Result<Vec<u8>, Error>
+        ensures ok { IfOk result (λ v. v.items ≡ Self.encoding self.now) }
+        ensures succeeds { Self.encodable self.now → GrowsBy (Self.encoding self.now) 0 result }
+        ensures exact { IfErr result (NotAppended (Self.size self.now) (Self.answers self.now) 0) }
+    {
+        to_der_in(alloc, self)
+    }
+}
+
+impl<T: EncodeValue + Tagged> Encode for T {
+    ghost encoding = { λ v. element_octets (T.tag_of v) (T.contents v) };
+
+    ghost encodable = { T.writable };
+
+    ghost size = { λ v. element_size (T.tag_of v) (T.value_size v) };
+
+    ghost answers = { λ v. ElementAnswers (T.tag_of v) (T.value_size v) (T.value_answers v) };
+
+    fn encoded_len(&self) -> Result<Length, Error> {
+        encoded_len_tlv(self)
+    }
+
+    fn encode<W: Writer>(&self, writer: &mut W) -> Result<(), Error> {
+        encode_tlv(self, writer)
+    }
+}
+
+/// How many octets the element of a value has: its tag, its length, and its contents.
+pub fn encoded_len_tlv<T: EncodeValue + Tagged>(value: &T) -> Result<Length, Error>
+    ensures ok { Counts (element_octets (T.tag_of value.now) (T.contents value.now)) result }
+    ensures succeeds { T.writable value.now
+        → HasSize (element_octets (T.tag_of value.now) (T.contents value.now)) result }
+    ensures exact { result ≡ element_size (T.tag_of value.now) (T.value_size value.now) }
+{
+    match value.value_len() {
+        Ok(len) => len.for_tlv(value.tag()),
+        Err(error) => Err(error),
+    }
+}
+
+/// Writes the element of a value: its header, and then its contents (X.690 8.1.1).
+pub fn encode_tlv<T: EncodeValue + Tagged, W: Writer>(
+    value: &T,
+    writer: &mut W,
+) -> Result<(), Error>
+    ensures kept { Kept (W.state writer.old) (W.state writer.new) }
+    ensures ok { Appends (W.state writer.old)
+        (element_octets (T.tag_of value.now) (T.contents value.now)) result (W.state writer.new) }
+    ensures succeeds { T.writable value.now → TakesCounted (W.state writer.old)
+        (element_octets (T.tag_of value.now) (T.contents value.now)) result }
+    ensures exact { W.reliable ≡ true → ElementAnswers (T.tag_of value.now) (T.value_size value.now)
+        (T.value_answers value.now) (W.state writer.old) result (W.state writer.new) }
+{
+    let header = match value.header() {
+        Ok(header) => header,
+        Err(error) => return Err(error),
+    };
+    match header.encode(writer) {
+        Ok(()) => value.encode_value(writer),
+        Err(error) => Err(error),
+    }
+}

@@ -1,0 +1,38 @@
+//! Headers, written.
+ghost use Rattle.std.specs.Prelude.{◌≡◌, length, Ok};
+ghost use Rattle.der_base.specs.Length.{number, plain};
+ghost use Rattle.der_base.specs.Header.{header_octets};
+ghost use Rattle.der_core.specs.Header.{head_of};
+ghost use Rattle.der_core.specs.Writer.{Writes};
+ghost use Rattle.der_core.specs.Encode.{header_outcome};
+
+use crate::encode::{Encode, length, tag};
+use crate::header::Header;
+use crate::writer::Writer;
+use der_base::{Error, Length};
+
+/// The tag is written and then the length, of which the number alone counts; the constructed bit is
+/// that of the tag.
+impl Encode for Header {
+    ghost encoding = { λ h. header_octets (head_of h).tag (number (head_of h).length) };
+
+    ghost encodable = { λ _. Unit {0} };
+
+    ghost size = { λ h. Ok (plain (length
+        (header_octets (head_of h).tag (number (head_of h).length)))) };
+
+    ghost answers = { λ h s r t.
+        Writes (header_outcome (head_of h).tag (number (head_of h).length) s) r t };
+
+    fn encoded_len(&self) -> Result<Length, Error> {
+        let count = tag::octet_count(self.tag()) + length::octet_count(self.length());
+        Ok(Length::new(count))
+    }
+
+    fn encode<W: Writer>(&self, writer: &mut W) -> Result<(), Error> {
+        match self.tag().encode(writer) {
+            Ok(()) => self.length().encode(writer),
+            Err(error) => Err(error),
+        }
+    }
+}

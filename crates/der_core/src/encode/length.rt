@@ -1,0 +1,57 @@
+//! Lengths, written.
+ghost use Rattle.std.specs.Prelude.{◌≡◌, ◌+◌, ◌≤◌, length, Ok};
+ghost use Rattle.der_base.specs.Length.{number, plain, length_octets};
+ghost use Rattle.der_core.specs.Writer.{Writes};
+ghost use Rattle.der_core.specs.Encode.{length_outcome};
+
+use crate::encode::Encode;
+use crate::writer::Writer;
+use der_base::{Error, Length};
+
+/// The number alone is written, in the fewest octets (X.690 8.1.3, 10.1): one octet, and then its
+/// digits in base 256 in one write, where it has any.
+impl Encode for Length {
+    ghost encoding = { λ l. length_octets (number l) };
+
+    ghost encodable = { λ _. Unit {0} };
+
+    ghost size = { λ l. Ok (plain (length (length_octets (number l)))) };
+
+    ghost answers = { λ l s r t. Writes (length_outcome (number l) s) r t };
+
+    fn encoded_len(&self) -> Result<Length, Error> {
+        Ok(Length::new(octet_count(*self)))
+    }
+
+    fn encode<W: Writer>(&self, writer: &mut W) -> Result<(), Error> {
+        let number = u32::from(*self);
+        let digits = octet_count(*self) - 1;
+        if digits == 0 {
+            return writer.write_byte(number as u8);
+        }
+        match writer.write_byte(0x80 + digits as u8) {
+            Ok(()) => writer.write(&number.to_be_bytes()[4 - digits as usize..]),
+            Err(error) => Err(error),
+        }
+    }
+}
+
+// How many octets a length takes: one below 128, else one more than it has digits in base 256.
+pub(super) fn octet_count(value: Length) -> u32
+    ensures octets { result ≡ length (length_octets (number value)) }
+    ensures some { 1 ≤ result }
+    ensures most { result ≤ 5 }
+{
+    let number = u32::from(value);
+    if number < 1 << 7 {
+        1
+    } else if number < 1 << 8 {
+        2
+    } else if number < 1 << 16 {
+        3
+    } else if number < 1 << 24 {
+        4
+    } else {
+        5
+    }
+}

@@ -1,0 +1,89 @@
+//! Tags, written.
+ghost use Rattle.std.specs.Prelude.{◌≡◌, ◌≤◌, ◌<◌, length, Ok, true};
+ghost use Rattle.der_base.specs.Length.{plain};
+ghost use Rattle.der_base.specs.Tag.{label, tag_octets, first_octet};
+ghost use Rattle.der_core.specs.Writer.{Writes, Kept, Appends, Takes, write_pieces};
+ghost use Rattle.der_core.specs.Encode.{singly, high_digits, tag_outcome};
+
+use crate::encode::Encode;
+use crate::writer::Writer;
+use der_base::{Error, Length, Tag};
+
+/// A tag is written octet by octet (X.690 8.1.2).
+impl Encode for Tag {
+    ghost encoding = { tag_octets };
+
+    ghost encodable = { λ _. Unit {0} };
+
+    ghost size = { λ t. Ok (plain (length (tag_octets t))) };
+
+    ghost answers = { λ t s r u. Writes (tag_outcome t s) r u };
+
+    fn encoded_len(&self) -> Result<Length, Error> {
+        Ok(Length::new(octet_count(*self)))
+    }
+
+    fn encode<W: Writer>(&self, writer: &mut W) -> Result<(), Error> {
+        let number = self.number().0;
+        if number < 31 {
+            return writer.write_byte(first_octet_of(*self, number as u8));
+        }
+        match writer.write_byte(first_octet_of(*self, 31)) {
+            Ok(()) => match encode_high_digits(number / 128, writer) {
+                Ok(()) => writer.write_byte((number % 128) as u8),
+                Err(error) => Err(error),
+            },
+            Err(error) => Err(error),
+        }
+    }
+}
+
+// The first octet of a tag, with these five low bits.
+fn first_octet_of(tag: Tag, low: u8) -> u8
+    requires { low < 32 }
+    ensures { result ≡ first_octet (label tag) low }
+{
+    let constructed = if tag.is_constructed() { 0x20 } else { 0 };
+    tag.class().bits() + constructed + low
+}
+
+// Writes the digits of a number in base 128, the most significant first, with bit 8 set on each
+// (X.690 8.1.2.4.2).
+fn encode_high_digits<W: Writer>(number: u32, writer: &mut W) -> Result<(), Error>
+    ensures kept { Kept (W.state writer.old) (W.state writer.new) }
+    ensures ok { Appends (W.state writer.old) (high_digits number) result (W.state writer.new) }
+    ensures succeeds { Takes (W.state writer.old) (high_digits number) result }
+    ensures exact { W.reliable ≡ true → Writes
+        (write_pieces (singly (high_digits number)) (W.state writer.old)) result
+        (W.state writer.new) }
+{
+    if number == 0 {
+        return Ok(());
+    }
+    match encode_high_digits(number / 128, writer) {
+        Ok(()) => writer.write_byte(128 + (number % 128) as u8),
+        Err(error) => Err(error),
+    }
+}
+
+// How many octets a tag takes: one for numbers to 30, else one more than the number has digits in
+// base 128.
+pub(super) fn octet_count(tag: Tag) -> u32
+    ensures octets { result ≡ length (tag_octets tag) }
+    ensures most { result ≤ 6 }
+{
+    let number = tag.number().0;
+    if number < 31 {
+        1
+    } else if number < 1 << 7 {
+        2
+    } else if number < 1 << 14 {
+        3
+    } else if number < 1 << 21 {
+        4
+    } else if number < 1 << 28 {
+        5
+    } else {
+        6
+    }
+}

@@ -1,0 +1,118 @@
+//! Encoding of contents.
+ghost use Rattle.std.specs.Prelude.{◌≡◌, ℕ, true, List, length, IfOk, Result as AResult};
+ghost use Rattle.der_base.specs.declared.error.Error.{Error as AnError};
+ghost use Rattle.der_base.specs.declared.length.Length.{Length as ALength};
+ghost use Rattle.der_core.specs.Outcome.{seen};
+ghost use Rattle.der_core.specs.Writer.{WriterState, Kept, Appends};
+ghost use Rattle.der_core.specs.Encode.{Counts, HasSize, TakesCounted, FitsInto, HeaderOf, HeaderAnswers, SliceAnswer};
+
+use crate::header::Header;
+use crate::tag::fixed::Tagged;
+use crate::writer::{SliceWriter, Writer};
+use der_base::{Error, Length};
+
+/// What a value means when it is written: the octets of its contents, and whether it can be
+/// written.
+pub trait WrittenValue {
+    ghost contents: { Self → List ℕ };
+
+    ghost writable: { Self → Type 0 };
+}
+
+/// Types whose values have contents, which stand behind a header. Such a type that also has a tag
+/// is encoded by [`crate::Encode`]: its header, and then its contents.
+///
+/// `value_size` is the exact answer of [`EncodeValue::value_len`], and `value_answers` the exact
+/// outcome of [`EncodeValue::encode_value`] on a reliable writer.
+///
+/// A month as an `OCTET STRING` of one octet:
+///
+/// ```
+/// pub struct Month {
+///     pub number: u8,
+/// }
+///
+/// impl FixedTag for Month {
+///     ghost tag_is = { OctetString };
+///
+///     const TAG: Tag = Tag::OctetString;
+///
+///     fn fixed_tag() -> Tag {
+///         Self::TAG
+///     }
+/// }
+///
+/// impl WrittenValue for Month {
+///     ghost contents = { λ month. month.number ∷ [] };
+///
+///     ghost writable = { λ _. Unit {0} };
+/// }
+///
+/// impl EncodeValue for Month {
+///     ghost value_size = { λ _. Ok (plain 1) };
+///
+///     ghost value_answers = { λ month s r t. Writes (write_outcome (month.number ∷ []) s) r t };
+///
+///     fn value_len(&self) -> Result<Length, Error> {
+///         Ok(Length::ONE)
+///     }
+///
+///     fn encode_value<W: Writer>(&self, writer: &mut W) -> Result<(), Error> {
+///         writer.write_byte(self.number)
+///     }
+/// }
+/// ```
+pub trait EncodeValue: WrittenValue {
+    ghost value_size: { Self → AResult ALength AnError };
+
+    ghost value_answers: { Self → WriterState → AResult (Unit {0}) AnError → WriterState → Type 0 };
+
+    /// The header of the value's element: its tag, and the number of octets of its contents.
+    fn header(&self) -> Result<Header, Error>
+    where
+        Self: Tagged,
+        ensures ok { HeaderOf (Self.tag_of self.now) (Self.contents self.now) result }
+        ensures succeeds { Self.writable self.now → HasSize (Self.contents self.now) result }
+        ensures exact { HeaderAnswers (Self.tag_of self.now) (value_size self.now) result }
+    {
+        match self.value_len() {
+            Ok(len) => Ok(Header::new(self.tag(), len)),
+            Err(error) => Err(error),
+        }
+    }
+
+    /// How many octets the contents have.
+    fn value_len(&self) -> Result<Length, Error>
+        ensures ok { Counts (Self.contents self.now) result }
+        ensures succeeds { Self.writable self.now → HasSize (Self.contents self.now) result }
+        ensures exact { result ≡ value_size self.now };
+
+    /// Writes the contents.
+    fn encode_value<W: Writer>(&self, writer: &mut W) -> Result<(), Error>
+        ensures kept { Kept (W.state writer.old) (W.state writer.new) }
+        ensures ok { Appends (W.state writer.old) (Self.contents self.now) result
+            (W.state writer.new) }
+        ensures succeeds { Self.writable self.now
+            → TakesCounted (W.state writer.old) (Self.contents self.now) result }
+        ensures exact { W.reliable ≡ true
+            → value_answers self.now (W.state writer.old) result (W.state writer.new) };
+}
+
+/// Writes the contents to the beginning of the buffer, and answers them. Takes no memory. After a
+/// refusal nothing is promised of the buffer.
+pub fn encode_value_to_slice<'a, T: EncodeValue>(
+    buf: &'a mut [u8],
+    value: &T,
+) -> Result<&'a [u8], Error>
+    ensures ok { IfOk result (λ r. r.now ≡ T.contents value.now) }
+    ensures succeeds { T.writable value.now
+        → FitsInto (T.contents value.now) (length buf.old) result }
+    ensures exact { SliceAnswer (T.value_answers value.now) (length buf.old)
+        (seen (λ r. r.now) result) }
+{
+    let mut writer = SliceWriter::new(buf);
+    match value.encode_value(&mut writer) {
+        Ok(()) => writer.finish(),
+        Err(error) => Err(error),
+    }
+}

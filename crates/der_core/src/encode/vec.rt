@@ -1,0 +1,70 @@
+//! Encoding into memory of any allocator.
+ghost use Rattle.std.specs.Prelude.{◌≡◌, ◌++◌, length, OnOk, OnErr, IfOk, IfErr};
+ghost use Rattle.der_base.specs.Length.{plain};
+ghost use Rattle.der_core.specs.Encode.{Begins, FitsInto, FreshAnswer, GrowsBy, NotAppended};
+
+#[cfg(test)]
+mod tests;
+
+use crate::encode::Encode;
+use crate::writer::SliceWriter;
+use der_base::{Error, ErrorKind, Length};
+use std::alloc::Allocator;
+
+// The body of `Encode::to_der`.
+pub(super) fn to_der_in<T: Encode, A: Allocator>(alloc: A, value: &T) -> Result<Vec<u8, A>, Error>
+    ensures ok { IfOk result (λ v. v.items ≡ T.encoding value.now) }
+    ensures succeeds { T.encodable value.now → GrowsBy (T.encoding value.now) 0 result }
+    ensures exact { IfErr result (NotAppended (T.size value.now) (T.answers value.now) 0) }
+{
+    let mut out = Vec::new(alloc);
+    match append(value, &mut out) {
+        Ok(_) => Ok(out),
+        Err(error) => Err(error),
+    }
+}
+
+// The body of `Encode::encode_to_vec`.
+pub(super) fn append<T: Encode, A: Allocator>(
+    value: &T,
+    out: &mut Vec<u8, A>,
+) -> Result<Length, Error>
+    ensures ok { OnOk result (out.new.items ≡ out.old.items ++ T.encoding value.now) }
+    ensures count { IfOk result (λ l. l ≡ plain (length (T.encoding value.now))) }
+    ensures refused { OnErr result (out.new.items ≡ out.old.items) }
+    ensures succeeds { T.encodable value.now
+        → GrowsBy (T.encoding value.now) (length out.old.items) result }
+    ensures exact { IfErr result
+        (NotAppended (T.size value.now) (T.answers value.now) (length out.old.items)) }
+{
+    let before = out.len();
+    let count = match value.encoded_len() {
+        Ok(len) => u32::from(len),
+        Err(error) => return Err(error),
+    };
+    let Some(end) = before.checked_add(count as usize) else {
+        return Err(ErrorKind::Overflow.to_error());
+    };
+    match out.resize(end, 0) {
+        Ok(()) => {}
+        Err(_) => return Err(ErrorKind::OutOfMemory.to_error()),
+    }
+    match fill(value, &mut out[before..]) {
+        Ok(()) => Ok(Length::new(count)),
+        Err(error) => {
+            out.truncate(before);
+            Err(error)
+        }
+    }
+}
+
+// Writes the encoding to the beginning of the buffer.
+fn fill<T: Encode>(value: &T, buf: &mut [u8]) -> Result<(), Error>
+    ensures ok { Begins (T.encoding value.now) result buf.new }
+    ensures succeeds { T.encodable value.now
+        → FitsInto (T.encoding value.now) (length buf.old) result }
+    ensures exact { FreshAnswer (T.answers value.now) (length buf.old) result }
+{
+    let mut writer = SliceWriter::new(buf);
+    value.encode(&mut writer)
+}

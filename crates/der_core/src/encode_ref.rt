@@ -1,0 +1,40 @@
+//! References that are encoded as what they refer to.
+ghost use Rattle.std.specs.Prelude.{◌≡◌};
+
+mod value;
+
+use crate::encode::Encode;
+use crate::writer::Writer;
+use der_base::{Error, Length};
+pub use value::EncodeValueRef;
+
+/// A reference to a value, encoded as the value is.
+#[derive(Debug, Drop)]
+pub struct EncodeRef<'a, T>(pub &'a T);
+
+impl<'a, T> EncodeRef<'a, T> {
+    /// The value.
+    pub fn as_ref(&self) -> &T
+        ensures { result.now ≡ self.now.0.now }
+    {
+        self.0
+    }
+}
+
+impl<'a, T: Encode> Encode for EncodeRef<'a, T> {
+    ghost encoding = { λ v. T.encoding v.0.now };
+
+    ghost encodable = { λ v. T.encodable v.0.now };
+
+    ghost size = { λ v. T.size v.0.now };
+
+    ghost answers = { λ v. T.answers v.0.now };
+
+    fn encoded_len(&self) -> Result<Length, Error> {
+        self.0.encoded_len()
+    }
+
+    fn encode<W: Writer>(&self, writer: &mut W) -> Result<(), Error> {
+        self.0.encode(writer)
+    }
+}

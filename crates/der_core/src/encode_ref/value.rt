@@ -1,0 +1,48 @@
+//! References whose contents are those of what they refer to.
+ghost use Rattle.std.specs.Prelude.{◌≡◌};
+
+use crate::encode::{EncodeValue, WrittenValue};
+use crate::tag::fixed::Tagged;
+use crate::writer::Writer;
+use der_base::{Error, Length, Tag};
+
+/// A reference to a value, with the value's contents and tag.
+#[derive(Debug, Drop)]
+pub struct EncodeValueRef<'a, T>(pub &'a T);
+
+impl<'a, T> EncodeValueRef<'a, T> {
+    /// The value.
+    pub fn as_ref(&self) -> &T
+        ensures { result.now ≡ self.now.0.now }
+    {
+        self.0
+    }
+}
+
+impl<'a, T: WrittenValue> WrittenValue for EncodeValueRef<'a, T> {
+    ghost contents = { λ v. T.contents v.0.now };
+
+    ghost writable = { λ v. T.writable v.0.now };
+}
+
+impl<'a, T: EncodeValue> EncodeValue for EncodeValueRef<'a, T> {
+    ghost value_size = { λ v. T.value_size v.0.now };
+
+    ghost value_answers = { λ v. T.value_answers v.0.now };
+
+    fn value_len(&self) -> Result<Length, Error> {
+        self.0.value_len()
+    }
+
+    fn encode_value<W: Writer>(&self, writer: &mut W) -> Result<(), Error> {
+        self.0.encode_value(writer)
+    }
+}
+
+impl<'a, T: Tagged> Tagged for EncodeValueRef<'a, T> {
+    ghost tag_of = { λ v. T.tag_of v.0.now };
+
+    fn tag(&self) -> Tag {
+        self.0.tag()
+    }
+}

@@ -1,0 +1,57 @@
+//! Types with tags.
+ghost use Rattle.std.specs.Prelude.{◌≡◌, Bool};
+ghost use Rattle.der_base.specs.Tag.{label};
+ghost use Rattle.der_base.specs.declared.tag.Tag.{Tag as ATag};
+
+use der_base::Tag;
+
+/// Types all of whose values have one tag.
+pub trait FixedTag {
+    ghost tag_is: { ATag };
+
+    /// The tag.
+    const TAG: Tag;
+
+    /// The same as a function, which generic code calls.
+    fn fixed_tag() -> Tag
+        ensures { result ≡ tag_is };
+}
+
+/// Types whose values have a tag, each its own.
+pub trait Tagged {
+    ghost tag_of: { Self → ATag };
+
+    /// The value's tag.
+    fn tag(&self) -> Tag
+        ensures { result ≡ tag_of self.now };
+}
+
+impl<T: FixedTag> Tagged for T {
+    ghost tag_of = { λ _. T.tag_is };
+
+    fn tag(&self) -> Tag {
+        T::fixed_tag()
+    }
+}
+
+/// Types whose tag says whether their contents are constructed.
+pub trait IsConstructed {
+    ghost constructed: { Bool };
+
+    /// Whether the tag has the constructed bit.
+    const CONSTRUCTED: bool;
+
+    /// The same as a function, which generic code calls.
+    fn has_constructed_bit() -> bool
+        ensures { result ≡ constructed };
+}
+
+impl<T: FixedTag> IsConstructed for T {
+    ghost constructed = { (label T.tag_is).constructed };
+
+    const CONSTRUCTED: bool = Tag::is_constructed(T::TAG);
+
+    fn has_constructed_bit() -> bool {
+        T::fixed_tag().is_constructed()
+    }
+}

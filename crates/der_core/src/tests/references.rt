@@ -1,0 +1,44 @@
+use super::month::Month;
+use super::*;
+use crate::{Encode, EncodeRef, EncodeValue, EncodeValueRef, Tagged, encode_value_to_slice};
+
+#[test]
+fn references_are_encoded_as_their_values(rt: HostRuntime) -> Result<(), Fail> {
+    let month = Month { number: 9 };
+    let reference = EncodeRef(&month);
+    assert_eq!(rt; *reference.as_ref(), month);
+    assert_eq!(rt; reference.encoded_len(), Ok(Length::new(3)));
+    let mut buf = [0; 4];
+    assert_eq!(rt;
+        reference.encode_to_slice(&mut buf)?,
+        [0x04, 0x01, 0x09].as_slice()
+    );
+    Ok(())
+}
+
+#[test]
+fn references_have_the_contents_of_their_values(rt: HostRuntime) -> Result<(), Fail> {
+    let month = Month { number: 9 };
+    let reference = EncodeValueRef(&month);
+    assert_eq!(rt; *reference.as_ref(), month);
+    assert_eq!(rt; reference.tag(), Tag::OctetString);
+    assert_eq!(rt; reference.value_len(), Ok(Length::ONE));
+    let mut buf = [0; 4];
+    assert_eq!(rt;
+        reference.encode_to_slice(&mut buf)?,
+        [0x04, 0x01, 0x09].as_slice()
+    );
+    let mut buf = [0; 4];
+    assert_eq!(rt;
+        encode_value_to_slice(&mut buf, &reference)?,
+        [0x09].as_slice()
+    );
+    Ok(())
+}
+
+#[test]
+fn contents_for_which_there_is_no_room(rt: HostRuntime) {
+    let refused = encode_value_to_slice(&mut [], &Month { number: 9 });
+    let no_room = ErrorKind::Overlength.at(Length::ONE);
+    assert!(rt; matches!(refused, Err(error) if error == no_room));
+}

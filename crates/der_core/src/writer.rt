@@ -1,0 +1,41 @@
+//! Writers of octets.
+ghost use Rattle.std.specs.Prelude.{◌≡◌, Bool, true, [], ◌∷◌};
+ghost use Rattle.der_core.specs.Writer.{WriterState, Kept, Appends, Takes, Writes, write_outcome};
+
+pub mod slice;
+
+use der_base::Error;
+pub use slice::SliceWriter;
+
+/// A writer of octets: what was written, how much room there is, and whether it has failed.
+///
+/// A writer that has not failed takes every write that fits into its room. One that is reliable
+/// refuses exactly as the table of a call says; a writer that vows nothing counts as failed.
+pub trait Writer {
+    ghost state: { Self → WriterState };
+
+    ghost reliable: { Bool };
+
+    /// Appends the octets. A failed writer refuses by `Failed` at its position. Where the end
+    /// would pass 4294967295 octets, that is `Overflow` at the position, and where there is no
+    /// room `Overlength` at the end that was wished; the writer has then failed, and its position
+    /// stands.
+    fn write(&mut self, octets: &[u8]) -> Result<(), Error>
+        ensures kept { Kept (state self.old) (state self.new) }
+        ensures ok { Appends (state self.old) octets.now result (state self.new) }
+        ensures succeeds { Takes (state self.old) octets.now result }
+        ensures exact { reliable ≡ true
+            → Writes (write_outcome octets.now (state self.old)) result (state self.new) };
+
+    /// Appends one octet, as [`Writer::write`] does.
+    final fn write_byte(&mut self, octet: u8) -> Result<(), Error>
+        ensures kept { Kept (Self.state self.old) (Self.state self.new) }
+        ensures ok { Appends (Self.state self.old) (octet ∷ []) result (Self.state self.new) }
+        ensures succeeds { Takes (Self.state self.old) (octet ∷ []) result }
+        ensures exact { Self.reliable ≡ true
+            → Writes (write_outcome (octet ∷ []) (Self.state self.old)) result
+            (Self.state self.new) }
+    {
+        self.write(&[octet])
+    }
+}

@@ -1,0 +1,229 @@
+//! Writers into a slice.
+ghost use Rattle.std.specs.Prelude.{◌≡◌, ◌+◌, ◌^◌, ◌<◌, ◌≤◌, true, length, Err, IfOk};
+
+use crate::encode::Encode;
+use crate::header::Header;
+use crate::writer::Writer;
+use der_base::{Error, ErrorKind, Length, Tag};
+
+/// A writer into a slice, which takes no memory. It writes at most 4294967295 octets.
+///
+/// After a refusal it has failed and refuses everything.
+#[derive(Debug, Drop)]
+pub struct SliceWriter<'a> {
+    bytes: &'a mut [u8],
+    // the part of the slice that may be written
+    start: usize,
+    stop: usize,
+    // how many octets of the part are written
+    position: u32,
+    failed: bool,
+    ghost ordered: { start + position ≤ stop },
+    ghost within: { stop ≤ length bytes.now },
+    ghost countable: { stop < start + 2 ^ 32 },
+}
+
+impl<'a> SliceWriter<'a> {
+    ghost use Rattle.der_base.specs.Error.{at};
+    ghost use Rattle.der_base.specs.Length.{number};
+    ghost use Rattle.der_core.specs.Outcome.{seen};
+    ghost use Rattle.der_core.specs.Writer.{Kept, Appends, Writes, fresh, here, fallen, with_room};
+    ghost use Rattle.der_core.specs.Encode.{TakesCounted, RefusesFailed, PlacesErrors, finish_answer};
+    ghost use Rattle.der_core.specs.SliceWriter.{slice_writer_state};
+    ghost use Rattle.der_core.specs.Sequence.{MayFill, HandsBack, Fills, RunsInRoom, PartAnswer, SequenceAnswer, headed};
+
+    /// A writer into these octets, at their beginning.
+    pub fn new(bytes: &'a mut [u8]) -> Self
+        ensures { slice_writer_state result ≡ fresh (length bytes.old) bytes.entry.ghost_name }
+    {
+        let stop = bytes.len().min(u32::MAX as usize);
+        SliceWriter {
+            bytes,
+            start: 0,
+            stop,
+            position: 0,
+            failed: false,
+        }
+    }
+
+    /// Whether the writer has failed.
+    pub fn is_failed(&self) -> bool
+        ensures { result ≡ (slice_writer_state self.now).failed }
+    {
+        self.failed
+    }
+
+    /// The error of this kind at the position; the writer has failed.
+    pub fn error<T>(&mut self, kind: ErrorKind) -> Result<T, Error>
+        ensures at_position { result ≡ Err (at kind (here (slice_writer_state self.old))) }
+        ensures failed { slice_writer_state self.new ≡ fallen (slice_writer_state self.old) }
+    {
+        self.failed = true;
+        Err(kind.at(Length::new(self.position)))
+    }
+
+    /// The octets written, or `Failed` at the position of a writer that has failed.
+    pub fn finish(self) -> Result<&'a [u8], Error>
+        ensures { seen (λ r. r.now) result ≡ finish_answer (slice_writer_state self.entry) }
+    {
+        if self.failed {
+            return Err(ErrorKind::Failed.at(Length::new(self.position)));
+        }
+        let end = self.start + self.position as usize;
+        let bytes = self.bytes;
+        Ok(&bytes[..end])
+    }
+
+    /// Writes a value. A writer that has failed refuses by `Failed` at its position. A refused
+    /// value's error keeps its position, or gets the writer's where it has none, and the writer
+    /// has failed.
+    pub fn encode<T: Encode>(&mut self, value: &T) -> Result<(), Error>
+        ensures kept { Kept (slice_writer_state self.old) (slice_writer_state self.new) }
+        ensures ok { Appends (slice_writer_state self.old) (T.encoding value.now) result
+            (slice_writer_state self.new) }
+        ensures succeeds { T.encodable value.now
+            → TakesCounted (slice_writer_state self.old) (T.encoding value.now) result }
+        ensures was_failed { RefusesFailed (slice_writer_state self.old) result
+            (slice_writer_state self.new) }
+        ensures exact { PlacesErrors (T.answers value.now) (slice_writer_state self.old) result
+            (slice_writer_state self.new) }
+    {
+        if self.failed {
+            return Err(ErrorKind::Failed.at(Length::new(self.position)));
+        }
+        match value.encode(self) {
+            Ok(()) => Ok(()),
+            Err(error) => {
+                self.failed = true;
+                match error.position() {
+                    Some(_) => Err(error),
+                    None => Err(error.kind().at(Length::new(self.position))),
+                }
+            }
+        }
+    }
+
+    /// Writes the header of a SEQUENCE, and has its contents written by `f`, which is handed this
+    /// writer over the next `len` octets alone: at position 0 and not failed. Afterwards the
+    /// writer is over its own part again, whatever `f` answered.
+    ///
+    /// Where there is no room for the header or the contents that is refused as by a write of so
+    /// many octets. An error of `f` is handed on. A part whose writer has failed is `Failed` at its
+    /// position in the part, and one that is not filled `Length` at the position behind it. After
+    /// each refusal the writer has failed.
+    pub fn sequence<F: FnOnce(&mut SliceWriter<'a>) -> Result<(), Error>>(
+        &mut self,
+        len: Length,
+        f: F,
+    ) -> Result<(), Error>
+        requires callable { MayFill (λ p. F.pre f p)
+            (headed (slice_writer_state self.old) (number len)) (number len) }
+        requires same { HandsBack (λ p r q. F.post f p r q)
+            (headed (slice_writer_state self.old) (number len)) (number len) }
+        ensures kept { Kept (slice_writer_state self.old) (slice_writer_state self.new) }
+        ensures ok { Fills (λ p r q. F.post f p r q)
+            (headed (slice_writer_state self.old) (number len)) (number len) result
+            (slice_writer_state self.new) }
+        ensures runs { RunsInRoom (λ p r q. F.post f p r q)
+            (headed (slice_writer_state self.old) (number len)) (number len) result
+            (slice_writer_state self.new) }
+        ensures exact { SequenceAnswer (λ p r q. F.post f p r q) (slice_writer_state self.old)
+            (number len) result (slice_writer_state self.new) }
+    {
+        match Header::new(Tag::Sequence, len).encode(self) {
+            Ok(()) => match self.fill_part(len, f) {
+                Ok(()) => Ok(()),
+                Err(error) => Err(error),
+            },
+            Err(error) => Err(error),
+        }
+    }
+
+    // Sets so many octets apart and has them written by `f`.
+    fn fill_part<F: FnOnce(&mut SliceWriter<'a>) -> Result<(), Error>>(
+        &mut self,
+        len: Length,
+        f: F,
+    ) -> Result<(), Error>
+        requires callable { MayFill (λ p. F.pre f p) (slice_writer_state self.old) (number len) }
+        requires same { HandsBack (λ p r q. F.post f p r q)
+            (slice_writer_state self.old) (number len) }
+        ensures kept { Kept (slice_writer_state self.old) (slice_writer_state self.new) }
+        ensures ok { Fills (λ p r q. F.post f p r q) (slice_writer_state self.old) (number len)
+            result (slice_writer_state self.new) }
+        ensures runs { RunsInRoom (λ p r q. F.post f p r q)
+            (slice_writer_state self.old) (number len) result (slice_writer_state self.new) }
+        ensures exact { PartAnswer (λ p r q. F.post f p r q) (slice_writer_state self.old)
+            (number len) result (slice_writer_state self.new) }
+    {
+        let count = u32::from(len);
+        let from = match self.admit(count as usize) {
+            Ok(from) => from,
+            Err(error) => return Err(error),
+        };
+        let (start, stop, behind) = (self.start, self.stop, self.position + count);
+        self.start = from;
+        self.stop = from + count as usize;
+        self.position = 0;
+        let answer = f(self);
+        let filled = self.position;
+        self.start = start;
+        self.stop = stop;
+        self.position = behind;
+        match answer {
+            Ok(()) => {
+                if self.failed {
+                    return Err(ErrorKind::Failed.at(Length::new(filled)));
+                }
+                if filled < count {
+                    return self.error(Tag::Sequence.length_error());
+                }
+                Ok(())
+            }
+            Err(error) => {
+                self.failed = true;
+                Err(error)
+            }
+        }
+    }
+
+    // Refuses so many octets where there is no room for them; answers where the next one goes.
+    fn admit(&mut self, count: usize) -> Result<usize, Error>
+        ensures kept { Kept (slice_writer_state self.old) (slice_writer_state self.new) }
+        ensures ok { IfOk result (λ from. from ≡ self.old.start + self.old.position) }
+        ensures exact { Writes
+            (with_room count (slice_writer_state self.old) (slice_writer_state self.old))
+            (seen (λ _. tt) result) (slice_writer_state self.new) }
+    {
+        if self.failed {
+            return Err(ErrorKind::Failed.at(Length::new(self.position)));
+        }
+        if count > (u32::MAX - self.position) as usize {
+            return self.error(ErrorKind::Overflow);
+        }
+        let from = self.start + self.position as usize;
+        if count > self.stop - from {
+            self.failed = true;
+            return Err(ErrorKind::Overlength.at(Length::new(self.position + count as u32)));
+        }
+        Ok(from)
+    }
+}
+
+impl<'a> Writer for SliceWriter<'a> {
+    ghost use Rattle.der_core.specs.SliceWriter.{slice_writer_state};
+
+    ghost state = { slice_writer_state };
+
+    ghost reliable = { true };
+
+    fn write(&mut self, octets: &[u8]) -> Result<(), Error> {
+        let from = match self.admit(octets.len()) {
+            Ok(from) => from,
+            Err(error) => return Err(error),
+        };
+        self.bytes[from..from + octets.len()].copy_from_slice(octets);
+        self.position += octets.len() as u32;
+        Ok(())
+    }
+}
