@@ -1,17 +1,17 @@
 -- What is refused has a text.
-use Rattle.std.proofs.Common.{◌≡◌, ℕ, ◌++◌, ◌==◌, List, [], ◌∷◌, Option, Some, refl, inl, inr}
+use Rattle.std.proofs.Common.{◌≡◌, ℕ, ◌+◌, ◌++◌, ◌==◌, List, length, [], ◌∷◌, Option, Some, refl, inl, inr}
 use Rattle.std.proofs.lemmas.Bool.{cases_Bool}
 use Rattle.der_base.specs.Header.{Head, LengthFault, HeaderFault}
 use Rattle.der_base.specs.Identifier.{IdentifierFault}
-use Rattle.der_base.specs.Refusal.{Refusal, is_far, kind_told, owed}
+use Rattle.der_base.specs.Refusal.{Refusal, wants, is_far, kind_told, owed}
 use Rattle.der_base.specs.Error.{kind_of, position_of, at}
-use Rattle.der_base.specs.Length.{plain}
+use Rattle.der_base.specs.Length.{number, plain}
 use Rattle.der_base.specs.Text.{kind_text, position_text, error_text}
 use Rattle.der_base.specs.declared.error.Error.{Error}
 use Rattle.der_base.specs.declared.error.ErrorKind.{ErrorKind}
 use Rattle.der_base.specs.declared.encoding_rules.EncodingRules.{EncodingRules}
-use Rattle.der_tool.specs.Text.{header_lines}
-use Rattle.der_tool.specs.Answer.{IsHeaderRead, IsRefusedFor, TellsError, AnswersHead}
+use Rattle.der_tool.specs.Text.{header_lines, element_line}
+use Rattle.der_tool.specs.Answer.{IsHeaderRead, IsRefusedFor, TellsError, AnswersHead, IsElement, NoElement, AnswersTlv}
 
 abbrev HasText : Option (List ℕ) → Type 0
 HasText printed = (text : List ℕ) × (printed ≡ Some text)
@@ -59,3 +59,17 @@ pub answer_refused : (octets text : List ℕ) (e : Error) → IsRefusedFor octet
 answer_refused octets text e refused tells =
     let printed = refused_text octets e refused in
     AnswersHead.refused record { error = e; reason = printed.0; refused = refused; says = printed.1; line = tells printed.0 printed.1 }
+
+-- and so does each that missing elements are told as
+pub missing_text : (octets : List ℕ) (e : Error) → NoElement octets e → (reason : List ℕ) × (error_text e ≡ Some reason)
+missing_text octets e (NoElement.no_header refused) = refused_text octets e refused
+missing_text octets e (NoElement.past_every_length h count ahead far) = (_, refl)
+missing_text octets e (NoElement.contents_missing h count ahead near few) = owed_text (wants (count + number h.length) (length octets) 0) (_, refl)
+
+pub element_told : (octets text element : List ℕ) → IsElement octets element → text ≡ element_line element → AnswersTlv octets 0 text
+element_told octets text element read line = AnswersTlv.told record { element = element; read = read; line = line }
+
+pub element_refused : (octets text : List ℕ) (e : Error) → NoElement octets e → TellsError e text → AnswersTlv octets 1 text
+element_refused octets text e refused tells =
+    let printed = missing_text octets e refused in
+    AnswersTlv.refused record { error = e; reason = printed.0; refused = refused; says = printed.1; line = tells printed.0 printed.1 }

@@ -1,18 +1,19 @@
 -- What the program may say to its words.
-use Rattle.std.specs.Prelude.{◌≡◌, ℕ, ◌^◌, ◌≤◌, ◌⊎◌, List, length, drop, codes, Option, Some, Ok, string_bytes}
+use Rattle.std.specs.Prelude.{◌≡◌, ℕ, ◌+◌, ◌^◌, ◌<◌, ◌≤◌, ◌⊎◌, List, length, take, drop, codes, Option, Some, Ok, string_bytes}
 use Rattle.std.specs.Io.KnownBytes.{Appends}
 use Rattle.hex.specs.Hex.{decode_of}
 use Rattle.der_base.specs.Header.{Head, HeaderAhead, HeaderFault}
-use Rattle.der_base.specs.Refusal.{Refusal, owed}
+use Rattle.der_base.specs.Length.{number}
+use Rattle.der_base.specs.Refusal.{Refusal, wants, owed}
 use Rattle.der_base.specs.Error.{bare}
 use Rattle.der_base.specs.Text.{error_text}
 use Rattle.der_base.specs.declared.error.Error.{Error}
 use Rattle.der_base.specs.declared.error.ErrorKind.TheVariants.{Overflow}
 use Rattle.der_base.specs.declared.encoding_rules.EncodingRules.TheVariants.{Der}
-use Rattle.der_tool.specs.Command.{IsCommand, head_words}
-use Rattle.der_tool.specs.Text.{usage_line, error_line, header_lines}
+use Rattle.der_tool.specs.Command.{IsCommand, head_words, tlv_words}
+use Rattle.der_tool.specs.Text.{usage_line, error_line, header_lines, element_line}
 use Rattle.der_tool.specs.declared.command.Command.{Command}
-use Rattle.der_tool.specs.declared.command.Command.TheVariants.{Head as HeadOf}
+use Rattle.der_tool.specs.declared.command.Command.TheVariants.{Head as HeadOf, Tlv as TlvOf}
 use Rattle.der_tool.specs.declared.answer.Answer.{Answer}
 use Rattle.der_tool.specs.declared.answer.Answer.TheVariants as answer
 
@@ -26,6 +27,21 @@ pub record IsHeaderRead (octets : List ℕ) (h : Head) (rest : List ℕ) : Type 
 abbrev pub IsRefusedFor : List ℕ → Error → Type 0
 IsRefusedFor octets e = ((2 ^ 32 ≤ length octets) × (e ≡ bare Overflow)) ⊎ ((r : Refusal) × HeaderFault Der 0 octets r × (e ≡ owed r))
 
+-- the octets begin with this element: a header, and as many octets more as its length says
+pub record IsElement (octets element : List ℕ) : Type 0 where
+  pub head : Head
+  pub count : ℕ
+  pub ahead : HeaderAhead Der octets head count
+  pub there : count + number head.length ≤ length octets
+  pub whole : element ≡ take (count + number head.length) octets
+
+-- the octets begin with no whole element; the error tells why
+pub data NoElement (octets : List ℕ) : Error → Type 0 where
+  no_header : {e : Error} → IsRefusedFor octets e → NoElement octets e
+  past_every_length : (h : Head) (count : ℕ) → HeaderAhead Der octets h count → 2 ^ 32 ≤ count + number h.length → NoElement octets (bare Overflow)
+  contents_missing : (h : Head) (count : ℕ) → HeaderAhead Der octets h count → count + number h.length < 2 ^ 32 → length octets < count + number h.length
+      → NoElement octets (owed (wants (count + number h.length) (length octets) 0))
+
 -- the lines tell the header that the octets begin with
 pub record Tells (octets text : List ℕ) : Type 0 where
   pub head : Head
@@ -37,28 +53,42 @@ pub record Tells (octets text : List ℕ) : Type 0 where
 abbrev pub TellsError : Error → List ℕ → Type 0
 TellsError e text = (reason : List ℕ) → error_text e ≡ Some reason → text ≡ error_line reason
 
--- the line tells why the octets are refused
-pub record Refuses (octets text : List ℕ) : Type 0 where
+-- the line tells why octets are refused, for the errors that they are refused by
+pub record Refuses (IsRefused : Error → Type 0) (text : List ℕ) : Type 0 where
   pub error : Error
   pub reason : List ℕ
-  pub refused : IsRefusedFor octets error
+  pub refused : IsRefused error
   pub says : error_text error ≡ Some reason
   pub line : text ≡ error_line reason
 
 -- what `head` says to octets: a status and a text
 pub data AnswersHead (octets : List ℕ) : ℕ → List ℕ → Type 0 where
   told : {text : List ℕ} → Tells octets text → AnswersHead octets 0 text
-  refused : {text : List ℕ} → Refuses octets text → AnswersHead octets 1 text
+  refused : {text : List ℕ} → Refuses (IsRefusedFor octets) text → AnswersHead octets 1 text
+
+-- the line tells the element that the octets begin with
+pub record TellsElement (octets text : List ℕ) : Type 0 where
+  pub element : List ℕ
+  pub read : IsElement octets element
+  pub line : text ≡ element_line element
+
+-- what `tlv` says to octets: a status and a text
+pub data AnswersTlv (octets : List ℕ) : ℕ → List ℕ → Type 0 where
+  told : {text : List ℕ} → TellsElement octets text → AnswersTlv octets 0 text
+  refused : {text : List ℕ} → Refuses (NoElement octets) text → AnswersTlv octets 1 text
 
 -- what a command is answered, memory aside
 abbrev pub Fulfils : Command → ℕ → List ℕ → Type 0
 Fulfils (HeadOf hex) status text = (octets : List ℕ) × (decode_of hex.now ≡ Ok octets) × AnswersHead octets status text
+Fulfils (TlvOf hex) status text = (octets : List ℕ) × (decode_of hex.now ≡ Ok octets) × AnswersTlv octets status text
 
 -- what the program may say to its words
 pub data Answers (words : List (List ℕ)) : ℕ → List ℕ → Type 0 where
   misused : (IsCommand words → ⊥) → Answers words 2 usage_line
   head : {hex octets text : List ℕ} {status : ℕ} → words ≡ head_words hex → decode_of hex ≡ Ok octets
       → AnswersHead octets status text → Answers words status text
+  tlv : {hex octets text : List ℕ} {status : ℕ} → words ≡ tlv_words hex → decode_of hex ≡ Ok octets
+      → AnswersTlv octets status text → Answers words status text
   no_memory : IsCommand words → Answers words 1 (error_line (codes "out of memory"))
 
 -- the output took an answer to the words whole, and nothing else

@@ -23,6 +23,10 @@ abbrev pub octets_text : List ℕ → List ℕ
 octets_text [] = codes "-"
 octets_text (o ∷ os) = encode_lower (o ∷ os)
 
+-- an element in lower case hexadecimal
+abbrev pub element_line : List ℕ → List ℕ
+element_line element = encode_lower element ++ codes "\n"
+
 -- the four lines of a header and the octets behind it
 abbrev pub header_lines : Head → List ℕ → List ℕ
 header_lines h rest =

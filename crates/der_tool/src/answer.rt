@@ -1,7 +1,9 @@
 //! Answers of the program.
-ghost use Rattle.std.specs.Prelude.{◌≡◌};
+ghost use Rattle.std.specs.Prelude.{◌≡◌, IfOk, string_bytes};
+ghost use Rattle.der_tool.specs.Answer.{TellsError};
 
-use std::alloc::Allocator;
+use der_core::Error;
+use std::alloc::{AllocError, Allocator};
 
 /// What the program says, and how it ends.
 #[derive(Drop)]
@@ -41,4 +43,11 @@ impl<A: Allocator> Answer<A> {
             Answer::Usage => "usage: der_tool head [--ber] HEX | tlv [--ber] HEX | order HEX HEX\n",
         }
     }
+}
+
+/// The line of an error.
+pub fn error_line<A: Allocator>(alloc: A, error: Error) -> Result<String<A>, AllocError>
+    ensures { IfOk result (λ s. TellsError error (string_bytes s)) }
+{
+    format!(in alloc; "error: {error}\n")
 }

@@ -7,6 +7,8 @@ ghost use Rattle.der_tool.specs.Command.{IsHex, IsCommand, texts};
 pub enum Command<'a> {
     /// `head HEX`: the header at the front of these octets.
     Head(&'a str),
+    /// `tlv HEX`: the whole element at the front of these octets.
+    Tlv(&'a str),
 }
 
 impl<'a> Command<'a> {
@@ -19,6 +21,7 @@ impl<'a> Command<'a> {
     {
         match words {
             [name, hex] if name.as_str() == "head" && is_hex(hex) => Some(Command::Head(hex)),
+            [name, hex] if name.as_str() == "tlv" && is_hex(hex) => Some(Command::Tlv(hex)),
             _ => None,
         }
     }

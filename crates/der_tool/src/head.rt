@@ -2,9 +2,9 @@
 ghost use Rattle.std.specs.Prelude.{◌≡◌, IfOk, IfErr, string_bytes};
 ghost use Rattle.der_core.specs.Header.{head_of};
 ghost use Rattle.der_tool.specs.Text as text;
-ghost use Rattle.der_tool.specs.Answer.{AnswersHead, IsHeaderRead, IsRefusedFor, TellsError, status_of, text_of};
+ghost use Rattle.der_tool.specs.Answer.{AnswersHead, IsHeaderRead, IsRefusedFor, status_of, text_of};
 
-use crate::answer::Answer;
+use crate::answer::{Answer, error_line};
 use der_core::{DecodeBytes, Error, Header};
 use std::alloc::{AllocError, Allocator, Global};
 
@@ -71,11 +71,4 @@ fn octets_text<A: Allocator>(alloc: A, octets: &[u8]) -> Result<String<A>, Alloc
     } else {
         hex::encode(alloc, octets)
     }
-}
-
-/// The line of an error.
-fn error_line<A: Allocator>(alloc: A, error: Error) -> Result<String<A>, AllocError>
-    ensures { IfOk result (λ s. TellsError error (string_bytes s)) }
-{
-    format!(in alloc; "error: {error}\n")
 }

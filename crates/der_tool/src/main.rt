@@ -1,4 +1,5 @@
-//! Tells the header at the front of DER octets that are given as hexadecimal text.
+//! Tells the header, or the whole element, at the front of DER octets that are given as hexadecimal
+//! text.
 #![tactic(auto)]
 
 ghost use Rattle.std.specs.Prelude.{◌≡◌, ◌⊎◌, ℕ, List};
@@ -9,6 +10,7 @@ mod command;
 mod head;
 mod output;
 mod program;
+mod tlv;
 
 use answer::Answer;
 use output::Output;

@@ -8,6 +8,7 @@ use crate::answer::Answer;
 use crate::command::Command;
 use crate::head::answer_head;
 use crate::output::Output;
+use crate::tlv::answer_tlv;
 use std::alloc::{AllocError, Allocator, Global};
 use std::io;
 
@@ -70,6 +71,10 @@ fn fulfil<A: Allocator + Copy>(
         Command::Head(hex) => {
             let octets = hex::decode(alloc, hex).map_err(|_| AllocError)?;
             answer_head(alloc, global, &octets)
+        }
+        Command::Tlv(hex) => {
+            let octets = hex::decode(alloc, hex).map_err(|_| AllocError)?;
+            answer_tlv(alloc, &octets)
         }
     }
 }

@@ -2,6 +2,7 @@
 mod arguments;
 mod cases;
 mod memory;
+mod tlv_cases;
 mod writers;
 
 use super::program::run;
@@ -90,6 +91,39 @@ fn refuses_what_begins_with_no_header(rt: HostRuntime) -> Result<(), Fail> {
     replay(&rt, &rows)
 }
 
+#[test]
+fn tells_an_element(rt: HostRuntime) -> Result<(), Fail> {
+    let rows = [
+        ("tlv 30020500FF", 0, "30020500\n"),
+        ("tlv 02012A00", 0, "02012a\n"),
+        ("tlv 3000", 0, "3000\n"),
+    ];
+    replay(&rt, &rows)
+}
+
+#[test]
+fn refuses_what_begins_with_no_element(rt: HostRuntime) -> Result<(), Fail> {
+    let rows = [
+        (
+            "tlv 3002",
+            1,
+            "error: ASN.1 DER message is incomplete: expected 4, actual 2 at DER byte 0\n",
+        ),
+        ("tlv 0184FFFFFFFF", 1, "error: integer overflow\n"),
+        (
+            "tlv 04817F",
+            1,
+            "error: incorrect length for OCTET STRING at DER byte 3\n",
+        ),
+        (
+            "tlv ",
+            1,
+            "error: ASN.1 DER message is incomplete: expected 1, actual 0 at DER byte 0\n",
+        ),
+    ];
+    replay(&rt, &rows)
+}
+
 // Only ASCII digits count, in pairs.
 #[test]
 fn tells_the_usage_of_other_words(rt: HostRuntime) -> Result<(), Fail> {
@@ -107,7 +141,11 @@ fn tells_the_usage_of_other_words(rt: HostRuntime) -> Result<(), Fail> {
         "heads 3000",
         "head 3000 3000",
         "head --ber 3000",
-        "tlv 3000",
+        "tlv",
+        "tlv 0",
+        "tlv 3000 3000",
+        "Tlv 3000",
+        "tlv --ber 3000",
         "order 3000 3000",
     ];
     for line in lines {
@@ -121,5 +159,6 @@ fn tells_the_usage_of_other_words(rt: HostRuntime) -> Result<(), Fail> {
 
 #[test]
 fn answers_a_sample(rt: HostRuntime) -> Result<(), Fail> {
-    replay(&rt, &cases::CASES)
+    replay(&rt, &cases::CASES)?;
+    replay(&rt, &tlv_cases::TLV_CASES)
 }

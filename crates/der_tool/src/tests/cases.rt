@@ -20,7 +20,7 @@ pub const CASES: [(&str, u8, &str); 100] = [
         1,
         "error: unknown/unsupported ASN.1 DER tag: 0x3f at DER byte 1\n",
     ),
-    ("tlv 0184FFFFFFFF", 2, USAGE),
+    ("tlv 0184FFFFFFFF", 1, "error: integer overflow\n"),
     ("order 3000 1600", 2, USAGE),
     ("head 0", 2, USAGE),
     (

@@ -9,6 +9,12 @@ use std::test::Fail;
 
 const LINES: &str = "tag: INTEGER\nconstructed: no\nlength: 1\nrest: 2a00\n";
 
+const ROWS: [(&str, u8, &str); 3] = [
+    ("head 02012A00", 0, LINES),
+    ("tlv 02012A00", 0, "02012a\n"),
+    ("head 0", 2, USAGE),
+];
+
 /// Takes an octet at a call, and fails once the calls are used up.
 #[derive(Drop)]
 struct Choppy {
@@ -51,7 +57,7 @@ impl io::Write for Broken {
 // Each write fails in turn, and at last none does.
 #[test]
 fn a_failed_write_is_status_1(rt: HostRuntime) -> Result<(), Fail> {
-    for (line, status, text) in [("head 02012A00", 0, LINES), ("head 0", 2, USAGE)] {
+    for (line, status, text) in ROWS {
         let words = words_of(rt.alloc(), line)?;
         for calls in 0..=text.len() {
             let mut out = Choppy {
@@ -74,10 +80,12 @@ fn a_failed_write_is_status_1(rt: HostRuntime) -> Result<(), Fail> {
 
 #[test]
 fn a_writer_that_takes_nothing_is_status_1(rt: HostRuntime) -> Result<(), Fail> {
-    let words = words_of(rt.alloc(), "head 02012A00")?;
-    for takes in [false, true] {
-        let mut out = Broken { takes };
-        assert_eq!(rt; run(rt.alloc(), &words, &mut out), 1, "at {takes}");
+    for line in ["head 02012A00", "tlv 02012A00"] {
+        let words = words_of(rt.alloc(), line)?;
+        for takes in [false, true] {
+            let mut out = Broken { takes };
+            assert_eq!(rt; run(rt.alloc(), &words, &mut out), 1, "at {line}, {takes}");
+        }
     }
     Ok(())
 }
@@ -99,7 +107,7 @@ impl Output for Tally {
 
 #[test]
 fn an_output_of_another_kind_serves(rt: HostRuntime) -> Result<(), Fail> {
-    for (line, status, text) in [("head 02012A00", 0, LINES), ("head 0", 2, USAGE)] {
+    for (line, status, text) in ROWS {
         let words = words_of(rt.alloc(), line)?;
         let mut out = Tally(0);
         assert_eq!(rt; run(rt.alloc(), &words, &mut out), status, "at {line}");

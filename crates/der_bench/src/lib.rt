@@ -1,0 +1,45 @@
+//! The walk over the elements of an input whose speed `bench/` measures.
+#![tactic(auto)]
+
+use der_core::{Reader, ReaderExt, SliceReader, decode_header};
+
+/// What a walk has passed.
+#[repr(C)]
+pub struct Totals {
+    /// How many elements.
+    pub elements: u64,
+    /// How many octets of contents they have together.
+    pub contents: u64,
+    /// The sum of the first octets of contents.
+    pub first_octets: u64,
+}
+
+/// Walks over the elements of the octets until their end, or an error.
+#[unsafe(no_mangle)]
+pub extern "C" fn walk(bytes: &[u8]) -> Totals {
+    let mut totals = Totals {
+        elements: 0,
+        contents: 0,
+        first_octets: 0,
+    };
+    let Ok(mut reader) = SliceReader::new(bytes) else {
+        return totals;
+    };
+    // Each element has an octet at least.
+    for _ in 0..bytes.len() {
+        if reader.is_finished() {
+            break;
+        }
+        let Ok(header) = decode_header(&mut reader) else {
+            return totals;
+        };
+        let Ok(contents) = reader.read_slice(header.length()) else {
+            return totals;
+        };
+        totals.elements = totals.elements.wrapping_add(1);
+        totals.contents = totals.contents.wrapping_add(contents.len() as u64);
+        let first = contents.first().copied().unwrap_or(0);
+        totals.first_octets = totals.first_octets.wrapping_add(first as u64);
+    }
+    totals
+}
