@@ -12,43 +12,52 @@ ghost use Rattle.std.specs.Prelude.{◌≡◌, ℕ, Bool, List, ◌++◌};
 
 /// No tag's octets begin another's, so octets begin with one tag at most (X.690 8.1.2).
 pub fn no_tag_begins_another()
-    ensures { (t u : Tag) (x y : List ℕ) → tag_octets t ++ x ≡ tag_octets u ++ y → (t ≡ u) × (x ≡ y) }
+    ensures { (t u : Tag) (x y : List ℕ) → tag_octets t ++ x ≡ tag_octets u ++ y → (t ≡ u)
+        × (x ≡ y) }
 {}
 
 /// No identifier begins another, and each says one tag and one constructed bit; so it is under
 /// BER too, where octet 24 is the identifier of an OCTET STRING in segments (X.690 8.1.2, 8.7.1).
 pub fn no_identifier_begins_another()
-    ensures { (rules : EncodingRules) (a b : List ℕ) (t u : Tag) (p q : Bool) (x y : List ℕ) → IsIdentifier rules a t p → IsIdentifier rules b u q → a ++ x ≡ b ++ y → (a ≡ b) × (t ≡ u) × (p ≡ q) × (x ≡ y) }
+    ensures { (rules : EncodingRules) (a b : List ℕ) (t u : Tag) (p q : Bool) (x y : List ℕ)
+        → IsIdentifier rules a t p → IsIdentifier rules b u q → a ++ x ≡ b ++ y → (a ≡ b) × (t ≡ u)
+        × (p ≡ q) × (x ≡ y) }
 {}
 
 /// No definite length's octets begin another's, so octets begin with one such length at most
 /// (X.690 8.1.3).
 pub fn no_length_begins_another()
-    ensures { (m n : ℕ) (x y : List ℕ) → length_octets m ++ x ≡ length_octets n ++ y → (m ≡ n) × (x ≡ y) }
+    ensures { (m n : ℕ) (x y : List ℕ) → length_octets m ++ x ≡ length_octets n ++ y → (m ≡ n)
+        × (x ≡ y) }
 {}
 
 /// No header of a definite length begins another (X.690 8.1.2, 8.1.3).
 pub fn no_header_begins_another()
-    ensures { (t u : Tag) (m n : ℕ) (x y : List ℕ) → header_octets t m ++ x ≡ header_octets u n ++ y → (t ≡ u) × (m ≡ n) × (x ≡ y) }
+    ensures { (t u : Tag) (m n : ℕ) (x y : List ℕ) → header_octets t m ++ x ≡ header_octets u n ++ y
+        → (t ≡ u) × (m ≡ n) × (x ≡ y) }
 {}
 
 /// No body of an indefinite length begins another, and each has one number of identifiers and end
 /// marks (X.690 8.1.3.6, 8.1.5).
 pub fn no_body_begins_another()
-    ensures { (a b x y : List ℕ) (m n : ℕ) → Body 1 m a → Body 1 n b → a ++ x ≡ b ++ y → (a ≡ b) × (m ≡ n) × (x ≡ y) }
+    ensures { (a b x y : List ℕ) (m n : ℕ) → Body 1 m a → Body 1 n b → a ++ x ≡ b ++ y → (a ≡ b)
+        × (m ≡ n) × (x ≡ y) }
 {}
 
 /// Octets begin with one header at most, under either rules (X.690 8.1.2, 8.1.3, 10.1).
 pub fn one_header()
-    ensures { (rules : EncodingRules) (s : List ℕ) (h g : Head) (m n : ℕ) → HeaderAhead rules s h m → HeaderAhead rules s g n → (h ≡ g) × (m ≡ n) }
+    ensures { (rules : EncodingRules) (s : List ℕ) (h g : Head) (m n : ℕ) → HeaderAhead rules s h m
+        → HeaderAhead rules s g n → (h ≡ g) × (m ≡ n) }
 {}
 
 /// Octets that begin with a header are not refused one.
 pub fn no_header_has_a_fault()
-    ensures { (rules : EncodingRules) (at : ℕ) (s : List ℕ) (h : Head) (m : ℕ) (r : Refusal) → HeaderFault rules at s r → HeaderAhead rules s h m → ⊥ }
+    ensures { (rules : EncodingRules) (at : ℕ) (s : List ℕ) (h : Head) (m : ℕ) (r : Refusal)
+        → HeaderFault rules at s r → HeaderAhead rules s h m → ⊥ }
 {}
 
 /// Octets are refused a header for one reason at most, at one position.
 pub fn one_header_fault()
-    ensures { (rules : EncodingRules) (at : ℕ) (s : List ℕ) (r q : Refusal) → HeaderFault rules at s r → HeaderFault rules at s q → r ≡ q }
+    ensures { (rules : EncodingRules) (at : ℕ) (s : List ℕ) (r q : Refusal)
+        → HeaderFault rules at s r → HeaderFault rules at s q → r ≡ q }
 {}

@@ -11,7 +11,7 @@ use Rattle.der_base.specs.declared.tag.Tag.{Tag}
 use Rattle.der_base.specs.declared.error.Error.{Error}
 use Rattle.der_base.specs.declared.error.ErrorKind.TheVariants.{Failed, Overflow, OutOfMemory}
 use Rattle.der_core.specs.Header.{head_of}
-use Rattle.der_core.specs.Writer.{WriterState, WriterOutcome, Writes, Takes, fresh, here, fallen, write_pieces, then_call}
+use Rattle.der_core.specs.Writer.{WriterState, WriterOutcome, Takes, fresh, here, fallen, write_pieces, then_call}
 use Rattle.der_core.specs.declared.header.Header.{Header}
 
 abbrev pub WriterAnswer : Type 1

@@ -1,5 +1,5 @@
 -- What a `Position` means, and the tables of its calls.
-use Rattle.std.specs.Prelude.{◌≡◌, ℕ, ◌+◌, ◌-◌, ◌^◌, Result, Ok, Err, if◌then◌else◌, nat_lt}
+use Rattle.std.specs.Prelude.{◌≡◌, ℕ, ◌+◌, ◌^◌, Result, Ok, Err, if◌then◌else◌, nat_lt}
 use Rattle.der_base.specs.Length.{plain}
 use Rattle.der_base.specs.Error.{at, bare}
 use Rattle.der_base.specs.Refusal.{cut_at, owed}

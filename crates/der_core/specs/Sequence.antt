@@ -1,7 +1,7 @@
 -- A SEQUENCE that is written by a closure: its header, and a part of the buffer for its contents.
 use Rattle.std.specs.Prelude.{◌≡◌, ℕ, ◌+◌, ◌<◌, ◌≤◌, true, false, length, take, Result, Ok, Err, OnOk}
 use Rattle.std.specs.Borrow.{MutBor}
-use Rattle.der_base.specs.Length.{plain, length_octets}
+use Rattle.der_base.specs.Length.{plain}
 use Rattle.der_base.specs.Header.{header_octets}
 use Rattle.der_base.specs.Error.{at}
 use Rattle.der_base.specs.declared.tag.Tag.TheVariants.{Sequence}

@@ -22,7 +22,8 @@ pub trait DecodeError: From<Error> + Drop {
         ensures { result ≡ out_of_memory self.now };
 
     // a converted error says so exactly where the error did
-    ghost carries: { (e : AnError) (d : Self) → Self.from_gives e d → out_of_memory d ≡ is_out_of_memory_kind (kind_of e) };
+    ghost carries: { (e : AnError) (d : Self) → Self.from_gives e d
+        → out_of_memory d ≡ is_out_of_memory_kind (kind_of e) };
 }
 
 impl DecodeError for Error {
@@ -59,9 +60,18 @@ pub trait Decode<R: Reader>: Sized + Drop {
     /// Decodes a value from the front of the reader's rest.
     fn decode(alloc: Global, reader: &mut R) -> Result<Self, Self::Error>
         ensures same { Same (R.state reader.old) (R.state reader.new) }
-        ensures ok { IfOk result (λ v. (R.state reader.old).failed ≡ false → (R.state reader.new).failed ≡ false → Passed (λ rules octets m. heads rules octets v m) (R.state reader.old) (R.state reader.new)) }
-        ensures complete { (v : Self) (m : ℕ) → R.reliable ≡ true → (R.state reader.old).failed ≡ false → heads (R.state reader.old).rules (rest (R.state reader.old)) v m → (R.state reader.old).depth + needs (R.state reader.old).rules ≤ 64 → ReadsOrLacks Self.Error.out_of_memory takes_memory (R.state reader.old) m result (R.state reader.new) }
-        ensures exact { R.reliable ≡ true → answers (R.state reader.old) result (R.state reader.new) };
+        ensures ok { IfOk result (λ v. (R.state reader.old).failed ≡ false
+            → (R.state reader.new).failed ≡ false
+            → Passed (λ rules octets m. heads rules octets v m) (R.state reader.old)
+            (R.state reader.new)) }
+        ensures complete { (v : Self) (m : ℕ) → R.reliable ≡ true
+            → (R.state reader.old).failed ≡ false
+            → heads (R.state reader.old).rules (rest (R.state reader.old)) v m
+            → (R.state reader.old).depth + needs (R.state reader.old).rules ≤ 64
+            → ReadsOrLacks Self.Error.out_of_memory takes_memory (R.state reader.old) m result
+            (R.state reader.new) }
+        ensures exact { R.reliable ≡ true
+            → answers (R.state reader.old) result (R.state reader.new) };
 }
 
 /// Decoding from octets in memory, for every type that is decoded from a [`SliceReader`].
@@ -72,9 +82,14 @@ pub trait DecodeBytes<'a>: Decode<SliceReader<'a>> {
         alloc: Global,
         bytes: &'a [u8],
     ) -> Result<(Self, &'a [u8]), <Self as Decode<SliceReader<'a>>>::Error>
-        ensures ok { IfOk result (λ p. (m : ℕ) × Self.heads Der bytes.now p.0 m × (m ≤ length bytes.now) × (p.1.now ≡ drop m bytes.now)) }
-        ensures complete { (v : Self) (m : ℕ) → length bytes.now < 2 ^ 32 → Self.heads Der bytes.now v m → Self.needs Der ≤ 64 → IsOk result ⊎ ((Self.takes_memory ≡ true) × IsErrAnd result (λ e. Self.Error.out_of_memory e ≡ true)) }
-        ensures exact { PartialAnswer Self.answers Self.Error.from_gives bytes.now (seen (λ p. (p.0, p.1.now)) result) }
+        ensures ok { IfOk result (λ p. (m : ℕ) × Self.heads Der bytes.now p.0 m
+            × (m ≤ length bytes.now) × (p.1.now ≡ drop m bytes.now)) }
+        ensures complete { (v : Self) (m : ℕ) → length bytes.now < 2 ^ 32
+            → Self.heads Der bytes.now v m → Self.needs Der ≤ 64
+            → IsOk result ⊎ ((Self.takes_memory ≡ true)
+            × IsErrAnd result (λ e. Self.Error.out_of_memory e ≡ true)) }
+        ensures exact { PartialAnswer Self.answers Self.Error.from_gives bytes.now
+            (seen (λ p. (p.0, p.1.now)) result) }
     {
         let mut reader = SliceReader::new(bytes)?;
         match Self::decode(alloc, &mut reader) {

@@ -66,7 +66,8 @@ impl Header {
 
     /// The same header with another length; the constructed bit is kept.
     pub fn with_length(&self, length: Length) -> Self
-        ensures { head_of result ≡ head (head_of self.now).tag length (head_of self.now).constructed }
+        ensures { head_of result ≡ head (head_of self.now).tag length
+            (head_of self.now).constructed }
     {
         Header {
             tag: self.tag,
@@ -102,9 +103,14 @@ impl Header {
 #[inline(always)]
 pub fn decode_header<R: Reader>(reader: &mut R) -> Result<Header, Error>
     ensures same { Same (R.state reader.old) (R.state reader.new) }
-    ensures ok { IfOk result (λ h. Passed (λ rules octets m. header_ahead rules octets h m) (R.state reader.old) (R.state reader.new)) }
-    ensures accepts { R.reliable ≡ true → (R.state reader.old).rules ≡ Der → (R.state reader.old).failed ≡ false → (h : AHeader) (m : ℕ) → HeaderAhead Der (rest (R.state reader.old)) (head_of h) m → (result ≡ Ok h) × (R.state reader.new ≡ advanced (R.state reader.old) m) }
-    ensures exact { R.reliable ≡ true → GrammarAnswers header_ahead HeaderFault (R.state reader.old) result (R.state reader.new) }
+    ensures ok { IfOk result (λ h. Passed (λ rules octets m. header_ahead rules octets h m)
+        (R.state reader.old) (R.state reader.new)) }
+    ensures accepts { R.reliable ≡ true → (R.state reader.old).rules ≡ Der
+        → (R.state reader.old).failed ≡ false → (h : AHeader) (m : ℕ)
+        → HeaderAhead Der (rest (R.state reader.old)) (head_of h) m → (result ≡ Ok h)
+        × (R.state reader.new ≡ advanced (R.state reader.old) m) }
+    ensures exact { R.reliable ≡ true
+        → GrammarAnswers header_ahead HeaderFault (R.state reader.old) result (R.state reader.new) }
 {
     let (tag, constructed) = match decode_with_constructed_bit(reader) {
         Ok(identifier) => identifier,

@@ -21,9 +21,15 @@ const INDEFINITE: u8 = 0x80;
 #[inline(always)]
 pub fn decode_length<R: Reader>(reader: &mut R) -> Result<Length, Error>
     ensures same { Same (R.state reader.old) (R.state reader.new) }
-    ensures ok { IfOk result (λ l. Passed (λ rules octets m. LengthAhead rules octets l m) (R.state reader.old) (R.state reader.new)) }
-    ensures accepts { R.reliable ≡ true → (R.state reader.old).rules ≡ Der → (R.state reader.old).failed ≡ false → (l : ALength) (m : ℕ) → LengthAhead Der (rest (R.state reader.old)) l m → (result ≡ Ok l) × (R.state reader.new ≡ advanced (R.state reader.old) m) }
-    ensures exact { R.reliable ≡ true → GrammarAnswers LengthAhead (λ rules at. LengthFault Overlength at rules) (R.state reader.old) result (R.state reader.new) }
+    ensures ok { IfOk result (λ l. Passed (λ rules octets m. LengthAhead rules octets l m)
+        (R.state reader.old) (R.state reader.new)) }
+    ensures accepts { R.reliable ≡ true → (R.state reader.old).rules ≡ Der
+        → (R.state reader.old).failed ≡ false → (l : ALength) (m : ℕ)
+        → LengthAhead Der (rest (R.state reader.old)) l m → (result ≡ Ok l)
+        × (R.state reader.new ≡ advanced (R.state reader.old) m) }
+    ensures exact { R.reliable ≡ true
+        → GrammarAnswers LengthAhead (λ rules at. LengthFault Overlength at rules)
+        (R.state reader.old) result (R.state reader.new) }
 {
     let first = match reader.read_byte() {
         Ok(octet) => octet,
@@ -43,8 +49,10 @@ pub fn decode_length<R: Reader>(reader: &mut R) -> Result<Length, Error>
 fn decode_long_length<R: Reader>(reader: &mut R, first: u8) -> Result<u32, Error>
     requires { 128 ≤ first }
     ensures same { Same (R.state reader.old) (R.state reader.new) }
-    ensures ok { IfOk result (λ n. (l : List ℕ) × (length_octets n ≡ first ∷ l) × Reads (R.state reader.old) (R.state reader.new) l × (n < 2 ^ 32)) }
-    ensures exact { R.reliable ≡ true → IfErr result (λ e. LongLengthRefused first (R.state reader.old) e (R.state reader.new)) }
+    ensures ok { IfOk result (λ n. (l : List ℕ) × (length_octets n ≡ first ∷ l)
+        × Reads (R.state reader.old) (R.state reader.new) l × (n < 2 ^ 32)) }
+    ensures exact { R.reliable ≡ true
+        → IfErr result (λ e. LongLengthRefused first (R.state reader.old) e (R.state reader.new)) }
 {
     if first == INDEFINITE {
         return Err(reader.error(ErrorKind::IndefiniteLength));

@@ -34,7 +34,8 @@ pub trait TagPeek: Sized {
 
 impl TagPeek for Tag {
     fn peek<R: Reader>(reader: &R) -> Result<Self, Error>
-        ensures { Owed R.reliable result → Peeks tag_ahead IdentifierFault (R.state reader.now) result }
+        ensures { Owed R.reliable result
+            → Peeks tag_ahead IdentifierFault (R.state reader.now) result }
     {
         match reader.peek_tag() {
             Ok(tag) => Ok(tag),
@@ -48,7 +49,9 @@ impl TagPeek for Tag {
         expected_tag_number: TagNumber,
     ) -> Result<bool, Error>
         ensures stays { R.state reader.new ≡ R.state reader.old }
-        ensures exact { Owed R.reliable result → MatchAnswers (class_number expected_class) expected_tag_number.0 (R.state reader.old) result }
+        ensures exact { Owed R.reliable result
+            → MatchAnswers (class_number expected_class) expected_tag_number.0 (R.state reader.old)
+            result }
     {
         if reader.is_finished() {
             return Ok(false);
@@ -61,8 +64,11 @@ impl TagPeek for Tag {
 
     fn decode_with_constructed_bit<R: Reader>(reader: &mut R) -> Result<(Self, bool), Error>
         ensures same { Same (R.state reader.old) (R.state reader.new) }
-        ensures ok { IfOk result (λ r. Passed (λ rules octets m. TagAhead rules octets r.0 r.1 m) (R.state reader.old) (R.state reader.new)) }
-        ensures exact { R.reliable ≡ true → IfErr result (λ e. (R.state reader.old).rules ≡ Der → Refused IdentifierFault (R.state reader.old) e (R.state reader.new)) }
+        ensures ok { IfOk result (λ r. Passed (λ rules octets m. TagAhead rules octets r.0 r.1 m)
+            (R.state reader.old) (R.state reader.new)) }
+        ensures exact { R.reliable ≡ true
+            → IfErr result (λ e. (R.state reader.old).rules ≡ Der
+            → Refused IdentifierFault (R.state reader.old) e (R.state reader.new)) }
     {
         match decode_with_constructed_bit(reader) {
             Ok(identifier) => Ok(identifier),
@@ -73,7 +79,8 @@ impl TagPeek for Tag {
 
 // Whether a tag has this class and number.
 fn has(tag: Tag, class: Class, number: TagNumber) -> bool
-    ensures { IsTrue result ↔ (((label tag).class ≡ class_number class) × ((label tag).number ≡ number.0)) }
+    ensures { IsTrue result ↔ (((label tag).class ≡ class_number class)
+        × ((label tag).number ≡ number.0)) }
 {
     tag.class() == class && tag.number() == number
 }
@@ -81,7 +88,8 @@ fn has(tag: Tag, class: Class, number: TagNumber) -> bool
 impl Header {
     /// The header ahead, as [`decode_header`](crate::decode_header) would answer; the reader stays.
     pub fn peek<R: Reader>(reader: &R) -> Result<Self, Error>
-        ensures { Owed R.reliable result → Peeks header_ahead HeaderFault (R.state reader.now) result }
+        ensures { Owed R.reliable result
+            → Peeks header_ahead HeaderFault (R.state reader.now) result }
     {
         match reader.peek_header() {
             Ok(header) => Ok(header),

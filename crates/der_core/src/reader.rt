@@ -81,15 +81,18 @@ pub trait Reader: Sized + Drop {
     /// unchanged. A reader that cannot lend refuses by `Reader` at its position, unchanged.
     fn read_slice(&mut self, len: Length) -> Result<Self::Lent, Error>
         ensures same { Same (state self.old) (state self.new) }
-        ensures exact { Meets reliable (read_slice_outcome (number len)) (state self.old) (seen Self.Lent.octets result) (state self.new) }
-        ensures unlent { lends ≡ false → seen Self.Lent.octets result ≡ Err (at CannotRead (here (state self.old))) }
+        ensures exact { Meets reliable (read_slice_outcome (number len)) (state self.old)
+            (seen Self.Lent.octets result) (state self.new) }
+        ensures unlent { lends ≡ false
+            → seen Self.Lent.octets result ≡ Err (at CannotRead (here (state self.old))) }
         ensures unmoved { lends ≡ false → state self.new ≡ state self.old };
 
     /// Fills the buffer with the next octets; refused as [`Reader::read_slice`] is, the buffer
     /// unchanged, and by `Overflow` where the buffer is longer than 4294967295 octets.
     fn read_into(&mut self, buf: &mut [u8]) -> Result<(), Error>
         ensures same { Same (state self.old) (state self.new) }
-        ensures exact { Meets reliable (read_into_outcome (length buf.old)) (state self.old) (seen (λ _. buf.new) result) (state self.new) }
+        ensures exact { Meets reliable (read_into_outcome (length buf.old)) (state self.old)
+            (seen (λ _. buf.new) result) (state self.new) }
         ensures kept { OnErr result (buf.new ≡ buf.old) };
 
     /// The error of this kind at the position; the reader has failed, where it keeps such a state.
@@ -101,9 +104,12 @@ pub trait Reader: Sized + Drop {
     /// The octets that are left, up to the end. A failed reader refuses by `Failed` at its
     /// position, one that cannot lend by `Reader`.
     fn remaining(&self) -> Result<Self::Lent, Error>
-        ensures ok { IfOk result (λ r. Ok (Self.Lent.octets r) ≡ remaining_answer (state self.now)) }
-        ensures exact { reliable ≡ true → seen Self.Lent.octets result ≡ remaining_answer (state self.now) }
-        ensures unlent { lends ≡ false → seen Self.Lent.octets result ≡ Err (at CannotRead (here (state self.now))) };
+        ensures ok { IfOk result (λ r. Ok (Self.Lent.octets r) ≡ remaining_answer
+            (state self.now)) }
+        ensures exact { reliable ≡ true
+            → seen Self.Lent.octets result ≡ remaining_answer (state self.now) }
+        ensures unlent { lends ≡ false
+            → seen Self.Lent.octets result ≡ Err (at CannotRead (here (state self.now))) };
 
     /// An equal reader; it takes no memory, and what is read by it leaves this one as it is.
     fn fork(&self) -> Self
@@ -113,13 +119,15 @@ pub trait Reader: Sized + Drop {
     /// `OutOfMemory` without a position, the reader unchanged.
     fn read_vec(&mut self, alloc: Global, len: Length) -> Result<Vec<u8>, Error>
         ensures same { Same (state self.old) (state self.new) }
-        ensures exact { VecMeets reliable (number len) (state self.old) (seen (λ v. v.items) result) (state self.new) };
+        ensures exact { VecMeets reliable (number len) (state self.old) (seen (λ v. v.items) result)
+            (state self.new) };
 
     /// Passes so many octets. An unflagged zero passes none, also on a failed reader. Where fewer
     /// are left, whole steps of sixteen of them are passed, and then the next step is refused.
     fn drain(&mut self, amount: Length) -> Result<(), Error>
         ensures same { Same (state self.old) (state self.new) }
-        ensures exact { Meets reliable (drain_outcome amount) (state self.old) result (state self.new) };
+        ensures exact { Meets reliable (drain_outcome amount) (state self.old) result
+            (state self.new) };
 
     /// Ends the reading: refused by `Failed` at the position on a failed reader, and by
     /// `TrailingData` at the position where octets are left.
@@ -132,13 +140,16 @@ pub trait Reader: Sized + Drop {
     /// past the end by `Incomplete` at the end, both unchanged; a part inside 64 others by
     /// `NestingDepth` at the position, and the reader has failed.
     fn enter_nested(&mut self, len: Length) -> Result<Resumption, Error>
-        ensures exact { Meets reliable (enter_nested_outcome (number len)) (state self.old) (seen outer result) (state self.new) }
+        ensures exact { Meets reliable (enter_nested_outcome (number len)) (state self.old)
+            (seen outer result) (state self.new) }
         ensures err { OnErr result (Same (state self.old) (state self.new)) };
 
     /// Leaves a part, with the end and the depth around it.
     fn leave_nested(&mut self, resumption: Resumption)
-        requires { CanLeave (state self.old) (outer_end resumption) (outer_depth resumption) (length (state self.old).input) }
-        ensures { state self.new ≡ resumed (state self.old) (outer_end resumption) (outer_depth resumption) };
+        requires { CanLeave (state self.old) (outer_end resumption) (outer_depth resumption)
+            (length (state self.old).input) }
+        ensures { state self.new ≡ resumed (state self.old) (outer_end resumption)
+            (outer_depth resumption) };
 
     // what is so of every reader
     ghost lawful: { (s : Self) → Sound (state s) };

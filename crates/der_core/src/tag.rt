@@ -79,8 +79,11 @@ fn other(first: u8, number: u32) -> Tag
 #[inline(always)]
 pub(crate) fn decode_with_constructed_bit<R: Reader>(reader: &mut R) -> Result<(Tag, bool), Error>
     ensures same { Same (R.state reader.old) (R.state reader.new) }
-    ensures ok { IfOk result (λ r. Passed (λ rules octets m. TagAhead rules octets r.0 r.1 m) (R.state reader.old) (R.state reader.new)) }
-    ensures exact { R.reliable ≡ true → IfErr result (λ e. (R.state reader.old).rules ≡ Der → Refused IdentifierFault (R.state reader.old) e (R.state reader.new)) }
+    ensures ok { IfOk result (λ r. Passed (λ rules octets m. TagAhead rules octets r.0 r.1 m)
+        (R.state reader.old) (R.state reader.new)) }
+    ensures exact { R.reliable ≡ true
+        → IfErr result (λ e. (R.state reader.old).rules ≡ Der
+        → Refused IdentifierFault (R.state reader.old) e (R.state reader.new)) }
 {
     let first = match reader.read_byte() {
         Ok(octet) => octet,
@@ -118,8 +121,10 @@ fn unknown(first: u8) -> ErrorKind
 // The number behind a first octet whose five number bits are set (X.690 8.1.2.4).
 fn decode_long_number<R: Reader>(reader: &mut R) -> Result<u32, Error>
     ensures same { Same (R.state reader.old) (R.state reader.new) }
-    ensures ok { IfOk result (λ n. Reads (R.state reader.old) (R.state reader.new) (continued (digits 128 n)) × (31 ≤ n) × (n < 2 ^ 32)) }
-    ensures exact { R.reliable ≡ true → IfErr result (λ e. NumberRefused (R.state reader.old) e (R.state reader.new)) }
+    ensures ok { IfOk result (λ n. Reads (R.state reader.old) (R.state reader.new)
+        (continued (digits 128 n)) × (31 ≤ n) × (n < 2 ^ 32)) }
+    ensures exact { R.reliable ≡ true
+        → IfErr result (λ e. NumberRefused (R.state reader.old) e (R.state reader.new)) }
 {
     let mut number = 0u32;
     'octets: loop {
@@ -149,8 +154,11 @@ fn decode_long_number<R: Reader>(reader: &mut R) -> Result<u32, Error>
 #[inline(always)]
 pub(crate) fn decode_tag<R: Reader>(reader: &mut R) -> Result<Tag, Error>
     ensures same { Same (R.state reader.old) (R.state reader.new) }
-    ensures ok { IfOk result (λ t. Passed (λ rules octets m. tag_ahead rules octets t m) (R.state reader.old) (R.state reader.new)) }
-    ensures exact { R.reliable ≡ true → GrammarAnswers tag_ahead IdentifierFault (R.state reader.old) result (R.state reader.new) }
+    ensures ok { IfOk result (λ t. Passed (λ rules octets m. tag_ahead rules octets t m)
+        (R.state reader.old) (R.state reader.new)) }
+    ensures exact { R.reliable ≡ true
+        → GrammarAnswers tag_ahead IdentifierFault (R.state reader.old) result
+        (R.state reader.new) }
 {
     match decode_with_constructed_bit(reader) {
         Ok((tag, _)) => Ok(tag),

@@ -27,7 +27,8 @@ pub trait ReaderExt: Reader {
     #[inline(always)]
     final fn read_byte(&mut self) -> Result<u8, Error>
         ensures same { Same (Self.state self.old) (Self.state self.new) }
-        ensures exact { Meets Self.reliable read_byte_outcome (Self.state self.old) result (Self.state self.new) }
+        ensures exact { Meets Self.reliable read_byte_outcome (Self.state self.old) result
+            (Self.state self.new) }
     {
         let mut octet = [0u8];
         match self.read_into(&mut octet) {
@@ -64,9 +65,12 @@ pub trait ReaderExt: Reader {
         outer: Resumption,
         answer: Result<T, E>,
     ) -> Result<T, E>
-        requires { CanLeave (Self.state self.old) (outer_end outer) (outer_depth outer) (length (Self.state self.old).input) }
-        ensures same { Same (resumed (Self.state self.old) (outer_end outer) (outer_depth outer)) (Self.state self.new) }
-        ensures exact { Closes E.from_gives answer (Self.state self.old) (outer_end outer) (outer_depth outer) result (Self.state self.new) }
+        requires { CanLeave (Self.state self.old) (outer_end outer) (outer_depth outer)
+            (length (Self.state self.old).input) }
+        ensures same { Same (resumed (Self.state self.old) (outer_end outer) (outer_depth outer))
+            (Self.state self.new) }
+        ensures exact { Closes E.from_gives answer (Self.state self.old) (outer_end outer)
+            (outer_depth outer) result (Self.state self.new) }
     {
         let left = self.remaining_len();
         self.leave_nested(outer);
@@ -92,9 +96,12 @@ pub trait ReaderExt: Reader {
         len: Length,
         f: F,
     ) -> Result<T, E>
-        requires { HandsBack (F.pre f) (F.post f) (λ p. Self.state p.now) (λ q. Self.state q.now) (Self.state self.old) (number len) }
+        requires { HandsBack (F.pre f) (F.post f) (λ p. Self.state p.now) (λ q. Self.state q.now)
+            (Self.state self.old) (number len) }
         ensures same { Same (Self.state self.old) (Self.state self.new) }
-        ensures exact { Owed Self.reliable result → NestedAnswers E.from_gives (F.post f) (λ p. Self.state p.now) (λ q. Self.state q.now) (number len) (Self.state self.old) result (Self.state self.new) }
+        ensures exact { Owed Self.reliable result
+            → NestedAnswers E.from_gives (F.post f) (λ p. Self.state p.now) (λ q. Self.state q.now)
+            (number len) (Self.state self.old) result (Self.state self.new) }
     {
         let outer = match self.enter_nested(len) {
             Ok(outer) => outer,
@@ -120,7 +127,8 @@ pub trait ReaderExt: Reader {
 
     /// Fills the buffer with the next octets, as [`Reader::read_into`] does; the reader stays.
     final fn peek_into(&self, buf: &mut [u8]) -> Result<(), Error>
-        ensures exact { AnswersAs Self.reliable (read_into_outcome (length buf.old)) (Self.state self.now) (seen (λ _. buf.new) result) }
+        ensures exact { AnswersAs Self.reliable (read_into_outcome (length buf.old))
+            (Self.state self.now) (seen (λ _. buf.new) result) }
         ensures kept { OnErr result (buf.new ≡ buf.old) }
     {
         let mut fork = self.fork();
@@ -132,7 +140,8 @@ pub trait ReaderExt: Reader {
 
     /// The header ahead, as [`decode_header`] would answer; the reader stays.
     final fn peek_header(&self) -> Result<Header, Error>
-        ensures { Owed Self.reliable result → Peeks header_ahead HeaderFault (Self.state self.now) result }
+        ensures { Owed Self.reliable result
+            → Peeks header_ahead HeaderFault (Self.state self.now) result }
     {
         let mut fork = self.fork();
         match decode_header(&mut fork) {
@@ -143,7 +152,8 @@ pub trait ReaderExt: Reader {
 
     /// The tag ahead, as decoding it would answer; the reader stays.
     final fn peek_tag(&self) -> Result<Tag, Error>
-        ensures { Owed Self.reliable result → Peeks tag_ahead IdentifierFault (Self.state self.now) result }
+        ensures { Owed Self.reliable result
+            → Peeks tag_ahead IdentifierFault (Self.state self.now) result }
     {
         let mut fork = self.fork();
         match decode_tag(&mut fork) {
@@ -157,7 +167,9 @@ pub trait ReaderExt: Reader {
     /// header's octets: `Overflow` without a position.
     final fn tlv_bytes(&mut self) -> Result<Self::Lent, Error>
         ensures same { Same (Self.state self.old) (Self.state self.new) }
-        ensures exact { Owed Self.reliable result → TlvAnswers (Self.state self.old) (seen Self.Lent.octets result) (Self.state self.new) }
+        ensures exact { Owed Self.reliable result
+            → TlvAnswers (Self.state self.old) (seen Self.Lent.octets result)
+            (Self.state self.new) }
     {
         let mut fork = self.fork();
         let header = match decode_header(&mut fork) {
@@ -178,8 +190,12 @@ pub trait ReaderExt: Reader {
         alloc: Global,
     ) -> Result<T, <T as Decode<Self>>::Error>
         ensures same { Same (Self.state self.old) (Self.state self.new) }
-        ensures ok { IfOk result (λ v. (Self.state self.new).failed ≡ false → Passed (λ rules octets m. T.heads rules octets v m) (Self.state self.old) (Self.state self.new)) }
-        ensures exact { Self.reliable ≡ true → ReaderDecodes T.answers T.Error.from_gives (Self.state self.old) result (Self.state self.new) }
+        ensures ok { IfOk result (λ v. (Self.state self.new).failed ≡ false
+            → Passed (λ rules octets m. T.heads rules octets v m) (Self.state self.old)
+            (Self.state self.new)) }
+        ensures exact { Self.reliable ≡ true
+            → ReaderDecodes T.answers T.Error.from_gives (Self.state self.old) result
+            (Self.state self.new) }
     {
         if self.is_failed() {
             return Err(self.error(ErrorKind::Failed).into());
@@ -199,9 +215,14 @@ pub trait ReaderExt: Reader {
         &mut self,
         f: F,
     ) -> Result<T, E>
-        requires { (h : AHeader) (s : State) → Passed (λ rules octets m. header_ahead rules octets h m) (Self.state self.old) s → HandsBack (F.pre f) (F.post f) (λ p. Self.state p.now) (λ q. Self.state q.now) s (number (without_end (head_of h).length)) }
+        requires { (h : AHeader) (s : State)
+            → Passed (λ rules octets m. header_ahead rules octets h m) (Self.state self.old) s
+            → HandsBack (F.pre f) (F.post f) (λ p. Self.state p.now) (λ q. Self.state q.now) s
+            (number (without_end (head_of h).length)) }
         ensures same { Same (Self.state self.old) (Self.state self.new) }
-        ensures exact { Owed Self.reliable result → SequenceAnswers E.from_gives (F.post f) (λ p. Self.state p.now) (λ q. Self.state q.now) (Self.state self.old) result (Self.state self.new) }
+        ensures exact { Owed Self.reliable result
+            → SequenceAnswers E.from_gives (F.post f) (λ p. Self.state p.now)
+            (λ q. Self.state q.now) (Self.state self.old) result (Self.state self.new) }
     {
         let header = match decode_header(self) {
             Ok(header) => header,

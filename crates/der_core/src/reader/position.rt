@@ -94,7 +94,8 @@ impl Position {
     /// refused by `NestingDepth` at the position, one past 4294967295 by `Overflow` without a
     /// position, one past the end by `Incomplete` at the end; all leave the position as it is.
     pub fn split_nested(&mut self, len: Length) -> Result<Resumption, Error>
-        ensures { Moves (split_nested_outcome (number len)) (place self.old) (seen outer result) (place self.new) }
+        ensures { Moves (split_nested_outcome (number len)) (place self.old) (seen outer result)
+            (place self.new) }
     {
         let count = u32::from(len);
         if self.depth >= MAX_DEPTH {
@@ -115,7 +116,8 @@ impl Position {
 
     /// Leaves a part: end and depth are again those around it.
     pub fn resume_nested(&mut self, resumption: Resumption)
-        ensures { place self.new ≡ place_of (outer_end resumption) (place self.old).position (outer_depth resumption) }
+        ensures { place self.new ≡ place_of (outer_end resumption) (place self.old).position
+            (outer_depth resumption) }
     {
         self.end = u32::from(resumption.input_len());
         self.depth = resumption.depth();

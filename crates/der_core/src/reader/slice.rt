@@ -74,7 +74,8 @@ impl<'a> SliceReader<'a> {
     // The next octets in memory of any allocator; memory is asked for once they are there.
     fn read_vec_in<A: Allocator>(&mut self, alloc: A, len: Length) -> Result<Vec<u8, A>, Error>
         ensures same { Same (slice_state self.old) (slice_state self.new) }
-        ensures gives { VecGives (number len) (slice_state self.old) (seen (λ v. v.items) result) (slice_state self.new) }
+        ensures gives { VecGives (number len) (slice_state self.old) (seen (λ v. v.items) result)
+            (slice_state self.new) }
     {
         let before = self.position;
         let octets = self.read_slice(len)?;
@@ -90,8 +91,10 @@ impl<'a> SliceReader<'a> {
     // so many octets are not there
     #[cold]
     fn incomplete(&mut self, count: u32) -> Error
-        ensures told { result ≡ owed (wants (self.old.position + count) self.old.end self.old.position) }
-        ensures leaves { slice_state self.new ≡ left (slice_state self.old) (wants (self.old.position + count) self.old.end self.old.position) }
+        ensures told { result ≡ owed (wants (self.old.position + count) self.old.end
+            self.old.position) }
+        ensures leaves { slice_state self.new ≡ left (slice_state self.old)
+            (wants (self.old.position + count) self.old.end self.old.position) }
     {
         if count > u32::MAX - self.position {
             return ErrorKind::Overflow.to_error();
@@ -147,13 +150,13 @@ impl<'a> Reader for SliceReader<'a> {
             return Err(ErrorKind::Failed.at(Length::new(self.position)));
         }
         let count = u32::from(len);
-        let start = self.position;
-        if count > self.end - start {
+        if count > self.end - self.position {
             return Err(self.incomplete(count));
         }
-        let stop = start + count;
-        self.position = stop;
-        Ok(&self.bytes[start as usize..stop as usize])
+        let start = self.position as usize;
+        self.position += count;
+        // a sum of two `usize`, so that the compiler sees how long the slice is
+        Ok(&self.bytes[start..start + count as usize])
     }
 
     #[inline]
@@ -250,7 +253,8 @@ impl<'a> Reader for SliceReader<'a> {
         self.depth = resumption.depth();
     }
 
-    ghost lawful = { λ s. record { ordered = s.ordered; in_input = s.in_input; addressable = s.addressable; shallow = s.shallow; marked = λ failed. Prim.search rules } };
+    ghost lawful = { λ s. record { ordered = s.ordered; in_input = s.in_input; addressable =
+        s.addressable; shallow = s.shallow; marked = λ failed. Prim.search rules } };
 
     ghost lending = { λ h. h };
 }

@@ -17,7 +17,8 @@ use der_base::{Error, ErrorKind, Length};
 /// not zero is refused by `IndefiniteLength` at the position after it, and the reader has failed.
 pub fn read_eoc<R: Reader>(reader: &mut R) -> Result<(), Error>
     ensures same { Same (R.state reader.old) (R.state reader.new) }
-    ensures exact { Meets R.reliable read_eoc_outcome (R.state reader.old) result (R.state reader.new) }
+    ensures exact { Meets R.reliable read_eoc_outcome (R.state reader.old) result
+        (R.state reader.new) }
 {
     match read_end_mark(reader) {
         Ok(()) => read_end_mark(reader),
@@ -27,7 +28,8 @@ pub fn read_eoc<R: Reader>(reader: &mut R) -> Result<(), Error>
 
 fn read_end_mark<R: Reader>(reader: &mut R) -> Result<(), Error>
     ensures same { Same (R.state reader.old) (R.state reader.new) }
-    ensures exact { Meets R.reliable read_end_mark_outcome (R.state reader.old) result (R.state reader.new) }
+    ensures exact { Meets R.reliable read_end_mark_outcome (R.state reader.old) result
+        (R.state reader.new) }
 {
     let octet = match reader.read_byte() {
         Ok(octet) => octet,
@@ -47,9 +49,13 @@ pub fn close_value<R: Reader, T: Drop, E: From<Error> + Drop>(
     outer: Resumption,
     answer: Result<T, E>,
 ) -> Result<T, E>
-    requires { CanLeave (R.state reader.old) (outer_end outer) (outer_depth outer) (list_length (R.state reader.old).input) }
-    ensures same { Same (resumed (R.state reader.old) (outer_end outer) (outer_depth outer)) (R.state reader.new) }
-    ensures exact { Owed R.reliable result → ClosesValue E.from_gives answer (R.state reader.old) (outer_end outer) (outer_depth outer) (flagged length) result (R.state reader.new) }
+    requires { CanLeave (R.state reader.old) (outer_end outer) (outer_depth outer)
+        (list_length (R.state reader.old).input) }
+    ensures same { Same (resumed (R.state reader.old) (outer_end outer) (outer_depth outer))
+        (R.state reader.new) }
+    ensures exact { Owed R.reliable result
+        → ClosesValue E.from_gives answer (R.state reader.old) (outer_end outer) (outer_depth outer)
+        (flagged length) result (R.state reader.new) }
 {
     let value = match reader.close_nested(outer, answer) {
         Ok(value) => value,
@@ -73,9 +79,15 @@ pub fn read_value<
     E: From<Error> + Drop,
     F: FnOnce(&mut R, Header) -> Result<T, E>,
 >(reader: &mut R, header: Header, f: F) -> Result<T, E>
-    requires { HandsBack (λ p. F.pre f p (contents_header header)) (λ p a q. (h : _) × (h ≡ contents_header header) × F.post f p h a q) (λ p. R.state p.now) (λ q. R.state q.now) (R.state reader.old) (number (without_end (head_of header).length)) }
+    requires { HandsBack (λ p. F.pre f p (contents_header header)) (λ p a q. (h : _)
+        × (h ≡ contents_header header)
+        × F.post f p h a q) (λ p. R.state p.now) (λ q. R.state q.now) (R.state reader.old)
+        (number (without_end (head_of header).length)) }
     ensures same { Same (R.state reader.old) (R.state reader.new) }
-    ensures exact { Owed R.reliable result → ValueAnswers E.from_gives (λ p a q. (h : _) × (h ≡ contents_header header) × F.post f p h a q) (λ p. R.state p.now) (λ q. R.state q.now) (without_end (head_of header).length) (R.state reader.old) result (R.state reader.new) }
+    ensures exact { Owed R.reliable result
+        → ValueAnswers E.from_gives (λ p a q. (h : _) × (h ≡ contents_header header)
+        × F.post f p h a q) (λ p. R.state p.now) (λ q. R.state q.now)
+        (without_end (head_of header).length) (R.state reader.old) result (R.state reader.new) }
 {
     let contents = header.contents();
     let length = contents.length();
@@ -97,9 +109,12 @@ pub(crate) fn read_contents<
     E: From<Error> + Drop,
     F: FnOnce(&mut R) -> Result<T, E>,
 >(reader: &mut R, length: Length, f: F) -> Result<T, E>
-    requires { HandsBack (F.pre f) (F.post f) (λ p. R.state p.now) (λ q. R.state q.now) (R.state reader.old) (number length) }
+    requires { HandsBack (F.pre f) (F.post f) (λ p. R.state p.now) (λ q. R.state q.now)
+        (R.state reader.old) (number length) }
     ensures same { Same (R.state reader.old) (R.state reader.new) }
-    ensures exact { Owed R.reliable result → ValueAnswers E.from_gives (F.post f) (λ p. R.state p.now) (λ q. R.state q.now) length (R.state reader.old) result (R.state reader.new) }
+    ensures exact { Owed R.reliable result
+        → ValueAnswers E.from_gives (F.post f) (λ p. R.state p.now) (λ q. R.state q.now) length
+        (R.state reader.old) result (R.state reader.new) }
 {
     let outer = match reader.enter_nested(length) {
         Ok(outer) => outer,

@@ -1,4 +1,4 @@
-use Rattle.std.proofs.Common.{arith, ◌≡◌, ℕ, ◌+◌, ◌++◌, List, length, length-append, ap, ◌∙◌}
+use Rattle.std.proofs.Common.{arith, ℕ, List, length, length-append, ap, ◌∙◌}
 use Rattle.der_base.specs.Length.{number}
 use Rattle.der_base.specs.Header.{header_octets}
 use Rattle.der_core.specs.Header.{head_of}

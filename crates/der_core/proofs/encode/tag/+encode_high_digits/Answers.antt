@@ -1,4 +1,4 @@
-use Rattle.std.proofs.Common.{arith, ◌≡◌, ℕ, ◌+◌, ◌/◌, ◌%◌, ◌<◌, [], ◌∷◌, length, sym, subst, OnOk, Err}
+use Rattle.std.proofs.Common.{arith, ◌≡◌, ℕ, ◌+◌, ◌/◌, ◌%◌, [], ◌∷◌, sym, subst, OnOk, Err}
 use Rattle.std.proofs.lemmas.Int.Digits.{length-digits_of_step}
 use Rattle.der_core.specs.Writer.{appended, Writes, write_pieces}
 use Rattle.der_core.specs.Encode.{singly, high_digits}

@@ -1,7 +1,7 @@
-use Rattle.std.proofs.Common.{rules, arith, ◌≡◌, ◌+◌, ◌-◌, ◌^◌, ◌<◌, ◌≤◌, ℕ, List, length, take, length-drop, drop, Err, sym, subst, ap, ◌∙◌}
+use Rattle.std.proofs.Common.{arith, ◌≡◌, ◌-◌, ℕ, List, length, take, length-drop, drop, Err, sym, subst, ap, ◌∙◌}
 use Rattle.std.proofs.lemmas.List.{take_rest}
 use Rattle.der_base.specs.Length.{number}
-use Rattle.der_core.specs.Writer.{WriterState, fresh}
+use Rattle.der_core.specs.Writer.{fresh}
 use Rattle.der_core.specs.Encode.{NotAppended, no_size, no_memory, not_written}
 use Rattle.der_core.proofs.encode.vec.append.Goals as goal
 

@@ -1,8 +1,7 @@
-use Rattle.std.proofs.Common.{rules, arith, ◌≡◌, ◌+◌, ◌≤◌, length, Ok, ℕ, ◌-◌, ◌*◌, ◌<◌, List, [], ◌∷◌, ◌++◌, ◌∙◌, ap, take, drop, w32}
+use Rattle.std.proofs.Common.{arith, ℕ, ◌-◌, ◌∙◌, ap, take, drop, w32}
 use Rattle.std.specs.Int.{to_be_bytes}
 use Rattle.std.proofs.lemmas.List.{take_rest}
-use Rattle.der_base.specs.Length.{number, plain, length_octets}
-use Rattle.der_core.specs.Encode.{length_outcome}
+use Rattle.der_base.specs.Length.{number}
 use Rattle.der_core.proofs.EncodeLemmas.{length_appended, length_outcome_of}
 use Rattle.der_core.proofs.encode.length.LengthEncode.encode.Goals as goal
 

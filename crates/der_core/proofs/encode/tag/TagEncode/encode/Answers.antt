@@ -1,8 +1,7 @@
-use Rattle.std.proofs.Common.{arith, ◌≡◌, ℕ, ◌+◌, ◌/◌, ◌%◌, ◌<◌, ◌≤◌, List, [], ◌∷◌, ◌++◌, length, length-append, sym, ap, ◌∙◌, subst, OnOk, Ok, Err}
-use Rattle.der_base.specs.Tag.{label, tag_octets, first_octet}
+use Rattle.std.proofs.Common.{arith, ◌≡◌, ℕ, ◌+◌, ◌/◌, ◌%◌, [], ◌∷◌, ◌++◌, length, length-append, sym, ap, subst, OnOk, Ok, Err}
 use Rattle.der_core.specs.Writer.{appended, Writes, write_pieces}
 use Rattle.der_core.specs.Encode.{singly, high_digits}
-use Rattle.der_core.proofs.EncodeLemmas.{tag_spelled, appended_twice, pieces_then, pieces_stop, one_piece, singly_then, singly_stop, room_then}
+use Rattle.der_core.proofs.EncodeLemmas.{tag_spelled, appended_twice, pieces_then, one_piece, singly_then, singly_stop, room_then}
 use Rattle.der_core.proofs.encode.tag.TagEncode.encode.Goals as goal
 
 pub returns-in-Ok-encode_high_digits-clause-ok : goal.returns-in-Ok-encode_high_digits-clause-ok

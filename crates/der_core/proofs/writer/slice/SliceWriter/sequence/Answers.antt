@@ -1,4 +1,4 @@
-use Rattle.std.proofs.Common.{arith, ◌≡◌, ℕ, ◌+◌, ◌<◌, length, length-append, refl, sym, ap, ◌∙◌, subst, Ok, Err}
+use Rattle.std.proofs.Common.{arith, ◌≡◌, ℕ, length, length-append, refl, sym, ap, ◌∙◌, subst, Ok, Err}
 use Rattle.der_base.specs.Length.{number}
 use Rattle.der_base.specs.Header.{Head, header_octets}
 use Rattle.der_base.specs.declared.tag.Tag.TheVariants.{Sequence}
