@@ -38,8 +38,10 @@ pub record IsElement (octets element : List ℕ) : Type 0 where
 -- the octets begin with no whole element; the error tells why
 pub data NoElement (octets : List ℕ) : Error → Type 0 where
   no_header : {e : Error} → IsRefusedFor octets e → NoElement octets e
-  past_every_length : (h : Head) (count : ℕ) → HeaderAhead Der octets h count → 2 ^ 32 ≤ count + number h.length → NoElement octets (bare Overflow)
-  contents_missing : (h : Head) (count : ℕ) → HeaderAhead Der octets h count → count + number h.length < 2 ^ 32 → length octets < count + number h.length
+  past_every_length : (h : Head) (count : ℕ) → HeaderAhead Der octets h count → 2 ^ 32 ≤ count + number h.length
+      → NoElement octets (bare Overflow)
+  contents_missing : (h : Head) (count : ℕ) → HeaderAhead Der octets h count → count + number h.length < 2 ^ 32
+      → length octets < count + number h.length
       → NoElement octets (owed (wants (count + number h.length) (length octets) 0))
 
 -- the lines tell the header that the octets begin with
