@@ -253,8 +253,14 @@ impl<'a> Reader for SliceReader<'a> {
         self.depth = resumption.depth();
     }
 
-    ghost lawful = { λ s. record { ordered = s.ordered; in_input = s.in_input; addressable =
-        s.addressable; shallow = s.shallow; marked = λ failed. Prim.search rules } };
+    ghost lawful = { λ s. record {
+      ordered = s.ordered;
+      in_input = s.in_input;
+      addressable =
+          s.addressable;
+      shallow = s.shallow;
+      marked = λ failed. Prim.search rules;
+    } };
 
     ghost lending = { λ h. h };
 }
