@@ -256,8 +256,7 @@ impl<'a> Reader for SliceReader<'a> {
     ghost lawful = { λ s. record {
       ordered = s.ordered;
       in_input = s.in_input;
-      addressable =
-          s.addressable;
+      addressable = s.addressable;
       shallow = s.shallow;
       marked = λ failed. Prim.search rules;
     } };
