@@ -202,7 +202,8 @@ fn main() {
         assert_eq!(proved_walk(&bytes), flat_walk(&bytes), "{name}");
         let (proved, flat) = measure(&bytes, count);
         println!(
-            "{name}: {count} elements of {:.1} octets; library {proved:.2} ns, flat {flat:.2} ns an element, ratio {:.2}",
+            "{name}: {count} elements of {:.1} octets; \
+             library {proved:.2} ns, flat {flat:.2} ns an element, ratio {:.2}",
             bytes.len() as f64 / count as f64,
             proved / flat,
         );
