@@ -4,10 +4,17 @@ use crate::{Class, TagPeek};
 #[test]
 fn what_is_ahead(rt: HostRuntime) -> Result<(), Fail> {
     let octets = [0x02, 0x01, 0x2A, 0x00];
-    let mut reader = SliceReader::new(&octets)?;
+    let reader = SliceReader::new(&octets)?;
     let integer = Header::new(Tag::Integer, Length::ONE);
     assert_eq!(rt; Header::peek(&reader), Ok(integer));
     assert_eq!(rt; reader.peek_header(), Ok(integer));
+    Ok(())
+}
+
+#[test]
+fn octets_and_tags_ahead(rt: HostRuntime) -> Result<(), Fail> {
+    let octets = [0x02, 0x01, 0x2A, 0x00];
+    let mut reader = SliceReader::new(&octets)?;
     assert_eq!(rt; Tag::peek(&reader), Ok(Tag::Integer));
     assert_eq!(rt; reader.peek_tag(), Ok(Tag::Integer));
     assert_eq!(rt; reader.peek_byte(), Some(0x02));
@@ -30,10 +37,20 @@ fn what_is_ahead_and_refused(rt: HostRuntime) -> Result<(), Fail> {
     assert_eq!(rt; Tag::peek(&reader), Err(incomplete(3, 2, 2)));
     assert_eq!(rt; reader.position(), Length::ZERO);
     assert!(rt; !reader.is_failed());
+    Ok(())
+}
+
+#[test]
+fn a_long_tag_ahead(rt: HostRuntime) -> Result<(), Fail> {
     let long = [0xDF, 0x8F, 0xFF, 0xFF, 0xFF, 0xFF];
     let reader = SliceReader::new(&long)?;
     let invalid = ErrorKind::TagNumberInvalid.at(Length::new(6));
     assert_eq!(rt; Tag::peek(&reader), Err(invalid));
+    Ok(())
+}
+
+#[test]
+fn the_longest_header_ahead(rt: HostRuntime) -> Result<(), Fail> {
     let longest = [
         0xBF, 0x8F, 0xFF, 0xFF, 0xFF, 0x7F, 0x84, 0xFF, 0xFF, 0xFF, 0xFF,
     ];
@@ -78,6 +95,11 @@ fn whole_elements(rt: HostRuntime) -> Result<(), Fail> {
     let mut reader = SliceReader::new(&octets)?;
     assert_eq!(rt; reader.tlv_bytes()?, [0x30, 0x02, 0x05, 0x00].as_slice());
     assert_eq!(rt; reader.position(), Length::new(4));
+    Ok(())
+}
+
+#[test]
+fn an_element_that_is_cut(rt: HostRuntime) -> Result<(), Fail> {
     let mut reader = SliceReader::new(&[0x30, 0x02])?;
     assert_eq!(rt; reader.tlv_bytes().err(), Some(incomplete(4, 2, 0)));
     assert!(rt; reader.is_failed());
@@ -110,6 +132,12 @@ fn octets_passed(rt: HostRuntime) -> Result<(), Fail> {
     assert_eq!(rt; reader.drain(Length::ZERO), Ok(()));
     let failed = ErrorKind::Failed.at(Length::new(16));
     assert_eq!(rt; reader.drain(Length::new_indefinite(0)), Err(failed));
+    Ok(())
+}
+
+#[test]
+fn octets_passed_to_the_end(rt: HostRuntime) -> Result<(), Fail> {
+    let octets = [0x07; 18];
     let mut reader = SliceReader::new(&octets)?;
     assert_eq!(rt; reader.drain(Length::new(20)), Err(incomplete(20, 18, 16)));
     let mut reader = SliceReader::new(&octets)?;
@@ -128,7 +156,15 @@ fn ends(rt: HostRuntime) -> Result<(), Fail> {
         decoded: Length::ONE,
         remaining: Length::ONE,
     };
-    assert_eq!(rt; reader.fork().finish(), Err(left.at(Length::ONE)));
+    assert_eq!(rt; reader.finish(), Err(left.at(Length::ONE)));
+    Ok(())
+}
+
+#[test]
+fn copies(rt: HostRuntime) -> Result<(), Fail> {
+    let octets = [0x01, 0x02];
+    let mut reader = SliceReader::new(&octets)?;
+    assert_eq!(rt; reader.read_byte(), Ok(0x01));
     let copy = reader.read_vec(rt.alloc(), Length::ONE)?;
     assert_eq!(rt; copy.as_slice(), [0x02].as_slice());
     assert_eq!(rt;

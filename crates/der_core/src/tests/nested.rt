@@ -98,6 +98,11 @@ fn no_sequence(rt: HostRuntime) -> Result<(), Fail> {
     assert_eq!(rt; reader.sequence(read_none), Err(unexpected.to_error()));
     assert_eq!(rt; reader.position(), Length::new(2));
     assert!(rt; !reader.is_failed());
+    Ok(())
+}
+
+#[test]
+fn a_sequence_that_is_cut(rt: HostRuntime) -> Result<(), Fail> {
     let cut = [0x30, 0x04, 0x05, 0x00];
     let mut reader = SliceReader::new(&cut)?;
     assert_eq!(rt; reader.sequence(read_none), Err(incomplete(5, 4, 4)));
@@ -132,6 +137,11 @@ fn positions(rt: HostRuntime) -> Result<(), Fail> {
     assert_eq!(rt; position.advance(Length::new(41)), Ok(Length::new(42)));
     assert_eq!(rt; position.advance(Length::ONE), Err(incomplete(43, 42, 42)));
     assert_eq!(rt; position.current(), Length::new(42));
+    Ok(())
+}
+
+#[test]
+fn positions_in_a_part(rt: HostRuntime) -> Result<(), Fail> {
     let mut position = Position::new(Length::new(42));
     let resumption = position.split_nested(Length::ONE)?;
     assert_eq!(rt; resumption.input_len(), Length::new(42));
@@ -140,6 +150,13 @@ fn positions(rt: HostRuntime) -> Result<(), Fail> {
     position.resume_nested(resumption);
     assert_eq!(rt; position.current(), Length::ONE);
     assert_eq!(rt; position.input_len(), Length::new(42));
+    Ok(())
+}
+
+#[test]
+fn a_part_past_the_end_of_a_position(rt: HostRuntime) -> Result<(), Fail> {
+    let mut position = Position::new(Length::new(42));
+    assert_eq!(rt; position.advance(Length::ONE), Ok(Length::ONE));
     assert_eq!(rt; position.remaining_len(), Length::new(41));
     let past = position.split_nested(Length::new(42)).err();
     assert_eq!(rt; past, Some(incomplete(43, 42, 42)));
@@ -160,15 +177,28 @@ fn a_value_and_its_end_marks(rt: HostRuntime) -> Result<(), Fail> {
     let read = read_value(&mut reader, header, read_contents);
     assert_eq!(rt; read, Ok((0x07, Length::new_indefinite(1))));
     assert_eq!(rt; reader.position(), Length::new(3));
+    Ok(())
+}
+
+#[test]
+fn a_value_without_end_marks(rt: HostRuntime) -> Result<(), Fail> {
+    let octets = [0x07, 0x00, 0x00, 0x05];
     let mut reader = SliceReader::new(&octets)?;
     let plain = Header::new(Tag::OctetString, Length::ONE);
     assert_eq!(rt;
         read_value(&mut reader, plain, read_contents),
         Ok((0x07, Length::ONE))
     );
+    Ok(())
+}
+
+#[test]
+fn end_marks(rt: HostRuntime) -> Result<(), Fail> {
+    let octets = [0x00, 0x00, 0x05];
+    let mut reader = SliceReader::new(&octets)?;
     assert_eq!(rt; read_eoc(&mut reader), Ok(()));
-    assert_eq!(rt; reader.position(), Length::new(3));
-    let wrong = ErrorKind::IndefiniteLength.at(Length::new(4));
+    assert_eq!(rt; reader.position(), Length::new(2));
+    let wrong = ErrorKind::IndefiniteLength.at(Length::new(3));
     assert_eq!(rt; read_eoc(&mut reader), Err(wrong));
     assert!(rt; reader.is_failed());
     Ok(())

@@ -134,6 +134,13 @@ fn nothing_is_lent(rt: HostRuntime) -> Result<(), Fail> {
     assert_eq!(rt; reader.read_slice(Length::ONE).err(), Some(refused));
     assert_eq!(rt; reader.remaining().err(), Some(refused));
     assert_eq!(rt; reader.position(), Length::ZERO);
+    Ok(())
+}
+
+#[test]
+fn octets_without_lending(rt: HostRuntime) -> Result<(), Fail> {
+    let octets = [0x05, 0x00];
+    let mut reader = make_unlent(&octets)?;
     assert_eq!(rt; decode_length(&mut reader), Ok(Length::new(5)));
     assert_eq!(rt; reader.peek_byte(), Some(0x00));
     let copy = reader.read_vec(rt.alloc(), Length::ONE)?;
