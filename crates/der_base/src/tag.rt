@@ -1,5 +1,5 @@
 //! Tags.
-ghost use Rattle.std.specs.Prelude.{◌≡◌, ◌≢◌, ◌↔◌, IsTrue, Bool, true, false, Some, Ok, Err};
+ghost use Rattle.std.specs.Prelude.{◌≡◌, ◌≢◌, ◌≤◌, ◌↔◌, length, IsTrue, Bool, true, false, Some, Ok, Err};
 ghost use Rattle.der_base.specs.Text.{bit_text as spec_bit_text};
 
 pub mod class;
@@ -85,7 +85,7 @@ pub enum Tag {
 }
 
 impl Tag {
-    ghost use Rattle.der_base.specs.Tag.{label};
+    ghost use Rattle.der_base.specs.Tag.{label, tag_octets};
     ghost use Rattle.der_base.specs.Class.{class_number};
     ghost use Rattle.der_base.specs.Error.{unexpected_tag};
 
@@ -145,6 +145,28 @@ impl Tag {
             | Tag::ContextSpecific { constructed, .. }
             | Tag::Private { constructed, .. } => constructed,
             _ => false,
+        }
+    }
+
+    /// How many octets the identifier takes (X.690 8.1.2), 1 to 6: one for numbers to 30, else one
+    /// more than the number has digits in base 128.
+    pub const fn octet_count(self) -> u32
+        ensures octets { result ≡ length (tag_octets self) }
+        ensures most { result ≤ 6 }
+    {
+        let number = self.number().0;
+        if number < 31 {
+            1
+        } else if number < 1 << 7 {
+            2
+        } else if number < 1 << 14 {
+            3
+        } else if number < 1 << 21 {
+            4
+        } else if number < 1 << 28 {
+            5
+        } else {
+            6
         }
     }
 

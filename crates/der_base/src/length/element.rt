@@ -1,6 +1,5 @@
-//! How many octets a whole element takes.
+//! How many octets lengths and whole elements take.
 ghost use Rattle.std.specs.Prelude.{◌≡◌, ◌≤◌, length};
-ghost use Rattle.der_base.specs.Tag.{tag_octets};
 ghost use Rattle.der_base.specs.Length.{number, length_octets};
 ghost use Rattle.der_base.specs.Arithmetic.{counted, element_count};
 
@@ -15,47 +14,27 @@ impl Length {
     pub fn for_tlv(self, tag: Tag) -> Result<Self>
         ensures { result ≡ counted (element_count tag (number self)) }
     {
-        Length::new(tag_count(tag) + length_count(self.inner)) + self
+        Length::new(tag.octet_count() + self.octet_count()) + self
     }
-}
 
-/// How many octets an identifier takes: one for numbers to 30, else one more than the number has
-/// digits in base 128.
-const fn tag_count(tag: Tag) -> u32
-    ensures octets { result ≡ length (tag_octets tag) }
-    ensures most { result ≤ 6 }
-{
-    let number = tag.number().0;
-    if number < 31 {
-        1
-    } else if number < 1 << 7 {
-        2
-    } else if number < 1 << 14 {
-        3
-    } else if number < 1 << 21 {
-        4
-    } else if number < 1 << 28 {
-        5
-    } else {
-        6
-    }
-}
-
-/// How many octets a length takes: one for lengths to 127, else one more than the number has
-/// digits in base 256.
-const fn length_count(value: u32) -> u32
-    ensures octets { result ≡ length (length_octets value) }
-    ensures most { result ≤ 5 }
-{
-    if value < 128 {
-        1
-    } else if value < 1 << 8 {
-        2
-    } else if value < 1 << 16 {
-        3
-    } else if value < 1 << 24 {
-        4
-    } else {
-        5
+    /// How many octets the length itself takes (X.690 8.1.3, 10.1), 1 to 5: one for numbers to 127,
+    /// else one more than the number has digits in base 256. The flag plays no part.
+    pub const fn octet_count(self) -> u32
+        ensures octets { result ≡ length (length_octets (number self)) }
+        ensures some { 1 ≤ result }
+        ensures most { result ≤ 5 }
+    {
+        let number = self.inner;
+        if number < 128 {
+            1
+        } else if number < 1 << 8 {
+            2
+        } else if number < 1 << 16 {
+            3
+        } else if number < 1 << 24 {
+            4
+        } else {
+            5
+        }
     }
 }

@@ -6,7 +6,7 @@ ghost use Rattle.der_core.specs.Header.{head_of};
 ghost use Rattle.der_core.specs.Writer.{Writes};
 ghost use Rattle.der_core.specs.Encode.{header_outcome};
 
-use crate::encode::{Encode, length, tag};
+use crate::encode::Encode;
 use crate::header::Header;
 use crate::writer::Writer;
 use der_base::{Error, Length};
@@ -25,7 +25,7 @@ impl Encode for Header {
         Writes (header_outcome (head_of h).tag (number (head_of h).length) s) r t };
 
     fn encoded_len(&self) -> Result<Length, Error> {
-        let count = tag::octet_count(self.tag()) + length::octet_count(self.length());
+        let count = self.tag().octet_count() + self.length().octet_count();
         Ok(Length::new(count))
     }
 

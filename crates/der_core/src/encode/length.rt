@@ -1,5 +1,5 @@
 //! Lengths, written.
-ghost use Rattle.std.specs.Prelude.{◌≡◌, ◌+◌, ◌≤◌, length, Ok};
+ghost use Rattle.std.specs.Prelude.{◌≡◌, ◌+◌, length, Ok};
 ghost use Rattle.der_base.specs.Length.{number, plain, length_octets};
 ghost use Rattle.der_core.specs.Writer.{Writes};
 ghost use Rattle.der_core.specs.Encode.{length_outcome};
@@ -20,12 +20,12 @@ impl Encode for Length {
     ghost answers = { λ l s r t. Writes (length_outcome (number l) s) r t };
 
     fn encoded_len(&self) -> Result<Length, Error> {
-        Ok(Length::new(octet_count(*self)))
+        Ok(Length::new(self.octet_count()))
     }
 
     fn encode<W: Writer>(&self, writer: &mut W) -> Result<(), Error> {
         let number = u32::from(*self);
-        let digits = octet_count(*self) - 1;
+        let digits = self.octet_count() - 1;
         if digits == 0 {
             return writer.write_byte(number as u8);
         }
@@ -33,25 +33,5 @@ impl Encode for Length {
             Ok(()) => writer.write(&number.to_be_bytes()[4 - digits as usize..]),
             Err(error) => Err(error),
         }
-    }
-}
-
-// How many octets a length takes: one below 128, else one more than it has digits in base 256.
-pub(super) fn octet_count(value: Length) -> u32
-    ensures octets { result ≡ length (length_octets (number value)) }
-    ensures some { 1 ≤ result }
-    ensures most { result ≤ 5 }
-{
-    let number = u32::from(value);
-    if number < 1 << 7 {
-        1
-    } else if number < 1 << 8 {
-        2
-    } else if number < 1 << 16 {
-        3
-    } else if number < 1 << 24 {
-        4
-    } else {
-        5
     }
 }

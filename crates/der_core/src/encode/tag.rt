@@ -1,5 +1,5 @@
 //! Tags, written.
-ghost use Rattle.std.specs.Prelude.{◌≡◌, ◌≤◌, ◌<◌, length, Ok, true};
+ghost use Rattle.std.specs.Prelude.{◌≡◌, ◌<◌, length, Ok, true};
 ghost use Rattle.der_base.specs.Length.{plain};
 ghost use Rattle.der_base.specs.Tag.{label, tag_octets, first_octet};
 ghost use Rattle.der_core.specs.Writer.{Writes, Kept, Appends, Takes, write_pieces};
@@ -20,7 +20,7 @@ impl Encode for Tag {
     ghost answers = { λ t s r u. Writes (tag_outcome t s) r u };
 
     fn encoded_len(&self) -> Result<Length, Error> {
-        Ok(Length::new(octet_count(*self)))
+        Ok(Length::new(self.octet_count()))
     }
 
     fn encode<W: Writer>(&self, writer: &mut W) -> Result<(), Error> {
@@ -63,27 +63,5 @@ fn encode_high_digits<W: Writer>(number: u32, writer: &mut W) -> Result<(), Erro
     match encode_high_digits(number / 128, writer) {
         Ok(()) => writer.write_byte(128 + (number % 128) as u8),
         Err(error) => Err(error),
-    }
-}
-
-// How many octets a tag takes: one for numbers to 30, else one more than the number has digits in
-// base 128.
-pub(super) fn octet_count(tag: Tag) -> u32
-    ensures octets { result ≡ length (tag_octets tag) }
-    ensures most { result ≤ 6 }
-{
-    let number = tag.number().0;
-    if number < 31 {
-        1
-    } else if number < 1 << 7 {
-        2
-    } else if number < 1 << 14 {
-        3
-    } else if number < 1 << 21 {
-        4
-    } else if number < 1 << 28 {
-        5
-    } else {
-        6
     }
 }
