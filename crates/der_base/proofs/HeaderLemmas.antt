@@ -152,7 +152,7 @@ retold_reason k (Wants expected actual) = Wants expected actual
 retold_reason k (Kind other) = Kind (retold_kind k other)
 
 abbrev pub retold : ErrorKind → Refusal → Refusal
-retold k r = record { reason = retold_reason k r.reason; position = r.position }
+retold k r = record r { reason = retold_reason k r.reason }
 
 -- the fault of a length, told by another kind
 pub retold_fault : {at : ℕ} {rules : EncodingRules} {s : List ℕ} {r : Refusal} (k : ErrorKind) → LengthFault Overlength at rules s r → LengthFault k at rules s (retold k r)
@@ -164,12 +164,12 @@ retold_fault k (indefinite_form rest) = indefinite_form rest
 
 -- the error that a retold refusal is told as is that of the refusal, retold
 pub owed_retold : (k : ErrorKind) (r : Refusal) → owed (retold k r) ≡ retold_error k (owed r)
-owed_retold k r = go r.reason r.position
+owed_retold k r = go r.reason r
   where
     far_or_not : (b : Bool) (x y p : ℕ) → (if b then bare Overflow else at (kind_told (Wants x y)) (plain p)) ≡ retold_error k (if b then bare Overflow else at (kind_told (Wants x y)) (plain p))
     far_or_not true x y p = refl
     far_or_not false x y p = refl
 
-    go : (o : Reason) (p : ℕ) → owed (record { reason = retold_reason k o; position = p }) ≡ retold_error k (owed (record { reason = o; position = p }))
-    go (Wants x y) p = far_or_not (is_far (Wants x y)) x y p
-    go (Kind other) p = refl
+    go : (o : Reason) (q : Refusal) → owed (record q { reason = retold_reason k o }) ≡ retold_error k (owed (record q { reason = o }))
+    go (Wants x y) q = far_or_not (is_far (Wants x y)) x y q.position
+    go (Kind other) q = refl

@@ -7,3 +7,4 @@ pub mod IdentifierLemmas
 pub mod LengthLemmas
 pub mod LongNumberLemmas
 pub mod TagLemmas
+pub mod TextLemmas

@@ -33,6 +33,7 @@ capped n = min n (2 ^ 32 - 1)
 abbrev pub element_count : Tag → ℕ → ℕ
 element_count t n = length (tag_octets t) + length (length_octets n) + n
 
--- the octets of a body without the two end marks that close it (8.1.5); a definite length has none
+-- the octets of a body without the end mark that closes it, two zero octets (8.1.5); a definite
+-- length has none
 abbrev pub without_end : Length → Length
 without_end l = if flagged l then length_of (number l - 2) true else l

@@ -1,4 +1,5 @@
--- The body of an indefinite length (X.690 8.1.3.6, 8.1.5). No contract names these yet.
+-- The body of an indefinite length (X.690 8.1.3.6, 8.1.5). The laws name `Body`, and each contract
+-- on a length does through `LengthAhead`; no contract names `Items` and `Open` yet.
 use Rattle.std.specs.Prelude.{ℕ, suc, ◌+◌, ◌^◌, ◌<◌, Bool, true, List, [], ◌∷◌, ◌++◌, length}
 use Rattle.der_base.specs.Length.{length_octets}
 use Rattle.der_base.specs.Identifier.{IsIdentifier}
@@ -14,7 +15,7 @@ mutual
     indefinite : {level parts : ℕ} {id body : List ℕ} {t : Tag} → IsIdentifier Ber id t true → level < 64 → Body (suc level) parts body
         → Item level (suc parts) (id ++ 128 ∷ body)
 
-  -- a body at a level: the two end marks, or an item and a body
+  -- a body at a level: the end mark, two zero octets, or an item and a body
   pub data Body : ℕ → ℕ → List ℕ → Type 0 where
     ends : {level : ℕ} → Body level 1 (0 ∷ 0 ∷ [])
     more : {level m n : ℕ} {item body : List ℕ} → Item level m item → Body level n body → Body level (m + n) (item ++ body)

@@ -1,5 +1,5 @@
 -- What a grammar refuses, before it is told as an error: its numbers have no bound.
-use Rattle.std.specs.Prelude.{ℕ, ◌+◌, ◌^◌, Bool, false, nat_lt, not, if◌then◌else◌}
+use Rattle.std.specs.Prelude.{ℕ, ◌+◌, ◌^◌, Bool, false, nat_lt, not, Option, None, if◌then◌else◌}
 use Rattle.der_base.specs.Length.{plain}
 use Rattle.der_base.specs.Error.{at, bare}
 use Rattle.der_base.specs.declared.error.Error.{Error}
@@ -14,12 +14,15 @@ pub data Reason : Type 0 where
 pub record Refusal : Type 0 where
   pub reason : Reason
   pub position : ℕ
+  -- where a reader stays that found the fault by looking ahead, as in the body of an indefinite
+  -- length; none of the faults that are told today is found so
+  pub seen_from : Option ℕ
 
 abbrev pub refusal : ErrorKind → ℕ → Refusal
-refusal k p = record { reason = Kind k; position = p }
+refusal k p = record { reason = Kind k; position = p; seen_from = None }
 
 abbrev pub wants : ℕ → ℕ → ℕ → Refusal
-wants expected actual p = record { reason = Wants expected actual; position = p }
+wants expected actual p = record { reason = Wants expected actual; position = p; seen_from = None }
 
 -- the input ends at this position, and one octet more is wanted
 abbrev pub cut_at : ℕ → Refusal

@@ -1,6 +1,6 @@
 -- Printed texts.
-use Rattle.std.specs.Prelude.{ℕ, ◌^◌, ◌-◌, Bool, true, false, List, [], ◌++◌, codes, Option, Some, None, if◌then◌else◌}
-use Rattle.std.specs.Fmt.{decimal, digits, padded_integral, format_spec, option_append}
+use Rattle.std.specs.Prelude.{ℕ, ◌-◌, Bool, true, false, List, [], ◌++◌, length, replicate, codes, Option, Some, None, if◌then◌else◌}
+use Rattle.std.specs.Fmt.{decimal, digits, option_append}
 use Rattle.der_base.specs.Length.{number, flagged}
 use Rattle.der_base.specs.Tag.{label}
 use Rattle.der_base.specs.Error.{kind_of, position_of}
@@ -38,10 +38,10 @@ abbrev pub rules_text : EncodingRules → List ℕ
 rules_text rules.Ber = codes "BER"
 rules_text rules.Der = codes "DER"
 
--- behind the number of a tag that is not universal
-abbrev pub bit_text : Bool → List ℕ
-bit_text true = codes "] (constructed)"
-bit_text false = codes "] (primitive)"
+-- the form of the contents of a tag that is not universal
+abbrev pub form_text : Bool → List ℕ
+form_text true = codes "constructed"
+form_text false = codes "primitive"
 
 abbrev pub tag_text : Tag → List ℕ
 tag_text tag.Boolean = codes "BOOLEAN"
@@ -66,23 +66,24 @@ tag_text tag.GeneralizedTime = codes "GeneralizedTime"
 tag_text tag.VisibleString = codes "VisibleString"
 tag_text tag.GeneralString = codes "GeneralString"
 tag_text tag.BmpString = codes "BMPString"
-tag_text (tag.Application b n) = codes "APPLICATION [" ++ decimal n.0 ++ bit_text b
-tag_text (tag.ContextSpecific b n) = codes "CONTEXT-SPECIFIC [" ++ decimal n.0 ++ bit_text b
-tag_text (tag.Private b n) = codes "PRIVATE [" ++ decimal n.0 ++ bit_text b
+tag_text (tag.Application b n) = codes "APPLICATION [" ++ decimal n.0 ++ codes "] (" ++ form_text b ++ codes ")"
+tag_text (tag.ContextSpecific b n) = codes "CONTEXT-SPECIFIC [" ++ decimal n.0 ++ codes "] (" ++ form_text b ++ codes ")"
+tag_text (tag.Private b n) = codes "PRIVATE [" ++ decimal n.0 ++ codes "] (" ++ form_text b ++ codes ")"
 
 -- in lower case hexadecimal, at least two digits
 abbrev pub hexadecimal : ℕ → List ℕ
-hexadecimal n = padded_integral (format_spec 32 0 4 2 (2 ^ 64 - 1)) false [] (digits 16 false n)
+hexadecimal n = replicate (2 - length (digits 16 false n)) 48 ++ digits 16 false n
 
 abbrev pub tag_debug : Tag → List ℕ
-tag_debug t = codes "Tag(0x" ++ hexadecimal (label t).number ++ codes ": " ++ tag_text t ++ codes ")"
+tag_debug t = codes "Tag(0x" ++ (hexadecimal (label t).number ++ (codes ": " ++ (tag_text t ++ codes ")")))
 
 -- the text of kind Utf8 is not said
 abbrev pub kind_text : ErrorKind → Option (List ℕ)
 kind_text kind.DateTime = Some (codes "date/time error")
 kind_text kind.EncodingRules = Some (codes "invalid encoding rules")
 kind_text kind.Failed = Some (codes "operation failed")
-kind_text (kind.Incomplete expected actual) = Some (codes "ASN.1 DER message is incomplete: expected " ++ length_text expected ++ codes ", actual " ++ length_text actual)
+kind_text (kind.Incomplete expected actual) =
+    Some (codes "ASN.1 DER message is incomplete: expected " ++ length_text expected ++ codes ", actual " ++ length_text actual)
 kind_text kind.IndefiniteLength = Some (codes "indefinite length disallowed/malformed")
 kind_text (kind.Length t) = Some (codes "incorrect length for " ++ tag_text t)
 kind_text kind.NestingDepth = Some (codes "too many nested productions encountered")
@@ -95,10 +96,13 @@ kind_text kind.Overlength = Some (codes "ASN.1 DER message is too long")
 kind_text kind.Reader = Some (codes "reader does not support the requested operation")
 kind_text kind.TagModeUnknown = Some (codes "unknown tag mode")
 kind_text kind.TagNumberInvalid = Some (codes "invalid tag number")
-kind_text (kind.TagUnexpected (Some expected) actual) = Some (codes "unexpected ASN.1 DER tag: expected " ++ tag_text expected ++ codes ", got " ++ tag_text actual)
+kind_text (kind.TagUnexpected (Some expected) actual) =
+    Some (codes "unexpected ASN.1 DER tag: expected " ++ tag_text expected ++ codes ", got " ++ tag_text actual)
 kind_text (kind.TagUnexpected None actual) = Some (codes "unexpected ASN.1 DER tag: got " ++ tag_text actual)
 kind_text (kind.TagUnknown byte) = Some (codes "unknown/unsupported ASN.1 DER tag: 0x" ++ hexadecimal byte)
-kind_text (kind.TrailingData decoded remaining) = Some (codes "trailing data at end of DER message: decoded " ++ length_text decoded ++ codes " bytes, " ++ length_text remaining ++ codes " bytes remaining")
+kind_text (kind.TrailingData decoded remaining) =
+    Some (codes "trailing data at end of DER message: decoded " ++ length_text decoded
+    ++ codes " bytes, " ++ length_text remaining ++ codes " bytes remaining")
 kind_text (kind.Utf8 error) = None
 kind_text (kind.Value t) = Some (codes "malformed ASN.1 DER value for " ++ tag_text t)
 kind_text kind.OutOfMemory = Some (codes "out of memory")

@@ -1,12 +1,17 @@
-//! What the derived comparisons of lengths and tags answer. Each function calls one of them, and
-//! its contract is the law; nothing else uses these.
-ghost use Rattle.std.specs.Prelude.{◌≡◌, ◌↔◌, IsTrue};
-ghost use Rattle.der_base.specs.Compare.{length_order, tag_order};
+//! What the derived comparisons and hashes answer. Each function calls one of them, and its contract
+//! is the law; nothing else uses these.
+ghost use Rattle.std.specs.Prelude.{◌≡◌, ◌↔◌, ◌++◌, IsTrue, fold};
+ghost use Rattle.std.specs.Hash as fed;
+ghost use Rattle.std.specs.Ordering.{nat_cmp};
+ghost use Rattle.der_base.specs.Class.{class_number};
+ghost use Rattle.der_base.specs.Compare.{length_order, tag_order, mode_place, rules_place};
 ghost use Rattle.der_base.specs.Length.{number, flagged};
 
+use crate::encoding_rules::EncodingRules;
 use crate::length::Length;
-use crate::tag::Tag;
+use crate::tag::{Class, Tag, TagMode, TagNumber};
 use std::cmp::Ordering;
+use std::hash::{Hash, Hasher};
 
 /// Two lengths are equal where number and flag are.
 fn length_equality(a: Length, b: Length) -> bool
@@ -22,9 +27,45 @@ fn length_ordering(a: Length, b: Length) -> Ordering
     a.cmp(&b)
 }
 
+/// A hasher gets the number of a length and then the flag.
+fn length_hash<H: Hasher>(length: Length, state: &mut H)
+    ensures { state.new
+        ≡ fold H.write state.old (fed.u32 (number length) ++ fed.bool (flagged length)) }
+{
+    length.hash(state);
+}
+
 /// Tags are ordered by the variant, then by the constructed bit, then by the number.
-fn tag_ordering(a: Tag, b: Tag) -> Ordering
-    ensures { result ≡ tag_order a b }
+fn tag_ordering(tag: Tag, other: Tag) -> Ordering
+    ensures { result ≡ tag_order tag other }
+{
+    tag.cmp(&other)
+}
+
+/// Tag numbers are ordered as numbers are.
+fn tag_number_ordering(a: TagNumber, b: TagNumber) -> Ordering
+    ensures { result ≡ nat_cmp a.0 b.0 }
+{
+    a.cmp(&b)
+}
+
+/// Classes are ordered as their numbers are.
+fn class_ordering(a: Class, b: Class) -> Ordering
+    ensures { result ≡ nat_cmp (class_number a) (class_number b) }
+{
+    a.cmp(&b)
+}
+
+/// `Explicit` comes before `Implicit`.
+fn mode_ordering(a: TagMode, b: TagMode) -> Ordering
+    ensures { result ≡ nat_cmp (mode_place a) (mode_place b) }
+{
+    a.cmp(&b)
+}
+
+/// `Ber` comes before `Der`.
+fn rules_ordering(a: EncodingRules, b: EncodingRules) -> Ordering
+    ensures { result ≡ nat_cmp (rules_place a) (rules_place b) }
 {
     a.cmp(&b)
 }

@@ -9,7 +9,8 @@ use std::str::FromStr;
 /// Which encoding rules a reader keeps to.
 #[derive(Clone, Copy, Debug, Default, PartialEq, Eq, PartialOrd, Ord)]
 pub enum EncodingRules {
-    /// The Basic Encoding Rules, of which a strict subset is read.
+    /// The Basic Encoding Rules, as far as this library takes them: lengths in the fewest octets, the
+    /// indefinite form, and OCTET STRINGs in segments.
     Ber,
     /// The Distinguished Encoding Rules.
     #[default]
@@ -21,20 +22,14 @@ impl EncodingRules {
     pub const fn is_ber(self) -> bool
         ensures { IsTrue result ↔ (self ≡ Ber) }
     {
-        match self {
-            EncodingRules::Ber => true,
-            EncodingRules::Der => false,
-        }
+        matches!(self, EncodingRules::Ber)
     }
 
     /// Whether these are the Distinguished Encoding Rules.
     pub const fn is_der(self) -> bool
         ensures { IsTrue result ↔ (self ≡ Der) }
     {
-        match self {
-            EncodingRules::Ber => false,
-            EncodingRules::Der => true,
-        }
+        matches!(self, EncodingRules::Der)
     }
 }
 

@@ -62,6 +62,7 @@ impl Error {
     }
 }
 
+/// An error of this kind, without a position.
 impl From<ErrorKind> for Error {
     ghost use Rattle.der_base.specs.Error.{bare};
 
@@ -72,7 +73,7 @@ impl From<ErrorKind> for Error {
     }
 }
 
-/// A number that does not fit is kind `Overflow`.
+/// A number that does not fit is kind `Overflow`, without a position.
 impl From<TryFromIntError> for Error {
     ghost use Rattle.der_base.specs.Error.{bare};
 
@@ -83,7 +84,7 @@ impl From<TryFromIntError> for Error {
     }
 }
 
-/// A text that is not UTF-8 is kind `Utf8`.
+/// A text that is not UTF-8 is kind `Utf8`, without a position.
 impl From<Utf8Error> for Error {
     ghost use Rattle.der_base.specs.Error.{bare};
 
@@ -97,9 +98,9 @@ impl From<Utf8Error> for Error {
 /// The kinds of error.
 #[derive(Clone, Copy, Debug, PartialEq, Eq)]
 pub enum ErrorKind {
-    /// A date or a time is none.
+    /// A value is no date or time.
     DateTime,
-    /// A name of encoding rules is none.
+    /// A text names no encoding rules.
     EncodingRules,
     /// The reader or writer had failed before.
     Failed,
@@ -112,7 +113,8 @@ pub enum ErrorKind {
     },
     /// An indefinite length where none may stand, or one that is not closed rightly.
     IndefiniteLength,
-    /// The length of an element with this tag is not spelled as it has to be.
+    /// The length of an element with this tag is not spelled as it has to be, or is not the number of
+    /// octets that its contents have.
     Length {
         /// The element's tag.
         tag: Tag,
@@ -130,13 +132,13 @@ pub enum ErrorKind {
     SetDuplicate,
     /// A SET OF is not in order.
     SetOrdering,
-    /// A number of octets passes 4294967295.
+    /// A number of octets passes 4294967295, or what memory can count.
     Overflow,
-    /// A message, or the spelling of a length, is too long.
+    /// A message, or the spelling of a length, is too long, or longer than the room for it.
     Overlength,
     /// The reader cannot do what is asked.
     Reader,
-    /// A name of a tagging mode is none.
+    /// A text names no tagging mode.
     TagModeUnknown,
     /// A tag number is not spelled as it has to be, or passes 32 bits.
     TagNumberInvalid,
@@ -199,44 +201,44 @@ impl fmt::Display for ErrorKind {
 
     fn fmt<W: fmt::Write>(&self, f: &mut fmt::Formatter<W>) -> fmt::Result {
         match self {
-            ErrorKind::DateTime => f.write_str("date/time error"),
-            ErrorKind::EncodingRules => f.write_str("invalid encoding rules"),
-            ErrorKind::Failed => f.write_str("operation failed"),
-            ErrorKind::Incomplete {
+            Self::DateTime => f.write_str("date/time error"),
+            Self::EncodingRules => f.write_str("invalid encoding rules"),
+            Self::Failed => f.write_str("operation failed"),
+            Self::Incomplete {
                 expected_len,
                 actual_len,
             } => write!(
                 f,
                 "ASN.1 DER message is incomplete: expected {expected_len}, actual {actual_len}"
             ),
-            ErrorKind::IndefiniteLength => f.write_str("indefinite length disallowed/malformed"),
-            ErrorKind::Length { tag } => write!(f, "incorrect length for {tag}"),
-            ErrorKind::NestingDepth => f.write_str("too many nested productions encountered"),
-            ErrorKind::Noncanonical { tag } => {
-                write!(f, "ASN.1 {tag} not canonically encoded as DER")
-            }
-            ErrorKind::OidMalformed => f.write_str("malformed OID"),
-            ErrorKind::SetDuplicate => f.write_str("SET OF contains duplicate"),
-            ErrorKind::SetOrdering => f.write_str("SET OF ordering error"),
-            ErrorKind::Overflow => f.write_str("integer overflow"),
-            ErrorKind::Overlength => f.write_str("ASN.1 DER message is too long"),
-            ErrorKind::Reader => f.write_str("reader does not support the requested operation"),
-            ErrorKind::TagModeUnknown => f.write_str("unknown tag mode"),
-            ErrorKind::TagNumberInvalid => f.write_str("invalid tag number"),
-            ErrorKind::TagUnexpected { expected, actual } => match expected {
+            Self::IndefiniteLength => f.write_str("indefinite length disallowed/malformed"),
+            Self::Length { tag } => write!(f, "incorrect length for {tag}"),
+            Self::NestingDepth => f.write_str("too many nested productions encountered"),
+            Self::Noncanonical { tag } => write!(f, "ASN.1 {tag} not canonically encoded as DER"),
+            Self::OidMalformed => f.write_str("malformed OID"),
+            Self::SetDuplicate => f.write_str("SET OF contains duplicate"),
+            Self::SetOrdering => f.write_str("SET OF ordering error"),
+            Self::Overflow => f.write_str("integer overflow"),
+            Self::Overlength => f.write_str("ASN.1 DER message is too long"),
+            Self::Reader => f.write_str("reader does not support the requested operation"),
+            Self::TagModeUnknown => f.write_str("unknown tag mode"),
+            Self::TagNumberInvalid => f.write_str("invalid tag number"),
+            Self::TagUnexpected { expected, actual } => match expected {
                 Some(tag) => write!(f, "unexpected ASN.1 DER tag: expected {tag}, got {actual}"),
                 None => write!(f, "unexpected ASN.1 DER tag: got {actual}"),
             },
-            ErrorKind::TagUnknown { byte } => {
-                write!(f, "unknown/unsupported ASN.1 DER tag: 0x{byte:02x}")
-            }
-            ErrorKind::TrailingData { decoded, remaining } => write!(
+            Self::TagUnknown { byte } => write!(
                 f,
-                "trailing data at end of DER message: decoded {decoded} bytes, {remaining} bytes remaining"
+                "unknown/unsupported ASN.1 DER tag: 0x{byte:02x}"
             ),
-            ErrorKind::Utf8(error) => write!(f, "{error}"),
-            ErrorKind::Value { tag } => write!(f, "malformed ASN.1 DER value for {tag}"),
-            ErrorKind::OutOfMemory => f.write_str("out of memory"),
+            Self::TrailingData { decoded, remaining } => write!(
+                f,
+                "trailing data at end of DER message: decoded {decoded} bytes, \
+                 {remaining} bytes remaining"
+            ),
+            Self::Utf8(error) => write!(f, "{error}"),
+            Self::Value { tag } => write!(f, "malformed ASN.1 DER value for {tag}"),
+            Self::OutOfMemory => f.write_str("out of memory"),
         }
     }
 }

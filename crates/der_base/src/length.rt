@@ -54,8 +54,8 @@ impl Length {
         ensures { result ≡ length_of value true }
     {
         Length {
+            inner: value,
             indefinite: true,
-            ..Length::new(value)
         }
     }
 
@@ -84,9 +84,9 @@ impl Length {
         self.indefinite
     }
 
-    /// The octets of an indefinite length without the two end marks that it counts (X.690 8.1.5),
-    /// flagged as before; of fewer than two none. A definite length has no end marks and is
-    /// answered as it is.
+    /// The octets of an indefinite length without the end mark that it counts, two zero octets
+    /// (X.690 8.1.5), flagged as before; of fewer than two none. A definite length has no end mark
+    /// and is answered as it is.
     pub const fn sans_eoc(self) -> Self
         ensures { result ≡ without_end self }
     {
@@ -116,11 +116,10 @@ impl fmt::Debug for Length {
     ghost debug_output = { λ l. Some (length_debug l) };
 
     fn fmt<W: fmt::Write>(&self, f: &mut fmt::Formatter<W>) -> fmt::Result {
-        let number = self.inner;
         if self.indefinite {
             f.write_str("Length([indefinite])")
         } else {
-            write!(f, "Length({number})")
+            write!(f, "Length({self})")
         }
     }
 }

@@ -5,6 +5,7 @@
 #![tactic(auto)]
 
 mod comparisons;
+mod constants;
 pub mod encoding_rules;
 pub mod error;
 pub mod laws;

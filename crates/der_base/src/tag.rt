@@ -1,6 +1,6 @@
 //! Tags.
 ghost use Rattle.std.specs.Prelude.{◌≡◌, ◌≢◌, ◌≤◌, ◌↔◌, length, IsTrue, Bool, true, false, Some, Ok, Err};
-ghost use Rattle.der_base.specs.Text.{bit_text as spec_bit_text};
+ghost use Rattle.der_base.specs.Text.{form_text};
 
 pub mod class;
 pub mod mode;
@@ -35,7 +35,7 @@ pub enum Tag {
     Enumerated,
     /// `UTF8String`, 12.
     Utf8String,
-    /// `RELATIVE-OID`, 13.
+    /// `RELATIVE-OID`, 13; printed as `RELATIVE OID`.
     RelativeOid,
     /// `SEQUENCE` and `SEQUENCE OF`, 16, constructed.
     Sequence,
@@ -195,10 +195,7 @@ impl Tag {
     pub const fn is_universal(self) -> bool
         ensures { IsTrue result ↔ ((label self).class ≡ class_number Class.Universal) }
     {
-        !matches!(
-            self,
-            Tag::Application { .. } | Tag::ContextSpecific { .. } | Tag::Private { .. }
-        )
+        matches!(self.class(), Class::Universal)
     }
 
     /// This tag where it is the expected one, else kind `TagUnexpected` without a position.
@@ -213,21 +210,21 @@ impl Tag {
         }
     }
 
-    /// That the length of an element with this tag is not spelled as it has to be.
+    /// Kind `Length` of this tag: the length of an element is not spelled as it has to be.
     pub const fn length_error(self) -> ErrorKind
         ensures { result ≡ ErrorKind.Length self }
     {
         ErrorKind::Length { tag: self }
     }
 
-    /// That a value with this tag is not spelled canonically.
+    /// Kind `Noncanonical` of this tag: a value is not spelled canonically.
     pub const fn non_canonical_error(self) -> ErrorKind
         ensures { result ≡ ErrorKind.Noncanonical self }
     {
         ErrorKind::Noncanonical { tag: self }
     }
 
-    /// That this tag stands where another was expected, or where none can stand.
+    /// Kind `TagUnexpected`: this tag stands where another was expected, or where none can stand.
     pub const fn unexpected_error(self, expected: Option<Self>) -> ErrorKind
         ensures { result ≡ ErrorKind.TagUnexpected expected self }
     {
@@ -237,7 +234,7 @@ impl Tag {
         }
     }
 
-    /// That a value with this tag is malformed.
+    /// Kind `Value` of this tag: a value is malformed.
     pub const fn value_error(self) -> ErrorKind
         ensures { result ≡ ErrorKind.Value self }
     {
@@ -278,31 +275,27 @@ impl fmt::Display for Tag {
             Tag::Application {
                 constructed,
                 number,
-            } => write!(f, "APPLICATION [{}{}", number.0, bit_text(*constructed)),
+            } => write!(f, "APPLICATION [{number}] ({})", form(*constructed)),
             Tag::ContextSpecific {
                 constructed,
                 number,
-            } => write!(
-                f,
-                "CONTEXT-SPECIFIC [{}{}",
-                number.0,
-                bit_text(*constructed)
-            ),
+            } => write!(f, "CONTEXT-SPECIFIC [{number}] ({})", form(*constructed)),
             Tag::Private {
                 constructed,
                 number,
-            } => write!(f, "PRIVATE [{}{}", number.0, bit_text(*constructed)),
+            } => write!(f, "PRIVATE [{number}] ({})", form(*constructed)),
         }
     }
 }
 
-fn bit_text(constructed: bool) -> &'static str
-    ensures { result.now ≡ spec_bit_text constructed }
+// The form of the contents (X.690 8.1.2.5).
+fn form(constructed: bool) -> &'static str
+    ensures { result.now ≡ form_text constructed }
 {
     if constructed {
-        "] (constructed)"
+        "constructed"
     } else {
-        "] (primitive)"
+        "primitive"
     }
 }
 

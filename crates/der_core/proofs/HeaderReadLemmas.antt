@@ -57,11 +57,11 @@ header_tag_refused (has_failed f told leaves) = has_failed f told leaves
 header_tag_refused (at_fault r w fault stops) = at_fault r w (no_identifier fault) stops
 
 left_retold : (a : State) (k : ErrorKind) (r : Refusal) → left a (retold k r) ≡ left a r
-left_retold a k r = go r.reason r.position
+left_retold a k r = go r.reason r
   where
-    go : (o : Reason) (p : ℕ) → left a (record { reason = retold_reason k o; position = p }) ≡ left a (record { reason = o; position = p })
-    go (Wants x y) p = refl
-    go (Kind other) p = refl
+    go : (o : Reason) (q : Refusal) → left a (record q { reason = retold_reason k o }) ≡ left a (record q { reason = o })
+    go (Wants x y) q = refl
+    go (Kind other) q = refl
 
 pub header_length_refused : {a b t : State} {x : Tag} {bit : Bool} {e told : Error} → Passed (λ rules octets m. TagAhead rules octets x bit m) a b
     → Refused (λ rules at. LengthFault Overlength at rules) b e t → told ≡ retold_error (IncorrectLength x) e → Refused HeaderFault a told t

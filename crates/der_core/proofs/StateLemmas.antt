@@ -6,7 +6,7 @@ use Rattle.der_base.specs.Refusal.{Refusal, refusal, is_far, owed, cut_at, wants
 use Rattle.der_base.specs.declared.error.Error.{Error}
 use Rattle.der_base.specs.declared.error.ErrorKind.{ErrorKind}
 use Rattle.der_base.specs.declared.error.ErrorKind.TheVariants.{Failed}
-use Rattle.der_core.specs.State.{State, rest, here, advanced, stopped, left, Sound, Same, Reads}
+use Rattle.der_core.specs.State.{State, rest, here, advanced, stopped, left, left_at, Sound, Same, Reads}
 use Rattle.der_core.specs.Outcome.{Gives}
 use Rattle.der_core.specs.Reader.{first_octet, short_outcome, read_byte_outcome}
 use Rattle.der_core.specs.Refused.{Stops}
@@ -31,12 +31,13 @@ failed_on h = ap (λ (s : State). s.failed) h.state
 pub rules_on : {a b : State} {x : List ℕ} → Reads a b x → b.rules ≡ a.rules
 rules_on h = ap (λ (s : State). s.rules) h.state
 
-left_as_on : (far : Bool) (r : Refusal) (a : State) (n : ℕ) → is_far r.reason ≡ far → left (advanced a n) r ≡ left a r
-left_as_on true r a n e = rw e refl
-left_as_on false r a n e = rw e refl
+left_as_on : (far : Bool) (seen_from : Option ℕ) (position : ℕ) (a : State) (n : ℕ) → left_at (advanced a n) far position seen_from ≡ left_at a far position seen_from
+left_as_on far (Some from) p a n = refl
+left_as_on true None p a n = refl
+left_as_on false None p a n = refl
 
 pub left_on : {a b : State} {x : List ℕ} → Reads a b x → (r : Refusal) → left b r ≡ left a r
-left_on {a} {b} {x} h r = ap (λ s. left s r) h.state ∙ left_as_on (is_far r.reason) r a (length x) refl
+left_on {a} {b} {x} h r = ap (λ s. left s r) h.state ∙ left_as_on (is_far r.reason) r.seen_from r.position a (length x)
 
 pub stops_on : {a b t : State} {x : List ℕ} {r : Refusal} {e : Error} → Reads a b x → Stops b r e t → Stops a r e t
 stops_on {r = r} h g = record { told = g.told; leaves = g.leaves ∙ left_on h r }

@@ -1,5 +1,5 @@
 -- What a reader means.
-use Rattle.std.specs.Prelude.{◌≡◌, ℕ, ◌+◌, ◌-◌, ◌^◌, ◌<◌, ◌≤◌, Bool, true, false, IsTrue, List, ◌++◌, length, take, drop, if◌then◌else◌}
+use Rattle.std.specs.Prelude.{◌≡◌, ℕ, ◌+◌, ◌-◌, ◌^◌, ◌<◌, ◌≤◌, Bool, true, false, IsTrue, Option, Some, None, List, ◌++◌, length, take, drop, if◌then◌else◌}
 use Rattle.der_base.specs.Length.{plain}
 use Rattle.der_base.specs.Refusal.{Refusal, is_far}
 use Rattle.der_base.specs.declared.length.Length.{Length}
@@ -43,10 +43,15 @@ resumed s end depth = record s { end = end; depth = depth }
 abbrev pub stopped : State → ℕ → State
 stopped s at = record s { position = at; failed = s.marks }
 
--- how a reader is left that is refused so: stopped at the position of the refusal, but where that
--- is told as an overflow not failed
+-- a reader that looked ahead stays where it was; another is stopped at the position of the refusal,
+-- but not failed where that is told as an overflow
+abbrev pub left_at : State → Bool → ℕ → Option ℕ → State
+left_at s far at (Some from) = record s { position = from }
+left_at s far at None = if far then record s { position = at } else stopped s at
+
+-- how a reader is left that is refused so
 abbrev pub left : State → Refusal → State
-left s r = if is_far r.reason then record s { position = r.position } else stopped s r.position
+left s r = left_at s (is_far r.reason) r.position r.seen_from
 
 -- the facts of every reader
 pub record Sound (s : State) : Type 0 where

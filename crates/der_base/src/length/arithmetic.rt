@@ -1,24 +1,21 @@
-//! Sums and differences of lengths. All are unflagged, and what 32 bits cannot count is kind
-//! `Overflow` without a position.
-ghost use Rattle.std.specs.Prelude.{◌≡◌, ◌+◌};
+//! Sums and differences of lengths.
+ghost use Rattle.std.specs.Prelude.{◌≡◌, ◌+◌, ◌-◌};
+ghost use Rattle.der_base.specs.Length.{number, plain};
+ghost use Rattle.der_base.specs.Arithmetic.{capped, counted, left_over, then_sum, then_left_over};
 
 use crate::error::{ErrorKind, Result};
 use crate::length::Length;
 use std::ops::{Add, Sub};
 
 impl Length {
-    ghost use Rattle.std.specs.Prelude.{◌-◌};
-    ghost use Rattle.der_base.specs.Length.{number, plain};
-    ghost use Rattle.der_base.specs.Arithmetic.{capped};
-
-    /// The sum, stopping at the greatest length.
+    /// The sum, unflagged, stopping at 4294967295.
     pub const fn saturating_add(self, rhs: Self) -> Self
         ensures { result ≡ plain (capped (number self + number rhs)) }
     {
         Length::new(self.inner.saturating_add(rhs.inner))
     }
 
-    /// The difference, stopping at zero.
+    /// The difference, unflagged, stopping at zero.
     pub const fn saturating_sub(self, rhs: Self) -> Self
         ensures { result ≡ plain (number self - number rhs) }
     {
@@ -26,11 +23,9 @@ impl Length {
     }
 }
 
+/// The sum, unflagged; kind `Overflow` without a position past 4294967295.
 impl Add for Length {
     type Output = Result<Self>;
-
-    ghost use Rattle.der_base.specs.Length.{number};
-    ghost use Rattle.der_base.specs.Arithmetic.{counted};
 
     ghost add_gives = { λ a b r. r ≡ counted (number a + number b) };
 
@@ -39,24 +34,20 @@ impl Add for Length {
     }
 }
 
+/// The sum, unflagged; kind `Overflow` without a position past 4294967295.
 impl Add<u8> for Length {
     type Output = Result<Self>;
-
-    ghost use Rattle.der_base.specs.Length.{number};
-    ghost use Rattle.der_base.specs.Arithmetic.{counted};
 
     ghost add_gives = { λ a n r. r ≡ counted (number a + n) };
 
     fn add(self, rhs: u8) -> Result<Self> {
-        self + u16::from(rhs)
+        self + u32::from(rhs)
     }
 }
 
+/// The sum, unflagged; kind `Overflow` without a position past 4294967295.
 impl Add<u16> for Length {
     type Output = Result<Self>;
-
-    ghost use Rattle.der_base.specs.Length.{number};
-    ghost use Rattle.der_base.specs.Arithmetic.{counted};
 
     ghost add_gives = { λ a n r. r ≡ counted (number a + n) };
 
@@ -65,11 +56,9 @@ impl Add<u16> for Length {
     }
 }
 
+/// The sum, unflagged; kind `Overflow` without a position past 4294967295.
 impl Add<u32> for Length {
     type Output = Result<Self>;
-
-    ghost use Rattle.der_base.specs.Length.{number};
-    ghost use Rattle.der_base.specs.Arithmetic.{counted};
 
     ghost add_gives = { λ a n r. r ≡ counted (number a + n) };
 
@@ -81,11 +70,9 @@ impl Add<u32> for Length {
     }
 }
 
+/// The sum, unflagged; kind `Overflow` without a position past 4294967295.
 impl Add<usize> for Length {
     type Output = Result<Self>;
-
-    ghost use Rattle.der_base.specs.Length.{number};
-    ghost use Rattle.der_base.specs.Arithmetic.{counted};
 
     ghost add_gives = { λ a n r. r ≡ counted (number a + n) };
 
@@ -94,11 +81,9 @@ impl Add<usize> for Length {
     }
 }
 
+/// The difference, unflagged; kind `Overflow` without a position where it would be below zero.
 impl Sub for Length {
     type Output = Result<Self>;
-
-    ghost use Rattle.der_base.specs.Length.{number};
-    ghost use Rattle.der_base.specs.Arithmetic.{left_over};
 
     ghost sub_gives = { λ a b r. r ≡ left_over (number a) (number b) };
 
@@ -110,11 +95,9 @@ impl Sub for Length {
     }
 }
 
-/// A given error is the answer.
+/// The sum, as of two lengths; an error that is given is the answer.
 impl Add<Length> for Result<Length> {
     type Output = Self;
-
-    ghost use Rattle.der_base.specs.Arithmetic.{then_sum};
 
     ghost add_gives = { λ a b r. r ≡ then_sum a b };
 
@@ -123,11 +106,9 @@ impl Add<Length> for Result<Length> {
     }
 }
 
-/// A given error is the answer.
+/// The difference, as of two lengths; an error that is given is the answer.
 impl Sub<Length> for Result<Length> {
     type Output = Self;
-
-    ghost use Rattle.der_base.specs.Arithmetic.{then_left_over};
 
     ghost sub_gives = { λ a b r. r ≡ then_left_over a b };
 

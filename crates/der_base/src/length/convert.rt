@@ -1,22 +1,22 @@
 //! Numbers as lengths, and lengths as numbers.
 ghost use Rattle.std.specs.Prelude.{◌≡◌, Ok};
+ghost use Rattle.der_base.specs.Length.{number, plain};
+ghost use Rattle.der_base.specs.Arithmetic.{counted};
 
 use crate::error::{Error, Result};
 use crate::length::Length;
 
+/// So many octets, unflagged.
 impl From<u8> for Length {
-    ghost use Rattle.der_base.specs.Length.{plain};
-
     ghost from_gives = { λ n l. l ≡ plain n };
 
     fn from(value: u8) -> Self {
-        Length::from(u16::from(value))
+        Length::new(u32::from(value))
     }
 }
 
+/// So many octets, unflagged.
 impl From<u16> for Length {
-    ghost use Rattle.der_base.specs.Length.{plain};
-
     ghost from_gives = { λ n l. l ≡ plain n };
 
     fn from(value: u16) -> Self {
@@ -24,9 +24,8 @@ impl From<u16> for Length {
     }
 }
 
+/// So many octets, unflagged.
 impl From<u32> for Length {
-    ghost use Rattle.der_base.specs.Length.{plain};
-
     ghost from_gives = { λ n l. l ≡ plain n };
 
     fn from(value: u32) -> Self {
@@ -34,9 +33,8 @@ impl From<u32> for Length {
     }
 }
 
+/// The number of octets, whatever the flag.
 impl From<Length> for u32 {
-    ghost use Rattle.der_base.specs.Length.{number};
-
     ghost from_gives = { λ l n. n ≡ number l };
 
     fn from(length: Length) -> Self {
@@ -44,11 +42,9 @@ impl From<Length> for u32 {
     }
 }
 
-/// The kind of a number above 4294967295 is `Overflow`, without a position.
+/// So many octets, unflagged; kind `Overflow` without a position above 4294967295.
 impl TryFrom<usize> for Length {
     type Error = Error;
-
-    ghost use Rattle.der_base.specs.Arithmetic.{counted};
 
     ghost try_from_gives = { λ n r. r ≡ counted n };
 
@@ -57,11 +53,9 @@ impl TryFrom<usize> for Length {
     }
 }
 
-/// Each length is a `usize`, which has 64 bits: the answer is never an error.
+/// The number of octets, whatever the flag. A `usize` has 64 bits, so the answer is never an error.
 impl TryFrom<Length> for usize {
     type Error = Error;
-
-    ghost use Rattle.der_base.specs.Length.{number};
 
     ghost try_from_gives = { λ l r. r ≡ Ok (number l) };
 

@@ -5,7 +5,7 @@ use crate::error::{Error, ErrorKind, Result};
 use std::fmt;
 use std::str::FromStr;
 
-/// Whether a context-specific tag stands around a value's own tag or in its place.
+/// Whether a tag stands around a value's own tag or in its place (X.690 8.14).
 #[derive(Clone, Copy, Debug, Default, PartialEq, Eq, PartialOrd, Ord)]
 pub enum TagMode {
     /// The value's own tag stands inside.

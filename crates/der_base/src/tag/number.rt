@@ -57,6 +57,7 @@ impl TagNumber {
     }
 }
 
+/// The tag number with this value.
 impl From<u32> for TagNumber {
     ghost from_gives = { λ n t. t.0 ≡ n };
 
@@ -65,6 +66,7 @@ impl From<u32> for TagNumber {
     }
 }
 
+/// The value of a tag number.
 impl From<TagNumber> for u32 {
     ghost from_gives = { λ t n. n ≡ t.0 };
 

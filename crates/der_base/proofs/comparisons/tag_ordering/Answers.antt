@@ -3,4 +3,4 @@ use Rattle.der_base.proofs.CompareLemmas.{tag_cmp-is}
 use Rattle.der_base.proofs.comparisons.tag_ordering.Goals as goal
 
 pub returns : goal.returns
-returns c = c.cmp.ensures ∙ tag_cmp-is c.args.a c.args.b
+returns c = c.cmp.ensures ∙ tag_cmp-is c.args.tag c.args.other

@@ -1,0 +1,52 @@
+//! What constants and defaults are. Each function answers one of them, and its contract says which;
+//! nothing else uses these.
+ghost use Rattle.std.specs.Prelude.{◌≡◌};
+ghost use Rattle.der_base.specs.Length.{plain};
+ghost use Rattle.der_base.specs.declared.encoding_rules.EncodingRules.TheVariants.{Der};
+ghost use Rattle.der_base.specs.declared.tag.mode.TagMode.TheVariants.{Explicit};
+
+use crate::encoding_rules::EncodingRules;
+use crate::length::Length;
+use crate::tag::TagMode;
+
+/// No octets.
+fn zero() -> Length
+    ensures { result ≡ plain 0 }
+{
+    Length::ZERO
+}
+
+/// One octet.
+fn one() -> Length
+    ensures { result ≡ plain 1 }
+{
+    Length::ONE
+}
+
+/// The greatest length.
+fn max() -> Length
+    ensures { result ≡ plain 4294967295 }
+{
+    Length::MAX
+}
+
+/// A length of no octets, unflagged.
+fn default_length() -> Length
+    ensures { result ≡ plain 0 }
+{
+    Length::default()
+}
+
+/// Explicit tagging.
+fn default_mode() -> TagMode
+    ensures { result ≡ Explicit }
+{
+    TagMode::default()
+}
+
+/// The Distinguished Encoding Rules.
+fn default_rules() -> EncodingRules
+    ensures { result ≡ Der }
+{
+    EncodingRules::default()
+}
