@@ -104,6 +104,12 @@ fn kinds_with_tags_printed(rt: HostRuntime) -> Result<(), Fail> {
         unexpected.to_string(alloc)?.as_str(),
         "unexpected ASN.1 DER tag: got SEQUENCE"
     );
+    Ok(())
+}
+
+#[test]
+fn unknown_tags_printed(rt: HostRuntime) -> Result<(), Fail> {
+    let alloc = rt.alloc();
     let unknown = ErrorKind::TagUnknown { byte: 0x3F }.at(Length::ONE);
     assert_eq!(rt;
         unknown.to_string(alloc)?.as_str(),

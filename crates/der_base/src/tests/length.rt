@@ -182,4 +182,5 @@ fn hashed(length: Length) -> u64 {
 #[test]
 fn equal_lengths_hash_equally(rt: HostRuntime) {
     assert_eq!(rt; hashed(Length::new(2)), hashed(Length::from(2u8)));
+    assert_ne!(rt; hashed(Length::new(2)), hashed(Length::new_indefinite(2)));
 }
