@@ -82,11 +82,16 @@ pub data TlvAnswers (s : State) (answer : Result (List ℕ) Error) (t : State) :
   with_header : (h : Header) (m : ℕ) → header_ahead s.rules (rest s) h m → s.failed ≡ false → Gives (tlv_outcome (m + number (head_of h).length)) s answer t
       → TlvAnswers s answer t
 
--- a reader decodes: one that has failed refuses, and any refusal leaves it failed
-pub data ReaderDecodes {A E : Type 0} (answers : State → Result A E → State → Type 0) (converts : Error → E → Type 0) (s : State) (result : Result A E) (t : State) : Type 0 where
-  had_failed : s.failed ≡ true → IsErrAnd result (λ e. converts (at Failed (here s)) e) → t ≡ stopped s s.position → ReaderDecodes answers converts s result t
-  decodes : s.failed ≡ false → IsOk result → answers s result t → ReaderDecodes answers converts s result t
-  refuses : (u : State) → s.failed ≡ false → IsErr result → answers s result u → t ≡ stopped u u.position → ReaderDecodes answers converts s result t
+-- a reader decodes: one that has failed refuses, and any refusal leaves it failed; a reliable reader
+-- owes the decoder's answer too
+pub data ReaderDecodes {A E : Type 0} (reliable : Bool) (answers : State → Result A E → State → Type 0)
+    (converts : Error → E → Type 0) (s : State) (result : Result A E) (t : State) : Type 0 where
+  had_failed : s.failed ≡ true → IsErrAnd result (λ e. converts (at Failed (here s)) e)
+      → t ≡ stopped s s.position → ReaderDecodes reliable answers converts s result t
+  decodes : s.failed ≡ false → IsOk result → (reliable ≡ true → answers s result t)
+      → ReaderDecodes reliable answers converts s result t
+  refuses : (u : State) → s.failed ≡ false → IsErr result → (reliable ≡ true → answers s result u)
+      → t ≡ stopped u u.position → ReaderDecodes reliable answers converts s result t
 
 -- whether the tag ahead has this class and number: none is ahead of a finished reader
 pub data MatchAnswers (class number : ℕ) (s : State) (answer : Result Bool Error) : Type 0 where

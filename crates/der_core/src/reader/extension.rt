@@ -1,13 +1,13 @@
 //! The calls that every reader has.
-ghost use Rattle.std.specs.Prelude.{◌≡◌, ◌↔◌, ℕ, ◌-◌, true, false, IsTrue, length, Ok, Err, IfOk, OnErr};
+ghost use Rattle.std.specs.Prelude.{◌≡◌, ◌↔◌, ℕ, ◌+◌, ◌-◌, ◌≤◌, true, false, IsTrue, length, Ok, Err, IfOk, OnErr};
 ghost use Rattle.der_base.specs.Header.{HeaderFault};
 ghost use Rattle.der_base.specs.Identifier.{IdentifierFault};
 ghost use Rattle.der_base.specs.Length.{number, plain};
-ghost use Rattle.der_core.specs.State.{State, Same, resumed};
+ghost use Rattle.der_core.specs.State.{State, rest, Same, resumed};
 ghost use Rattle.der_core.specs.Outcome.{Meets, AnswersAs, PeeksAs, Owed, seen};
 ghost use Rattle.der_core.specs.Reader.{read_byte_outcome, read_into_outcome};
 ghost use Rattle.der_core.specs.Resumption.{outer_end, outer_depth};
-ghost use Rattle.der_core.specs.Decode.{Passed, Peeks, TlvAnswers, ReaderDecodes, header_ahead, tag_ahead};
+ghost use Rattle.der_core.specs.Decode.{Passed, Peeks, TlvAnswers, ReaderDecodes, ReadsOrLacks, header_ahead, tag_ahead};
 ghost use Rattle.der_core.specs.Header.{head_of};
 ghost use Rattle.der_core.specs.declared.header.Header.{Header as AHeader};
 ghost use Rattle.der_base.specs.Arithmetic.{without_end};
@@ -193,9 +193,14 @@ pub trait ReaderExt: Reader {
         ensures ok { IfOk result (λ v. (Self.state self.new).failed ≡ false
             → Passed (λ rules octets m. T.heads rules octets v m) (Self.state self.old)
             (Self.state self.new)) }
-        ensures exact { Self.reliable ≡ true
-            → ReaderDecodes T.answers T.Error.from_gives (Self.state self.old) result
+        ensures complete { (v : T) (m : ℕ) → Self.reliable ≡ true
+            → (Self.state self.old).failed ≡ false
+            → T.heads (Self.state self.old).rules (rest (Self.state self.old)) v m
+            → (Self.state self.old).depth + T.needs (Self.state self.old).rules ≤ 64
+            → ReadsOrLacks T.Error.out_of_memory T.takes_memory (Self.state self.old) m result
             (Self.state self.new) }
+        ensures exact { ReaderDecodes Self.reliable T.answers T.Error.from_gives
+            (Self.state self.old) result (Self.state self.new) }
     {
         if self.is_failed() {
             return Err(self.error(ErrorKind::Failed).into());
