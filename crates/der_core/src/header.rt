@@ -3,7 +3,7 @@ ghost use Rattle.std.specs.Prelude.{◌≡◌, ℕ, ◌||◌, true, false, Ok, I
 ghost use Rattle.der_base.specs.Error.{retold_error};
 ghost use Rattle.der_base.specs.Length.{flagged};
 ghost use Rattle.der_base.specs.Tag.{label};
-ghost use Rattle.der_base.specs.Header.{HeaderAhead, HeaderFault};
+ghost use Rattle.der_base.specs.Header.{HeaderFault};
 ghost use Rattle.der_base.specs.declared.error.ErrorKind.TheVariants.{Length as IncorrectLength};
 ghost use Rattle.der_base.specs.declared.encoding_rules.EncodingRules.TheVariants.{Der};
 ghost use Rattle.der_core.specs.State.{rest, advanced, Same};
@@ -107,8 +107,8 @@ pub fn decode_header<R: Reader>(reader: &mut R) -> Result<Header, Error>
         (R.state reader.old) (R.state reader.new)) }
     ensures accepts { R.reliable ≡ true → (R.state reader.old).rules ≡ Der
         → (R.state reader.old).failed ≡ false → (h : AHeader) (m : ℕ)
-        → HeaderAhead Der (rest (R.state reader.old)) (head_of h) m → (result ≡ Ok h)
-        × (R.state reader.new ≡ advanced (R.state reader.old) m) }
+        → header_ahead (R.state reader.old).rules (rest (R.state reader.old)) h m
+        → (result ≡ Ok h) × (R.state reader.new ≡ advanced (R.state reader.old) m) }
     ensures exact { R.reliable ≡ true
         → GrammarAnswers header_ahead HeaderFault (R.state reader.old) result (R.state reader.new) }
 {

@@ -25,8 +25,8 @@ pub fn decode_length<R: Reader>(reader: &mut R) -> Result<Length, Error>
         (R.state reader.old) (R.state reader.new)) }
     ensures accepts { R.reliable ≡ true → (R.state reader.old).rules ≡ Der
         → (R.state reader.old).failed ≡ false → (l : ALength) (m : ℕ)
-        → LengthAhead Der (rest (R.state reader.old)) l m → (result ≡ Ok l)
-        × (R.state reader.new ≡ advanced (R.state reader.old) m) }
+        → LengthAhead (R.state reader.old).rules (rest (R.state reader.old)) l m
+        → (result ≡ Ok l) × (R.state reader.new ≡ advanced (R.state reader.old) m) }
     ensures exact { R.reliable ≡ true
         → GrammarAnswers LengthAhead (λ rules at. LengthFault Overlength at rules)
         (R.state reader.old) result (R.state reader.new) }

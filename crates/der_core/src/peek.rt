@@ -1,14 +1,14 @@
 //! Tags and headers ahead of a reader, which stays.
-ghost use Rattle.std.specs.Prelude.{◌≡◌, ◌↔◌, true, IsTrue, IfOk, IfErr};
+ghost use Rattle.std.specs.Prelude.{◌≡◌, ◌↔◌, ℕ, Bool, true, false, IsTrue, Ok, IfOk};
 ghost use Rattle.der_base.specs.Tag.{label};
 ghost use Rattle.der_base.specs.Class.{class_number};
 ghost use Rattle.der_base.specs.Header.{TagAhead, HeaderFault};
 ghost use Rattle.der_base.specs.Identifier.{IdentifierFault};
+ghost use Rattle.der_base.specs.declared.tag.Tag.{Tag as ATag};
 ghost use Rattle.der_base.specs.declared.encoding_rules.EncodingRules.TheVariants.{Der};
-ghost use Rattle.der_core.specs.State.{Same};
+ghost use Rattle.der_core.specs.State.{rest, advanced, Same};
 ghost use Rattle.der_core.specs.Outcome.{Owed};
-ghost use Rattle.der_core.specs.Refused.{Refused};
-ghost use Rattle.der_core.specs.Decode.{Passed, Peeks, MatchAnswers, header_ahead, tag_ahead};
+ghost use Rattle.der_core.specs.Decode.{Passed, GrammarAnswers, Peeks, MatchAnswers, header_ahead, tag_ahead};
 
 use crate::header::Header;
 use crate::reader::{Reader, ReaderExt};
@@ -66,9 +66,13 @@ impl TagPeek for Tag {
         ensures same { Same (R.state reader.old) (R.state reader.new) }
         ensures ok { IfOk result (λ r. Passed (λ rules octets m. TagAhead rules octets r.0 r.1 m)
             (R.state reader.old) (R.state reader.new)) }
+        ensures accepts { R.reliable ≡ true → (R.state reader.old).rules ≡ Der
+            → (R.state reader.old).failed ≡ false → (t : ATag) (bit : Bool) (m : ℕ)
+            → TagAhead (R.state reader.old).rules (rest (R.state reader.old)) t bit m
+            → (result ≡ Ok (t, bit)) × (R.state reader.new ≡ advanced (R.state reader.old) m) }
         ensures exact { R.reliable ≡ true
-            → IfErr result (λ e. (R.state reader.old).rules ≡ Der
-            → Refused IdentifierFault (R.state reader.old) e (R.state reader.new)) }
+            → GrammarAnswers (λ rules octets r m. TagAhead rules octets r.0 r.1 m) IdentifierFault
+            (R.state reader.old) result (R.state reader.new) }
     {
         match decode_with_constructed_bit(reader) {
             Ok(identifier) => Ok(identifier),

@@ -1,5 +1,5 @@
 //! Tags, read.
-ghost use Rattle.std.specs.Prelude.{◌≡◌, ℕ, ◌+◌, ◌^◌, ◌<◌, ◌≤◌, ◌/◌, ◌%◌, ◌==◌, true, false, List, [], ◌∷◌, Ok, IfOk, IfErr};
+ghost use Rattle.std.specs.Prelude.{◌≡◌, ℕ, ◌+◌, ◌^◌, ◌<◌, ◌≤◌, ◌/◌, ◌%◌, ◌==◌, Bool, true, false, List, [], ◌∷◌, Ok, IfOk, IfErr};
 ghost use Rattle.der_base.specs.Digits.{digits, continued};
 ghost use Rattle.der_base.specs.Tag.{universal_tag, other_tag};
 ghost use Rattle.der_base.specs.Header.{TagAhead};
@@ -81,9 +81,13 @@ pub(crate) fn decode_with_constructed_bit<R: Reader>(reader: &mut R) -> Result<(
     ensures same { Same (R.state reader.old) (R.state reader.new) }
     ensures ok { IfOk result (λ r. Passed (λ rules octets m. TagAhead rules octets r.0 r.1 m)
         (R.state reader.old) (R.state reader.new)) }
+    ensures accepts { R.reliable ≡ true → (R.state reader.old).rules ≡ Der
+        → (R.state reader.old).failed ≡ false → (t : ATag) (bit : Bool) (m : ℕ)
+        → TagAhead (R.state reader.old).rules (rest (R.state reader.old)) t bit m
+        → (result ≡ Ok (t, bit)) × (R.state reader.new ≡ advanced (R.state reader.old) m) }
     ensures exact { R.reliable ≡ true
-        → IfErr result (λ e. (R.state reader.old).rules ≡ Der
-        → Refused IdentifierFault (R.state reader.old) e (R.state reader.new)) }
+        → GrammarAnswers (λ rules octets r m. TagAhead rules octets r.0 r.1 m) IdentifierFault
+        (R.state reader.old) result (R.state reader.new) }
 {
     let first = match reader.read_byte() {
         Ok(octet) => octet,
@@ -156,6 +160,10 @@ pub(crate) fn decode_tag<R: Reader>(reader: &mut R) -> Result<Tag, Error>
     ensures same { Same (R.state reader.old) (R.state reader.new) }
     ensures ok { IfOk result (λ t. Passed (λ rules octets m. tag_ahead rules octets t m)
         (R.state reader.old) (R.state reader.new)) }
+    ensures accepts { R.reliable ≡ true → (R.state reader.old).rules ≡ Der
+        → (R.state reader.old).failed ≡ false → (t : ATag) (m : ℕ)
+        → tag_ahead (R.state reader.old).rules (rest (R.state reader.old)) t m
+        → (result ≡ Ok t) × (R.state reader.new ≡ advanced (R.state reader.old) m) }
     ensures exact { R.reliable ≡ true
         → GrammarAnswers tag_ahead IdentifierFault (R.state reader.old) result
         (R.state reader.new) }

@@ -110,6 +110,10 @@ impl<'a> SliceReader<'a> {
 
 impl<'a> Reader for SliceReader<'a> {
     ghost use Rattle.std.proofs.Common.{rules};
+    ghost use Rattle.der_base.specs.Length.{number};
+    ghost use Rattle.der_core.specs.State.{Same};
+    ghost use Rattle.der_core.specs.Outcome.{seen};
+    ghost use Rattle.der_core.specs.Reader.{VecGives, VecMeets};
     ghost use Rattle.der_core.specs.SliceReader.{slice_state};
 
     type Lent = &'a [u8];
@@ -192,7 +196,14 @@ impl<'a> Reader for SliceReader<'a> {
         }
     }
 
-    fn read_vec(&mut self, alloc: Global, len: Length) -> Result<Vec<u8>, Error> {
+    /// Memory is asked for only once the octets are known to be there.
+    fn read_vec(&mut self, alloc: Global, len: Length) -> Result<Vec<u8>, Error>
+        ensures same { Same (slice_state self.old) (slice_state self.new) }
+        ensures exact { VecMeets true (number len) (slice_state self.old)
+            (seen (λ v. v.items) result) (slice_state self.new) }
+        ensures gives { VecGives (number len) (slice_state self.old) (seen (λ v. v.items) result)
+            (slice_state self.new) }
+    {
         self.read_vec_in(alloc, len)
     }
 
