@@ -156,7 +156,18 @@ impl<R: Reader> Decode<R> for Header {
     ghost answers = { GrammarAnswers header_ahead HeaderFault };
 
     #[inline(always)]
-    fn decode(_alloc: Global, reader: &mut R) -> Result<Header, Error> {
+    fn decode(_alloc: Global, reader: &mut R) -> Result<Header, Error>
+        ensures same { Same (R.state reader.old) (R.state reader.new) }
+        ensures ok { IfOk result (λ h. Passed (λ rules octets m. header_ahead rules octets h m)
+            (R.state reader.old) (R.state reader.new)) }
+        ensures accepts { R.reliable ≡ true → (R.state reader.old).rules ≡ Der
+            → (R.state reader.old).failed ≡ false → (h : AHeader) (m : ℕ)
+            → header_ahead (R.state reader.old).rules (rest (R.state reader.old)) h m
+            → (result ≡ Ok h) × (R.state reader.new ≡ advanced (R.state reader.old) m) }
+        ensures exact { R.reliable ≡ true
+            → GrammarAnswers header_ahead HeaderFault (R.state reader.old) result
+            (R.state reader.new) }
+    {
         decode_header(reader)
     }
 }

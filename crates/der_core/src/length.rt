@@ -100,7 +100,18 @@ impl<R: Reader> Decode<R> for Length {
     ghost answers = { GrammarAnswers LengthAhead (λ rules at. LengthFault Overlength at rules) };
 
     #[inline(always)]
-    fn decode(_alloc: Global, reader: &mut R) -> Result<Length, Error> {
+    fn decode(_alloc: Global, reader: &mut R) -> Result<Length, Error>
+        ensures same { Same (R.state reader.old) (R.state reader.new) }
+        ensures ok { IfOk result (λ l. Passed (λ rules octets m. LengthAhead rules octets l m)
+            (R.state reader.old) (R.state reader.new)) }
+        ensures accepts { R.reliable ≡ true → (R.state reader.old).rules ≡ Der
+            → (R.state reader.old).failed ≡ false → (l : ALength) (m : ℕ)
+            → LengthAhead (R.state reader.old).rules (rest (R.state reader.old)) l m
+            → (result ≡ Ok l) × (R.state reader.new ≡ advanced (R.state reader.old) m) }
+        ensures exact { R.reliable ≡ true
+            → GrammarAnswers LengthAhead (λ rules at. LengthFault Overlength at rules)
+            (R.state reader.old) result (R.state reader.new) }
+    {
         decode_length(reader)
     }
 }

@@ -75,7 +75,7 @@ fn other(first: u8, number: u32) -> Tag
     }
 }
 
-/// Decodes a tag (X.690 8.1.2), and tells the constructed bit of its identifier.
+// Decodes a tag (X.690 8.1.2), and tells the constructed bit of its identifier.
 #[inline(always)]
 pub(crate) fn decode_with_constructed_bit<R: Reader>(reader: &mut R) -> Result<(Tag, bool), Error>
     ensures same { Same (R.state reader.old) (R.state reader.new) }
@@ -154,7 +154,7 @@ fn decode_long_number<R: Reader>(reader: &mut R) -> Result<u32, Error>
     }
 }
 
-/// Decodes a tag (X.690 8.1.2), as [`Tag::decode`] does, without an allocator.
+// Decodes a tag (X.690 8.1.2), as `Tag::decode` does, without an allocator.
 #[inline(always)]
 pub(crate) fn decode_tag<R: Reader>(reader: &mut R) -> Result<Tag, Error>
     ensures same { Same (R.state reader.old) (R.state reader.new) }
@@ -186,10 +186,18 @@ impl<R: Reader> Decode<R> for Tag {
     ghost answers = { GrammarAnswers tag_ahead IdentifierFault };
 
     #[inline(always)]
-    fn decode(_alloc: Global, reader: &mut R) -> Result<Tag, Error> {
-        match decode_tag(reader) {
-            Ok(tag) => Ok(tag),
-            Err(error) => Err(error),
-        }
+    fn decode(_alloc: Global, reader: &mut R) -> Result<Tag, Error>
+        ensures same { Same (R.state reader.old) (R.state reader.new) }
+        ensures ok { IfOk result (λ t. Passed (λ rules octets m. tag_ahead rules octets t m)
+            (R.state reader.old) (R.state reader.new)) }
+        ensures accepts { R.reliable ≡ true → (R.state reader.old).rules ≡ Der
+            → (R.state reader.old).failed ≡ false → (t : ATag) (m : ℕ)
+            → tag_ahead (R.state reader.old).rules (rest (R.state reader.old)) t m
+            → (result ≡ Ok t) × (R.state reader.new ≡ advanced (R.state reader.old) m) }
+        ensures exact { R.reliable ≡ true
+            → GrammarAnswers tag_ahead IdentifierFault (R.state reader.old) result
+            (R.state reader.new) }
+    {
+        decode_tag(reader)
     }
 }
