@@ -1,5 +1,5 @@
 -- Reading a part by a closure.
-use Rattle.std.specs.Prelude.{◌≡◌, ◌≢◌, ℕ, ◌+◌, ◌-◌, ◌<◌, ◌≤◌, Bool, true, false, Result, Ok, Err}
+use Rattle.std.specs.Prelude.{◌≡◌, ◌≢◌, ℕ, ◌+◌, ◌-◌, ◌<◌, ◌≤◌, Bool, true, false, length, Result, Ok, Err}
 use Rattle.der_base.specs.Arithmetic.{without_end}
 use Rattle.der_base.specs.Error.{at, unexpected_tag}
 use Rattle.der_base.specs.Length.{number, flagged, plain}
@@ -27,9 +27,9 @@ pub data Closes {T E : Type 0} (converts : Error → E → Type 0) (answer : Res
   whole : (v : T) → answer ≡ Ok v → s.position ≡ s.end → result ≡ Ok v → t ≡ resumed s end depth → Closes converts answer s end depth result t
 
 -- a part may be left: its outer end lies between the position and the input's length
-pub record CanLeave (s : State) (end depth length : ℕ) : Type 0 where
+pub record CanLeave (s : State) (end depth : ℕ) : Type 0 where
   pub passed : s.position ≤ end
-  pub in_input : end ≤ length
+  pub in_input : end ≤ length s.input
   pub shallow : depth ≤ 64
 
 -- the condition on a closure that reads a part of n octets: it may be called inside the part, and
@@ -45,7 +45,7 @@ pub data NestedAnswers {P Q T E : Type 0} (converts : Error → E → Type 0) (p
   entered : (p : P) (answer : Result T E) (q : Q) → CanNest s n → before p ≡ inside s n → post p answer q
       → Closes converts answer (after q) s.end s.depth result t → NestedAnswers converts post before after n s result t
 
--- a part and the end marks that close it, where its length was read in the indefinite form
+-- a part and the end mark that closes it, where its length was read in the indefinite form
 pub data ClosesValue {T E : Type 0} (converts : Error → E → Type 0) (answer : Result T E) (s : State) (end depth : ℕ) (marked : Bool) (result : Result T E) (t : State) : Type 0 where
   part_refused : (e : E) → Closes converts answer s end depth (Err e) t → result ≡ Err e → ClosesValue converts answer s end depth marked result t
   without_marks : (v : T) → Closes converts answer s end depth (Ok v) t → marked ≡ false → result ≡ Ok v → ClosesValue converts answer s end depth marked result t

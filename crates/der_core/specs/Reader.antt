@@ -1,5 +1,5 @@
 -- The tables of a reader's calls.
-use Rattle.std.specs.Prelude.{◌≡◌, ℕ, ◌+◌, ◌-◌, ◌*◌, ◌/◌, ◌^◌, ◌⊎◌, Bool, true, List, [], ◌∷◌, take, min, Result, Ok, Err, IsOk, if◌then◌else◌, nat_lt, nat_le, ◌==◌, ◌&&◌, not}
+use Rattle.std.specs.Prelude.{◌≡◌, ℕ, zero, suc, ◌+◌, ◌-◌, ◌*◌, ◌/◌, ◌^◌, ◌⊎◌, Bool, true, List, [], ◌∷◌, take, min, Result, Ok, Err, IsOk, if◌then◌else◌, nat_lt, nat_le, ◌==◌, ◌&&◌, not}
 use Rattle.der_base.specs.Length.{number, flagged, plain}
 use Rattle.der_base.specs.Error.{at, bare}
 use Rattle.der_base.specs.Refusal.{wants, cut_at, owed}
@@ -83,15 +83,23 @@ VecGives n s answer t =
 abbrev pub refused_here : (A : Type 0) → ErrorKind → State → Outcome A
 refused_here A k s = answers_and (Err (at k (here s))) (stopped s s.position)
 
-abbrev pub end_mark : ℕ → State → Outcome (Unit {0})
-end_mark o s = if o == 0 then answers_and (Ok tt) s else refused_here (Unit {0}) IndefiniteLength s
+-- the end mark of an indefinite length is two zero octets (X.690 8.1.5)
+abbrev pub end_mark : State → List ℕ → Outcome (Unit {0})
+end_mark s [] = short_outcome (Unit {0}) s 1
+end_mark s (zero ∷ []) = short_outcome (Unit {0}) (advanced s 1) 1
+end_mark s (zero ∷ zero ∷ more) = answers_and (Ok tt) (advanced s 2)
+end_mark s (zero ∷ suc o ∷ more) = refused_here (Unit {0}) IndefiniteLength (advanced s 2)
+end_mark s (suc o ∷ more) = refused_here (Unit {0}) IndefiniteLength (advanced s 1)
 
-abbrev pub read_end_mark_outcome : State → Outcome (Unit {0})
-read_end_mark_outcome s = then_ (read_byte_outcome s) end_mark
-
--- the two end marks of an indefinite length (X.690 8.1.5)
 abbrev pub read_eoc_outcome : State → Outcome (Unit {0})
-read_eoc_outcome s = then_ (read_end_mark_outcome s) (λ _ t. read_end_mark_outcome t)
+read_eoc_outcome s = unless_failed s (end_mark s (rest s))
+
+-- one octet of it, which was read
+abbrev pub zero_octet : ℕ → State → Outcome (Unit {0})
+zero_octet o s = if o == 0 then answers_and (Ok tt) s else refused_here (Unit {0}) IndefiniteLength s
+
+abbrev pub read_zero_octet_outcome : State → Outcome (Unit {0})
+read_zero_octet_outcome s = then_ (read_byte_outcome s) zero_octet
 
 -- octets of a header and its contents, where a length can count them
 abbrev pub tlv_outcome : ℕ → State → Outcome (List ℕ)

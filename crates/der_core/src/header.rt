@@ -80,7 +80,7 @@ impl Header {
 impl Header {
     ghost use Rattle.der_core.specs.Header.{contents_header};
 
-    // The header with the length of the contents alone, without end marks.
+    // The header with the length of the contents alone, without the end mark.
     pub(crate) fn contents(self) -> Self
         ensures { result ≡ contents_header self }
     {

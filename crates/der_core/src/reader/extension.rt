@@ -11,6 +11,7 @@ ghost use Rattle.der_core.specs.Decode.{Passed, Peeks, TlvAnswers, ReaderDecodes
 ghost use Rattle.der_core.specs.Header.{head_of};
 ghost use Rattle.der_core.specs.declared.header.Header.{Header as AHeader};
 ghost use Rattle.der_base.specs.Arithmetic.{without_end};
+ghost use Rattle.der_base.specs.declared.tag.Tag.TheVariants.{Sequence};
 ghost use Rattle.der_core.specs.Nested.{CanLeave, Closes, HandsBack, NestedAnswers, SequenceAnswers};
 
 use crate::decode::Decode;
@@ -65,8 +66,7 @@ pub trait ReaderExt: Reader {
         outer: Resumption,
         answer: Result<T, E>,
     ) -> Result<T, E>
-        requires { CanLeave (Self.state self.old) (outer_end outer) (outer_depth outer)
-            (length (Self.state self.old).input) }
+        requires { CanLeave (Self.state self.old) (outer_end outer) (outer_depth outer) }
         ensures same { Same (resumed (Self.state self.old) (outer_end outer) (outer_depth outer))
             (Self.state self.new) }
         ensures exact { Closes E.from_gives answer (Self.state self.old) (outer_end outer)
@@ -222,6 +222,7 @@ pub trait ReaderExt: Reader {
     ) -> Result<T, E>
         requires { (h : AHeader) (s : State)
             → Passed (λ rules octets m. header_ahead rules octets h m) (Self.state self.old) s
+            → (head_of h).tag ≡ Sequence
             → HandsBack (F.pre f) (F.post f) (λ p. Self.state p.now) (λ q. Self.state q.now) s
             (number (without_end (head_of h).length)) }
         ensures same { Same (Self.state self.old) (Self.state self.new) }
