@@ -29,6 +29,7 @@ pub struct Header {
 
 impl Header {
     ghost use Rattle.der_base.specs.Header.{head};
+    ghost use Rattle.der_core.specs.Header.{contents_header};
 
     /// The header of a tag and a length: constructed where the tag is, or the length was read in
     /// the indefinite form.
@@ -75,25 +76,12 @@ impl Header {
             constructed: self.constructed,
         }
     }
-}
-
-impl Header {
-    ghost use Rattle.der_core.specs.Header.{contents_header};
 
     // The header with the length of the contents alone, without the end mark.
     pub(crate) fn contents(self) -> Self
         ensures { result ≡ contents_header self }
     {
-        let Header {
-            tag,
-            length,
-            constructed,
-        } = self;
-        Header {
-            tag,
-            length: length.sans_eoc(),
-            constructed,
-        }
+        self.with_length(self.length.sans_eoc())
     }
 }
 
