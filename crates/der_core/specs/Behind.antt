@@ -13,7 +13,8 @@ use Rattle.der_core.specs.Refused.{Stops}
 abbrev pub NumberRefused : State → Error → State → Type 0
 NumberRefused s e t =
     (at first : ℕ) → s.position ≡ at + 1 → s.failed ≡ false → 64 ≤ first → first < 256
-    → first % 32 ≡ 31 → (r : Refusal) × IdentifierFault s.rules at (first ∷ rest s) r × Stops s r e t
+    → first % 32 ≡ 31
+    → (r : Refusal) × IdentifierFault s.rules at (first ∷ rest s) r × Stops s r e t
 
 -- a length, behind this first octet
 abbrev pub LongLengthRefused : ℕ → State → Error → State → Type 0

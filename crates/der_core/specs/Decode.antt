@@ -68,7 +68,8 @@ PartialThen converts (Ok v) t result =
 
 -- a value at the front of octets: too many octets are an overflow; else the first step that fails
 pub data PartialAnswer {A E : Type 0} (answers : State → Result A E → State → Type 0)
-    (converts : Error → E → Type 0) (octets : List ℕ) (result : Result (A × List ℕ) E) : Type 0 where
+    (converts : Error → E → Type 0) (octets : List ℕ) (result : Result (A × List ℕ) E)
+    : Type 0 where
   too_long : 2 ^ 32 ≤ length octets → IsErrAnd result (λ e. converts (bare Overflow) e)
       → PartialAnswer answers converts octets result
   decoded : (answer : Result A E) (t : State) → length octets < 2 ^ 32

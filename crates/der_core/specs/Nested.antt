@@ -47,8 +47,8 @@ pub record HandsBack {P Q A : Type 0} (pre : P → Type 0) (post : P → A → Q
 
 -- the closure ran inside the part of n octets, and this is made of what it answered
 pub data NestedAnswers {P Q T E : Type 0} (converts : Error → E → Type 0)
-    (post : P → Result T E → Q → Type 0) (before : P → State) (after : Q → State) (n : ℕ) (s : State)
-    (result : Result T E) (t : State) : Type 0 where
+    (post : P → Result T E → Q → Type 0) (before : P → State) (after : Q → State) (n : ℕ)
+    (s : State) (result : Result T E) (t : State) : Type 0 where
   not_entered : (e : Error) (f : E) → Gives (enter_nested_outcome n) s (Err e) t → converts e f
       → result ≡ Err f → NestedAnswers converts post before after n s result t
   entered : (p : P) (answer : Result T E) (q : Q) → CanNest s n → before p ≡ inside s n
@@ -56,8 +56,8 @@ pub data NestedAnswers {P Q T E : Type 0} (converts : Error → E → Type 0)
       → NestedAnswers converts post before after n s result t
 
 -- a part and the end mark that closes it, where its length was read in the indefinite form
-pub data ClosesValue {T E : Type 0} (converts : Error → E → Type 0) (answer : Result T E) (s : State)
-    (end depth : ℕ) (marked : Bool) (result : Result T E) (t : State) : Type 0 where
+pub data ClosesValue {T E : Type 0} (converts : Error → E → Type 0) (answer : Result T E)
+    (s : State) (end depth : ℕ) (marked : Bool) (result : Result T E) (t : State) : Type 0 where
   part_refused : (e : E) → Closes converts answer s end depth (Err e) t → result ≡ Err e
       → ClosesValue converts answer s end depth marked result t
   without_mark : (v : T) → Closes converts answer s end depth (Ok v) t → marked ≡ false

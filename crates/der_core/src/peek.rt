@@ -15,7 +15,7 @@ use crate::reader::{Reader, ReaderExt};
 use crate::tag::decode_with_constructed_bit;
 use der_base::{Class, Error, Tag, TagNumber};
 
-/// Calls on the type `Tag` that want a reader.
+/// Calls on the type `Tag` that want a reader; no other type has them.
 pub trait TagPeek: Sized {
     /// The tag ahead, as decoding it would answer; the reader stays.
     fn peek<R: Reader>(reader: &R) -> Result<Self, Error>;
@@ -29,6 +29,11 @@ pub trait TagPeek: Sized {
     ) -> Result<bool, Error>;
 
     /// Decodes a tag (X.690 8.1.2), and tells the constructed bit of its identifier.
+    ///
+    /// Refused by `TagUnknown` after a first octet that begins no tag, by `TagNumberInvalid` after
+    /// an octet that no tag number goes on with, and by `Incomplete` where one more octet is wanted,
+    /// each at the position after the octets that were read. The reader has failed then. One that
+    /// had failed before refuses by `Failed` at its position.
     fn decode_with_constructed_bit<R: Reader>(reader: &mut R) -> Result<(Self, bool), Error>;
 }
 

@@ -1,14 +1,12 @@
 //! Tags, read.
-ghost use Rattle.std.specs.Prelude.{◌≡◌, ℕ, ◌+◌, ◌^◌, ◌<◌, ◌≤◌, ◌/◌, ◌%◌, ◌==◌, Bool, true, false, List, [], ◌∷◌, Ok, IfOk, IfErr};
+ghost use Rattle.std.specs.Prelude.{◌≡◌, ℕ, ◌^◌, ◌<◌, ◌≤◌, Bool, true, false, [], Ok, IfOk, IfErr};
 ghost use Rattle.der_base.specs.Digits.{digits, continued};
 ghost use Rattle.der_base.specs.Tag.{universal_tag, other_tag};
 ghost use Rattle.der_base.specs.Header.{TagAhead};
 ghost use Rattle.der_base.specs.Identifier.{IdentifierFault, identifier_kind};
-ghost use Rattle.der_base.specs.Refusal.{Refusal};
 ghost use Rattle.der_base.specs.declared.tag.Tag.{Tag as ATag};
 ghost use Rattle.der_base.specs.declared.encoding_rules.EncodingRules.TheVariants.{Der};
 ghost use Rattle.der_core.specs.State.{rest, advanced, Same, Reads};
-ghost use Rattle.der_core.specs.Refused.{Refused};
 ghost use Rattle.der_core.specs.Behind.{NumberRefused};
 ghost use Rattle.der_core.specs.Decode.{Passed, GrammarAnswers, header_levels, tag_ahead};
 

@@ -1,5 +1,5 @@
 //! The calls that every reader has.
-ghost use Rattle.std.specs.Prelude.{◌≡◌, ◌↔◌, ℕ, ◌+◌, ◌-◌, ◌≤◌, true, false, IsTrue, length, Ok, Err, IfOk, OnErr};
+ghost use Rattle.std.specs.Prelude.{◌≡◌, ◌↔◌, ℕ, ◌+◌, ◌-◌, ◌≤◌, true, false, IsTrue, length, IfOk, OnErr};
 ghost use Rattle.der_base.specs.Header.{HeaderFault};
 ghost use Rattle.der_base.specs.Identifier.{IdentifierFault};
 ghost use Rattle.der_base.specs.Length.{number, plain};
@@ -164,7 +164,9 @@ pub trait ReaderExt: Reader {
 
     /// Lends the octets of the whole element ahead, header and contents. A header that is refused
     /// leaves the reader as it is, and so does a length that passes 4294967295 together with the
-    /// header's octets: `Overflow` without a position.
+    /// header's octets: `Overflow` without a position. Contents that are not all there are
+    /// `Incomplete` at the position, before the header, and the reader has failed; see
+    /// [`Reader::read_slice`].
     final fn tlv_bytes(&mut self) -> Result<Self::Lent, Error>
         ensures same { Same (Self.state self.old) (Self.state self.new) }
         ensures exact { Owed Self.reliable result
@@ -214,8 +216,10 @@ pub trait ReaderExt: Reader {
         }
     }
 
-    /// Reads a SEQUENCE by `f`, which gets this reader inside its contents. A header with another
-    /// tag is refused by `TagUnexpected` without a position, the reader behind the header.
+    /// Reads a SEQUENCE by `f`, which gets this reader inside its contents. A header is refused as
+    /// by [`decode_header`], and one with another tag by `TagUnexpected` without a position, the
+    /// reader behind the header. What `f` leaves of the contents is a refusal, as in
+    /// [`ReaderExt::read_nested`].
     final fn sequence<T: Drop, E: From<Error> + Drop, F: FnOnce(&mut Self) -> Result<T, E>>(
         &mut self,
         f: F,

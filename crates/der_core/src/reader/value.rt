@@ -72,7 +72,8 @@ pub fn close_value<R: Reader, T: Drop, E: From<Error> + Drop>(
 
 /// Reads the contents behind a header by `f`, which gets the reader inside them and the header with
 /// the length of the contents alone; where that was read in the indefinite form, the end mark is
-/// read behind them.
+/// read behind them. What `f` leaves of the contents is a refusal, as in
+/// [`ReaderExt::read_nested`]; the end mark is refused as by [`read_eoc`].
 pub fn read_value<
     R: Reader,
     T: Drop,
