@@ -59,9 +59,10 @@ pub trait Decode<R: Reader>: Sized + Drop {
 
     /// Decodes a value from the front of the reader's rest, and passes its octets.
     ///
-    /// A reliable reader that has not failed and has so many levels left gives the value that stands
-    /// ahead, or an error that says that memory was refused. Which other errors there are, at which
-    /// positions, and whether the reader has failed then, is said by `answers` of each type.
+    /// A reliable reader that has not failed, with `needs` levels of nesting left, gives the value
+    /// that stands ahead, or an error that says that memory was refused. Which other errors there
+    /// are, at which positions, and whether the reader has failed then, is said by `answers` of each
+    /// type.
     fn decode(alloc: Global, reader: &mut R) -> Result<Self, Self::Error>
         ensures same { Same (R.state reader.old) (R.state reader.new) }
         ensures ok { IfOk result (λ v. (R.state reader.old).failed ≡ false
@@ -84,8 +85,8 @@ pub trait DecodeBytes<'a>: Decode<SliceReader<'a>> {
     /// behind it.
     ///
     /// More than 4294967295 octets are refused by `Overflow` without a position. Other errors are
-    /// those of the type; where it answers a value and leaves its reader failed, that is `Failed` at
-    /// the reader's position.
+    /// those of the type; where it answers a value and leaves its reader failed, that is `Failed`
+    /// at the reader's position.
     final fn from_der_partial(
         alloc: Global,
         bytes: &'a [u8],

@@ -87,10 +87,10 @@ impl Header {
 
 /// Decodes a header (X.690 8.1.2, 8.1.3, 10.1), as [`Header::decode`] does, without an allocator.
 ///
-/// The identifier is refused as by [`decode_with_constructed_bit`](crate::TagPeek), and the length as
-/// by [`decode_length`], where a length that is not spelled as it has to be is told as `Length` with
-/// the tag, at the same position. The reader has failed then. One that had failed before refuses by
-/// `Failed` at its position.
+/// The identifier is refused as by [`Tag::decode_with_constructed_bit`](crate::TagPeek), and the
+/// length as by [`decode_length`], where a length that is not spelled as it has to be is told as
+/// `Length` with the tag, at the same position. The reader has failed then. One that had failed
+/// before refuses by `Failed` at its position.
 #[inline(always)]
 pub fn decode_header<R: Reader>(reader: &mut R) -> Result<Header, Error>
     ensures same { Same (R.state reader.old) (R.state reader.new) }
