@@ -107,6 +107,14 @@ pub same_header : (h g : Header) → head_of h ≡ head_of g → h ≡ g
 unfolding header_saying
 same_header h g e = ap header_saying e
 
+-- where an identifier stands ahead it is read
+pub identifier_accepted : {a t : State} {x y : Tag} {b c : Bool} {m : ℕ} → Passed (λ rules octets m. TagAhead rules octets x b m) a t → TagAhead a.rules (rest a) y c m
+    → (◌≡◌ {A = Tag × Bool} (x, b) (y, c)) × (t ≡ advanced a m)
+identifier_accepted {a} {x = x} {y} {b} {c} h ahead =
+    let one = one_tag h.ahead ahead in
+    let same : ◌≡◌ {A = Tag × Bool} (x, b) (y, c) = ap (λ z. (z, b)) one.0 ∙ ap (λ z. (y, z)) one.1 in
+    (same, h.leaves ∙ ap (advanced a) one.2)
+
 -- where a tag stands ahead it is read
 pub tag_accepted : {a t : State} {x y : Tag} {c : Bool} {m : ℕ} → Passed (λ rules octets m. tag_ahead rules octets x m) a t → TagAhead a.rules (rest a) y c m
     → (x ≡ y) × (t ≡ advanced a m)
@@ -117,12 +125,10 @@ tag_not_refused (has_failed f told leaves) working ahead = (let no : true ≡ fa
 tag_not_refused (at_fault r w fault stops) working ahead = no_tag_fault fault ahead refl
 
 -- where a header stands ahead it is read
-pub header_accepted : {a t : State} {h g : Head} {m : ℕ} → Passed (λ rules octets m. HeaderAhead rules octets h m) a t → a.rules ≡ Der → HeaderAhead Der (rest a) g m
+pub header_accepted : {a t : State} {h g : Head} {m : ℕ} → Passed (λ rules octets m. HeaderAhead rules octets h m) a t → HeaderAhead a.rules (rest a) g m
     → (h ≡ g) × (t ≡ advanced a m)
-header_accepted {a} {g = g} {m = m} h der ahead =
-    let one = one_header h.ahead (subst (λ rules. HeaderAhead rules (rest a) g m) (sym der) ahead) in (one.0, h.leaves ∙ ap (advanced a) one.1)
+header_accepted {a} h ahead = let one = one_header h.ahead ahead in (one.0, h.leaves ∙ ap (advanced a) one.1)
 
-pub header_not_refused : {a t : State} {e : Error} {h : Head} {m : ℕ} → Refused HeaderFault a e t → a.failed ≡ false → a.rules ≡ Der → HeaderAhead Der (rest a) h m → ⊥
-header_not_refused (has_failed f told leaves) working der ahead = (let no : true ≡ false = sym f ∙ working in cc)
-header_not_refused {a} {h = h} {m = m} (at_fault r w fault stops) working der ahead =
-    no_header_fault fault (subst (λ rules. HeaderAhead rules (rest a) h m) (sym der) ahead) refl
+pub header_not_refused : {a t : State} {e : Error} {h : Head} {m : ℕ} → Refused HeaderFault a e t → a.failed ≡ false → HeaderAhead a.rules (rest a) h m → ⊥
+header_not_refused (has_failed f told leaves) working ahead = (let no : true ≡ false = sym f ∙ working in cc)
+header_not_refused (at_fault r w fault stops) working ahead = no_header_fault fault ahead refl

@@ -18,7 +18,7 @@ use Rattle.der_core.specs.State.{State, rest, here, advanced, stopped, Reads}
 use Rattle.der_core.specs.Refused.{Refused, at_fault, has_failed, Stops}
 use Rattle.der_core.specs.Decode.{Passed}
 use Rattle.der_core.specs.Behind.{LongLengthRefused}
-use Rattle.der_core.proofs.StateLemmas.{reads_none, reads_on, position_on, failed_on, stops_on, error_stops, ByteRefused, byte_failed, byte_cut}
+use Rattle.der_core.proofs.StateLemmas.{reads_none, reads_on, position_on, failed_on, rules_on, stops_on, error_stops, ByteRefused, byte_failed, byte_cut}
 
 -- some octets of a length were read, which are digits of the number so far
 pub record DigitsSoFar (a b : State) (i value : ℕ) : Type 0 where
@@ -52,36 +52,37 @@ digits_fit h l =
 
 -- refusals behind the first octet
 pub refused_indefinite : {a t : State} {o : ℕ} {e : Error} → o ≡ 128 → e ≡ error_at IndefiniteLength (here a) → t ≡ stopped a a.position → LongLengthRefused o a e t
-refused_indefinite {a} {t} {o} {e} is told leaves at here working = (
+refused_indefinite {a} {t} {o} {e} is told leaves at der here working = (
   refusal IndefiniteLength (at + 1),
-  subst (λ x. LengthFault Overlength at Der (x ∷ rest a) (refusal IndefiniteLength (at + 1))) (sym is) (indefinite_form (rest a)),
+  subst (λ x. LengthFault Overlength at a.rules (x ∷ rest a) (refusal IndefiniteLength (at + 1))) (sym is)
+      (subst (λ rules. LengthFault Overlength at rules (128 ∷ rest a) (refusal IndefiniteLength (at + 1))) (sym der) (indefinite_form (rest a))),
   subst (λ n. Stops a (refusal IndefiniteLength n) e t) here (error_stops a t IndefiniteLength e told leaves),
 )
 
 pub refused_far : {a t : State} {o : ℕ} {e : Error} → 133 ≤ o → e ≡ error_at Overlength (here a) → t ≡ stopped a a.position → LongLengthRefused o a e t
-refused_far {a} {t} {o} {e} high told leaves at here working = (
+refused_far {a} {t} {o} {e} high told leaves at der here working = (
   refusal Overlength (at + 1),
   far o (rest a) high,
   subst (λ n. Stops a (refusal Overlength n) e t) here (error_stops a t Overlength e told leaves),
 )
 
 pub refused_cut : {a b t : State} {o i value : ℕ} {e : Error} → DigitsSoFar a b i value → 128 ≤ o → o < 133 → i < o - 128
-    → (rest b ≡ []) × Stops b (cut_at b.position) e t → (at : ℕ) → a.position ≡ at + 1 → (r : Refusal) × LengthFault Overlength at Der (o ∷ rest a) r × Stops a r e t
+    → (rest b ≡ []) × Stops b (cut_at b.position) e t → (at : ℕ) → a.position ≡ at + 1 → (r : Refusal) × LengthFault Overlength at a.rules (o ∷ rest a) r × Stops a r e t
 refused_cut {a} {b} {t} {o} {e = e} h low high short g at here =
     let whole : h.digits ≡ rest a = sym (h.reads.split ∙ ap (λ l. h.digits ++ l) g.0 ∙ append-nil h.digits) in
     let end : at + 1 + length h.digits ≡ b.position = omega (arith, position_on h.reads) in (
       cut_at (at + 1 + length h.digits),
-      subst (λ l. LengthFault Overlength at Der (o ∷ l) (cut_at (at + 1 + length h.digits))) whole (octet_cut at o h.digits low high (omega (arith, h.count))),
+      subst (λ l. LengthFault Overlength at a.rules (o ∷ l) (cut_at (at + 1 + length h.digits))) whole (octet_cut at o h.digits low high (omega (arith, h.count))),
       subst (λ n. Stops a (cut_at n) e t) (sym end) (stops_on h.reads g.1),
     )
 
 pub refused_longer : {a b t : State} {o value least : ℕ} {e : Error} → DigitsSoFar a b (o - 128) value → 128 < o → o < 133 → least ≡ max 128 (256 ^ (o - 128 - 1))
     → value < least → e ≡ error_at Overlength (here b) → t ≡ stopped b b.position → LongLengthRefused o a e t
-refused_longer {a} {b} {t} {o} {value} {least} {e} h low high is small told leaves at here working =
+refused_longer {a} {b} {t} {o} {value} {least} {e} h low high is small told leaves at der here working =
     let below : number_from_digits 256 h.digits < max 128 (256 ^ (o - 128 - 1)) = omega (arith, h.is) in
     let there : at + 1 + (o - 128) ≡ b.position = omega (arith, position_on h.reads, h.count) in (
       refusal Overlength (at + 1 + (o - 128)),
-      subst (λ l. LengthFault Overlength at Der (o ∷ l) (refusal Overlength (at + 1 + (o - 128)))) (sym h.reads.split) (octet_longer at o h.digits (rest b) low high h.count below),
+      subst (λ l. LengthFault Overlength at a.rules (o ∷ l) (refusal Overlength (at + 1 + (o - 128)))) (sym h.reads.split) (octet_longer at o h.digits (rest b) low high h.count below),
       subst (λ n. Stops a (refusal Overlength n) e t) (sym there) (stops_on h.reads (error_stops b t Overlength e told leaves)),
     )
 
@@ -113,30 +114,24 @@ pub passed_long : {a b t : State} {o n : ℕ} {l : Length} → a.failed ≡ fals
 passed_long {a} {b} {t} working h g e = as_length e (passed_octets working (subst (Reads a t) (sym g.1) (reads_on h g.2)) g.3)
 
 -- a length is refused
-under_der : {a t : State} {e : Error} {r : Refusal} → a.rules ≡ Der → a.failed ≡ false → LengthFault Overlength a.position Der (rest a) r → Stops a r e t
-    → Refused (λ rules at. LengthFault Overlength at rules) a e t
-under_der {a} {r = r} der working fault stops = at_fault r working (subst (λ rules. LengthFault Overlength a.position rules (rest a) r) (sym der) fault) stops
-
-pub length_ends : {a t : State} {e : Error} → a.rules ≡ Der → ByteRefused a e t → Refused (λ rules at. LengthFault Overlength at rules) a e t
-length_ends der (byte_failed f told leaves) = has_failed f told leaves
-length_ends {a} der (byte_cut working none stops) =
-    under_der der working (subst (λ l. LengthFault Overlength a.position Der l (cut_at a.position)) (sym none) nothing) stops
+pub length_ends : {a t : State} {e : Error} → ByteRefused a e t → Refused (λ rules at. LengthFault Overlength at rules) a e t
+length_ends (byte_failed f told leaves) = has_failed f told leaves
+length_ends {a} (byte_cut working none stops) =
+    at_fault (cut_at a.position) working (subst (λ l. LengthFault Overlength a.position a.rules l (cut_at a.position)) (sym none) nothing) stops
 
 pub length_refused : {a b t : State} {o : ℕ} {e : Error} → a.rules ≡ Der → a.failed ≡ false → Reads a b (o ∷ []) → LongLengthRefused o b e t
     → Refused (λ rules at. LengthFault Overlength at rules) a e t
 length_refused {a} {b} {t} {o} {e} der working h n =
-    let r = n a.position (position_on h) (failed_on h ∙ working) in
-    under_der der working (subst (λ l. LengthFault Overlength a.position Der l r.0) (sym h.split) r.1) (stops_on h r.2)
+    let r = n a.position (rules_on h ∙ der) (position_on h) (failed_on h ∙ working) in
+    let fault : LengthFault Overlength a.position a.rules (o ∷ rest b) r.0 = subst (λ rules. LengthFault Overlength a.position rules (o ∷ rest b) r.0) (rules_on h) r.1 in
+    at_fault r.0 working (subst (λ l. LengthFault Overlength a.position a.rules l r.0) (sym h.split) fault) (stops_on h r.2)
 
 -- where a length stands ahead it is read
-pub length_accepted : {a t : State} {l k : Length} {m : ℕ} → Passed (λ rules octets m. LengthAhead rules octets l m) a t → a.rules ≡ Der → LengthAhead Der (rest a) k m
+pub length_accepted : {a t : State} {l k : Length} {m : ℕ} → Passed (λ rules octets m. LengthAhead rules octets l m) a t → LengthAhead a.rules (rest a) k m
     → (l ≡ k) × (t ≡ advanced a m)
-length_accepted {a} {t} {l} {k} {m} h der ahead =
-    let one = one_length h.ahead (subst (λ rules. LengthAhead rules (rest a) k m) (sym der) ahead) refl in
-    (one.0, h.leaves ∙ ap (advanced a) one.1)
+length_accepted {a} h ahead = let one = one_length h.ahead ahead refl in (one.0, h.leaves ∙ ap (advanced a) one.1)
 
-pub length_not_refused : {a t : State} {e : Error} {k : Length} {m : ℕ} → Refused (λ rules at. LengthFault Overlength at rules) a e t → a.failed ≡ false → a.rules ≡ Der
-    → LengthAhead Der (rest a) k m → ⊥
-length_not_refused (has_failed f told leaves) working der ahead = (let no : true ≡ false = sym f ∙ working in cc)
-length_not_refused {a} {k = k} {m = m} (at_fault r w fault stops) working der ahead =
-    no_length_fault fault (subst (λ rules. LengthAhead rules (rest a) k m) (sym der) ahead) refl
+pub length_not_refused : {a t : State} {e : Error} {k : Length} {m : ℕ} → Refused (λ rules at. LengthFault Overlength at rules) a e t → a.failed ≡ false
+    → LengthAhead a.rules (rest a) k m → ⊥
+length_not_refused (has_failed f told leaves) working ahead = (let no : true ≡ false = sym f ∙ working in cc)
+length_not_refused (at_fault r w fault stops) working ahead = no_length_fault fault ahead refl

@@ -7,3 +7,4 @@ pub mod HeaderReadLemmas
 pub mod DecodeLemmas
 pub mod NestedLemmas
 pub mod PeekLemmas
+pub mod EndMarkLemmas

@@ -34,7 +34,7 @@ pub entered_at : {s t : State} {of l : Length} {end depth : ℕ} → l ≡ of �
 entered_at {s} {t} {end = e} {depth = d} same h = subst (λ x. Entered s (number x) e d t) same h
 
 -- a part that a closure hands back can be left
-pub can_leave : {s t u : State} {n end depth : ℕ} → Entered s n end depth t → Sound s → Same t u → CanLeave u end depth (length u.input)
+pub can_leave : {s t u : State} {n end depth : ℕ} → Entered s n end depth t → Sound s → Same t u → CanLeave u end depth
 can_leave {s} {t} {u} {n} {end = e} {depth = d} h sound same =
     let limit : t.end ≡ s.position + n = ap (λ (x : State). x.end) h.state in
     let input : t.input ≡ s.input = ap (λ (x : State). x.input) h.state in

@@ -98,7 +98,7 @@ first_refused : (s t : State) (e : Error) (q : List ℕ) → Gives (λ x. first_
 first_refused s t e [] h = (refl, record { answered = h.answered; leaves = h.leaves })
 first_refused s t e (p ∷ more) h = absurd (let no = h.answered in cc)
 
-by_front : (s : State) → s.failed ≡ false → read_byte_outcome s ≡ first_octet s (rest s)
+pub by_front : (s : State) → s.failed ≡ false → read_byte_outcome s ≡ first_octet s (rest s)
 by_front s w = grind arith
 
 pub byte_working : (s t : State) (o : ℕ) → Gives read_byte_outcome s (Ok o) t → s.failed ≡ false

@@ -17,7 +17,7 @@ use Rattle.der_core.specs.State.{State, rest, here, stopped, Reads}
 use Rattle.der_core.specs.Refused.{Refused, at_fault, has_failed, Stops}
 use Rattle.der_core.specs.Decode.{Passed}
 use Rattle.der_core.specs.Behind.{NumberRefused}
-use Rattle.der_core.proofs.StateLemmas.{reads_none, reads_on, position_on, stops_on, error_stops, ByteRefused, byte_failed, byte_cut}
+use Rattle.der_core.proofs.StateLemmas.{reads_none, reads_on, position_on, rules_on, stops_on, error_stops, ByteRefused, byte_failed, byte_cut}
 
 -- the octets read of a number that goes on
 abbrev pub NumberSoFar : State → State → ℕ → Type 0
@@ -43,18 +43,18 @@ number_ends {a} {b} {t} {v} {e} h g at o here working low high all =
     let whole : h.0 ≡ rest a = sym (h.1.split ∙ ap (λ l. h.0 ++ l) g.0 ∙ append-nil h.0) in
     let end : at + length (o ∷ h.0) ≡ b.position = omega (arith, position_on h.1) in (
       cut_at (at + length (o ∷ h.0)),
-      subst (λ l. IdentifierFault Der at (o ∷ l) (cut_at (at + length (o ∷ h.0)))) whole (number_cut at o v h.0 low high all h.2),
+      subst (λ l. IdentifierFault a.rules at (o ∷ l) (cut_at (at + length (o ∷ h.0)))) whole (number_cut at o v h.0 low high all h.2),
       subst (λ n. Stops a (cut_at n) e t) (sym end) (stops_on h.1 g.1),
     )
 
 number_refuses : {a b c t : State} {s : List ℕ} {p : ℕ} {e : Error} (at o : ℕ) → Reads a b s → Reads b c (p ∷ []) → a.position ≡ at + 1
-    → IdentifierFault Der at (o ∷ (s ++ p ∷ rest c)) (refusal TagNumberInvalid (at + length (o ∷ s) + 1)) → e ≡ error_at TagNumberInvalid (here c) → t ≡ stopped c c.position
-    → (r : Refusal) × IdentifierFault Der at (o ∷ rest a) r × Stops a r e t
+    → IdentifierFault a.rules at (o ∷ (s ++ p ∷ rest c)) (refusal TagNumberInvalid (at + length (o ∷ s) + 1)) → e ≡ error_at TagNumberInvalid (here c) → t ≡ stopped c c.position
+    → (r : Refusal) × IdentifierFault a.rules at (o ∷ rest a) r × Stops a r e t
 number_refuses {a} {b} {c} {t} {s} {p} {e} at o h g here fault told leaves =
     let whole : s ++ p ∷ rest c ≡ rest a = sym (h.split ∙ ap (λ l. s ++ l) g.split) in
     let there : at + length (o ∷ s) + 1 ≡ c.position = omega (arith, position_on h, position_on g) in (
       refusal TagNumberInvalid (at + length (o ∷ s) + 1),
-      subst (λ l. IdentifierFault Der at (o ∷ l) (refusal TagNumberInvalid (at + length (o ∷ s) + 1))) whole fault,
+      subst (λ l. IdentifierFault a.rules at (o ∷ l) (refusal TagNumberInvalid (at + length (o ∷ s) + 1))) whole fault,
       subst (λ n. Stops a (refusal TagNumberInvalid n) e t) (sym there) (stops_on (reads_on h g) (error_stops c t TagNumberInvalid e told leaves)),
     )
 
@@ -117,8 +117,9 @@ tag_unknown {a} {b} {t} {o} {e} der working h low none told leaves =
     under_der der working (subst (λ l. IdentifierFault Der a.position l (refusal (identifier_kind [] o) (a.position + 1))) (sym h.split) fault)
     (subst (λ n. Stops a (refusal (identifier_kind [] o) n) e t) (position_on h) (stops_on h (error_stops b t (identifier_kind [] o) e told leaves)))
 
-pub tag_number_refused : {a b t : State} {o : ℕ} {e : Error} → a.rules ≡ Der → a.failed ≡ false → Reads a b (o ∷ []) → b.failed ≡ false → 64 ≤ o → o < 256
+pub tag_number_refused : {a b t : State} {o : ℕ} {e : Error} → a.failed ≡ false → Reads a b (o ∷ []) → b.failed ≡ false → 64 ≤ o → o < 256
     → o % 32 ≡ 31 → NumberRefused b e t → Refused IdentifierFault a e t
-tag_number_refused {a} {b} {t} {o} {e} der working h w low high all n =
+tag_number_refused {a} {b} {t} {o} {e} working h w low high all n =
     let r = n a.position o (position_on h) w low high all in
-    under_der der working (subst (λ l. IdentifierFault Der a.position l r.0) (sym h.split) r.1) (stops_on h r.2)
+    let fault : IdentifierFault a.rules a.position (o ∷ rest b) r.0 = subst (λ rules. IdentifierFault rules a.position (o ∷ rest b) r.0) (rules_on h) r.1 in
+    at_fault r.0 working (subst (λ l. IdentifierFault a.rules a.position l r.0) (sym h.split) fault) (stops_on h r.2)

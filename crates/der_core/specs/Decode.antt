@@ -33,13 +33,15 @@ pub record Passed (Ahead : EncodingRules → List ℕ → ℕ → Type 0) (s t :
   pub leaves : t ≡ advanced s octets
 
 -- a decoder succeeds and passes m octets, or it takes memory and was refused it
-abbrev pub ReadsOrLacks : {A E : Type 0} → (E → Bool) → Bool → State → ℕ → Result A E → State → Type 0
-ReadsOrLacks oom takes_memory s m result t =
-    (IsOk result × (t ≡ advanced s m)) ⊎ ((takes_memory ≡ true) × IsErrAnd result (λ e. oom e ≡ true))
+abbrev pub ReadsOrLacks : {A E : Type 0}
+    → (E → Bool) → Bool → State → ℕ → Result A E → State → Type 0
+ReadsOrLacks out_of_memory takes_memory s m result t =
+    (IsOk result × (t ≡ advanced s m))
+    ⊎ ((takes_memory ≡ true) × IsErrAnd result (λ e. out_of_memory e ≡ true))
 
 -- a decoder of a grammar: what it read is ahead, or the rest has a fault
-abbrev pub GrammarAnswers : {A : Type 0} → (EncodingRules → List ℕ → A → ℕ → Type 0) → (EncodingRules → ℕ → List ℕ → Refusal → Type 0)
-    → State → Result A Error → State → Type 0
+abbrev pub GrammarAnswers : {A : Type 0} → (EncodingRules → List ℕ → A → ℕ → Type 0)
+    → (EncodingRules → ℕ → List ℕ → Refusal → Type 0) → State → Result A Error → State → Type 0
 GrammarAnswers Ahead Fault s (Ok v) t = Passed (λ rules octets m. Ahead rules octets v m) s t
 GrammarAnswers Ahead Fault s (Err e) t = s.rules ≡ Der → Refused Fault s e t
 
@@ -57,40 +59,54 @@ header_ahead rules octets h m = HeaderAhead rules octets (head_of h) m
 
 -- what follows the answer of a decoder: its error, or the value with the rest of a reader that is
 -- not failed
-abbrev pub PartialThen : {A E : Type 0} → (Error → E → Type 0) → Result A E → State → Result (A × List ℕ) E → Type 0
+abbrev pub PartialThen : {A E : Type 0}
+    → (Error → E → Type 0) → Result A E → State → Result (A × List ℕ) E → Type 0
 PartialThen converts (Err e) t result = result ≡ Err e
 PartialThen converts (Ok v) t result =
     ((t.failed ≡ false) × (result ≡ Ok (v, rest t)))
     ⊎ ((t.failed ≡ true) × IsErrAnd result (λ e. converts (at Failed (here t)) e))
 
 -- a value at the front of octets: too many octets are an overflow; else the first step that fails
-pub data PartialAnswer {A E : Type 0} (answers : State → Result A E → State → Type 0) (converts : Error → E → Type 0) (octets : List ℕ)
-    (result : Result (A × List ℕ) E) : Type 0 where
-  too_long : 2 ^ 32 ≤ length octets → IsErrAnd result (λ e. converts (bare Overflow) e) → PartialAnswer answers converts octets result
-  decoded : (answer : Result A E) (t : State) → length octets < 2 ^ 32 → answers (beginning Der octets) answer t
-      → PartialThen converts answer t result → PartialAnswer answers converts octets result
+pub data PartialAnswer {A E : Type 0} (answers : State → Result A E → State → Type 0)
+    (converts : Error → E → Type 0) (octets : List ℕ) (result : Result (A × List ℕ) E)
+    : Type 0 where
+  too_long : 2 ^ 32 ≤ length octets → IsErrAnd result (λ e. converts (bare Overflow) e)
+      → PartialAnswer answers converts octets result
+  decoded : (answer : Result A E) (t : State) → length octets < 2 ^ 32
+      → answers (beginning Der octets) answer t → PartialThen converts answer t result
+      → PartialAnswer answers converts octets result
 
 -- what a peek tells is what decoding would answer; the reader stays
-abbrev pub Peeks : {A : Type 0} → (EncodingRules → List ℕ → A → ℕ → Type 0) → (EncodingRules → ℕ → List ℕ → Refusal → Type 0)
-    → State → Result A Error → Type 0
+abbrev pub Peeks : {A : Type 0} → (EncodingRules → List ℕ → A → ℕ → Type 0)
+    → (EncodingRules → ℕ → List ℕ → Refusal → Type 0) → State → Result A Error → Type 0
 Peeks Ahead Fault s answer = (t : State) × GrammarAnswers Ahead Fault s answer t
 
 -- the octets of a whole element: its header is looked at first, which leaves the reader; header and
 -- contents together are then lent, or pass every length
 pub data TlvAnswers (s : State) (answer : Result (List ℕ) Error) (t : State) : Type 0 where
-  no_header : (e : Error) → Peeks header_ahead HeaderFault s (Err e) → answer ≡ Err e → t ≡ s → TlvAnswers s answer t
-  with_header : (h : Header) (m : ℕ) → header_ahead s.rules (rest s) h m → s.failed ≡ false → Gives (tlv_outcome (m + number (head_of h).length)) s answer t
+  no_header : (e : Error) → Peeks header_ahead HeaderFault s (Err e) → answer ≡ Err e → t ≡ s
       → TlvAnswers s answer t
+  with_header : (h : Header) (m : ℕ) → header_ahead s.rules (rest s) h m → s.failed ≡ false
+      → Gives (tlv_outcome (m + number (head_of h).length)) s answer t → TlvAnswers s answer t
 
--- a reader decodes: one that has failed refuses, and any refusal leaves it failed
-pub data ReaderDecodes {A E : Type 0} (answers : State → Result A E → State → Type 0) (converts : Error → E → Type 0) (s : State) (result : Result A E) (t : State) : Type 0 where
-  had_failed : s.failed ≡ true → IsErrAnd result (λ e. converts (at Failed (here s)) e) → t ≡ stopped s s.position → ReaderDecodes answers converts s result t
-  decodes : s.failed ≡ false → IsOk result → answers s result t → ReaderDecodes answers converts s result t
-  refuses : (u : State) → s.failed ≡ false → IsErr result → answers s result u → t ≡ stopped u u.position → ReaderDecodes answers converts s result t
+-- a reader decodes: one that has failed refuses, and any refusal leaves it failed; a reliable one
+-- owes the decoder's answer too
+pub data ReaderDecodes {A E : Type 0} (reliable : Bool)
+    (answers : State → Result A E → State → Type 0) (converts : Error → E → Type 0) (s : State)
+    (result : Result A E) (t : State) : Type 0 where
+  had_failed : s.failed ≡ true → IsErrAnd result (λ e. converts (at Failed (here s)) e)
+      → t ≡ stopped s s.position → ReaderDecodes reliable answers converts s result t
+  decodes : s.failed ≡ false → IsOk result → (reliable ≡ true → answers s result t)
+      → ReaderDecodes reliable answers converts s result t
+  refuses : (u : State) → s.failed ≡ false → IsErr result → (reliable ≡ true → answers s result u)
+      → t ≡ stopped u u.position → ReaderDecodes reliable answers converts s result t
 
 -- whether the tag ahead has this class and number: none is ahead of a finished reader
 pub data MatchAnswers (class number : ℕ) (s : State) (answer : Result Bool Error) : Type 0 where
   finished : s.position ≡ s.end → answer ≡ Ok false → MatchAnswers class number s answer
-  tag_ahead_is : (t : Tag) (matches : Bool) → Peeks tag_ahead IdentifierFault s (Ok t) → answer ≡ Ok matches
-      → (IsTrue matches ↔ (((label t).class ≡ class) × ((label t).number ≡ number))) → MatchAnswers class number s answer
-  no_tag : (e : Error) → s.position < s.end → Peeks tag_ahead IdentifierFault s (Err e) → answer ≡ Err e → MatchAnswers class number s answer
+  tag_ahead_is : (t : Tag) (matches : Bool) → Peeks tag_ahead IdentifierFault s (Ok t)
+      → answer ≡ Ok matches
+      → (IsTrue matches ↔ (((label t).class ≡ class) × ((label t).number ≡ number)))
+      → MatchAnswers class number s answer
+  no_tag : (e : Error) → s.position < s.end → Peeks tag_ahead IdentifierFault s (Err e)
+      → answer ≡ Err e → MatchAnswers class number s answer

@@ -17,12 +17,14 @@ abbrev pub refused : (A : Type 0) → State → Refusal → Outcome A
 refused A s r = record { answer = Err (owed r); after = left s r }
 
 -- from s the call answers so and leaves t, as its table says
-pub record Gives {A : Type 0} (table : State → Outcome A) (s : State) (answer : Result A Error) (t : State) : Type 0 where
+pub record Gives {A : Type 0} (table : State → Outcome A) (s : State) (answer : Result A Error)
+    (t : State) : Type 0 where
   pub answered : answer ≡ (table s).answer
   pub leaves : t ≡ (table s).after
 
 -- a reader owes its table where it answers Ok, and a reliable one always
-abbrev pub Meets : {A : Type 0} → Bool → (State → Outcome A) → State → Result A Error → State → Type 0
+abbrev pub Meets : {A : Type 0}
+    → Bool → (State → Outcome A) → State → Result A Error → State → Type 0
 Meets reliable table s (Ok a) t = Gives table s (Ok a) t
 Meets reliable table s (Err e) t = reliable ≡ true → Gives table s (Err e) t
 

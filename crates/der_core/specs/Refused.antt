@@ -13,6 +13,8 @@ pub record Stops (s : State) (r : Refusal) (e : Error) (t : State) : Type 0 wher
   pub leaves : t ≡ left s r
 
 -- a failed reader is left as it is; on another the rest has a fault, of which the error tells
-pub data Refused (Fault : EncodingRules → ℕ → List ℕ → Refusal → Type 0) (s : State) (e : Error) (t : State) : Type 0 where
+pub data Refused (Fault : EncodingRules → ℕ → List ℕ → Refusal → Type 0) (s : State) (e : Error)
+    (t : State) : Type 0 where
   has_failed : s.failed ≡ true → e ≡ at Failed (here s) → t ≡ s → Refused Fault s e t
-  at_fault : (r : Refusal) → s.failed ≡ false → Fault s.rules s.position (rest s) r → Stops s r e t → Refused Fault s e t
+  at_fault : (r : Refusal) → s.failed ≡ false → Fault s.rules s.position (rest s) r → Stops s r e t
+      → Refused Fault s e t

@@ -4,4 +4,13 @@ use Rattle.der_core.specs.State.{State}
 use Rattle.der_core.specs.declared.reader.slice.SliceReader.{SliceReader}
 
 abbrev pub slice_state : SliceReader → State
-slice_state r = record { input = r.bytes.now; rules = r.encoding_rules; end = r.end; position = r.position; depth = r.depth; failed = r.failed; marks = true }
+slice_state r =
+    record {
+      input = r.bytes.now;
+      rules = r.encoding_rules;
+      end = r.end;
+      position = r.position;
+      depth = r.depth;
+      failed = r.failed;
+      marks = true;
+    }

@@ -18,7 +18,16 @@ pub record State : Type 0 where
 
 -- a reader of a whole input that nothing was read of
 abbrev pub beginning : EncodingRules → List ℕ → State
-beginning rules input = record { input = input; rules = rules; end = length input; position = 0; depth = 0; failed = false; marks = true }
+beginning rules input =
+    record {
+      input = input;
+      rules = rules;
+      end = length input;
+      position = 0;
+      depth = 0;
+      failed = false;
+      marks = true;
+    }
 
 -- what is left up to the present end
 abbrev pub rest : State → List ℕ

@@ -41,10 +41,10 @@ impl DecodeError for Error {
 
 /// Types that are decoded from the octets of a reader `R`.
 ///
-/// `heads` says which values stand at the front of octets, and in how many of them; it is a relation
-/// over all that is left, since an indefinite length depends on what follows. `needs` is how many
-/// levels of nesting decoding wants, `takes_memory` whether it takes memory, and `answers` is the
-/// exact outcome on a reliable reader, refusals and their states included.
+/// `heads` says which values stand at the front of octets, and in how many of them; it is a
+/// relation over all that is left, since an indefinite length depends on what follows. `needs` is
+/// how many levels of nesting decoding wants, `takes_memory` whether it takes memory, and `answers`
+/// is the exact outcome on a reliable reader, refusals and their states included.
 pub trait Decode<R: Reader>: Sized + Drop {
     /// The error of decoding.
     type Error: DecodeError;
@@ -57,7 +57,12 @@ pub trait Decode<R: Reader>: Sized + Drop {
 
     ghost answers: { State → AResult Self Self.Error → State → Type 0 };
 
-    /// Decodes a value from the front of the reader's rest.
+    /// Decodes a value from the front of the reader's rest, and passes its octets.
+    ///
+    /// A reliable reader that has not failed, with `needs` levels of nesting left, gives the value
+    /// that stands ahead, or an error that says that memory was refused. Which other errors there
+    /// are, at which positions, and whether the reader has failed then, is said by `answers` of each
+    /// type.
     fn decode(alloc: Global, reader: &mut R) -> Result<Self, Self::Error>
         ensures same { Same (R.state reader.old) (R.state reader.new) }
         ensures ok { IfOk result (λ v. (R.state reader.old).failed ≡ false
@@ -78,6 +83,10 @@ pub trait Decode<R: Reader>: Sized + Drop {
 pub trait DecodeBytes<'a>: Decode<SliceReader<'a>> {
     /// The value at the front of the octets under the Distinguished Encoding Rules, and the octets
     /// behind it.
+    ///
+    /// More than 4294967295 octets are refused by `Overflow` without a position. Other errors are
+    /// those of the type; where it answers a value and leaves its reader failed, that is `Failed`
+    /// at the reader's position.
     final fn from_der_partial(
         alloc: Global,
         bytes: &'a [u8],

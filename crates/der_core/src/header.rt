@@ -3,7 +3,7 @@ ghost use Rattle.std.specs.Prelude.{◌≡◌, ℕ, ◌||◌, true, false, Ok, I
 ghost use Rattle.der_base.specs.Error.{retold_error};
 ghost use Rattle.der_base.specs.Length.{flagged};
 ghost use Rattle.der_base.specs.Tag.{label};
-ghost use Rattle.der_base.specs.Header.{HeaderAhead, HeaderFault};
+ghost use Rattle.der_base.specs.Header.{HeaderFault};
 ghost use Rattle.der_base.specs.declared.error.ErrorKind.TheVariants.{Length as IncorrectLength};
 ghost use Rattle.der_base.specs.declared.encoding_rules.EncodingRules.TheVariants.{Der};
 ghost use Rattle.der_core.specs.State.{rest, advanced, Same};
@@ -29,6 +29,7 @@ pub struct Header {
 
 impl Header {
     ghost use Rattle.der_base.specs.Header.{head};
+    ghost use Rattle.der_core.specs.Header.{contents_header};
 
     /// The header of a tag and a length: constructed where the tag is, or the length was read in
     /// the indefinite form.
@@ -75,31 +76,21 @@ impl Header {
             constructed: self.constructed,
         }
     }
-}
 
-impl Header {
-    ghost use Rattle.der_core.specs.Header.{contents_header};
-
-    // The header with the length of the contents alone, without end marks.
+    // The header with the length of the contents alone, without the end mark.
     pub(crate) fn contents(self) -> Self
         ensures { result ≡ contents_header self }
     {
-        let Header {
-            tag,
-            length,
-            constructed,
-        } = self;
-        Header {
-            tag,
-            length: length.sans_eoc(),
-            constructed,
-        }
+        self.with_length(self.length.sans_eoc())
     }
 }
 
 /// Decodes a header (X.690 8.1.2, 8.1.3, 10.1), as [`Header::decode`] does, without an allocator.
 ///
-/// A length that is not spelled as it has to be is told as `Length` with the tag.
+/// The identifier is refused as by [`Tag::decode_with_constructed_bit`](crate::TagPeek), and the
+/// length as by [`decode_length`], where a length that is not spelled as it has to be is told as
+/// `Length` with the tag, at the same position. The reader has failed then. One that had failed
+/// before refuses by `Failed` at its position.
 #[inline(always)]
 pub fn decode_header<R: Reader>(reader: &mut R) -> Result<Header, Error>
     ensures same { Same (R.state reader.old) (R.state reader.new) }
@@ -107,8 +98,8 @@ pub fn decode_header<R: Reader>(reader: &mut R) -> Result<Header, Error>
         (R.state reader.old) (R.state reader.new)) }
     ensures accepts { R.reliable ≡ true → (R.state reader.old).rules ≡ Der
         → (R.state reader.old).failed ≡ false → (h : AHeader) (m : ℕ)
-        → HeaderAhead Der (rest (R.state reader.old)) (head_of h) m → (result ≡ Ok h)
-        × (R.state reader.new ≡ advanced (R.state reader.old) m) }
+        → header_ahead (R.state reader.old).rules (rest (R.state reader.old)) h m
+        → (result ≡ Ok h) × (R.state reader.new ≡ advanced (R.state reader.old) m) }
     ensures exact { R.reliable ≡ true
         → GrammarAnswers header_ahead HeaderFault (R.state reader.old) result (R.state reader.new) }
 {
@@ -156,7 +147,18 @@ impl<R: Reader> Decode<R> for Header {
     ghost answers = { GrammarAnswers header_ahead HeaderFault };
 
     #[inline(always)]
-    fn decode(_alloc: Global, reader: &mut R) -> Result<Header, Error> {
+    fn decode(_alloc: Global, reader: &mut R) -> Result<Header, Error>
+        ensures same { Same (R.state reader.old) (R.state reader.new) }
+        ensures ok { IfOk result (λ h. Passed (λ rules octets m. header_ahead rules octets h m)
+            (R.state reader.old) (R.state reader.new)) }
+        ensures accepts { R.reliable ≡ true → (R.state reader.old).rules ≡ Der
+            → (R.state reader.old).failed ≡ false → (h : AHeader) (m : ℕ)
+            → header_ahead (R.state reader.old).rules (rest (R.state reader.old)) h m
+            → (result ≡ Ok h) × (R.state reader.new ≡ advanced (R.state reader.old) m) }
+        ensures exact { R.reliable ≡ true
+            → GrammarAnswers header_ahead HeaderFault (R.state reader.old) result
+            (R.state reader.new) }
+    {
         decode_header(reader)
     }
 }

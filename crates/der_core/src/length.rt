@@ -1,6 +1,6 @@
 //! Lengths, read.
-ghost use Rattle.std.specs.Prelude.{◌≡◌, ◌≢◌, ℕ, ◌+◌, ◌-◌, ◌^◌, ◌<◌, ◌≤◌, true, false, List, ◌∷◌, max, Ok, IfOk, IfErr, IsOkAnd};
-ghost use Rattle.der_base.specs.Length.{plain, length_octets};
+ghost use Rattle.std.specs.Prelude.{◌≡◌, ℕ, ◌-◌, ◌^◌, ◌<◌, ◌≤◌, true, false, List, ◌∷◌, max, Ok, IfOk, IfErr};
+ghost use Rattle.der_base.specs.Length.{length_octets};
 ghost use Rattle.der_base.specs.Header.{LengthAhead, LengthFault};
 ghost use Rattle.der_base.specs.declared.error.ErrorKind.TheVariants.{Overlength};
 ghost use Rattle.der_base.specs.declared.length.Length.{Length as ALength};
@@ -18,6 +18,12 @@ use std::alloc::Global;
 const INDEFINITE: u8 = 0x80;
 
 /// Decodes a length (X.690 8.1.3, 10.1), as [`Length::decode`] does, without an allocator.
+///
+/// Refused by `Incomplete` at the end of the octets, where one more is wanted; by
+/// `IndefiniteLength` at the position after an octet 80; and by `Overlength` at the position after
+/// the length's octets, where fewer would do, or after the first alone, where it announces more
+/// than four. The reader has failed then. One that had failed before refuses by `Failed` at its
+/// position.
 #[inline(always)]
 pub fn decode_length<R: Reader>(reader: &mut R) -> Result<Length, Error>
     ensures same { Same (R.state reader.old) (R.state reader.new) }
@@ -25,8 +31,8 @@ pub fn decode_length<R: Reader>(reader: &mut R) -> Result<Length, Error>
         (R.state reader.old) (R.state reader.new)) }
     ensures accepts { R.reliable ≡ true → (R.state reader.old).rules ≡ Der
         → (R.state reader.old).failed ≡ false → (l : ALength) (m : ℕ)
-        → LengthAhead Der (rest (R.state reader.old)) l m → (result ≡ Ok l)
-        × (R.state reader.new ≡ advanced (R.state reader.old) m) }
+        → LengthAhead (R.state reader.old).rules (rest (R.state reader.old)) l m
+        → (result ≡ Ok l) × (R.state reader.new ≡ advanced (R.state reader.old) m) }
     ensures exact { R.reliable ≡ true
         → GrammarAnswers LengthAhead (λ rules at. LengthFault Overlength at rules)
         (R.state reader.old) result (R.state reader.new) }
@@ -100,7 +106,18 @@ impl<R: Reader> Decode<R> for Length {
     ghost answers = { GrammarAnswers LengthAhead (λ rules at. LengthFault Overlength at rules) };
 
     #[inline(always)]
-    fn decode(_alloc: Global, reader: &mut R) -> Result<Length, Error> {
+    fn decode(_alloc: Global, reader: &mut R) -> Result<Length, Error>
+        ensures same { Same (R.state reader.old) (R.state reader.new) }
+        ensures ok { IfOk result (λ l. Passed (λ rules octets m. LengthAhead rules octets l m)
+            (R.state reader.old) (R.state reader.new)) }
+        ensures accepts { R.reliable ≡ true → (R.state reader.old).rules ≡ Der
+            → (R.state reader.old).failed ≡ false → (l : ALength) (m : ℕ)
+            → LengthAhead (R.state reader.old).rules (rest (R.state reader.old)) l m
+            → (result ≡ Ok l) × (R.state reader.new ≡ advanced (R.state reader.old) m) }
+        ensures exact { R.reliable ≡ true
+            → GrammarAnswers LengthAhead (λ rules at. LengthFault Overlength at rules)
+            (R.state reader.old) result (R.state reader.new) }
+    {
         decode_length(reader)
     }
 }

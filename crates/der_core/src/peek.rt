@@ -1,21 +1,21 @@
 //! Tags and headers ahead of a reader, which stays.
-ghost use Rattle.std.specs.Prelude.{◌≡◌, ◌↔◌, true, IsTrue, IfOk, IfErr};
+ghost use Rattle.std.specs.Prelude.{◌≡◌, ◌↔◌, ℕ, Bool, true, false, IsTrue, Ok, IfOk};
 ghost use Rattle.der_base.specs.Tag.{label};
 ghost use Rattle.der_base.specs.Class.{class_number};
 ghost use Rattle.der_base.specs.Header.{TagAhead, HeaderFault};
 ghost use Rattle.der_base.specs.Identifier.{IdentifierFault};
+ghost use Rattle.der_base.specs.declared.tag.Tag.{Tag as ATag};
 ghost use Rattle.der_base.specs.declared.encoding_rules.EncodingRules.TheVariants.{Der};
-ghost use Rattle.der_core.specs.State.{Same};
+ghost use Rattle.der_core.specs.State.{rest, advanced, Same};
 ghost use Rattle.der_core.specs.Outcome.{Owed};
-ghost use Rattle.der_core.specs.Refused.{Refused};
-ghost use Rattle.der_core.specs.Decode.{Passed, Peeks, MatchAnswers, header_ahead, tag_ahead};
+ghost use Rattle.der_core.specs.Decode.{Passed, GrammarAnswers, Peeks, MatchAnswers, header_ahead, tag_ahead};
 
 use crate::header::Header;
 use crate::reader::{Reader, ReaderExt};
 use crate::tag::decode_with_constructed_bit;
 use der_base::{Class, Error, Tag, TagNumber};
 
-/// Calls on the type `Tag` that want a reader.
+/// Calls on the type `Tag` that want a reader; no other type has them.
 pub trait TagPeek: Sized {
     /// The tag ahead, as decoding it would answer; the reader stays.
     fn peek<R: Reader>(reader: &R) -> Result<Self, Error>;
@@ -29,6 +29,11 @@ pub trait TagPeek: Sized {
     ) -> Result<bool, Error>;
 
     /// Decodes a tag (X.690 8.1.2), and tells the constructed bit of its identifier.
+    ///
+    /// Refused by `TagUnknown` after a first octet that begins no tag, by `TagNumberInvalid` after
+    /// an octet that no tag number goes on with, and by `Incomplete` where one more octet is
+    /// wanted, each at the position after the octets that were read. The reader has failed then.
+    /// One that had failed before refuses by `Failed` at its position.
     fn decode_with_constructed_bit<R: Reader>(reader: &mut R) -> Result<(Self, bool), Error>;
 }
 
@@ -66,9 +71,13 @@ impl TagPeek for Tag {
         ensures same { Same (R.state reader.old) (R.state reader.new) }
         ensures ok { IfOk result (λ r. Passed (λ rules octets m. TagAhead rules octets r.0 r.1 m)
             (R.state reader.old) (R.state reader.new)) }
+        ensures accepts { R.reliable ≡ true → (R.state reader.old).rules ≡ Der
+            → (R.state reader.old).failed ≡ false → (t : ATag) (bit : Bool) (m : ℕ)
+            → TagAhead (R.state reader.old).rules (rest (R.state reader.old)) t bit m
+            → (result ≡ Ok (t, bit)) × (R.state reader.new ≡ advanced (R.state reader.old) m) }
         ensures exact { R.reliable ≡ true
-            → IfErr result (λ e. (R.state reader.old).rules ≡ Der
-            → Refused IdentifierFault (R.state reader.old) e (R.state reader.new)) }
+            → GrammarAnswers (λ rules octets r m. TagAhead rules octets r.0 r.1 m) IdentifierFault
+            (R.state reader.old) result (R.state reader.new) }
     {
         match decode_with_constructed_bit(reader) {
             Ok(identifier) => Ok(identifier),

@@ -146,8 +146,7 @@ pub trait Reader: Sized + Drop {
 
     /// Leaves a part, with the end and the depth around it.
     fn leave_nested(&mut self, resumption: Resumption)
-        requires { CanLeave (state self.old) (outer_end resumption) (outer_depth resumption)
-            (length (state self.old).input) }
+        requires { CanLeave (state self.old) (outer_end resumption) (outer_depth resumption) }
         ensures { state self.new ≡ resumed (state self.old) (outer_end resumption)
             (outer_depth resumption) };
 

@@ -1,14 +1,12 @@
 //! Tags, read.
-ghost use Rattle.std.specs.Prelude.{◌≡◌, ℕ, ◌+◌, ◌^◌, ◌<◌, ◌≤◌, ◌/◌, ◌%◌, ◌==◌, true, false, List, [], ◌∷◌, Ok, IfOk, IfErr};
+ghost use Rattle.std.specs.Prelude.{◌≡◌, ℕ, ◌^◌, ◌<◌, ◌≤◌, Bool, true, false, [], Ok, IfOk, IfErr};
 ghost use Rattle.der_base.specs.Digits.{digits, continued};
 ghost use Rattle.der_base.specs.Tag.{universal_tag, other_tag};
 ghost use Rattle.der_base.specs.Header.{TagAhead};
 ghost use Rattle.der_base.specs.Identifier.{IdentifierFault, identifier_kind};
-ghost use Rattle.der_base.specs.Refusal.{Refusal};
 ghost use Rattle.der_base.specs.declared.tag.Tag.{Tag as ATag};
 ghost use Rattle.der_base.specs.declared.encoding_rules.EncodingRules.TheVariants.{Der};
 ghost use Rattle.der_core.specs.State.{rest, advanced, Same, Reads};
-ghost use Rattle.der_core.specs.Refused.{Refused};
 ghost use Rattle.der_core.specs.Behind.{NumberRefused};
 ghost use Rattle.der_core.specs.Decode.{Passed, GrammarAnswers, header_levels, tag_ahead};
 
@@ -75,15 +73,19 @@ fn other(first: u8, number: u32) -> Tag
     }
 }
 
-/// Decodes a tag (X.690 8.1.2), and tells the constructed bit of its identifier.
+// Decodes a tag (X.690 8.1.2), and tells the constructed bit of its identifier.
 #[inline(always)]
 pub(crate) fn decode_with_constructed_bit<R: Reader>(reader: &mut R) -> Result<(Tag, bool), Error>
     ensures same { Same (R.state reader.old) (R.state reader.new) }
     ensures ok { IfOk result (λ r. Passed (λ rules octets m. TagAhead rules octets r.0 r.1 m)
         (R.state reader.old) (R.state reader.new)) }
+    ensures accepts { R.reliable ≡ true → (R.state reader.old).rules ≡ Der
+        → (R.state reader.old).failed ≡ false → (t : ATag) (bit : Bool) (m : ℕ)
+        → TagAhead (R.state reader.old).rules (rest (R.state reader.old)) t bit m
+        → (result ≡ Ok (t, bit)) × (R.state reader.new ≡ advanced (R.state reader.old) m) }
     ensures exact { R.reliable ≡ true
-        → IfErr result (λ e. (R.state reader.old).rules ≡ Der
-        → Refused IdentifierFault (R.state reader.old) e (R.state reader.new)) }
+        → GrammarAnswers (λ rules octets r m. TagAhead rules octets r.0 r.1 m) IdentifierFault
+        (R.state reader.old) result (R.state reader.new) }
 {
     let first = match reader.read_byte() {
         Ok(octet) => octet,
@@ -150,12 +152,16 @@ fn decode_long_number<R: Reader>(reader: &mut R) -> Result<u32, Error>
     }
 }
 
-/// Decodes a tag (X.690 8.1.2), as [`Tag::decode`] does, without an allocator.
+// Decodes a tag (X.690 8.1.2), as `Tag::decode` does, without an allocator.
 #[inline(always)]
 pub(crate) fn decode_tag<R: Reader>(reader: &mut R) -> Result<Tag, Error>
     ensures same { Same (R.state reader.old) (R.state reader.new) }
     ensures ok { IfOk result (λ t. Passed (λ rules octets m. tag_ahead rules octets t m)
         (R.state reader.old) (R.state reader.new)) }
+    ensures accepts { R.reliable ≡ true → (R.state reader.old).rules ≡ Der
+        → (R.state reader.old).failed ≡ false → (t : ATag) (m : ℕ)
+        → tag_ahead (R.state reader.old).rules (rest (R.state reader.old)) t m
+        → (result ≡ Ok t) × (R.state reader.new ≡ advanced (R.state reader.old) m) }
     ensures exact { R.reliable ≡ true
         → GrammarAnswers tag_ahead IdentifierFault (R.state reader.old) result
         (R.state reader.new) }
@@ -178,10 +184,18 @@ impl<R: Reader> Decode<R> for Tag {
     ghost answers = { GrammarAnswers tag_ahead IdentifierFault };
 
     #[inline(always)]
-    fn decode(_alloc: Global, reader: &mut R) -> Result<Tag, Error> {
-        match decode_tag(reader) {
-            Ok(tag) => Ok(tag),
-            Err(error) => Err(error),
-        }
+    fn decode(_alloc: Global, reader: &mut R) -> Result<Tag, Error>
+        ensures same { Same (R.state reader.old) (R.state reader.new) }
+        ensures ok { IfOk result (λ t. Passed (λ rules octets m. tag_ahead rules octets t m)
+            (R.state reader.old) (R.state reader.new)) }
+        ensures accepts { R.reliable ≡ true → (R.state reader.old).rules ≡ Der
+            → (R.state reader.old).failed ≡ false → (t : ATag) (m : ℕ)
+            → tag_ahead (R.state reader.old).rules (rest (R.state reader.old)) t m
+            → (result ≡ Ok t) × (R.state reader.new ≡ advanced (R.state reader.old) m) }
+        ensures exact { R.reliable ≡ true
+            → GrammarAnswers tag_ahead IdentifierFault (R.state reader.old) result
+            (R.state reader.new) }
+    {
+        decode_tag(reader)
     }
 }

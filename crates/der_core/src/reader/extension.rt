@@ -1,16 +1,17 @@
 //! The calls that every reader has.
-ghost use Rattle.std.specs.Prelude.{◌≡◌, ◌↔◌, ℕ, ◌-◌, true, false, IsTrue, length, Ok, Err, IfOk, OnErr};
+ghost use Rattle.std.specs.Prelude.{◌≡◌, ◌↔◌, ℕ, ◌+◌, ◌-◌, ◌≤◌, true, false, IsTrue, length, IfOk, OnErr};
 ghost use Rattle.der_base.specs.Header.{HeaderFault};
 ghost use Rattle.der_base.specs.Identifier.{IdentifierFault};
 ghost use Rattle.der_base.specs.Length.{number, plain};
-ghost use Rattle.der_core.specs.State.{State, Same, resumed};
+ghost use Rattle.der_core.specs.State.{State, rest, Same, resumed};
 ghost use Rattle.der_core.specs.Outcome.{Meets, AnswersAs, PeeksAs, Owed, seen};
 ghost use Rattle.der_core.specs.Reader.{read_byte_outcome, read_into_outcome};
 ghost use Rattle.der_core.specs.Resumption.{outer_end, outer_depth};
-ghost use Rattle.der_core.specs.Decode.{Passed, Peeks, TlvAnswers, ReaderDecodes, header_ahead, tag_ahead};
+ghost use Rattle.der_core.specs.Decode.{Passed, Peeks, TlvAnswers, ReaderDecodes, ReadsOrLacks, header_ahead, tag_ahead};
 ghost use Rattle.der_core.specs.Header.{head_of};
 ghost use Rattle.der_core.specs.declared.header.Header.{Header as AHeader};
 ghost use Rattle.der_base.specs.Arithmetic.{without_end};
+ghost use Rattle.der_base.specs.declared.tag.Tag.TheVariants.{Sequence};
 ghost use Rattle.der_core.specs.Nested.{CanLeave, Closes, HandsBack, NestedAnswers, SequenceAnswers};
 
 use crate::decode::Decode;
@@ -65,8 +66,7 @@ pub trait ReaderExt: Reader {
         outer: Resumption,
         answer: Result<T, E>,
     ) -> Result<T, E>
-        requires { CanLeave (Self.state self.old) (outer_end outer) (outer_depth outer)
-            (length (Self.state self.old).input) }
+        requires { CanLeave (Self.state self.old) (outer_end outer) (outer_depth outer) }
         ensures same { Same (resumed (Self.state self.old) (outer_end outer) (outer_depth outer))
             (Self.state self.new) }
         ensures exact { Closes E.from_gives answer (Self.state self.old) (outer_end outer)
@@ -164,7 +164,9 @@ pub trait ReaderExt: Reader {
 
     /// Lends the octets of the whole element ahead, header and contents. A header that is refused
     /// leaves the reader as it is, and so does a length that passes 4294967295 together with the
-    /// header's octets: `Overflow` without a position.
+    /// header's octets: `Overflow` without a position. Contents that are not all there are
+    /// `Incomplete` at the position, before the header, and the reader has failed; see
+    /// [`Reader::read_slice`].
     final fn tlv_bytes(&mut self) -> Result<Self::Lent, Error>
         ensures same { Same (Self.state self.old) (Self.state self.new) }
         ensures exact { Owed Self.reliable result
@@ -193,9 +195,14 @@ pub trait ReaderExt: Reader {
         ensures ok { IfOk result (λ v. (Self.state self.new).failed ≡ false
             → Passed (λ rules octets m. T.heads rules octets v m) (Self.state self.old)
             (Self.state self.new)) }
-        ensures exact { Self.reliable ≡ true
-            → ReaderDecodes T.answers T.Error.from_gives (Self.state self.old) result
+        ensures complete { (v : T) (m : ℕ) → Self.reliable ≡ true
+            → (Self.state self.old).failed ≡ false
+            → T.heads (Self.state self.old).rules (rest (Self.state self.old)) v m
+            → (Self.state self.old).depth + T.needs (Self.state self.old).rules ≤ 64
+            → ReadsOrLacks T.Error.out_of_memory T.takes_memory (Self.state self.old) m result
             (Self.state self.new) }
+        ensures exact { ReaderDecodes Self.reliable T.answers T.Error.from_gives
+            (Self.state self.old) result (Self.state self.new) }
     {
         if self.is_failed() {
             return Err(self.error(ErrorKind::Failed).into());
@@ -209,14 +216,17 @@ pub trait ReaderExt: Reader {
         }
     }
 
-    /// Reads a SEQUENCE by `f`, which gets this reader inside its contents. A header with another
-    /// tag is refused by `TagUnexpected` without a position, the reader behind the header.
+    /// Reads a SEQUENCE by `f`, which gets this reader inside its contents. A header is refused as
+    /// by [`decode_header`], and one with another tag by `TagUnexpected` without a position, the
+    /// reader behind the header. What `f` leaves of the contents is a refusal, as in
+    /// [`ReaderExt::read_nested`].
     final fn sequence<T: Drop, E: From<Error> + Drop, F: FnOnce(&mut Self) -> Result<T, E>>(
         &mut self,
         f: F,
     ) -> Result<T, E>
         requires { (h : AHeader) (s : State)
             → Passed (λ rules octets m. header_ahead rules octets h m) (Self.state self.old) s
+            → (head_of h).tag ≡ Sequence
             → HandsBack (F.pre f) (F.post f) (λ p. Self.state p.now) (λ q. Self.state q.now) s
             (number (without_end (head_of h).length)) }
         ensures same { Same (Self.state self.old) (Self.state self.new) }

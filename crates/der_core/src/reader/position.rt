@@ -1,5 +1,5 @@
 //! Positions in an input, and parts of it.
-ghost use Rattle.std.specs.Prelude.{◌≡◌, ◌≤◌};
+ghost use Rattle.std.specs.Prelude.{◌≡◌};
 
 use der_base::{Error, ErrorKind, Length};
 

@@ -1,5 +1,5 @@
 //! Readers of a slice.
-ghost use Rattle.std.specs.Prelude.{◌≡◌, ℕ, ◌+◌, ◌-◌, ◌^◌, ◌<◌, ◌≤◌, ◌↔◌, Bool, true, false, length, IfOk, IfErr, IsOk};
+ghost use Rattle.std.specs.Prelude.{◌≡◌, ◌+◌, ◌^◌, ◌<◌, ◌≤◌, ◌↔◌, true, length, IfOk, IfErr, IsOk};
 
 #[cfg(test)]
 mod tests;
@@ -41,12 +41,12 @@ impl Drop for SliceReader<'_> {
 }
 
 impl<'a> SliceReader<'a> {
-    ghost use Rattle.der_base.specs.Error.{bare};
+    ghost use Rattle.der_base.specs.Error.{at, bare};
     ghost use Rattle.der_base.specs.Refusal.{wants, owed};
-    ghost use Rattle.der_base.specs.declared.error.ErrorKind.TheVariants.{Overflow};
+    ghost use Rattle.der_base.specs.declared.error.ErrorKind.TheVariants.{Failed, Overflow};
     ghost use Rattle.der_base.specs.declared.encoding_rules.EncodingRules.TheVariants.{Der};
     ghost use Rattle.der_base.specs.Length.{number};
-    ghost use Rattle.der_core.specs.State.{beginning, left, Same};
+    ghost use Rattle.der_core.specs.State.{beginning, here, left, Same};
     ghost use Rattle.der_core.specs.Outcome.{seen};
     ghost use Rattle.der_core.specs.Reader.{VecGives};
     ghost use Rattle.der_core.specs.SliceReader.{slice_state};
@@ -58,13 +58,11 @@ impl<'a> SliceReader<'a> {
         ensures fits { IsOk result ↔ (length bytes.now < 2 ^ 32) }
         ensures refused { IfErr result (λ e. e ≡ bare Overflow) }
     {
-        if bytes.len() > u32::MAX as usize {
-            return Err(ErrorKind::Overflow.to_error());
-        }
+        let len = Length::new_usize(bytes.len())?;
         Ok(SliceReader {
             bytes,
             encoding_rules: EncodingRules::Der,
-            end: bytes.len() as u32,
+            end: u32::from(len),
             position: 0,
             depth: 0,
             failed: false,
@@ -86,6 +84,14 @@ impl<'a> SliceReader<'a> {
                 Err(ErrorKind::OutOfMemory.to_error())
             }
         }
+    }
+
+    // the error of a reader that has failed
+    #[cold]
+    fn has_failed(&self) -> Error
+        ensures { result ≡ at Failed (here (slice_state self.now)) }
+    {
+        ErrorKind::Failed.at(Length::new(self.position))
     }
 
     // so many octets are not there
@@ -110,6 +116,10 @@ impl<'a> SliceReader<'a> {
 
 impl<'a> Reader for SliceReader<'a> {
     ghost use Rattle.std.proofs.Common.{rules};
+    ghost use Rattle.der_base.specs.Length.{number};
+    ghost use Rattle.der_core.specs.State.{Same};
+    ghost use Rattle.der_core.specs.Outcome.{seen};
+    ghost use Rattle.der_core.specs.Reader.{VecGives, VecMeets};
     ghost use Rattle.der_core.specs.SliceReader.{slice_state};
 
     type Lent = &'a [u8];
@@ -147,7 +157,7 @@ impl<'a> Reader for SliceReader<'a> {
     #[inline]
     fn read_slice(&mut self, len: Length) -> Result<&'a [u8], Error> {
         if self.failed {
-            return Err(ErrorKind::Failed.at(Length::new(self.position)));
+            return Err(self.has_failed());
         }
         let count = u32::from(len);
         if count > self.end - self.position {
@@ -176,7 +186,7 @@ impl<'a> Reader for SliceReader<'a> {
 
     fn remaining(&self) -> Result<&'a [u8], Error> {
         if self.failed {
-            return Err(ErrorKind::Failed.at(Length::new(self.position)));
+            return Err(self.has_failed());
         }
         Ok(&self.bytes[self.position as usize..self.end as usize])
     }
@@ -192,7 +202,14 @@ impl<'a> Reader for SliceReader<'a> {
         }
     }
 
-    fn read_vec(&mut self, alloc: Global, len: Length) -> Result<Vec<u8>, Error> {
+    /// Memory is asked for only once the octets are known to be there.
+    fn read_vec(&mut self, alloc: Global, len: Length) -> Result<Vec<u8>, Error>
+        ensures same { Same (slice_state self.old) (slice_state self.new) }
+        ensures exact { VecMeets true (number len) (slice_state self.old)
+            (seen (λ v. v.items) result) (slice_state self.new) }
+        ensures gives { VecGives (number len) (slice_state self.old) (seen (λ v. v.items) result)
+            (slice_state self.new) }
+    {
         self.read_vec_in(alloc, len)
     }
 
@@ -201,7 +218,7 @@ impl<'a> Reader for SliceReader<'a> {
             return Ok(());
         }
         if self.failed {
-            return Err(ErrorKind::Failed.at(Length::new(self.position)));
+            return Err(self.has_failed());
         }
         let count = u32::from(amount);
         let left = self.end - self.position;
@@ -215,11 +232,11 @@ impl<'a> Reader for SliceReader<'a> {
     }
 
     fn finish(self) -> Result<(), Error> {
-        let position = Length::new(self.position);
         if self.failed {
-            return Err(ErrorKind::Failed.at(position));
+            return Err(self.has_failed());
         }
         if self.position < self.end {
+            let position = Length::new(self.position);
             return Err(ErrorKind::TrailingData {
                 decoded: position,
                 remaining: Length::new(self.end - self.position),

@@ -1,10 +1,10 @@
 //! The contents of an element, read by a closure.
-ghost use Rattle.std.specs.Prelude.{◌≡◌, length as list_length};
+ghost use Rattle.std.specs.Prelude.{◌≡◌};
 ghost use Rattle.der_base.specs.Arithmetic.{without_end};
 ghost use Rattle.der_base.specs.Length.{number, flagged};
 ghost use Rattle.der_core.specs.State.{Same, resumed};
 ghost use Rattle.der_core.specs.Outcome.{Meets, Owed};
-ghost use Rattle.der_core.specs.Reader.{read_eoc_outcome, read_end_mark_outcome};
+ghost use Rattle.der_core.specs.Reader.{read_eoc_outcome, read_zero_octet_outcome};
 ghost use Rattle.der_core.specs.Resumption.{outer_end, outer_depth};
 ghost use Rattle.der_core.specs.Header.{head_of, contents_header};
 ghost use Rattle.der_core.specs.Nested.{CanLeave, ClosesValue, HandsBack, ValueAnswers};
@@ -13,22 +13,23 @@ use crate::header::Header;
 use crate::reader::{Reader, ReaderExt, Resumption};
 use der_base::{Error, ErrorKind, Length};
 
-/// Reads the two end marks that close an indefinite length (X.690 8.1.5). The first octet that is
-/// not zero is refused by `IndefiniteLength` at the position after it, and the reader has failed.
+/// Reads the end mark of an indefinite length, two zero octets (X.690 8.1.5). The first octet that
+/// is not zero is refused by `IndefiniteLength` at the position after it, one that is not there by
+/// `Incomplete` at the position; the reader has failed then. A failed reader refuses by `Failed`.
 pub fn read_eoc<R: Reader>(reader: &mut R) -> Result<(), Error>
     ensures same { Same (R.state reader.old) (R.state reader.new) }
     ensures exact { Meets R.reliable read_eoc_outcome (R.state reader.old) result
         (R.state reader.new) }
 {
-    match read_end_mark(reader) {
-        Ok(()) => read_end_mark(reader),
+    match read_zero_octet(reader) {
+        Ok(()) => read_zero_octet(reader),
         Err(error) => Err(error),
     }
 }
 
-fn read_end_mark<R: Reader>(reader: &mut R) -> Result<(), Error>
+fn read_zero_octet<R: Reader>(reader: &mut R) -> Result<(), Error>
     ensures same { Same (R.state reader.old) (R.state reader.new) }
-    ensures exact { Meets R.reliable read_end_mark_outcome (R.state reader.old) result
+    ensures exact { Meets R.reliable read_zero_octet_outcome (R.state reader.old) result
         (R.state reader.new) }
 {
     let octet = match reader.read_byte() {
@@ -42,15 +43,14 @@ fn read_end_mark<R: Reader>(reader: &mut R) -> Result<(), Error>
 }
 
 /// Leaves the contents of an element with what was made of them, as [`ReaderExt::close_nested`]
-/// does, and reads the end marks behind them where the length was read in the indefinite form.
+/// does, and reads the end mark behind them where the length was read in the indefinite form.
 pub fn close_value<R: Reader, T: Drop, E: From<Error> + Drop>(
     reader: &mut R,
     length: Length,
     outer: Resumption,
     answer: Result<T, E>,
 ) -> Result<T, E>
-    requires { CanLeave (R.state reader.old) (outer_end outer) (outer_depth outer)
-        (list_length (R.state reader.old).input) }
+    requires { CanLeave (R.state reader.old) (outer_end outer) (outer_depth outer) }
     ensures same { Same (resumed (R.state reader.old) (outer_end outer) (outer_depth outer))
         (R.state reader.new) }
     ensures exact { Owed R.reliable result
@@ -71,8 +71,9 @@ pub fn close_value<R: Reader, T: Drop, E: From<Error> + Drop>(
 }
 
 /// Reads the contents behind a header by `f`, which gets the reader inside them and the header with
-/// the length of the contents alone; where that was read in the indefinite form, the end marks are
-/// read behind them.
+/// the length of the contents alone; where that was read in the indefinite form, the end mark is
+/// read behind them. What `f` leaves of the contents is a refusal, as in
+/// [`ReaderExt::read_nested`]; the end mark is refused as by [`read_eoc`].
 pub fn read_value<
     R: Reader,
     T: Drop,

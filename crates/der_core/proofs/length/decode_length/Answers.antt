@@ -4,11 +4,11 @@ use Rattle.der_core.proofs.LengthReadLemmas.{passed_short, passed_long, length_e
 use Rattle.der_core.proofs.length.decode_length.Goals as goal
 
 pub returns-in-Err-clause-exact : goal.returns-in-Err-clause-exact
-returns-in-Err-clause-exact g c reliable der = length_ends der (byte_refused (g.met.R.Reader.lawful c.args.reader.now) (c.in-Err.ensures.exact reliable))
+returns-in-Err-clause-exact g c reliable der = length_ends (byte_refused (g.met.R.Reader.lawful c.args.reader.now) (c.in-Err.ensures.exact reliable))
 
 pub returns-in-Err-clause-accepts : goal.returns-in-Err-clause-accepts
 returns-in-Err-clause-accepts g c reliable der working l m ahead =
-    absurd (length_not_refused (length_ends der (byte_refused (g.met.R.Reader.lawful c.args.reader.now) (c.in-Err.ensures.exact reliable))) working der ahead)
+    absurd (length_not_refused (length_ends (byte_refused (g.met.R.Reader.lawful c.args.reader.now) (c.in-Err.ensures.exact reliable))) working ahead)
 
 pub returns-then-first-lt-INDEFINITE-clause-ok : goal.returns-then-first-lt-INDEFINITE-clause-ok
 returns-then-first-lt-INDEFINITE-clause-ok g c =
@@ -17,7 +17,7 @@ returns-then-first-lt-INDEFINITE-clause-ok g c =
 pub returns-then-first-lt-INDEFINITE-clause-accepts : goal.returns-then-first-lt-INDEFINITE-clause-accepts
 returns-then-first-lt-INDEFINITE-clause-accepts g c reliable der working l m ahead =
     let read = passed_short (byte_working _ _ _ c.in-Ok.ensures.exact) (byte_read c.in-Ok.ensures.exact) c.if-first-lt-INDEFINITE.true c.new.ensures in
-    let one = length_accepted read der ahead in
+    let one = length_accepted read ahead in
     (ap Ok one.0, one.1)
 
 pub returns-then-first-lt-INDEFINITE-clause-exact : goal.returns-then-first-lt-INDEFINITE-clause-exact
@@ -31,7 +31,7 @@ returns-in-Ok-decode_long_length-clause-ok g c =
 pub returns-in-Ok-decode_long_length-clause-accepts : goal.returns-in-Ok-decode_long_length-clause-accepts
 returns-in-Ok-decode_long_length-clause-accepts g c reliable der working l m ahead =
     let read = passed_long (byte_working _ _ _ c.in-Ok.ensures.exact) (byte_read c.in-Ok.ensures.exact) c.in-Ok-decode_long_length.ensures.ok c.new-in-Ok-decode_long_length.ensures in
-    let one = length_accepted read der ahead in
+    let one = length_accepted read ahead in
     (ap Ok one.0, one.1)
 
 pub returns-in-Ok-decode_long_length-clause-exact : goal.returns-in-Ok-decode_long_length-clause-exact
@@ -45,4 +45,4 @@ returns-in-Err-decode_long_length-clause-exact g c reliable der =
 pub returns-in-Err-decode_long_length-clause-accepts : goal.returns-in-Err-decode_long_length-clause-accepts
 returns-in-Err-decode_long_length-clause-accepts g c reliable der working l m ahead =
     let refused = length_refused der (byte_working _ _ _ c.in-Ok.ensures.exact) (byte_read c.in-Ok.ensures.exact) (c.in-Err-decode_long_length.ensures.exact reliable) in
-    absurd (length_not_refused refused working der ahead)
+    absurd (length_not_refused refused working ahead)

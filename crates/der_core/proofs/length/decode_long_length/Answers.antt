@@ -12,7 +12,7 @@ returns-then-first-gt132-clause-exact g c reliable =
     refused_far (omega arith) c.error-then-first-gt132.ensures.at_position c.error-then-first-gt132.ensures.failed
 
 pub returns-in-Err-clause-exact : goal.returns-in-Err-clause-exact
-returns-in-Err-clause-exact g c reliable at here working =
+returns-in-Err-clause-exact g c reliable at der here working =
     let so_far = c.loop-i.invariant in
     let refused = byte_refused (g.met.R.Reader.lawful c.loop-i.reader) (c.in-Err.ensures.exact reliable) in
     refused_cut so_far (omega arith) (omega arith) (omega arith) (cut_refused (failed_on so_far.reads ∙ working) refused) at here
