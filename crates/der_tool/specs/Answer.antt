@@ -17,18 +17,23 @@ use Rattle.der_tool.specs.declared.command.Command.TheVariants.{Head as HeadOf, 
 use Rattle.der_tool.specs.declared.answer.Answer.{Answer}
 use Rattle.der_tool.specs.declared.answer.Answer.TheVariants as answer
 
--- the octets begin with this header, and these are left behind it
+-- as many octets as a length can count begin with this header, and these are left behind it
 pub record IsHeaderRead (octets : List ℕ) (h : Head) (rest : List ℕ) : Type 0 where
+  pub countable : length octets < 2 ^ 32
   pub count : ℕ
   pub ahead : HeaderAhead Der octets h count
   pub behind : rest ≡ drop count octets
 
--- the octets are more than can be counted, or begin with no header; the error tells which
+-- the octets are more than a length can count, or begin with no header; the error tells which
 abbrev pub IsRefusedFor : List ℕ → Error → Type 0
-IsRefusedFor octets e = ((2 ^ 32 ≤ length octets) × (e ≡ bare Overflow)) ⊎ ((r : Refusal) × HeaderFault Der 0 octets r × (e ≡ owed r))
+IsRefusedFor octets e =
+    ((2 ^ 32 ≤ length octets) × (e ≡ bare Overflow))
+    ⊎ ((r : Refusal) × (length octets < 2 ^ 32) × HeaderFault Der 0 octets r × (e ≡ owed r))
 
--- the octets begin with this element: a header, and as many octets more as its length says
+-- as many octets as a length can count begin with this element: a header, and as many octets more
+-- as its length says
 pub record IsElement (octets element : List ℕ) : Type 0 where
+  pub countable : length octets < 2 ^ 32
   pub head : Head
   pub count : ℕ
   pub ahead : HeaderAhead Der octets head count
@@ -38,10 +43,11 @@ pub record IsElement (octets element : List ℕ) : Type 0 where
 -- the octets begin with no whole element; the error tells why
 pub data NoElement (octets : List ℕ) : Error → Type 0 where
   no_header : {e : Error} → IsRefusedFor octets e → NoElement octets e
-  past_every_length : (h : Head) (count : ℕ) → HeaderAhead Der octets h count → 2 ^ 32 ≤ count + number h.length
+  past_every_length : (h : Head) (count : ℕ) → length octets < 2 ^ 32
+      → HeaderAhead Der octets h count → 2 ^ 32 ≤ count + number h.length
       → NoElement octets (bare Overflow)
-  contents_missing : (h : Head) (count : ℕ) → HeaderAhead Der octets h count → count + number h.length < 2 ^ 32
-      → length octets < count + number h.length
+  contents_missing : (h : Head) (count : ℕ) → HeaderAhead Der octets h count
+      → count + number h.length < 2 ^ 32 → length octets < count + number h.length
       → NoElement octets (owed (wants (count + number h.length) (length octets) 0))
 
 -- the lines tell the header that the octets begin with
