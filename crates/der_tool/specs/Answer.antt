@@ -10,7 +10,7 @@ use Rattle.der_base.specs.Text.{error_text}
 use Rattle.der_base.specs.declared.error.Error.{Error}
 use Rattle.der_base.specs.declared.error.ErrorKind.TheVariants.{Overflow}
 use Rattle.der_base.specs.declared.encoding_rules.EncodingRules.TheVariants.{Der}
-use Rattle.der_tool.specs.Command.{IsCommand, head_words, tlv_words}
+use Rattle.der_tool.specs.Command.{IsCommand, hex_of, words_of}
 use Rattle.der_tool.specs.Text.{usage_line, error_line, header_lines, element_line}
 use Rattle.der_tool.specs.declared.command.Command.{Command}
 use Rattle.der_tool.specs.declared.command.Command.TheVariants.{Head as HeadOf, Tlv as TlvOf}
@@ -85,18 +85,22 @@ pub data AnswersTlv (octets : List ℕ) : ℕ → List ℕ → Type 0 where
   told : {text : List ℕ} → TellsElement octets text → AnswersTlv octets 0 text
   refused : {text : List ℕ} → Refuses (NoElement octets) text → AnswersTlv octets 1 text
 
+-- what a command says to octets: a status and a text
+abbrev pub AnswersTo : Command → List ℕ → ℕ → List ℕ → Type 0
+AnswersTo (HeadOf hex) = AnswersHead
+AnswersTo (TlvOf hex) = AnswersTlv
+
 -- what a command is answered, memory aside
-abbrev pub Fulfils : Command → ℕ → List ℕ → Type 0
-Fulfils (HeadOf hex) status text = (octets : List ℕ) × (decode_of hex.now ≡ Ok octets) × AnswersHead octets status text
-Fulfils (TlvOf hex) status text = (octets : List ℕ) × (decode_of hex.now ≡ Ok octets) × AnswersTlv octets status text
+pub record Fulfils (command : Command) (status : ℕ) (text : List ℕ) : Type 0 where
+  pub octets : List ℕ
+  pub spelled : decode_of (hex_of command) ≡ Ok octets
+  pub answered : AnswersTo command octets status text
 
 -- what the program may say to its words
 pub data Answers (words : List (List ℕ)) : ℕ → List ℕ → Type 0 where
   misused : (IsCommand words → ⊥) → Answers words 2 usage_line
-  head : {hex octets text : List ℕ} {status : ℕ} → words ≡ head_words hex → decode_of hex ≡ Ok octets
-      → AnswersHead octets status text → Answers words status text
-  tlv : {hex octets text : List ℕ} {status : ℕ} → words ≡ tlv_words hex → decode_of hex ≡ Ok octets
-      → AnswersTlv octets status text → Answers words status text
+  fulfilled : {status : ℕ} {text : List ℕ} (command : Command) → words ≡ words_of command
+      → Fulfils command status text → Answers words status text
   no_memory : IsCommand words → Answers words 1 (error_line (codes "out of memory"))
 
 -- the output took an answer to the words whole, and nothing else
