@@ -7,7 +7,7 @@ use Rattle.der_core.specs.SliceWriter.{slice_writer_state}
 use Rattle.der_base.specs.declared.error.Error.{Error}
 use Rattle.der_base.specs.declared.tag.Tag.TheVariants.{Sequence}
 use Rattle.der_core.specs.Encode.{header_outcome}
-use Rattle.der_core.specs.Sequence.{Run, part, headed, Abandoned, FilledBy, Ran, PartAnswer, no_room, ran, SequenceAnswer, with_header}
+use Rattle.der_core.specs.WrittenSequence.{Run, part, headed, Abandoned, FilledBy, Ran, PartAnswer, no_room, ran, WritesSequence, with_header}
 use Rattle.der_core.specs.declared.writer.slice.SliceWriter.{SliceWriter}
 
 -- where there is room nothing is changed, and there was room
@@ -80,7 +80,7 @@ fill s n count w v same f alive kept working full =
     (omega (arith, stands_at v, whole, here, f), cc)
 
 -- a part behind the header
-pub behind_header : (run : Run) (s t u : WriterState) (n : ℕ) (r : Result (Unit {0}) Error) → u ≡ headed s n → Writes (header_outcome Sequence n s) (Ok tt) u → PartAnswer run u n r t → SequenceAnswer run s n r t
+pub behind_header : (run : Run) (s t u : WriterState) (n : ℕ) (r : Result (Unit {0}) Error) → u ≡ headed s n → Writes (header_outcome Sequence n s) (Ok tt) u → PartAnswer run u n r t → WritesSequence run s n r t
 behind_header run s t u n r same wrote answer =
     with_header (subst (λ v. Writes (header_outcome Sequence n s) (Ok tt) v) same wrote) (subst (λ v. PartAnswer run v n r t) same answer)
 

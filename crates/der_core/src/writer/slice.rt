@@ -28,9 +28,9 @@ impl<'a> SliceWriter<'a> {
     ghost use Rattle.der_base.specs.Length.{number};
     ghost use Rattle.der_core.specs.Outcome.{seen};
     ghost use Rattle.der_core.specs.Writer.{Kept, Appends, Writes, fresh, here, fallen, with_room};
-    ghost use Rattle.der_core.specs.Encode.{TakesCounted, RefusesFailed, PlacesErrors, finish_answer};
+    ghost use Rattle.der_core.specs.Encode.{TakesCounted, RefusesFailed, PlacesErrors, finished_answer};
     ghost use Rattle.der_core.specs.SliceWriter.{slice_writer_state};
-    ghost use Rattle.der_core.specs.Sequence.{MayFill, HandsBack, Fills, RunsInRoom, PartAnswer, SequenceAnswer, headed};
+    ghost use Rattle.der_core.specs.WrittenSequence.{HandsBackPart, Fills, RunsInRoom, PartAnswer, WritesSequence, headed};
 
     /// A writer into these octets, at their beginning.
     pub fn new(bytes: &'a mut [u8]) -> Self
@@ -64,7 +64,7 @@ impl<'a> SliceWriter<'a> {
 
     /// The octets written, or `Failed` at the position of a writer that has failed.
     pub fn finish(self) -> Result<&'a [u8], Error>
-        ensures { seen (λ r. r.now) result ≡ finish_answer (slice_writer_state self.entry) }
+        ensures { seen (λ r. r.now) result ≡ finished_answer (slice_writer_state self.entry) }
     {
         if self.failed {
             return Err(ErrorKind::Failed.at(Length::new(self.position)));
@@ -116,18 +116,16 @@ impl<'a> SliceWriter<'a> {
         len: Length,
         f: F,
     ) -> Result<(), Error>
-        requires callable { MayFill (λ p. F.pre f p)
-            (headed (slice_writer_state self.old) (number len)) (number len) }
-        requires same { HandsBack (λ p r q. F.post f p r q)
+        requires { HandsBackPart (F.pre f) (F.post f)
             (headed (slice_writer_state self.old) (number len)) (number len) }
         ensures kept { Kept (slice_writer_state self.old) (slice_writer_state self.new) }
-        ensures ok { Fills (λ p r q. F.post f p r q)
+        ensures ok { Fills (F.post f)
             (headed (slice_writer_state self.old) (number len)) (number len) result
             (slice_writer_state self.new) }
-        ensures runs { RunsInRoom (λ p r q. F.post f p r q)
+        ensures runs { RunsInRoom (F.post f)
             (headed (slice_writer_state self.old) (number len)) (number len) result
             (slice_writer_state self.new) }
-        ensures exact { SequenceAnswer (λ p r q. F.post f p r q) (slice_writer_state self.old)
+        ensures exact { WritesSequence (F.post f) (slice_writer_state self.old)
             (number len) result (slice_writer_state self.new) }
     {
         match Header::new(Tag::Sequence, len).encode(self) {
@@ -145,15 +143,14 @@ impl<'a> SliceWriter<'a> {
         len: Length,
         f: F,
     ) -> Result<(), Error>
-        requires callable { MayFill (λ p. F.pre f p) (slice_writer_state self.old) (number len) }
-        requires same { HandsBack (λ p r q. F.post f p r q)
-            (slice_writer_state self.old) (number len) }
+        requires { HandsBackPart (F.pre f) (F.post f) (slice_writer_state self.old)
+            (number len) }
         ensures kept { Kept (slice_writer_state self.old) (slice_writer_state self.new) }
-        ensures ok { Fills (λ p r q. F.post f p r q) (slice_writer_state self.old) (number len)
+        ensures ok { Fills (F.post f) (slice_writer_state self.old) (number len)
             result (slice_writer_state self.new) }
-        ensures runs { RunsInRoom (λ p r q. F.post f p r q)
+        ensures runs { RunsInRoom (F.post f)
             (slice_writer_state self.old) (number len) result (slice_writer_state self.new) }
-        ensures exact { PartAnswer (λ p r q. F.post f p r q) (slice_writer_state self.old)
+        ensures exact { PartAnswer (F.post f) (slice_writer_state self.old)
             (number len) result (slice_writer_state self.new) }
     {
         let count = u32::from(len);

@@ -6,7 +6,7 @@ use Rattle.der_base.specs.declared.tag.Tag.TheVariants.{Sequence}
 use Rattle.der_core.specs.declared.writer.slice.SliceWriter.{SliceWriter}
 use Rattle.der_core.specs.Writer.{WriterState, Kept, Writes, with_room, written, here}
 use Rattle.der_core.specs.SliceWriter.{slice_writer_state}
-use Rattle.der_core.specs.Sequence.{Closed, no_room, ran, refused, failed, unfilled, filled}
+use Rattle.der_core.specs.WrittenSequence.{Closed, no_room, ran, refused, failed, unfilled, filled}
 use Rattle.der_core.proofs.WriterLemmas.{granted, stands_at, over_part, behind_part, abandon, fill, room_there, runs}
 use Rattle.der_core.proofs.writer.slice.SliceWriter.fill_part.Goals as goal
 

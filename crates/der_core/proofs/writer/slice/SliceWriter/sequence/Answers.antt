@@ -5,7 +5,7 @@ use Rattle.der_base.specs.declared.tag.Tag.TheVariants.{Sequence}
 use Rattle.der_core.specs.Writer.{WriterState, Writes, appended}
 use Rattle.der_core.specs.Encode.{header_outcome}
 use Rattle.der_core.specs.SliceWriter.{slice_writer_state}
-use Rattle.der_core.specs.Sequence.{headed, no_header}
+use Rattle.der_core.specs.WrittenSequence.{headed, no_header}
 use Rattle.der_core.proofs.WriterLemmas.{behind_header, filled_behind_header, ran_behind_header, stands_at}
 use Rattle.der_core.proofs.EncodeLemmas.{room_then}
 use Rattle.der_core.proofs.writer.slice.SliceWriter.sequence.Goals as goal

@@ -27,15 +27,13 @@ part s n = record s { start = length s.octets; stop = length s.octets + n; faile
 abbrev pub headed : WriterState → ℕ → WriterState
 headed s n = appended s (header_octets Sequence n)
 
--- the closure may be called with a writer over the part
-abbrev pub MayFill : Condition → WriterState → ℕ → Type 0
-MayFill pre s n = (p : MutBor SliceWriter) → slice_writer_state p.now ≡ part s n → pre p
-
--- and it hands the same writer back
-abbrev pub HandsBack : Run → WriterState → ℕ → Type 0
-HandsBack post s n =
-    (p : MutBor SliceWriter) (r : Result (Unit {0}) Error) (q : MutBor SliceWriter) → slice_writer_state p.now ≡ part s n → post p r q
-    → Kept (slice_writer_state p.now) (slice_writer_state q.now)
+-- the condition on a closure that writes a part of n octets: it may be called with a writer over the
+-- part, and hands back the same writer
+pub record HandsBackPart (pre : Condition) (run : Run) (s : WriterState) (n : ℕ) : Type 0 where
+  pub callable : (p : MutBor SliceWriter) → slice_writer_state p.now ≡ part s n → pre p
+  pub same : (p : MutBor SliceWriter) (r : Result (Unit {0}) Error) (q : MutBor SliceWriter)
+      → slice_writer_state p.now ≡ part s n → run p r q
+      → Kept (slice_writer_state p.now) (slice_writer_state q.now)
 
 -- failed behind a part of n octets, of which those that were written stand
 pub record Abandoned (s : WriterState) (n : ℕ) (q t : WriterState) : Type 0 where
@@ -88,7 +86,7 @@ pub data PartAnswer (run : Run) (s : WriterState) (n : ℕ) (result : Result (Un
   ran : (with_room n s s).answer ≡ Ok tt → Ran run s n result t → PartAnswer run s n result t
 
 -- the rows of `sequence`: no room for the header; else the part behind it
-pub data SequenceAnswer (run : Run) (s : WriterState) (n : ℕ) (result : Result (Unit {0}) Error) (t : WriterState) : Type 0 where
+pub data WritesSequence (run : Run) (s : WriterState) (n : ℕ) (result : Result (Unit {0}) Error) (t : WriterState) : Type 0 where
   no_header : (e : Error) → (header_outcome Sequence n s).answer ≡ Err e → Writes (header_outcome Sequence n s) result t
-      → SequenceAnswer run s n result t
-  with_header : Writes (header_outcome Sequence n s) (Ok tt) (headed s n) → PartAnswer run (headed s n) n result t → SequenceAnswer run s n result t
+      → WritesSequence run s n result t
+  with_header : Writes (header_outcome Sequence n s) (Ok tt) (headed s n) → PartAnswer run (headed s n) n result t → WritesSequence run s n result t
