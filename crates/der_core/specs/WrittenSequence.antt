@@ -23,6 +23,11 @@ Run = MutBor SliceWriter → Result (Unit {0}) Error → MutBor SliceWriter → 
 abbrev pub part : WriterState → ℕ → WriterState
 part s n = record s { start = length s.octets; stop = length s.octets + n; failed = false }
 
+-- the writer round a part, which stands behind what was written before it
+abbrev pub around : WriterState → ℕ → ℕ → WriterState
+around q start stop =
+    record q { octets = take q.start q.octets; start = start; stop = stop; failed = false }
+
 -- behind the header of a SEQUENCE of n octets
 abbrev pub headed : WriterState → ℕ → WriterState
 headed s n = appended s (header_octets Sequence n)
@@ -47,7 +52,7 @@ pub record Abandoned (s : WriterState) (n : ℕ) (q t : WriterState) : Type 0 wh
 
 -- what follows a closure that was handed the part, answered r and left the writer q
 pub data Closed (s : WriterState) (n : ℕ) (q : WriterState) (t : WriterState) : Result (Unit {0}) Error → Result (Unit {0}) Error → Type 0 where
-  refused : (e : Error) → Abandoned s n q t → Closed s n q t (Err e) (Err e)
+  handed_on : (e : Error) → Abandoned s n q t → Closed s n q t (Err e) (Err e)
   failed : q.failed ≡ true → Abandoned s n q t → Closed s n q t (Ok tt) (Err (at Failed (here q)))
   unfilled : q.failed ≡ false → length q.octets < length s.octets + n → Abandoned s n q t
       → Closed s n q t (Ok tt) (Err (at (IncorrectLength Sequence) (plain (written s + n))))
