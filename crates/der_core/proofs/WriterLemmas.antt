@@ -1,96 +1,144 @@
 -- Slice writers: room, parts that are set apart, and what follows them.
-use Rattle.std.proofs.Common.{rules, arith, ◌≡◌, ℕ, ◌+◌, ◌-◌, ◌^◌, ◌<◌, ◌≤◌, Bool, true, false, length, take, length-take-le, sym, ap, ◌∙◌, subst, Result, Ok, Err}
+use Rattle.std.proofs.Common.{rules, arith, ◌≡◌, ℕ, ◌+◌, ◌-◌, ◌^◌, ◌<◌, ◌≤◌, Bool, true, false, length, take, length-take-le, refl, sym, ap, ◌∙◌, subst, Result, Ok, Err, OnOk}
+use Rattle.std.specs.Borrow.{MutBor}
 use Rattle.std.proofs.lemmas.List.{take-take}
 use Rattle.std.proofs.lemmas.Bool.Decides.{nat_tests}
-use Rattle.der_core.specs.Writer.{WriterState, Kept, Writes, with_room}
-use Rattle.der_core.specs.SliceWriter.{slice_writer_state}
+use Rattle.der_base.specs.Error.{at}
+use Rattle.der_base.specs.Length.{plain}
 use Rattle.der_base.specs.declared.error.Error.{Error}
+use Rattle.der_base.specs.declared.error.ErrorKind.{ErrorKind}
+use Rattle.der_base.specs.declared.error.ErrorKind.TheVariants.{Failed, Length as IncorrectLength}
 use Rattle.der_base.specs.declared.tag.Tag.TheVariants.{Sequence}
+use Rattle.der_core.specs.Writer.{WriterState, Kept, Writes, with_room, written, here, fallen}
+use Rattle.der_core.specs.SliceWriter.{slice_writer_state}
 use Rattle.der_core.specs.Encode.{header_outcome}
-use Rattle.der_core.specs.Sequence.{Run, part, headed, Abandoned, FilledBy, Ran, PartAnswer, no_room, ran, SequenceAnswer, with_header}
+use Rattle.der_core.specs.WrittenSequence.{Condition, Run, part, around, headed, HandsBackPart, Abandoned, Closed, handed_on, failed, unfilled, filled, FilledBy, Ran, PartAnswer, WritesSequence, with_header}
 use Rattle.der_core.specs.declared.writer.slice.SliceWriter.{SliceWriter}
 
--- where there is room nothing is changed, and there was room
-pub granted : (n : ℕ) (s t : WriterState) → Writes (with_room n s s) (Ok tt) t → ((with_room n s s).answer ≡ Ok tt) × (t ≡ s) × (s.failed ≡ false) × (length s.octets + n ≤ s.stop)
-granted n s t w =
+-- where there is room it is granted
+pub granted : (n : ℕ) (s g t : WriterState) → Writes (with_room n s g) (Ok tt) t → ((with_room n s s).answer ≡ Ok tt) × (t ≡ g) × (s.failed ≡ false) × (length s.octets + n ≤ s.stop)
+granted n s g t w =
     let a = w.answered in
     let l = w.leaves in
-    (sym a, grind (rules, nat_tests), grind (rules, nat_tests), grind (arith, nat_tests))
+    (grind (rules, nat_tests), grind (rules, nat_tests), grind (rules, nat_tests), grind (arith, nat_tests))
+
+-- where there is none it does not matter what would be granted
+pub refused_alike : (n : ℕ) (s g t : WriterState) (e : Error) → Writes (with_room n s g) (Err e) t → Writes (with_room n s s) (Err e) t
+refused_alike n s g t e w =
+    let a = w.answered in
+    let l = w.leaves in
+    record { answered = grind (rules, nat_tests); leaves = grind (rules, nat_tests) }
 
 -- where a slice writer stands in its buffer
 pub stands_at : (w : SliceWriter) → length (slice_writer_state w).octets ≡ w.start + w.position
 stands_at w = length-take-le (w.start + w.position) w.bytes.now (omega (arith, w.ordered, w.within))
 
--- the part that is set apart
-pub over_part : (w : SliceWriter) (s : WriterState) (n count from : ℕ) → slice_writer_state w ≡ s → s.failed ≡ false → from ≡ length s.octets → count ≡ n
-    → record { octets = take (from + 0) w.bytes.now; start = from; stop = from + count; capacity = length w.bytes.now; failed = w.failed; reference = w.bytes.ghost_name } ≡ part s n
-over_part w s n count from same alive e f =
-    let at_from : from + 0 ≡ w.start + w.position = omega (arith, e, ap (λ (v : WriterState). length v.octets) same, stands_at w) in
-    let octets : take (from + 0) w.bytes.now ≡ s.octets = ap (λ k. take k w.bytes.now) at_from ∙ ap (λ (v : WriterState). v.octets) same in
-    let stop : from + count ≡ length s.octets + n = omega (arith, e, f) in
-    let capacity : length w.bytes.now ≡ s.capacity = ap (λ (v : WriterState). v.capacity) same in
-    let failed : w.failed ≡ false = ap (λ (v : WriterState). v.failed) same ∙ alive in
-    let reference : w.bytes.ghost_name ≡ s.reference = ap (λ (v : WriterState). v.reference) same in
-    cc
+-- a writer over its own part again, behind one that was set apart
+abbrev pub behind_part : SliceWriter → ℕ → ℕ → Bool → WriterState
+behind_part v start stop marked =
+    record { octets = take (start + (v.stop - start)) v.bytes.now; start = start; stop = stop; capacity = length v.bytes.now; failed = marked; reference = v.bytes.ghost_name }
 
--- a writer over its own part again, behind one of so many octets that another state of it left
-abbrev pub behind_part : SliceWriter → ℕ → SliceWriter → Bool → WriterState
-behind_part w count v failed = record { octets = take (w.start + (w.position + count)) v.bytes.now; start = w.start; stop = w.stop; capacity = length v.bytes.now; failed = failed; reference = v.bytes.ghost_name }
+module _ (v : SliceWriter) (start stop : ℕ) (before : start ≤ v.start) (behind : v.stop ≤ stop) (within : stop ≤ length v.bytes.now) where
+  abbrev inner : WriterState
+  inner = slice_writer_state v
 
--- behind the part, refused
-pub abandon : (s : WriterState) (n count : ℕ) (w v : SliceWriter) (t : WriterState) → slice_writer_state w ≡ s → count ≡ n → length s.octets + n ≤ s.stop → Kept (part s n) (slice_writer_state v)
-    → t ≡ behind_part w count v true
-    → Abandoned s n (slice_writer_state v) t
-abandon s n count w v t same f room kept e =
-    let begin = ap (λ (u : WriterState). length u.octets) same in
-    let here : w.start + w.position ≡ length s.octets = omega (arith, begin, stands_at w) in
-    let behind : w.start + (w.position + count) ≡ length s.octets + n = omega (arith, here, f) in
-    let whole : length v.bytes.now ≡ s.capacity = kept.capacity in
-    let old : length w.bytes.now ≡ s.capacity = ap (λ (u : WriterState). u.capacity) same in
-    let stop : w.stop ≡ s.stop = ap (λ (u : WriterState). u.stop) same in
-    let fits : w.start + (w.position + count) ≤ length v.bytes.now = omega (arith, behind, room, whole, old, stop, w.within) in
-    let inner_stop : v.stop ≡ length s.octets + n = kept.stop in
-    let inside : v.start + v.position ≤ w.start + (w.position + count) = omega (arith, v.ordered, inner_stop, behind) in
-    record {
-      start = ap (λ (u : WriterState). u.start) e ∙ ap (λ (u : WriterState). u.start) same;
-      stop = ap (λ (u : WriterState). u.stop) e ∙ stop;
-      capacity = ap (λ (u : WriterState). u.capacity) e ∙ whole;
-      reference = ap (λ (u : WriterState). u.reference) e ∙ kept.reference;
-      failed = ap (λ (u : WriterState). u.failed) e;
-      behind = ap (λ (u : WriterState). length u.octets) e ∙ length-take-le (w.start + (w.position + count)) v.bytes.now fits ∙ behind;
-      stands = ap (λ (u : WriterState). take (length (slice_writer_state v).octets) u.octets) e ∙ ap (λ k. take k (take (w.start + (w.position + count)) v.bytes.now)) (stands_at v) ∙ take-take (v.start + v.position) (w.start + (w.position + count)) v.bytes.now inside;
-    }
+  abbrev outer : WriterState
+  outer = around inner start stop
 
--- behind the part, which was filled
-pub fill : (s : WriterState) (n count : ℕ) (w v : SliceWriter) → slice_writer_state w ≡ s → count ≡ n → s.failed ≡ false → Kept (part s n) (slice_writer_state v) → v.failed ≡ false → count ≤ v.position
-    → (length (slice_writer_state v).octets ≡ length s.octets + n)
-    × (behind_part w count v v.failed ≡ record s { octets = (slice_writer_state v).octets })
-fill s n count w v same f alive kept working full =
-    let begin = ap (λ (u : WriterState). length u.octets) same in
-    let here : w.start + w.position ≡ length s.octets = omega (arith, begin, stands_at w) in
-    let inner_start : v.start ≡ length s.octets = kept.start in
-    let inner_stop : v.stop ≡ length s.octets + n = kept.stop in
-    let whole : w.start + (w.position + count) ≡ v.start + v.position = omega (arith, here, inner_start, inner_stop, v.ordered, f, full) in
-    let octets : take (w.start + (w.position + count)) v.bytes.now ≡ (slice_writer_state v).octets = ap (λ k. take k v.bytes.now) whole in
-    let start : w.start ≡ s.start = ap (λ (u : WriterState). u.start) same in
-    let stop : w.stop ≡ s.stop = ap (λ (u : WriterState). u.stop) same in
-    let capacity : length v.bytes.now ≡ s.capacity = kept.capacity in
-    let failed : v.failed ≡ s.failed = working ∙ sym alive in
-    let reference : v.bytes.ghost_name ≡ s.reference = kept.reference in
-    (omega (arith, stands_at v, whole, here, f), cc)
+  abbrev size : ℕ
+  size = v.stop - v.start
+
+  whole : start + (v.stop - start) ≡ v.stop
+  whole = omega (arith, before, v.ordered)
+
+  begins : length outer.octets ≡ v.start
+  begins = length-take-le v.start inner.octets (omega (arith, stands_at v))
+
+  ends : (marked : Bool) → length (behind_part v start stop marked).octets ≡ v.stop
+  ends marked = length-take-le (start + (v.stop - start)) v.bytes.now (omega (arith, whole, behind, within)) ∙ whole
+
+  abandoned : (t : WriterState) → t ≡ behind_part v start stop true → Abandoned outer size inner t
+  abandoned t e = record {
+    start = ap (λ (u : WriterState). u.start) e;
+    stop = ap (λ (u : WriterState). u.stop) e;
+    capacity = ap (λ (u : WriterState). u.capacity) e;
+    reference = ap (λ (u : WriterState). u.reference) e;
+    failed = ap (λ (u : WriterState). u.failed) e;
+    behind = ap (λ (u : WriterState). length u.octets) e ∙ omega (arith, ends true, begins, v.ordered);
+    stands = ap (λ (u : WriterState). take (length inner.octets) u.octets) e ∙ ap (λ k. take k (take (start + (v.stop - start)) v.bytes.now)) (stands_at v)
+      ∙ take-take (v.start + v.position) (start + (v.stop - start)) v.bytes.now (omega (arith, whole, v.ordered));
+  }
+
+  pub closed_refused : (answer : Result (Unit {0}) Error) (e : Error) → answer ≡ Err e → Closed outer size inner (behind_part v start stop true) answer (Err e)
+  closed_refused answer e is = subst (λ a. Closed outer size inner (behind_part v start stop true) a (Err e)) (sym is) (handed_on e (abandoned _ refl))
+
+  pub closed_failed : (answer : Result (Unit {0}) Error) (e : Error) → answer ≡ Ok tt → v.failed ≡ true → e ≡ at Failed (plain v.position)
+      → Closed outer size inner (behind_part v start stop v.failed) answer (Err e)
+  closed_failed answer e is failing told =
+      let told_here : e ≡ at Failed (here inner) = told ∙ ap (λ k. at Failed (plain k)) (omega (arith, stands_at v)) in
+      let gone = abandoned (behind_part v start stop v.failed) (ap (behind_part v start stop) failing) in
+      subst (λ a. Closed outer size inner (behind_part v start stop v.failed) a (Err e)) (sym is)
+      (subst (λ x. Closed outer size inner (behind_part v start stop v.failed) (Ok tt) (Err x)) (sym told_here) (failed failing gone))
+
+  pub closed_unfilled : (answer r : Result (Unit {0}) Error) (kind : ErrorKind) (t : WriterState) → answer ≡ Ok tt → v.failed ≡ false → v.position < v.stop - v.start
+      → kind ≡ IncorrectLength Sequence → r ≡ Err (at kind (here (behind_part v start stop v.failed))) → t ≡ fallen (behind_part v start stop v.failed) → Closed outer size inner t answer r
+  closed_unfilled answer r kind t is alive short wrong told fell =
+      let few : length inner.octets < length outer.octets + size = omega (arith, stands_at v, begins, short) in
+      let place : length (behind_part v start stop v.failed).octets - start ≡ length outer.octets - start + size = omega (arith, ends v.failed, begins, before, v.ordered) in
+      let told_behind : r ≡ Err (at (IncorrectLength Sequence) (plain (written outer + size))) =
+        told ∙ ap (λ k. Err (at k (here (behind_part v start stop v.failed)))) wrong ∙ ap (λ k. Err (at (IncorrectLength Sequence) (plain k))) place in
+      subst (λ a. Closed outer size inner t a r) (sym is) (subst (λ x. Closed outer size inner t (Ok tt) x) (sym told_behind) (unfilled alive few (abandoned t fell)))
+
+  pub closed_filled : (answer : Result (Unit {0}) Error) → answer ≡ Ok tt → v.failed ≡ false → v.stop - v.start ≤ v.position
+      → Closed outer size inner (behind_part v start stop v.failed) answer (Ok tt)
+  closed_filled answer is alive full =
+      let held : length inner.octets ≡ length outer.octets + size = omega (arith, stands_at v, begins, v.ordered, full) in
+      let octets : take (start + (v.stop - start)) v.bytes.now ≡ inner.octets = ap (λ k. take k v.bytes.now) (omega (arith, whole, v.ordered, full)) in
+      let leaves : behind_part v start stop v.failed ≡ record outer { octets = inner.octets } = cc in
+      subst (λ a. Closed outer size inner (behind_part v start stop v.failed) a (Ok tt)) (sym is) (filled alive held leaves)
+
+-- what is round a part that was handed back is what it was set apart from
+same_around : (s q : WriterState) (n : ℕ) → Kept (part s n) q → s.failed ≡ false → around q s.start s.stop ≡ s
+same_around s q n kept alive =
+    let octets : take q.start q.octets ≡ s.octets = ap (λ k. take k q.octets) kept.start ∙ kept.before in
+    let capacity : q.capacity ≡ s.capacity = kept.capacity in
+    let reference : q.reference ≡ s.reference = kept.reference in
+    let same : around q s.start s.stop ≡ record { octets = s.octets; start = s.start; stop = s.stop; capacity = s.capacity; failed = s.failed; reference = s.reference } = cc in
+    same
+
+-- a part that was handed back
+pub handed_back : (pre : Condition) (run : Run) (s : WriterState) (n : ℕ) (g : MutBor SliceWriter) (a : Result (Unit {0}) Error) (q : MutBor SliceWriter)
+    → HandsBackPart pre run s n → slice_writer_state g.now ≡ part s n → run g a q → Kept (part s n) (slice_writer_state q.now)
+handed_back pre run s n g a q hands over did = subst (λ p. Kept p (slice_writer_state q.now)) over (hands.same g a q over did)
+
+-- the closure ran over a part that was set apart
+pub ran_over : (pre : Condition) (run : Run) (s t : WriterState) (n : ℕ) (g : MutBor SliceWriter) (a r : Result (Unit {0}) Error) (q : MutBor SliceWriter)
+    → HandsBackPart pre run s n → s.failed ≡ false → slice_writer_state g.now ≡ part s n → run g a q
+    → Closed (around (slice_writer_state q.now) s.start s.stop) (q.now.stop - q.now.start) (slice_writer_state q.now) t a r → Ran run s n r t
+ran_over pre run s t n g a r q hands alive over did closes =
+    let u : WriterState = slice_writer_state q.now in
+    let kept = handed_back pre run s n g a q hands over did in
+    let start : q.now.start ≡ length s.octets = kept.start in
+    let stop : q.now.stop ≡ length s.octets + n = kept.stop in
+    let size : q.now.stop - q.now.start ≡ n = omega (arith, start, stop) in
+    let ends = subst (λ x. Closed x n u t a r) (same_around s u n kept alive) (subst (λ m. Closed (around u s.start s.stop) m u t a r) size closes) in
+    record { given = g; answer = a; after = q; over_part = over; ran = did; closed = ends }
+
+-- where it was not refused it filled the part
+pub fills : (run : Run) (s t : WriterState) (n : ℕ) (r : Result (Unit {0}) Error) → Ran run s n r t → OnOk r (FilledBy run s n t)
+fills run s t n r did = go did.given did.after did.answer r did.over_part did.ran did.closed
+  where
+    go : (g q : MutBor SliceWriter) (a r : Result (Unit {0}) Error) → slice_writer_state g.now ≡ part s n → run g a q
+        → Closed s n (slice_writer_state q.now) t a r → OnOk r (FilledBy run s n t)
+    go g q a r over did (handed_on e gone) = tt
+    go g q a r over did (failed f gone) = tt
+    go g q a r over did (unfilled alive few gone) = tt
+    go g q a r over did (filled alive full leaves) = record { given = g; after = q; over_part = over; ran = did; working = alive; full = full; leaves = leaves }
 
 -- a part behind the header
-pub behind_header : (run : Run) (s t u : WriterState) (n : ℕ) (r : Result (Unit {0}) Error) → u ≡ headed s n → Writes (header_outcome Sequence n s) (Ok tt) u → PartAnswer run u n r t → SequenceAnswer run s n r t
+pub behind_header : (run : Run) (s t u : WriterState) (n : ℕ) (r : Result (Unit {0}) Error) → u ≡ headed s n → Writes (header_outcome Sequence n s) (Ok tt) u → PartAnswer run u n r t → WritesSequence run s n r t
 behind_header run s t u n r same wrote answer =
     with_header (subst (λ v. Writes (header_outcome Sequence n s) (Ok tt) v) same wrote) (subst (λ v. PartAnswer run v n r t) same answer)
-
--- the same where it was filled
-pub filled_behind_header : (run : Run) (s t u : WriterState) (n : ℕ) → u ≡ headed s n → FilledBy run u n t → FilledBy run (headed s n) n t
-filled_behind_header run s t u n same fills = subst (λ v. FilledBy run v n t) same fills
-
--- and where the closure ran over it
-pub ran_behind_header : (run : Run) (s t u : WriterState) (n : ℕ) (r : Result (Unit {0}) Error) → u ≡ headed s n → Ran run u n r t → Ran run (headed s n) n r t
-ran_behind_header run s t u n r same did = subst (λ v. Ran run v n r t) same did
 
 -- there is room for so many octets
 pub room_there : (w : SliceWriter) (n : ℕ) → w.failed ≡ false → length (slice_writer_state w).octets + n ≤ w.stop
@@ -100,8 +148,3 @@ room_there w n alive room =
     let countable = w.countable in
     let few : length (slice_writer_state w).octets - w.start + n < 2 ^ 32 = omega (arith, at, room, countable) in
     grind (arith, nat_tests)
-
--- where there is room the closure ran
-pub runs : (run : Run) (s t : WriterState) (n : ℕ) (r : Result (Unit {0}) Error) → (with_room n s s).answer ≡ Ok tt → PartAnswer run s n r t → Ran run s n r t
-runs run s t n r room (no_room e none w) = let wrong : Ok tt ≡ Err e = sym room ∙ none in cc
-runs run s t n r room (ran some did) = did

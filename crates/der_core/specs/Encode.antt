@@ -94,8 +94,8 @@ ElementAnswers t (Ok l) contents s r u =
 ElementAnswers t (Err e) contents s r u = (r ≡ Err e) × (u ≡ s)
 
 -- what a finished writer answers: the octets written, where it has not failed
-abbrev pub finish_answer : WriterState → Result (List ℕ) Error
-finish_answer t = if t.failed then Err (at Failed (here t)) else Ok t.octets
+abbrev pub finished_answer : WriterState → Result (List ℕ) Error
+finished_answer t = if t.failed then Err (at Failed (here t)) else Ok t.octets
 
 -- the octets written fill the beginning of a buffer
 abbrev pub Begins : {E : Type 0} → List ℕ → Result (Unit {0}) E → List ℕ → Type 0
@@ -107,7 +107,7 @@ FreshAnswer answers n result = (reference : ℕ) × (t : WriterState) × answers
 
 -- what is answered then, where an answer that is an error comes first if it is an error
 abbrev pub finished : Result (Unit {0}) Error → WriterState → Result (List ℕ) Error
-finished (Ok _) t = finish_answer t
+finished (Ok _) t = finished_answer t
 finished (Err e) t = Err e
 
 -- what is answered where a writer over n octets is written to and finished
@@ -121,7 +121,8 @@ pub data NotAppended (size : Result Length Error) (answers : WriterAnswer) (befo
   no_size : (e : Error) → size ≡ Err e → NotAppended size answers before e
   too_many : (l : Length) → size ≡ Ok l → 2 ^ 64 ≤ before + number l → NotAppended size answers before (bare Overflow)
   no_memory : (l : Length) → size ≡ Ok l → before + number l < 2 ^ 64 → NotAppended size answers before (bare OutOfMemory)
-  not_written : (l : Length) (reference : ℕ) (e : Error) (t : WriterState) → size ≡ Ok l → answers (fresh (number l) reference) (Err e) t
+  not_written : (l : Length) (reference : ℕ) (e : Error) (t : WriterState) → size ≡ Ok l
+      → before + number l < 2 ^ 64 → answers (fresh (number l) reference) (Err e) t
       → NotAppended size answers before e
 
 -- an error's position, or the writer's where it has none

@@ -12,4 +12,4 @@ pub mod Position
 pub mod Writer
 pub mod SliceWriter
 pub mod Encode
-pub mod Sequence
+pub mod WrittenSequence

@@ -66,15 +66,18 @@ pub record Writes (outcome : WriterOutcome) (answer : Result (Unit {0}) Error) (
 abbrev pub succeeded : WriterState → WriterOutcome
 succeeded t = record { answer = Ok tt; after = t }
 
-abbrev pub refused : Error → WriterState → WriterOutcome
-refused e t = record { answer = Err e; after = t }
+abbrev pub write_refused : Error → WriterState → WriterOutcome
+write_refused e t = record { answer = Err e; after = t }
 
 -- n octets more, for which there has to be room; each refusal leaves the writer failed
 abbrev pub with_room : ℕ → WriterState → WriterState → WriterOutcome
 with_room n s granted =
-    if s.failed then refused (at Failed (here s)) s
-    else if nat_lt (written s + n) (2 ^ 32) then (if nat_lt s.stop (length s.octets + n) then refused (at Overlength (plain (written s + n))) (fallen s) else succeeded granted)
-    else refused (at Overflow (here s)) (fallen s)
+    if s.failed then write_refused (at Failed (here s)) s
+    else if nat_lt (written s + n) (2 ^ 32) then (
+    if nat_lt s.stop (length s.octets + n)
+    then write_refused (at Overlength (plain (written s + n))) (fallen s)
+    else succeeded granted)
+    else write_refused (at Overflow (here s)) (fallen s)
 
 abbrev pub write_outcome : List ℕ → WriterState → WriterOutcome
 write_outcome octets s = with_room (length octets) s (appended s octets)
@@ -82,7 +85,7 @@ write_outcome octets s = with_room (length octets) s (appended s octets)
 -- a call, and where it succeeds another
 abbrev pub then_call : Result (Unit {0}) Error → WriterState → (WriterState → WriterOutcome) → WriterOutcome
 then_call (Ok _) t next = next t
-then_call (Err e) t next = refused e t
+then_call (Err e) t next = write_refused e t
 
 -- octets that go out in pieces, a write for each
 abbrev pub write_pieces : List (List ℕ) → WriterState → WriterOutcome

@@ -26,9 +26,9 @@ module _ (octets : List ℕ) where
   left : rest (beginning Der octets) ≡ octets
   left = rest-beginning Der octets
 
-  fault_says : (e : Error) {t : State} → Refused HeaderFault (beginning Der octets) e t → NoElement octets e
-  fault_says e (Refused.has_failed h told same) = absurd (let no : false ≡ true = h in cc)
-  fault_says e (Refused.at_fault r working fault stops) = NoElement.no_header (inr (r, subst (λ o. HeaderFault Der 0 o r) left fault, stops.told))
+  fault_says : (e : Error) {t : State} → length octets < 2 ^ 32 → Refused HeaderFault (beginning Der octets) e t → NoElement octets e
+  fault_says e small (Refused.has_failed h told same) = absurd (let no : false ≡ true = h in cc)
+  fault_says e small (Refused.at_fault r working fault stops) = NoElement.no_header (inr (r, small, subst (λ o. HeaderFault Der 0 o r) left fault, stops.told))
 
   pub too_long_says : (e : Error) → (length octets < 2 ^ 32 → ⊥) → e ≡ bare Overflow → NoElement octets e
   too_long_says e long told = NoElement.no_header (inl (⊎_elim (λ small. absurd (long small)) (λ far. far) (cases_lt (length octets) (2 ^ 32)), told))
@@ -60,32 +60,32 @@ module _ (octets : List ℕ) where
       ap (counted n) (lt-ltb n (2 ^ 32) near) ∙ ap (lent n) (lt-leb (0 + n) (length octets) (omega (arith, few)))
       ∙ ap (λ k. Err (owed (wants k (length octets) 0))) (from_zero n)
 
-  whole_says : (r : Result (List ℕ) Error) (h : Head) (m : ℕ) → HeaderAhead Der octets h m → r ≡ whole_answer (m + number h.length) → ElementSays octets r
-  whole_says r h m ahead is =
+  whole_says : (r : Result (List ℕ) Error) (h : Head) (m : ℕ) → length octets < 2 ^ 32 → HeaderAhead Der octets h m → r ≡ whole_answer (m + number h.length) → ElementSays octets r
+  whole_says r h m small ahead is =
       let n = m + number h.length in
       ⊎_elim
       (λ near. ⊎_elim
       (λ few. subst (ElementSays octets) (sym (is ∙ short_answer n near few)) (NoElement.contents_missing h m ahead near few))
-      (λ there. subst (ElementSays octets) (sym (is ∙ there_answer n near there)) record { head = h; count = m; ahead = ahead; there = there; whole = refl })
+      (λ there. subst (ElementSays octets) (sym (is ∙ there_answer n near there)) record { countable = small; head = h; count = m; ahead = ahead; there = there; whole = refl })
       (cases_lt (length octets) n))
-      (λ far. subst (ElementSays octets) (sym (is ∙ far_answer n far)) (NoElement.past_every_length h m ahead far))
+      (λ far. subst (ElementSays octets) (sym (is ∙ far_answer n far)) (NoElement.past_every_length h m small ahead far))
       (cases_lt n (2 ^ 32))
 
-  begun_says : (r : Result (List ℕ) Error) (t : State) → TlvAnswers begun r t → ElementSays octets r
-  begun_says r t (TlvAnswers.no_header e peeked is same) = subst (ElementSays octets) (sym is) (fault_says e (peeked.1 refl))
-  begun_says r t (TlvAnswers.with_header h m ahead working gives) =
-      whole_says r (head_of h) m (subst (λ o. HeaderAhead Der o (head_of h) m) left ahead) gives.answered
+  begun_says : (r : Result (List ℕ) Error) (t : State) → length octets < 2 ^ 32 → TlvAnswers begun r t → ElementSays octets r
+  begun_says r t small (TlvAnswers.no_header e peeked is same) = subst (ElementSays octets) (sym is) (fault_says e small (peeked.1 refl))
+  begun_says r t small (TlvAnswers.with_header h m ahead working gives) =
+      whole_says r (head_of h) m small (subst (λ o. HeaderAhead Der o (head_of h) m) left ahead) gives.answered
 
-  element_says : (s t : State) (r : Result (List ℕ) Error) → s ≡ beginning Der octets → TlvAnswers s r t → ElementSays octets r
-  element_says s t r e h = begun_says r t (subst (λ x. TlvAnswers x r t) e h)
+  element_says : (s t : State) (r : Result (List ℕ) Error) → length octets < 2 ^ 32 → s ≡ beginning Der octets → TlvAnswers s r t → ElementSays octets r
+  element_says s t r small e h = begun_says r t small (subst (λ x. TlvAnswers x r t) e h)
 
   -- what a reliable reader lends, or the error that it tells
-  pub lent_says : {B : Type 0} (now : B → List ℕ) (s t : State) (r : Result B Error) → s ≡ beginning Der octets → (Owed true r → TlvAnswers s (seen now r) t)
+  pub lent_says : {B : Type 0} (now : B → List ℕ) (s t : State) (r : Result B Error) → length octets < 2 ^ 32 → s ≡ beginning Der octets → (Owed true r → TlvAnswers s (seen now r) t)
       → IfOk r (λ e. IsElement octets (now e))
-  lent_says now s t (Ok e) is h = element_says s t (Ok (now e)) is (h tt)
-  lent_says now s t (Err e) is h = tt
+  lent_says now s t (Ok e) small is h = element_says s t (Ok (now e)) small is (h tt)
+  lent_says now s t (Err e) small is h = tt
 
-  pub told_says : {B : Type 0} (now : B → List ℕ) (s t : State) (r : Result B Error) → s ≡ beginning Der octets → (Owed true r → TlvAnswers s (seen now r) t)
+  pub told_says : {B : Type 0} (now : B → List ℕ) (s t : State) (r : Result B Error) → length octets < 2 ^ 32 → s ≡ beginning Der octets → (Owed true r → TlvAnswers s (seen now r) t)
       → IfErr r (NoElement octets)
-  told_says now s t (Ok e) is h = tt
-  told_says now s t (Err e) is h = element_says s t (Err e) is (h refl)
+  told_says now s t (Ok e) small is h = tt
+  told_says now s t (Err e) small is h = element_says s t (Err e) small is (h refl)

@@ -50,7 +50,7 @@ header_text (HeaderFault.no_length i f) = length_text (_, refl) f
 -- each error that a refused input is told as prints
 pub refused_text : (octets : List ℕ) (e : Error) → IsRefusedFor octets e → (reason : List ℕ) × (error_text e ≡ Some reason)
 refused_text octets e (inl (long, told)) = rw told (_, refl)
-refused_text octets e (inr (r, fault, told)) = rw told (owed_text r (header_text fault))
+refused_text octets e (inr (r, small, fault, told)) = rw told (owed_text r (header_text fault))
 
 pub answer_told : (octets text rest : List ℕ) (h : Head) → IsHeaderRead octets h rest → text ≡ header_lines h rest → AnswersHead octets 0 text
 answer_told octets text rest h read lines = AnswersHead.told record { head = h; rest = rest; read = read; lines = lines }
@@ -63,7 +63,7 @@ answer_refused octets text e refused tells =
 -- and so does each that missing elements are told as
 pub missing_text : (octets : List ℕ) (e : Error) → NoElement octets e → (reason : List ℕ) × (error_text e ≡ Some reason)
 missing_text octets e (NoElement.no_header refused) = refused_text octets e refused
-missing_text octets e (NoElement.past_every_length h count ahead far) = (_, refl)
+missing_text octets e (NoElement.past_every_length h count small ahead far) = (_, refl)
 missing_text octets e (NoElement.contents_missing h count ahead near few) = owed_text (wants (count + number h.length) (length octets) 0) (_, refl)
 
 pub element_told : (octets text element : List ℕ) → IsElement octets element → text ≡ element_line element → AnswersTlv octets 0 text

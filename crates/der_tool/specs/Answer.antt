@@ -10,25 +10,30 @@ use Rattle.der_base.specs.Text.{error_text}
 use Rattle.der_base.specs.declared.error.Error.{Error}
 use Rattle.der_base.specs.declared.error.ErrorKind.TheVariants.{Overflow}
 use Rattle.der_base.specs.declared.encoding_rules.EncodingRules.TheVariants.{Der}
-use Rattle.der_tool.specs.Command.{IsCommand, head_words, tlv_words}
+use Rattle.der_tool.specs.Command.{IsCommand, hex_of, words_of}
 use Rattle.der_tool.specs.Text.{usage_line, error_line, header_lines, element_line}
 use Rattle.der_tool.specs.declared.command.Command.{Command}
 use Rattle.der_tool.specs.declared.command.Command.TheVariants.{Head as HeadOf, Tlv as TlvOf}
 use Rattle.der_tool.specs.declared.answer.Answer.{Answer}
 use Rattle.der_tool.specs.declared.answer.Answer.TheVariants as answer
 
--- the octets begin with this header, and these are left behind it
+-- as many octets as a length can count begin with this header, and these are left behind it
 pub record IsHeaderRead (octets : List ℕ) (h : Head) (rest : List ℕ) : Type 0 where
+  pub countable : length octets < 2 ^ 32
   pub count : ℕ
   pub ahead : HeaderAhead Der octets h count
   pub behind : rest ≡ drop count octets
 
--- the octets are more than can be counted, or begin with no header; the error tells which
+-- the octets are more than a length can count, or begin with no header; the error tells which
 abbrev pub IsRefusedFor : List ℕ → Error → Type 0
-IsRefusedFor octets e = ((2 ^ 32 ≤ length octets) × (e ≡ bare Overflow)) ⊎ ((r : Refusal) × HeaderFault Der 0 octets r × (e ≡ owed r))
+IsRefusedFor octets e =
+    ((2 ^ 32 ≤ length octets) × (e ≡ bare Overflow))
+    ⊎ ((r : Refusal) × (length octets < 2 ^ 32) × HeaderFault Der 0 octets r × (e ≡ owed r))
 
--- the octets begin with this element: a header, and as many octets more as its length says
+-- as many octets as a length can count begin with this element: a header, and as many octets more
+-- as its length says
 pub record IsElement (octets element : List ℕ) : Type 0 where
+  pub countable : length octets < 2 ^ 32
   pub head : Head
   pub count : ℕ
   pub ahead : HeaderAhead Der octets head count
@@ -38,10 +43,11 @@ pub record IsElement (octets element : List ℕ) : Type 0 where
 -- the octets begin with no whole element; the error tells why
 pub data NoElement (octets : List ℕ) : Error → Type 0 where
   no_header : {e : Error} → IsRefusedFor octets e → NoElement octets e
-  past_every_length : (h : Head) (count : ℕ) → HeaderAhead Der octets h count → 2 ^ 32 ≤ count + number h.length
+  past_every_length : (h : Head) (count : ℕ) → length octets < 2 ^ 32
+      → HeaderAhead Der octets h count → 2 ^ 32 ≤ count + number h.length
       → NoElement octets (bare Overflow)
-  contents_missing : (h : Head) (count : ℕ) → HeaderAhead Der octets h count → count + number h.length < 2 ^ 32
-      → length octets < count + number h.length
+  contents_missing : (h : Head) (count : ℕ) → HeaderAhead Der octets h count
+      → count + number h.length < 2 ^ 32 → length octets < count + number h.length
       → NoElement octets (owed (wants (count + number h.length) (length octets) 0))
 
 -- the lines tell the header that the octets begin with
@@ -79,18 +85,22 @@ pub data AnswersTlv (octets : List ℕ) : ℕ → List ℕ → Type 0 where
   told : {text : List ℕ} → TellsElement octets text → AnswersTlv octets 0 text
   refused : {text : List ℕ} → Refuses (NoElement octets) text → AnswersTlv octets 1 text
 
+-- what a command says to octets: a status and a text
+abbrev pub AnswersTo : Command → List ℕ → ℕ → List ℕ → Type 0
+AnswersTo (HeadOf hex) = AnswersHead
+AnswersTo (TlvOf hex) = AnswersTlv
+
 -- what a command is answered, memory aside
-abbrev pub Fulfils : Command → ℕ → List ℕ → Type 0
-Fulfils (HeadOf hex) status text = (octets : List ℕ) × (decode_of hex.now ≡ Ok octets) × AnswersHead octets status text
-Fulfils (TlvOf hex) status text = (octets : List ℕ) × (decode_of hex.now ≡ Ok octets) × AnswersTlv octets status text
+pub record Fulfils (command : Command) (status : ℕ) (text : List ℕ) : Type 0 where
+  pub octets : List ℕ
+  pub spelled : decode_of (hex_of command) ≡ Ok octets
+  pub answered : AnswersTo command octets status text
 
 -- what the program may say to its words
 pub data Answers (words : List (List ℕ)) : ℕ → List ℕ → Type 0 where
   misused : (IsCommand words → ⊥) → Answers words 2 usage_line
-  head : {hex octets text : List ℕ} {status : ℕ} → words ≡ head_words hex → decode_of hex ≡ Ok octets
-      → AnswersHead octets status text → Answers words status text
-  tlv : {hex octets text : List ℕ} {status : ℕ} → words ≡ tlv_words hex → decode_of hex ≡ Ok octets
-      → AnswersTlv octets status text → Answers words status text
+  fulfilled : {status : ℕ} {text : List ℕ} (command : Command) → words ≡ words_of command
+      → Fulfils command status text → Answers words status text
   no_memory : IsCommand words → Answers words 1 (error_line (codes "out of memory"))
 
 -- the output took an answer to the words whole, and nothing else

@@ -19,6 +19,11 @@ head_words hex = codes "head" ∷ hex ∷ []
 abbrev pub tlv_words : List ℕ → List (List ℕ)
 tlv_words hex = codes "tlv" ∷ hex ∷ []
 
+-- the text that spells a command's octets
+abbrev pub hex_of : Command → List ℕ
+hex_of (Head hex) = hex.now
+hex_of (Tlv hex) = hex.now
+
 abbrev pub words_of : Command → List (List ℕ)
 words_of (Head hex) = head_words hex.now
 words_of (Tlv hex) = tlv_words hex.now

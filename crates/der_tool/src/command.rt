@@ -12,17 +12,27 @@ pub enum Command<'a> {
 }
 
 impl<'a> Command<'a> {
-    ghost use Rattle.der_tool.specs.Command.{words_of};
+    ghost use Rattle.der_tool.specs.Command.{words_of, hex_of};
 
     /// The command, if the words are one.
     pub fn parse(words: &'a [String]) -> Option<Self>
         ensures found { IsSome result ↔ IsCommand (texts words.now) }
         ensures words { IfSome result (λ c. texts words.now ≡ words_of c) }
+        ensures digits { IfSome result (λ c. IsHex (hex_of c)) }
     {
         match words {
             [name, hex] if name.as_str() == "head" && is_hex(hex) => Some(Command::Head(hex)),
             [name, hex] if name.as_str() == "tlv" && is_hex(hex) => Some(Command::Tlv(hex)),
             _ => None,
+        }
+    }
+
+    /// The text that spells its octets.
+    pub fn hex(self) -> &'a str
+        ensures { result.now ≡ hex_of self.entry }
+    {
+        match self {
+            Command::Head(hex) | Command::Tlv(hex) => hex,
         }
     }
 }

@@ -25,6 +25,8 @@ fn main(rt: HostRuntime) -> ExitCode {
 }
 
 /// Answers the arguments on the output, and gives the status.
+// What the system hands in, no clause can name: the words are some words, and that they are the
+// arguments is seen in the stored run.
 fn run_arguments<W: Output>(rt: &(impl Env + AllocGlobal), out: &mut W) -> u8
     ensures { (result ≡ 1) ⊎ ((words : List (List ℕ))
         × Writes words result (W.contents out.old) (W.contents out.new)) }

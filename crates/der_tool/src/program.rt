@@ -1,7 +1,8 @@
 //! The program, over its words and an output.
-ghost use Rattle.std.specs.Prelude.{◌≡◌, ◌⊎◌, true, IfOk, OnOk, IsOk};
+ghost use Rattle.std.specs.Prelude.{◌≡◌, ◌⊎◌, true, Ok, IfOk, OnOk, IsOk};
 ghost use Rattle.std.specs.Io.KnownBytes.{Appends};
-ghost use Rattle.der_tool.specs.Command.{texts};
+ghost use Rattle.hex.specs.Hex.{decode_of};
+ghost use Rattle.der_tool.specs.Command.{texts, hex_of, IsHex};
 ghost use Rattle.der_tool.specs.Answer.{Answers, Fulfils, Writes, status_of, text_of};
 
 use crate::answer::Answer;
@@ -9,11 +10,13 @@ use crate::command::Command;
 use crate::head::answer_head;
 use crate::output::Output;
 use crate::tlv::answer_tlv;
+use hex::FromHexError;
 use std::alloc::{AllocError, Allocator, Global};
 use std::io;
 
-/// Answers the words on the output, and gives the status. An output that fails is status 1, and
-/// nothing is said of what it took.
+/// Answers the words on the output, and gives the status: 0 where the octets are told, 1 where they
+/// are refused, memory is refused or the output fails, and 2 where the words are no command. Nothing
+/// is said of what an output that fails took.
 pub fn run<W: Output>(alloc: Global, words: &[String], out: &mut W) -> u8
     ensures answers { (result ≡ 1)
         ⊎ Writes (texts words.now) result (W.contents out.old) (W.contents out.new) }
@@ -23,7 +26,9 @@ pub fn run<W: Output>(alloc: Global, words: &[String], out: &mut W) -> u8
     respond(alloc, alloc, words, out).unwrap_or(1)
 }
 
-/// Answers the words on the output, which is called only when no memory is asked for any more.
+/// Answers the words on the output, which is called only when no memory is asked for any more; an
+/// error is the output's. The octets and lines are in memory of `alloc`, so that a test can refuse
+/// it; reading a header is handed `global`, from which a decoder takes its memory.
 pub fn respond<A: Allocator + Copy, W: Output>(
     alloc: A,
     global: Global,
@@ -58,23 +63,31 @@ fn answer<A: Allocator + Copy>(alloc: A, global: Global, words: &[String]) -> An
     }
 }
 
-/// What the command is answered. Its digits have been looked at, so that only want of memory keeps
-/// the octets that they spell from being read.
+/// What the command is answered. Its text is an even number of hexadecimal digits, so that only
+/// want of memory keeps the octets that it spells from being read.
 fn fulfil<A: Allocator + Copy>(
     alloc: A,
     global: Global,
     command: Command<'_>,
 ) -> Result<Answer<A>, AllocError>
+    requires { IsHex (hex_of command) }
     ensures { IfOk result (λ a. Fulfils command.entry (status_of a) (text_of a)) }
 {
+    let octets = octets_of(alloc, command.hex())?;
     match command {
-        Command::Head(hex) => {
-            let octets = hex::decode(alloc, hex).map_err(|_| AllocError)?;
-            answer_head(alloc, global, &octets)
-        }
-        Command::Tlv(hex) => {
-            let octets = hex::decode(alloc, hex).map_err(|_| AllocError)?;
-            answer_tlv(alloc, &octets)
-        }
+        Command::Head(_) => answer_head(alloc, global, &octets),
+        Command::Tlv(_) => answer_tlv(alloc, &octets),
+    }
+}
+
+/// The octets that the digits spell.
+fn octets_of<A: Allocator>(alloc: A, hex: &str) -> Result<Vec<u8, A>, AllocError>
+    requires { IsHex hex.now }
+    ensures { IfOk result (λ octets. decode_of hex.now ≡ Ok octets.items) }
+{
+    match hex::decode(alloc, hex) {
+        Ok(octets) => Ok(octets),
+        Err(error) if error == FromHexError::OutOfMemory => Err(AllocError),
+        Err(_) => unreachable!(),
     }
 }

@@ -1,5 +1,5 @@
 //! Writers into a slice.
-ghost use Rattle.std.specs.Prelude.{◌≡◌, ◌+◌, ◌^◌, ◌<◌, ◌≤◌, true, length, Err, IfOk};
+ghost use Rattle.std.specs.Prelude.{◌≡◌, ◌+◌, ◌-◌, ◌^◌, ◌<◌, ◌≤◌, true, length, Err, IfOk, OnErr};
 
 use crate::encode::Encode;
 use crate::header::Header;
@@ -28,9 +28,9 @@ impl<'a> SliceWriter<'a> {
     ghost use Rattle.der_base.specs.Length.{number};
     ghost use Rattle.der_core.specs.Outcome.{seen};
     ghost use Rattle.der_core.specs.Writer.{Kept, Appends, Writes, fresh, here, fallen, with_room};
-    ghost use Rattle.der_core.specs.Encode.{TakesCounted, RefusesFailed, PlacesErrors, finish_answer};
+    ghost use Rattle.der_core.specs.Encode.{TakesCounted, RefusesFailed, PlacesErrors, finished_answer};
     ghost use Rattle.der_core.specs.SliceWriter.{slice_writer_state};
-    ghost use Rattle.der_core.specs.Sequence.{MayFill, HandsBack, Fills, RunsInRoom, PartAnswer, SequenceAnswer, headed};
+    ghost use Rattle.der_core.specs.WrittenSequence.{HandsBackPart, Closed, Fills, RunsInRoom, PartAnswer, WritesSequence, headed, part, around};
 
     /// A writer into these octets, at their beginning.
     pub fn new(bytes: &'a mut [u8]) -> Self
@@ -53,21 +53,28 @@ impl<'a> SliceWriter<'a> {
         self.failed
     }
 
+    // How many octets of the part are written.
+    fn position(&self) -> Length
+        ensures { result ≡ here (slice_writer_state self.now) }
+    {
+        Length::new(self.position)
+    }
+
     /// The error of this kind at the position; the writer has failed.
     pub fn error<T>(&mut self, kind: ErrorKind) -> Result<T, Error>
         ensures at_position { result ≡ Err (at kind (here (slice_writer_state self.old))) }
         ensures failed { slice_writer_state self.new ≡ fallen (slice_writer_state self.old) }
     {
         self.failed = true;
-        Err(kind.at(Length::new(self.position)))
+        Err(kind.at(self.position()))
     }
 
     /// The octets written, or `Failed` at the position of a writer that has failed.
     pub fn finish(self) -> Result<&'a [u8], Error>
-        ensures { seen (λ r. r.now) result ≡ finish_answer (slice_writer_state self.entry) }
+        ensures { seen (λ r. r.now) result ≡ finished_answer (slice_writer_state self.entry) }
     {
         if self.failed {
-            return Err(ErrorKind::Failed.at(Length::new(self.position)));
+            return Err(ErrorKind::Failed.at(self.position()));
         }
         let end = self.start + self.position as usize;
         let bytes = self.bytes;
@@ -89,7 +96,7 @@ impl<'a> SliceWriter<'a> {
             (slice_writer_state self.new) }
     {
         if self.failed {
-            return Err(ErrorKind::Failed.at(Length::new(self.position)));
+            return Err(ErrorKind::Failed.at(self.position()));
         }
         match value.encode(self) {
             Ok(()) => Ok(()),
@@ -97,7 +104,7 @@ impl<'a> SliceWriter<'a> {
                 self.failed = true;
                 match error.position() {
                     Some(_) => Err(error),
-                    None => Err(error.kind().at(Length::new(self.position))),
+                    None => Err(error.kind().at(self.position())),
                 }
             }
         }
@@ -116,27 +123,20 @@ impl<'a> SliceWriter<'a> {
         len: Length,
         f: F,
     ) -> Result<(), Error>
-        requires callable { MayFill (λ p. F.pre f p)
-            (headed (slice_writer_state self.old) (number len)) (number len) }
-        requires same { HandsBack (λ p r q. F.post f p r q)
+        requires { HandsBackPart (F.pre f) (F.post f)
             (headed (slice_writer_state self.old) (number len)) (number len) }
         ensures kept { Kept (slice_writer_state self.old) (slice_writer_state self.new) }
-        ensures ok { Fills (λ p r q. F.post f p r q)
+        ensures ok { Fills (F.post f)
             (headed (slice_writer_state self.old) (number len)) (number len) result
             (slice_writer_state self.new) }
-        ensures runs { RunsInRoom (λ p r q. F.post f p r q)
+        ensures runs { RunsInRoom (F.post f)
             (headed (slice_writer_state self.old) (number len)) (number len) result
             (slice_writer_state self.new) }
-        ensures exact { SequenceAnswer (λ p r q. F.post f p r q) (slice_writer_state self.old)
+        ensures exact { WritesSequence (F.post f) (slice_writer_state self.old)
             (number len) result (slice_writer_state self.new) }
     {
-        match Header::new(Tag::Sequence, len).encode(self) {
-            Ok(()) => match self.fill_part(len, f) {
-                Ok(()) => Ok(()),
-                Err(error) => Err(error),
-            },
-            Err(error) => Err(error),
-        }
+        Header::new(Tag::Sequence, len).encode(self)?;
+        self.fill_part(len, f)
     }
 
     // Sets so many octets apart and has them written by `f`.
@@ -145,31 +145,58 @@ impl<'a> SliceWriter<'a> {
         len: Length,
         f: F,
     ) -> Result<(), Error>
-        requires callable { MayFill (λ p. F.pre f p) (slice_writer_state self.old) (number len) }
-        requires same { HandsBack (λ p r q. F.post f p r q)
-            (slice_writer_state self.old) (number len) }
+        requires { HandsBackPart (F.pre f) (F.post f) (slice_writer_state self.old)
+            (number len) }
         ensures kept { Kept (slice_writer_state self.old) (slice_writer_state self.new) }
-        ensures ok { Fills (λ p r q. F.post f p r q) (slice_writer_state self.old) (number len)
-            result (slice_writer_state self.new) }
-        ensures runs { RunsInRoom (λ p r q. F.post f p r q)
-            (slice_writer_state self.old) (number len) result (slice_writer_state self.new) }
-        ensures exact { PartAnswer (λ p r q. F.post f p r q) (slice_writer_state self.old)
-            (number len) result (slice_writer_state self.new) }
+        ensures ok { Fills (F.post f) (slice_writer_state self.old) (number len) result
+            (slice_writer_state self.new) }
+        ensures runs { RunsInRoom (F.post f) (slice_writer_state self.old) (number len) result
+            (slice_writer_state self.new) }
+        ensures exact { PartAnswer (F.post f) (slice_writer_state self.old) (number len) result
+            (slice_writer_state self.new) }
     {
-        let count = u32::from(len);
-        let from = match self.admit(count as usize) {
-            Ok(from) => from,
-            Err(error) => return Err(error),
-        };
-        let (start, stop, behind) = (self.start, self.stop, self.position + count);
-        self.start = from;
-        self.stop = from + count as usize;
-        self.position = 0;
+        let (start, stop) = (self.start, self.stop);
+        self.set_apart(len)?;
         let answer = f(self);
-        let filled = self.position;
+        self.close_part(start, stop, answer)
+    }
+
+    // Over the next octets alone, where there is room for so many.
+    fn set_apart(&mut self, len: Length) -> Result<(), Error>
+        ensures refused { OnErr result
+            (Kept (slice_writer_state self.old) (slice_writer_state self.new)) }
+        ensures exact { Writes (with_room (number len) (slice_writer_state self.old)
+            (part (slice_writer_state self.old) (number len))) result
+            (slice_writer_state self.new) }
+    {
+        let count = u32::from(len) as usize;
+        self.start = self.admit(count)?;
+        self.stop = self.start + count;
+        self.position = 0;
+        Ok(())
+    }
+
+    // Over its own part again, behind the one that was set apart, with what was made of that.
+    fn close_part(
+        &mut self,
+        start: usize,
+        stop: usize,
+        answer: Result<(), Error>,
+    ) -> Result<(), Error>
+        requires before { start ≤ self.old.start }
+        requires behind { self.old.stop ≤ stop }
+        requires within { stop ≤ length self.old.bytes.now }
+        requires countable { stop < start + 2 ^ 32 }
+        ensures kept { Kept (around (slice_writer_state self.old) start stop)
+            (slice_writer_state self.new) }
+        ensures exact { Closed (around (slice_writer_state self.old) start stop)
+            (self.old.stop - self.old.start) (slice_writer_state self.old)
+            (slice_writer_state self.new) answer result }
+    {
+        let (filled, count) = (self.position, (self.stop - self.start) as u32);
+        self.position = (self.stop - start) as u32;
         self.start = start;
         self.stop = stop;
-        self.position = behind;
         match answer {
             Ok(()) => {
                 if self.failed {
@@ -196,7 +223,7 @@ impl<'a> SliceWriter<'a> {
             (seen (λ _. tt) result) (slice_writer_state self.new) }
     {
         if self.failed {
-            return Err(ErrorKind::Failed.at(Length::new(self.position)));
+            return Err(ErrorKind::Failed.at(self.position()));
         }
         if count > (u32::MAX - self.position) as usize {
             return self.error(ErrorKind::Overflow);

@@ -6,15 +6,13 @@ use Rattle.der_tool.specs.Answer.{Answers, Fulfils, status_of, text_of}
 use Rattle.der_tool.specs.declared.answer.Answer.{Answer}
 use Rattle.der_tool.specs.declared.answer.Answer.TheVariants.{OutOfMemory}
 use Rattle.der_tool.specs.declared.command.Command.{Command}
-use Rattle.der_tool.specs.declared.command.Command.TheVariants.{Head, Tlv}
 use Rattle.der_tool.proofs.program.answer.Goals as goal
 
 -- a command's answer, or that memory was refused
 or_no_memory : {A E : Type 0} (words : List (List ℕ)) (command : Command) (r : Result (Answer A) E) → words ≡ words_of command → IsCommand words
     → IfOk r (λ a. Fulfils command (status_of a) (text_of a))
     → Answers words (status_of (result_unwrap_or r OutOfMemory)) (text_of (result_unwrap_or r OutOfMemory))
-or_no_memory words (Head hex) (Ok a) w i (octets, decoded, answered) = Answers.head w decoded answered
-or_no_memory words (Tlv hex) (Ok a) w i (octets, decoded, answered) = Answers.tlv w decoded answered
+or_no_memory words command (Ok a) w i fulfils = Answers.fulfilled command w fulfils
 or_no_memory words command (Err e) w i h = Answers.no_memory i
 
 pub returns-in-Some : goal.returns-in-Some

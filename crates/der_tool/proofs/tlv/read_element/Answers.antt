@@ -1,4 +1,4 @@
-use Rattle.std.proofs.Common.{rules}
+use Rattle.std.proofs.Common.{rules, refl}
 use Rattle.std.proofs.lemmas.Bool.{false≢true}
 use Rattle.der_core.specs.SliceReader.{slice_state}
 use Rattle.der_tool.proofs.ElementLemmas.{too_long_says, lent_says, told_says}
@@ -10,7 +10,7 @@ returns-in_err-reader-clause-err c =
     search (rules, said)
 
 pub returns-clause-ok : goal.returns-clause-ok
-returns-clause-ok c = lent_says c.args.octets.now (λ s. s.now) (slice_state c.in_ok-reader.reader) (slice_state c.tlv_bytes.new.self) c.tlv_bytes.result c.in_ok-reader.ensures.ok c.tlv_bytes.ensures.exact
+returns-clause-ok c = lent_says c.args.octets.now (λ s. s.now) (slice_state c.in_ok-reader.reader) (slice_state c.tlv_bytes.new.self) c.tlv_bytes.result (c.in_ok-reader.ensures.fits.0 refl) c.in_ok-reader.ensures.ok c.tlv_bytes.ensures.exact
 
 pub returns-clause-err : goal.returns-clause-err
-returns-clause-err c = told_says c.args.octets.now (λ s. s.now) (slice_state c.in_ok-reader.reader) (slice_state c.tlv_bytes.new.self) c.tlv_bytes.result c.in_ok-reader.ensures.ok c.tlv_bytes.ensures.exact
+returns-clause-err c = told_says c.args.octets.now (λ s. s.now) (slice_state c.in_ok-reader.reader) (slice_state c.tlv_bytes.new.self) c.tlv_bytes.result (c.in_ok-reader.ensures.fits.0 refl) c.in_ok-reader.ensures.ok c.tlv_bytes.ensures.exact

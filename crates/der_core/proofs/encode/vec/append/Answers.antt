@@ -26,4 +26,4 @@ returns-in-Err-fill-clause-exact g c =
     let len = c.deref_mut.ensures.len in
     let size = c.in-Ok-resize.ensures.len in
     let room : length (take (length d - c.len-before.result) (drop c.len-before.result d)) ≡ number c.in-Ok.len = ap length (take_rest d c.len-before.result) ∙ length-drop c.len-before.result d ∙ omega (arith, len, size, s.1, f) in
-    not_written c.in-Ok.len x.0 _ x.1 (sym c.in-Ok.ensures.exact) (subst (λ n. g.T.Encode.answers c.args.value.now (fresh n x.0) (Err c.in-Err-fill.error) x.1) room x.2)
+    not_written c.in-Ok.len x.0 _ x.1 (sym c.in-Ok.ensures.exact) (omega (arith, s.0, f, b)) (subst (λ n. g.T.Encode.answers c.args.value.now (fresh n x.0) (Err c.in-Err-fill.error) x.1) room x.2)

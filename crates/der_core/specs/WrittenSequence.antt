@@ -23,19 +23,22 @@ Run = MutBor SliceWriter → Result (Unit {0}) Error → MutBor SliceWriter → 
 abbrev pub part : WriterState → ℕ → WriterState
 part s n = record s { start = length s.octets; stop = length s.octets + n; failed = false }
 
+-- the writer round a part, which stands behind what was written before it
+abbrev pub around : WriterState → ℕ → ℕ → WriterState
+around q start stop =
+    record q { octets = take q.start q.octets; start = start; stop = stop; failed = false }
+
 -- behind the header of a SEQUENCE of n octets
 abbrev pub headed : WriterState → ℕ → WriterState
 headed s n = appended s (header_octets Sequence n)
 
--- the closure may be called with a writer over the part
-abbrev pub MayFill : Condition → WriterState → ℕ → Type 0
-MayFill pre s n = (p : MutBor SliceWriter) → slice_writer_state p.now ≡ part s n → pre p
-
--- and it hands the same writer back
-abbrev pub HandsBack : Run → WriterState → ℕ → Type 0
-HandsBack post s n =
-    (p : MutBor SliceWriter) (r : Result (Unit {0}) Error) (q : MutBor SliceWriter) → slice_writer_state p.now ≡ part s n → post p r q
-    → Kept (slice_writer_state p.now) (slice_writer_state q.now)
+-- the condition on a closure that writes a part of n octets: it may be called with a writer over the
+-- part, and hands back the same writer
+pub record HandsBackPart (pre : Condition) (run : Run) (s : WriterState) (n : ℕ) : Type 0 where
+  pub callable : (p : MutBor SliceWriter) → slice_writer_state p.now ≡ part s n → pre p
+  pub same : (p : MutBor SliceWriter) (r : Result (Unit {0}) Error) (q : MutBor SliceWriter)
+      → slice_writer_state p.now ≡ part s n → run p r q
+      → Kept (slice_writer_state p.now) (slice_writer_state q.now)
 
 -- failed behind a part of n octets, of which those that were written stand
 pub record Abandoned (s : WriterState) (n : ℕ) (q t : WriterState) : Type 0 where
@@ -49,7 +52,7 @@ pub record Abandoned (s : WriterState) (n : ℕ) (q t : WriterState) : Type 0 wh
 
 -- what follows a closure that was handed the part, answered r and left the writer q
 pub data Closed (s : WriterState) (n : ℕ) (q : WriterState) (t : WriterState) : Result (Unit {0}) Error → Result (Unit {0}) Error → Type 0 where
-  refused : (e : Error) → Abandoned s n q t → Closed s n q t (Err e) (Err e)
+  handed_on : (e : Error) → Abandoned s n q t → Closed s n q t (Err e) (Err e)
   failed : q.failed ≡ true → Abandoned s n q t → Closed s n q t (Ok tt) (Err (at Failed (here q)))
   unfilled : q.failed ≡ false → length q.octets < length s.octets + n → Abandoned s n q t
       → Closed s n q t (Ok tt) (Err (at (IncorrectLength Sequence) (plain (written s + n))))
@@ -88,7 +91,7 @@ pub data PartAnswer (run : Run) (s : WriterState) (n : ℕ) (result : Result (Un
   ran : (with_room n s s).answer ≡ Ok tt → Ran run s n result t → PartAnswer run s n result t
 
 -- the rows of `sequence`: no room for the header; else the part behind it
-pub data SequenceAnswer (run : Run) (s : WriterState) (n : ℕ) (result : Result (Unit {0}) Error) (t : WriterState) : Type 0 where
+pub data WritesSequence (run : Run) (s : WriterState) (n : ℕ) (result : Result (Unit {0}) Error) (t : WriterState) : Type 0 where
   no_header : (e : Error) → (header_outcome Sequence n s).answer ≡ Err e → Writes (header_outcome Sequence n s) result t
-      → SequenceAnswer run s n result t
-  with_header : Writes (header_outcome Sequence n s) (Ok tt) (headed s n) → PartAnswer run (headed s n) n result t → SequenceAnswer run s n result t
+      → WritesSequence run s n result t
+  with_header : Writes (header_outcome Sequence n s) (Ok tt) (headed s n) → PartAnswer run (headed s n) n result t → WritesSequence run s n result t
