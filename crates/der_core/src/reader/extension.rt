@@ -185,8 +185,8 @@ pub trait ReaderExt: Reader {
         }
     }
 
-    /// Decodes a value. A reader that has failed refuses by `Failed` at its position, and every
-    /// refusal leaves it failed, where it keeps such a state.
+    /// Decodes a value, as [`Decode::decode`] does. A reader that has failed refuses by `Failed` at
+    /// its position, and every refusal leaves it failed, where it keeps such a state.
     final fn decode<T: Decode<Self>>(
         &mut self,
         alloc: Global,
