@@ -238,15 +238,12 @@ pub trait ReaderExt: Reader {
             Ok(header) => header,
             Err(error) => return Err(E::from(error)),
         };
-        match header.tag() {
-            Tag::Sequence => match read_contents(self, header.length().sans_eoc(), f) {
-                Ok(value) => Ok(value),
-                Err(error) => Err(error),
-            },
-            tag => {
-                let kind = tag.unexpected_error(Some(Tag::Sequence));
-                Err(E::from(kind.to_error()))
-            }
+        if let Err(error) = header.tag().assert_eq(Tag::Sequence) {
+            return Err(E::from(error));
+        }
+        match read_contents(self, header.length().sans_eoc(), f) {
+            Ok(value) => Ok(value),
+            Err(error) => Err(error),
         }
     }
 }
