@@ -1,5 +1,7 @@
 -- Tags, octet by octet.
-use Rattle.std.proofs.Common.{◌≡◌, ℕ, ◌+◌, ◌*◌, ◌%◌, ◌^◌, ◌<◌, ◌≤◌, ◌⊎◌, Bool, false, Some, None, List, [], ◌∷◌, ◌++◌, length, refl, sym, ap, ◌∙◌, subst, ⊎_elim, inl, append-nil, length-append, arith}
+use Rattle.std.proofs.Common.{◌≡◌, ℕ, ◌+◌, ◌*◌, ◌/◌, ◌%◌, ◌^◌, bit_and, ◌<◌, ◌≤◌, ◌⊎◌, Bool, false, Some, None, List, [], ◌∷◌, ◌++◌, length, refl, sym, ap, ◌∙◌, subst, ⊎_elim, inl, append-nil, length-append, arith}
+use Rattle.std.specs.Int.Bits.{and_zero_r}
+use Rattle.std.proofs.lemmas.Nat.{and_mask, and_block, shr_split}
 use Rattle.der_base.specs.Digits.{digits, continued}
 use Rattle.der_base.specs.Error.{at as error_at}
 use Rattle.der_base.specs.Tag.{universal_tag, other_tag, is_constructed}
@@ -18,6 +20,12 @@ use Rattle.der_core.specs.Refused.{Refused, at_fault, has_failed, Stops}
 use Rattle.der_core.specs.Decode.{Passed}
 use Rattle.der_core.specs.Behind.{NumberRefused}
 use Rattle.der_core.proofs.StateLemmas.{reads_none, reads_on, position_on, rules_on, stops_on, error_stops, ByteRefused, byte_failed, byte_cut}
+
+pub bit_six : (o : ℕ) → bit_and o 32 ≡ o / 32 % 2 * 32
+bit_six o =
+    let low : bit_and (o % 2 ^ 5) 0 ≡ 0 = and_zero_r (o % 2 ^ 5) in
+    let high : bit_and (o / 2 ^ 5) 1 ≡ o / 2 ^ 5 % 2 = and_mask (o / 2 ^ 5) 1 in
+    ap (λ n. bit_and n 32) (sym (shr_split o 5)) ∙ and_block 5 (o / 2 ^ 5) 1 (o % 2 ^ 5) 0 (omega arith) (omega arith) ∙ omega (arith, low, high)
 
 -- the octets read of a number that goes on
 abbrev pub NumberSoFar : State → State → ℕ → Type 0
@@ -85,20 +93,25 @@ passed_tag {a} {t} {id} {x} {b} working h is =
       leaves = h.state;
     }
 
-pub passed_universal : {a t : State} {o : ℕ} {x : Tag} → a.failed ≡ false → Reads a t (o ∷ []) → Some x ≡ universal_tag o
-    → Passed (λ rules octets m. TagAhead rules octets x (is_constructed o) m) a t
-passed_universal {o = o} {x = x} working h e =
-    passed_tag working h (identifier_at refl (universal_constructed o x (sym e)) (universal_identifier o x (sym e)))
+-- the bit that was told
+with_bit : {a t : State} {x : Tag} {b c : Bool} → b ≡ c → Passed (λ rules octets m. TagAhead rules octets x c m) a t → Passed (λ rules octets m. TagAhead rules octets x b m) a t
+with_bit {a} {t} {x} e h = subst (λ y. Passed (λ rules octets m. TagAhead rules octets x y m) a t) (sym e) h
 
-pub passed_short : {a t : State} {o : ℕ} {x : Tag} → a.failed ≡ false → Reads a t (o ∷ []) → 64 ≤ o → o < 256 → o % 32 < 31 → x ≡ other_tag o (o % 32)
-    → Passed (λ rules octets m. TagAhead rules octets x (is_constructed o) m) a t
-passed_short {a} {o = o} working h low high few e =
-    passed_tag working h (subst (λ y. IsIdentifier a.rules (o ∷ []) y (is_constructed o)) (sym e) (short_identifier o low high few))
+pub passed_universal : {a t : State} {o : ℕ} {x : Tag} {b : Bool} → a.failed ≡ false → Reads a t (o ∷ []) → Some x ≡ universal_tag o → b ≡ is_constructed o
+    → Passed (λ rules octets m. TagAhead rules octets x b m) a t
+passed_universal {o = o} {x = x} working h e bit =
+    with_bit bit (passed_tag working h (identifier_at refl (universal_constructed o x (sym e)) (universal_identifier o x (sym e))))
 
-pub passed_long : {a b t : State} {o n : ℕ} {x : Tag} → a.failed ≡ false → Reads a b (o ∷ []) → Reads b t (continued (digits 128 n)) → 64 ≤ o → o < 256
-    → o % 32 ≡ 31 → 31 ≤ n → n < 2 ^ 32 → x ≡ other_tag o n → Passed (λ rules octets m. TagAhead rules octets x (is_constructed o) m) a t
-passed_long {a} {o = o} {n = n} working h g low high all large small e =
-    passed_tag working (reads_on h g) (subst (λ y. IsIdentifier a.rules (o ∷ continued (digits 128 n)) y (is_constructed o)) (sym e) (long_identifier o n low high all large small))
+pub passed_short : {a t : State} {o : ℕ} {x : Tag} {b : Bool} → a.failed ≡ false → Reads a t (o ∷ []) → 64 ≤ o → o < 256 → o % 32 < 31 → x ≡ other_tag o (o % 32) → b ≡ is_constructed o
+    → Passed (λ rules octets m. TagAhead rules octets x b m) a t
+passed_short {a} {o = o} working h low high few e bit =
+    with_bit bit (passed_tag working h (subst (λ y. IsIdentifier a.rules (o ∷ []) y (is_constructed o)) (sym e) (short_identifier o low high few)))
+
+pub passed_long : {a b t : State} {o n : ℕ} {x : Tag} {c : Bool} → a.failed ≡ false → Reads a b (o ∷ []) → Reads b t (continued (digits 128 n)) → 64 ≤ o → o < 256
+    → o % 32 ≡ 31 → 31 ≤ n → n < 2 ^ 32 → x ≡ other_tag o n → c ≡ is_constructed o → Passed (λ rules octets m. TagAhead rules octets x c m) a t
+passed_long {a} {o = o} {n = n} working h g low high all large small e bit =
+    with_bit bit
+    (passed_tag working (reads_on h g) (subst (λ y. IsIdentifier a.rules (o ∷ continued (digits 128 n)) y (is_constructed o)) (sym e) (long_identifier o n low high all large small)))
 
 -- a tag is refused
 under_der : {a t : State} {e : Error} {r : Refusal} → a.rules ≡ Der → a.failed ≡ false → IdentifierFault Der a.position (rest a) r → Stops a r e t

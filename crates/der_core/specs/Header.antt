@@ -6,6 +6,6 @@ use Rattle.der_core.specs.declared.header.Header.{Header}
 abbrev pub head_of : Header → Head
 head_of h = head h.tag h.length h.constructed
 
--- the header of the contents alone, without end marks
+-- the header of the contents alone, without the end mark
 abbrev pub contents_header : Header → Header
 contents_header h = record { tag = h.tag; length = without_end h.length; constructed = h.constructed }

@@ -61,8 +61,8 @@ pub trait Decode<R: Reader>: Sized + Drop {
     ///
     /// A reliable reader that has not failed, with `needs` levels of nesting left, gives the value
     /// that stands ahead, or an error that says that memory was refused. Which other errors there
-    /// are, at which positions, and whether the reader has failed then, is said by `answers` of each
-    /// type.
+    /// are, at which positions, and whether the reader has failed then, is said by `answers` of
+    /// each type.
     fn decode(alloc: Global, reader: &mut R) -> Result<Self, Self::Error>
         ensures same { Same (R.state reader.old) (R.state reader.new) }
         ensures ok { IfOk result (λ v. (R.state reader.old).failed ≡ false

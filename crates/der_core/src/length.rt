@@ -19,11 +19,11 @@ const INDEFINITE: u8 = 0x80;
 
 /// Decodes a length (X.690 8.1.3, 10.1), as [`Length::decode`] does, without an allocator.
 ///
-/// Refused by `Incomplete` at the end of the octets, where one more is wanted; by
-/// `IndefiniteLength` at the position after an octet 80; and by `Overlength` at the position after
-/// the length's octets, where fewer would do, or after the first alone, where it announces more
-/// than four. The reader has failed then. One that had failed before refuses by `Failed` at its
-/// position.
+/// An octet that is missing is refused as by [`ReaderExt::read_byte`]: `Incomplete` at the position
+/// where it would stand. An octet 80 is refused by `IndefiniteLength` at the position after it.
+/// `Overlength` is told at the position after the length's octets, where fewer would do, or after
+/// the first alone, where it announces more than four. The reader has failed then. One that had
+/// failed before refuses by `Failed` at its position.
 #[inline(always)]
 pub fn decode_length<R: Reader>(reader: &mut R) -> Result<Length, Error>
     ensures same { Same (R.state reader.old) (R.state reader.new) }

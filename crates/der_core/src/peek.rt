@@ -32,8 +32,9 @@ pub trait TagPeek: Sized {
     ///
     /// Refused by `TagUnknown` after a first octet that begins no tag, by `TagNumberInvalid` after
     /// an octet that no tag number goes on with, and by `Incomplete` where one more octet is
-    /// wanted, each at the position after the octets that were read. The reader has failed then.
-    /// One that had failed before refuses by `Failed` at its position.
+    /// wanted, as by [`ReaderExt::read_byte`], each at the position after the octets that were
+    /// read. The reader has failed then. One that had failed before refuses by `Failed` at its
+    /// position.
     fn decode_with_constructed_bit<R: Reader>(reader: &mut R) -> Result<(Self, bool), Error>;
 }
 

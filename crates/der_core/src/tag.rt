@@ -1,7 +1,7 @@
 //! Tags, read.
 ghost use Rattle.std.specs.Prelude.{◌≡◌, ℕ, ◌^◌, ◌<◌, ◌≤◌, Bool, true, false, [], Ok, IfOk, IfErr};
 ghost use Rattle.der_base.specs.Digits.{digits, continued};
-ghost use Rattle.der_base.specs.Tag.{universal_tag, other_tag};
+ghost use Rattle.der_base.specs.Tag.{universal_tag, other_tag, is_constructed};
 ghost use Rattle.der_base.specs.Header.{TagAhead};
 ghost use Rattle.der_base.specs.Identifier.{IdentifierFault, identifier_kind};
 ghost use Rattle.der_base.specs.declared.tag.Tag.{Tag as ATag};
@@ -48,12 +48,21 @@ fn universal(octet: u8) -> Option<Tag>
     }
 }
 
+// Bit 6 of an identifier's first octet (X.690 8.1.2.3).
+#[inline(always)]
+#[tactic(auto, using(crate::proofs::TagReadLemmas::bit_six))]
+fn has_constructed_bit(first: u8) -> bool
+    ensures { result ≡ is_constructed first }
+{
+    first & 0x20 != 0
+}
+
 // The tag of another class with this first octet and number.
 fn other(first: u8, number: u32) -> Tag
     requires { 64 ≤ first }
     ensures { result ≡ other_tag first number }
 {
-    let constructed = first / 32 % 2 == 1;
+    let constructed = has_constructed_bit(first);
     let number = TagNumber(number);
     if first < 0x80 {
         Tag::Application {
@@ -91,7 +100,7 @@ pub(crate) fn decode_with_constructed_bit<R: Reader>(reader: &mut R) -> Result<(
         Ok(octet) => octet,
         Err(error) => return Err(error),
     };
-    let constructed = first / 32 % 2 == 1;
+    let constructed = has_constructed_bit(first);
     if let Some(tag) = universal(first) {
         return Ok((tag, constructed));
     }

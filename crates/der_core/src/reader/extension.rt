@@ -185,8 +185,8 @@ pub trait ReaderExt: Reader {
         }
     }
 
-    /// Decodes a value. A reader that has failed refuses by `Failed` at its position, and every
-    /// refusal leaves it failed, where it keeps such a state.
+    /// Decodes a value, as [`Decode::decode`] does. A reader that has failed refuses by `Failed` at
+    /// its position, and every refusal leaves it failed, where it keeps such a state.
     final fn decode<T: Decode<Self>>(
         &mut self,
         alloc: Global,
@@ -238,15 +238,12 @@ pub trait ReaderExt: Reader {
             Ok(header) => header,
             Err(error) => return Err(E::from(error)),
         };
-        match header.tag() {
-            Tag::Sequence => match read_contents(self, header.length().sans_eoc(), f) {
-                Ok(value) => Ok(value),
-                Err(error) => Err(error),
-            },
-            tag => {
-                let kind = tag.unexpected_error(Some(Tag::Sequence));
-                Err(E::from(kind.to_error()))
-            }
+        if let Err(error) = header.tag().assert_eq(Tag::Sequence) {
+            return Err(E::from(error));
+        }
+        match read_contents(self, header.length().sans_eoc(), f) {
+            Ok(value) => Ok(value),
+            Err(error) => Err(error),
         }
     }
 }

@@ -14,8 +14,8 @@ use crate::reader::{Reader, ReaderExt, Resumption};
 use der_base::{Error, ErrorKind, Length};
 
 /// Reads the end mark of an indefinite length, two zero octets (X.690 8.1.5). The first octet that
-/// is not zero is refused by `IndefiniteLength` at the position after it, one that is not there by
-/// `Incomplete` at the position; the reader has failed then. A failed reader refuses by `Failed`.
+/// is not zero is refused by `IndefiniteLength` at the position after it, and the reader has
+/// failed; one that is missing is refused as by [`ReaderExt::read_byte`].
 pub fn read_eoc<R: Reader>(reader: &mut R) -> Result<(), Error>
     ensures same { Same (R.state reader.old) (R.state reader.new) }
     ensures exact { Meets R.reliable read_eoc_outcome (R.state reader.old) result

@@ -12,15 +12,15 @@ returns-in-Err-clause-accepts g c reliable der working t bit m ahead =
     absurd (tag_not_refused (tag_ends der (byte_refused (g.met.R.Reader.lawful c.args.reader.now) (c.in-Err.ensures.exact reliable))) working ahead)
 
 pub returns-in-Some-clause-ok : goal.returns-in-Some-clause-ok
-returns-in-Some-clause-ok g c = passed_universal (byte_working _ _ _ c.in-Ok.ensures.exact) (byte_read c.in-Ok.ensures.exact) c.in-Some.ensures
+returns-in-Some-clause-ok g c = passed_universal (byte_working _ _ _ c.in-Ok.ensures.exact) (byte_read c.in-Ok.ensures.exact) c.in-Some.ensures c.has_constructed_bit-constructed.ensures
 
 pub returns-in-Some-clause-accepts : goal.returns-in-Some-clause-accepts
 returns-in-Some-clause-accepts g c reliable der working t bit m ahead =
-    let one = identifier_accepted (passed_universal (byte_working _ _ _ c.in-Ok.ensures.exact) (byte_read c.in-Ok.ensures.exact) c.in-Some.ensures) ahead in
+    let one = identifier_accepted (passed_universal (byte_working _ _ _ c.in-Ok.ensures.exact) (byte_read c.in-Ok.ensures.exact) c.in-Some.ensures c.has_constructed_bit-constructed.ensures) ahead in
     (ap Ok one.0, one.1)
 
 pub returns-in-Some-clause-exact : goal.returns-in-Some-clause-exact
-returns-in-Some-clause-exact g c reliable = passed_universal (byte_working _ _ _ c.in-Ok.ensures.exact) (byte_read c.in-Ok.ensures.exact) c.in-Some.ensures
+returns-in-Some-clause-exact g c reliable = passed_universal (byte_working _ _ _ c.in-Ok.ensures.exact) (byte_read c.in-Ok.ensures.exact) c.in-Some.ensures c.has_constructed_bit-constructed.ensures
 
 pub returns-then-first-lt64-clause-exact : goal.returns-then-first-lt64-clause-exact
 returns-then-first-lt64-clause-exact g c reliable der =
@@ -33,32 +33,32 @@ returns-then-first-lt64-clause-accepts g c reliable der working t bit m ahead =
 
 pub returns-then-low-lt31-clause-ok : goal.returns-then-low-lt31-clause-ok
 returns-then-low-lt31-clause-ok g c =
-    passed_short (byte_working _ _ _ c.in-Ok.ensures.exact) (byte_read c.in-Ok.ensures.exact) c.if-first-lt64.false (omega arith) c.if-low-lt31.true c.other.ensures
+    passed_short (byte_working _ _ _ c.in-Ok.ensures.exact) (byte_read c.in-Ok.ensures.exact) c.if-first-lt64.false (omega arith) c.if-low-lt31.true c.other.ensures c.has_constructed_bit-constructed.ensures
 
 pub returns-then-low-lt31-clause-accepts : goal.returns-then-low-lt31-clause-accepts
 returns-then-low-lt31-clause-accepts g c reliable der working t bit m ahead =
-    let one = identifier_accepted (passed_short working (byte_read c.in-Ok.ensures.exact) c.if-first-lt64.false (omega arith) c.if-low-lt31.true c.other.ensures) ahead in
+    let one = identifier_accepted (passed_short working (byte_read c.in-Ok.ensures.exact) c.if-first-lt64.false (omega arith) c.if-low-lt31.true c.other.ensures c.has_constructed_bit-constructed.ensures) ahead in
     (ap Ok one.0, one.1)
 
 pub returns-then-low-lt31-clause-exact : goal.returns-then-low-lt31-clause-exact
 returns-then-low-lt31-clause-exact g c reliable =
-    passed_short (byte_working _ _ _ c.in-Ok.ensures.exact) (byte_read c.in-Ok.ensures.exact) c.if-first-lt64.false (omega arith) c.if-low-lt31.true c.other.ensures
+    passed_short (byte_working _ _ _ c.in-Ok.ensures.exact) (byte_read c.in-Ok.ensures.exact) c.if-first-lt64.false (omega arith) c.if-low-lt31.true c.other.ensures c.has_constructed_bit-constructed.ensures
 
 pub returns-in-Ok-decode_long_number-clause-ok : goal.returns-in-Ok-decode_long_number-clause-ok
 returns-in-Ok-decode_long_number-clause-ok g c =
     let number = c.in-Ok-decode_long_number.ensures.ok in
-    passed_long (byte_working _ _ _ c.in-Ok.ensures.exact) (byte_read c.in-Ok.ensures.exact) number.0 c.if-first-lt64.false (omega arith) (omega arith) number.1 number.2 c.other-in-Ok-decode_long_number.ensures
+    passed_long (byte_working _ _ _ c.in-Ok.ensures.exact) (byte_read c.in-Ok.ensures.exact) number.0 c.if-first-lt64.false (omega arith) (omega arith) number.1 number.2 c.other-in-Ok-decode_long_number.ensures c.has_constructed_bit-constructed.ensures
 
 pub returns-in-Ok-decode_long_number-clause-accepts : goal.returns-in-Ok-decode_long_number-clause-accepts
 returns-in-Ok-decode_long_number-clause-accepts g c reliable der working t bit m ahead =
     let number = c.in-Ok-decode_long_number.ensures.ok in
-    let one = identifier_accepted (passed_long working (byte_read c.in-Ok.ensures.exact) number.0 c.if-first-lt64.false (omega arith) (omega arith) number.1 number.2 c.other-in-Ok-decode_long_number.ensures) ahead in
+    let one = identifier_accepted (passed_long working (byte_read c.in-Ok.ensures.exact) number.0 c.if-first-lt64.false (omega arith) (omega arith) number.1 number.2 c.other-in-Ok-decode_long_number.ensures c.has_constructed_bit-constructed.ensures) ahead in
     (ap Ok one.0, one.1)
 
 pub returns-in-Ok-decode_long_number-clause-exact : goal.returns-in-Ok-decode_long_number-clause-exact
 returns-in-Ok-decode_long_number-clause-exact g c reliable =
     let number = c.in-Ok-decode_long_number.ensures.ok in
-    passed_long (byte_working _ _ _ c.in-Ok.ensures.exact) (byte_read c.in-Ok.ensures.exact) number.0 c.if-first-lt64.false (omega arith) (omega arith) number.1 number.2 c.other-in-Ok-decode_long_number.ensures
+    passed_long (byte_working _ _ _ c.in-Ok.ensures.exact) (byte_read c.in-Ok.ensures.exact) number.0 c.if-first-lt64.false (omega arith) (omega arith) number.1 number.2 c.other-in-Ok-decode_long_number.ensures c.has_constructed_bit-constructed.ensures
 
 pub returns-in-Err-decode_long_number-clause-exact : goal.returns-in-Err-decode_long_number-clause-exact
 returns-in-Err-decode_long_number-clause-exact g c reliable der =
