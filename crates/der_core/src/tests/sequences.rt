@@ -1,3 +1,4 @@
+//! SEQUENCEs that are written into a slice.
 ghost use Rattle.std.specs.Prelude.{◌≡◌, ◌++◌, length, OnOk};
 ghost use Rattle.der_base.specs.Length.{number};
 ghost use Rattle.der_base.specs.Header.{header_octets};
@@ -37,6 +38,18 @@ fn a_sequence_is_filled(rt: HostRuntime) -> Result<(), Fail> {
     assert!(rt; !writer.is_failed());
     assert_eq!(rt; writer.write_byte(0x01), Ok(()));
     assert_eq!(rt; writer.finish()?, [0x30, 0x02, 0x05, 0x00, 0x01].as_slice());
+    Ok(())
+}
+
+#[test]
+fn a_sequence_that_fills_the_buffer(rt: HostRuntime) -> Result<(), Fail> {
+    let mut buf = [0; 4];
+    let mut writer = SliceWriter::new(&mut buf);
+    assert_eq!(rt;
+        writer.sequence(Length::new(2), |w| w.write(&[0x05, 0x00])),
+        Ok(())
+    );
+    assert_eq!(rt; writer.finish()?, [0x30, 0x02, 0x05, 0x00].as_slice());
     Ok(())
 }
 

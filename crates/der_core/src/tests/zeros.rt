@@ -51,6 +51,7 @@ struct Answers {
     encode_to_vec: Result<Length, Error>,
 }
 
+// The count is a parameter, since with it written out the check would count so many zeros.
 fn ask(alloc: Global, count: u32, out: &mut Vec<u8>) -> Answers {
     let zeros = Zeros { count };
     Answers {
@@ -74,13 +75,14 @@ fn elements_that_are_too_long(rt: HostRuntime) -> Result<(), Fail> {
     Ok(())
 }
 
+// A parameter, as for `ask`.
+fn longest(count: u32) -> Result<Length, Error> {
+    Zeros { count }.encoded_len()
+}
+
 #[test]
 fn the_longest_element(rt: HostRuntime) {
     assert_eq!(rt; longest(4294967289), Ok(Length::MAX));
-}
-
-fn longest(count: u32) -> Result<Length, Error> {
-    Zeros { count }.encoded_len()
 }
 
 #[test]
