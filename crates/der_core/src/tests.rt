@@ -8,6 +8,8 @@ use std::alloc::Global;
 use std::test::Fail;
 
 mod ahead;
+mod counter;
+mod depth;
 mod encoding;
 mod headers;
 mod lengths;
@@ -18,6 +20,8 @@ mod references;
 mod sequences;
 mod tags;
 mod unlent;
+mod unlent_parts;
+mod unlent_peeks;
 mod writers;
 mod wrong;
 mod zeros;

@@ -7,7 +7,18 @@ fn what_is_ahead(rt: HostRuntime) -> Result<(), Fail> {
     let reader = SliceReader::new(&octets)?;
     let integer = Header::new(Tag::Integer, Length::ONE);
     assert_eq!(rt; Header::peek(&reader), Ok(integer));
+    assert_eq!(rt; reader.position(), Length::ZERO);
     assert_eq!(rt; reader.peek_header(), Ok(integer));
+    assert_eq!(rt; reader.position(), Length::ZERO);
+    Ok(())
+}
+
+#[test]
+fn a_tag_alone_ahead(rt: HostRuntime) -> Result<(), Fail> {
+    let octets = [0x02];
+    let reader = SliceReader::new(&octets)?;
+    assert_eq!(rt; Tag::peek(&reader), Ok(Tag::Integer));
+    assert_eq!(rt; reader.position(), Length::ZERO);
     Ok(())
 }
 
@@ -46,6 +57,8 @@ fn a_long_tag_ahead(rt: HostRuntime) -> Result<(), Fail> {
     let reader = SliceReader::new(&long)?;
     let invalid = ErrorKind::TagNumberInvalid.at(Length::new(6));
     assert_eq!(rt; Tag::peek(&reader), Err(invalid));
+    assert_eq!(rt; reader.position(), Length::ZERO);
+    assert!(rt; !reader.is_failed());
     Ok(())
 }
 
@@ -54,12 +67,23 @@ fn the_longest_header_ahead(rt: HostRuntime) -> Result<(), Fail> {
     let longest = [
         0xBF, 0x8F, 0xFF, 0xFF, 0xFF, 0x7F, 0x84, 0xFF, 0xFF, 0xFF, 0xFF,
     ];
-    let mut reader = SliceReader::new(&longest)?;
+    let reader = SliceReader::new(&longest)?;
     let header = Header::new(TagNumber(4294967295).context_specific(true), Length::MAX);
     assert_eq!(rt; Header::peek(&reader), Ok(header));
+    assert_eq!(rt; reader.position(), Length::ZERO);
+    Ok(())
+}
+
+#[test]
+fn an_element_that_no_length_counts(rt: HostRuntime) -> Result<(), Fail> {
+    let octets = [
+        0xBF, 0x8F, 0xFF, 0xFF, 0xFF, 0x7F, 0x84, 0xFF, 0xFF, 0xFF, 0xFF,
+    ];
+    let mut reader = SliceReader::new(&octets)?;
     let overflow = ErrorKind::Overflow.to_error();
     assert_eq!(rt; reader.tlv_bytes().err(), Some(overflow));
     assert_eq!(rt; reader.position(), Length::ZERO);
+    assert!(rt; !reader.is_failed());
     Ok(())
 }
 
@@ -81,11 +105,17 @@ fn a_tag_that_matches(rt: HostRuntime) -> Result<(), Fail> {
         Ok(false)
     );
     assert_eq!(rt; reader.position(), Length::ZERO);
+    Ok(())
+}
+
+#[test]
+fn no_tag_that_matches(rt: HostRuntime) -> Result<(), Fail> {
     let mut reader = SliceReader::new(&[])?;
     assert_eq!(rt;
-        Tag::peek_matches(&mut reader, Class::ContextSpecific, zero),
+        Tag::peek_matches(&mut reader, Class::ContextSpecific, TagNumber(0)),
         Ok(false)
     );
+    assert!(rt; !reader.is_failed());
     Ok(())
 }
 
@@ -136,10 +166,18 @@ fn octets_passed(rt: HostRuntime) -> Result<(), Fail> {
 }
 
 #[test]
-fn octets_passed_to_the_end(rt: HostRuntime) -> Result<(), Fail> {
+fn octets_passed_that_are_not_there(rt: HostRuntime) -> Result<(), Fail> {
     let octets = [0x07; 18];
     let mut reader = SliceReader::new(&octets)?;
     assert_eq!(rt; reader.drain(Length::new(20)), Err(incomplete(20, 18, 16)));
+    assert!(rt; reader.is_failed());
+    assert_eq!(rt; reader.position(), Length::new(16));
+    Ok(())
+}
+
+#[test]
+fn octets_passed_to_the_end(rt: HostRuntime) -> Result<(), Fail> {
+    let octets = [0x07; 18];
     let mut reader = SliceReader::new(&octets)?;
     assert_eq!(rt; reader.drain(Length::new(18)), Ok(()));
     assert!(rt; reader.is_finished());

@@ -1,6 +1,7 @@
+//! Headers, lengths, tags and elements as octets.
 use super::month::Month;
 use super::*;
-use crate::{Encode, SliceWriter, encode_tlv};
+use crate::{Encode, SliceWriter, encode_tlv, encoded_len_tlv};
 
 #[test]
 fn headers_as_octets(rt: HostRuntime) -> Result<(), Fail> {
@@ -64,52 +65,55 @@ fn lengths_as_octets(rt: HostRuntime) -> Result<(), Fail> {
     Ok(())
 }
 
+// Whether a tag is written as these octets, counts them, and is read from them.
+fn is_written_as(alloc: Global, tag: Tag, want: &[u8]) -> Result<bool, Error> {
+    let mut buf = [0; 6];
+    let der = tag.encode_to_slice(&mut buf)?;
+    let is_counted = tag.encoded_len() == Length::new_usize(want.len());
+    let is_read = front::<Tag>(alloc, der) == Ok((tag, 0));
+    Ok(der == want && is_counted && is_read)
+}
+
 #[test]
-fn tags_as_octets(rt: HostRuntime) -> Result<(), Fail> {
-    let rows = [
-        (Tag::Boolean, [0x01].as_slice()),
-        (Tag::BmpString, [0x1E].as_slice()),
-        (Tag::Set, [0x31].as_slice()),
-        (TagNumber(0).context_specific(true), [0xA0].as_slice()),
-        (TagNumber(30).private(false), [0xDE].as_slice()),
-        (TagNumber(31).application(true), [0x7F, 0x1F].as_slice()),
-        (TagNumber(127).application(false), [0x5F, 0x7F].as_slice()),
-        (
-            TagNumber(128).application(false),
-            [0x5F, 0x81, 0x00].as_slice(),
-        ),
-        (
-            TagNumber(16383).context_specific(false),
-            [0x9F, 0xFF, 0x7F].as_slice(),
-        ),
-        (
-            TagNumber(16385).application(false),
-            [0x5F, 0x81, 0x80, 0x01].as_slice(),
-        ),
-        (
-            TagNumber(2097153).context_specific(false),
-            [0x9F, 0x81, 0x80, 0x80, 0x01].as_slice(),
-        ),
-        (
-            TagNumber(268435456).private(true),
-            [0xFF, 0x81, 0x80, 0x80, 0x80, 0x00].as_slice(),
-        ),
-        (
-            TagNumber(4294967295).private(false),
-            [0xDF, 0x8F, 0xFF, 0xFF, 0xFF, 0x7F].as_slice(),
-        ),
-    ];
-    for (tag, want) in rows {
-        let mut buf = [0; 6];
-        let der = tag.encode_to_slice(&mut buf)?;
-        assert_eq!(rt; der, want, "at {tag}");
-        assert_eq!(rt;
-            tag.encoded_len(),
-            Length::new_usize(want.len()),
-            "at {tag}"
-        );
-        assert_eq!(rt; front::<Tag>(rt.alloc(), der), Ok((tag, 0)), "at {tag}");
-    }
+fn tags_of_one_octet(rt: HostRuntime) -> Result<(), Fail> {
+    let alloc = rt.alloc();
+    assert!(rt; is_written_as(alloc, Tag::Boolean, &[0x01])?);
+    assert!(rt; is_written_as(alloc, Tag::BmpString, &[0x1E])?);
+    assert!(rt; is_written_as(alloc, Tag::Set, &[0x31])?);
+    let context_specific = TagNumber(0).context_specific(true);
+    assert!(rt; is_written_as(alloc, context_specific, &[0xA0])?);
+    let private = TagNumber(30).private(false);
+    assert!(rt; is_written_as(alloc, private, &[0xDE])?);
+    Ok(())
+}
+
+#[test]
+fn tags_of_two_and_three_octets(rt: HostRuntime) -> Result<(), Fail> {
+    let alloc = rt.alloc();
+    let first = TagNumber(31).application(true);
+    assert!(rt; is_written_as(alloc, first, &[0x7F, 0x1F])?);
+    let last = TagNumber(127).application(false);
+    assert!(rt; is_written_as(alloc, last, &[0x5F, 0x7F])?);
+    let first = TagNumber(128).application(false);
+    assert!(rt; is_written_as(alloc, first, &[0x5F, 0x81, 0x00])?);
+    let last = TagNumber(16383).context_specific(false);
+    assert!(rt; is_written_as(alloc, last, &[0x9F, 0xFF, 0x7F])?);
+    Ok(())
+}
+
+#[test]
+fn tags_of_more_octets(rt: HostRuntime) -> Result<(), Fail> {
+    let alloc = rt.alloc();
+    let tag = TagNumber(16385).application(false);
+    assert!(rt; is_written_as(alloc, tag, &[0x5F, 0x81, 0x80, 0x01])?);
+    let tag = TagNumber(2097153).context_specific(false);
+    assert!(rt; is_written_as(alloc, tag, &[0x9F, 0x81, 0x80, 0x80, 0x01])?);
+    let tag = TagNumber(268435456).private(true);
+    let octets = [0xFF, 0x81, 0x80, 0x80, 0x80, 0x00];
+    assert!(rt; is_written_as(alloc, tag, &octets)?);
+    let greatest = TagNumber(4294967295).private(false);
+    let octets = [0xDF, 0x8F, 0xFF, 0xFF, 0xFF, 0x7F];
+    assert!(rt; is_written_as(alloc, greatest, &octets)?);
     Ok(())
 }
 
@@ -117,7 +121,9 @@ fn tags_as_octets(rt: HostRuntime) -> Result<(), Fail> {
 fn elements_as_octets(rt: HostRuntime) -> Result<(), Fail> {
     let mut buf = [0; 4];
     let mut writer = SliceWriter::new(&mut buf);
-    assert_eq!(rt; encode_tlv(&Month { number: 9 }, &mut writer), Ok(()));
+    let month = Month { number: 9 };
+    assert_eq!(rt; encode_tlv(&month, &mut writer), Ok(()));
+    assert_eq!(rt; encoded_len_tlv(&month), Ok(Length::new(3)));
     assert_eq!(rt; writer.finish()?, [0x04, 0x01, 0x09].as_slice());
     Ok(())
 }

@@ -1,7 +1,7 @@
 //! A type of a user's own: a month as an `OCTET STRING` of one octet.
 ghost use Rattle.std.specs.Prelude.{◌≡◌, ◌+◌, [], ◌∷◌, Ok, ◌++◌, IfOk, OnErr, OnOk};
 ghost use Rattle.der_base.specs.Length.{plain};
-ghost use Rattle.der_base.specs.declared.tag.Tag.TheVariants.{OctetString};
+ghost use Rattle.der_base.specs.declared.tag.Tag.TheVariants.{OctetString, Sequence};
 ghost use Rattle.der_core.specs.Writer.{Writes, write_outcome};
 
 use super::*;
@@ -76,7 +76,30 @@ fn a_month_is_written(rt: HostRuntime) -> Result<(), Fail> {
 #[test]
 fn the_tag_of_a_type(rt: HostRuntime) {
     assert_eq!(rt; Month::TAG, Tag::OctetString);
+    assert_eq!(rt; Month::fixed_tag(), Tag::OctetString);
     assert_eq!(rt; Month { number: 9 }.tag(), Tag::OctetString);
     assert!(rt; !Month::CONSTRUCTED);
     assert!(rt; !Month::has_constructed_bit());
+}
+
+// Months in a SEQUENCE, of which the tag alone matters here.
+struct Months;
+
+impl FixedTag for Months {
+    ghost tag_is = { Sequence };
+
+    const TAG: Tag = Tag::Sequence;
+
+    fn fixed_tag() -> Tag {
+        Self::TAG
+    }
+}
+
+#[test]
+fn the_tag_of_a_constructed_type(rt: HostRuntime) {
+    assert_eq!(rt; Months::TAG, Tag::Sequence);
+    assert_eq!(rt; Months::fixed_tag(), Tag::Sequence);
+    assert_eq!(rt; Months.tag(), Tag::Sequence);
+    assert!(rt; Months::CONSTRUCTED);
+    assert!(rt; Months::has_constructed_bit());
 }

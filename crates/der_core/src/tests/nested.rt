@@ -111,25 +111,6 @@ fn a_sequence_that_is_cut(rt: HostRuntime) -> Result<(), Fail> {
     Ok(())
 }
 
-fn dive(reader: &mut SliceReader<'_>, levels: u8) -> Result<(), Error> {
-    for _level in 0..levels {
-        let _ = reader.enter_nested(Length::ZERO)?;
-    }
-    Ok(())
-}
-
-#[test]
-fn parts_inside_each_other(rt: HostRuntime) -> Result<(), Fail> {
-    let mut reader = SliceReader::new(&[])?;
-    dive(&mut reader, 64)?;
-    assert!(rt; !reader.is_failed());
-    let too_deep = ErrorKind::NestingDepth.at(Length::ZERO);
-    assert_eq!(rt; reader.enter_nested(Length::ZERO).err(), Some(too_deep));
-    assert!(rt; reader.is_failed());
-    assert_eq!(rt; reader.input_len(), Length::ZERO);
-    Ok(())
-}
-
 #[test]
 fn positions(rt: HostRuntime) -> Result<(), Fail> {
     let mut position = Position::new(Length::new(42));

@@ -1,4 +1,5 @@
 use super::*;
+use crate::DecodeError;
 
 #[test]
 fn a_new_reader(rt: HostRuntime) -> Result<(), Fail> {
@@ -70,4 +71,10 @@ fn an_error_of_the_caller(rt: HostRuntime) -> Result<(), Fail> {
     assert!(rt; reader.is_failed());
     assert_eq!(rt; reader.position(), Length::ONE);
     Ok(())
+}
+
+#[test]
+fn memory_that_was_refused(rt: HostRuntime) {
+    assert!(rt; ErrorKind::OutOfMemory.to_error().is_out_of_memory());
+    assert!(rt; !ErrorKind::Overflow.to_error().is_out_of_memory());
 }

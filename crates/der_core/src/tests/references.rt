@@ -1,3 +1,4 @@
+//! References, which are encoded as what they refer to.
 use super::month::Month;
 use super::*;
 use crate::{Encode, EncodeRef, EncodeValue, EncodeValueRef, Tagged, encode_value_to_slice};

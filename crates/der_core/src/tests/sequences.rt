@@ -1,9 +1,11 @@
-ghost use Rattle.std.specs.Prelude.{◌≡◌, ◌++◌, length, OnOk};
+//! SEQUENCEs that are written into a slice.
+ghost use Rattle.std.specs.Prelude.{◌≡◌, ◌+◌, ◌≤◌, ◌++◌, false, length, OnOk, IsOk};
 ghost use Rattle.der_base.specs.Length.{number};
 ghost use Rattle.der_base.specs.Header.{header_octets};
 ghost use Rattle.der_base.specs.declared.tag.Tag.TheVariants.{Sequence};
 ghost use Rattle.der_core.specs.Writer.{Kept, Appends};
 ghost use Rattle.der_core.specs.SliceWriter.{slice_writer_state};
+ghost use Rattle.der_core.specs.Sequence.{headed};
 
 use super::*;
 use crate::{Encode, SliceWriter, Writer};
@@ -19,6 +21,10 @@ fn encode_in_sequence<T: Encode>(
         (header_octets Sequence (number len) ++ T.encoding value.now) result
         (slice_writer_state writer.new) }
     ensures fills { OnOk result (length (T.encoding value.now) ≡ number len) }
+    ensures succeeds { T.encodable value.now → length (T.encoding value.now) ≡ number len
+        → (slice_writer_state writer.old).failed ≡ false
+        → length (headed (slice_writer_state writer.old) (number len)).octets + number len
+        ≤ (slice_writer_state writer.old).stop → IsOk result }
 {
     match writer.sequence(len, |w| value.encode(w)) {
         Ok(()) => Ok(()),
@@ -37,6 +43,18 @@ fn a_sequence_is_filled(rt: HostRuntime) -> Result<(), Fail> {
     assert!(rt; !writer.is_failed());
     assert_eq!(rt; writer.write_byte(0x01), Ok(()));
     assert_eq!(rt; writer.finish()?, [0x30, 0x02, 0x05, 0x00, 0x01].as_slice());
+    Ok(())
+}
+
+#[test]
+fn a_sequence_that_fills_the_buffer(rt: HostRuntime) -> Result<(), Fail> {
+    let mut buf = [0; 4];
+    let mut writer = SliceWriter::new(&mut buf);
+    assert_eq!(rt;
+        writer.sequence(Length::new(2), |w| w.write(&[0x05, 0x00])),
+        Ok(())
+    );
+    assert_eq!(rt; writer.finish()?, [0x30, 0x02, 0x05, 0x00].as_slice());
     Ok(())
 }
 

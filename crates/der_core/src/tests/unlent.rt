@@ -8,8 +8,8 @@ use crate::{Resumption, read_eoc};
 use der_base::EncodingRules;
 
 #[derive(Drop)]
-struct Unlent<'a> {
-    inner: SliceReader<'a>,
+pub struct Unlent<'a> {
+    pub inner: SliceReader<'a>,
 }
 
 impl<'a> Reader for Unlent<'a> {
@@ -94,7 +94,7 @@ impl<'a> Reader for Unlent<'a> {
     ghost lending = { λ reliable. Prim.search rules };
 }
 
-fn make_unlent(bytes: &[u8]) -> Result<Unlent<'_>, Error> {
+pub(super) fn make_unlent(bytes: &[u8]) -> Result<Unlent<'_>, Error> {
     match SliceReader::new(bytes) {
         Ok(inner) => Ok(Unlent { inner }),
         Err(error) => Err(error),

@@ -1,3 +1,4 @@
+//! What a writer into a slice takes, and what it refuses.
 use super::*;
 use crate::{Encode, SliceWriter, Writer};
 

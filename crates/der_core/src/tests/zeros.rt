@@ -42,45 +42,29 @@ impl EncodeValue for Zeros {
     }
 }
 
-// Each answer for so many octets of contents.
-#[derive(Drop)]
-struct Answers {
-    encoded_len: Result<Length, Error>,
-    encoded_len_tlv: Result<Length, Error>,
-    to_der: Option<Error>,
-    encode_to_vec: Result<Length, Error>,
-}
-
-fn ask(alloc: Global, count: u32, out: &mut Vec<u8>) -> Answers {
-    let zeros = Zeros { count };
-    Answers {
-        encoded_len: zeros.encoded_len(),
-        encoded_len_tlv: encoded_len_tlv(&zeros),
-        to_der: zeros.to_der(alloc).err(),
-        encode_to_vec: zeros.encode_to_vec(out),
-    }
+#[test]
+fn elements_that_are_too_long(rt: HostRuntime) -> Result<(), Fail> {
+    let zeros = Zeros { count: 4294967290 };
+    let overflow = ErrorKind::Overflow.to_error();
+    assert_eq!(rt; zeros.encoded_len(), Err(overflow));
+    assert_eq!(rt; encoded_len_tlv(&zeros), Err(overflow));
+    assert_eq!(rt; zeros.to_der(rt.alloc()).err(), Some(overflow));
+    Ok(())
 }
 
 #[test]
-fn elements_that_are_too_long(rt: HostRuntime) -> Result<(), Fail> {
+fn an_element_that_is_too_long_for_a_vector(rt: HostRuntime) -> Result<(), Fail> {
     let mut out = Vec::from_slice(rt.alloc(), &[0xBBu8])?;
     let overflow = ErrorKind::Overflow.to_error();
-    let too_long = ask(rt.alloc(), 4294967290, &mut out);
-    assert_eq!(rt; too_long.encoded_len, Err(overflow));
-    assert_eq!(rt; too_long.encoded_len_tlv, Err(overflow));
-    assert_eq!(rt; too_long.to_der, Some(overflow));
-    assert_eq!(rt; too_long.encode_to_vec, Err(overflow));
+    let zeros = Zeros { count: 4294967290 };
+    assert_eq!(rt; zeros.encode_to_vec(&mut out), Err(overflow));
     assert_eq!(rt; out.as_slice(), [0xBB].as_slice());
     Ok(())
 }
 
 #[test]
 fn the_longest_element(rt: HostRuntime) {
-    assert_eq!(rt; longest(4294967289), Ok(Length::MAX));
-}
-
-fn longest(count: u32) -> Result<Length, Error> {
-    Zeros { count }.encoded_len()
+    assert_eq!(rt; Zeros { count: 4294967289 }.encoded_len(), Ok(Length::MAX));
 }
 
 #[test]
