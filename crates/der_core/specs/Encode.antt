@@ -111,7 +111,7 @@ abbrev pub FreshAnswer : WriterAnswer → ℕ → Result (Unit {0}) Error → Ty
 FreshAnswer answers n result =
     (reference : ℕ) × (t : WriterState) × answers (fresh n reference) result t
 
--- what is answered then, where an answer that is an error comes first if it is an error
+-- what is answered where a writer is finished behind an answer: that answer's error, if it is one
 abbrev pub finished : Result (Unit {0}) Error → WriterState → Result (List ℕ) Error
 finished (Ok _) t = finished_answer t
 finished (Err e) t = Err e

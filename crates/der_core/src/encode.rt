@@ -34,8 +34,8 @@ pub trait Encode {
 
     ghost answers: { Self → WriterState → AResult (Unit {0}) AnError → WriterState → Type 0 };
 
-    /// How many octets the encoding has. Refused is what a length cannot count, as by `Overflow`
-    /// without a position, and what the type itself refuses: `size` is the answer.
+    /// How many octets the encoding has. An element of more than 4294967295 octets is `Overflow`
+    /// without a position; other errors are the type's own. `size` says which.
     fn encoded_len(&self) -> Result<Length, Error>
         ensures ok { Counts (encoding self.now) result }
         ensures succeeds { encodable self.now → HasSize (encoding self.now) result }

@@ -96,8 +96,7 @@ pub trait EncodeValue: WrittenValue {
         Ok(Header::new(self.tag(), len))
     }
 
-    /// How many octets the contents have. Refused is what a length cannot count, as by `Overflow`
-    /// without a position, and what the type itself refuses: `value_size` is the answer.
+    /// How many octets the contents have. Errors are the type's own; `value_size` says which.
     fn value_len(&self) -> Result<Length, Error>
         ensures ok { Counts (Self.contents self.now) result }
         ensures succeeds { Self.writable self.now → HasSize (Self.contents self.now) result }
