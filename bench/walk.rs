@@ -1,5 +1,5 @@
-//! Walks over 16 MiB of elements by the proved reader and by a flat walk, and tells how long an
-//! element takes each.
+//! Walks over 16 MiB of elements by the proved reader and by hand, and tells how long an element
+//! takes each.
 use std::hint::black_box;
 use std::time::Instant;
 
@@ -22,7 +22,7 @@ struct Totals {
 
 unsafe extern "C" {
     // A slice is handed over as a pointer and then a length.
-    #[link_name = "walk"]
+    #[link_name = "der_bench_walk"]
     fn library_walk(octets: *const u8, len: usize) -> Totals;
 }
 
@@ -31,9 +31,9 @@ fn proved_walk(bytes: &[u8]) -> Totals {
     unsafe { library_walk(bytes.as_ptr(), bytes.len()) }
 }
 
-/// The walk as it is written by hand, without a reader: it refuses the same elements.
+/// The walk as one writes it by hand, without a reader: it refuses the same elements.
 #[inline(never)]
-fn flat_walk(bytes: &[u8]) -> Totals {
+fn walk_by_hand(bytes: &[u8]) -> Totals {
     let mut totals = Totals::default();
     let mut rest = bytes;
     while let Some((contents, behind)) = split_element(rest) {
@@ -178,7 +178,7 @@ fn elements(next_len: fn(&mut Numbers) -> usize) -> (Vec<u8>, u64) {
 /// The least time of a walk among the rounds, in nanoseconds an element; the rounds of the two
 /// walks alternate, so that both see the same machine.
 fn measure(bytes: &[u8], count: u64) -> (f64, f64) {
-    let walks: [fn(&[u8]) -> Totals; 2] = [proved_walk, flat_walk];
+    let walks: [fn(&[u8]) -> Totals; 2] = [proved_walk, walk_by_hand];
     let mut least = [f64::INFINITY; 2];
     for _ in 0..ROUNDS {
         for (walk, least) in walks.iter().zip(&mut least) {
@@ -199,13 +199,13 @@ fn main() {
     ];
     for (name, next_len) in mixes {
         let (bytes, count) = elements(next_len);
-        assert_eq!(proved_walk(&bytes), flat_walk(&bytes), "{name}");
-        let (proved, flat) = measure(&bytes, count);
+        assert_eq!(proved_walk(&bytes), walk_by_hand(&bytes), "{name}");
+        let (proved, by_hand) = measure(&bytes, count);
         println!(
             "{name}: {count} elements of {:.1} octets; \
-             library {proved:.2} ns, flat {flat:.2} ns an element, ratio {:.2}",
+             library {proved:.2} ns, by hand {by_hand:.2} ns an element, ratio {:.2}",
             bytes.len() as f64 / count as f64,
-            proved / flat,
+            proved / by_hand,
         );
     }
 }

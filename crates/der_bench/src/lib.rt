@@ -16,7 +16,7 @@ pub struct Totals {
 
 /// Walks over the elements of the octets until their end, or an error.
 #[unsafe(no_mangle)]
-pub extern "C" fn walk(bytes: &[u8]) -> Totals {
+pub extern "C" fn der_bench_walk(bytes: &[u8]) -> Totals {
     let mut totals = Totals {
         elements: 0,
         contents: 0,

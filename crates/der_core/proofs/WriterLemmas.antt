@@ -66,7 +66,7 @@ module _ (v : SliceWriter) (start stop : ℕ) (before : start ≤ v.start) (behi
     failed = ap (λ (u : WriterState). u.failed) e;
     behind = ap (λ (u : WriterState). length u.octets) e ∙ omega (arith, ends true, begins, v.ordered);
     stands = ap (λ (u : WriterState). take (length inner.octets) u.octets) e ∙ ap (λ k. take k (take (start + (v.stop - start)) v.bytes.now)) (stands_at v)
-      ∙ take-take (v.start + v.position) (start + (v.stop - start)) v.bytes.now (omega (arith, whole, v.ordered));
+        ∙ take-take (v.start + v.position) (start + (v.stop - start)) v.bytes.now (omega (arith, whole, v.ordered));
   }
 
   pub closed_refused : (answer : Result (Unit {0}) Error) (e : Error) → answer ≡ Err e → Closed outer size inner (behind_part v start stop true) answer (Err e)
@@ -86,7 +86,7 @@ module _ (v : SliceWriter) (start stop : ℕ) (before : start ≤ v.start) (behi
       let few : length inner.octets < length outer.octets + size = omega (arith, stands_at v, begins, short) in
       let place : length (behind_part v start stop v.failed).octets - start ≡ length outer.octets - start + size = omega (arith, ends v.failed, begins, before, v.ordered) in
       let told_behind : r ≡ Err (at (IncorrectLength Sequence) (plain (written outer + size))) =
-        told ∙ ap (λ k. Err (at k (here (behind_part v start stop v.failed)))) wrong ∙ ap (λ k. Err (at (IncorrectLength Sequence) (plain k))) place in
+      told ∙ ap (λ k. Err (at k (here (behind_part v start stop v.failed)))) wrong ∙ ap (λ k. Err (at (IncorrectLength Sequence) (plain k))) place in
       subst (λ a. Closed outer size inner t a r) (sym is) (subst (λ x. Closed outer size inner t (Ok tt) x) (sym told_behind) (unfilled alive few (abandoned t fell)))
 
   pub closed_filled : (answer : Result (Unit {0}) Error) → answer ≡ Ok tt → v.failed ≡ false → v.stop - v.start ≤ v.position

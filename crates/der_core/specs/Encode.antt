@@ -1,7 +1,7 @@
 -- What is written, in which pieces, and what encoding answers.
 use Rattle.std.specs.Prelude.{◌≡◌, ℕ, ◌+◌, ◌^◌, ◌<◌, ◌≤◌, ◌||◌, true, false, List, [], ◌∷◌, ◌++◌, length, map, Option, Some, None, ◌⊎◌, Result, Ok, Err, take, OnOk, IfOk, IsOk, IsErrAnd, if◌then◌else◌}
 use Rattle.std.specs.Int.Digits.{digits_of}
-use Rattle.der_base.specs.Length.{number, flagged, length_octets}
+use Rattle.der_base.specs.Length.{number, flagged, plain, length_octets}
 use Rattle.der_base.specs.Tag.{label, tag_octets}
 use Rattle.der_base.specs.Error.{at, bare, kind_of, position_of}
 use Rattle.der_base.specs.Header.{head, header_octets}
@@ -11,6 +11,7 @@ use Rattle.der_base.specs.declared.tag.Tag.{Tag}
 use Rattle.der_base.specs.declared.error.Error.{Error}
 use Rattle.der_base.specs.declared.error.ErrorKind.TheVariants.{Failed, Overflow, OutOfMemory}
 use Rattle.der_core.specs.Header.{head_of}
+use Rattle.der_core.specs.Outcome.{seen}
 use Rattle.der_core.specs.Writer.{WriterState, WriterOutcome, Takes, fresh, here, fallen, write_pieces, then_call}
 use Rattle.der_core.specs.declared.header.Header.{Header}
 
@@ -21,36 +22,38 @@ WriterAnswer = WriterState → Result (Unit {0}) Error → WriterState → Type 
 abbrev pub Counts : List ℕ → Result Length Error → Type 0
 Counts octets result = IfOk result (λ l. number l ≡ length octets)
 
--- octets that a length can count have a size
+-- where a length can count the octets there is a size
 abbrev pub HasSize : {A : Type 0} → List ℕ → Result A Error → Type 0
 HasSize octets result = length octets < 2 ^ 32 → IsOk result
 
--- and are taken by a writer that has not failed and has room for them
+-- octets that a length can count are taken by a writer that has not failed and has room for them
 abbrev pub TakesCounted : WriterState → List ℕ → Result (Unit {0}) Error → Type 0
 TakesCounted s octets result = length octets < 2 ^ 32 → Takes s octets result
 
--- or by a buffer that is not shorter
+-- octets that a length can count are taken by a buffer that is not shorter
 abbrev pub FitsInto : {A E : Type 0} → List ℕ → ℕ → Result A E → Type 0
 FitsInto octets room result = length octets < 2 ^ 32 → length octets ≤ room → IsOk result
 
--- or by a vector with so many octets before, unless memory is refused
+-- octets that a length can count are taken by a vector with so many octets before, unless it cannot
+-- have so many, or memory is refused
 abbrev pub GrowsBy : {A : Type 0} → List ℕ → ℕ → Result A Error → Type 0
 GrowsBy octets before result =
-    length octets < 2 ^ 32 → before + length octets < 2 ^ 64 → IsOk result ⊎ IsErrAnd result (λ e. e ≡ bare OutOfMemory)
+    length octets < 2 ^ 32 → before + length octets < 2 ^ 64
+    → IsOk result ⊎ IsErrAnd result (λ e. e ≡ bare OutOfMemory)
 
--- the octets of an element: its header and its contents
+-- the octets of an element: its header and its contents (X.690 8.1.1)
 abbrev pub element_octets : Tag → List ℕ → List ℕ
 element_octets t contents = header_octets t (length contents) ++ contents
 
--- octet by octet
+-- octets that go out one by one
 abbrev pub singly : List ℕ → List (List ℕ)
 singly octets = map (λ o. o ∷ []) octets
 
--- the digits of a number in base 128, bit 8 set on each; of 0 there are none
+-- the digits of a number in base 128, bit 8 set on each (X.690 8.1.2.4.2); of 0 there are none
 abbrev pub high_digits : ℕ → List ℕ
 high_digits n = map (λ d. 128 + d) (digits_of 128 n)
 
--- the first octet, and then all others at once, if there are any
+-- the first octet of a length, and then all others at once, if there are any (X.690 8.1.3.5)
 abbrev pub first_and_others : List ℕ → List (List ℕ)
 first_and_others [] = []
 first_and_others (o ∷ []) = (o ∷ []) ∷ []
@@ -73,7 +76,8 @@ ThenAnswers (Err e) u next s r t = (r ≡ Err e) × (t ≡ u)
 
 -- what a header says of contents
 abbrev pub HeaderOf : Tag → List ℕ → Result Header Error → Type 0
-HeaderOf t contents result = IfOk result (λ h. ((head_of h).tag ≡ t) × (number (head_of h).length ≡ length contents))
+HeaderOf t contents result =
+    IfOk result (λ h. ((head_of h).tag ≡ t) × (number (head_of h).length ≡ length contents))
 
 -- the header of a value, by its tag and the number of octets of its contents
 abbrev pub HeaderAnswers : Tag → Result Length Error → Result Header Error → Type 0
@@ -86,11 +90,12 @@ abbrev pub element_size : Tag → Result Length Error → Result Length Error
 element_size t (Ok l) = counted (element_count t (number l))
 element_size t (Err e) = Err e
 
--- an element is written: where the number of octets is refused, nothing is; else the header and then
--- the contents
+-- an element is written: where the number of octets is refused, nothing is; else the header and
+-- then the contents
 abbrev pub ElementAnswers : Tag → Result Length Error → WriterAnswer → WriterAnswer
 ElementAnswers t (Ok l) contents s r u =
-    ThenAnswers (header_outcome t (number l) s).answer (header_outcome t (number l) s).after contents s r u
+    ThenAnswers (header_outcome t (number l) s).answer (header_outcome t (number l) s).after
+    contents s r u
 ElementAnswers t (Err e) contents s r u = (r ≡ Err e) × (u ≡ s)
 
 -- what a finished writer answers: the octets written, where it has not failed
@@ -103,9 +108,10 @@ Begins octets result buf = OnOk result (take (length octets) buf ≡ octets)
 
 -- what is answered where a writer over n octets is written to
 abbrev pub FreshAnswer : WriterAnswer → ℕ → Result (Unit {0}) Error → Type 0
-FreshAnswer answers n result = (reference : ℕ) × (t : WriterState) × answers (fresh n reference) result t
+FreshAnswer answers n result =
+    (reference : ℕ) × (t : WriterState) × answers (fresh n reference) result t
 
--- what is answered then, where an answer that is an error comes first if it is an error
+-- what is answered where a writer is finished behind an answer: that answer's error, if it is one
 abbrev pub finished : Result (Unit {0}) Error → WriterState → Result (List ℕ) Error
 finished (Ok _) t = finished_answer t
 finished (Err e) t = Err e
@@ -113,17 +119,22 @@ finished (Err e) t = Err e
 -- what is answered where a writer over n octets is written to and finished
 abbrev pub SliceAnswer : WriterAnswer → ℕ → Result (List ℕ) Error → Type 0
 SliceAnswer answers n result =
-    (reference : ℕ) × (r : Result (Unit {0}) Error) × (t : WriterState) × answers (fresh n reference) r t × (result ≡ finished r t)
+    (reference : ℕ) × (r : Result (Unit {0}) Error) × (t : WriterState)
+    × answers (fresh n reference) r t × (result ≡ finished r t)
 
--- why an encoding, of this size and with these answers, is not appended to so many octets: no size;
--- more octets than a vector can have; memory refused; or refused by what writes into that room
-pub data NotAppended (size : Result Length Error) (answers : WriterAnswer) (before : ℕ) : Error → Type 0 where
-  no_size : (e : Error) → size ≡ Err e → NotAppended size answers before e
-  too_many : (l : Length) → size ≡ Ok l → 2 ^ 64 ≤ before + number l → NotAppended size answers before (bare Overflow)
-  no_memory : (l : Length) → size ≡ Ok l → before + number l < 2 ^ 64 → NotAppended size answers before (bare OutOfMemory)
-  not_written : (l : Length) (reference : ℕ) (e : Error) (t : WriterState) → size ≡ Ok l
-      → before + number l < 2 ^ 64 → answers (fresh (number l) reference) (Err e) t
-      → NotAppended size answers before e
+-- what is answered where an encoding, of this size and with these answers, is appended to so many
+-- octets: no size; more octets than a vector can have; memory refused; else what writing into that
+-- room answers, and how many octets were written
+pub data VecAnswer (size : Result Length Error) (answers : WriterAnswer) (before : ℕ)
+    (result : Result Length Error) : Type 0 where
+  no_size : (e : Error) → size ≡ Err e → result ≡ Err e → VecAnswer size answers before result
+  too_many : (l : Length) → size ≡ Ok l → 2 ^ 64 ≤ before + number l
+      → result ≡ Err (bare Overflow) → VecAnswer size answers before result
+  no_memory : (l : Length) → size ≡ Ok l → before + number l < 2 ^ 64
+      → result ≡ Err (bare OutOfMemory) → VecAnswer size answers before result
+  written : (l : Length) (reference : ℕ) (r : Result (Unit {0}) Error) (t : WriterState)
+      → size ≡ Ok l → before + number l < 2 ^ 64 → answers (fresh (number l) reference) r t
+      → result ≡ seen (λ _. plain (number l)) r → VecAnswer size answers before result
 
 -- an error's position, or the writer's where it has none
 abbrev pub placed_at : Option Length → WriterState → Error → Error
@@ -146,4 +157,5 @@ RefusesFailed s result u = s.failed ≡ true → (result ≡ Err (at Failed (her
 -- what a slice writer that has not failed answers to a value, and how it is left
 abbrev pub PlacesErrors : WriterAnswer → WriterAnswer
 PlacesErrors answers s result u =
-    s.failed ≡ false → (r : Result (Unit {0}) Error) × (t : WriterState) × answers s r t × (result ≡ placed t r) × (u ≡ left_by r t)
+    s.failed ≡ false → (r : Result (Unit {0}) Error) × (t : WriterState)
+    × answers s r t × (result ≡ placed t r) × (u ≡ left_by r t)

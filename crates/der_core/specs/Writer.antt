@@ -6,6 +6,9 @@ use Rattle.der_base.specs.declared.length.Length.{Length}
 use Rattle.der_base.specs.declared.error.Error.{Error}
 use Rattle.der_base.specs.declared.error.ErrorKind.TheVariants.{Failed, Overflow, Overlength}
 
+-- What a writer means. One without a buffer begins at 0 with nothing written, stops where it takes
+-- no more, and keeps any capacity and reference: these two tell a writer that is handed back from
+-- another one.
 pub record WriterState : Type 0 where
   -- all octets written since the buffer began
   pub octets : List ℕ
@@ -21,7 +24,14 @@ pub record WriterState : Type 0 where
 -- a writer over a whole buffer of n octets, of which it takes no more than a length can count
 abbrev pub fresh : ℕ → ℕ → WriterState
 fresh n reference =
-    record { octets = []; start = 0; stop = min n (2 ^ 32 - 1); capacity = n; failed = false; reference = reference }
+    record {
+      octets = [];
+      start = 0;
+      stop = min n (2 ^ 32 - 1);
+      capacity = n;
+      failed = false;
+      reference = reference;
+    }
 
 -- how many octets were written into the part
 abbrev pub written : WriterState → ℕ
@@ -37,7 +47,7 @@ appended s octets = record s { octets = s.octets ++ octets }
 abbrev pub fallen : WriterState → WriterState
 fallen s = record s { failed = true }
 
--- the same writer is handed back, which is not less failed, and what was written before still stands
+-- the same writer is handed back, not less failed, and what was written before still stands
 pub record Kept (s t : WriterState) : Type 0 where
   pub start : t.start ≡ s.start
   pub stop : t.stop ≡ s.stop
@@ -59,7 +69,9 @@ pub record WriterOutcome : Type 0 where
   pub answer : Result (Unit {0}) Error
   pub after : WriterState
 
-pub record Writes (outcome : WriterOutcome) (answer : Result (Unit {0}) Error) (t : WriterState) : Type 0 where
+-- a call answers so and leaves t, as its outcome says
+pub record Writes (outcome : WriterOutcome) (answer : Result (Unit {0}) Error)
+    (t : WriterState) : Type 0 where
   pub answered : answer ≡ outcome.answer
   pub leaves : t ≡ outcome.after
 
@@ -83,11 +95,13 @@ abbrev pub write_outcome : List ℕ → WriterState → WriterOutcome
 write_outcome octets s = with_room (length octets) s (appended s octets)
 
 -- a call, and where it succeeds another
-abbrev pub then_call : Result (Unit {0}) Error → WriterState → (WriterState → WriterOutcome) → WriterOutcome
+abbrev pub then_call : Result (Unit {0}) Error → WriterState
+    → (WriterState → WriterOutcome) → WriterOutcome
 then_call (Ok _) t next = next t
 then_call (Err e) t next = write_refused e t
 
 -- octets that go out in pieces, a write for each
 abbrev pub write_pieces : List (List ℕ) → WriterState → WriterOutcome
 write_pieces [] s = succeeded s
-write_pieces (piece ∷ pieces) s = then_call (write_outcome piece s).answer (write_outcome piece s).after (write_pieces pieces)
+write_pieces (piece ∷ pieces) s =
+    then_call (write_outcome piece s).answer (write_outcome piece s).after (write_pieces pieces)

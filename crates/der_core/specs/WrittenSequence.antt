@@ -1,4 +1,5 @@
--- A SEQUENCE that is written by a closure: its header, and a part of the buffer for its contents.
+-- A SEQUENCE (X.690 8.9) that is written by a closure: its header, and a part of the buffer for its
+-- contents.
 use Rattle.std.specs.Prelude.{◌≡◌, ℕ, ◌+◌, ◌<◌, ◌≤◌, true, false, length, take, Result, Ok, Err, OnOk}
 use Rattle.std.specs.Borrow.{MutBor}
 use Rattle.der_base.specs.Length.{plain}
@@ -32,8 +33,8 @@ around q start stop =
 abbrev pub headed : WriterState → ℕ → WriterState
 headed s n = appended s (header_octets Sequence n)
 
--- the condition on a closure that writes a part of n octets: it may be called with a writer over the
--- part, and hands back the same writer
+-- the condition on a closure that writes a part of n octets: it may be called with a writer over
+-- the part, and hands back the same writer
 pub record HandsBackPart (pre : Condition) (run : Run) (s : WriterState) (n : ℕ) : Type 0 where
   pub callable : (p : MutBor SliceWriter) → slice_writer_state p.now ≡ part s n → pre p
   pub same : (p : MutBor SliceWriter) (r : Result (Unit {0}) Error) (q : MutBor SliceWriter)
@@ -51,15 +52,18 @@ pub record Abandoned (s : WriterState) (n : ℕ) (q t : WriterState) : Type 0 wh
   pub stands : take (length q.octets) t.octets ≡ q.octets
 
 -- what follows a closure that was handed the part, answered r and left the writer q
-pub data Closed (s : WriterState) (n : ℕ) (q : WriterState) (t : WriterState) : Result (Unit {0}) Error → Result (Unit {0}) Error → Type 0 where
+pub data Closed (s : WriterState) (n : ℕ) (q t : WriterState)
+    : Result (Unit {0}) Error → Result (Unit {0}) Error → Type 0 where
   handed_on : (e : Error) → Abandoned s n q t → Closed s n q t (Err e) (Err e)
   failed : q.failed ≡ true → Abandoned s n q t → Closed s n q t (Ok tt) (Err (at Failed (here q)))
   unfilled : q.failed ≡ false → length q.octets < length s.octets + n → Abandoned s n q t
       → Closed s n q t (Ok tt) (Err (at (IncorrectLength Sequence) (plain (written s + n))))
-  filled : q.failed ≡ false → length q.octets ≡ length s.octets + n → t ≡ record s { octets = q.octets } → Closed s n q t (Ok tt) (Ok tt)
+  filled : q.failed ≡ false → length q.octets ≡ length s.octets + n
+      → t ≡ record s { octets = q.octets } → Closed s n q t (Ok tt) (Ok tt)
 
 -- the closure ran over the part, and the answer is as it follows
-pub record Ran (run : Run) (s : WriterState) (n : ℕ) (result : Result (Unit {0}) Error) (t : WriterState) : Type 0 where
+pub record Ran (run : Run) (s : WriterState) (n : ℕ) (result : Result (Unit {0}) Error)
+    (t : WriterState) : Type 0 where
   pub given : MutBor SliceWriter
   pub answer : Result (Unit {0}) Error
   pub after : MutBor SliceWriter
@@ -86,12 +90,16 @@ abbrev pub RunsInRoom : Run → WriterState → ℕ → Result (Unit {0}) Error 
 RunsInRoom run s n result t = s.failed ≡ false → length s.octets + n ≤ s.stop → Ran run s n result t
 
 -- n octets are set apart and filled: no room, or the closure ran
-pub data PartAnswer (run : Run) (s : WriterState) (n : ℕ) (result : Result (Unit {0}) Error) (t : WriterState) : Type 0 where
-  no_room : (e : Error) → (with_room n s s).answer ≡ Err e → Writes (with_room n s s) result t → PartAnswer run s n result t
+pub data PartAnswer (run : Run) (s : WriterState) (n : ℕ) (result : Result (Unit {0}) Error)
+    (t : WriterState) : Type 0 where
+  no_room : (e : Error) → (with_room n s s).answer ≡ Err e
+      → Writes (with_room n s s) result t → PartAnswer run s n result t
   ran : (with_room n s s).answer ≡ Ok tt → Ran run s n result t → PartAnswer run s n result t
 
 -- the rows of `sequence`: no room for the header; else the part behind it
-pub data WritesSequence (run : Run) (s : WriterState) (n : ℕ) (result : Result (Unit {0}) Error) (t : WriterState) : Type 0 where
-  no_header : (e : Error) → (header_outcome Sequence n s).answer ≡ Err e → Writes (header_outcome Sequence n s) result t
-      → WritesSequence run s n result t
-  with_header : Writes (header_outcome Sequence n s) (Ok tt) (headed s n) → PartAnswer run (headed s n) n result t → WritesSequence run s n result t
+pub data WritesSequence (run : Run) (s : WriterState) (n : ℕ) (result : Result (Unit {0}) Error)
+    (t : WriterState) : Type 0 where
+  no_header : (e : Error) → (header_outcome Sequence n s).answer ≡ Err e
+      → Writes (header_outcome Sequence n s) result t → WritesSequence run s n result t
+  with_header : Writes (header_outcome Sequence n s) (Ok tt) (headed s n)
+      → PartAnswer run (headed s n) n result t → WritesSequence run s n result t

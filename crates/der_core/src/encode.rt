@@ -1,16 +1,16 @@
 //! Encoding.
-ghost use Rattle.std.specs.Prelude.{◌≡◌, ◌++◌, ℕ, true, List, length, OnOk, OnErr, IfOk, IfErr, Result as AResult};
+ghost use Rattle.std.specs.Prelude.{◌≡◌, ◌++◌, ℕ, true, List, length, OnOk, OnErr, IfOk, Result as AResult};
 ghost use Rattle.der_base.specs.Length.{plain};
 ghost use Rattle.der_base.specs.declared.error.Error.{Error as AnError};
 ghost use Rattle.der_base.specs.declared.length.Length.{Length as ALength};
 ghost use Rattle.der_core.specs.Outcome.{seen};
 ghost use Rattle.der_core.specs.Writer.{WriterState, Kept, Appends};
-ghost use Rattle.der_core.specs.Encode.{Counts, HasSize, TakesCounted, FitsInto, GrowsBy, element_octets, element_size, ElementAnswers, SliceAnswer, NotAppended};
+ghost use Rattle.der_core.specs.Encode.{Counts, HasSize, TakesCounted, FitsInto, GrowsBy, element_octets, element_size, ElementAnswers, SliceAnswer, VecAnswer};
 
 mod header;
 mod length;
 mod tag;
-pub mod value;
+mod value;
 mod vec;
 
 use crate::encode::vec::{append, to_der_in};
@@ -34,13 +34,15 @@ pub trait Encode {
 
     ghost answers: { Self → WriterState → AResult (Unit {0}) AnError → WriterState → Type 0 };
 
-    /// How many octets the encoding has.
+    /// How many octets the encoding has. An element of more than 4294967295 octets is `Overflow`
+    /// without a position; other errors are the type's own. `size` says which.
     fn encoded_len(&self) -> Result<Length, Error>
         ensures ok { Counts (encoding self.now) result }
         ensures succeeds { encodable self.now → HasSize (encoding self.now) result }
         ensures exact { result ≡ size self.now };
 
-    /// Writes the encoding.
+    /// Writes the encoding. An error of the value or of the writer is handed on, and what was
+    /// written before it stands; `answers` says which.
     fn encode<W: Writer>(&self, writer: &mut W) -> Result<(), Error>
         ensures kept { Kept (W.state writer.old) (W.state writer.new) }
         ensures ok { Appends (W.state writer.old) (encoding self.now) result (W.state writer.new) }
@@ -49,8 +51,10 @@ pub trait Encode {
         ensures exact { W.reliable ≡ true
             → answers self.now (W.state writer.old) result (W.state writer.new) };
 
-    /// Writes the encoding to the beginning of the buffer, and answers it. Takes no memory. After a
-    /// refusal nothing is promised of the buffer.
+    /// Writes the encoding to the beginning of the buffer, and answers it. Takes no memory. An
+    /// error of [`Encode::encode`] is handed on; a buffer that is too short is `Overlength` at the
+    /// end that was wished by the write for which there is no room. After a refusal nothing is
+    /// promised of the buffer.
     final fn encode_to_slice<'b>(&self, buf: &'b mut [u8]) -> Result<&'b [u8], Error>
         ensures ok { IfOk result (λ r. r.now ≡ Self.encoding self.now) }
         ensures succeeds { Self.encodable self.now
@@ -59,32 +63,34 @@ pub trait Encode {
             (seen (λ r. r.now) result) }
     {
         let mut writer = SliceWriter::new(buf);
-        match self.encode(&mut writer) {
-            Ok(()) => writer.finish(),
-            Err(error) => Err(error),
-        }
+        self.encode(&mut writer)?;
+        writer.finish()
     }
 
-    /// Appends the encoding, and answers its number of octets. Where the vector would pass the
-    /// greatest `usize` that is `Overflow`, where memory is refused `OutOfMemory`, both without a
-    /// position. After each refusal the vector's contents are as before.
+    /// Appends the encoding, and answers its number of octets. An error of
+    /// [`Encode::encoded_len`] is handed on, and then one of [`Encode::encode`]; where the vector
+    /// would pass the greatest `usize` that is `Overflow`, where memory is refused `OutOfMemory`,
+    /// both without a position. After each refusal the vector's contents are as before.
     final fn encode_to_vec(&self, out: &mut Vec<u8>) -> Result<Length, Error>
         ensures ok { OnOk result (out.new.items ≡ out.old.items ++ Self.encoding self.now) }
         ensures count { IfOk result (λ l. l ≡ plain (length (Self.encoding self.now))) }
         ensures refused { OnErr result (out.new.items ≡ out.old.items) }
         ensures succeeds { Self.encodable self.now
             → GrowsBy (Self.encoding self.now) (length out.old.items) result }
-        ensures exact { IfErr result
-            (NotAppended (Self.size self.now) (Self.answers self.now) (length out.old.items)) }
+        ensures exact { VecAnswer (Self.size self.now) (Self.answers self.now)
+            (length out.old.items) result }
     {
         append(self, out)
     }
 
-    /// The encoding; `OutOfMemory` without a position where memory is refused.
+    /// The encoding. An error of [`Encode::encoded_len`] is handed on, `Overflow` without a
+    /// position past 4294967295 octets among them, and then one of [`Encode::encode`];
+    /// `OutOfMemory` without a position where memory is refused.
     final fn to_der(&self, alloc: Global) -> Result<Vec<u8>, Error>
         ensures ok { IfOk result (λ v. v.items ≡ Self.encoding self.now) }
         ensures succeeds { Self.encodable self.now → GrowsBy (Self.encoding self.now) 0 result }
-        ensures exact { IfErr result (NotAppended (Self.size self.now) (Self.answers self.now) 0) }
+        ensures exact { VecAnswer (Self.size self.now) (Self.answers self.now) 0
+            (seen (λ v. plain (length v.items)) result) }
     {
         to_der_in(alloc, self)
     }
@@ -108,20 +114,21 @@ impl<T: EncodeValue + Tagged> Encode for T {
     }
 }
 
-/// How many octets the element of a value has: its tag, its length, and its contents.
+/// How many octets the element of a value has: its tag, its length, and its contents. An error of
+/// [`EncodeValue::value_len`] is handed on; more octets than 4294967295 are `Overflow` without a
+/// position.
 pub fn encoded_len_tlv<T: EncodeValue + Tagged>(value: &T) -> Result<Length, Error>
     ensures ok { Counts (element_octets (T.tag_of value.now) (T.contents value.now)) result }
     ensures succeeds { T.writable value.now
         → HasSize (element_octets (T.tag_of value.now) (T.contents value.now)) result }
     ensures exact { result ≡ element_size (T.tag_of value.now) (T.value_size value.now) }
 {
-    match value.value_len() {
-        Ok(len) => len.for_tlv(value.tag()),
-        Err(error) => Err(error),
-    }
+    value.value_len()?.for_tlv(value.tag())
 }
 
-/// Writes the element of a value: its header, and then its contents (X.690 8.1.1).
+/// Writes the element of a value: its header, and then its contents (X.690 8.1.1). An error of
+/// [`EncodeValue::value_len`] is handed on before anything is written; one of the writer or of
+/// [`EncodeValue::encode_value`] is handed on, and what was written before it stands.
 pub fn encode_tlv<T: EncodeValue + Tagged, W: Writer>(
     value: &T,
     writer: &mut W,
@@ -134,12 +141,6 @@ pub fn encode_tlv<T: EncodeValue + Tagged, W: Writer>(
     ensures exact { W.reliable ≡ true → ElementAnswers (T.tag_of value.now) (T.value_size value.now)
         (T.value_answers value.now) (W.state writer.old) result (W.state writer.new) }
 {
-    let header = match value.header() {
-        Ok(header) => header,
-        Err(error) => return Err(error),
-    };
-    match header.encode(writer) {
-        Ok(()) => value.encode_value(writer),
-        Err(error) => Err(error),
-    }
+    value.header()?.encode(writer)?;
+    value.encode_value(writer)
 }

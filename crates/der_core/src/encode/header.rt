@@ -30,9 +30,7 @@ impl Encode for Header {
     }
 
     fn encode<W: Writer>(&self, writer: &mut W) -> Result<(), Error> {
-        match self.tag().encode(writer) {
-            Ok(()) => self.length().encode(writer),
-            Err(error) => Err(error),
-        }
+        self.tag().encode(writer)?;
+        self.length().encode(writer)
     }
 }

@@ -29,9 +29,7 @@ impl Encode for Length {
         if digits == 0 {
             return writer.write_byte(number as u8);
         }
-        match writer.write_byte(0x80 + digits as u8) {
-            Ok(()) => writer.write(&number.to_be_bytes()[4 - digits as usize..]),
-            Err(error) => Err(error),
-        }
+        writer.write_byte(0x80 + digits as u8)?;
+        writer.write(&number.to_be_bytes()[4 - digits as usize..])
     }
 }

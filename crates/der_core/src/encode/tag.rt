@@ -28,13 +28,9 @@ impl Encode for Tag {
         if number < 31 {
             return writer.write_byte(first_octet_of(*self, number as u8));
         }
-        match writer.write_byte(first_octet_of(*self, 31)) {
-            Ok(()) => match encode_high_digits(number / 128, writer) {
-                Ok(()) => writer.write_byte((number % 128) as u8),
-                Err(error) => Err(error),
-            },
-            Err(error) => Err(error),
-        }
+        writer.write_byte(first_octet_of(*self, 31))?;
+        encode_high_digits(number / 128, writer)?;
+        writer.write_byte((number % 128) as u8)
     }
 }
 
@@ -60,8 +56,6 @@ fn encode_high_digits<W: Writer>(number: u32, writer: &mut W) -> Result<(), Erro
     if number == 0 {
         return Ok(());
     }
-    match encode_high_digits(number / 128, writer) {
-        Ok(()) => writer.write_byte(128 + (number % 128) as u8),
-        Err(error) => Err(error),
-    }
+    encode_high_digits(number / 128, writer)?;
+    writer.write_byte(128 + (number % 128) as u8)
 }

@@ -28,6 +28,15 @@ pub trait WrittenValue {
 /// A month as an `OCTET STRING` of one octet:
 ///
 /// ```
+/// ghost use Rattle.std.specs.Prelude.{◌≡◌, [], ◌∷◌, Ok, IfOk};
+/// ghost use Rattle.der_base.specs.Length.{plain};
+/// ghost use Rattle.der_base.specs.declared.tag.Tag.TheVariants.{OctetString};
+/// ghost use Rattle.der_core.specs.Writer.{Writes, write_outcome};
+///
+/// use der_core::{
+///     Encode, EncodeValue, Error, FixedTag, Length, Tag, Writer, WrittenValue,
+/// };
+///
 /// pub struct Month {
 ///     pub number: u8,
 /// }
@@ -61,13 +70,21 @@ pub trait WrittenValue {
 ///         writer.write_byte(self.number)
 ///     }
 /// }
+///
+/// /// The octets `04 01` and the month's number, as `04 01 09` for September.
+/// pub fn month_der<'b>(month: &Month, buf: &'b mut [u8]) -> Result<&'b [u8], Error>
+///     ensures { IfOk result (λ r. r.now ≡ 4 ∷ 1 ∷ month.now.number ∷ []) }
+/// {
+///     month.encode_to_slice(buf)
+/// }
 /// ```
 pub trait EncodeValue: WrittenValue {
     ghost value_size: { Self → AResult ALength AnError };
 
     ghost value_answers: { Self → WriterState → AResult (Unit {0}) AnError → WriterState → Type 0 };
 
-    /// The header of the value's element: its tag, and the number of octets of its contents.
+    /// The header of the value's element: its tag, and the number of octets of its contents. An
+    /// error of [`EncodeValue::value_len`] is handed on.
     fn header(&self) -> Result<Header, Error>
     where
         Self: Tagged,
@@ -75,19 +92,18 @@ pub trait EncodeValue: WrittenValue {
         ensures succeeds { Self.writable self.now → HasSize (Self.contents self.now) result }
         ensures exact { HeaderAnswers (Self.tag_of self.now) (value_size self.now) result }
     {
-        match self.value_len() {
-            Ok(len) => Ok(Header::new(self.tag(), len)),
-            Err(error) => Err(error),
-        }
+        let len = self.value_len()?;
+        Ok(Header::new(self.tag(), len))
     }
 
-    /// How many octets the contents have.
+    /// How many octets the contents have. Errors are the type's own; `value_size` says which.
     fn value_len(&self) -> Result<Length, Error>
         ensures ok { Counts (Self.contents self.now) result }
         ensures succeeds { Self.writable self.now → HasSize (Self.contents self.now) result }
         ensures exact { result ≡ value_size self.now };
 
-    /// Writes the contents.
+    /// Writes the contents. An error of the value or of the writer is handed on, and what was
+    /// written before it stands; `value_answers` says which.
     fn encode_value<W: Writer>(&self, writer: &mut W) -> Result<(), Error>
         ensures kept { Kept (W.state writer.old) (W.state writer.new) }
         ensures ok { Appends (W.state writer.old) (Self.contents self.now) result
@@ -98,8 +114,10 @@ pub trait EncodeValue: WrittenValue {
             → value_answers self.now (W.state writer.old) result (W.state writer.new) };
 }
 
-/// Writes the contents to the beginning of the buffer, and answers them. Takes no memory. After a
-/// refusal nothing is promised of the buffer.
+/// Writes the contents to the beginning of the buffer, and answers them. Takes no memory. An error
+/// of [`EncodeValue::encode_value`] is handed on; a buffer that is too short is `Overlength` at the
+/// end that was wished by the write for which there is no room. After a refusal nothing is promised
+/// of the buffer.
 pub fn encode_value_to_slice<'a, T: EncodeValue>(
     buf: &'a mut [u8],
     value: &T,
@@ -111,8 +129,6 @@ pub fn encode_value_to_slice<'a, T: EncodeValue>(
         (seen (λ r. r.now) result) }
 {
     let mut writer = SliceWriter::new(buf);
-    match value.encode_value(&mut writer) {
-        Ok(()) => writer.finish(),
-        Err(error) => Err(error),
-    }
+    value.encode_value(&mut writer)?;
+    writer.finish()
 }

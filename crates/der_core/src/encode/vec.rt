@@ -1,7 +1,8 @@
 //! Encoding into memory of any allocator.
-ghost use Rattle.std.specs.Prelude.{◌≡◌, ◌++◌, length, OnOk, OnErr, IfOk, IfErr};
+ghost use Rattle.std.specs.Prelude.{◌≡◌, ◌++◌, length, OnOk, OnErr, IfOk};
 ghost use Rattle.der_base.specs.Length.{plain};
-ghost use Rattle.der_core.specs.Encode.{Begins, FitsInto, FreshAnswer, GrowsBy, NotAppended};
+ghost use Rattle.der_core.specs.Encode.{Begins, FitsInto, FreshAnswer, GrowsBy, VecAnswer};
+ghost use Rattle.der_core.specs.Outcome.{seen};
 
 #[cfg(test)]
 mod tests;
@@ -15,13 +16,12 @@ use std::alloc::Allocator;
 pub(super) fn to_der_in<T: Encode, A: Allocator>(alloc: A, value: &T) -> Result<Vec<u8, A>, Error>
     ensures ok { IfOk result (λ v. v.items ≡ T.encoding value.now) }
     ensures succeeds { T.encodable value.now → GrowsBy (T.encoding value.now) 0 result }
-    ensures exact { IfErr result (NotAppended (T.size value.now) (T.answers value.now) 0) }
+    ensures exact { VecAnswer (T.size value.now) (T.answers value.now) 0
+        (seen (λ v. plain (length v.items)) result) }
 {
     let mut out = Vec::new(alloc);
-    match append(value, &mut out) {
-        Ok(_) => Ok(out),
-        Err(error) => Err(error),
-    }
+    append(value, &mut out)?;
+    Ok(out)
 }
 
 // The body of `Encode::encode_to_vec`.
@@ -34,14 +34,11 @@ pub(super) fn append<T: Encode, A: Allocator>(
     ensures refused { OnErr result (out.new.items ≡ out.old.items) }
     ensures succeeds { T.encodable value.now
         → GrowsBy (T.encoding value.now) (length out.old.items) result }
-    ensures exact { IfErr result
-        (NotAppended (T.size value.now) (T.answers value.now) (length out.old.items)) }
+    ensures exact { VecAnswer (T.size value.now) (T.answers value.now) (length out.old.items)
+        result }
 {
     let before = out.len();
-    let count = match value.encoded_len() {
-        Ok(len) => u32::from(len),
-        Err(error) => return Err(error),
-    };
+    let count = u32::from(value.encoded_len()?);
     let Some(end) = before.checked_add(count as usize) else {
         return Err(ErrorKind::Overflow.to_error());
     };

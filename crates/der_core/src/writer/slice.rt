@@ -110,14 +110,15 @@ impl<'a> SliceWriter<'a> {
         }
     }
 
-    /// Writes the header of a SEQUENCE, and has its contents written by `f`, which is handed this
-    /// writer over the next `len` octets alone: at position 0 and not failed. Afterwards the
+    /// Writes the header of a SEQUENCE (X.690 8.9), and has its contents written by `f`, which is
+    /// handed this writer over the next `len` octets alone: at position 0 and not failed. `f` has
+    /// to hand this writer back: the same part, and what was written before it. Afterwards the
     /// writer is over its own part again, whatever `f` answered.
     ///
-    /// Where there is no room for the header or the contents that is refused as by a write of so
-    /// many octets. An error of `f` is handed on. A part whose writer has failed is `Failed` at its
-    /// position in the part, and one that is not filled `Length` at the position behind it. After
-    /// each refusal the writer has failed.
+    /// The header is written as [`Header`] is. No room for the contents is refused as by a write of
+    /// so many octets. An error of `f` is handed on. A part whose writer has failed is `Failed` at
+    /// its position in the part, and one that is not filled `Length` at the position behind it.
+    /// After each refusal the writer has failed.
     pub fn sequence<F: FnOnce(&mut SliceWriter<'a>) -> Result<(), Error>>(
         &mut self,
         len: Length,
@@ -245,10 +246,7 @@ impl<'a> Writer for SliceWriter<'a> {
     ghost reliable = { true };
 
     fn write(&mut self, octets: &[u8]) -> Result<(), Error> {
-        let from = match self.admit(octets.len()) {
-            Ok(from) => from,
-            Err(error) => return Err(error),
-        };
+        let from = self.admit(octets.len())?;
         self.bytes[from..from + octets.len()].copy_from_slice(octets);
         self.position += octets.len() as u32;
         Ok(())
