@@ -1,3 +1,4 @@
+//! What is ahead of a reader, whole elements, and octets that are passed.
 use super::*;
 use crate::{Class, TagPeek};
 

@@ -13,7 +13,14 @@ struct Counter {
 
 impl Writer for Counter {
     // it vows nothing of the memory that is left, and so counts as failed
-    ghost state = { λ w. record { octets = w.octets.items; start = 0; stop = 0; capacity = 0; failed = true; reference = 0 } };
+    ghost state = { λ w. record {
+      octets = w.octets.items;
+      start = 0;
+      stop = 0;
+      capacity = 0;
+      failed = true;
+      reference = 0;
+    } };
 
     ghost reliable = { false };
 

@@ -1,3 +1,4 @@
+//! Headers that are read.
 use super::*;
 
 fn header(alloc: Global, bytes: &[u8]) -> Result<(Header, usize), Error> {

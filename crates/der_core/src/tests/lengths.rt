@@ -1,3 +1,4 @@
+//! Lengths that are read.
 use super::*;
 
 fn length(alloc: Global, bytes: &[u8]) -> Result<(Length, usize), Error> {

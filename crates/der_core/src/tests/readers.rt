@@ -1,3 +1,4 @@
+//! A reader of a slice: what it tells of itself, what it lends, and what it refuses.
 use super::*;
 use crate::DecodeError;
 

@@ -1,3 +1,4 @@
+//! Tags that are read.
 use super::*;
 
 fn tag(alloc: Global, bytes: &[u8]) -> Result<(Tag, usize), Error> {

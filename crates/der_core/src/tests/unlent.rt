@@ -89,7 +89,13 @@ impl<'a> Reader for Unlent<'a> {
         self.inner.leave_nested(resumption);
     }
 
-    ghost lawful = { λ r. record { ordered = r.inner.ordered; in_input = r.inner.in_input; addressable = r.inner.addressable; shallow = r.inner.shallow; marked = λ failed. Prim.search rules } };
+    ghost lawful = { λ r. record {
+      ordered = r.inner.ordered;
+      in_input = r.inner.in_input;
+      addressable = r.inner.addressable;
+      shallow = r.inner.shallow;
+      marked = λ failed. Prim.search rules;
+    } };
 
     ghost lending = { λ reliable. Prim.search rules };
 }
