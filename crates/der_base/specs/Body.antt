@@ -10,23 +10,28 @@ mutual
   -- an item at a level, and its number of identifiers and end marks: contents of a definite length
   -- are any octets, those of an indefinite one are a body one level deeper, 64 levels at most
   pub data Item : ℕ → ℕ → List ℕ → Type 0 where
-    definite : {level : ℕ} {id : List ℕ} {t : Tag} {b : Bool} → IsIdentifier Ber id t b → (contents : List ℕ) → length contents < 2 ^ 32
+    definite : {level : ℕ} {id : List ℕ} {t : Tag} {b : Bool} → IsIdentifier Ber id t b
+        → (contents : List ℕ) → length contents < 2 ^ 32
         → Item level 1 (id ++ (length_octets (length contents) ++ contents))
-    indefinite : {level parts : ℕ} {id body : List ℕ} {t : Tag} → IsIdentifier Ber id t true → level < 64 → Body (suc level) parts body
+    indefinite : {level parts : ℕ} {id body : List ℕ} {t : Tag} → IsIdentifier Ber id t true
+        → level < 64 → Body (suc level) parts body
         → Item level (suc parts) (id ++ 128 ∷ body)
 
   -- a body at a level: the end mark, two zero octets, or an item and a body
   pub data Body : ℕ → ℕ → List ℕ → Type 0 where
     ends : {level : ℕ} → Body level 1 (0 ∷ 0 ∷ [])
-    more : {level m n : ℕ} {item body : List ℕ} → Item level m item → Body level n body → Body level (m + n) (item ++ body)
+    more : {level m n : ℕ} {item body : List ℕ} → Item level m item → Body level n body
+        → Body level (m + n) (item ++ body)
 
 -- joined items of a level
 pub data Items : ℕ → ℕ → List ℕ → Type 0 where
   none : {level : ℕ} → Items level 0 []
-  then_item : {level m n : ℕ} {items item : List ℕ} → Items level m items → Item level n item → Items level (m + n) (items ++ item)
+  then_item : {level m n : ℕ} {items item : List ℕ} → Items level m items → Item level n item
+      → Items level (m + n) (items ++ item)
 
 -- the beginning of a body, cut between items, with so many levels open
 pub data Open : ℕ → ℕ → List ℕ → Type 0 where
   first : {n : ℕ} {items : List ℕ} → Items 1 n items → Open 1 n items
-  deeper : {level m n : ℕ} {p id items : List ℕ} {t : Tag} → Open level m p → IsIdentifier Ber id t true → level < 64 → Items (suc level) n items
+  deeper : {level m n : ℕ} {p id items : List ℕ} {t : Tag} → Open level m p
+      → IsIdentifier Ber id t true → level < 64 → Items (suc level) n items
       → Open (suc level) (m + suc n) (p ++ (id ++ 128 ∷ items))

@@ -19,7 +19,8 @@ header_octets t n = tag_octets t ++ length_octets n
 
 -- the first octets of a list are a tag
 pub data TagAhead (rules : EncodingRules) : List ℕ → Tag → Bool → ℕ → Type 0 where
-  tag : {id : List ℕ} {t : Tag} {b : Bool} (rest : List ℕ) → IsIdentifier rules id t b → TagAhead rules (id ++ rest) t b (length id)
+  tag : {id : List ℕ} {t : Tag} {b : Bool} (rest : List ℕ) → IsIdentifier rules id t b
+      → TagAhead rules (id ++ rest) t b (length id)
 
 -- the first m octets of a list are a length: a definite one, or under BER octet 80, which a body
 -- follows, whose octets it counts (8.1.3.6)
@@ -41,7 +42,8 @@ head t l b = record { tag = t; length = l; constructed = b }
 -- the first m octets of a list are a header: an identifier and a length, which is indefinite only
 -- where the identifier is constructed (8.1.3.2)
 pub data HeaderAhead (rules : EncodingRules) : List ℕ → Head → ℕ → Type 0 where
-  header : {id more : List ℕ} {t : Tag} {b : Bool} {l : Length} {m : ℕ} → IsIdentifier rules id t b → LengthAhead rules more l m
+  header : {id more : List ℕ} {t : Tag} {b : Bool} {l : Length} {m : ℕ} → IsIdentifier rules id t b
+      → LengthAhead rules more l m
       → (flagged l ≡ true → b ≡ true) → HeaderAhead rules (id ++ more) (head t l b) (length id + m)
 
 -- octets at a position begin with no length; a spelling that is not the shortest, or has more than
@@ -50,13 +52,18 @@ pub data LengthFault (wrong : ErrorKind) (at : ℕ) : EncodingRules → List ℕ
   nothing : {rules : EncodingRules} → LengthFault wrong at rules [] (cut_at at)
   few : {rules : EncodingRules} (k : ℕ) (ds : List ℕ) → k ≤ 4 → length ds < k
       → LengthFault wrong at rules ((128 + k) ∷ ds) (cut_at (at + 1 + length ds))
-  far : {rules : EncodingRules} (o : ℕ) (rest : List ℕ) → 133 ≤ o → LengthFault wrong at rules (o ∷ rest) (refusal wrong (at + 1))
-  longer : {rules : EncodingRules} (k : ℕ) (ds rest : List ℕ) → 1 ≤ k → k ≤ 4 → length ds ≡ k → ((n : ℕ) → 128 ≤ n → ds ≢ digits 256 n)
+  far : {rules : EncodingRules} (o : ℕ) (rest : List ℕ) → 133 ≤ o
+      → LengthFault wrong at rules (o ∷ rest) (refusal wrong (at + 1))
+  longer : {rules : EncodingRules} (k : ℕ) (ds rest : List ℕ) → 1 ≤ k → k ≤ 4 → length ds ≡ k
+      → ((n : ℕ) → 128 ≤ n → ds ≢ digits 256 n)
       → LengthFault wrong at rules ((128 + k) ∷ (ds ++ rest)) (refusal wrong (at + 1 + k))
-  indefinite_form : (rest : List ℕ) → LengthFault wrong at Der (128 ∷ rest) (refusal IndefiniteLength (at + 1))
+  indefinite_form : (rest : List ℕ)
+      → LengthFault wrong at Der (128 ∷ rest) (refusal IndefiniteLength (at + 1))
 
 -- octets at a position begin with no header: with no identifier, or with one and no length behind it
 pub data HeaderFault (rules : EncodingRules) (at : ℕ) : List ℕ → Refusal → Type 0 where
-  no_identifier : {s : List ℕ} {r : Refusal} → IdentifierFault rules at s r → HeaderFault rules at s r
+  no_identifier : {s : List ℕ} {r : Refusal} → IdentifierFault rules at s r
+      → HeaderFault rules at s r
   no_length : {id more : List ℕ} {t : Tag} {b : Bool} {r : Refusal} → IsIdentifier rules id t b
-      → LengthFault (IncorrectLength t) (at + length id) rules more r → HeaderFault rules at (id ++ more) r
+      → LengthFault (IncorrectLength t) (at + length id) rules more r
+      → HeaderFault rules at (id ++ more) r

@@ -12,7 +12,8 @@ use Rattle.der_base.specs.declared.encoding_rules.EncodingRules.TheVariants.{Ber
 -- the octets of a tag, with its constructed bit; under BER also octet 24, an OCTET STRING that is
 -- constructed (8.7.1)
 pub data IsIdentifier : EncodingRules → List ℕ → Tag → Bool → Type 0 where
-  of_tag : {rules : EncodingRules} {t : Tag} → IsTag t → IsIdentifier rules (tag_octets t) t (label t).constructed
+  of_tag : {rules : EncodingRules} {t : Tag} → IsTag t
+      → IsIdentifier rules (tag_octets t) t (label t).constructed
   of_segments : IsIdentifier Ber (36 ∷ []) OctetString true
 
 -- some identifier begins so, and goes on
@@ -21,7 +22,8 @@ IsCutIdentifier rules s = (o : ℕ) × (more : List ℕ) × (t : Tag) × (b : Bo
 
 -- no identifier begins so
 abbrev pub BeginsNoIdentifier : EncodingRules → List ℕ → Type 0
-BeginsNoIdentifier rules s = (more : List ℕ) (t : Tag) (b : Bool) → IsIdentifier rules (s ++ more) t b → ⊥
+BeginsNoIdentifier rules s = (more : List ℕ) (t : Tag) (b : Bool)
+    → IsIdentifier rules (s ++ more) t b → ⊥
 
 -- of an octet that begins no identifier, else of one in a long number; 31 begins a long number,
 -- which no universal tag has
@@ -33,5 +35,6 @@ identifier_kind (first ∷ s) o = TagNumberInvalid
 -- none can follow
 pub data IdentifierFault (rules : EncodingRules) (at : ℕ) : List ℕ → Refusal → Type 0 where
   cut : (s : List ℕ) → IsCutIdentifier rules s → IdentifierFault rules at s (cut_at (at + length s))
-  refused : (s : List ℕ) (o : ℕ) (rest : List ℕ) → IsCutIdentifier rules s → BeginsNoIdentifier rules (s ++ o ∷ [])
+  refused : (s : List ℕ) (o : ℕ) (rest : List ℕ) → IsCutIdentifier rules s
+      → BeginsNoIdentifier rules (s ++ o ∷ [])
       → IdentifierFault rules at (s ++ o ∷ rest) (refusal (identifier_kind s o) (at + length s + 1))

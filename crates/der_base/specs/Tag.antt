@@ -66,9 +66,12 @@ tag_octets t = label_octets (label t)
 -- the universal tags by their first octets, which are all that they have
 abbrev pub universal_rows : List (ℕ × Tag)
 universal_rows =
-    (1, Boolean) ∷ (2, Integer) ∷ (3, BitString) ∷ (4, OctetString) ∷ (5, Null) ∷ (6, ObjectIdentifier) ∷ (9, Real) ∷ (10, Enumerated)
-    ∷ (12, Utf8String) ∷ (13, RelativeOid) ∷ (18, NumericString) ∷ (19, PrintableString) ∷ (20, TeletexString) ∷ (21, VideotexString)
-    ∷ (22, Ia5String) ∷ (23, UtcTime) ∷ (24, GeneralizedTime) ∷ (26, VisibleString) ∷ (27, GeneralString) ∷ (30, BmpString)
+    (1, Boolean) ∷ (2, Integer) ∷ (3, BitString) ∷ (4, OctetString) ∷ (5, Null)
+    ∷ (6, ObjectIdentifier) ∷ (9, Real) ∷ (10, Enumerated)
+    ∷ (12, Utf8String) ∷ (13, RelativeOid) ∷ (18, NumericString) ∷ (19, PrintableString)
+    ∷ (20, TeletexString) ∷ (21, VideotexString)
+    ∷ (22, Ia5String) ∷ (23, UtcTime) ∷ (24, GeneralizedTime) ∷ (26, VisibleString)
+    ∷ (27, GeneralString) ∷ (30, BmpString)
     ∷ (48, Sequence) ∷ (49, Set) ∷ []
 
 abbrev pub tag_among : List (ℕ × Tag) → ℕ → Option Tag

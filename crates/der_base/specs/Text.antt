@@ -22,7 +22,8 @@ abbrev pub length_text : Length → List ℕ
 length_text l = decimal (number l)
 
 abbrev pub length_debug : Length → List ℕ
-length_debug l = if flagged l then codes "Length([indefinite])" else codes "Length(" ++ decimal (number l) ++ codes ")"
+length_debug l =
+    if flagged l then codes "Length([indefinite])" else codes "Length(" ++ decimal (number l) ++ codes ")"
 
 abbrev pub class_text : Class → List ℕ
 class_text class.Universal = codes "UNIVERSAL"
@@ -66,16 +67,20 @@ tag_text tag.GeneralizedTime = codes "GeneralizedTime"
 tag_text tag.VisibleString = codes "VisibleString"
 tag_text tag.GeneralString = codes "GeneralString"
 tag_text tag.BmpString = codes "BMPString"
-tag_text (tag.Application b n) = codes "APPLICATION [" ++ decimal n.0 ++ codes "] (" ++ form_text b ++ codes ")"
-tag_text (tag.ContextSpecific b n) = codes "CONTEXT-SPECIFIC [" ++ decimal n.0 ++ codes "] (" ++ form_text b ++ codes ")"
-tag_text (tag.Private b n) = codes "PRIVATE [" ++ decimal n.0 ++ codes "] (" ++ form_text b ++ codes ")"
+tag_text (tag.Application b n) =
+    codes "APPLICATION [" ++ decimal n.0 ++ codes "] (" ++ form_text b ++ codes ")"
+tag_text (tag.ContextSpecific b n) =
+    codes "CONTEXT-SPECIFIC [" ++ decimal n.0 ++ codes "] (" ++ form_text b ++ codes ")"
+tag_text (tag.Private b n) =
+    codes "PRIVATE [" ++ decimal n.0 ++ codes "] (" ++ form_text b ++ codes ")"
 
 -- in lower case hexadecimal, at least two digits
 abbrev pub hexadecimal : ℕ → List ℕ
 hexadecimal n = replicate (2 - length (digits 16 false n)) 48 ++ digits 16 false n
 
 abbrev pub tag_debug : Tag → List ℕ
-tag_debug t = codes "Tag(0x" ++ (hexadecimal (label t).number ++ (codes ": " ++ (tag_text t ++ codes ")")))
+tag_debug t =
+    codes "Tag(0x" ++ (hexadecimal (label t).number ++ (codes ": " ++ (tag_text t ++ codes ")")))
 
 -- the text of kind Utf8 is not said
 abbrev pub kind_text : ErrorKind → Option (List ℕ)
@@ -87,7 +92,8 @@ kind_text (kind.Incomplete expected actual) =
 kind_text kind.IndefiniteLength = Some (codes "indefinite length disallowed/malformed")
 kind_text (kind.Length t) = Some (codes "incorrect length for " ++ tag_text t)
 kind_text kind.NestingDepth = Some (codes "too many nested productions encountered")
-kind_text (kind.Noncanonical t) = Some (codes "ASN.1 " ++ tag_text t ++ codes " not canonically encoded as DER")
+kind_text (kind.Noncanonical t) =
+    Some (codes "ASN.1 " ++ tag_text t ++ codes " not canonically encoded as DER")
 kind_text kind.OidMalformed = Some (codes "malformed OID")
 kind_text kind.SetDuplicate = Some (codes "SET OF contains duplicate")
 kind_text kind.SetOrdering = Some (codes "SET OF ordering error")
@@ -98,8 +104,10 @@ kind_text kind.TagModeUnknown = Some (codes "unknown tag mode")
 kind_text kind.TagNumberInvalid = Some (codes "invalid tag number")
 kind_text (kind.TagUnexpected (Some expected) actual) =
     Some (codes "unexpected ASN.1 DER tag: expected " ++ tag_text expected ++ codes ", got " ++ tag_text actual)
-kind_text (kind.TagUnexpected None actual) = Some (codes "unexpected ASN.1 DER tag: got " ++ tag_text actual)
-kind_text (kind.TagUnknown byte) = Some (codes "unknown/unsupported ASN.1 DER tag: 0x" ++ hexadecimal byte)
+kind_text (kind.TagUnexpected None actual) =
+    Some (codes "unexpected ASN.1 DER tag: got " ++ tag_text actual)
+kind_text (kind.TagUnknown byte) =
+    Some (codes "unknown/unsupported ASN.1 DER tag: 0x" ++ hexadecimal byte)
 kind_text (kind.TrailingData decoded remaining) =
     Some (codes "trailing data at end of DER message: decoded " ++ length_text decoded
     ++ codes " bytes, " ++ length_text remaining ++ codes " bytes remaining")

@@ -1,5 +1,5 @@
-//! What the derived comparisons and hashes answer. Each function calls one of them, and its contract
-//! is the law; nothing else uses these.
+//! What the derived comparisons and hashes answer. Each function calls one of them, and its
+//! contract is the law; nothing else uses these.
 ghost use Rattle.std.specs.Prelude.{◌≡◌, ◌↔◌, ◌++◌, IsTrue, fold};
 ghost use Rattle.std.specs.Hash as fed;
 ghost use Rattle.std.specs.Ordering.{nat_cmp};

@@ -9,8 +9,8 @@ use std::str::FromStr;
 /// Which encoding rules a reader keeps to.
 #[derive(Clone, Copy, Debug, Default, PartialEq, Eq, PartialOrd, Ord)]
 pub enum EncodingRules {
-    /// The Basic Encoding Rules, as far as this library takes them: lengths in the fewest octets, the
-    /// indefinite form, and OCTET STRINGs in segments.
+    /// The Basic Encoding Rules, as far as this library takes them: lengths in the fewest octets,
+    /// the indefinite form, and OCTET STRINGs in segments.
     Ber,
     /// The Distinguished Encoding Rules.
     #[default]

@@ -113,8 +113,8 @@ pub enum ErrorKind {
     },
     /// An indefinite length where none may stand, or one that is not closed rightly.
     IndefiniteLength,
-    /// The length of an element with this tag is not spelled as it has to be, or is not the number of
-    /// octets that its contents have.
+    /// The length of an element with this tag is not spelled as it has to be, or is not the number
+    /// of octets that its contents have.
     Length {
         /// The element's tag.
         tag: Tag,

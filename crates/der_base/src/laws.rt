@@ -60,8 +60,8 @@ pub fn one_tag()
 
 /// Octets that begin with a tag have no fault of one (X.690 8.1.2).
 pub fn no_tag_has_a_fault()
-    ensures { (rules : EncodingRules) (at : ℕ) (s : List ℕ) (t : Tag) (b : Bool) (m : ℕ) (r : Refusal)
-        → IdentifierFault rules at s r → TagAhead rules s t b m → ⊥ }
+    ensures { (rules : EncodingRules) (at : ℕ) (s : List ℕ) (t : Tag) (b : Bool) (m : ℕ)
+        (r : Refusal) → IdentifierFault rules at s r → TagAhead rules s t b m → ⊥ }
 {}
 
 /// Octets have one fault of a tag at most, at one position (X.690 8.1.2).
@@ -72,8 +72,8 @@ pub fn one_identifier_fault()
 
 /// Octets begin with one length at most, under either rules (X.690 8.1.3, 10.1).
 pub fn one_length()
-    ensures { (rules : EncodingRules) (s : List ℕ) (l k : Length) (m n : ℕ) → LengthAhead rules s l m
-        → LengthAhead rules s k n → (l ≡ k) × (m ≡ n) }
+    ensures { (rules : EncodingRules) (s : List ℕ) (l k : Length) (m n : ℕ)
+        → LengthAhead rules s l m → LengthAhead rules s k n → (l ≡ k) × (m ≡ n) }
 {}
 
 /// Octets that begin with a length have no fault of one (X.690 8.1.3, 10.1).

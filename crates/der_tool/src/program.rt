@@ -14,9 +14,9 @@ use hex::FromHexError;
 use std::alloc::{AllocError, Allocator, Global};
 use std::io;
 
-/// Answers the words on the output, and gives the status: 0 where the octets are told, 1 where they
-/// are refused, memory is refused or the output fails, and 2 where the words are no command. Nothing
-/// is said of what an output that fails took.
+/// Answers the words on the output, and gives the status: 0 where the octets are told, 1 where
+/// they are refused, memory is refused or the output fails, and 2 where the words are no command.
+/// Nothing is said of what an output that fails took.
 pub fn run<W: Output>(alloc: Global, words: &[String], out: &mut W) -> u8
     ensures answers { (result ≡ 1)
         ⊎ Writes (texts words.now) result (W.contents out.old) (W.contents out.new) }
