@@ -5,7 +5,7 @@ ghost use Rattle.der_base.specs.Header.{header_octets};
 ghost use Rattle.der_base.specs.declared.tag.Tag.TheVariants.{Sequence};
 ghost use Rattle.der_core.specs.Writer.{Kept, Appends};
 ghost use Rattle.der_core.specs.SliceWriter.{slice_writer_state};
-ghost use Rattle.der_core.specs.Sequence.{headed};
+ghost use Rattle.der_core.specs.WrittenSequence.{headed};
 
 use super::*;
 use crate::{Encode, SliceWriter, Writer};

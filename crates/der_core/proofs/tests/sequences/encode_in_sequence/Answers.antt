@@ -4,13 +4,13 @@ use Rattle.der_base.specs.declared.error.Error.{Error}
 use Rattle.der_core.specs.Writer.{WriterState, Appends}
 use Rattle.der_core.specs.Encode.{TakesCounted}
 use Rattle.der_core.specs.SliceWriter.{slice_writer_state}
-use Rattle.der_core.specs.Sequence.{Closed, refused, failed, unfilled, filled, part, headed}
+use Rattle.der_core.specs.WrittenSequence.{Closed, handed_on, failed, unfilled, filled, part, headed}
 use Rattle.der_core.proofs.tests.sequences.encode_in_sequence.Goals as goal
 
 -- a part that is filled is not refused
 not_refused : (s p q t : WriterState) (n : ℕ) (octets : List ℕ) (answer result : Result (Unit {0}) Error) (e : Error) → p ≡ part s n → length octets ≡ n → n < 2 ^ 32
     → TakesCounted p octets answer → Appends p octets answer q → Closed s n q t answer result → result ≡ Err e → ⊥
-not_refused s p q t n octets _ _ e over full few takes appends (refused f abandoned) is =
+not_refused s p q t n octets _ _ e over full few takes appends (handed_on f abandoned) is =
     let alive : p.failed ≡ false = ap (λ (u : WriterState). u.failed) over in
     let begin : length p.octets ≡ length s.octets = ap (λ (u : WriterState). length u.octets) over in
     let stop : p.stop ≡ length s.octets + n = ap (λ (u : WriterState). u.stop) over in
