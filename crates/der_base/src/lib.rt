@@ -19,6 +19,3 @@ pub use tag::{
     CLASS_APPLICATION, CLASS_CONTEXT_SPECIFIC, CLASS_PRIVATE, CLASS_UNIVERSAL, Class, Tag, TagMode,
     TagNumber,
 };
-
-#[cfg(test)]
-mod tests;

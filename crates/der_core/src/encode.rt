@@ -13,12 +13,12 @@ mod tag;
 mod value;
 mod vec;
 
-use crate::encode::vec::{append, to_der_in};
 use crate::tag::fixed::Tagged;
 use crate::writer::{SliceWriter, Writer};
 use der_base::{Error, Length};
 use std::alloc::Global;
 pub use value::{EncodeValue, WrittenValue, encode_value_to_slice};
+pub use vec::{encode_to_vec_in, to_der_in};
 
 /// Types whose values are written as octets.
 ///
@@ -80,7 +80,7 @@ pub trait Encode {
         ensures exact { VecAnswer (Self.size self.now) (Self.answers self.now)
             (length out.old.items) result }
     {
-        append(self, out)
+        encode_to_vec_in(self, out)
     }
 
     /// The encoding. An error of [`Encode::encoded_len`] is handed on, `Overflow` without a

@@ -13,8 +13,6 @@ mod length;
 mod peek;
 pub mod reader;
 mod tag;
-#[cfg(test)]
-mod tests;
 pub mod writer;
 
 pub use decode::{Decode, DecodeBytes, DecodeError};
@@ -23,7 +21,8 @@ pub use der_base::{
     EncodingRules, Error, ErrorKind, Length, Result, Tag, TagMode, TagNumber,
 };
 pub use encode::{
-    Encode, EncodeValue, WrittenValue, encode_tlv, encode_value_to_slice, encoded_len_tlv,
+    Encode, EncodeValue, WrittenValue, encode_tlv, encode_to_vec_in, encode_value_to_slice,
+    encoded_len_tlv, to_der_in,
 };
 pub use encode_ref::{EncodeRef, EncodeValueRef};
 pub use header::{Header, decode_header};

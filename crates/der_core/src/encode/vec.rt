@@ -1,31 +1,29 @@
-//! Encoding into memory of any allocator.
+//! Encoding into memory of any allocator, where [`Encode::to_der`] and [`Encode::encode_to_vec`] take
+//! the global one.
 ghost use Rattle.std.specs.Prelude.{◌≡◌, ◌++◌, length, OnOk, OnErr, IfOk};
 ghost use Rattle.der_base.specs.Length.{plain};
 ghost use Rattle.der_core.specs.Encode.{Begins, FitsInto, FreshAnswer, GrowsBy, VecAnswer};
 ghost use Rattle.der_core.specs.Outcome.{seen};
-
-#[cfg(test)]
-mod tests;
 
 use crate::encode::Encode;
 use crate::writer::SliceWriter;
 use der_base::{Error, ErrorKind, Length};
 use std::alloc::Allocator;
 
-// The body of `Encode::to_der`.
-pub(super) fn to_der_in<T: Encode, A: Allocator>(alloc: A, value: &T) -> Result<Vec<u8, A>, Error>
+/// The encoding, in memory of this allocator; otherwise as [`Encode::to_der`].
+pub fn to_der_in<T: Encode, A: Allocator>(alloc: A, value: &T) -> Result<Vec<u8, A>, Error>
     ensures ok { IfOk result (λ v. v.items ≡ T.encoding value.now) }
     ensures succeeds { T.encodable value.now → GrowsBy (T.encoding value.now) 0 result }
     ensures exact { VecAnswer (T.size value.now) (T.answers value.now) 0
         (seen (λ v. plain (length v.items)) result) }
 {
     let mut out = Vec::new(alloc);
-    append(value, &mut out)?;
+    encode_to_vec_in(value, &mut out)?;
     Ok(out)
 }
 
-// The body of `Encode::encode_to_vec`.
-pub(super) fn append<T: Encode, A: Allocator>(
+/// Appends the encoding to a vector of any allocator; otherwise as [`Encode::encode_to_vec`].
+pub fn encode_to_vec_in<T: Encode, A: Allocator>(
     value: &T,
     out: &mut Vec<u8, A>,
 ) -> Result<Length, Error>

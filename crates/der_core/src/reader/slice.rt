@@ -1,9 +1,6 @@
 //! Readers of a slice.
 ghost use Rattle.std.specs.Prelude.{◌≡◌, ◌+◌, ◌^◌, ◌<◌, ◌≤◌, ◌↔◌, true, length, IfOk, IfErr, IsOk};
 
-#[cfg(test)]
-mod tests;
-
 use crate::reader::position::MAX_DEPTH;
 use crate::reader::{Reader, Resumption};
 use der_base::{EncodingRules, Error, ErrorKind, Length};
@@ -69,8 +66,9 @@ impl<'a> SliceReader<'a> {
         })
     }
 
-    // The next octets in memory of any allocator; memory is asked for once they are there.
-    fn read_vec_in<A: Allocator>(&mut self, alloc: A, len: Length) -> Result<Vec<u8, A>, Error>
+    /// The next octets, in memory of this allocator; otherwise as [`Reader::read_vec`]. Memory is
+    /// asked for once the octets are there.
+    pub fn read_vec_in<A: Allocator>(&mut self, alloc: A, len: Length) -> Result<Vec<u8, A>, Error>
         ensures same { Same (slice_state self.old) (slice_state self.new) }
         ensures gives { VecGives (number len) (slice_state self.old) (seen (λ v. v.items) result)
             (slice_state self.new) }

@@ -1,0 +1,108 @@
+//! Parts inside each other, entered and left.
+ghost use Rattle.der_core.specs.SliceReader.{slice_state};
+ghost use Rattle.der_core.specs.State.{Same};
+
+use super::*;
+use crate::checks::{holds, same};
+use der_core::{Resumption, close_value};
+
+// So many empty parts inside each other.
+fn nest(reader: &mut SliceReader<'_>, levels: u8) -> Result<(), Error>
+    ensures { Same (slice_state reader.old) (slice_state reader.new) }
+{
+    if levels == 0 {
+        return Ok(());
+    }
+    let outer = match reader.enter_nested(Length::ZERO) {
+        Ok(outer) => outer,
+        Err(error) => return Err(error),
+    };
+    let answer = nest(reader, levels - 1);
+    reader.close_nested(outer, answer)
+}
+
+#[test]
+fn as_many_parts_as_may_stand_inside_each_other(rt: HostRuntime) -> Result<(), Fail> {
+    let mut reader = SliceReader::new(&[])?;
+    same(&rt, nest(&mut reader, 64), Ok(()));
+    holds(&rt, !reader.is_failed());
+    same(&rt, reader.position(), Length::ZERO);
+    same(&rt, reader.input_len(), Length::ZERO);
+    Ok(())
+}
+
+#[test]
+fn one_part_more_than_may_stand_inside_each_other(rt: HostRuntime) -> Result<(), Fail> {
+    let mut reader = SliceReader::new(&[])?;
+    let too_deep = ErrorKind::NestingDepth.at(Length::ZERO);
+    same(&rt, nest(&mut reader, 65), Err(too_deep));
+    same(&rt, reader.input_len(), Length::ZERO);
+    holds(&rt, reader.is_failed());
+    Ok(())
+}
+
+fn read_one(reader: &mut SliceReader<'_>) -> Result<u8, Error>
+    ensures { Same (slice_state reader.old) (slice_state reader.new) }
+{
+    reader.read_byte()
+}
+
+fn read_inner(reader: &mut SliceReader<'_>) -> Result<u8, Error>
+    ensures { Same (slice_state reader.old) (slice_state reader.new) }
+{
+    reader.read_nested(Length::ONE, read_one)
+}
+
+#[test]
+fn a_part_in_a_part(rt: HostRuntime) -> Result<(), Fail> {
+    let octets = [0x01, 0x02];
+    let mut reader = SliceReader::new(&octets)?;
+    same(&rt, reader.read_nested(Length::ONE, read_inner), Ok(0x01));
+    same(&rt, reader.position(), Length::ONE);
+    same(&rt, reader.input_len(), Length::new(2));
+    Ok(())
+}
+
+#[test]
+fn a_part_that_is_closed(rt: HostRuntime) -> Result<(), Fail> {
+    let octets = [0x01, 0x02];
+    let mut reader = SliceReader::new(&octets)?;
+    let outer = reader.enter_nested(Length::ONE)?;
+    same(&rt, reader.input_len(), Length::ONE);
+    let answer = reader.read_byte();
+    same(&rt, reader.close_nested(outer, answer), Ok(0x01));
+    same(&rt, reader.input_len(), Length::new(2));
+    Ok(())
+}
+
+#[test]
+fn a_part_that_is_left(rt: HostRuntime) -> Result<(), Fail> {
+    let octets = [0x01, 0x02];
+    let mut reader = SliceReader::new(&octets)?;
+    let outer = reader.enter_nested(Length::ONE)?;
+    same(&rt, outer.input_len(), Length::new(2));
+    same(&rt, outer.depth(), 0);
+    reader.leave_nested(outer);
+    same(&rt, reader.position(), Length::ZERO);
+    same(&rt, reader.input_len(), Length::new(2));
+    Ok(())
+}
+
+#[test]
+fn what_a_part_goes_back_to(rt: HostRuntime) {
+    let outer = Resumption::new(Length::new(42), 3);
+    same(&rt, outer.input_len(), Length::new(42));
+    same(&rt, outer.depth(), 3);
+}
+
+#[test]
+fn contents_that_are_closed(rt: HostRuntime) -> Result<(), Fail> {
+    let octets = [0x07, 0x00, 0x00];
+    let mut reader = SliceReader::new(&octets)?;
+    let outer = reader.enter_nested(Length::ONE)?;
+    let answer = reader.read_byte();
+    let closed = close_value(&mut reader, Length::new_indefinite(3), outer, answer);
+    same(&rt, closed, Ok(0x07));
+    same(&rt, reader.position(), Length::new(3));
+    Ok(())
+}

@@ -1,0 +1,92 @@
+//! Headers that are read.
+use super::*;
+use crate::checks::{holds, same};
+
+fn header(alloc: Global, bytes: &[u8]) -> Result<(Header, usize), Error> {
+    front::<Header>(alloc, bytes)
+}
+
+#[test]
+fn headers_ahead(rt: HostRuntime) {
+    let alloc = rt.alloc();
+    let integer = Header::new(Tag::Integer, Length::ONE);
+    same(
+        &rt,
+        header(alloc, &[0x02, 0x01, 0x2A, 0x00]),
+        Ok((integer, 2)),
+    );
+    let sequence = Header::new(Tag::Sequence, Length::new(256));
+    same(
+        &rt,
+        header(alloc, &[0x30, 0x82, 0x01, 0x00]),
+        Ok((sequence, 0)),
+    );
+    let longest = Header::new(TagNumber(4294967295).context_specific(true), Length::MAX);
+    let octets = [
+        0xBF, 0x8F, 0xFF, 0xFF, 0xFF, 0x7F, 0x84, 0xFF, 0xFF, 0xFF, 0xFF,
+    ];
+    same(&rt, header(alloc, &octets), Ok((longest, 0)));
+}
+
+#[test]
+fn what_a_header_says(rt: HostRuntime) {
+    let sequence = Header::new(Tag::Sequence, Length::new(3));
+    same(&rt, sequence.tag(), Tag::Sequence);
+    same(&rt, sequence.length(), Length::new(3));
+    holds(&rt, sequence.is_constructed());
+    let octets = Header::new(Tag::OctetString, Length::new(3));
+    holds(&rt, !octets.is_constructed());
+    let indefinite = Header::new(Tag::OctetString, Length::new_indefinite(5));
+    holds(&rt, indefinite.is_constructed());
+    let shorter = indefinite.with_length(Length::new(3));
+    holds(&rt, shorter.is_constructed());
+    same(&rt, shorter.length(), Length::new(3));
+    holds(&rt, shorter != octets);
+}
+
+#[test]
+fn headers_that_are_refused(rt: HostRuntime) {
+    let alloc = rt.alloc();
+    same(&rt, header(alloc, &[]), Err(incomplete(1, 0, 0)));
+    same(&rt, header(alloc, &[0x30]), Err(incomplete(2, 1, 1)));
+    let incorrect = ErrorKind::Length {
+        tag: Tag::OctetString,
+    };
+    same(
+        &rt,
+        header(alloc, &[0x04, 0x81, 0x7F]),
+        Err(incorrect.at(Length::new(3))),
+    );
+    same(
+        &rt,
+        header(alloc, &[0x04, 0x85]),
+        Err(incorrect.at(Length::new(2))),
+    );
+    let indefinite = ErrorKind::IndefiniteLength.at(Length::new(2));
+    same(&rt, header(alloc, &[0x04, 0x80]), Err(indefinite));
+    same(
+        &rt,
+        header(alloc, &[0x30, 0x80, 0x00, 0x00]),
+        Err(indefinite),
+    );
+}
+
+#[test]
+fn a_refused_header_leaves_the_reader_failed(rt: HostRuntime) -> Result<(), Fail> {
+    let octets = [0x04, 0x81, 0x7F, 0x05];
+    let mut reader = SliceReader::new(&octets)?;
+    let incorrect = ErrorKind::Length {
+        tag: Tag::OctetString,
+    };
+    same(
+        &rt,
+        decode_header(&mut reader),
+        Err(incorrect.at(Length::new(3))),
+    );
+    holds(&rt, reader.is_failed());
+    same(&rt, reader.position(), Length::new(3));
+    let failed = ErrorKind::Failed.at(Length::new(3));
+    same(&rt, decode_header(&mut reader), Err(failed));
+    same(&rt, Header::decode(rt.alloc(), &mut reader), Err(failed));
+    Ok(())
+}

@@ -1,0 +1,60 @@
+//! Parts and values of a reader that cannot lend.
+ghost use Rattle.der_core.specs.SliceReader.{slice_state};
+ghost use Rattle.der_core.specs.State.{Same};
+
+use super::unlent::{Unlent, make_unlent};
+use super::*;
+use crate::checks::{holds, same};
+use der_core::{close_value, read_value};
+
+fn read_one(reader: &mut Unlent<'_>) -> Result<u8, Error>
+    ensures { Same (slice_state reader.old.inner) (slice_state reader.new.inner) }
+{
+    reader.read_byte()
+}
+
+#[test]
+fn a_part_without_lending(rt: HostRuntime) -> Result<(), Fail> {
+    let octets = [0x07, 0x05];
+    let mut reader = make_unlent(&octets)?;
+    same(&rt, reader.read_nested(Length::ONE, read_one), Ok(0x07));
+    same(&rt, reader.offset(), Length::ONE);
+    same(&rt, reader.remaining_len(), Length::ONE);
+    Ok(())
+}
+
+fn read_contents(reader: &mut Unlent<'_>, header: Header) -> Result<(u8, Length), Error>
+    ensures { Same (slice_state reader.old.inner) (slice_state reader.new.inner) }
+{
+    match reader.read_byte() {
+        Ok(octet) => Ok((octet, header.length())),
+        Err(error) => Err(error),
+    }
+}
+
+#[test]
+fn a_value_without_lending(rt: HostRuntime) -> Result<(), Fail> {
+    let octets = [0x07, 0x00, 0x00];
+    let mut reader = make_unlent(&octets)?;
+    let header = Header::new(Tag::OctetString, Length::new_indefinite(3));
+    let read = read_value(&mut reader, header, read_contents);
+    same(&rt, read, Ok((0x07, Length::new_indefinite(1))));
+    same(&rt, reader.position(), Length::new(3));
+    Ok(())
+}
+
+#[test]
+fn contents_closed_without_lending(rt: HostRuntime) -> Result<(), Fail> {
+    let octets = [0x07, 0x05];
+    let mut reader = make_unlent(&octets)?;
+    let outer = reader.enter_nested(Length::new(2))?;
+    let answer = reader.read_byte();
+    let left = ErrorKind::TrailingData {
+        decoded: Length::ONE,
+        remaining: Length::ONE,
+    };
+    let closed = close_value(&mut reader, Length::new(2), outer, answer);
+    same(&rt, closed, Err(left.at(Length::ONE)));
+    holds(&rt, reader.is_failed());
+    Ok(())
+}

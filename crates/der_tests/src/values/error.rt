@@ -1,0 +1,175 @@
+//! Errors and their printed texts.
+use crate::checks::{holds, same};
+use der_base::{Error, ErrorKind, Length, Tag};
+use std::alloc::Global;
+use std::process::Abort;
+use std::str;
+use std::test::Fail;
+
+/// The kinds whose text holds no length and no tag.
+const PLAIN: [(ErrorKind, &str); 14] = [
+    (ErrorKind::DateTime, "date/time error"),
+    (ErrorKind::EncodingRules, "invalid encoding rules"),
+    (ErrorKind::Failed, "operation failed"),
+    (
+        ErrorKind::IndefiniteLength,
+        "indefinite length disallowed/malformed",
+    ),
+    (
+        ErrorKind::NestingDepth,
+        "too many nested productions encountered",
+    ),
+    (ErrorKind::OidMalformed, "malformed OID"),
+    (ErrorKind::SetDuplicate, "SET OF contains duplicate"),
+    (ErrorKind::SetOrdering, "SET OF ordering error"),
+    (ErrorKind::Overflow, "integer overflow"),
+    (ErrorKind::Overlength, "ASN.1 DER message is too long"),
+    (
+        ErrorKind::Reader,
+        "reader does not support the requested operation",
+    ),
+    (ErrorKind::TagModeUnknown, "unknown tag mode"),
+    (ErrorKind::TagNumberInvalid, "invalid tag number"),
+    (ErrorKind::OutOfMemory, "out of memory"),
+];
+
+fn plain(rt: &impl Abort, alloc: Global, kind: ErrorKind, text: &str) -> Result<(), Fail> {
+    same(rt, kind.to_string(alloc)?.as_str(), text);
+    same(rt, kind.to_error().to_string(alloc)?.as_str(), text);
+    let placed = format!(in alloc; "{text} at DER byte 7")?;
+    let error = kind.at(Length::new(7));
+    same(rt, error.to_string(alloc)?.as_str(), placed.as_str());
+    Ok(())
+}
+
+#[test]
+fn plain_kinds_printed(rt: HostRuntime) -> Result<(), Fail> {
+    for (kind, text) in PLAIN {
+        plain(&rt, rt.alloc(), kind, text)?;
+    }
+    Ok(())
+}
+
+fn cut() -> Error {
+    Error::incomplete(Length::ZERO)
+}
+
+#[test]
+fn kinds_with_lengths_printed(rt: HostRuntime) -> Result<(), Fail> {
+    let alloc = rt.alloc();
+    same(
+        &rt,
+        cut().to_string(alloc)?.as_str(),
+        "ASN.1 DER message is incomplete: expected 1, actual 0 at DER byte 0",
+    );
+    same(
+        &rt,
+        cut().kind().to_string(alloc)?.as_str(),
+        "ASN.1 DER message is incomplete: expected 1, actual 0",
+    );
+    let trailing = ErrorKind::TrailingData {
+        decoded: Length::new(3),
+        remaining: Length::ONE,
+    };
+    same(
+        &rt,
+        trailing.at(Length::new(3)).to_string(alloc)?.as_str(),
+        "trailing data at end of DER message: decoded 3 bytes, 1 bytes remaining at DER byte 3",
+    );
+    Ok(())
+}
+
+#[test]
+fn kinds_with_tags_printed(rt: HostRuntime) -> Result<(), Fail> {
+    let alloc = rt.alloc();
+    let tag = Tag::OctetString;
+    let length = tag.length_error().at(Length::new(3));
+    same(
+        &rt,
+        length.to_string(alloc)?.as_str(),
+        "incorrect length for OCTET STRING at DER byte 3",
+    );
+    let noncanonical = tag.non_canonical_error().at(Length::ONE);
+    same(
+        &rt,
+        noncanonical.to_string(alloc)?.as_str(),
+        "ASN.1 OCTET STRING not canonically encoded as DER at DER byte 1",
+    );
+    let value = tag.value_error().to_error();
+    same(
+        &rt,
+        value.to_string(alloc)?.as_str(),
+        "malformed ASN.1 DER value for OCTET STRING",
+    );
+    let unexpected = Tag::Sequence.unexpected_error(Some(tag)).to_error();
+    same(
+        &rt,
+        unexpected.to_string(alloc)?.as_str(),
+        "unexpected ASN.1 DER tag: expected OCTET STRING, got SEQUENCE",
+    );
+    let unexpected = Tag::Sequence.unexpected_error(None).to_error();
+    same(
+        &rt,
+        unexpected.to_string(alloc)?.as_str(),
+        "unexpected ASN.1 DER tag: got SEQUENCE",
+    );
+    Ok(())
+}
+
+#[test]
+fn unknown_tags_printed(rt: HostRuntime) -> Result<(), Fail> {
+    let alloc = rt.alloc();
+    let unknown = ErrorKind::TagUnknown { byte: 0x3F }.at(Length::ONE);
+    same(
+        &rt,
+        unknown.to_string(alloc)?.as_str(),
+        "unknown/unsupported ASN.1 DER tag: 0x3f at DER byte 1",
+    );
+    let unknown = ErrorKind::TagUnknown { byte: 0 }.to_error();
+    same(
+        &rt,
+        unknown.to_string(alloc)?.as_str(),
+        "unknown/unsupported ASN.1 DER tag: 0x00",
+    );
+    Ok(())
+}
+
+#[test]
+fn kind_and_position(rt: HostRuntime) {
+    let error = Error::new(ErrorKind::Reader, Length::new(9));
+    same(&rt, error.kind(), ErrorKind::Reader);
+    same(&rt, error.position(), Some(Length::new(9)));
+    same(&rt, error, ErrorKind::Reader.at(Length::new(9)));
+    let bare = Error::from(ErrorKind::Reader);
+    same(&rt, bare, ErrorKind::Reader.to_error());
+    same(&rt, bare.position(), None);
+}
+
+#[test]
+fn a_cut_input(rt: HostRuntime) -> Result<(), Fail> {
+    let kind = ErrorKind::Incomplete {
+        expected_len: Length::ONE,
+        actual_len: Length::ZERO,
+    };
+    same(&rt, cut(), kind.at(Length::ZERO));
+    let most = Error::incomplete(Length::MAX);
+    same(&rt, most, ErrorKind::Overflow.at(Length::MAX));
+    same(
+        &rt,
+        most.to_string(rt.alloc())?.as_str(),
+        "integer overflow at DER byte 4294967295",
+    );
+    Ok(())
+}
+
+#[test]
+fn from_errors_of_std(rt: HostRuntime) {
+    holds(&rt, u8::try_from(256u32).is_err());
+    if let Err(error) = u8::try_from(256u32) {
+        same(&rt, Error::from(error), ErrorKind::Overflow.to_error());
+    }
+    holds(&rt, str::from_utf8(&[0xFF]).is_err());
+    if let Err(error) = str::from_utf8(&[0xFF]) {
+        same(&rt, Error::from(error), ErrorKind::Utf8(error).to_error());
+    }
+}

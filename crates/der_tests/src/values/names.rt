@@ -1,0 +1,67 @@
+//! Names of tagging modes and of encoding rules.
+use crate::checks::{holds, same, same_at};
+use der_base::{EncodingRules, Error, ErrorKind, TagMode};
+use std::str::FromStr;
+use std::test::Fail;
+
+#[test]
+fn modes_read(rt: HostRuntime) {
+    for text in ["EXPLICIT", "explicit"] {
+        same(&rt, TagMode::from_str(text), Ok(TagMode::Explicit));
+    }
+    for text in ["IMPLICIT", "implicit"] {
+        same(&rt, TagMode::from_str(text), Ok(TagMode::Implicit));
+    }
+    let unknown = Error::from(ErrorKind::TagModeUnknown);
+    for text in ["Explicit", "Implicit", "", "explicit ", "EXPLICI", "DER"] {
+        same_at(&rt, text, TagMode::from_str(text), Err(unknown));
+    }
+}
+
+#[test]
+fn rules_read(rt: HostRuntime) {
+    for text in ["ber", "BER"] {
+        same(&rt, EncodingRules::from_str(text), Ok(EncodingRules::Ber));
+    }
+    for text in ["der", "DER"] {
+        same(&rt, EncodingRules::from_str(text), Ok(EncodingRules::Der));
+    }
+    let unknown = Error::from(ErrorKind::EncodingRules);
+    for text in ["CER", "Der", "Ber", "", "DER ", "BE", "explicit"] {
+        same_at(&rt, text, EncodingRules::from_str(text), Err(unknown));
+    }
+}
+
+#[test]
+fn which_rules(rt: HostRuntime) {
+    holds(
+        &rt,
+        EncodingRules::Ber.is_ber() && !EncodingRules::Ber.is_der(),
+    );
+    holds(
+        &rt,
+        EncodingRules::Der.is_der() && !EncodingRules::Der.is_ber(),
+    );
+    same(&rt, EncodingRules::default(), EncodingRules::Der);
+    same(&rt, TagMode::default(), TagMode::Explicit);
+    holds(&rt, EncodingRules::Ber < EncodingRules::Der);
+    holds(&rt, TagMode::Explicit < TagMode::Implicit);
+}
+
+#[test]
+fn printed(rt: HostRuntime) -> Result<(), Fail> {
+    let alloc = rt.alloc();
+    same(
+        &rt,
+        TagMode::Explicit.to_string(alloc)?.as_str(),
+        "EXPLICIT",
+    );
+    same(
+        &rt,
+        TagMode::Implicit.to_string(alloc)?.as_str(),
+        "IMPLICIT",
+    );
+    same(&rt, EncodingRules::Ber.to_string(alloc)?.as_str(), "BER");
+    same(&rt, EncodingRules::Der.to_string(alloc)?.as_str(), "DER");
+    Ok(())
+}
