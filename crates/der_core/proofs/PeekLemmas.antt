@@ -1,5 +1,5 @@
 -- What is seen on a fork, and what follows it.
-use Rattle.std.proofs.Common.{◌≡◌, ℕ, ◌+◌, ◌-◌, ◌^◌, ◌<◌, ◌≤◌, Bool, false, Result, Ok, Err, List, refl, sym, ap, ◌∙◌, subst, ⊎_elim, arith}
+use Rattle.std.proofs.Common.{◌≡◌, ℕ, ◌+◌, ◌-◌, ◌^◌, ◌<◌, ◌≤◌, Bool, true, false, Result, Ok, Err, IfOk, List, refl, sym, ap, ◌∙◌, subst, ⊎_elim, arith}
 use Rattle.std.proofs.lemmas.Bool.{lt-ltb, le-ltb, cases_lt}
 use Rattle.der_base.specs.Error.{bare}
 use Rattle.der_base.specs.Length.{number, plain}
@@ -15,15 +15,20 @@ use Rattle.der_core.specs.Outcome.{Outcome, Gives, Meets, Owed, seen}
 use Rattle.der_core.specs.Reader.{read_slice_outcome, tlv_outcome}
 use Rattle.der_core.specs.Refused.{Refused}
 use Rattle.der_core.specs.Header.{head_of}
-use Rattle.der_core.specs.Decode.{Passed, Peeks, TlvAnswers, with_header, header_ahead}
+use Rattle.der_core.specs.Decode.{Passed, GrammarAnswers, Peeks, TlvAnswers, with_header, header_ahead}
 use Rattle.der_core.specs.declared.header.Header.{Header}
 
 module _ {A : Type 0} (Ahead : EncodingRules → List ℕ → A → ℕ → Type 0) (Fault : EncodingRules → ℕ → List ℕ → Refusal → Type 0) (s f t : State) where
-  pub peeks_ok : (v : A) → f ≡ s → Passed (λ rules octets m. Ahead rules octets v m) f t → Peeks Ahead Fault s (Ok v)
+  peeks_ok : (v : A) → f ≡ s → Passed (λ rules octets m. Ahead rules octets v m) f t → Peeks Ahead Fault s (Ok v)
   peeks_ok v same h = (t, subst (λ x. Passed (λ rules octets m. Ahead rules octets v m) x t) same h)
 
   pub peeks_err : (e : Error) → f ≡ s → (f.rules ≡ Der → Refused Fault f e t) → Peeks Ahead Fault s (Err e)
   peeks_err e same h = (t, subst (λ x. x.rules ≡ Der → Refused Fault x e t) same h)
+
+  pub peeks : (reliable : Bool) (r : Result A Error) → f ≡ s → IfOk r (λ v. Passed (λ rules octets m. Ahead rules octets v m) f t) → (reliable ≡ true → GrammarAnswers Ahead Fault f r t)
+      → Owed reliable r → Peeks Ahead Fault s r
+  peeks reliable (Ok v) same ok exact owed = peeks_ok v same ok
+  peeks reliable (Err e) same ok exact owed = peeks_err e same (exact owed)
 
 -- whole elements
 tlv_near : (n : ℕ) (s : State) → n < 2 ^ 32 → tlv_outcome n s ≡ read_slice_outcome n s

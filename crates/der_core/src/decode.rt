@@ -30,10 +30,7 @@ impl DecodeError for Error {
     ghost out_of_memory = { λ e. is_out_of_memory_kind (kind_of e) };
 
     fn is_out_of_memory(&self) -> bool {
-        match self.kind() {
-            ErrorKind::OutOfMemory => true,
-            _ => false,
-        }
+        matches!(self.kind(), ErrorKind::OutOfMemory)
     }
 
     ghost carries = { λ e d same. ap (λ x. is_out_of_memory_kind (kind_of x)) same };
@@ -101,13 +98,9 @@ pub trait DecodeBytes<'a>: Decode<SliceReader<'a>> {
             (seen (λ p. (p.0, p.1.now)) result) }
     {
         let mut reader = SliceReader::new(bytes)?;
-        match Self::decode(alloc, &mut reader) {
-            Ok(value) => match reader.remaining() {
-                Ok(rest) => Ok((value, rest)),
-                Err(error) => Err(error.into()),
-            },
-            Err(error) => Err(error),
-        }
+        let value = Self::decode(alloc, &mut reader)?;
+        let rest = reader.remaining()?;
+        Ok((value, rest))
     }
 }
 

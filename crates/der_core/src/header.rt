@@ -103,10 +103,7 @@ pub fn decode_header<R: Reader>(reader: &mut R) -> Result<Header, Error>
     ensures exact { R.reliable ≡ true
         → GrammarAnswers header_ahead HeaderFault (R.state reader.old) result (R.state reader.new) }
 {
-    let (tag, constructed) = match decode_with_constructed_bit(reader) {
-        Ok(identifier) => identifier,
-        Err(error) => return Err(error),
-    };
+    let (tag, constructed) = decode_with_constructed_bit(reader)?;
     let length = match decode_length(reader) {
         Ok(length) => length,
         Err(error) => return Err(incorrect_length(tag, error)),

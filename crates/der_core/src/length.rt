@@ -37,17 +37,12 @@ pub fn decode_length<R: Reader>(reader: &mut R) -> Result<Length, Error>
         → GrammarAnswers LengthAhead (λ rules at. LengthFault Overlength at rules)
         (R.state reader.old) result (R.state reader.new) }
 {
-    let first = match reader.read_byte() {
-        Ok(octet) => octet,
-        Err(error) => return Err(error),
-    };
+    let first = reader.read_byte()?;
     if first < INDEFINITE {
         return Ok(Length::new(first as u32));
     }
-    match decode_long_length(reader, first) {
-        Ok(number) => Ok(Length::new(number)),
-        Err(error) => Err(error),
-    }
+    let number = decode_long_length(reader, first)?;
+    Ok(Length::new(number))
 }
 
 // The rest of a length behind a first octet from 80 on: so many octets in base 256, the fewest
@@ -69,10 +64,7 @@ fn decode_long_length<R: Reader>(reader: &mut R, first: u8) -> Result<u32, Error
     let count = first - INDEFINITE;
     let mut number = 0u32;
     for i in 0..count {
-        let octet = match reader.read_byte() {
-            Ok(octet) => octet,
-            Err(error) => return Err(error),
-        };
+        let octet = reader.read_byte()?;
         number = number * 256 + octet as u32;
     }
     if number < least_of(count) {

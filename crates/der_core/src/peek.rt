@@ -43,10 +43,7 @@ impl TagPeek for Tag {
         ensures { Owed R.reliable result
             → Peeks tag_ahead IdentifierFault (R.state reader.now) result }
     {
-        match reader.peek_tag() {
-            Ok(tag) => Ok(tag),
-            Err(error) => Err(error),
-        }
+        reader.peek_tag()
     }
 
     fn peek_matches<R: Reader>(
@@ -62,10 +59,8 @@ impl TagPeek for Tag {
         if reader.is_finished() {
             return Ok(false);
         }
-        match reader.peek_tag() {
-            Ok(tag) => Ok(has(tag, expected_class, expected_tag_number)),
-            Err(error) => Err(error),
-        }
+        let tag = reader.peek_tag()?;
+        Ok(has(tag, expected_class, expected_tag_number))
     }
 
     fn decode_with_constructed_bit<R: Reader>(reader: &mut R) -> Result<(Self, bool), Error>
@@ -80,10 +75,7 @@ impl TagPeek for Tag {
             → GrammarAnswers (λ rules octets r m. TagAhead rules octets r.0 r.1 m) IdentifierFault
             (R.state reader.old) result (R.state reader.new) }
     {
-        match decode_with_constructed_bit(reader) {
-            Ok(identifier) => Ok(identifier),
-            Err(error) => Err(error),
-        }
+        decode_with_constructed_bit(reader)
     }
 }
 
@@ -101,9 +93,6 @@ impl Header {
         ensures { Owed R.reliable result
             → Peeks header_ahead HeaderFault (R.state reader.now) result }
     {
-        match reader.peek_header() {
-            Ok(header) => Ok(header),
-            Err(error) => Err(error),
-        }
+        reader.peek_header()
     }
 }

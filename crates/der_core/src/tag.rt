@@ -96,10 +96,7 @@ pub(crate) fn decode_with_constructed_bit<R: Reader>(reader: &mut R) -> Result<(
         → GrammarAnswers (λ rules octets r m. TagAhead rules octets r.0 r.1 m) IdentifierFault
         (R.state reader.old) result (R.state reader.new) }
 {
-    let first = match reader.read_byte() {
-        Ok(octet) => octet,
-        Err(error) => return Err(error),
-    };
+    let first = reader.read_byte()?;
     let constructed = has_constructed_bit(first);
     if let Some(tag) = universal(first) {
         return Ok((tag, constructed));
@@ -111,10 +108,8 @@ pub(crate) fn decode_with_constructed_bit<R: Reader>(reader: &mut R) -> Result<(
     if low < 31 {
         return Ok((other(first, low as u32), constructed));
     }
-    match decode_long_number(reader) {
-        Ok(number) => Ok((other(first, number), constructed)),
-        Err(error) => Err(error),
-    }
+    let number = decode_long_number(reader)?;
+    Ok((other(first, number), constructed))
 }
 
 // What is said of a first octet below 40 that no universal tag has.
@@ -139,10 +134,7 @@ fn decode_long_number<R: Reader>(reader: &mut R) -> Result<u32, Error>
 {
     let mut number = 0u32;
     'octets: loop {
-        let octet = match reader.read_byte() {
-            Ok(octet) => octet,
-            Err(error) => return Err(error),
-        };
+        let octet = reader.read_byte()?;
         let digit = octet % 128;
         if number == 0 && digit == 0 {
             return Err(reader.error(ErrorKind::TagNumberInvalid));
@@ -175,10 +167,8 @@ pub(crate) fn decode_tag<R: Reader>(reader: &mut R) -> Result<Tag, Error>
         → GrammarAnswers tag_ahead IdentifierFault (R.state reader.old) result
         (R.state reader.new) }
 {
-    match decode_with_constructed_bit(reader) {
-        Ok((tag, _)) => Ok(tag),
-        Err(error) => Err(error),
-    }
+    let (tag, _) = decode_with_constructed_bit(reader)?;
+    Ok(tag)
 }
 
 impl<R: Reader> Decode<R> for Tag {

@@ -1,5 +1,5 @@
-//! Assertions as calls. The checker proves `assert_eq!` anew at each place where it is written, which
-//! takes it seconds; of these calls it does so once.
+//! Assertions as calls. The checker proves `assert_eq!` anew at each place where it is written, and
+//! that takes it seconds; of these calls it does so once.
 use std::fmt::{Debug, Display};
 use std::process::Abort;
 

@@ -1,4 +1,4 @@
-//! Tests of the public calls of `der_base` and `der_core`, made from outside them as a user makes them.
+//! Tests of the public calls of `der_base` and `der_core`, made from outside as a user makes them.
 #![tactic(auto)]
 
 #[cfg(test)]

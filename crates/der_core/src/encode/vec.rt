@@ -1,5 +1,5 @@
-//! Encoding into memory of any allocator, where [`Encode::to_der`] and [`Encode::encode_to_vec`] take
-//! the global one.
+//! Encoding into memory of any allocator; [`Encode::to_der`] and [`Encode::encode_to_vec`] take the
+//! global one.
 ghost use Rattle.std.specs.Prelude.{◌≡◌, ◌++◌, length, OnOk, OnErr, IfOk};
 ghost use Rattle.der_base.specs.Length.{plain};
 ghost use Rattle.der_core.specs.Encode.{Begins, FitsInto, FreshAnswer, GrowsBy, VecAnswer};

@@ -32,10 +32,8 @@ pub trait ReaderExt: Reader {
             (Self.state self.new) }
     {
         let mut octet = [0u8];
-        match self.read_into(&mut octet) {
-            Ok(()) => Ok(octet[0]),
-            Err(error) => Err(error),
-        }
+        self.read_into(&mut octet)?;
+        Ok(octet[0])
     }
 
     /// The same as [`Reader::position`].
@@ -74,10 +72,7 @@ pub trait ReaderExt: Reader {
     {
         let left = self.remaining_len();
         self.leave_nested(outer);
-        let value = match answer {
-            Ok(value) => value,
-            Err(error) => return Err(error),
-        };
+        let value = answer?;
         if !left.is_zero() {
             let kind = ErrorKind::TrailingData {
                 decoded: self.position(),
@@ -103,15 +98,9 @@ pub trait ReaderExt: Reader {
             → NestedAnswers E.from_gives (F.post f) (λ p. Self.state p.now) (λ q. Self.state q.now)
             (number len) (Self.state self.old) result (Self.state self.new) }
     {
-        let outer = match self.enter_nested(len) {
-            Ok(outer) => outer,
-            Err(error) => return Err(E::from(error)),
-        };
+        let outer = self.enter_nested(len)?;
         let answer = f(self);
-        match self.close_nested(outer, answer) {
-            Ok(value) => Ok(value),
-            Err(error) => Err(error),
-        }
+        self.close_nested(outer, answer)
     }
 
     /// The next octet, or none where reading it would be refused; the reader stays.
@@ -119,10 +108,7 @@ pub trait ReaderExt: Reader {
         ensures { PeeksAs Self.reliable (read_byte_outcome (Self.state self.now)).answer result }
     {
         let mut fork = self.fork();
-        match fork.read_byte() {
-            Ok(octet) => Some(octet),
-            Err(_) => None,
-        }
+        fork.read_byte().ok()
     }
 
     /// Fills the buffer with the next octets, as [`Reader::read_into`] does; the reader stays.
@@ -132,10 +118,7 @@ pub trait ReaderExt: Reader {
         ensures kept { OnErr result (buf.new ≡ buf.old) }
     {
         let mut fork = self.fork();
-        match fork.read_into(buf) {
-            Ok(()) => Ok(()),
-            Err(error) => Err(error),
-        }
+        fork.read_into(buf)
     }
 
     /// The header ahead, as [`decode_header`] would answer; the reader stays.
@@ -144,10 +127,7 @@ pub trait ReaderExt: Reader {
             → Peeks header_ahead HeaderFault (Self.state self.now) result }
     {
         let mut fork = self.fork();
-        match decode_header(&mut fork) {
-            Ok(header) => Ok(header),
-            Err(error) => Err(error),
-        }
+        decode_header(&mut fork)
     }
 
     /// The tag ahead, as decoding it would answer; the reader stays.
@@ -156,10 +136,7 @@ pub trait ReaderExt: Reader {
             → Peeks tag_ahead IdentifierFault (Self.state self.now) result }
     {
         let mut fork = self.fork();
-        match decode_tag(&mut fork) {
-            Ok(tag) => Ok(tag),
-            Err(error) => Err(error),
-        }
+        decode_tag(&mut fork)
     }
 
     /// Lends the octets of the whole element ahead, header and contents. A header that is refused
@@ -174,15 +151,10 @@ pub trait ReaderExt: Reader {
             (Self.state self.new) }
     {
         let mut fork = self.fork();
-        let header = match decode_header(&mut fork) {
-            Ok(header) => header,
-            Err(error) => return Err(error),
-        };
+        let header = decode_header(&mut fork)?;
         let header_len = fork.position().saturating_sub(self.position());
-        match header_len + header.length() {
-            Ok(len) => self.read_slice(len),
-            Err(error) => Err(error),
-        }
+        let len = (header_len + header.length())?;
+        self.read_slice(len)
     }
 
     /// Decodes a value, as [`Decode::decode`] does. A reader that has failed refuses by `Failed` at
@@ -234,17 +206,9 @@ pub trait ReaderExt: Reader {
             → SequenceAnswers E.from_gives (F.post f) (λ p. Self.state p.now)
             (λ q. Self.state q.now) (Self.state self.old) result (Self.state self.new) }
     {
-        let header = match decode_header(self) {
-            Ok(header) => header,
-            Err(error) => return Err(E::from(error)),
-        };
-        if let Err(error) = header.tag().assert_eq(Tag::Sequence) {
-            return Err(E::from(error));
-        }
-        match read_contents(self, header.length().sans_eoc(), f) {
-            Ok(value) => Ok(value),
-            Err(error) => Err(error),
-        }
+        let header = decode_header(self)?;
+        header.tag().assert_eq(Tag::Sequence)?;
+        read_contents(self, header.length().sans_eoc(), f)
     }
 }
 

@@ -21,10 +21,8 @@ pub fn read_eoc<R: Reader>(reader: &mut R) -> Result<(), Error>
     ensures exact { Meets R.reliable read_eoc_outcome (R.state reader.old) result
         (R.state reader.new) }
 {
-    match read_zero_octet(reader) {
-        Ok(()) => read_zero_octet(reader),
-        Err(error) => Err(error),
-    }
+    read_zero_octet(reader)?;
+    read_zero_octet(reader)
 }
 
 fn read_zero_octet<R: Reader>(reader: &mut R) -> Result<(), Error>
@@ -32,10 +30,7 @@ fn read_zero_octet<R: Reader>(reader: &mut R) -> Result<(), Error>
     ensures exact { Meets R.reliable read_zero_octet_outcome (R.state reader.old) result
         (R.state reader.new) }
 {
-    let octet = match reader.read_byte() {
-        Ok(octet) => octet,
-        Err(error) => return Err(error),
-    };
+    let octet = reader.read_byte()?;
     if octet != 0 {
         return Err(reader.error(ErrorKind::IndefiniteLength));
     }
@@ -57,17 +52,12 @@ pub fn close_value<R: Reader, T: Drop, E: From<Error> + Drop>(
         → ClosesValue E.from_gives answer (R.state reader.old) (outer_end outer) (outer_depth outer)
         (flagged length) result (R.state reader.new) }
 {
-    let value = match reader.close_nested(outer, answer) {
-        Ok(value) => value,
-        Err(error) => return Err(error),
-    };
+    let value = reader.close_nested(outer, answer)?;
     if !length.is_indefinite() {
         return Ok(value);
     }
-    match read_eoc(reader) {
-        Ok(()) => Ok(value),
-        Err(error) => Err(E::from(error)),
-    }
+    read_eoc(reader)?;
+    Ok(value)
 }
 
 /// Reads the contents behind a header by `f`, which gets the reader inside them and the header with
@@ -92,15 +82,9 @@ pub fn read_value<
 {
     let contents = header.contents();
     let length = contents.length();
-    let outer = match reader.enter_nested(length) {
-        Ok(outer) => outer,
-        Err(error) => return Err(E::from(error)),
-    };
+    let outer = reader.enter_nested(length)?;
     let answer = f(reader, contents);
-    match close_value(reader, length, outer, answer) {
-        Ok(value) => Ok(value),
-        Err(error) => Err(error),
-    }
+    close_value(reader, length, outer, answer)
 }
 
 // The same for a closure that wants no header: the contents of so many octets.
@@ -117,13 +101,7 @@ pub(crate) fn read_contents<
         → ValueAnswers E.from_gives (F.post f) (λ p. R.state p.now) (λ q. R.state q.now) length
         (R.state reader.old) result (R.state reader.new) }
 {
-    let outer = match reader.enter_nested(length) {
-        Ok(outer) => outer,
-        Err(error) => return Err(E::from(error)),
-    };
+    let outer = reader.enter_nested(length)?;
     let answer = f(reader);
-    match close_value(reader, length, outer, answer) {
-        Ok(value) => Ok(value),
-        Err(error) => Err(error),
-    }
+    close_value(reader, length, outer, answer)
 }

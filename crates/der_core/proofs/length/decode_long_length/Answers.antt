@@ -1,4 +1,5 @@
 use Rattle.std.proofs.Common.{◌≡◌, ℕ, ◌-◌, ◌∙◌, subst, arith}
+use Rattle.std.proofs.lemmas.Result.{err_from_is_err_and}
 use Rattle.der_core.specs.State.{State}
 use Rattle.der_core.proofs.StateLemmas.{byte_read, byte_refused, cut_refused, failed_on}
 use Rattle.der_core.proofs.LengthReadLemmas.{DigitsSoFar, digits_next, digits_fit, refused_indefinite, refused_far, refused_cut, refused_longer, found_long}
@@ -11,11 +12,13 @@ pub returns-then-first-gt132-clause-exact : goal.returns-then-first-gt132-clause
 returns-then-first-gt132-clause-exact g c reliable =
     refused_far (omega arith) c.error-then-first-gt132.ensures.at_position c.error-then-first-gt132.ensures.failed
 
-pub returns-in-Err-clause-exact : goal.returns-in-Err-clause-exact
-returns-in-Err-clause-exact g c reliable at der here working =
+pub returns-in_err-octet-clause-exact : goal.returns-in_err-octet-clause-exact
+returns-in_err-octet-clause-exact g c =
+    let p = err_from_is_err_and c.from_residual.result c.from_residual.ensures.1 in
+    rw (p.1, p.2) (λ reliable at der here working.
     let so_far = c.loop-i.invariant in
-    let refused = byte_refused (g.met.R.Reader.lawful c.loop-i.reader) (c.in-Err.ensures.exact reliable) in
-    refused_cut so_far (omega arith) (omega arith) (omega arith) (cut_refused (failed_on so_far.reads ∙ working) refused) at here
+    let refused = byte_refused (g.met.R.Reader.lawful c.loop-i.reader) (c.in_err-octet.ensures.exact reliable) in
+    refused_cut so_far (omega arith) (omega arith) (omega arith) (cut_refused (failed_on so_far.reads ∙ working) refused) at here)
 
 pub overflow_mul-number : goal.overflow_mul-number
 overflow_mul-number g c = omega (arith, digits_fit c.loop-i.invariant (omega arith))
@@ -24,7 +27,7 @@ pub overflow_add-number : goal.overflow_add-number
 overflow_add-number g c = omega (arith, digits_fit c.loop-i.invariant (omega arith))
 
 pub loop-i-preserved : goal.loop-i-preserved
-loop-i-preserved g c = digits_next c.loop-i.invariant (byte_read c.in-Ok.ensures.exact) (omega arith)
+loop-i-preserved g c = digits_next c.loop-i.invariant (byte_read c.in_ok-octet.ensures.exact) (omega arith)
 
 -- all octets that the first announces
 whole : (i o : ℕ) → i ≡ o - 128 → (a b : State) (n : ℕ) → DigitsSoFar a b i n → DigitsSoFar a b (o - 128) n

@@ -1,10 +1,7 @@
 use Rattle.der_base.specs.Header.{HeaderFault}
 use Rattle.der_core.specs.Decode.{header_ahead}
-use Rattle.der_core.proofs.PeekLemmas.{peeks_ok, peeks_err}
+use Rattle.der_core.proofs.PeekLemmas.{peeks}
 use Rattle.der_core.proofs.reader.extension.ReaderExt.peek_header.Goals as goal
 
-pub returns-in-Ok : goal.returns-in-Ok
-returns-in-Ok g c owed = peeks_ok header_ahead HeaderFault (g.Self.Reader.state c.args.self.now) _ _ _ c.fork-fork.ensures c.in-Ok.ensures.ok
-
 pub returns : goal.returns
-returns g c owed = peeks_err header_ahead HeaderFault (g.Self.Reader.state c.args.self.now) _ _ _ c.fork-fork.ensures (c.in-Err.ensures.exact owed)
+returns g c = peeks header_ahead HeaderFault (g.Self.Reader.state c.args.self.now) _ _ g.Self.Reader.reliable _ c.fork-fork.ensures c.decode_header.ensures.ok c.decode_header.ensures.exact

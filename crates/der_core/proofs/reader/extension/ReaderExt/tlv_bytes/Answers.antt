@@ -1,4 +1,5 @@
 use Rattle.std.proofs.Common.{◌+◌, refl, ap, arith}
+use Rattle.std.proofs.lemmas.Result.{err_from_is_err_and}
 use Rattle.der_base.specs.Header.{HeaderFault}
 use Rattle.der_base.specs.Length.{number}
 use Rattle.der_core.specs.Decode.{header_ahead, no_header}
@@ -6,22 +7,27 @@ use Rattle.der_core.specs.Reader.{read_slice_outcome}
 use Rattle.der_core.proofs.PeekLemmas.{peeks_err, header_octets_are, tlv_read, tlv_far, owed_gives, counted_ok, counted_err}
 use Rattle.der_core.proofs.reader.extension.ReaderExt.tlv_bytes.Goals as goal
 
-pub returns-in-Err-clause-exact : goal.returns-in-Err-clause-exact
-returns-in-Err-clause-exact g c owed = no_header _ (peeks_err header_ahead HeaderFault (g.Self.Reader.state c.args.self.now) _ _ _ c.fork-fork.ensures (c.in-Err.ensures.exact owed)) refl refl
-
-pub returns-in-Ok-add-clause-exact : goal.returns-in-Ok-add-clause-exact
-returns-in-Ok-add-clause-exact g c owed =
-    let sum = counted_ok _ _ c.in-Ok-add.ensures in
-    let octets = header_octets_are (g.Self.Reader.state c.args.self.now) (g.Self.Reader.state c.fork-fork.result) (g.Self.Reader.state c.decode_header.new.reader) c.in-Ok.header c.fork-fork.ensures c.in-Ok.ensures.ok in
-    tlv_read (g.Self.Reader.state c.args.self.now) (g.Self.Reader.state c.fork-fork.result) (g.Self.Reader.state c.decode_header.new.reader) c.in-Ok.header c.fork-fork.ensures c.in-Ok.ensures.ok
-    (number c.in-Ok-add.len) _ _
-    (omega (arith, ap number sum.1, octets, ap number c.saturating_sub-header_len.ensures, ap number c.position.ensures, ap number c.position-2.ensures, ap number c.length.ensures))
-    (omega (arith, sum.0, ap number sum.1)) (owed_gives g.Self.Reader.reliable g.Self.Lent.Octets.octets (read_slice_outcome (number c.in-Ok-add.len)) _ _ c.read_slice.result owed c.read_slice.ensures.exact)
+pub returns-in_err-header-clause-exact : goal.returns-in_err-header-clause-exact
+returns-in_err-header-clause-exact g c =
+    let p = err_from_is_err_and c.from_residual.result c.from_residual.ensures.1 in
+    rw (p.1, p.2)
+    (λ owed. no_header _ (peeks_err header_ahead HeaderFault (g.Self.Reader.state c.args.self.now) _ _ _ c.fork-fork.ensures (c.in_err-header.ensures.exact owed)) refl refl)
 
 pub returns-clause-exact : goal.returns-clause-exact
 returns-clause-exact g c owed =
-    let sum = counted_err _ _ c.in-Err-add.ensures in
-    let octets = header_octets_are (g.Self.Reader.state c.args.self.now) (g.Self.Reader.state c.fork-fork.result) (g.Self.Reader.state c.decode_header.new.reader) c.in-Ok.header c.fork-fork.ensures c.in-Ok.ensures.ok in
-    tlv_far (g.Self.Reader.state c.args.self.now) (g.Self.Reader.state c.fork-fork.result) (g.Self.Reader.state c.decode_header.new.reader) c.in-Ok.header c.fork-fork.ensures c.in-Ok.ensures.ok
+    let sum = counted_ok _ _ c.in_ok-len.ensures in
+    let octets = header_octets_are (g.Self.Reader.state c.args.self.now) (g.Self.Reader.state c.fork-fork.result) (g.Self.Reader.state c.decode_header.new.reader) c.in_ok-header.header c.fork-fork.ensures c.in_ok-header.ensures.ok in
+    tlv_read (g.Self.Reader.state c.args.self.now) (g.Self.Reader.state c.fork-fork.result) (g.Self.Reader.state c.decode_header.new.reader) c.in_ok-header.header c.fork-fork.ensures c.in_ok-header.ensures.ok
+    (number c.in_ok-len.len) _ _
+    (omega (arith, ap number sum.1, octets, ap number c.saturating_sub-header_len.ensures, ap number c.position.ensures, ap number c.position-2.ensures, ap number c.length.ensures))
+    (omega (arith, sum.0, ap number sum.1)) (owed_gives g.Self.Reader.reliable g.Self.Lent.Octets.octets (read_slice_outcome (number c.in_ok-len.len)) _ _ c.read_slice.result owed c.read_slice.ensures.exact)
+
+pub returns-in_err-len-clause-exact : goal.returns-in_err-len-clause-exact
+returns-in_err-len-clause-exact g c =
+    let p = err_from_is_err_and c.from_residual-in_err-len.result c.from_residual-in_err-len.ensures.1 in
+    let sum = counted_err _ _ c.in_err-len.ensures in
+    let octets = header_octets_are (g.Self.Reader.state c.args.self.now) (g.Self.Reader.state c.fork-fork.result) (g.Self.Reader.state c.decode_header.new.reader) c.in_ok-header.header c.fork-fork.ensures c.in_ok-header.ensures.ok in
+    rw (p.1, p.2)
+    (λ owed. tlv_far (g.Self.Reader.state c.args.self.now) (g.Self.Reader.state c.fork-fork.result) (g.Self.Reader.state c.decode_header.new.reader) c.in_ok-header.header c.fork-fork.ensures c.in_ok-header.ensures.ok
     (number c.saturating_sub-header_len.result + number c.length.result) _
-    (omega (arith, octets, ap number c.saturating_sub-header_len.ensures, ap number c.position.ensures, ap number c.position-2.ensures, ap number c.length.ensures)) sum.0 sum.1
+    (omega (arith, octets, ap number c.saturating_sub-header_len.ensures, ap number c.position.ensures, ap number c.position-2.ensures, ap number c.length.ensures)) sum.0 sum.1)
