@@ -1,4 +1,4 @@
-use Rattle.std.proofs.Common.{refl, sym}
+use Rattle.std.proofs.Common.{refl}
 use Rattle.std.proofs.lemmas.Result.{err_from_is_err_and}
 use Rattle.der_core.specs.Nested.{not_entered}
 use Rattle.der_core.proofs.NestedLemmas.{Entered, enter_ok, same_closed, nested_entered}
