@@ -12,11 +12,11 @@ use denote.Struct.Field.{Field}
 use denote.Struct.Values.{Values}
 use Rattle.der_base.specs.contracts.tag.Tag.{enum}
 use Rattle.der_base.specs.contracts.tag.TagOrd.TheImpl.{ghosts}
-use Rattle.der_base.specs.Compare.{place, tag_order}
+use Rattle.der_base.specs.Compare.{variant_index, tag_order}
 use Rattle.der_base.specs.declared.tag.Tag.{Tag}
 use Rattle.der_base.specs.declared.tag.Tag.TheVariants.{Boolean, Integer, BitString, OctetString, Null, ObjectIdentifier, Real, Enumerated, Utf8String, RelativeOid, Sequence, Set, NumericString, PrintableString, TeletexString, VideotexString, Ia5String, UtcTime, GeneralizedTime, VisibleString, GeneralString, BmpString, Application, ContextSpecific, Private}
 
-place-is : (t : Tag) → tag_of (declared enum) t ≡ place t
+place-is : (t : Tag) → tag_of (declared enum) t ≡ variant_index t
 place-is Boolean = refl
 place-is Integer = refl
 place-is BitString = refl
@@ -43,10 +43,10 @@ place-is (Application b n) = refl
 place-is (ContextSpecific b n) = refl
 place-is (Private b n) = refl
 
-derived-before : (s t : Tag) → place s < place t → ghosts.cmp s t ≡ Less
+derived-before : (s t : Tag) → variant_index s < variant_index t → ghosts.cmp s t ≡ Less
 derived-before s t h = sym (by_before Less Greater enum _ s t (omega (arith, place-is s, place-is t)))
 
-derived-after : (s t : Tag) → place t < place s → ghosts.cmp s t ≡ Greater
+derived-after : (s t : Tag) → variant_index t < variant_index s → ghosts.cmp s t ≡ Greater
 derived-after s t h = sym (by_after Less Greater enum _ s t (omega (arith, place-is s, place-is t)))
 
 -- at each variant, two values of it are compared as said
@@ -70,7 +70,7 @@ agrees (part ∷ parts) each said all (inr c) (inr d) e = agrees parts each.1 (�
 abbrev made : Choice enum.parts → Choice enum.parts → Ordering
 made c d = tag_order (enum.make c) (enum.make d)
 
-derived-same : (s t : Tag) → place s ≡ place t → ghosts.cmp s t ≡ tag_order s t
+derived-same : (s t : Tag) → variant_index s ≡ variant_index t → ghosts.cmp s t ≡ tag_order s t
 derived-same s t e =
     let same : ghosts.cmp s t ≡ tag_order (enum.make (enum.as_values s)) (enum.make (enum.as_values t)) =
     agrees enum.parts _ made (search rules) (enum.as_values s) (enum.as_values t) (omega (arith, place-is s, place-is t)) in
@@ -81,4 +81,4 @@ by_place : (j k : ℕ) (answer rest : Ordering) → (j < k → answer ≡ Less) 
 by_place j k answer rest less greater same = grind (arith, nat_tests)
 
 pub tag_cmp-is : (s t : Tag) → ghosts.cmp s t ≡ tag_order s t
-tag_cmp-is s t = by_place (place s) (place t) _ _ (derived-before s t) (derived-after s t) (derived-same s t)
+tag_cmp-is s t = by_place (variant_index s) (variant_index t) _ _ (derived-before s t) (derived-after s t) (derived-same s t)

@@ -4,7 +4,7 @@ use Rattle.std.specs.Int.Digits.{digits_of}
 use Rattle.std.proofs.lemmas.Int.Digits.{number_lt, number_digits_of, length-digits_of-le, all_below_base_digits_of}
 use Rattle.std.proofs.Math.Nat.{pow-le-pow_right}
 use Rattle.std.proofs.lemmas.Bool.Decides.{nat_tests}
-use Rattle.der_base.specs.Digits.{digits, continued}
+use Rattle.der_base.specs.Digits.{digits, continuation_octets}
 use Rattle.der_base.specs.Length.{length_octets}
 use Rattle.der_base.specs.Tag.{label, tag_octets}
 use Rattle.der_base.specs.declared.tag.Tag.{Tag}
@@ -23,7 +23,7 @@ length-digits_of-is b k n base least most = omega (arith, digits_of-long b k n b
 digits-is : (b n : ℕ) → 0 < n → digits b n ≡ digits_of b n
 digits-is b n h = grind (arith, nat_tests)
 
-length-continued : (ds : List ℕ) → length (continued ds) ≡ length ds
+length-continued : (ds : List ℕ) → length (continuation_octets ds) ≡ length ds
 length-continued [] = refl
 length-continued (d ∷ []) = refl
 length-continued (d ∷ e ∷ ds) = ap (λ (n : ℕ). suc n) (length-continued (e ∷ ds))
@@ -41,5 +41,5 @@ length-tag_octets k t long least most =
     let n : ℕ = (label t).number in
     let e : digits 128 n ≡ digits_of 128 n = digits-is 128 n (omega arith) in
     let d : length (digits_of 128 n) ≡ k + 1 = length-digits_of-is 128 k n (omega arith) least most in
-    let f : length (continued (digits 128 n)) ≡ length (digits 128 n) = length-continued (digits 128 n) in
+    let f : length (continuation_octets (digits 128 n)) ≡ length (digits 128 n) = length-continued (digits 128 n) in
     grind (arith, nat_tests)

@@ -6,7 +6,7 @@ use Rattle.std.proofs.lemmas.Nat.{mul-le, div-mul-add, mod-mul-add}
 use Rattle.std.proofs.lemmas.Int.Digits.{digits_of_step, length-digits_of_step, all_below_base_digits_of, same_from_digits_of, number_lt}
 use Rattle.std.proofs.Math.Nat.{pow-le-pow_right, pow-suc, mul-le-mul_right}
 use Rattle.std.specs.Int.Digits.{digits_of, number_from_digits, number_from_digits_after, AllBelowBase}
-use Rattle.der_base.specs.Digits.{digits, continued}
+use Rattle.der_base.specs.Digits.{digits, continuation_octets}
 
 -- fronts of equal length of one list are equal, and so is what follows them
 pub same_length_front : (a b x y : List ℕ) → length a ≡ length b → a ++ x ≡ b ++ y → (a ≡ b) × (x ≡ y)
@@ -76,7 +76,7 @@ number_at_least d ds h =
     omega (arith, one, all)
 
 -- no continued digits begin others
-pub continued_front : (ds es x y : List ℕ) → 0 < length ds → 0 < length es → AllBelowBase 128 ds → AllBelowBase 128 es → continued ds ++ x ≡ continued es ++ y → (ds ≡ es) × (x ≡ y)
+pub continued_front : (ds es x y : List ℕ) → 0 < length ds → 0 < length es → AllBelowBase 128 ds → AllBelowBase 128 es → continuation_octets ds ++ x ≡ continuation_octets es ++ y → (ds ≡ es) × (x ≡ y)
 continued_front [] es x y p q a b e = absurd (omega arith)
 continued_front (d ∷ ds) [] x y p q a b e = absurd (omega arith)
 continued_front (d ∷ []) (e ∷ []) x y p q a b h = (cc, cc)
@@ -85,26 +85,26 @@ continued_front (d ∷ c ∷ ds) (e ∷ []) x y p q a b h = let g : 128 + d ≡ 
 continued_front (d ∷ c ∷ ds) (e ∷ f ∷ fs) x y p q a b h =
     let g : 128 + d ≡ 128 + e = cc in
     let k : d ≡ e = omega arith in
-    let t : continued (c ∷ ds) ++ x ≡ continued (f ∷ fs) ++ y = cc in
+    let t : continuation_octets (c ∷ ds) ++ x ≡ continuation_octets (f ∷ fs) ++ y = cc in
     let r = continued_front (c ∷ ds) (f ∷ fs) x y (omega arith) (omega arith) a.1 b.1 t in
     let s : c ∷ ds ≡ f ∷ fs = r.0 in
     (cc, r.1)
 
 -- continued digits are octets
-pub continued_octets : (ds : List ℕ) → AllBelowBase 128 ds → AllBelowBase 256 (continued ds)
+pub continued_octets : (ds : List ℕ) → AllBelowBase 128 ds → AllBelowBase 256 (continuation_octets ds)
 continued_octets [] h = tt
 continued_octets (d ∷ []) h = (omega (arith, h.0), tt)
 continued_octets (d ∷ e ∷ ds) h = (omega (arith, h.0), continued_octets (e ∷ ds) h.1)
 
 -- no number in base 128 begins another
-pub number_front : (m n : ℕ) (x y : List ℕ) → 0 < m → 0 < n → continued (digits 128 m) ++ x ≡ continued (digits 128 n) ++ y → (m ≡ n) × (x ≡ y)
+pub number_front : (m n : ℕ) (x y : List ℕ) → 0 < m → 0 < n → continuation_octets (digits 128 m) ++ x ≡ continuation_octets (digits 128 n) ++ y → (m ≡ n) × (x ≡ y)
 number_front m n x y p q e =
-    let f : continued (digits_of 128 m) ++ x ≡ continued (digits_of 128 n) ++ y = ap (λ l. continued l ++ x) (sym (digits_positive 128 m p)) ∙ e ∙ ap (λ l. continued l ++ y) (digits_positive 128 n q) in
+    let f : continuation_octets (digits_of 128 m) ++ x ≡ continuation_octets (digits_of 128 n) ++ y = ap (λ l. continuation_octets l ++ x) (sym (digits_positive 128 m p)) ∙ e ∙ ap (λ l. continuation_octets l ++ y) (digits_positive 128 n q) in
     let s = continued_front (digits_of 128 m) (digits_of 128 n) x y (length_digits_positive 128 m (omega arith) p) (length_digits_positive 128 n (omega arith) q) (all_below_base_digits_of 128 m (omega arith)) (all_below_base_digits_of 128 n (omega arith)) f in
     (same_from_digits_of 128 m n (omega arith) s.0, s.1)
 
 -- as many octets as digits
-pub length_continued : (ds : List ℕ) → length (continued ds) ≡ length ds
+pub length_continued : (ds : List ℕ) → length (continuation_octets ds) ≡ length ds
 length_continued [] = refl
 length_continued (d ∷ []) = refl
 length_continued (d ∷ e ∷ ds) = ap suc (length_continued (e ∷ ds))

@@ -1,12 +1,12 @@
 -- Tags, lengths and headers at the front of octets: there is one at most, and none where there is
 -- a fault, and one fault at most.
 use Rattle.std.proofs.Common.{◌≡◌, ℕ, ◌+◌, ◌^◌, ◌<◌, ◌≤◌, Bool, true, false, List, ◌∷◌, ◌++◌, length, if◌then◌else◌, refl, sym, ap, ◌∙◌, subst, append_assoc, length-append, arith}
-use Rattle.der_base.specs.Length.{flagged, length_of, plain, length_octets, number}
+use Rattle.der_base.specs.Length.{is_indefinite, length_of, definite_length, length_octets, number}
 use Rattle.der_base.specs.Identifier.{IsIdentifier, IdentifierFault}
 use Rattle.der_base.specs.Body.{Body}
-use Rattle.der_base.specs.Refusal.{Refusal, Reason, Wants, Kind, is_far, kind_told, owed}
-use Rattle.der_base.specs.Error.{at, bare, retold_kind, retold_error}
-use Rattle.der_base.specs.Header.{header_octets, TagAhead, tag, LengthAhead, definite, indefinite, Head, head, HeaderAhead, header, LengthFault, nothing, few, far, longer, indefinite_form, HeaderFault, no_identifier, no_length}
+use Rattle.der_base.specs.Refusal.{Refusal, Reason, Wants, Kind, is_far, kind_of_reason, error_of}
+use Rattle.der_base.specs.Error.{at, error_of_kind, retold_kind, retold_error}
+use Rattle.der_base.specs.Header.{header_octets, IdentifierAhead, tag, LengthAhead, definite, indefinite, Head, head, HeaderAhead, header, LengthFault, nothing, few, far, longer, indefinite_form, HeaderFault, no_identifier, no_length}
 use Rattle.der_base.specs.declared.length.Length.{Length}
 use Rattle.der_base.specs.declared.tag.Tag.{Tag}
 use Rattle.der_base.specs.declared.error.ErrorKind.{ErrorKind}
@@ -29,11 +29,11 @@ header_front t u m n x y e =
 pub data TagView (rules : EncodingRules) (s : List ℕ) (t : Tag) (b : Bool) (m : ℕ) : Type 0 where
   tag_view_of : (id rest : List ℕ) → IsIdentifier rules id t b → s ≡ id ++ rest → m ≡ length id → TagView rules s t b m
 
-pub tag_view : {rules : EncodingRules} {s : List ℕ} {t : Tag} {b : Bool} {m : ℕ} → TagAhead rules s t b m → TagView rules s t b m
+pub tag_view : {rules : EncodingRules} {s : List ℕ} {t : Tag} {b : Bool} {m : ℕ} → IdentifierAhead rules s t b m → TagView rules s t b m
 tag_view (tag {id = id} rest h) = tag_view_of id rest h refl refl
 
 -- octets begin with one tag at most
-pub one_tag : {rules : EncodingRules} {s : List ℕ} {t u : Tag} {b c : Bool} {m n : ℕ} → TagAhead rules s t b m → TagAhead rules s u c n → (t ≡ u) × (b ≡ c) × (m ≡ n)
+pub one_tag : {rules : EncodingRules} {s : List ℕ} {t u : Tag} {b c : Bool} {m n : ℕ} → IdentifierAhead rules s t b m → IdentifierAhead rules s u c n → (t ≡ u) × (b ≡ c) × (m ≡ n)
 one_tag {rules} {s} {t} {u} {b} {c} {m} {n} h g = go (tag_view h) (tag_view g)
   where
     go : TagView rules s t b m → TagView rules s u c n → (t ≡ u) × (b ≡ c) × (m ≡ n)
@@ -67,7 +67,7 @@ one_length {rules} {s} {t} {l} {k} {m} {n} h g e = go (length_view h) (length_vi
 
 -- a header ahead: an identifier, and a length behind it
 pub data HeaderView (rules : EncodingRules) (s : List ℕ) (h : Head) (m : ℕ) : Type 0 where
-  header_view_of : {t : Tag} {b : Bool} {l : Length} {k : ℕ} (id more : List ℕ) → IsIdentifier rules id t b → LengthAhead rules more l k → (flagged l ≡ true → b ≡ true) → s ≡ id ++ more → h ≡ head t l b → m ≡ length id + k → HeaderView rules s h m
+  header_view_of : {t : Tag} {b : Bool} {l : Length} {k : ℕ} (id more : List ℕ) → IsIdentifier rules id t b → LengthAhead rules more l k → (is_indefinite l ≡ true → b ≡ true) → s ≡ id ++ more → h ≡ head t l b → m ≡ length id + k → HeaderView rules s h m
 
 pub header_view : {rules : EncodingRules} {s : List ℕ} {h : Head} {m : ℕ} → HeaderAhead rules s h m → HeaderView rules s h m
 header_view (header {id = id} {more = more} d l ok) = header_view_of id more d l ok refl refl refl
@@ -94,7 +94,7 @@ no_length_fault {m = m} {rules = rules} {t = t} {l = l} f h e = go (length_view 
     go (view_indefinite body rest ber d q c z) = no_open_fault (body ++ rest) ber f (e ∙ q)
 
 -- octets that begin with a tag have no fault
-pub no_tag_fault : {rules : EncodingRules} {at m : ℕ} {s t : List ℕ} {r : Refusal} {u : Tag} {b : Bool} → IdentifierFault rules at s r → TagAhead rules t u b m → s ≡ t → ⊥
+pub no_tag_fault : {rules : EncodingRules} {at m : ℕ} {s t : List ℕ} {r : Refusal} {u : Tag} {b : Bool} → IdentifierFault rules at s r → IdentifierAhead rules t u b m → s ≡ t → ⊥
 no_tag_fault {rules} {m = m} {t = t} {u = u} {b = b} f h e = go (tag_view h)
   where
     go : TagView rules t u b m → ⊥
@@ -119,7 +119,7 @@ one_header_fault {rules = rules} {at = at} {r = p} (no_length {id = a} {more = x
     one_length_fault (subst (λ v. LengthFault (IncorrectLength v) (at + length b) rules x p) r.1 (subst (λ i. LengthFault (IncorrectLength t) (at + length i) rules x p) r.0 f)) g r.3
 
 -- a tag ahead is within the octets
-pub tag_fits : {rules : EncodingRules} {s : List ℕ} {t : Tag} {b : Bool} {m : ℕ} → TagAhead rules s t b m → m ≤ length s
+pub tag_fits : {rules : EncodingRules} {s : List ℕ} {t : Tag} {b : Bool} {m : ℕ} → IdentifierAhead rules s t b m → m ≤ length s
 tag_fits (tag {id = id} rest h) = omega (arith, length-append id rest)
 
 -- a length ahead is within the octets
@@ -133,12 +133,12 @@ length_size (definite n rest h) = (length_octets_some n, length_octets_few n h)
 length_size (indefinite {body = body} rest h) = (omega arith, omega arith)
 
 -- a definite length ahead has 32 bits
-pub length_bits : {rules : EncodingRules} {s : List ℕ} {l : Length} {m : ℕ} → LengthAhead rules s l m → flagged l ≡ false → number l < 2 ^ 32
+pub length_bits : {rules : EncodingRules} {s : List ℕ} {l : Length} {m : ℕ} → LengthAhead rules s l m → is_indefinite l ≡ false → number l < 2 ^ 32
 length_bits (definite n rest h) e = h
 length_bits (indefinite {body = body} rest h) e = cc
 
 -- under DER each length ahead is definite
-pub length_definite_form : {rules : EncodingRules} {s : List ℕ} {l : Length} {m : ℕ} → rules ≡ Der → LengthAhead rules s l m → flagged l ≡ false
+pub length_definite_form : {rules : EncodingRules} {s : List ℕ} {l : Length} {m : ℕ} → rules ≡ Der → LengthAhead rules s l m → is_indefinite l ≡ false
 length_definite_form d (definite n rest h) = refl
 length_definite_form d (indefinite {body = body} rest h) = cc
 
@@ -163,13 +163,13 @@ retold_fault k (longer n ds rest p q u v) = longer n ds rest p q u v
 retold_fault k (indefinite_form rest) = indefinite_form rest
 
 -- the error that a retold refusal is told as is that of the refusal, retold
-pub owed_retold : (k : ErrorKind) (r : Refusal) → owed (retold k r) ≡ retold_error k (owed r)
+pub owed_retold : (k : ErrorKind) (r : Refusal) → error_of (retold k r) ≡ retold_error k (error_of r)
 owed_retold k r = go r.reason r
   where
-    far_or_not : (b : Bool) (x y p : ℕ) → (if b then bare Overflow else at (kind_told (Wants x y)) (plain p)) ≡ retold_error k (if b then bare Overflow else at (kind_told (Wants x y)) (plain p))
+    far_or_not : (b : Bool) (x y p : ℕ) → (if b then error_of_kind Overflow else at (kind_of_reason (Wants x y)) (definite_length p)) ≡ retold_error k (if b then error_of_kind Overflow else at (kind_of_reason (Wants x y)) (definite_length p))
     far_or_not true x y p = refl
     far_or_not false x y p = refl
 
-    go : (o : Reason) (q : Refusal) → owed (record q { reason = retold_reason k o }) ≡ retold_error k (owed (record q { reason = o }))
+    go : (o : Reason) (q : Refusal) → error_of (record q { reason = retold_reason k o }) ≡ retold_error k (error_of (record q { reason = o }))
     go (Wants x y) q = far_or_not (is_far (Wants x y)) x y q.position
     go (Kind other) q = refl

@@ -1,9 +1,9 @@
 -- Identifiers at the front of octets, and where octets begin with none.
 use Rattle.std.proofs.Common.{◌≡◌, ◌≢◌, ℕ, ◌+◌, ◌%◌, ◌^◌, ◌<◌, ◌≤◌, ◌⊎◌, Bool, true, false, Some, None, List, [], ◌∷◌, ◌++◌, length, refl, sym, ap, ◌∙◌, subst, ⊎_elim, append_assoc, append-nil, length-append, arith}
 use Rattle.std.proofs.lemmas.Bool.{cases_lt, cases_eq, ne_eqb}
-use Rattle.der_base.specs.Digits.{digits, continued}
-use Rattle.der_base.specs.Tag.{label, first_octet, tag_octets, IsTag, universal_tag, is_constructed, other_tag}
-use Rattle.der_base.specs.Refusal.{Refusal, refusal, cut_at}
+use Rattle.der_base.specs.Digits.{digits, continuation_octets}
+use Rattle.der_base.specs.Tag.{label, leading_octet, tag_octets, HasCountableNumber, universal_tag, is_constructed, other_tag}
+use Rattle.der_base.specs.Refusal.{Refusal, refusal, end_refusal}
 use Rattle.der_base.specs.Identifier.{IsIdentifier, of_tag, of_segments, IsCutIdentifier, BeginsNoIdentifier, identifier_kind, IdentifierFault, cut, refused}
 use Rattle.der_base.specs.declared.error.ErrorKind.TheVariants.{TagNumberInvalid, TagUnknown}
 use Rattle.der_base.specs.declared.encoding_rules.EncodingRules.{EncodingRules}
@@ -24,13 +24,13 @@ universal_identifier o t e = identifier_at (universal_octets o t e) refl (of_tag
 -- one octet is an identifier of another class, unless its five low bits are set
 pub short_identifier : {rules : EncodingRules} (o : ℕ) → 64 ≤ o → o < 256 → o % 32 < 31 → IsIdentifier rules (o ∷ []) (other_tag o (o % 32)) (is_constructed o)
 short_identifier o low high small =
-    let tag : IsTag (other_tag o (o % 32)) = omega (arith, other_number o (o % 32) low high) in
+    let tag : HasCountableNumber (other_tag o (o % 32)) = omega (arith, other_number o (o % 32) low high) in
     identifier_at (other_octet o low high small) (other_constructed o (o % 32) low high) (of_tag tag)
 
 -- an octet with its five low bits set, and a number behind it, are an identifier of another class
-pub long_identifier : {rules : EncodingRules} (o n : ℕ) → 64 ≤ o → o < 256 → o % 32 ≡ 31 → 31 ≤ n → n < 2 ^ 32 → IsIdentifier rules (o ∷ continued (digits 128 n)) (other_tag o n) (is_constructed o)
+pub long_identifier : {rules : EncodingRules} (o n : ℕ) → 64 ≤ o → o < 256 → o % 32 ≡ 31 → 31 ≤ n → n < 2 ^ 32 → IsIdentifier rules (o ∷ continuation_octets (digits 128 n)) (other_tag o n) (is_constructed o)
 long_identifier o n low high set large small =
-    let tag : IsTag (other_tag o n) = omega (arith, other_number o n low high) in
+    let tag : HasCountableNumber (other_tag o n) = omega (arith, other_number o n low high) in
     identifier_at (other_octets o n low high set large) (other_constructed o n low high) (of_tag tag)
 
 -- under BER the octet 24 is an identifier
@@ -39,7 +39,7 @@ segments_identifier o e = subst (λ x. IsIdentifier Ber (x ∷ []) OctetString t
 
 -- an identifier is a tag's, or the octet 24 under BER
 pub data IdentifierView (rules : EncodingRules) (a : List ℕ) (t : Tag) (c : Bool) : Type 0 where
-  tagged : IsTag t → a ≡ tag_octets t → c ≡ (label t).constructed → IdentifierView rules a t c
+  tagged : HasCountableNumber t → a ≡ tag_octets t → c ≡ (label t).constructed → IdentifierView rules a t c
   segmented : rules ≡ Ber → a ≡ 36 ∷ [] → t ≡ OctetString → c ≡ true → IdentifierView rules a t c
 
 pub identifier_view : {rules : EncodingRules} {a : List ℕ} {t : Tag} {c : Bool} → IsIdentifier rules a t c → IdentifierView rules a t c
@@ -70,10 +70,10 @@ some_identifier : (rules : EncodingRules) → IsCutIdentifier rules []
 some_identifier rules = (1, [], Boolean, false, of_tag (omega arith))
 
 -- nothing is cut
-pub fault_nothing : {rules : EncodingRules} (at : ℕ) → IdentifierFault rules at [] (cut_at at)
+pub fault_nothing : {rules : EncodingRules} (at : ℕ) → IdentifierFault rules at [] (end_refusal at)
 fault_nothing {rules} at =
     let here : at + 0 ≡ at = omega arith in
-    subst (λ n. IdentifierFault rules at [] (cut_at n)) here (cut [] (some_identifier rules))
+    subst (λ n. IdentifierFault rules at [] (end_refusal n)) here (cut [] (some_identifier rules))
 
 -- a tag that begins with an octet below 64 is the universal one of that octet
 below_64 : (t : Tag) (o : ℕ) (more : List ℕ) → o < 64 → tag_octets t ≡ o ∷ more → universal_tag o ≡ Some t
@@ -81,8 +81,8 @@ below_64 t o more l e =
     ⊎_elim
     (λ a. let u = universal_found t a in let w : u.0 ≡ o = (let v : u.0 ∷ [] ≡ o ∷ more = sym u.1 ∙ e in cc) in subst (λ k. universal_tag k ≡ Some t) w u.2)
     (λ a. ⊎_elim
-    (λ b. let v : first_octet (label t) (label t).number ∷ [] ≡ o ∷ more = sym (label_small (label t) b) ∙ e in let w : first_octet (label t) (label t).number ≡ o = cc in absurd (omega arith))
-    (λ b. let v : first_octet (label t) 31 ∷ continued (digits 128 (label t).number) ≡ o ∷ more = sym (label_large (label t) b) ∙ e in let w : first_octet (label t) 31 ≡ o = cc in absurd (omega arith))
+    (λ b. let v : leading_octet (label t) (label t).number ∷ [] ≡ o ∷ more = sym (label_small (label t) b) ∙ e in let w : leading_octet (label t) (label t).number ≡ o = cc in absurd (omega arith))
+    (λ b. let v : leading_octet (label t) 31 ∷ continuation_octets (digits 128 (label t).number) ≡ o ∷ more = sym (label_large (label t) b) ∙ e in let w : leading_octet (label t) 31 ≡ o = cc in absurd (omega arith))
     (cases_lt (label t).number 31))
     (cases_eq (label t).class 0)
 
@@ -134,7 +134,7 @@ no_cut_refused rules s t x o (d, more, u, b, i) none e = none (x ++ d ∷ more) 
 
 -- octets have one fault of an identifier
 pub one_identifier_fault : {rules : EncodingRules} {at : ℕ} {a b : List ℕ} {r q : Refusal} → IdentifierFault rules at a r → IdentifierFault rules at b q → a ≡ b → r ≡ q
-one_identifier_fault {at = at} (cut s h) (cut t g) f = ap (λ l. cut_at (at + length l)) f
+one_identifier_fault {at = at} (cut s h) (cut t g) f = ap (λ l. end_refusal (at + length l)) f
 one_identifier_fault {rules = rules} (cut s h) (refused t o rest g none) f = absurd (no_cut_refused rules s t rest o h none f)
 one_identifier_fault {rules = rules} (refused t o rest g none) (cut s h) f = absurd (no_cut_refused rules s t rest o h none (sym f))
 one_identifier_fault {rules = rules} {at = at} (refused s o rest h never) (refused t p more g none) f =

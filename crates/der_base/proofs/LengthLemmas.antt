@@ -5,7 +5,7 @@ use Rattle.std.proofs.lemmas.Int.Digits.{length-digits_of-le, first_digits_of, n
 use Rattle.std.specs.Int.Digits.{digits_of, number_from_digits, AllBelowBase}
 use Rattle.der_base.specs.Digits.{digits}
 use Rattle.der_base.specs.Length.{length_of, length_octets}
-use Rattle.der_base.specs.Refusal.{Refusal, refusal, cut_at}
+use Rattle.der_base.specs.Refusal.{Refusal, refusal, end_refusal}
 use Rattle.der_base.specs.Header.{LengthAhead, definite, LengthFault, nothing, few, far, longer, indefinite_form}
 use Rattle.der_base.specs.declared.error.ErrorKind.{ErrorKind}
 use Rattle.der_base.specs.declared.encoding_rules.EncodingRules.{EncodingRules}
@@ -142,9 +142,9 @@ pub octet_shortest : (o : ℕ) (ds : List ℕ) → 128 < o → length ds ≡ o -
 octet_shortest o ds low n all large = shortest (o - 128) ds (omega arith) n all large ∙ ap (λ x. x ∷ ds) (count_back o (omega arith))
 
 -- too few octets behind the first octet o
-pub octet_cut : {wrong : ErrorKind} {rules : EncodingRules} (at o : ℕ) (ds : List ℕ) → 128 ≤ o → o < 133 → length ds < o - 128 → LengthFault wrong at rules (o ∷ ds) (cut_at (at + 1 + length ds))
+pub octet_cut : {wrong : ErrorKind} {rules : EncodingRules} (at o : ℕ) (ds : List ℕ) → 128 ≤ o → o < 133 → length ds < o - 128 → LengthFault wrong at rules (o ∷ ds) (end_refusal (at + 1 + length ds))
 octet_cut {wrong} {rules} at o ds low high short =
-    subst (λ x. LengthFault wrong at rules (x ∷ ds) (cut_at (at + 1 + length ds))) (count_back o low) (few (o - 128) ds (omega arith) short)
+    subst (λ x. LengthFault wrong at rules (x ∷ ds) (end_refusal (at + 1 + length ds))) (count_back o low) (few (o - 128) ds (omega arith) short)
 
 -- a lesser value behind the first octet o
 pub octet_longer : {wrong : ErrorKind} {rules : EncodingRules} (at o : ℕ) (ds rest : List ℕ) → 128 < o → o < 133 → length ds ≡ o - 128 → number_from_digits 256 ds < least_of (o - 128) → LengthFault wrong at rules (o ∷ (ds ++ rest)) (refusal wrong (at + 1 + (o - 128)))
@@ -192,7 +192,7 @@ one_length_fault nothing (far o rest p) e = cc
 one_length_fault nothing (longer k ds rest p q u v) e = cc
 one_length_fault nothing (indefinite_form rest) e = cc
 one_length_fault (few k ds p q) nothing e = cc
-one_length_fault {at = at} (few k ds p q) (few j es u v) e = let f : ds ≡ es = cc in ap (λ l. cut_at (at + 1 + length l)) f
+one_length_fault {at = at} (few k ds p q) (few j es u v) e = let f : ds ≡ es = cc in ap (λ l. end_refusal (at + 1 + length l)) f
 one_length_fault (few k ds p q) (far o rest u) e = let f : 128 + k ≡ o = cc in absurd (omega arith)
 one_length_fault (few k es p q) (longer j ds rest u v w z) e =
     let f : 128 + k ≡ 128 + j = cc in

@@ -3,9 +3,9 @@ use Rattle.std.proofs.Common.{◌≡◌, ◌≢◌, ℕ, ◌+◌, ◌-◌, ◌*�
 use Rattle.std.proofs.lemmas.Bool.{cases_lt}
 use Rattle.std.proofs.lemmas.Int.Digits.{first_digits_of, number_digits_of, number_push, number_after_append, number_after_ge, all_below_base_digits_of}
 use Rattle.std.specs.Int.Digits.{digits_of, number_from_digits, number_from_digits_after, AllBelowBase}
-use Rattle.der_base.specs.Digits.{digits, continued}
-use Rattle.der_base.specs.Tag.{label, label_of, first_octet, is_constructed, other_tag}
-use Rattle.der_base.specs.Refusal.{refusal, cut_at}
+use Rattle.der_base.specs.Digits.{digits, continuation_octets}
+use Rattle.der_base.specs.Tag.{label, label_of, leading_octet, is_constructed, other_tag}
+use Rattle.der_base.specs.Refusal.{refusal, end_refusal}
 use Rattle.der_base.specs.Identifier.{IsIdentifier, IsCutIdentifier, BeginsNoIdentifier, IdentifierFault, cut, refused}
 use Rattle.der_base.specs.declared.encoding_rules.EncodingRules.{EncodingRules}
 use Rattle.der_base.specs.declared.error.ErrorKind.TheVariants.{TagNumberInvalid}
@@ -18,7 +18,7 @@ abbrev pub going_on : List ℕ → List ℕ
 going_on = map (λ d. 128 + d)
 
 -- the last digit, after digits that go on
-pub continued_push : (ds : List ℕ) (d : ℕ) → continued (ds ++ d ∷ []) ≡ going_on ds ++ d ∷ []
+pub continued_push : (ds : List ℕ) (d : ℕ) → continuation_octets (ds ++ d ∷ []) ≡ going_on ds ++ d ∷ []
 continued_push [] d = refl
 continued_push (c ∷ []) d = refl
 continued_push (c ∷ b ∷ ds) d = ap (λ l. (128 + c) ∷ l) (continued_push (b ∷ ds) d)
@@ -29,19 +29,19 @@ going_on_push [] d = refl
 going_on_push (c ∷ ds) d = ap (λ l. (128 + c) ∷ l) (going_on_push ds d)
 
 -- what begins with digits that go on has them, and more
-continued_begins : (es ds more : List ℕ) → 0 < length es → AllBelowBase 128 es → continued es ≡ going_on ds ++ more → (r : List ℕ) × (es ≡ ds ++ r) × (0 < length r) × AllBelowBase 128 r × (continued r ≡ more)
+continued_begins : (es ds more : List ℕ) → 0 < length es → AllBelowBase 128 es → continuation_octets es ≡ going_on ds ++ more → (r : List ℕ) × (es ≡ ds ++ r) × (0 < length r) × AllBelowBase 128 r × (continuation_octets r ≡ more)
 continued_begins [] ds more pos all e = absurd (omega arith)
 continued_begins (d ∷ es) [] more pos all e = (d ∷ es, refl, pos, all, e)
 continued_begins (d ∷ []) (c ∷ ds) more pos all e = let f : d ≡ 128 + c = cc in absurd (omega (arith, all.0))
 continued_begins (d ∷ b ∷ es) (c ∷ ds) more pos all e =
     let f : 128 + d ≡ 128 + c = cc in
-    let g : continued (b ∷ es) ≡ going_on ds ++ more = cc in
+    let g : continuation_octets (b ∷ es) ≡ going_on ds ++ more = cc in
     let same : d ≡ c = omega arith in
     let r = continued_begins (b ∷ es) ds more (omega arith) all.1 g in
     (r.0, ap (λ l. d ∷ l) r.1 ∙ ap (λ x. x ∷ (ds ++ r.0)) same, r.2, r.3, r.4)
 
 -- the last octet of a number is below 128, and each other one from 128 on
-last_octet : (r : List ℕ) (o : ℕ) (more : List ℕ) → 0 < length r → AllBelowBase 128 r → continued r ≡ o ∷ more → ((o < 128) × (r ≡ o ∷ [])) ⊎ ((128 ≤ o) × (e : ℕ) × (t : List ℕ) × (r ≡ (o - 128) ∷ e ∷ t))
+last_octet : (r : List ℕ) (o : ℕ) (more : List ℕ) → 0 < length r → AllBelowBase 128 r → continuation_octets r ≡ o ∷ more → ((o < 128) × (r ≡ o ∷ [])) ⊎ ((128 ≤ o) × (e : ℕ) × (t : List ℕ) × (r ≡ (o - 128) ∷ e ∷ t))
 last_octet [] o more pos all e = absurd (omega arith)
 last_octet (d ∷ []) o more pos all e = let f : d ≡ o = cc in inl (omega (arith, all.0), ap (λ x. x ∷ []) f)
 last_octet (d ∷ c ∷ r) o more pos all e =
@@ -68,16 +68,16 @@ so_far_more s v p h low high pos small =
     }
 
 -- the last octet, below 128
-pub so_far_last : (s : List ℕ) (v p : ℕ) → SoFar s v → p < 128 → 0 < v * 128 + p % 128 → s ++ p ∷ [] ≡ continued (digits 128 (v * 128 + p % 128))
+pub so_far_last : (s : List ℕ) (v p : ℕ) → SoFar s v → p < 128 → 0 < v * 128 + p % 128 → s ++ p ∷ [] ≡ continuation_octets (digits 128 (v * 128 + p % 128))
 so_far_last s v p h low pos =
     let octet : p % 128 ≡ p = omega arith in
-    sym (ap continued (digits_positive 128 (v * 128 + p % 128) pos ∙ digits_of_push 128 v (p % 128) (omega arith) (omega arith) pos)
+    sym (ap continuation_octets (digits_positive 128 (v * 128 + p % 128) pos ∙ digits_of_push 128 v (p % 128) (omega arith) (omega arith) pos)
     ∙ continued_push (digits_of 128 v) (p % 128)
     ∙ ap (λ l. l ++ (p % 128) ∷ []) (sym h.octets)
     ∙ ap (λ x. s ++ x ∷ []) octet)
 
 -- a number of 31 or more is found at its last octet
-pub number_found : (s : List ℕ) (v p : ℕ) → SoFar s v → p < 128 → 31 ≤ v * 128 + p % 128 → (s ++ p ∷ [] ≡ continued (digits 128 (v * 128 + p % 128))) × (v * 128 + p % 128 < 2 ^ 32)
+pub number_found : (s : List ℕ) (v p : ℕ) → SoFar s v → p < 128 → 31 ≤ v * 128 + p % 128 → (s ++ p ∷ [] ≡ continuation_octets (digits 128 (v * 128 + p % 128))) × (v * 128 + p % 128 < 2 ^ 32)
 number_found s v p h low large = (so_far_last s v p h low (omega arith), omega (arith, h.small))
 
 -- its first octet, the octets so far and the last are its identifier
@@ -88,10 +88,10 @@ number_identifier s v o p above high set h low large =
 
 -- octets of a number that are cut: one from 31 on below 2 ^ 32 begins so, and goes on
 IsCutNumber : List ℕ → Type 0
-IsCutNumber s = (n o : ℕ) × (more : List ℕ) × (31 ≤ n) × (n < 2 ^ 32) × (continued (digits 128 n) ≡ s ++ o ∷ more)
+IsCutNumber s = (n o : ℕ) × (more : List ℕ) × (31 ≤ n) × (n < 2 ^ 32) × (continuation_octets (digits 128 n) ≡ s ++ o ∷ more)
 
 BeginsNoNumber : List ℕ → Type 0
-BeginsNoNumber s = (n : ℕ) (more : List ℕ) → 31 ≤ n → n < 2 ^ 32 → continued (digits 128 n) ≢ s ++ more
+BeginsNoNumber s = (n : ℕ) (more : List ℕ) → 31 ≤ n → n < 2 ^ 32 → continuation_octets (digits 128 n) ≢ s ++ more
 
 so_far_cut : (s : List ℕ) (v : ℕ) → SoFar s v → IsCutNumber s
 unfolding IsCutNumber
@@ -102,15 +102,15 @@ so_far_cut s v h =
       [],
       omega arith,
       omega (arith, h.small),
-      ap continued (digits_positive 128 (v * 128 + 127) pos ∙ digits_of_push 128 v 127 (omega arith) (omega arith) pos) ∙ continued_push (digits_of 128 v) 127 ∙ ap (λ l. l ++ 127 ∷ []) (sym h.octets),
+      ap continuation_octets (digits_positive 128 (v * 128 + 127) pos ∙ digits_of_push 128 v 127 (omega arith) (omega arith) pos) ∙ continued_push (digits_of 128 v) 127 ∙ ap (λ l. l ++ 127 ∷ []) (sym h.octets),
     )
 
 -- a number that goes on with this octet
 module _ (s : List ℕ) (v p : ℕ) (h : SoFar s v) where
-  goes_on : (n : ℕ) (more : List ℕ) → 31 ≤ n → continued (digits 128 n) ≡ (s ++ p ∷ []) ++ more → (r : List ℕ) × (digits_of 128 n ≡ digits_of 128 v ++ r) × (0 < length r) × AllBelowBase 128 r × (continued r ≡ p ∷ more)
+  goes_on : (n : ℕ) (more : List ℕ) → 31 ≤ n → continuation_octets (digits 128 n) ≡ (s ++ p ∷ []) ++ more → (r : List ℕ) × (digits_of 128 n ≡ digits_of 128 v ++ r) × (0 < length r) × AllBelowBase 128 r × (continuation_octets r ≡ p ∷ more)
   goes_on n more large e =
       continued_begins (digits_of 128 n) (digits_of 128 v) (p ∷ more) (length_digits_positive 128 n (omega arith) (omega arith)) (all_below_base_digits_of 128 n (omega arith))
-      (ap continued (sym (digits_positive 128 n (omega arith))) ∙ e ∙ append_assoc s (p ∷ []) more ∙ ap (λ l. l ++ p ∷ more) h.octets)
+      (ap continuation_octets (sym (digits_positive 128 n (omega arith))) ∙ e ∙ append_assoc s (p ∷ []) more ∙ ap (λ l. l ++ p ∷ more) h.octets)
 
   -- no number begins with 0
   none_from_zero : v ≡ 0 → p % 128 ≡ 0 → BeginsNoNumber (s ++ p ∷ [])
@@ -169,14 +169,14 @@ module _ (rules : EncodingRules) (o : ℕ) (above : 64 ≤ o) (high : o < 256) (
       go (tagged k e f) =
           ⊎_elim
           (λ a.
-          let m : o ∷ (s ++ more) ≡ first_octet (label t) (label t).number ∷ [] = e ∙ label_small (label t) a in
-          let head : o ≡ first_octet (label t) (label t).number = cc in
+          let m : o ∷ (s ++ more) ≡ leading_octet (label t) (label t).number ∷ [] = e ∙ label_small (label t) a in
+          let head : o ≡ leading_octet (label t) (label t).number = cc in
           let l = label_of (o / 64) (is_constructed o) 0 in
           let parts = octet_parts (label t) l (label t).number (o % 32) (omega arith) (omega arith) (sym head ∙ sym (octet_back o 0)) in
           omega (arith, parts.2))
           (λ a.
-          let m : o ∷ (s ++ more) ≡ first_octet (label t) 31 ∷ continued (digits 128 (label t).number) = e ∙ label_large (label t) a in
-          let tail : continued (digits 128 (label t).number) ≡ s ++ more = cc in
+          let m : o ∷ (s ++ more) ≡ leading_octet (label t) 31 ∷ continuation_octets (digits 128 (label t).number) = e ∙ label_large (label t) a in
+          let tail : continuation_octets (digits 128 (label t).number) ≡ s ++ more = cc in
           none (label t).number more a k tail)
           (cases_lt (label t).number 31)
 
@@ -184,7 +184,7 @@ module _ (rules : EncodingRules) (o : ℕ) (above : 64 ≤ o) (high : o < 256) (
   number_refused at s v p rest h none = refused (o ∷ s) p rest (cut_behind s (so_far_cut s v h)) (none_behind (s ++ p ∷ []) none)
 
 -- a number that goes on, and nothing behind it
-pub number_cut : {rules : EncodingRules} (at o v : ℕ) (s : List ℕ) → 64 ≤ o → o < 256 → o % 32 ≡ 31 → SoFar s v → IdentifierFault rules at (o ∷ s) (cut_at (at + length (o ∷ s)))
+pub number_cut : {rules : EncodingRules} (at o v : ℕ) (s : List ℕ) → 64 ≤ o → o < 256 → o % 32 ≡ 31 → SoFar s v → IdentifierFault rules at (o ∷ s) (end_refusal (at + length (o ∷ s)))
 number_cut {rules} at o v s above high set h = cut (o ∷ s) (cut_behind rules o above high set s (so_far_cut s v h))
 
 -- a number that begins with a zero digit is refused

@@ -3,25 +3,25 @@ use Rattle.std.proofs.Common.{◌≡◌, ◌≢◌, ℕ, ◌+◌, ◌*◌, ◌/�
 use Rattle.std.proofs.lemmas.Bool.{cases_lt, cases_eq, lt-ltb, le-ltb, ne_eqb, eq-eqb, eqb-true, eqb-false}
 use Rattle.std.proofs.lemmas.Int.Digits.{all_below_base_digits_of, length-digits_of-le}
 use Rattle.std.specs.Int.Digits.{digits_of, AllBelowBase}
-use Rattle.der_base.specs.Digits.{digits, continued}
-use Rattle.der_base.specs.Tag.{Label, label_of, label, bit, first_octet, label_octets, tag_octets, IsTag, universal_rows, tag_among, universal_tag, is_constructed, tag_number, other_tag}
+use Rattle.der_base.specs.Digits.{digits, continuation_octets}
+use Rattle.der_base.specs.Tag.{Label, label_of, label, constructed_bit, leading_octet, label_octets, tag_octets, HasCountableNumber, universal_rows, tag_among, universal_tag, is_constructed, tag_number, other_tag}
 use Rattle.der_base.specs.declared.tag.Tag.{Tag}
 use Rattle.der_base.specs.declared.tag.Tag.TheVariants.{Boolean, Integer, BitString, OctetString, Null, ObjectIdentifier, Real, Enumerated, Utf8String, RelativeOid, Sequence, Set, NumericString, PrintableString, TeletexString, VideotexString, Ia5String, UtcTime, GeneralizedTime, VisibleString, GeneralString, BmpString, Application, ContextSpecific, Private}
 use Rattle.der_base.proofs.DigitLemmas.{digits_positive, number_front, continued_octets, length_continued}
 
 -- a number below 31 stands in the first octet
-pub label_small : (l : Label) → l.number < 31 → label_octets l ≡ first_octet l l.number ∷ []
+pub label_small : (l : Label) → l.number < 31 → label_octets l ≡ leading_octet l l.number ∷ []
 label_small l h = rw (lt-ltb l.number 31 h)
 
 -- a number from 31 on stands behind the first octet
-pub label_large : (l : Label) → 31 ≤ l.number → label_octets l ≡ first_octet l 31 ∷ continued (digits 128 l.number)
+pub label_large : (l : Label) → 31 ≤ l.number → label_octets l ≡ leading_octet l 31 ∷ continuation_octets (digits 128 l.number)
 label_large l h = rw (le-ltb l.number 31 h)
 
 -- the class, the bit and the five low bits that an octet has
-pub octet_parts : (l m : Label) (i j : ℕ) → i < 32 → j < 32 → first_octet l i ≡ first_octet m j → (l.class ≡ m.class) × (l.constructed ≡ m.constructed) × (i ≡ j)
+pub octet_parts : (l m : Label) (i j : ℕ) → i < 32 → j < 32 → leading_octet l i ≡ leading_octet m j → (l.class ≡ m.class) × (l.constructed ≡ m.constructed) × (i ≡ j)
 octet_parts l m i j = go l.constructed m.constructed l.class m.class i j
   where
-    go : (b c : Bool) (k l m n : ℕ) → m < 32 → n < 32 → 64 * k + bit b + m ≡ 64 * l + bit c + n → (k ≡ l) × (b ≡ c) × (m ≡ n)
+    go : (b c : Bool) (k l m n : ℕ) → m < 32 → n < 32 → 64 * k + constructed_bit b + m ≡ 64 * l + constructed_bit c + n → (k ≡ l) × (b ≡ c) × (m ≡ n)
     go true true k l m n p q e = (omega arith, refl, omega arith)
     go false false k l m n p q e = (omega arith, refl, omega arith)
     go true false k l m n p q e = absurd (omega arith)
@@ -36,15 +36,15 @@ pub label_front : (l m : Label) (x y : List ℕ) → label_octets l ++ x ≡ lab
 label_front l m x y e =
     ⊎_elim
     (λ a. ⊎_elim
-    (λ b. let f : first_octet l l.number ∷ x ≡ first_octet m m.number ∷ y = ap (λ z. z ++ x) (sym (label_small l a)) ∙ e ∙ ap (λ z. z ++ y) (label_small m b) in
+    (λ b. let f : leading_octet l l.number ∷ x ≡ leading_octet m m.number ∷ y = ap (λ z. z ++ x) (sym (label_small l a)) ∙ e ∙ ap (λ z. z ++ y) (label_small m b) in
     let p = octet_parts l m l.number m.number (omega arith) (omega arith) (cc) in (same_parts l m p.0 p.1 p.2, cc))
-    (λ b. let f : first_octet l l.number ∷ x ≡ first_octet m 31 ∷ (continued (digits 128 m.number) ++ y) = ap (λ z. z ++ x) (sym (label_small l a)) ∙ e ∙ ap (λ z. z ++ y) (label_large m b) in
+    (λ b. let f : leading_octet l l.number ∷ x ≡ leading_octet m 31 ∷ (continuation_octets (digits 128 m.number) ++ y) = ap (λ z. z ++ x) (sym (label_small l a)) ∙ e ∙ ap (λ z. z ++ y) (label_large m b) in
     let p = octet_parts l m l.number 31 (omega arith) (omega arith) (cc) in absurd (omega (arith, p.2)))
     (cases_lt m.number 31))
     (λ a. ⊎_elim
-    (λ b. let f : first_octet l 31 ∷ (continued (digits 128 l.number) ++ x) ≡ first_octet m m.number ∷ y = ap (λ z. z ++ x) (sym (label_large l a)) ∙ e ∙ ap (λ z. z ++ y) (label_small m b) in
+    (λ b. let f : leading_octet l 31 ∷ (continuation_octets (digits 128 l.number) ++ x) ≡ leading_octet m m.number ∷ y = ap (λ z. z ++ x) (sym (label_large l a)) ∙ e ∙ ap (λ z. z ++ y) (label_small m b) in
     let p = octet_parts l m 31 m.number (omega arith) (omega arith) (cc) in absurd (omega (arith, p.2)))
-    (λ b. let f : first_octet l 31 ∷ (continued (digits 128 l.number) ++ x) ≡ first_octet m 31 ∷ (continued (digits 128 m.number) ++ y) = ap (λ z. z ++ x) (sym (label_large l a)) ∙ e ∙ ap (λ z. z ++ y) (label_large m b) in
+    (λ b. let f : leading_octet l 31 ∷ (continuation_octets (digits 128 l.number) ++ x) ≡ leading_octet m 31 ∷ (continuation_octets (digits 128 m.number) ++ y) = ap (λ z. z ++ x) (sym (label_large l a)) ∙ e ∙ ap (λ z. z ++ y) (label_large m b) in
     let p = octet_parts l m 31 31 (omega arith) (omega arith) (cc) in
     let s = number_front l.number m.number x y (omega arith) (omega arith) (cc) in
     (same_parts l m p.0 p.1 s.0, s.1))
@@ -54,7 +54,7 @@ label_front l m x y e =
 -- the tag that a label is of
 tag_of : Label → Option Tag
 tag_of l =
-    if nat_eq l.class 0 then universal_tag (bit l.constructed + l.number)
+    if nat_eq l.class 0 then universal_tag (constructed_bit l.constructed + l.number)
     else if nat_eq l.class 1 then Some (Application l.constructed (tag_number l.number))
     else if nat_eq l.class 2 then Some (ContextSpecific l.constructed (tag_number l.number))
     else Some (Private l.constructed (tag_number l.number))
@@ -111,7 +111,7 @@ class_small t = omega arith
 
 -- what a row of the universal tags says
 UniversalRow : ℕ → Tag → Type 0
-UniversalRow o t = (tag_octets t ≡ o ∷ []) × (IsTag t) × ((label t).constructed ≡ is_constructed o) × ((label t).class ≡ 0)
+UniversalRow o t = (tag_octets t ≡ o ∷ []) × (HasCountableNumber t) × ((label t).constructed ≡ is_constructed o) × ((label t).class ≡ 0)
 
 data UniversalRows : List (ℕ × Tag) → Type 0 where
   none : UniversalRows []
@@ -148,7 +148,7 @@ unfolding UniversalRow
 universal_octets o t e = (universal_row o t e).0
 
 -- a universal tag's number has 32 bits
-pub universal_is_tag : (o : ℕ) (t : Tag) → universal_tag o ≡ Some t → IsTag t
+pub universal_is_tag : (o : ℕ) (t : Tag) → universal_tag o ≡ Some t → HasCountableNumber t
 unfolding UniversalRow
 universal_is_tag o t e = (universal_row o t e).1
 
@@ -209,12 +209,12 @@ other_constructed o n low high = ap (λ (l : Label). l.constructed) (label_other
 pub other_number : (o n : ℕ) → 64 ≤ o → o < 256 → (label (other_tag o n)).number ≡ n
 other_number o n low high = ap (λ (l : Label). l.number) (label_other o n low high)
 
-bit_back : (o : ℕ) (b : Bool) → is_constructed o ≡ b → 64 * (o / 64) + bit b + o % 32 ≡ o
+bit_back : (o : ℕ) (b : Bool) → is_constructed o ≡ b → 64 * (o / 64) + constructed_bit b + o % 32 ≡ o
 bit_back o true h = omega (arith, eqb-true (o / 32 % 2) 1 h)
 bit_back o false h = let ne = eqb-false (o / 32 % 2) 1 h in omega arith
 
 -- an octet is made of its class, its bit and its five low bits
-pub octet_back : (o n : ℕ) → first_octet (label_of (o / 64) (is_constructed o) n) (o % 32) ≡ o
+pub octet_back : (o n : ℕ) → leading_octet (label_of (o / 64) (is_constructed o) n) (o % 32) ≡ o
 octet_back o n = bit_back o (is_constructed o) refl
 
 -- one octet is a tag of another class, unless its five low bits are set
@@ -225,13 +225,13 @@ other_octet o low high small =
     ∙ ap (λ x. x ∷ []) (octet_back o (o % 32))
 
 -- an octet with its five low bits set, and a number behind it, are a tag of another class
-pub other_octets : (o n : ℕ) → 64 ≤ o → o < 256 → o % 32 ≡ 31 → 31 ≤ n → tag_octets (other_tag o n) ≡ o ∷ continued (digits 128 n)
+pub other_octets : (o n : ℕ) → 64 ≤ o → o < 256 → o % 32 ≡ 31 → 31 ≤ n → tag_octets (other_tag o n) ≡ o ∷ continuation_octets (digits 128 n)
 other_octets o n low high set large =
     ap label_octets (label_other o n low high)
     ∙ label_large (label_of (o / 64) (is_constructed o) n) large
-    ∙ ap (λ x. x ∷ continued (digits 128 n)) (ap (first_octet (label_of (o / 64) (is_constructed o) n)) (sym set) ∙ octet_back o n)
+    ∙ ap (λ x. x ∷ continuation_octets (digits 128 n)) (ap (leading_octet (label_of (o / 64) (is_constructed o) n)) (sym set) ∙ octet_back o n)
 
-bit_small : (b : Bool) → bit b < 33
+bit_small : (b : Bool) → constructed_bit b < 33
 bit_small true = omega arith
 bit_small false = omega arith
 
@@ -253,24 +253,24 @@ tag_begins t =
     other ne =
         ⊎_elim
         (λ b. (
-          first_octet (label t) (label t).number,
+          leading_octet (label t) (label t).number,
           [],
           label_small (label t) b,
           (λ z. omega arith),
           subst (AllBelowBase 256) (sym (label_small (label t) b)) (omega (arith, class_small t, bit_small (label t).constructed), tt),
         ))
         (λ b. (
-          first_octet (label t) 31,
-          continued (digits 128 (label t).number),
+          leading_octet (label t) 31,
+          continuation_octets (digits 128 (label t).number),
           label_large (label t) b,
           (λ z. omega arith),
           subst (AllBelowBase 256) (sym (label_large (label t) b))
-              (omega (arith, class_small t, bit_small (label t).constructed), subst (λ l. AllBelowBase 256 (continued l)) (sym (digits_positive 128 (label t).number (omega arith))) (continued_octets (digits_of 128 (label t).number) (all_below_base_digits_of 128 (label t).number (omega arith)))),
+              (omega (arith, class_small t, bit_small (label t).constructed), subst (λ l. AllBelowBase 256 (continuation_octets l)) (sym (digits_positive 128 (label t).number (omega arith))) (continued_octets (digits_of 128 (label t).number) (all_below_base_digits_of 128 (label t).number (omega arith)))),
         ))
         (cases_lt (label t).number 31)
 
 -- a tag has at most six octets
-pub tag_octets_few : (t : Tag) → IsTag t → length (tag_octets t) ≤ 6
+pub tag_octets_few : (t : Tag) → HasCountableNumber t → length (tag_octets t) ≤ 6
 tag_octets_few t h =
     ⊎_elim
     (λ a. subst (λ l. length l ≤ 6) (sym (label_small (label t) a)) (omega arith))

@@ -2,7 +2,7 @@
 use Rattle.std.specs.Prelude.{ℕ}
 use Rattle.std.specs.Ordering.{ordering_then, nat_cmp, bool_cmp}
 use Rattle.std.specs.declared.cmp.Ordering.{Ordering}
-use Rattle.der_base.specs.Length.{number, flagged}
+use Rattle.der_base.specs.Length.{number, is_indefinite}
 use Rattle.der_base.specs.Tag.{label}
 use Rattle.der_base.specs.declared.length.Length.{Length}
 use Rattle.der_base.specs.declared.tag.Tag.{Tag}
@@ -14,47 +14,47 @@ use Rattle.der_base.specs.declared.encoding_rules.EncodingRules.TheVariants.{Ber
 
 -- by the number, then by the flag, the unflagged first
 abbrev pub length_order : Length → Length → Ordering
-length_order a b = ordering_then (nat_cmp (number a) (number b)) (bool_cmp (flagged a) (flagged b))
+length_order a b = ordering_then (nat_cmp (number a) (number b)) (bool_cmp (is_indefinite a) (is_indefinite b))
 
 -- the place of a variant among the others
-abbrev pub place : Tag → ℕ
-place tag.Boolean = 0
-place tag.Integer = 1
-place tag.BitString = 2
-place tag.OctetString = 3
-place tag.Null = 4
-place tag.ObjectIdentifier = 5
-place tag.Real = 6
-place tag.Enumerated = 7
-place tag.Utf8String = 8
-place tag.RelativeOid = 9
-place tag.Sequence = 10
-place tag.Set = 11
-place tag.NumericString = 12
-place tag.PrintableString = 13
-place tag.TeletexString = 14
-place tag.VideotexString = 15
-place tag.Ia5String = 16
-place tag.UtcTime = 17
-place tag.GeneralizedTime = 18
-place tag.VisibleString = 19
-place tag.GeneralString = 20
-place tag.BmpString = 21
-place (tag.Application b n) = 22
-place (tag.ContextSpecific b n) = 23
-place (tag.Private b n) = 24
+abbrev pub variant_index : Tag → ℕ
+variant_index tag.Boolean = 0
+variant_index tag.Integer = 1
+variant_index tag.BitString = 2
+variant_index tag.OctetString = 3
+variant_index tag.Null = 4
+variant_index tag.ObjectIdentifier = 5
+variant_index tag.Real = 6
+variant_index tag.Enumerated = 7
+variant_index tag.Utf8String = 8
+variant_index tag.RelativeOid = 9
+variant_index tag.Sequence = 10
+variant_index tag.Set = 11
+variant_index tag.NumericString = 12
+variant_index tag.PrintableString = 13
+variant_index tag.TeletexString = 14
+variant_index tag.VideotexString = 15
+variant_index tag.Ia5String = 16
+variant_index tag.UtcTime = 17
+variant_index tag.GeneralizedTime = 18
+variant_index tag.VisibleString = 19
+variant_index tag.GeneralString = 20
+variant_index tag.BmpString = 21
+variant_index (tag.Application b n) = 22
+variant_index (tag.ContextSpecific b n) = 23
+variant_index (tag.Private b n) = 24
 
 -- by the variant, then by the constructed bit, the primitive first, then by the number
 abbrev pub tag_order : Tag → Tag → Ordering
 tag_order a b =
-    ordering_then (nat_cmp (place a) (place b))
+    ordering_then (nat_cmp (variant_index a) (variant_index b))
     (ordering_then (bool_cmp (label a).constructed (label b).constructed) (nat_cmp (label a).number (label b).number))
 
 -- the places of the modes and of the rules
-abbrev pub mode_place : TagMode → ℕ
-mode_place Explicit = 0
-mode_place Implicit = 1
+abbrev pub mode_index : TagMode → ℕ
+mode_index Explicit = 0
+mode_index Implicit = 1
 
-abbrev pub rules_place : EncodingRules → ℕ
-rules_place Ber = 0
-rules_place Der = 1
+abbrev pub rules_index : EncodingRules → ℕ
+rules_index Ber = 0
+rules_index Der = 1

@@ -7,7 +7,7 @@ abbrev pub digits : ℕ → ℕ → List ℕ
 digits base n = if n == 0 then 0 ∷ [] else digits_of base n
 
 -- bit 8 set on all octets but the last (X.690 8.1.2.4.2)
-abbrev pub continued : List ℕ → List ℕ
-continued [] = []
-continued (d ∷ []) = d ∷ []
-continued (d ∷ e ∷ ds) = (128 + d) ∷ continued (e ∷ ds)
+abbrev pub continuation_octets : List ℕ → List ℕ
+continuation_octets [] = []
+continuation_octets (d ∷ []) = d ∷ []
+continuation_octets (d ∷ e ∷ ds) = (128 + d) ∷ continuation_octets (e ∷ ds)

@@ -2,11 +2,11 @@
 -- (X.690 8.1.2, 8.1.3, 10.1).
 use Rattle.std.specs.Prelude.{◌≡◌, ◌≢◌, ℕ, ◌+◌, ◌^◌, ◌<◌, ◌≤◌, Bool, true, false, List, [], ◌∷◌, ◌++◌, length}
 use Rattle.der_base.specs.Digits.{digits}
-use Rattle.der_base.specs.Length.{length_of, flagged, length_octets}
+use Rattle.der_base.specs.Length.{length_of, is_indefinite, length_octets}
 use Rattle.der_base.specs.Tag.{tag_octets}
 use Rattle.der_base.specs.Identifier.{IsIdentifier, IdentifierFault}
 use Rattle.der_base.specs.Body.{Body}
-use Rattle.der_base.specs.Refusal.{Refusal, refusal, cut_at}
+use Rattle.der_base.specs.Refusal.{Refusal, refusal, end_refusal}
 use Rattle.der_base.specs.declared.length.Length.{Length}
 use Rattle.der_base.specs.declared.tag.Tag.{Tag}
 use Rattle.der_base.specs.declared.error.ErrorKind.{ErrorKind}
@@ -18,9 +18,9 @@ abbrev pub header_octets : Tag → ℕ → List ℕ
 header_octets t n = tag_octets t ++ length_octets n
 
 -- the first octets of a list are a tag
-pub data TagAhead (rules : EncodingRules) : List ℕ → Tag → Bool → ℕ → Type 0 where
+pub data IdentifierAhead (rules : EncodingRules) : List ℕ → Tag → Bool → ℕ → Type 0 where
   tag : {id : List ℕ} {t : Tag} {b : Bool} (rest : List ℕ) → IsIdentifier rules id t b
-      → TagAhead rules (id ++ rest) t b (length id)
+      → IdentifierAhead rules (id ++ rest) t b (length id)
 
 -- the first m octets of a list are a length: a definite one, or under BER octet 80, which a body
 -- follows, whose octets it counts (8.1.3.6)
@@ -44,14 +44,14 @@ head t l b = record { tag = t; length = l; constructed = b }
 pub data HeaderAhead (rules : EncodingRules) : List ℕ → Head → ℕ → Type 0 where
   header : {id more : List ℕ} {t : Tag} {b : Bool} {l : Length} {m : ℕ} → IsIdentifier rules id t b
       → LengthAhead rules more l m
-      → (flagged l ≡ true → b ≡ true) → HeaderAhead rules (id ++ more) (head t l b) (length id + m)
+      → (is_indefinite l ≡ true → b ≡ true) → HeaderAhead rules (id ++ more) (head t l b) (length id + m)
 
 -- octets at a position begin with no length; a spelling that is not the shortest, or has more than
 -- four octets behind the first, is refused as the wrong kind, the first only after it was read
 pub data LengthFault (wrong : ErrorKind) (at : ℕ) : EncodingRules → List ℕ → Refusal → Type 0 where
-  nothing : {rules : EncodingRules} → LengthFault wrong at rules [] (cut_at at)
+  nothing : {rules : EncodingRules} → LengthFault wrong at rules [] (end_refusal at)
   few : {rules : EncodingRules} (k : ℕ) (ds : List ℕ) → k ≤ 4 → length ds < k
-      → LengthFault wrong at rules ((128 + k) ∷ ds) (cut_at (at + 1 + length ds))
+      → LengthFault wrong at rules ((128 + k) ∷ ds) (end_refusal (at + 1 + length ds))
   far : {rules : EncodingRules} (o : ℕ) (rest : List ℕ) → 133 ≤ o
       → LengthFault wrong at rules (o ∷ rest) (refusal wrong (at + 1))
   longer : {rules : EncodingRules} (k : ℕ) (ds rest : List ℕ) → 1 ≤ k → k ≤ 4 → length ds ≡ k

@@ -1,7 +1,7 @@
 -- Identifiers at the front of octets, and where octets begin with none (X.690 8.1.2).
 use Rattle.std.specs.Prelude.{ℕ, ◌+◌, ◌==◌, Bool, true, List, [], ◌∷◌, ◌++◌, length, if◌then◌else◌}
-use Rattle.der_base.specs.Tag.{label, IsTag, tag_octets}
-use Rattle.der_base.specs.Refusal.{Refusal, refusal, cut_at}
+use Rattle.der_base.specs.Tag.{label, HasCountableNumber, tag_octets}
+use Rattle.der_base.specs.Refusal.{Refusal, refusal, end_refusal}
 use Rattle.der_base.specs.declared.tag.Tag.{Tag}
 use Rattle.der_base.specs.declared.tag.Tag.TheVariants.{OctetString}
 use Rattle.der_base.specs.declared.error.ErrorKind.{ErrorKind}
@@ -12,7 +12,7 @@ use Rattle.der_base.specs.declared.encoding_rules.EncodingRules.TheVariants.{Ber
 -- the octets of a tag, with its constructed bit; under BER also octet 24, an OCTET STRING that is
 -- constructed (8.7.1)
 pub data IsIdentifier : EncodingRules → List ℕ → Tag → Bool → Type 0 where
-  of_tag : {rules : EncodingRules} {t : Tag} → IsTag t
+  of_tag : {rules : EncodingRules} {t : Tag} → HasCountableNumber t
       → IsIdentifier rules (tag_octets t) t (label t).constructed
   of_segments : IsIdentifier Ber (36 ∷ []) OctetString true
 
@@ -34,7 +34,7 @@ identifier_kind (first ∷ s) o = TagNumberInvalid
 -- octets at a position begin with no identifier: they are cut, or an octet is refused after which
 -- none can follow
 pub data IdentifierFault (rules : EncodingRules) (at : ℕ) : List ℕ → Refusal → Type 0 where
-  cut : (s : List ℕ) → IsCutIdentifier rules s → IdentifierFault rules at s (cut_at (at + length s))
+  cut : (s : List ℕ) → IsCutIdentifier rules s → IdentifierFault rules at s (end_refusal (at + length s))
   refused : (s : List ℕ) (o : ℕ) (rest : List ℕ) → IsCutIdentifier rules s
       → BeginsNoIdentifier rules (s ++ o ∷ [])
       → IdentifierFault rules at (s ++ o ∷ rest) (refusal (identifier_kind s o) (at + length s + 1))

@@ -7,15 +7,15 @@ use Rattle.der_base.specs.declared.length.Length.{Length}
 abbrev pub number : Length → ℕ
 number l = l.inner
 
-abbrev pub flagged : Length → Bool
-flagged l = l.indefinite
+abbrev pub is_indefinite : Length → Bool
+is_indefinite l = l.indefinite
 
 abbrev pub length_of : ℕ → Bool → Length
 length_of n b = record { inner = n; indefinite = b }
 
 -- an unflagged length
-abbrev pub plain : ℕ → Length
-plain n = length_of n false
+abbrev pub definite_length : ℕ → Length
+definite_length n = length_of n false
 
 -- the length octets of a number: the fewest possible (8.1.3.4, 8.1.3.5, 10.1)
 abbrev pub length_octets : ℕ → List ℕ

@@ -1,7 +1,7 @@
 -- What a grammar refuses, before it is told as an error: its numbers have no bound.
 use Rattle.std.specs.Prelude.{ℕ, ◌+◌, ◌^◌, Bool, false, nat_lt, not, Option, None, if◌then◌else◌}
-use Rattle.der_base.specs.Length.{plain}
-use Rattle.der_base.specs.Error.{at, bare}
+use Rattle.der_base.specs.Length.{definite_length}
+use Rattle.der_base.specs.Error.{at, error_of_kind}
 use Rattle.der_base.specs.declared.error.Error.{Error}
 use Rattle.der_base.specs.declared.error.ErrorKind.{ErrorKind}
 use Rattle.der_base.specs.declared.error.ErrorKind.TheVariants.{Incomplete, Overflow}
@@ -21,22 +21,22 @@ pub record Refusal : Type 0 where
 abbrev pub refusal : ErrorKind → ℕ → Refusal
 refusal k p = record { reason = Kind k; position = p; seen_from = None }
 
-abbrev pub wants : ℕ → ℕ → ℕ → Refusal
-wants expected actual p = record { reason = Wants expected actual; position = p; seen_from = None }
+abbrev pub missing_refusal : ℕ → ℕ → ℕ → Refusal
+missing_refusal expected actual p = record { reason = Wants expected actual; position = p; seen_from = None }
 
 -- the input ends at this position, and one octet more is wanted
-abbrev pub cut_at : ℕ → Refusal
-cut_at end = wants (end + 1) end end
+abbrev pub end_refusal : ℕ → Refusal
+end_refusal end = missing_refusal (end + 1) end end
 
 -- more octets are wanted than a length can count
 abbrev pub is_far : Reason → Bool
 is_far (Wants expected actual) = not (nat_lt expected (2 ^ 32))
 is_far (Kind k) = false
 
-abbrev pub kind_told : Reason → ErrorKind
-kind_told (Wants expected actual) = Incomplete (plain expected) (plain actual)
-kind_told (Kind k) = k
+abbrev pub kind_of_reason : Reason → ErrorKind
+kind_of_reason (Wants expected actual) = Incomplete (definite_length expected) (definite_length actual)
+kind_of_reason (Kind k) = k
 
 -- the error that a refusal is told as; one that is too far is an overflow, without a position
-abbrev pub owed : Refusal → Error
-owed r = if is_far r.reason then bare Overflow else at (kind_told r.reason) (plain r.position)
+abbrev pub error_of : Refusal → Error
+error_of r = if is_far r.reason then error_of_kind Overflow else at (kind_of_reason r.reason) (definite_length r.position)

@@ -1,6 +1,6 @@
 -- Tags and their identifier octets (X.690 8.1.2).
 use Rattle.std.specs.Prelude.{ℕ, ◌+◌, ◌*◌, ◌/◌, ◌%◌, ◌^◌, ◌<◌, Bool, true, false, nat_lt, nat_eq, Option, Some, None, List, [], ◌∷◌, if◌then◌else◌}
-use Rattle.der_base.specs.Digits.{digits, continued}
+use Rattle.der_base.specs.Digits.{digits, continuation_octets}
 use Rattle.der_base.specs.declared.tag.number.TagNumber.{TagNumber}
 use Rattle.der_base.specs.declared.tag.Tag.{Tag}
 use Rattle.der_base.specs.declared.tag.Tag.TheVariants.{Boolean, Integer, BitString, OctetString, Null, ObjectIdentifier, Real, Enumerated, Utf8String, RelativeOid, Sequence, Set, NumericString, PrintableString, TeletexString, VideotexString, Ia5String, UtcTime, GeneralizedTime, VisibleString, GeneralString, BmpString, Application, ContextSpecific, Private}
@@ -43,22 +43,22 @@ label (ContextSpecific b n) = label_of 2 b n.0
 label (Private b n) = label_of 3 b n.0
 
 -- numbers have 32 bits
-abbrev pub IsTag : Tag → Type 0
-IsTag t = (label t).number < 2 ^ 32
+abbrev pub HasCountableNumber : Tag → Type 0
+HasCountableNumber t = (label t).number < 2 ^ 32
 
 -- bit 6 of the first octet
-abbrev pub bit : Bool → ℕ
-bit constructed = if constructed then 32 else 0
+abbrev pub constructed_bit : Bool → ℕ
+constructed_bit constructed = if constructed then 32 else 0
 
 -- a first octet with these five low bits
-abbrev pub first_octet : Label → ℕ → ℕ
-first_octet l low = 64 * l.class + bit l.constructed + low
+abbrev pub leading_octet : Label → ℕ → ℕ
+leading_octet l low = 64 * l.class + constructed_bit l.constructed + low
 
 -- one octet for numbers to 30 (8.1.2.2), else the number in base 128 behind it (8.1.2.4)
 abbrev pub label_octets : Label → List ℕ
 label_octets l =
-    if nat_lt l.number 31 then first_octet l l.number ∷ []
-    else first_octet l 31 ∷ continued (digits 128 l.number)
+    if nat_lt l.number 31 then leading_octet l l.number ∷ []
+    else leading_octet l 31 ∷ continuation_octets (digits 128 l.number)
 
 abbrev pub tag_octets : Tag → List ℕ
 tag_octets t = label_octets (label t)

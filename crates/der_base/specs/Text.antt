@@ -1,7 +1,7 @@
 -- Printed texts.
 use Rattle.std.specs.Prelude.{ℕ, ◌-◌, Bool, true, false, List, [], ◌++◌, length, replicate, codes, Option, Some, None, if◌then◌else◌}
 use Rattle.std.specs.Fmt.{decimal, digits, option_append}
-use Rattle.der_base.specs.Length.{number, flagged}
+use Rattle.der_base.specs.Length.{number, is_indefinite}
 use Rattle.der_base.specs.Tag.{label}
 use Rattle.der_base.specs.Error.{kind_of, position_of}
 use Rattle.der_base.specs.declared.length.Length.{Length}
@@ -23,7 +23,7 @@ length_text l = decimal (number l)
 
 abbrev pub length_debug : Length → List ℕ
 length_debug l =
-    if flagged l then codes "Length([indefinite])" else codes "Length(" ++ decimal (number l) ++ codes ")"
+    if is_indefinite l then codes "Length([indefinite])" else codes "Length(" ++ decimal (number l) ++ codes ")"
 
 abbrev pub class_text : Class → List ℕ
 class_text class.Universal = codes "UNIVERSAL"

@@ -4,8 +4,8 @@ ghost use Rattle.std.specs.Prelude.{◌≡◌, ◌↔◌, ◌++◌, IsTrue, fold
 ghost use Rattle.std.specs.Hash as fed;
 ghost use Rattle.std.specs.Ordering.{nat_cmp};
 ghost use Rattle.der_base.specs.Class.{class_number};
-ghost use Rattle.der_base.specs.Compare.{length_order, tag_order, mode_place, rules_place};
-ghost use Rattle.der_base.specs.Length.{number, flagged};
+ghost use Rattle.der_base.specs.Compare.{length_order, tag_order, mode_index, rules_index};
+ghost use Rattle.der_base.specs.Length.{number, is_indefinite};
 
 use crate::encoding_rules::EncodingRules;
 use crate::length::Length;
@@ -15,7 +15,7 @@ use std::hash::{Hash, Hasher};
 
 /// Two lengths are equal where number and flag are.
 fn length_equality(a: Length, b: Length) -> bool
-    ensures { IsTrue result ↔ ((number a ≡ number b) × (flagged a ≡ flagged b)) }
+    ensures { IsTrue result ↔ ((number a ≡ number b) × (is_indefinite a ≡ is_indefinite b)) }
 {
     a == b
 }
@@ -30,7 +30,7 @@ fn length_ordering(a: Length, b: Length) -> Ordering
 /// A hasher gets the number of a length and then the flag.
 fn length_hash<H: Hasher>(length: Length, state: &mut H)
     ensures { state.new
-        ≡ fold H.write state.old (fed.u32 (number length) ++ fed.bool (flagged length)) }
+        ≡ fold H.write state.old (fed.u32 (number length) ++ fed.bool (is_indefinite length)) }
 {
     length.hash(state);
 }
@@ -58,14 +58,14 @@ fn class_ordering(a: Class, b: Class) -> Ordering
 
 /// `Explicit` comes before `Implicit`.
 fn mode_ordering(a: TagMode, b: TagMode) -> Ordering
-    ensures { result ≡ nat_cmp (mode_place a) (mode_place b) }
+    ensures { result ≡ nat_cmp (mode_index a) (mode_index b) }
 {
     a.cmp(&b)
 }
 
 /// `Ber` comes before `Der`.
 fn rules_ordering(a: EncodingRules, b: EncodingRules) -> Ordering
-    ensures { result ≡ nat_cmp (rules_place a) (rules_place b) }
+    ensures { result ≡ nat_cmp (rules_index a) (rules_index b) }
 {
     a.cmp(&b)
 }

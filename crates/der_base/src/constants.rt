@@ -1,7 +1,7 @@
 //! What constants and defaults are. Each function answers one of them, and its contract says which;
 //! nothing else uses these.
 ghost use Rattle.std.specs.Prelude.{◌≡◌};
-ghost use Rattle.der_base.specs.Length.{plain};
+ghost use Rattle.der_base.specs.Length.{definite_length};
 ghost use Rattle.der_base.specs.declared.encoding_rules.EncodingRules.TheVariants.{Der};
 ghost use Rattle.der_base.specs.declared.tag.mode.TagMode.TheVariants.{Explicit};
 
@@ -11,28 +11,28 @@ use crate::tag::TagMode;
 
 /// No octets.
 fn zero() -> Length
-    ensures { result ≡ plain 0 }
+    ensures { result ≡ definite_length 0 }
 {
     Length::ZERO
 }
 
 /// One octet.
 fn one() -> Length
-    ensures { result ≡ plain 1 }
+    ensures { result ≡ definite_length 1 }
 {
     Length::ONE
 }
 
 /// The greatest length.
 fn max() -> Length
-    ensures { result ≡ plain 4294967295 }
+    ensures { result ≡ definite_length 4294967295 }
 {
     Length::MAX
 }
 
 /// A length of no octets, unflagged.
 fn default_length() -> Length
-    ensures { result ≡ plain 0 }
+    ensures { result ≡ definite_length 0 }
 {
     Length::default()
 }

@@ -37,9 +37,9 @@ impl EncodingRules {
 impl FromStr for EncodingRules {
     type Err = Error;
 
-    ghost use Rattle.der_base.specs.Names.{rules_named};
+    ghost use Rattle.der_base.specs.Names.{rules_of_name};
 
-    ghost from_str_gives = { λ text r. r ≡ rules_named text };
+    ghost from_str_gives = { λ text r. r ≡ rules_of_name text };
 
     fn from_str(text: &str) -> Result<Self> {
         match text {

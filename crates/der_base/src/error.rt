@@ -20,7 +20,7 @@ pub struct Error {
 }
 
 impl Error {
-    ghost use Rattle.der_base.specs.Error.{at, kind_of, position_of, ends_after};
+    ghost use Rattle.der_base.specs.Error.{at, kind_of, position_of, error_at_end};
 
     /// An error of this kind at this position.
     pub const fn new(kind: ErrorKind, position: Length) -> Self
@@ -35,7 +35,7 @@ impl Error {
     /// The input ends after `actual_len` octets, and one more is wanted: kind `Incomplete`, or
     /// `Overflow` where the wanted length would pass 4294967295. The position is the input's end.
     pub fn incomplete(actual_len: Length) -> Self
-        ensures { result ≡ ends_after actual_len }
+        ensures { result ≡ error_at_end actual_len }
     {
         match actual_len + Length::ONE {
             Ok(expected_len) => ErrorKind::Incomplete {
@@ -64,9 +64,9 @@ impl Error {
 
 /// An error of this kind, without a position.
 impl From<ErrorKind> for Error {
-    ghost use Rattle.der_base.specs.Error.{bare};
+    ghost use Rattle.der_base.specs.Error.{error_of_kind};
 
-    ghost from_gives = { λ kind e. e ≡ bare kind };
+    ghost from_gives = { λ kind e. e ≡ error_of_kind kind };
 
     fn from(kind: ErrorKind) -> Self {
         kind.to_error()
@@ -75,9 +75,9 @@ impl From<ErrorKind> for Error {
 
 /// A number that does not fit is kind `Overflow`, without a position.
 impl From<TryFromIntError> for Error {
-    ghost use Rattle.der_base.specs.Error.{bare};
+    ghost use Rattle.der_base.specs.Error.{error_of_kind};
 
-    ghost from_gives = { λ _ e. e ≡ bare Overflow };
+    ghost from_gives = { λ _ e. e ≡ error_of_kind Overflow };
 
     fn from(_error: TryFromIntError) -> Self {
         ErrorKind::Overflow.to_error()
@@ -86,9 +86,9 @@ impl From<TryFromIntError> for Error {
 
 /// A text that is not UTF-8 is kind `Utf8`, without a position.
 impl From<Utf8Error> for Error {
-    ghost use Rattle.der_base.specs.Error.{bare};
+    ghost use Rattle.der_base.specs.Error.{error_of_kind};
 
-    ghost from_gives = { λ error e. e ≡ bare (Utf8 error) };
+    ghost from_gives = { λ error e. e ≡ error_of_kind (Utf8 error) };
 
     fn from(error: Utf8Error) -> Self {
         ErrorKind::Utf8(error).to_error()
@@ -173,7 +173,7 @@ pub enum ErrorKind {
 }
 
 impl ErrorKind {
-    ghost use Rattle.der_base.specs.Error.{bare, at};
+    ghost use Rattle.der_base.specs.Error.{error_of_kind, at};
 
     /// An error of this kind at this position.
     pub const fn at(self, position: Length) -> Error
@@ -184,7 +184,7 @@ impl ErrorKind {
 
     /// An error of this kind, without a position.
     pub const fn to_error(self) -> Error
-        ensures { result ≡ bare self }
+        ensures { result ≡ error_of_kind self }
     {
         Error {
             kind: self,

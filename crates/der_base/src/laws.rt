@@ -1,7 +1,7 @@
 //! Laws of the octets of tags, lengths and headers. Each function does nothing; its contract is
 //! the law.
 ghost use Rattle.der_base.specs.Body.{Body};
-ghost use Rattle.der_base.specs.Header.{Head, TagAhead, LengthAhead, LengthFault, HeaderAhead, HeaderFault, header_octets};
+ghost use Rattle.der_base.specs.Header.{Head, IdentifierAhead, LengthAhead, LengthFault, HeaderAhead, HeaderFault, header_octets};
 ghost use Rattle.der_base.specs.Identifier.{IsIdentifier, IdentifierFault};
 ghost use Rattle.der_base.specs.Length.{length_octets};
 ghost use Rattle.der_base.specs.Refusal.{Refusal};
@@ -55,13 +55,13 @@ pub fn no_body_begins_another()
 /// (X.690 8.1.2).
 pub fn one_tag()
     ensures { (rules : EncodingRules) (s : List ℕ) (t u : Tag) (b c : Bool) (m n : ℕ)
-        → TagAhead rules s t b m → TagAhead rules s u c n → (t ≡ u) × (b ≡ c) × (m ≡ n) }
+        → IdentifierAhead rules s t b m → IdentifierAhead rules s u c n → (t ≡ u) × (b ≡ c) × (m ≡ n) }
 {}
 
 /// Octets that begin with a tag have no fault of one (X.690 8.1.2).
 pub fn no_tag_has_a_fault()
     ensures { (rules : EncodingRules) (at : ℕ) (s : List ℕ) (t : Tag) (b : Bool) (m : ℕ)
-        (r : Refusal) → IdentifierFault rules at s r → TagAhead rules s t b m → ⊥ }
+        (r : Refusal) → IdentifierFault rules at s r → IdentifierAhead rules s t b m → ⊥ }
 {}
 
 /// Octets have one fault of a tag at most, at one position (X.690 8.1.2).

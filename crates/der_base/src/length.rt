@@ -18,8 +18,8 @@ pub struct Length {
 }
 
 impl Length {
-    ghost use Rattle.der_base.specs.Length.{number, flagged, plain, length_of};
-    ghost use Rattle.der_base.specs.Arithmetic.{counted, without_end};
+    ghost use Rattle.der_base.specs.Length.{number, is_indefinite, definite_length, length_of};
+    ghost use Rattle.der_base.specs.Arithmetic.{checked_length, sans_eoc};
 
     /// No octets.
     pub const ZERO: Self = Length {
@@ -41,7 +41,7 @@ impl Length {
 
     /// A length of so many octets, unflagged.
     pub const fn new(value: u32) -> Self
-        ensures { result ≡ plain value }
+        ensures { result ≡ definite_length value }
     {
         Length {
             inner: value,
@@ -62,7 +62,7 @@ impl Length {
     /// A length of so many octets, unflagged. A number above 4294967295 is kind `Overflow`
     /// without a position.
     pub const fn new_usize(value: usize) -> Result<Self>
-        ensures { result ≡ counted value }
+        ensures { result ≡ checked_length value }
     {
         if value > u32::MAX as usize {
             return Err(ErrorKind::Overflow.to_error());
@@ -79,7 +79,7 @@ impl Length {
 
     /// Whether the length was read in the indefinite form.
     pub const fn is_indefinite(self) -> bool
-        ensures { result ≡ flagged self }
+        ensures { result ≡ is_indefinite self }
     {
         self.indefinite
     }
@@ -88,7 +88,7 @@ impl Length {
     /// (X.690 8.1.5), flagged as before; of fewer than two none. A definite length has no end mark
     /// and is answered as it is.
     pub const fn sans_eoc(self) -> Self
-        ensures { result ≡ without_end self }
+        ensures { result ≡ sans_eoc self }
     {
         if self.indefinite {
             Length::new_indefinite(self.inner.saturating_sub(2))

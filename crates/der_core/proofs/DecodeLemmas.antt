@@ -6,80 +6,80 @@ use Rattle.der_base.specs.declared.error.Error.{Error}
 use Rattle.der_base.specs.declared.error.ErrorKind.TheVariants.{Failed}
 use Rattle.der_base.specs.declared.encoding_rules.EncodingRules.{EncodingRules}
 use Rattle.der_base.specs.declared.encoding_rules.EncodingRules.TheVariants.{Ber, Der}
-use Rattle.der_core.specs.State.{State, rest, here, advanced, beginning}
+use Rattle.der_core.specs.ReaderState.{ReaderState, rest, reader_position, advanced_state, initial_state}
 use Rattle.der_core.specs.Reader.{remaining_answer}
-use Rattle.der_core.specs.Decode.{ReadsOrLacks, header_levels, PartialAnswer, decoded}
+use Rattle.der_core.specs.Decode.{ReadsOrLacks, grammar_levels, PartialAnswer, decoded}
 
-pub remaining_ok : (t : State) (x : List ℕ) → Ok x ≡ remaining_answer t → (t.failed ≡ false) × (x ≡ rest t)
+pub remaining_ok : (t : ReaderState) (x : List ℕ) → Ok x ≡ remaining_answer t → (t.failed ≡ false) × (x ≡ rest t)
 remaining_ok t x h = go t.failed refl h
   where
     go : (f : Bool) → t.failed ≡ f → Ok x ≡ remaining_answer t → (t.failed ≡ false) × (x ≡ rest t)
     go true e h = absurd (grind arith)
     go false e h = (e, grind arith)
 
-pub remaining_err : (t : State) (e : Error) → Err e ≡ remaining_answer t → (t.failed ≡ true) × (e ≡ at Failed (here t))
+pub remaining_err : (t : ReaderState) (e : Error) → Err e ≡ remaining_answer t → (t.failed ≡ true) × (e ≡ at Failed (reader_position t))
 remaining_err t e h = go t.failed refl h
   where
-    go : (f : Bool) → t.failed ≡ f → Err e ≡ remaining_answer t → (t.failed ≡ true) × (e ≡ at Failed (here t))
+    go : (f : Bool) → t.failed ≡ f → Err e ≡ remaining_answer t → (t.failed ≡ true) × (e ≡ at Failed (reader_position t))
     go true f h = (f, grind arith)
     go false f h = absurd (grind arith)
 
 -- a reader that has only gone on is not failed
-pub lacks_only : {E : Type 0} (A : Type 0) (oom : E → Bool) {takes : Bool} (s t : State) (m : ℕ) {e : E} → ReadsOrLacks {A = A} oom takes s m (Err e) t
+pub lacks_only : {E : Type 0} (A : Type 0) (oom : E → Bool) {takes : Bool} (s t : ReaderState) (m : ℕ) {e : E} → ReadsOrLacks {A = A} oom takes s m (Err e) t
     → (takes ≡ true) × (oom e ≡ true)
 lacks_only A oom s t m (inl h) = absurd (let no : false ≡ true = h.0 in cc)
 lacks_only A oom s t m (inr h) = h
 
-pub read_on : {A : Type 0} (E : Type 0) (oom : E → Bool) {takes : Bool} (s : State) {t : State} (m : ℕ) (v : A) → ReadsOrLacks {E = E} oom takes s m (Ok v) t
-    → t ≡ advanced s m
+pub read_on : {A : Type 0} (E : Type 0) (oom : E → Bool) {takes : Bool} (s : ReaderState) {t : ReaderState} (m : ℕ) (v : A) → ReadsOrLacks {E = E} oom takes s m (Ok v) t
+    → t ≡ advanced_state s m
 read_on E oom s m v (inl h) = h.1
 read_on E oom s m v (inr h) = absurd h.1
 
 -- headers are promised under DER alone
-pub header_rules : (rules : EncodingRules) (depth : ℕ) → depth + header_levels rules ≤ 64 → rules ≡ Der
+pub header_rules : (rules : EncodingRules) (depth : ℕ) → depth + grammar_levels rules ≤ 64 → rules ≡ Der
 header_rules Ber depth h = absurd (omega arith)
 header_rules Der depth h = refl
 
-pub rest-beginning : (rules : EncodingRules) (octets : List ℕ) → rest (beginning rules octets) ≡ octets
+pub rest-beginning : (rules : EncodingRules) (octets : List ℕ) → rest (initial_state rules octets) ≡ octets
 rest-beginning rules octets = let e : length octets - 0 ≡ length octets = omega arith in ap (λ n. take n octets) e ∙ take_all (length octets) octets (omega arith)
 
 -- what is promised of a reader at the beginning
 module _ {A E : Type 0} (heads : EncodingRules → List ℕ → A → ℕ → Type 0) (needs : EncodingRules → ℕ) (oom : E → Bool) (takes : Bool) where
-  pub promised : (octets : List ℕ) (s t : State) (v : A) (m : ℕ) (result : Result A E) → s ≡ beginning Der octets → heads Der octets v m → needs Der ≤ 64
+  pub promised : (octets : List ℕ) (s t : ReaderState) (v : A) (m : ℕ) (result : Result A E) → s ≡ initial_state Der octets → heads Der octets v m → needs Der ≤ 64
       → (s.failed ≡ false → heads s.rules (rest s) v m → s.depth + needs s.rules ≤ 64 → ReadsOrLacks oom takes s m result t) → ReadsOrLacks oom takes s m result t
   promised octets s t v m result e ahead levels complete =
-      let working : s.failed ≡ false = ap (λ (x : State). x.failed) e in
-      let rules : s.rules ≡ Der = ap (λ (x : State). x.rules) e in
-      let depth : s.depth ≡ 0 = ap (λ (x : State). x.depth) e in
+      let working : s.failed ≡ false = ap (λ (x : ReaderState). x.failed) e in
+      let rules : s.rules ≡ Der = ap (λ (x : ReaderState). x.rules) e in
+      let depth : s.depth ≡ 0 = ap (λ (x : ReaderState). x.depth) e in
       let left : rest s ≡ octets = ap rest e ∙ rest-beginning Der octets in
       let there : heads s.rules (rest s) v m = subst (λ r. heads r (rest s) v m) (sym rules) (subst (λ l. heads Der l v m) (sym left) ahead) in
       let few : s.depth + needs s.rules ≤ 64 = omega (arith, depth, ap needs rules) in
       complete working there few
 
   -- a value that was promised is not lost behind it
-  pub not_lost : (octets : List ℕ) (s t : State) (v w : A) (m : ℕ) (e : Error) → s ≡ beginning Der octets → heads Der octets v m → needs Der ≤ 64
+  pub not_lost : (octets : List ℕ) (s t : ReaderState) (v w : A) (m : ℕ) (e : Error) → s ≡ initial_state Der octets → heads Der octets v m → needs Der ≤ 64
       → (s.failed ≡ false → heads s.rules (rest s) v m → s.depth + needs s.rules ≤ 64 → ReadsOrLacks oom takes s m (Ok w) t) → Err e ≡ remaining_answer t → ⊥
   not_lost octets s t v w m e begun ahead levels complete lost =
-      let there : t ≡ advanced s m = read_on E oom s m w (promised octets s t v m (Ok w) begun ahead levels complete) in
-      let working : t.failed ≡ false = ap (λ (x : State). x.failed) there ∙ ap (λ (x : State). x.failed) begun in
+      let there : t ≡ advanced_state s m = read_on E oom s m w (promised octets s t v m (Ok w) begun ahead levels complete) in
+      let working : t.failed ≡ false = ap (λ (x : ReaderState). x.failed) there ∙ ap (λ (x : ReaderState). x.failed) begun in
       let failed = remaining_err t e lost in
       (let no : false ≡ true = sym working ∙ failed.0 in cc)
 
 -- the first step that fails, or none
-module _ {A E : Type 0} (answers : State → Result A E → State → Type 0) (converts : Error → E → Type 0) (octets : List ℕ) (s t : State) where
-  at_beginning : {a : Result A E} → s ≡ beginning Der octets → answers s a t → answers (beginning Der octets) a t
+module _ {A E : Type 0} (answers : ReaderState → Result A E → ReaderState → Type 0) (converts : Error → E → Type 0) (octets : List ℕ) (s t : ReaderState) where
+  at_beginning : {a : Result A E} → s ≡ initial_state Der octets → answers s a t → answers (initial_state Der octets) a t
   at_beginning {a} e h = subst (λ x. answers x a t) e h
 
-  pub partial_err : (e : E) → length octets < 2 ^ 32 → s ≡ beginning Der octets → answers s (Err e) t → PartialAnswer answers converts octets (Err e)
+  pub partial_err : (e : E) → length octets < 2 ^ 32 → s ≡ initial_state Der octets → answers s (Err e) t → PartialAnswer answers converts octets (Err e)
   partial_err e small begun h = decoded (Err e) t small (at_beginning begun h) refl
 
-  pub partial_lost : (v : A) (e : Error) (f : E) → length octets < 2 ^ 32 → s ≡ beginning Der octets → answers s (Ok v) t → Err e ≡ remaining_answer t → converts e f
+  pub partial_lost : (v : A) (e : Error) (f : E) → length octets < 2 ^ 32 → s ≡ initial_state Der octets → answers s (Ok v) t → Err e ≡ remaining_answer t → converts e f
       → PartialAnswer answers converts octets (Err f)
   partial_lost v e f small begun h lost told =
       let failed = remaining_err t e lost in
       decoded (Ok v) t small (at_beginning begun h) (inr (failed.0, subst (λ x. converts x f) failed.1 told))
 
-  pub partial_ok : (v : A) (left : List ℕ) → length octets < 2 ^ 32 → s ≡ beginning Der octets → answers s (Ok v) t → Ok left ≡ remaining_answer t
+  pub partial_ok : (v : A) (left : List ℕ) → length octets < 2 ^ 32 → s ≡ initial_state Der octets → answers s (Ok v) t → Ok left ≡ remaining_answer t
       → PartialAnswer answers converts octets (Ok (v, left))
   partial_ok v left small begun h is =
       let there = remaining_ok t left is in

@@ -4,16 +4,16 @@ use Rattle.std.proofs.lemmas.Bool.{cases_lt}
 use Rattle.std.specs.Int.{to_be_bytes}
 use Rattle.std.specs.Int.Digits.{digits_of}
 use Rattle.std.proofs.lemmas.Int.Digits.{digits_of_step, length-digits_of_step}
-use Rattle.der_base.specs.Digits.{digits, continued}
+use Rattle.der_base.specs.Digits.{digits, continuation_octets}
 use Rattle.der_base.specs.Length.{length_octets}
 use Rattle.der_base.proofs.DigitLemmas.{digits_positive}
 use Rattle.der_base.proofs.LengthLemmas.{length_small, length_large}
-use Rattle.der_base.specs.Tag.{label, first_octet, tag_octets}
+use Rattle.der_base.specs.Tag.{label, leading_octet, tag_octets}
 use Rattle.der_base.specs.declared.tag.Tag.{Tag}
 use Rattle.der_base.specs.declared.error.Error.{Error}
 use Rattle.der_base.proofs.TagLemmas.{label_large}
-use Rattle.der_core.specs.Writer.{WriterState, WriterOutcome, Writes, write_outcome, write_pieces, then_call, succeeded, appended}
-use Rattle.der_core.specs.Encode.{singly, high_digits, first_and_others, length_outcome}
+use Rattle.der_core.specs.Writer.{WriterState, WriterOutcome, Writes, write_outcome, write_pieces, chained_write, success_outcome, appended_state}
+use Rattle.der_core.specs.Encode.{single_octets, high_digits, first_and_others, length_outcome}
 
 -- the k lowest digits in base 256
 abbrev low_digits : ℕ → ℕ → List ℕ
@@ -56,13 +56,13 @@ others o (d ∷ ds) some = refl
 
 -- a call that succeeded, with more behind what follows it
 after_call : (a : Result (Unit {0}) Error) (v : WriterState) (next longer : WriterState → WriterOutcome) (t u : WriterState) (r : Result (Unit {0}) Error)
-    → Writes (then_call a v next) (Ok tt) t → ((w : WriterState) → Writes (next w) (Ok tt) t → Writes (longer w) r u) → Writes (then_call a v longer) r u
+    → Writes (chained_write a v next) (Ok tt) t → ((w : WriterState) → Writes (next w) (Ok tt) t → Writes (longer w) r u) → Writes (chained_write a v longer) r u
 after_call (Ok x) v next longer t u r w more = more v w
 after_call (Err e) v next longer t u r w more = let wrong = w.answered in cc
 
 -- a call that was refused, or what follows it
 stopped_call : (a : Result (Unit {0}) Error) (v : WriterState) (next longer : WriterState → WriterOutcome) (t : WriterState) (e : Error)
-    → Writes (then_call a v next) (Err e) t → ((w : WriterState) → Writes (next w) (Err e) t → Writes (longer w) (Err e) t) → Writes (then_call a v longer) (Err e) t
+    → Writes (chained_write a v next) (Err e) t → ((w : WriterState) → Writes (next w) (Err e) t → Writes (longer w) (Err e) t) → Writes (chained_write a v longer) (Err e) t
 stopped_call (Ok x) v next longer t e w more = more v w
 stopped_call (Err f) v next longer t e w more = record { answered = w.answered; leaves = w.leaves }
 
@@ -82,17 +82,17 @@ pieces_stop (p ∷ ps) qs s t e first =
 pub one_piece : (p : List ℕ) (s t : WriterState) (r : Result (Unit {0}) Error) → Writes (write_outcome p s) r t → Writes (write_pieces (p ∷ []) s) r t
 one_piece p s t r w = step (write_outcome p s).answer (write_outcome p s).after w.answered w.leaves
   where
-    step : (a : Result (Unit {0}) Error) (v : WriterState) → r ≡ a → t ≡ v → Writes (then_call a v succeeded) r t
+    step : (a : Result (Unit {0}) Error) (v : WriterState) → r ≡ a → t ≡ v → Writes (chained_write a v success_outcome) r t
     step (Ok x) v e f = record { answered = e; leaves = f }
     step (Err x) v e f = record { answered = e; leaves = f }
 
 -- one octet more
-pub singly_push : (xs : List ℕ) (x : ℕ) → singly (xs ++ x ∷ []) ≡ singly xs ++ (x ∷ []) ∷ []
+pub singly_push : (xs : List ℕ) (x : ℕ) → single_octets (xs ++ x ∷ []) ≡ single_octets xs ++ (x ∷ []) ∷ []
 singly_push [] x = refl
 singly_push (y ∷ xs) x = ap (λ l. (y ∷ []) ∷ l) (singly_push xs x)
 
 -- all digits but the last have bit 8 set
-pub continued_push : (ds : List ℕ) (d : ℕ) → continued (ds ++ d ∷ []) ≡ map (λ x. 128 + x) ds ++ d ∷ []
+pub continued_push : (ds : List ℕ) (d : ℕ) → continuation_octets (ds ++ d ∷ []) ≡ map (λ x. 128 + x) ds ++ d ∷ []
 continued_push [] d = refl
 continued_push (e ∷ []) d = refl
 continued_push (e ∷ f ∷ ds) d = ap (λ l. (128 + e) ∷ l) (continued_push (f ∷ ds) d)
@@ -106,10 +106,10 @@ high_push n pos = ap (map (λ d. 128 + d)) (digits_of_step 128 n (omega arith) p
     map_push (e ∷ ds) d = ap (λ l. (128 + e) ∷ l) (map_push ds d)
 
 -- the octets of a tag from number 31 on
-pub tag_parts : (t : Tag) → 31 ≤ (label t).number → tag_octets t ≡ first_octet (label t) 31 ∷ (high_digits ((label t).number / 128) ++ (label t).number % 128 ∷ [])
+pub tag_parts : (t : Tag) → 31 ≤ (label t).number → tag_octets t ≡ leading_octet (label t) 31 ∷ (high_digits ((label t).number / 128) ++ (label t).number % 128 ∷ [])
 tag_parts t large =
     let n : ℕ = (label t).number in
-    label_large (label t) large ∙ ap (λ l. first_octet (label t) 31 ∷ continued l) (digits_positive 128 n (omega arith) ∙ digits_of_step 128 n (omega arith) (omega arith)) ∙ ap (λ l. first_octet (label t) 31 ∷ l) (continued_push (digits_of 128 (n / 128)) (n % 128))
+    label_large (label t) large ∙ ap (λ l. leading_octet (label t) 31 ∷ continuation_octets l) (digits_positive 128 n (omega arith) ∙ digits_of_step 128 n (omega arith) (omega arith)) ∙ ap (λ l. leading_octet (label t) 31 ∷ l) (continued_push (digits_of 128 (n / 128)) (n % 128))
 
 -- a length that takes more octets than one
 pub length_parts : (k n : ℕ) → 1 ≤ k → k ≤ 4 → length (length_octets n) ≡ k + 1 → length_octets n ≡ (128 + k) ∷ drop (4 - k) (to_be_bytes w32 n)
@@ -124,11 +124,11 @@ length_parts k n pos few e =
 
 -- it is appended by two writes
 pub length_appended : (k n : ℕ) (q : List ℕ) (s t u : WriterState) (r : Result (Unit {0}) Error) → 1 ≤ k → k ≤ 4 → length (length_octets n) ≡ k + 1 → q ≡ drop (4 - k) (to_be_bytes w32 n)
-    → t ≡ appended s ((128 + k) ∷ []) → OnOk r (u ≡ appended t q) → OnOk r (u ≡ appended s (length_octets n))
+    → t ≡ appended_state s ((128 + k) ∷ []) → OnOk r (u ≡ appended_state t q) → OnOk r (u ≡ appended_state s (length_octets n))
 length_appended k n q s t u (Err e) pos few size same first next = next
 length_appended k n q s t u (Ok x) pos few size same first next =
     let parts : length_octets n ≡ (128 + k) ∷ q = length_parts k n pos few size ∙ ap (λ l. (128 + k) ∷ l) (sym same) in
-    next ∙ ap (λ v. appended v q) first ∙ ap (λ l. record s { octets = l }) (append_assoc s.octets ((128 + k) ∷ []) q) ∙ ap (appended s) (sym parts)
+    next ∙ ap (λ v. appended_state v q) first ∙ ap (λ l. record s { octets = l }) (append_assoc s.octets ((128 + k) ∷ []) q) ∙ ap (appended_state s) (sym parts)
 
 -- and its outcome is theirs
 pub length_outcome_of : (k n : ℕ) (q : List ℕ) (s t u : WriterState) (r : Result (Unit {0}) Error) → 1 ≤ k → k ≤ 4 → length (length_octets n) ≡ k + 1 → q ≡ drop (4 - k) (to_be_bytes w32 n)
@@ -149,29 +149,29 @@ length_high_digits n = count (digits_of 128 n)
     count (d ∷ ds) = ap suc (count ds)
 
 -- one octet more behind others, each written by itself
-pub singly_then : (xs : List ℕ) (x : ℕ) (s t u : WriterState) (r : Result (Unit {0}) Error) → Writes (write_pieces (singly xs) s) (Ok tt) t → Writes (write_outcome (x ∷ []) t) r u
-    → Writes (write_pieces (singly (xs ++ x ∷ [])) s) r u
+pub singly_then : (xs : List ℕ) (x : ℕ) (s t u : WriterState) (r : Result (Unit {0}) Error) → Writes (write_pieces (single_octets xs) s) (Ok tt) t → Writes (write_outcome (x ∷ []) t) r u
+    → Writes (write_pieces (single_octets (xs ++ x ∷ [])) s) r u
 singly_then xs x s t u r first next =
-    subst (λ l. Writes (write_pieces l s) r u) (sym (singly_push xs x)) (pieces_then (singly xs) ((x ∷ []) ∷ []) s t u r first (one_piece (x ∷ []) t u r next))
+    subst (λ l. Writes (write_pieces l s) r u) (sym (singly_push xs x)) (pieces_then (single_octets xs) ((x ∷ []) ∷ []) s t u r first (one_piece (x ∷ []) t u r next))
 
 -- or none, where the others were refused
-pub singly_stop : (xs : List ℕ) (x : ℕ) (s t : WriterState) (e : Error) → Writes (write_pieces (singly xs) s) (Err e) t → Writes (write_pieces (singly (xs ++ x ∷ [])) s) (Err e) t
+pub singly_stop : (xs : List ℕ) (x : ℕ) (s t : WriterState) (e : Error) → Writes (write_pieces (single_octets xs) s) (Err e) t → Writes (write_pieces (single_octets (xs ++ x ∷ [])) s) (Err e) t
 singly_stop xs x s t e first =
-    subst (λ l. Writes (write_pieces l s) (Err e) t) (sym (singly_push xs x)) (pieces_stop (singly xs) ((x ∷ []) ∷ []) s t e first)
+    subst (λ l. Writes (write_pieces l s) (Err e) t) (sym (singly_push xs x)) (pieces_stop (single_octets xs) ((x ∷ []) ∷ []) s t e first)
 
 -- octets appended in two parts
-pub appended_twice : (xs ys : List ℕ) (s t u : WriterState) (r : Result (Unit {0}) Error) → t ≡ appended s xs → OnOk r (u ≡ appended t ys) → OnOk r (u ≡ appended s (xs ++ ys))
+pub appended_twice : (xs ys : List ℕ) (s t u : WriterState) (r : Result (Unit {0}) Error) → t ≡ appended_state s xs → OnOk r (u ≡ appended_state t ys) → OnOk r (u ≡ appended_state s (xs ++ ys))
 appended_twice xs ys s t u (Err e) first next = next
-appended_twice xs ys s t u (Ok x) first next = next ∙ ap (λ v. appended v ys) first ∙ ap (λ l. record s { octets = l }) (append_assoc s.octets xs ys)
+appended_twice xs ys s t u (Ok x) first next = next ∙ ap (λ v. appended_state v ys) first ∙ ap (λ l. record s { octets = l }) (append_assoc s.octets xs ys)
 
 -- room for more, once the first octets were appended
-pub room_then : (xs : List ℕ) (k : ℕ) (s t : WriterState) → t ≡ appended s xs → s.failed ≡ false → length s.octets + (length xs + k) ≤ s.stop → (t.failed ≡ false) × (length t.octets + k ≤ t.stop)
+pub room_then : (xs : List ℕ) (k : ℕ) (s t : WriterState) → t ≡ appended_state s xs → s.failed ≡ false → length s.octets + (length xs + k) ≤ s.stop → (t.failed ≡ false) × (length t.octets + k ≤ t.stop)
 room_then xs k s t first alive room =
     let size : length t.octets ≡ length s.octets + length xs = ap (λ (v : WriterState). length v.octets) first ∙ length-append s.octets xs in
     let stop : t.stop ≡ s.stop = ap (λ (v : WriterState). v.stop) first in
     (ap (λ (v : WriterState). v.failed) first ∙ alive, omega (arith, size, stop, room))
 
 -- the same, by the first octet and the number
-pub tag_spelled : (t : Tag) (x n : ℕ) → x ≡ first_octet (label t) 31 → n ≡ (label t).number → 31 ≤ n → tag_octets t ≡ x ∷ (high_digits (n / 128) ++ n % 128 ∷ [])
+pub tag_spelled : (t : Tag) (x n : ℕ) → x ≡ leading_octet (label t) 31 → n ≡ (label t).number → 31 ≤ n → tag_octets t ≡ x ∷ (high_digits (n / 128) ++ n % 128 ∷ [])
 tag_spelled t x n e f large =
-    tag_parts t (omega (arith, f, large)) ∙ ap (λ m. first_octet (label t) 31 ∷ (high_digits (m / 128) ++ m % 128 ∷ [])) (sym f) ∙ ap (λ o. o ∷ (high_digits (n / 128) ++ n % 128 ∷ [])) (sym e)
+    tag_parts t (omega (arith, f, large)) ∙ ap (λ m. leading_octet (label t) 31 ∷ (high_digits (m / 128) ++ m % 128 ∷ [])) (sym f) ∙ ap (λ o. o ∷ (high_digits (n / 128) ++ n % 128 ∷ [])) (sym e)

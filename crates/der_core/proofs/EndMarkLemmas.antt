@@ -2,65 +2,65 @@
 use Rattle.std.proofs.Common.{◌≡◌, ℕ, zero, suc, ◌+◌, ◌==◌, Bool, true, false, List, [], ◌∷◌, Result, Ok, Err, refl, sym, ap, ◌∙◌, arith}
 use Rattle.der_base.specs.declared.error.Error.{Error}
 use Rattle.der_base.specs.declared.error.ErrorKind.TheVariants.{IndefiniteLength}
-use Rattle.der_core.specs.State.{State, rest, advanced}
-use Rattle.der_core.specs.Outcome.{Outcome, Gives, Meets, follow, then_}
-use Rattle.der_core.specs.Reader.{first_octet, end_mark, read_eoc_outcome, zero_octet, read_zero_octet_outcome, refused_here}
+use Rattle.der_core.specs.ReaderState.{ReaderState, rest, advanced_state}
+use Rattle.der_core.specs.Outcome.{Outcome, Gives, Meets, outcome_following, chained_outcome}
+use Rattle.der_core.specs.Reader.{next_octet_outcome, end_mark_outcome, read_eoc_outcome, zero_octet_outcome, read_zero_octet_outcome, kind_outcome}
 use Rattle.der_core.proofs.StateLemmas.{by_front, rest_after}
 
 -- the two octets, one after the other
-abbrev both : State → Outcome (Unit {0})
-both s = then_ (read_zero_octet_outcome s) (λ _ t. read_zero_octet_outcome t)
+abbrev both : ReaderState → Outcome (Unit {0})
+both s = chained_outcome (read_zero_octet_outcome s) (λ _ t. read_zero_octet_outcome t)
 
-one_front : (s : State) (q : List ℕ) → s.failed ≡ false → rest s ≡ q → read_zero_octet_outcome s ≡ then_ (first_octet s q) zero_octet
-one_front s q w e = ap (λ o. then_ o zero_octet) (by_front s w ∙ ap (first_octet s) e)
+one_front : (s : ReaderState) (q : List ℕ) → s.failed ≡ false → rest s ≡ q → read_zero_octet_outcome s ≡ chained_outcome (next_octet_outcome s q) zero_octet_outcome
+one_front s q w e = ap (λ o. chained_outcome o zero_octet_outcome) (by_front s w ∙ ap (next_octet_outcome s) e)
 
-two_on : (s : State) → advanced (advanced s 1) 1 ≡ advanced s 2
+two_on : (s : ReaderState) → advanced_state (advanced_state s 1) 1 ≡ advanced_state s 2
 two_on s = (let sum : s.position + 1 + 1 ≡ s.position + 2 = omega arith in ap (λ p. record s { position = p }) sum)
 
-not_zero : (o : ℕ) (s : State) → zero_octet (suc o) s ≡ refused_here (Unit {0}) IndefiniteLength s
+not_zero : (o : ℕ) (s : ReaderState) → zero_octet_outcome (suc o) s ≡ kind_outcome (Unit {0}) IndefiniteLength s
 not_zero o s = (let no : (suc o == 0) ≡ false = grind arith in rw no refl)
 
-second : (s : State) (q : List ℕ) → s.failed ≡ false → rest (advanced s 1) ≡ q → read_zero_octet_outcome (advanced s 1) ≡ end_mark s (zero ∷ q)
-second s [] w e = one_front (advanced s 1) [] w e
-second s (zero ∷ more) w e = one_front (advanced s 1) (zero ∷ more) w e ∙ ap (λ t. zero_octet zero t) (two_on s)
-second s (suc o ∷ more) w e = one_front (advanced s 1) (suc o ∷ more) w e ∙ ap (λ t. zero_octet (suc o) t) (two_on s) ∙ not_zero o (advanced s 2)
+second : (s : ReaderState) (q : List ℕ) → s.failed ≡ false → rest (advanced_state s 1) ≡ q → read_zero_octet_outcome (advanced_state s 1) ≡ end_mark_outcome s (zero ∷ q)
+second s [] w e = one_front (advanced_state s 1) [] w e
+second s (zero ∷ more) w e = one_front (advanced_state s 1) (zero ∷ more) w e ∙ ap (λ t. zero_octet_outcome zero t) (two_on s)
+second s (suc o ∷ more) w e = one_front (advanced_state s 1) (suc o ∷ more) w e ∙ ap (λ t. zero_octet_outcome (suc o) t) (two_on s) ∙ not_zero o (advanced_state s 2)
 
-both_of : (s : State) (q : List ℕ) → s.failed ≡ false → rest s ≡ q → both s ≡ end_mark s q
-both_of s [] w e = ap (λ o. then_ o (λ _ t. read_zero_octet_outcome t)) (one_front s [] w e)
+both_of : (s : ReaderState) (q : List ℕ) → s.failed ≡ false → rest s ≡ q → both s ≡ end_mark_outcome s q
+both_of s [] w e = ap (λ o. chained_outcome o (λ _ t. read_zero_octet_outcome t)) (one_front s [] w e)
 both_of s (suc o ∷ more) w e =
-    ap (λ o. then_ o (λ _ t. read_zero_octet_outcome t)) (one_front s (suc o ∷ more) w e ∙ not_zero o (advanced s 1))
+    ap (λ o. chained_outcome o (λ _ t. read_zero_octet_outcome t)) (one_front s (suc o ∷ more) w e ∙ not_zero o (advanced_state s 1))
 both_of s (zero ∷ more) w e =
-    ap (λ o. then_ o (λ _ t. read_zero_octet_outcome t)) (one_front s (zero ∷ more) w e) ∙ second s more w (rest_after s (zero ∷ []) more e)
+    ap (λ o. chained_outcome o (λ _ t. read_zero_octet_outcome t)) (one_front s (zero ∷ more) w e) ∙ second s more w (rest_after s (zero ∷ []) more e)
 
 -- the table of the end mark is what its two octets are
-eoc_is : (s : State) → both s ≡ read_eoc_outcome s
+eoc_is : (s : ReaderState) → both s ≡ read_eoc_outcome s
 eoc_is s = go s.failed refl
   where
     go : (f : Bool) → s.failed ≡ f → both s ≡ read_eoc_outcome s
     go true f = rw f refl
     go false f = both_of s (rest s) f refl ∙ rw f refl
 
-through : {s u : State} → Gives read_zero_octet_outcome s (Ok tt) u → both s ≡ read_zero_octet_outcome u
+through : {s u : ReaderState} → Gives read_zero_octet_outcome s (Ok tt) u → both s ≡ read_zero_octet_outcome u
 through {s} {u} h =
-    ap (λ x. follow x (read_zero_octet_outcome s).after (λ _ t. read_zero_octet_outcome t)) (sym h.answered)
-    ∙ ap (λ x. follow {A = Unit {0}} (Ok tt) x (λ _ t. read_zero_octet_outcome t)) (sym h.leaves)
+    ap (λ x. outcome_following x (read_zero_octet_outcome s).after (λ _ t. read_zero_octet_outcome t)) (sym h.answered)
+    ∙ ap (λ x. outcome_following {A = Unit {0}} (Ok tt) x (λ _ t. read_zero_octet_outcome t)) (sym h.leaves)
 
-from_both : {s t : State} {r : Result (Unit {0}) Error} → Gives both s r t → Gives read_eoc_outcome s r t
+from_both : {s t : ReaderState} {r : Result (Unit {0}) Error} → Gives both s r t → Gives read_eoc_outcome s r t
 from_both {s} h = record { answered = h.answered ∙ ap (λ o. o.answer) (eoc_is s); leaves = h.leaves ∙ ap (λ o. o.after) (eoc_is s) }
 
-then_gives : {s u t : State} {r : Result (Unit {0}) Error} → Gives read_zero_octet_outcome s (Ok tt) u → Gives read_zero_octet_outcome u r t → Gives read_eoc_outcome s r t
+then_gives : {s u t : ReaderState} {r : Result (Unit {0}) Error} → Gives read_zero_octet_outcome s (Ok tt) u → Gives read_zero_octet_outcome u r t → Gives read_eoc_outcome s r t
 then_gives h g =
     from_both (record { answered = g.answered ∙ ap (λ o. o.answer) (sym (through h)); leaves = g.leaves ∙ ap (λ o. o.after) (sym (through h)) })
 
 -- the second octet follows the first
-pub eoc_read : (reliable : Bool) {s u : State} (t : State) (r : Result (Unit {0}) Error) → Gives read_zero_octet_outcome s (Ok tt) u → Meets reliable read_zero_octet_outcome u r t
+pub eoc_read : (reliable : Bool) {s u : ReaderState} (t : ReaderState) (r : Result (Unit {0}) Error) → Gives read_zero_octet_outcome s (Ok tt) u → Meets reliable read_zero_octet_outcome u r t
     → Meets reliable read_eoc_outcome s r t
 eoc_read reliable t (Ok v) h g = then_gives h g
 eoc_read reliable t (Err e) h g = λ owed. then_gives h (g owed)
 
 -- or the first is refused
-pub eoc_refused : {s t : State} {e : Error} → Gives read_zero_octet_outcome s (Err e) t → Gives read_eoc_outcome s (Err e) t
+pub eoc_refused : {s t : ReaderState} {e : Error} → Gives read_zero_octet_outcome s (Err e) t → Gives read_eoc_outcome s (Err e) t
 eoc_refused {s} {t} {e} h =
-    let over : both s ≡ follow {A = Unit {0}} (Err e) t (λ _ t. read_zero_octet_outcome t) =
-    ap (λ x. follow x (read_zero_octet_outcome s).after (λ _ t. read_zero_octet_outcome t)) (sym h.answered) ∙ ap (λ x. follow {A = Unit {0}} (Err e) x (λ _ t. read_zero_octet_outcome t)) (sym h.leaves) in
+    let over : both s ≡ outcome_following {A = Unit {0}} (Err e) t (λ _ t. read_zero_octet_outcome t) =
+    ap (λ x. outcome_following x (read_zero_octet_outcome s).after (λ _ t. read_zero_octet_outcome t)) (sym h.answered) ∙ ap (λ x. outcome_following {A = Unit {0}} (Err e) x (λ _ t. read_zero_octet_outcome t)) (sym h.leaves) in
     from_both (record { answered = ap (λ o. o.answer) (sym over); leaves = ap (λ o. o.after) (sym over) })

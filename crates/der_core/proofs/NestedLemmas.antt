@@ -6,24 +6,24 @@ use Rattle.der_base.specs.declared.tag.Tag.{Tag}
 use Rattle.der_base.specs.declared.tag.Tag.TheVariants.{Sequence}
 use Rattle.der_base.proofs.TagLemmas.{same_label}
 use Rattle.der_base.specs.Error.{at, unexpected_tag}
-use Rattle.der_base.specs.Length.{number, flagged, plain}
+use Rattle.der_base.specs.Length.{number, is_indefinite, definite_length}
 use Rattle.der_base.specs.declared.length.Length.{Length}
 use Rattle.der_base.specs.declared.error.Error.{Error}
 use Rattle.der_base.specs.declared.error.ErrorKind.TheVariants.{TrailingData}
-use Rattle.der_core.specs.State.{State, here, inside, resumed, stopped, Sound, Same}
+use Rattle.der_core.specs.ReaderState.{ReaderState, reader_position, nested_state, resumed_state, stopped_state, IsSound, Same}
 use Rattle.der_core.specs.Outcome.{Gives}
 use Rattle.der_core.proofs.StateLemmas.{same_trans}
 use Rattle.der_core.specs.Reader.{enter_nested_outcome}
 use Rattle.der_core.specs.Nested.{CanNest, CanLeave, Closes, left_over, whole, NestedAnswers, entered, ClosesValue, ValueAnswers, opened, not_opened}
 
 -- what entering gives: the part, and what to go back to
-pub record Entered (s : State) (n : ℕ) (e d : ℕ) (t : State) : Type 0 where
+pub record Entered (s : ReaderState) (n : ℕ) (e d : ℕ) (t : ReaderState) : Type 0 where
   pub can : CanNest s n
-  pub state : t ≡ inside s n
+  pub state : t ≡ nested_state s n
   pub outer_end : e ≡ s.end
   pub outer_depth : d ≡ s.depth
 
-pub enter_ok : {s t : State} {n end depth : ℕ} → Gives (enter_nested_outcome n) s (Ok (end, depth)) t → Entered s n end depth t
+pub enter_ok : {s t : ReaderState} {n end depth : ℕ} → Gives (enter_nested_outcome n) s (Ok (end, depth)) t → Entered s n end depth t
 enter_ok {s} {t} {n} {end = e} {depth = d} h = go (nat_lt (s.position + n) (2 ^ 32)) (nat_lt s.end (s.position + n)) (nat_lt s.depth 64) refl refl refl
   where
     go : (x y z : Bool) → nat_lt (s.position + n) (2 ^ 32) ≡ x → nat_lt s.end (s.position + n) ≡ y → nat_lt s.depth 64 ≡ z → Entered s n e d t
@@ -35,14 +35,14 @@ enter_ok {s} {t} {n} {end = e} {depth = d} h = go (nat_lt (s.position + n) (2 ^ 
         let l = h.leaves in
         record { can = (grind arith, grind arith); state = grind arith; outer_end = grind arith; outer_depth = grind arith }
 
-pub entered_at : {s t : State} {of l : Length} {end depth : ℕ} → l ≡ of → Entered s (number l) end depth t → Entered s (number of) end depth t
+pub entered_at : {s t : ReaderState} {of l : Length} {end depth : ℕ} → l ≡ of → Entered s (number l) end depth t → Entered s (number of) end depth t
 entered_at {s} {t} {end = e} {depth = d} same h = subst (λ x. Entered s (number x) e d t) same h
 
 -- a part that a closure hands back can be left
-pub can_leave : {s t u : State} {n end depth : ℕ} → Entered s n end depth t → Sound s → Same t u → CanLeave u end depth
+pub can_leave : {s t u : ReaderState} {n end depth : ℕ} → Entered s n end depth t → IsSound s → Same t u → CanLeave u end depth
 can_leave {s} {t} {u} {n} {end = e} {depth = d} h sound same =
-    let limit : t.end ≡ s.position + n = ap (λ (x : State). x.end) h.state in
-    let input : t.input ≡ s.input = ap (λ (x : State). x.input) h.state in
+    let limit : t.end ≡ s.position + n = ap (λ (x : ReaderState). x.end) h.state in
+    let input : t.input ≡ s.input = ap (λ (x : ReaderState). x.input) h.state in
     record {
       passed = omega (arith, same.within, same.end, h.can.0, h.outer_end, limit);
       in_input = omega (arith, sound.in_input, h.outer_end, ap length same.input, ap length input);
@@ -50,69 +50,69 @@ can_leave {s} {t} {u} {n} {end = e} {depth = d} h sound same =
     }
 
 -- the same reader is handed back behind a part
-pub same_behind : {s t u : State} {n end depth : ℕ} → Entered s n end depth t → Same t u → Same s (resumed u end depth)
+pub same_behind : {s t u : ReaderState} {n end depth : ℕ} → Entered s n end depth t → Same t u → Same s (resumed_state u end depth)
 same_behind {s} {t} {u} {n} {end = e} {depth = d} h same =
     let state = h.state in
-    let limit : t.end ≡ s.position + n = ap (λ (x : State). x.end) h.state in
+    let limit : t.end ≡ s.position + n = ap (λ (x : ReaderState). x.end) h.state in
     record {
-      input = same.input ∙ ap (λ (x : State). x.input) h.state;
-      rules = same.rules ∙ ap (λ (x : State). x.rules) h.state;
+      input = same.input ∙ ap (λ (x : ReaderState). x.input) h.state;
+      rules = same.rules ∙ ap (λ (x : ReaderState). x.rules) h.state;
       end = h.outer_end;
       depth = h.outer_depth;
-      marks = same.marks ∙ ap (λ (x : State). x.marks) h.state;
-      forward = omega (arith, same.forward, ap (λ (x : State). x.position) h.state);
+      marks = same.marks ∙ ap (λ (x : ReaderState). x.marks) h.state;
+      forward = omega (arith, same.forward, ap (λ (x : ReaderState). x.position) h.state);
       within = omega (arith, same.within, same.end, h.can.0, h.outer_end, limit);
-      failed = λ f. same.failed (subst IsTrue (sym (ap (λ (x : State). x.failed) h.state)) f);
+      failed = λ f. same.failed (subst IsTrue (sym (ap (λ (x : ReaderState). x.failed) h.state)) f);
     }
 
 -- a part that is closed leaves the same reader
-pub same_closed : {s t u v : State} {n end depth : ℕ} → Entered s n end depth t → Same t u → Same (resumed u end depth) v → Same s v
+pub same_closed : {s t u v : ReaderState} {n end depth : ℕ} → Entered s n end depth t → Same t u → Same (resumed_state u end depth) v → Same s v
 same_closed way same closed = same_trans (same_behind way same) closed
 
 -- octets that were left, told as the code tells them
-module _ {T E : Type 0} {converts : Error → E → Type 0} {answer result : Result T E} (s u : State) {end depth : ℕ} (zero : Bool) (left : Length) (v : T) where
-  pub close_left_over : (t : State) (e : E) (x : Error) (position : Length) → answer ≡ Ok v → u ≡ resumed s end depth → left ≡ plain (s.end - s.position)
-      → (number left ≡ 0 → IsTrue zero) → zero ≡ false → position ≡ here u → x ≡ at (TrailingData position left) (here u) → t ≡ stopped u u.position → converts x e
+module _ {T E : Type 0} {converts : Error → E → Type 0} {answer result : Result T E} (s u : ReaderState) {end depth : ℕ} (zero : Bool) (left : Length) (v : T) where
+  pub close_left_over : (t : ReaderState) (e : E) (x : Error) (position : Length) → answer ≡ Ok v → u ≡ resumed_state s end depth → left ≡ definite_length (s.end - s.position)
+      → (number left ≡ 0 → IsTrue zero) → zero ≡ false → position ≡ reader_position u → x ≡ at (TrailingData position left) (reader_position u) → t ≡ stopped_state u u.position → converts x e
       → result ≡ Err e → Closes converts answer s end depth result t
   close_left_over t e x position is leaves l f z p told stopped_at converted q =
-      let here_is : here u ≡ here s = ap here leaves in
+      let here_is : reader_position u ≡ reader_position s = ap reader_position leaves in
       let some : s.end - s.position ≢ 0 = λ none. (let w : false ≡ true = sym z ∙ f (ap number l ∙ none) in cc) in
-      let same : x ≡ at (TrailingData (here s) (plain (s.end - s.position))) (here s) =
-      told ∙ ap (λ k. at (TrailingData k left) (here u)) (p ∙ here_is) ∙ ap (λ k. at (TrailingData (here s) k) (here u)) l
-      ∙ ap (λ k. at (TrailingData (here s) (plain (s.end - s.position))) k) here_is in
-      left_over v e is (omega arith) (subst (λ y. converts y e) same converted) q (stopped_at ∙ ap (λ x. stopped x x.position) leaves)
+      let same : x ≡ at (TrailingData (reader_position s) (definite_length (s.end - s.position))) (reader_position s) =
+      told ∙ ap (λ k. at (TrailingData k left) (reader_position u)) (p ∙ here_is) ∙ ap (λ k. at (TrailingData (reader_position s) k) (reader_position u)) l
+      ∙ ap (λ k. at (TrailingData (reader_position s) (definite_length (s.end - s.position))) k) here_is in
+      left_over v e is (omega arith) (subst (λ y. converts y e) same converted) q (stopped_at ∙ ap (λ x. stopped_state x x.position) leaves)
 
-  pub close_whole : s.position ≤ s.end → answer ≡ Ok v → u ≡ resumed s end depth → left ≡ plain (s.end - s.position) → (IsTrue zero → number left ≡ 0) → zero ≡ true
+  pub close_whole : s.position ≤ s.end → answer ≡ Ok v → u ≡ resumed_state s end depth → left ≡ definite_length (s.end - s.position) → (IsTrue zero → number left ≡ 0) → zero ≡ true
       → result ≡ Ok v → Closes converts answer s end depth result u
   close_whole ordered is leaves l f z q =
       let none : s.end - s.position ≡ 0 = sym (ap number l) ∙ f z in
       whole v is (omega arith) q leaves
 
 -- what a closure made of a part, in the end
-pub nested_entered : {P Q T E : Type 0} {converts : Error → E → Type 0} {post : P → Result T E → Q → Type 0} {before : P → State} {after : Q → State} (s : State) {n : ℕ} {end depth : ℕ}
-    {inner t : State} (p : P) (answer : Result T E) (q : Q) (closed result : Result T E) → Entered s n end depth inner → before p ≡ inner → post p answer q
+pub nested_entered : {P Q T E : Type 0} {converts : Error → E → Type 0} {post : P → Result T E → Q → Type 0} {before : P → ReaderState} {after : Q → ReaderState} (s : ReaderState) {n : ℕ} {end depth : ℕ}
+    {inner t : ReaderState} (p : P) (answer : Result T E) (q : Q) (closed result : Result T E) → Entered s n end depth inner → before p ≡ inner → post p answer q
     → Closes converts answer (after q) end depth closed t → result ≡ closed → NestedAnswers converts post before after n s result t
-nested_entered {converts = converts} {post = post} {before = before} {after = after} s {n} {depth = depth} {t = t} p answer q closed result way here ran closes e =
+nested_entered {converts = converts} {post = post} {before = before} {after = after} s {n} {depth = depth} {t = t} p answer q closed result way reader_position ran closes e =
     let same_end = subst (λ x. Closes converts answer (after q) x depth closed t) way.outer_end closes in
     let same_depth = subst (λ x. Closes converts answer (after q) s.end x closed t) way.outer_depth same_end in
-    entered p answer q way.can (here ∙ way.state) ran (subst (λ r. Closes converts answer (after q) s.end s.depth r t) (sym e) same_depth)
+    entered p answer q way.can (reader_position ∙ way.state) ran (subst (λ r. Closes converts answer (after q) s.end s.depth r t) (sym e) same_depth)
 
 -- what a closure made of the contents of a length, in the end
-pub value_opened : {P Q T E : Type 0} {converts : Error → E → Type 0} {post : P → Result T E → Q → Type 0} {before : P → State} {after : Q → State} (s : State) {end depth : ℕ}
-    {inner t : State} (of l : Length) (p : P) (answer : Result T E) (q : Q) (result : Result T E) → Entered s (number l) end depth inner → before p ≡ inner → post p answer q
-    → l ≡ of → ClosesValue converts answer (after q) end depth (flagged l) result t → ValueAnswers converts post before after of s result t
+pub value_opened : {P Q T E : Type 0} {converts : Error → E → Type 0} {post : P → Result T E → Q → Type 0} {before : P → ReaderState} {after : Q → ReaderState} (s : ReaderState) {end depth : ℕ}
+    {inner t : ReaderState} (of l : Length) (p : P) (answer : Result T E) (q : Q) (result : Result T E) → Entered s (number l) end depth inner → before p ≡ inner → post p answer q
+    → l ≡ of → ClosesValue converts answer (after q) end depth (is_indefinite l) result t → ValueAnswers converts post before after of s result t
 value_opened {converts = converts} {after = after} s {depth = depth} {t = t} of l p answer q result way there ran e closes =
-    let same_end = subst (λ x. ClosesValue converts answer (after q) x depth (flagged l) result t) way.outer_end closes in
-    let same_depth = subst (λ x. ClosesValue converts answer (after q) s.end x (flagged l) result t) way.outer_depth same_end in
-    opened p answer q (subst (λ x. CanNest s (number x)) e way.can) (there ∙ way.state ∙ ap (λ x. inside s (number x)) e) ran
-    (subst (λ x. ClosesValue converts answer (after q) s.end s.depth (flagged x) result t) e same_depth)
+    let same_end = subst (λ x. ClosesValue converts answer (after q) x depth (is_indefinite l) result t) way.outer_end closes in
+    let same_depth = subst (λ x. ClosesValue converts answer (after q) s.end x (is_indefinite l) result t) way.outer_depth same_end in
+    opened p answer q (subst (λ x. CanNest s (number x)) e way.can) (there ∙ way.state ∙ ap (λ x. nested_state s (number x)) e) ran
+    (subst (λ x. ClosesValue converts answer (after q) s.end s.depth (is_indefinite x) result t) e same_depth)
 
-pub value_not_opened : {P Q T E : Type 0} {converts : Error → E → Type 0} {post : P → Result T E → Q → Type 0} {before : P → State} {after : Q → State} (s t : State) (of l : Length) (e : Error)
+pub value_not_opened : {P Q T E : Type 0} {converts : Error → E → Type 0} {post : P → Result T E → Q → Type 0} {before : P → ReaderState} {after : Q → ReaderState} (s t : ReaderState) (of l : Length) (e : Error)
     (f : E) → l ≡ of → Gives (enter_nested_outcome (number l)) s (Err e) t → converts e f → ValueAnswers converts post before after of s (Err f) t
 value_not_opened s t of l e f same h told = not_opened e f (subst (λ x. Gives (enter_nested_outcome (number x)) s (Err e) t) same h) told refl
 
 -- contents of a length that is told otherwise
-pub value_at : {P Q T E : Type 0} {converts : Error → E → Type 0} {post : P → Result T E → Q → Type 0} {before : P → State} {after : Q → State} {s t : State} {of l : Length}
+pub value_at : {P Q T E : Type 0} {converts : Error → E → Type 0} {post : P → Result T E → Q → Type 0} {before : P → ReaderState} {after : Q → ReaderState} {s t : ReaderState} {of l : Length}
     {result : Result T E} → l ≡ of → ValueAnswers converts post before after l s result t → ValueAnswers converts post before after of s result t
 value_at {converts = converts} {post = post} {before = before} {after = after} {s = s} {t = t} {result = result} e h = subst (λ x. ValueAnswers converts post before after x s result t) e h
 

@@ -1,69 +1,69 @@
 -- What is seen on a fork, and what follows it.
 use Rattle.std.proofs.Common.{◌≡◌, ℕ, ◌+◌, ◌-◌, ◌^◌, ◌<◌, ◌≤◌, Bool, true, false, Result, Ok, Err, IfOk, List, refl, sym, ap, ◌∙◌, subst, ⊎_elim, arith}
 use Rattle.std.proofs.lemmas.Bool.{lt-ltb, le-ltb, cases_lt}
-use Rattle.der_base.specs.Error.{bare}
-use Rattle.der_base.specs.Length.{number, plain}
+use Rattle.der_base.specs.Error.{error_of_kind}
+use Rattle.der_base.specs.Length.{number, definite_length}
 use Rattle.der_base.specs.Refusal.{Refusal}
 use Rattle.der_base.specs.declared.length.Length.{Length}
 use Rattle.der_base.specs.declared.error.Error.{Error}
 use Rattle.der_base.specs.declared.error.ErrorKind.TheVariants.{Overflow}
 use Rattle.der_base.specs.declared.encoding_rules.EncodingRules.{EncodingRules}
 use Rattle.der_base.specs.declared.encoding_rules.EncodingRules.TheVariants.{Der}
-use Rattle.der_core.specs.State.{State, rest}
-use Rattle.der_base.specs.Arithmetic.{counted}
-use Rattle.der_core.specs.Outcome.{Outcome, Gives, Meets, Owed, seen}
+use Rattle.der_core.specs.ReaderState.{ReaderState, rest}
+use Rattle.der_base.specs.Arithmetic.{checked_length}
+use Rattle.der_core.specs.Outcome.{Outcome, Gives, Meets, IsBinding, map_ok}
 use Rattle.der_core.specs.Reader.{read_slice_outcome, tlv_outcome}
-use Rattle.der_core.specs.Refused.{Refused}
+use Rattle.der_core.specs.Refused.{IsRefusedBy}
 use Rattle.der_core.specs.Header.{head_of}
-use Rattle.der_core.specs.Decode.{Passed, GrammarAnswers, Peeks, TlvAnswers, with_header, header_ahead}
+use Rattle.der_core.specs.Decode.{Passes, GrammarAnswers, Peeks, TlvAnswers, with_header, IsHeaderAhead}
 use Rattle.der_core.specs.declared.header.Header.{Header}
 
-module _ {A : Type 0} (Ahead : EncodingRules → List ℕ → A → ℕ → Type 0) (Fault : EncodingRules → ℕ → List ℕ → Refusal → Type 0) (s f t : State) where
-  peeks_ok : (v : A) → f ≡ s → Passed (λ rules octets m. Ahead rules octets v m) f t → Peeks Ahead Fault s (Ok v)
-  peeks_ok v same h = (t, subst (λ x. Passed (λ rules octets m. Ahead rules octets v m) x t) same h)
+module _ {A : Type 0} (Ahead : EncodingRules → List ℕ → A → ℕ → Type 0) (Fault : EncodingRules → ℕ → List ℕ → Refusal → Type 0) (s f t : ReaderState) where
+  peeks_ok : (v : A) → f ≡ s → Passes (λ rules octets m. Ahead rules octets v m) f t → Peeks Ahead Fault s (Ok v)
+  peeks_ok v same h = (t, subst (λ x. Passes (λ rules octets m. Ahead rules octets v m) x t) same h)
 
-  pub peeks_err : (e : Error) → f ≡ s → (f.rules ≡ Der → Refused Fault f e t) → Peeks Ahead Fault s (Err e)
-  peeks_err e same h = (t, subst (λ x. x.rules ≡ Der → Refused Fault x e t) same h)
+  pub peeks_err : (e : Error) → f ≡ s → (f.rules ≡ Der → IsRefusedBy Fault f e t) → Peeks Ahead Fault s (Err e)
+  peeks_err e same h = (t, subst (λ x. x.rules ≡ Der → IsRefusedBy Fault x e t) same h)
 
-  pub peeks : (reliable : Bool) (r : Result A Error) → f ≡ s → IfOk r (λ v. Passed (λ rules octets m. Ahead rules octets v m) f t) → (reliable ≡ true → GrammarAnswers Ahead Fault f r t)
-      → Owed reliable r → Peeks Ahead Fault s r
+  pub peeks : (reliable : Bool) (r : Result A Error) → f ≡ s → IfOk r (λ v. Passes (λ rules octets m. Ahead rules octets v m) f t) → (reliable ≡ true → GrammarAnswers Ahead Fault f r t)
+      → IsBinding reliable r → Peeks Ahead Fault s r
   peeks reliable (Ok v) same ok exact owed = peeks_ok v same ok
   peeks reliable (Err e) same ok exact owed = peeks_err e same (exact owed)
 
 -- whole elements
-tlv_near : (n : ℕ) (s : State) → n < 2 ^ 32 → tlv_outcome n s ≡ read_slice_outcome n s
+tlv_near : (n : ℕ) (s : ReaderState) → n < 2 ^ 32 → tlv_outcome n s ≡ read_slice_outcome n s
 tlv_near n s l = rw (lt-ltb n (2 ^ 32) l) refl
 
-module _ (s f t : State) (h : Header) (same : f ≡ s) (p : Passed (λ rules octets m. header_ahead rules octets h m) f t) where
-  here : header_ahead s.rules (rest s) h p.octets
-  here = subst (λ x. header_ahead x.rules (rest x) h p.octets) same p.ahead
+module _ (s f t : ReaderState) (h : Header) (same : f ≡ s) (p : Passes (λ rules octets m. IsHeaderAhead rules octets h m) f t) where
+  here : IsHeaderAhead s.rules (rest s) h p.octets
+  here = subst (λ x. IsHeaderAhead x.rules (rest x) h p.octets) same p.ahead
 
   working : s.failed ≡ false
-  working = ap (λ (x : State). x.failed) (sym same) ∙ p.working
+  working = ap (λ (x : ReaderState). x.failed) (sym same) ∙ p.working
 
   pub header_octets_are : t.position - s.position ≡ p.octets
-  header_octets_are = omega (arith, ap (λ (x : State). x.position) p.leaves, ap (λ (x : State). x.position) same)
+  header_octets_are = omega (arith, ap (λ (x : ReaderState). x.position) p.leaves, ap (λ (x : ReaderState). x.position) same)
 
-  pub tlv_read : (n : ℕ) (answer : Result (List ℕ) Error) (u : State) → n ≡ p.octets + number (head_of h).length → n < 2 ^ 32 → Gives (read_slice_outcome n) s answer u
+  pub tlv_read : (n : ℕ) (answer : Result (List ℕ) Error) (u : ReaderState) → n ≡ p.octets + number (head_of h).length → n < 2 ^ 32 → Gives (read_slice_outcome n) s answer u
       → TlvAnswers s answer u
   tlv_read n answer u sum small g =
       let near : read_slice_outcome n s ≡ tlv_outcome (p.octets + number (head_of h).length) s = sym (tlv_near n s small) ∙ ap (λ k. tlv_outcome k s) sum in
       with_header h p.octets here working
       (record { answered = g.answered ∙ ap (λ x. x.answer) near; leaves = g.leaves ∙ ap (λ x. x.after) near })
 
-  pub tlv_far : (n : ℕ) (e : Error) → n ≡ p.octets + number (head_of h).length → 2 ^ 32 ≤ n → e ≡ bare Overflow → TlvAnswers s (Err e) s
+  pub tlv_far : (n : ℕ) (e : Error) → n ≡ p.octets + number (head_of h).length → 2 ^ 32 ≤ n → e ≡ error_of_kind Overflow → TlvAnswers s (Err e) s
   tlv_far n e sum far told =
-      let over : tlv_outcome (p.octets + number (head_of h).length) s ≡ record { answer = Err (bare Overflow); after = s } = ap (λ k. tlv_outcome k s) (sym sum) ∙ rw (le-ltb n (2 ^ 32) far) refl in
+      let over : tlv_outcome (p.octets + number (head_of h).length) s ≡ record { answer = Err (error_of_kind Overflow); after = s } = ap (λ k. tlv_outcome k s) (sym sum) ∙ rw (le-ltb n (2 ^ 32) far) refl in
       with_header h p.octets here working (record { answered = ap Err told ∙ sym (ap (λ x. x.answer) over); leaves = sym (ap (λ x. x.after) over) })
 
 -- an answer that is owed gives its table
-pub owed_gives : {A B : Type 0} (reliable : Bool) (f : A → B) (table : State → Outcome B) (s t : State) (r : Result A Error) → Owed reliable r → Meets reliable table s (seen f r) t → Gives table s (seen f r) t
+pub owed_gives : {A B : Type 0} (reliable : Bool) (f : A → B) (table : ReaderState → Outcome B) (s t : ReaderState) (r : Result A Error) → IsBinding reliable r → Meets reliable table s (map_ok f r) t → Gives table s (map_ok f r) t
 owed_gives reliable f table s t (Ok a) owed h = h
 owed_gives reliable f table s t (Err e) owed h = h owed
 
 -- a sum of octets that 32 bits can count, or not
-pub counted_ok : (n : ℕ) (l : Length) → Ok l ≡ counted n → (n < 2 ^ 32) × (l ≡ plain n)
-counted_ok n l h = ⊎_elim (λ small. (small, (let e : Ok l ≡ Ok (plain n) = h ∙ rw (lt-ltb n (2 ^ 32) small) refl in cc))) (λ far. absurd (let e : Ok l ≡ Err (bare Overflow) = h ∙ rw (le-ltb n (2 ^ 32) far) refl in cc)) (cases_lt n (2 ^ 32))
+pub counted_ok : (n : ℕ) (l : Length) → Ok l ≡ checked_length n → (n < 2 ^ 32) × (l ≡ definite_length n)
+counted_ok n l h = ⊎_elim (λ small. (small, (let e : Ok l ≡ Ok (definite_length n) = h ∙ rw (lt-ltb n (2 ^ 32) small) refl in cc))) (λ far. absurd (let e : Ok l ≡ Err (error_of_kind Overflow) = h ∙ rw (le-ltb n (2 ^ 32) far) refl in cc)) (cases_lt n (2 ^ 32))
 
-pub counted_err : (n : ℕ) (e : Error) → Err e ≡ counted n → (2 ^ 32 ≤ n) × (e ≡ bare Overflow)
-counted_err n e h = ⊎_elim (λ small. absurd (let q : Err e ≡ Ok (plain n) = h ∙ rw (lt-ltb n (2 ^ 32) small) refl in cc)) (λ far. (far, (let q : Err e ≡ Err (bare Overflow) = h ∙ rw (le-ltb n (2 ^ 32) far) refl in cc))) (cases_lt n (2 ^ 32))
+pub counted_err : (n : ℕ) (e : Error) → Err e ≡ checked_length n → (2 ^ 32 ≤ n) × (e ≡ error_of_kind Overflow)
+counted_err n e h = ⊎_elim (λ small. absurd (let q : Err e ≡ Ok (definite_length n) = h ∙ rw (lt-ltb n (2 ^ 32) small) refl in cc)) (λ far. (far, (let q : Err e ≡ Err (error_of_kind Overflow) = h ∙ rw (le-ltb n (2 ^ 32) far) refl in cc))) (cases_lt n (2 ^ 32))

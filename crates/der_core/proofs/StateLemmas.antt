@@ -2,54 +2,54 @@
 use Rattle.std.proofs.Common.{◌≡◌, Option, Some, None, ℕ, ◌+◌, ◌-◌, ◌≤◌, Bool, true, false, IsTrue, Ok, Err, List, [], ◌∷◌, ◌++◌, length, take, drop, refl, sym, ap, ◌∙◌, subst, append_assoc, length-append, length-take, length-take-le, length-drop, drop-drop, add-zero, arith}
 use Rattle.std.proofs.lemmas.List.{drop-take}
 use Rattle.der_base.specs.Error.{at}
-use Rattle.der_base.specs.Refusal.{Refusal, refusal, is_far, owed, cut_at, wants}
+use Rattle.der_base.specs.Refusal.{Refusal, refusal, is_far, error_of, end_refusal, missing_refusal}
 use Rattle.der_base.specs.declared.error.Error.{Error}
 use Rattle.der_base.specs.declared.error.ErrorKind.{ErrorKind}
 use Rattle.der_base.specs.declared.error.ErrorKind.TheVariants.{Failed}
-use Rattle.der_core.specs.State.{State, rest, here, advanced, stopped, left, left_at, Sound, Same, Reads}
+use Rattle.der_core.specs.ReaderState.{ReaderState, rest, reader_position, advanced_state, stopped_state, state_after, state_left_at, IsSound, Same, Reads}
 use Rattle.der_core.specs.Outcome.{Gives}
-use Rattle.der_core.specs.Reader.{first_octet, short_outcome, read_byte_outcome}
+use Rattle.der_core.specs.Reader.{next_octet_outcome, short_outcome, read_byte_outcome}
 use Rattle.der_core.specs.Refused.{Stops}
 
-pub reads_none : (s : State) → Reads s s []
+pub reads_none : (s : ReaderState) → Reads s s []
 reads_none s = record { split = refl; state = ap (λ p. record s { position = p }) (sym (add-zero s.position)) }
 
-pub reads_on : {a b c : State} {x y : List ℕ} → Reads a b x → Reads b c y → Reads a c (x ++ y)
+pub reads_on : {a b c : ReaderState} {x y : List ℕ} → Reads a b x → Reads b c y → Reads a c (x ++ y)
 reads_on {a} {b} {c} {x} {y} h g =
     let sum : a.position + length x + length y ≡ a.position + length (x ++ y) = omega (arith, length-append x y) in
     record {
       split = h.split ∙ ap (λ l. x ++ l) g.split ∙ sym (append_assoc x y (rest c));
-      state = g.state ∙ ap (λ s. advanced s (length y)) h.state ∙ ap (λ p. record a { position = p }) sum;
+      state = g.state ∙ ap (λ s. advanced_state s (length y)) h.state ∙ ap (λ p. record a { position = p }) sum;
     }
 
-pub position_on : {a b : State} {x : List ℕ} → Reads a b x → b.position ≡ a.position + length x
-position_on h = ap (λ (s : State). s.position) h.state
+pub position_on : {a b : ReaderState} {x : List ℕ} → Reads a b x → b.position ≡ a.position + length x
+position_on h = ap (λ (s : ReaderState). s.position) h.state
 
-pub failed_on : {a b : State} {x : List ℕ} → Reads a b x → b.failed ≡ a.failed
-failed_on h = ap (λ (s : State). s.failed) h.state
+pub failed_on : {a b : ReaderState} {x : List ℕ} → Reads a b x → b.failed ≡ a.failed
+failed_on h = ap (λ (s : ReaderState). s.failed) h.state
 
-pub rules_on : {a b : State} {x : List ℕ} → Reads a b x → b.rules ≡ a.rules
-rules_on h = ap (λ (s : State). s.rules) h.state
+pub rules_on : {a b : ReaderState} {x : List ℕ} → Reads a b x → b.rules ≡ a.rules
+rules_on h = ap (λ (s : ReaderState). s.rules) h.state
 
-left_as_on : (far : Bool) (seen_from : Option ℕ) (position : ℕ) (a : State) (n : ℕ) → left_at (advanced a n) far position seen_from ≡ left_at a far position seen_from
+left_as_on : (far : Bool) (seen_from : Option ℕ) (position : ℕ) (a : ReaderState) (n : ℕ) → state_left_at (advanced_state a n) far position seen_from ≡ state_left_at a far position seen_from
 left_as_on far (Some from) p a n = refl
 left_as_on true None p a n = refl
 left_as_on false None p a n = refl
 
-pub left_on : {a b : State} {x : List ℕ} → Reads a b x → (r : Refusal) → left b r ≡ left a r
-left_on {a} {b} {x} h r = ap (λ s. left s r) h.state ∙ left_as_on (is_far r.reason) r.seen_from r.position a (length x)
+pub left_on : {a b : ReaderState} {x : List ℕ} → Reads a b x → (r : Refusal) → state_after b r ≡ state_after a r
+left_on {a} {b} {x} h r = ap (λ s. state_after s r) h.state ∙ left_as_on (is_far r.reason) r.seen_from r.position a (length x)
 
-pub stops_on : {a b t : State} {x : List ℕ} {r : Refusal} {e : Error} → Reads a b x → Stops b r e t → Stops a r e t
+pub stops_on : {a b t : ReaderState} {x : List ℕ} {r : Refusal} {e : Error} → Reads a b x → Stops b r e t → Stops a r e t
 stops_on {r = r} h g = record { told = g.told; leaves = g.leaves ∙ left_on h r }
 
 -- what `error` answers
-pub error_stops : (s t : State) (k : ErrorKind) (e : Error) → e ≡ at k (here s) → t ≡ stopped s s.position → Stops s (refusal k s.position) e t
+pub error_stops : (s t : ReaderState) (k : ErrorKind) (e : Error) → e ≡ at k (reader_position s) → t ≡ stopped_state s s.position → Stops s (refusal k s.position) e t
 error_stops s t k e told leaves = record { told = told; leaves = leaves }
 
 true_at : {b c : Bool} → c ≡ b → IsTrue b → IsTrue c
 true_at e h = subst IsTrue (sym e) h
 
-pub same_trans : {a b c : State} → Same a b → Same b c → Same a c
+pub same_trans : {a b c : ReaderState} → Same a b → Same b c → Same a c
 same_trans p q =
     record {
       input = q.input ∙ p.input;
@@ -62,10 +62,10 @@ same_trans p q =
       failed = λ f. q.failed (p.failed f);
     }
 
-pub same_here : (s : State) → Sound s → Same s s
+pub same_here : (s : ReaderState) → IsSound s → Same s s
 same_here s sound = record { input = refl; rules = refl; end = refl; depth = refl; marks = refl; forward = omega arith; within = sound.ordered; failed = λ f. f }
 
-pub length-rest : (s : State) → Sound s → length (rest s) ≡ s.end - s.position
+pub length-rest : (s : ReaderState) → IsSound s → length (rest s) ≡ s.end - s.position
 length-rest s h = length-take-le (s.end - s.position) (drop s.position s.input) (omega (arith, length-drop s.position s.input, h.in_input))
 
 drop-span : (n m p : ℕ) (xs : List ℕ) → n ≤ m → drop n (take m (drop p xs)) ≡ take (m - n) (drop (p + n) xs)
@@ -74,7 +74,7 @@ drop-span n m p xs h =
     ap (λ k. drop n (take k (drop p xs))) e ∙ (drop-take n (m - n) (drop p xs) ∙ ap (λ ys. take (m - n) ys) (drop-drop n p xs))
 
 -- behind the next octets stands what was behind them
-pub rest_after : (s : State) (x more : List ℕ) → rest s ≡ x ++ more → rest (advanced s (length x)) ≡ more
+pub rest_after : (s : ReaderState) (x more : List ℕ) → rest s ≡ x ++ more → rest (advanced_state s (length x)) ≡ more
 rest_after s x more e =
     let long : length x ≤ s.end - s.position = omega (arith, length-take (s.end - s.position) (drop s.position s.input), ap length e, length-append x more) in
     let less : s.end - (s.position + length x) ≡ (s.end - s.position) - length x = omega arith in
@@ -84,53 +84,53 @@ rest_after s x more e =
     drop_append [] ys = refl
     drop_append (z ∷ zs) ys = drop_append zs ys
 
-pub reads_front : (s : State) (x more : List ℕ) → rest s ≡ x ++ more → Reads s (advanced s (length x)) x
+pub reads_front : (s : ReaderState) (x more : List ℕ) → rest s ≡ x ++ more → Reads s (advanced_state s (length x)) x
 reads_front s x more e = record { split = e ∙ ap (λ l. x ++ l) (sym (rest_after s x more e)); state = refl }
 
 -- the next octet
-first_read : (s t : State) (o : ℕ) (q : List ℕ) → rest s ≡ q → Gives (λ x. first_octet x q) s (Ok o) t → Reads s t (o ∷ [])
+first_read : (s t : ReaderState) (o : ℕ) (q : List ℕ) → rest s ≡ q → Gives (λ x. next_octet_outcome x q) s (Ok o) t → Reads s t (o ∷ [])
 first_read s t o [] e h = absurd (let no = h.answered in grind arith)
 first_read s t o (p ∷ more) e h =
     let same : p ≡ o = (let a = h.answered in cc) in
     subst (λ x. Reads s x (o ∷ [])) (sym h.leaves) (reads_front s (o ∷ []) more (e ∙ ap (λ x. x ∷ more) same))
 
-first_refused : (s t : State) (e : Error) (q : List ℕ) → Gives (λ x. first_octet x q) s (Err e) t → (q ≡ []) × Gives (λ x. short_outcome ℕ x 1) s (Err e) t
+first_refused : (s t : ReaderState) (e : Error) (q : List ℕ) → Gives (λ x. next_octet_outcome x q) s (Err e) t → (q ≡ []) × Gives (λ x. short_outcome ℕ x 1) s (Err e) t
 first_refused s t e [] h = (refl, record { answered = h.answered; leaves = h.leaves })
 first_refused s t e (p ∷ more) h = absurd (let no = h.answered in cc)
 
-pub by_front : (s : State) → s.failed ≡ false → read_byte_outcome s ≡ first_octet s (rest s)
+pub by_front : (s : ReaderState) → s.failed ≡ false → read_byte_outcome s ≡ next_octet_outcome s (rest s)
 by_front s w = grind arith
 
-pub byte_working : (s t : State) (o : ℕ) → Gives read_byte_outcome s (Ok o) t → s.failed ≡ false
+pub byte_working : (s t : ReaderState) (o : ℕ) → Gives read_byte_outcome s (Ok o) t → s.failed ≡ false
 byte_working s t o h = grind arith
 
-pub byte_read : {s t : State} {o : ℕ} → Gives read_byte_outcome s (Ok o) t → Reads s t (o ∷ [])
+pub byte_read : {s t : ReaderState} {o : ℕ} → Gives read_byte_outcome s (Ok o) t → Reads s t (o ∷ [])
 byte_read {s} {t} {o} h =
     let front = by_front s (byte_working s t o h) in
     first_read s t o (rest s) refl (record { answered = h.answered ∙ ap (λ x. x.answer) front; leaves = h.leaves ∙ ap (λ x. x.after) front })
 
 -- a read of one octet is refused on a failed reader, which stays, and at the end
-pub data ByteRefused (s : State) (e : Error) (t : State) : Type 0 where
-  byte_failed : s.failed ≡ true → e ≡ at Failed (here s) → t ≡ s → ByteRefused s e t
-  byte_cut : s.failed ≡ false → rest s ≡ [] → Stops s (cut_at s.position) e t → ByteRefused s e t
+pub data ByteRefused (s : ReaderState) (e : Error) (t : ReaderState) : Type 0 where
+  byte_failed : s.failed ≡ true → e ≡ at Failed (reader_position s) → t ≡ s → ByteRefused s e t
+  byte_cut : s.failed ≡ false → rest s ≡ [] → Stops s (end_refusal s.position) e t → ByteRefused s e t
 
-cut_here : (s t : State) (e : Error) → Sound s → rest s ≡ [] → Gives (λ x. short_outcome ℕ x 1) s (Err e) t → Stops s (cut_at s.position) e t
+cut_here : (s t : ReaderState) (e : Error) → IsSound s → rest s ≡ [] → Gives (λ x. short_outcome ℕ x 1) s (Err e) t → Stops s (end_refusal s.position) e t
 cut_here s t e sound none h =
     let end : s.end ≡ s.position = omega (arith, length-rest s sound, ap length none, sound.ordered) in
-    let same : wants (s.position + 1) s.end s.position ≡ cut_at s.position = ap (λ n. wants (s.position + 1) n s.position) end in
-    let told : e ≡ owed (wants (s.position + 1) s.end s.position) = (let a = h.answered in cc) in
-    record { told = told ∙ ap owed same; leaves = h.leaves ∙ ap (left s) same }
+    let same : missing_refusal (s.position + 1) s.end s.position ≡ end_refusal s.position = ap (λ n. missing_refusal (s.position + 1) n s.position) end in
+    let told : e ≡ error_of (missing_refusal (s.position + 1) s.end s.position) = (let a = h.answered in cc) in
+    record { told = told ∙ ap error_of same; leaves = h.leaves ∙ ap (state_after s) same }
 
-refused_as : (s t : State) (e : Error) (failed : Bool) → s.failed ≡ failed → Sound s → Gives read_byte_outcome s (Err e) t → ByteRefused s e t
+refused_as : (s t : ReaderState) (e : Error) (failed : Bool) → s.failed ≡ failed → IsSound s → Gives read_byte_outcome s (Err e) t → ByteRefused s e t
 refused_as s t e true f sound h = byte_failed f (let a = h.answered in grind arith) (let l = h.leaves in grind arith)
 refused_as s t e false f sound h =
     let front = by_front s f in
     let r = first_refused s t e (rest s) (record { answered = h.answered ∙ ap (λ x. x.answer) front; leaves = h.leaves ∙ ap (λ x. x.after) front }) in
     byte_cut f r.0 (cut_here s t e sound r.0 r.1)
 
-pub byte_refused : {s t : State} {e : Error} → Sound s → Gives read_byte_outcome s (Err e) t → ByteRefused s e t
+pub byte_refused : {s t : ReaderState} {e : Error} → IsSound s → Gives read_byte_outcome s (Err e) t → ByteRefused s e t
 byte_refused {s} {t} {e} sound h = refused_as s t e s.failed refl sound h
 
-pub cut_refused : {s t : State} {e : Error} → s.failed ≡ false → ByteRefused s e t → (rest s ≡ []) × Stops s (cut_at s.position) e t
+pub cut_refused : {s t : ReaderState} {e : Error} → s.failed ≡ false → ByteRefused s e t → (rest s ≡ []) × Stops s (end_refusal s.position) e t
 cut_refused w (byte_failed f told leaves) = absurd (let no : false ≡ true = sym w ∙ f in cc)
 cut_refused w (byte_cut f none stops) = (none, stops)

@@ -4,26 +4,26 @@ use Rattle.std.specs.Borrow.{MutBor}
 use Rattle.std.proofs.lemmas.List.{take-take}
 use Rattle.std.proofs.lemmas.Bool.Decides.{nat_tests}
 use Rattle.der_base.specs.Error.{at}
-use Rattle.der_base.specs.Length.{plain}
+use Rattle.der_base.specs.Length.{definite_length}
 use Rattle.der_base.specs.declared.error.Error.{Error}
 use Rattle.der_base.specs.declared.error.ErrorKind.{ErrorKind}
 use Rattle.der_base.specs.declared.error.ErrorKind.TheVariants.{Failed, Length as IncorrectLength}
 use Rattle.der_base.specs.declared.tag.Tag.TheVariants.{Sequence}
-use Rattle.der_core.specs.Writer.{WriterState, Kept, Writes, with_room, written, here, fallen}
+use Rattle.der_core.specs.Writer.{WriterState, Keeps, Writes, room_outcome, written_count, writer_position, failed_state}
 use Rattle.der_core.specs.SliceWriter.{slice_writer_state}
 use Rattle.der_core.specs.Encode.{header_outcome}
-use Rattle.der_core.specs.WrittenSequence.{Condition, Run, part, around, headed, HandsBackPart, Abandoned, Closed, handed_on, failed, unfilled, filled, FilledBy, Ran, PartAnswer, WritesSequence, with_header}
+use Rattle.der_core.specs.WrittenSequence.{Condition, Run, part_state, outer_state, headed_state, HandsBackPart, Abandons, ClosesPart, handed_on, failed, unfilled, filled, IsFilledBy, Runs, PartAnswer, WritesSequence, with_header}
 use Rattle.der_core.specs.declared.writer.slice.SliceWriter.{SliceWriter}
 
 -- where there is room it is granted
-pub granted : (n : ℕ) (s g t : WriterState) → Writes (with_room n s g) (Ok tt) t → ((with_room n s s).answer ≡ Ok tt) × (t ≡ g) × (s.failed ≡ false) × (length s.octets + n ≤ s.stop)
+pub granted : (n : ℕ) (s g t : WriterState) → Writes (room_outcome n s g) (Ok tt) t → ((room_outcome n s s).answer ≡ Ok tt) × (t ≡ g) × (s.failed ≡ false) × (length s.octets + n ≤ s.stop)
 granted n s g t w =
     let a = w.answered in
     let l = w.leaves in
     (grind (rules, nat_tests), grind (rules, nat_tests), grind (rules, nat_tests), grind (arith, nat_tests))
 
 -- where there is none it does not matter what would be granted
-pub refused_alike : (n : ℕ) (s g t : WriterState) (e : Error) → Writes (with_room n s g) (Err e) t → Writes (with_room n s s) (Err e) t
+pub refused_alike : (n : ℕ) (s g t : WriterState) (e : Error) → Writes (room_outcome n s g) (Err e) t → Writes (room_outcome n s s) (Err e) t
 refused_alike n s g t e w =
     let a = w.answered in
     let l = w.leaves in
@@ -43,7 +43,7 @@ module _ (v : SliceWriter) (start stop : ℕ) (before : start ≤ v.start) (behi
   inner = slice_writer_state v
 
   abbrev outer : WriterState
-  outer = around inner start stop
+  outer = outer_state inner start stop
 
   abbrev size : ℕ
   size = v.stop - v.start
@@ -57,7 +57,7 @@ module _ (v : SliceWriter) (start stop : ℕ) (before : start ≤ v.start) (behi
   ends : (marked : Bool) → length (behind_part v start stop marked).octets ≡ v.stop
   ends marked = length-take-le (start + (v.stop - start)) v.bytes.now (omega (arith, whole, behind, within)) ∙ whole
 
-  abandoned : (t : WriterState) → t ≡ behind_part v start stop true → Abandoned outer size inner t
+  abandoned : (t : WriterState) → t ≡ behind_part v start stop true → Abandons outer size inner t
   abandoned t e = record {
     start = ap (λ (u : WriterState). u.start) e;
     stop = ap (λ (u : WriterState). u.stop) e;
@@ -69,80 +69,80 @@ module _ (v : SliceWriter) (start stop : ℕ) (before : start ≤ v.start) (behi
         ∙ take-take (v.start + v.position) (start + (v.stop - start)) v.bytes.now (omega (arith, whole, v.ordered));
   }
 
-  pub closed_refused : (answer : Result (Unit {0}) Error) (e : Error) → answer ≡ Err e → Closed outer size inner (behind_part v start stop true) answer (Err e)
-  closed_refused answer e is = subst (λ a. Closed outer size inner (behind_part v start stop true) a (Err e)) (sym is) (handed_on e (abandoned _ refl))
+  pub closed_refused : (answer : Result (Unit {0}) Error) (e : Error) → answer ≡ Err e → ClosesPart outer size inner (behind_part v start stop true) answer (Err e)
+  closed_refused answer e is = subst (λ a. ClosesPart outer size inner (behind_part v start stop true) a (Err e)) (sym is) (handed_on e (abandoned _ refl))
 
-  pub closed_failed : (answer : Result (Unit {0}) Error) (e : Error) → answer ≡ Ok tt → v.failed ≡ true → e ≡ at Failed (plain v.position)
-      → Closed outer size inner (behind_part v start stop v.failed) answer (Err e)
+  pub closed_failed : (answer : Result (Unit {0}) Error) (e : Error) → answer ≡ Ok tt → v.failed ≡ true → e ≡ at Failed (definite_length v.position)
+      → ClosesPart outer size inner (behind_part v start stop v.failed) answer (Err e)
   closed_failed answer e is failing told =
-      let told_here : e ≡ at Failed (here inner) = told ∙ ap (λ k. at Failed (plain k)) (omega (arith, stands_at v)) in
+      let told_here : e ≡ at Failed (writer_position inner) = told ∙ ap (λ k. at Failed (definite_length k)) (omega (arith, stands_at v)) in
       let gone = abandoned (behind_part v start stop v.failed) (ap (behind_part v start stop) failing) in
-      subst (λ a. Closed outer size inner (behind_part v start stop v.failed) a (Err e)) (sym is)
-      (subst (λ x. Closed outer size inner (behind_part v start stop v.failed) (Ok tt) (Err x)) (sym told_here) (failed failing gone))
+      subst (λ a. ClosesPart outer size inner (behind_part v start stop v.failed) a (Err e)) (sym is)
+      (subst (λ x. ClosesPart outer size inner (behind_part v start stop v.failed) (Ok tt) (Err x)) (sym told_here) (failed failing gone))
 
   pub closed_unfilled : (answer r : Result (Unit {0}) Error) (kind : ErrorKind) (t : WriterState) → answer ≡ Ok tt → v.failed ≡ false → v.position < v.stop - v.start
-      → kind ≡ IncorrectLength Sequence → r ≡ Err (at kind (here (behind_part v start stop v.failed))) → t ≡ fallen (behind_part v start stop v.failed) → Closed outer size inner t answer r
+      → kind ≡ IncorrectLength Sequence → r ≡ Err (at kind (writer_position (behind_part v start stop v.failed))) → t ≡ failed_state (behind_part v start stop v.failed) → ClosesPart outer size inner t answer r
   closed_unfilled answer r kind t is alive short wrong told fell =
       let few : length inner.octets < length outer.octets + size = omega (arith, stands_at v, begins, short) in
       let place : length (behind_part v start stop v.failed).octets - start ≡ length outer.octets - start + size = omega (arith, ends v.failed, begins, before, v.ordered) in
-      let told_behind : r ≡ Err (at (IncorrectLength Sequence) (plain (written outer + size))) =
-      told ∙ ap (λ k. Err (at k (here (behind_part v start stop v.failed)))) wrong ∙ ap (λ k. Err (at (IncorrectLength Sequence) (plain k))) place in
-      subst (λ a. Closed outer size inner t a r) (sym is) (subst (λ x. Closed outer size inner t (Ok tt) x) (sym told_behind) (unfilled alive few (abandoned t fell)))
+      let told_behind : r ≡ Err (at (IncorrectLength Sequence) (definite_length (written_count outer + size))) =
+      told ∙ ap (λ k. Err (at k (writer_position (behind_part v start stop v.failed)))) wrong ∙ ap (λ k. Err (at (IncorrectLength Sequence) (definite_length k))) place in
+      subst (λ a. ClosesPart outer size inner t a r) (sym is) (subst (λ x. ClosesPart outer size inner t (Ok tt) x) (sym told_behind) (unfilled alive few (abandoned t fell)))
 
   pub closed_filled : (answer : Result (Unit {0}) Error) → answer ≡ Ok tt → v.failed ≡ false → v.stop - v.start ≤ v.position
-      → Closed outer size inner (behind_part v start stop v.failed) answer (Ok tt)
+      → ClosesPart outer size inner (behind_part v start stop v.failed) answer (Ok tt)
   closed_filled answer is alive full =
       let held : length inner.octets ≡ length outer.octets + size = omega (arith, stands_at v, begins, v.ordered, full) in
       let octets : take (start + (v.stop - start)) v.bytes.now ≡ inner.octets = ap (λ k. take k v.bytes.now) (omega (arith, whole, v.ordered, full)) in
       let leaves : behind_part v start stop v.failed ≡ record outer { octets = inner.octets } = cc in
-      subst (λ a. Closed outer size inner (behind_part v start stop v.failed) a (Ok tt)) (sym is) (filled alive held leaves)
+      subst (λ a. ClosesPart outer size inner (behind_part v start stop v.failed) a (Ok tt)) (sym is) (filled alive held leaves)
 
 -- what is round a part that was handed back is what it was set apart from
-same_around : (s q : WriterState) (n : ℕ) → Kept (part s n) q → s.failed ≡ false → around q s.start s.stop ≡ s
+same_around : (s q : WriterState) (n : ℕ) → Keeps (part_state s n) q → s.failed ≡ false → outer_state q s.start s.stop ≡ s
 same_around s q n kept alive =
     let octets : take q.start q.octets ≡ s.octets = ap (λ k. take k q.octets) kept.start ∙ kept.before in
     let capacity : q.capacity ≡ s.capacity = kept.capacity in
     let reference : q.reference ≡ s.reference = kept.reference in
-    let same : around q s.start s.stop ≡ record { octets = s.octets; start = s.start; stop = s.stop; capacity = s.capacity; failed = s.failed; reference = s.reference } = cc in
+    let same : outer_state q s.start s.stop ≡ record { octets = s.octets; start = s.start; stop = s.stop; capacity = s.capacity; failed = s.failed; reference = s.reference } = cc in
     same
 
 -- a part that was handed back
 pub handed_back : (pre : Condition) (run : Run) (s : WriterState) (n : ℕ) (g : MutBor SliceWriter) (a : Result (Unit {0}) Error) (q : MutBor SliceWriter)
-    → HandsBackPart pre run s n → slice_writer_state g.now ≡ part s n → run g a q → Kept (part s n) (slice_writer_state q.now)
-handed_back pre run s n g a q hands over did = subst (λ p. Kept p (slice_writer_state q.now)) over (hands.same g a q over did)
+    → HandsBackPart pre run s n → slice_writer_state g.now ≡ part_state s n → run g a q → Keeps (part_state s n) (slice_writer_state q.now)
+handed_back pre run s n g a q hands over did = subst (λ p. Keeps p (slice_writer_state q.now)) over (hands.same g a q over did)
 
 -- the closure ran over a part that was set apart
 pub ran_over : (pre : Condition) (run : Run) (s t : WriterState) (n : ℕ) (g : MutBor SliceWriter) (a r : Result (Unit {0}) Error) (q : MutBor SliceWriter)
-    → HandsBackPart pre run s n → s.failed ≡ false → slice_writer_state g.now ≡ part s n → run g a q
-    → Closed (around (slice_writer_state q.now) s.start s.stop) (q.now.stop - q.now.start) (slice_writer_state q.now) t a r → Ran run s n r t
+    → HandsBackPart pre run s n → s.failed ≡ false → slice_writer_state g.now ≡ part_state s n → run g a q
+    → ClosesPart (outer_state (slice_writer_state q.now) s.start s.stop) (q.now.stop - q.now.start) (slice_writer_state q.now) t a r → Runs run s n r t
 ran_over pre run s t n g a r q hands alive over did closes =
     let u : WriterState = slice_writer_state q.now in
     let kept = handed_back pre run s n g a q hands over did in
     let start : q.now.start ≡ length s.octets = kept.start in
     let stop : q.now.stop ≡ length s.octets + n = kept.stop in
     let size : q.now.stop - q.now.start ≡ n = omega (arith, start, stop) in
-    let ends = subst (λ x. Closed x n u t a r) (same_around s u n kept alive) (subst (λ m. Closed (around u s.start s.stop) m u t a r) size closes) in
+    let ends = subst (λ x. ClosesPart x n u t a r) (same_around s u n kept alive) (subst (λ m. ClosesPart (outer_state u s.start s.stop) m u t a r) size closes) in
     record { given = g; answer = a; after = q; over_part = over; ran = did; closed = ends }
 
 -- where it was not refused it filled the part
-pub fills : (run : Run) (s t : WriterState) (n : ℕ) (r : Result (Unit {0}) Error) → Ran run s n r t → OnOk r (FilledBy run s n t)
+pub fills : (run : Run) (s t : WriterState) (n : ℕ) (r : Result (Unit {0}) Error) → Runs run s n r t → OnOk r (IsFilledBy run s n t)
 fills run s t n r did = go did.given did.after did.answer r did.over_part did.ran did.closed
   where
-    go : (g q : MutBor SliceWriter) (a r : Result (Unit {0}) Error) → slice_writer_state g.now ≡ part s n → run g a q
-        → Closed s n (slice_writer_state q.now) t a r → OnOk r (FilledBy run s n t)
+    go : (g q : MutBor SliceWriter) (a r : Result (Unit {0}) Error) → slice_writer_state g.now ≡ part_state s n → run g a q
+        → ClosesPart s n (slice_writer_state q.now) t a r → OnOk r (IsFilledBy run s n t)
     go g q a r over did (handed_on e gone) = tt
     go g q a r over did (failed f gone) = tt
     go g q a r over did (unfilled alive few gone) = tt
     go g q a r over did (filled alive full leaves) = record { given = g; after = q; over_part = over; ran = did; working = alive; full = full; leaves = leaves }
 
 -- a part behind the header
-pub behind_header : (run : Run) (s t u : WriterState) (n : ℕ) (r : Result (Unit {0}) Error) → u ≡ headed s n → Writes (header_outcome Sequence n s) (Ok tt) u → PartAnswer run u n r t → WritesSequence run s n r t
+pub behind_header : (run : Run) (s t u : WriterState) (n : ℕ) (r : Result (Unit {0}) Error) → u ≡ headed_state s n → Writes (header_outcome Sequence n s) (Ok tt) u → PartAnswer run u n r t → WritesSequence run s n r t
 behind_header run s t u n r same wrote answer =
     with_header (subst (λ v. Writes (header_outcome Sequence n s) (Ok tt) v) same wrote) (subst (λ v. PartAnswer run v n r t) same answer)
 
 -- there is room for so many octets
 pub room_there : (w : SliceWriter) (n : ℕ) → w.failed ≡ false → length (slice_writer_state w).octets + n ≤ w.stop
-    → (with_room n (slice_writer_state w) (slice_writer_state w)).answer ≡ Ok tt
+    → (room_outcome n (slice_writer_state w) (slice_writer_state w)).answer ≡ Ok tt
 room_there w n alive room =
     let at = stands_at w in
     let countable = w.countable in

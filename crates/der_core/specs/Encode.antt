@@ -1,18 +1,18 @@
 -- What is written, in which pieces, and what encoding answers.
 use Rattle.std.specs.Prelude.{◌≡◌, ℕ, ◌+◌, ◌^◌, ◌<◌, ◌≤◌, ◌||◌, true, false, List, [], ◌∷◌, ◌++◌, length, map, Option, Some, None, ◌⊎◌, Result, Ok, Err, take, OnOk, IfOk, IsOk, IsErrAnd, if◌then◌else◌}
 use Rattle.std.specs.Int.Digits.{digits_of}
-use Rattle.der_base.specs.Length.{number, flagged, plain, length_octets}
+use Rattle.der_base.specs.Length.{number, is_indefinite, definite_length, length_octets}
 use Rattle.der_base.specs.Tag.{label, tag_octets}
-use Rattle.der_base.specs.Error.{at, bare, kind_of, position_of}
+use Rattle.der_base.specs.Error.{at, error_of_kind, kind_of, position_of}
 use Rattle.der_base.specs.Header.{head, header_octets}
-use Rattle.der_base.specs.Arithmetic.{counted, element_count}
+use Rattle.der_base.specs.Arithmetic.{checked_length, element_count}
 use Rattle.der_base.specs.declared.length.Length.{Length}
 use Rattle.der_base.specs.declared.tag.Tag.{Tag}
 use Rattle.der_base.specs.declared.error.Error.{Error}
 use Rattle.der_base.specs.declared.error.ErrorKind.TheVariants.{Failed, Overflow, OutOfMemory}
 use Rattle.der_core.specs.Header.{head_of}
-use Rattle.der_core.specs.Outcome.{seen}
-use Rattle.der_core.specs.Writer.{WriterState, WriterOutcome, Takes, fresh, here, fallen, write_pieces, then_call}
+use Rattle.der_core.specs.Outcome.{map_ok}
+use Rattle.der_core.specs.Writer.{WriterState, WriterOutcome, Takes, fresh_state, writer_position, failed_state, write_pieces, chained_write}
 use Rattle.der_core.specs.declared.header.Header.{Header}
 
 abbrev pub WriterAnswer : Type 1
@@ -39,15 +39,15 @@ FitsInto octets room result = length octets < 2 ^ 32 → length octets ≤ room 
 abbrev pub GrowsBy : {A : Type 0} → List ℕ → ℕ → Result A Error → Type 0
 GrowsBy octets before result =
     length octets < 2 ^ 32 → before + length octets < 2 ^ 64
-    → IsOk result ⊎ IsErrAnd result (λ e. e ≡ bare OutOfMemory)
+    → IsOk result ⊎ IsErrAnd result (λ e. e ≡ error_of_kind OutOfMemory)
 
 -- the octets of an element: its header and its contents (X.690 8.1.1)
 abbrev pub element_octets : Tag → List ℕ → List ℕ
 element_octets t contents = header_octets t (length contents) ++ contents
 
 -- octets that go out one by one
-abbrev pub singly : List ℕ → List (List ℕ)
-singly octets = map (λ o. o ∷ []) octets
+abbrev pub single_octets : List ℕ → List (List ℕ)
+single_octets octets = map (λ o. o ∷ []) octets
 
 -- the digits of a number in base 128, bit 8 set on each (X.690 8.1.2.4.2); of 0 there are none
 abbrev pub high_digits : ℕ → List ℕ
@@ -60,14 +60,14 @@ first_and_others (o ∷ []) = (o ∷ []) ∷ []
 first_and_others (o ∷ p ∷ more) = (o ∷ []) ∷ (p ∷ more) ∷ []
 
 abbrev pub tag_outcome : Tag → WriterState → WriterOutcome
-tag_outcome t = write_pieces (singly (tag_octets t))
+tag_outcome t = write_pieces (single_octets (tag_octets t))
 
 abbrev pub length_outcome : ℕ → WriterState → WriterOutcome
 length_outcome n = write_pieces (first_and_others (length_octets n))
 
 -- the tag, and then the length
 abbrev pub header_outcome : Tag → ℕ → WriterState → WriterOutcome
-header_outcome t n s = then_call (tag_outcome t s).answer (tag_outcome t s).after (length_outcome n)
+header_outcome t n s = chained_write (tag_outcome t s).answer (tag_outcome t s).after (length_outcome n)
 
 -- after an answer, the rest, if it is no error
 abbrev pub ThenAnswers : Result (Unit {0}) Error → WriterState → WriterAnswer → WriterAnswer
@@ -81,13 +81,13 @@ HeaderOf t contents result =
 
 -- the header of a value, by its tag and the number of octets of its contents
 abbrev pub HeaderAnswers : Tag → Result Length Error → Result Header Error → Type 0
-HeaderAnswers t (Ok l) (Ok h) = head_of h ≡ head t l ((label t).constructed || flagged l)
+HeaderAnswers t (Ok l) (Ok h) = head_of h ≡ head t l ((label t).constructed || is_indefinite l)
 HeaderAnswers t (Ok l) (Err e) = ⊥
 HeaderAnswers t (Err e) r = r ≡ Err e
 
 -- the octets of an element, by its tag and the number of octets of its contents
 abbrev pub element_size : Tag → Result Length Error → Result Length Error
-element_size t (Ok l) = counted (element_count t (number l))
+element_size t (Ok l) = checked_length (element_count t (number l))
 element_size t (Err e) = Err e
 
 -- an element is written: where the number of octets is refused, nothing is; else the header and
@@ -100,7 +100,7 @@ ElementAnswers t (Err e) contents s r u = (r ≡ Err e) × (u ≡ s)
 
 -- what a finished writer answers: the octets written, where it has not failed
 abbrev pub finished_answer : WriterState → Result (List ℕ) Error
-finished_answer t = if t.failed then Err (at Failed (here t)) else Ok t.octets
+finished_answer t = if t.failed then Err (at Failed (writer_position t)) else Ok t.octets
 
 -- the octets written fill the beginning of a buffer
 abbrev pub Begins : {E : Type 0} → List ℕ → Result (Unit {0}) E → List ℕ → Type 0
@@ -109,18 +109,18 @@ Begins octets result buf = OnOk result (take (length octets) buf ≡ octets)
 -- what is answered where a writer over n octets is written to
 abbrev pub FreshAnswer : WriterAnswer → ℕ → Result (Unit {0}) Error → Type 0
 FreshAnswer answers n result =
-    (reference : ℕ) × (t : WriterState) × answers (fresh n reference) result t
+    (reference : ℕ) × (t : WriterState) × answers (fresh_state n reference) result t
 
 -- what is answered where a writer is finished behind an answer: that answer's error, if it is one
-abbrev pub finished : Result (Unit {0}) Error → WriterState → Result (List ℕ) Error
-finished (Ok _) t = finished_answer t
-finished (Err e) t = Err e
+abbrev pub closing_answer : Result (Unit {0}) Error → WriterState → Result (List ℕ) Error
+closing_answer (Ok _) t = finished_answer t
+closing_answer (Err e) t = Err e
 
 -- what is answered where a writer over n octets is written to and finished
 abbrev pub SliceAnswer : WriterAnswer → ℕ → Result (List ℕ) Error → Type 0
 SliceAnswer answers n result =
     (reference : ℕ) × (r : Result (Unit {0}) Error) × (t : WriterState)
-    × answers (fresh n reference) r t × (result ≡ finished r t)
+    × answers (fresh_state n reference) r t × (result ≡ closing_answer r t)
 
 -- what is answered where an encoding, of this size and with these answers, is appended to so many
 -- octets: no size; more octets than a vector can have; memory refused; else what writing into that
@@ -129,33 +129,33 @@ pub data VecAnswer (size : Result Length Error) (answers : WriterAnswer) (before
     (result : Result Length Error) : Type 0 where
   no_size : (e : Error) → size ≡ Err e → result ≡ Err e → VecAnswer size answers before result
   too_many : (l : Length) → size ≡ Ok l → 2 ^ 64 ≤ before + number l
-      → result ≡ Err (bare Overflow) → VecAnswer size answers before result
+      → result ≡ Err (error_of_kind Overflow) → VecAnswer size answers before result
   no_memory : (l : Length) → size ≡ Ok l → before + number l < 2 ^ 64
-      → result ≡ Err (bare OutOfMemory) → VecAnswer size answers before result
+      → result ≡ Err (error_of_kind OutOfMemory) → VecAnswer size answers before result
   written : (l : Length) (reference : ℕ) (r : Result (Unit {0}) Error) (t : WriterState)
-      → size ≡ Ok l → before + number l < 2 ^ 64 → answers (fresh (number l) reference) r t
-      → result ≡ seen (λ _. plain (number l)) r → VecAnswer size answers before result
+      → size ≡ Ok l → before + number l < 2 ^ 64 → answers (fresh_state (number l) reference) r t
+      → result ≡ map_ok (λ _. definite_length (number l)) r → VecAnswer size answers before result
 
 -- an error's position, or the writer's where it has none
-abbrev pub placed_at : Option Length → WriterState → Error → Error
-placed_at None t e = at (kind_of e) (here t)
-placed_at (Some p) t e = e
+abbrev pub positioned_error : Option Length → WriterState → Error → Error
+positioned_error None t e = at (kind_of e) (writer_position t)
+positioned_error (Some p) t e = e
 
-abbrev pub placed : WriterState → Result (Unit {0}) Error → Result (Unit {0}) Error
-placed t (Ok u) = Ok u
-placed t (Err e) = Err (placed_at (position_of e) t e)
+abbrev pub positioned_answer : WriterState → Result (Unit {0}) Error → Result (Unit {0}) Error
+positioned_answer t (Ok u) = Ok u
+positioned_answer t (Err e) = Err (positioned_error (position_of e) t e)
 
 -- failed after an error
-abbrev pub left_by : Result (Unit {0}) Error → WriterState → WriterState
-left_by (Ok _) t = t
-left_by (Err e) t = fallen t
+abbrev pub writer_after : Result (Unit {0}) Error → WriterState → WriterState
+writer_after (Ok _) t = t
+writer_after (Err e) t = failed_state t
 
 -- a writer that has failed is left as it is
 abbrev pub RefusesFailed : WriterAnswer
-RefusesFailed s result u = s.failed ≡ true → (result ≡ Err (at Failed (here s))) × (u ≡ s)
+RefusesFailed s result u = s.failed ≡ true → (result ≡ Err (at Failed (writer_position s))) × (u ≡ s)
 
 -- what a slice writer that has not failed answers to a value, and how it is left
 abbrev pub PlacesErrors : WriterAnswer → WriterAnswer
 PlacesErrors answers s result u =
     s.failed ≡ false → (r : Result (Unit {0}) Error) × (t : WriterState)
-    × answers s r t × (result ≡ placed t r) × (u ≡ left_by r t)
+    × answers s r t × (result ≡ positioned_answer t r) × (u ≡ writer_after r t)

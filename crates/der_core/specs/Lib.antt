@@ -1,4 +1,4 @@
-pub mod State
+pub mod ReaderState
 pub mod Outcome
 pub mod Reader
 pub mod SliceReader

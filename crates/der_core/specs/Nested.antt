@@ -1,38 +1,38 @@
 -- Reading a part by a closure.
 use Rattle.std.specs.Prelude.{◌≡◌, ◌≢◌, ℕ, ◌+◌, ◌-◌, ◌<◌, ◌≤◌, Bool, true, false, length, Result, Ok, Err}
-use Rattle.der_base.specs.Arithmetic.{without_end}
+use Rattle.der_base.specs.Arithmetic.{sans_eoc}
 use Rattle.der_base.specs.Error.{at, unexpected_tag}
-use Rattle.der_base.specs.Length.{number, flagged, plain}
+use Rattle.der_base.specs.Length.{number, is_indefinite, definite_length}
 use Rattle.der_base.specs.Header.{HeaderFault}
 use Rattle.der_base.specs.declared.length.Length.{Length}
 use Rattle.der_base.specs.declared.tag.Tag.TheVariants.{Sequence}
 use Rattle.der_base.specs.declared.error.Error.{Error}
 use Rattle.der_base.specs.declared.error.ErrorKind.TheVariants.{TrailingData}
-use Rattle.der_core.specs.State.{State, here, inside, resumed, stopped, Same}
+use Rattle.der_core.specs.ReaderState.{ReaderState, reader_position, nested_state, resumed_state, stopped_state, Same}
 use Rattle.der_core.specs.Outcome.{Gives}
 use Rattle.der_core.specs.Reader.{enter_nested_outcome, read_eoc_outcome}
 use Rattle.der_core.specs.Header.{head_of}
-use Rattle.der_core.specs.Decode.{Passed, GrammarAnswers, header_ahead}
+use Rattle.der_core.specs.Decode.{Passes, GrammarAnswers, IsHeaderAhead}
 use Rattle.der_core.specs.declared.header.Header.{Header}
 
 -- a part of n octets can be entered
-abbrev pub CanNest : State → ℕ → Type 0
+abbrev pub CanNest : ReaderState → ℕ → Type 0
 CanNest s n = (s.position + n ≤ s.end) × (s.depth < 64)
 
 -- what a closure makes of a part is handed on; octets that it left are a refusal
-pub data Closes {T E : Type 0} (converts : Error → E → Type 0) (answer : Result T E) (s : State)
-    (end depth : ℕ) (result : Result T E) (t : State) : Type 0 where
-  handed_on : (e : E) → answer ≡ Err e → result ≡ Err e → t ≡ resumed s end depth
+pub data Closes {T E : Type 0} (converts : Error → E → Type 0) (answer : Result T E) (s : ReaderState)
+    (end depth : ℕ) (result : Result T E) (t : ReaderState) : Type 0 where
+  handed_on : (e : E) → answer ≡ Err e → result ≡ Err e → t ≡ resumed_state s end depth
       → Closes converts answer s end depth result t
   left_over : (v : T) (e : E) → answer ≡ Ok v → s.position < s.end
-      → converts (at (TrailingData (here s) (plain (s.end - s.position))) (here s)) e
-      → result ≡ Err e → t ≡ stopped (resumed s end depth) s.position
+      → converts (at (TrailingData (reader_position s) (definite_length (s.end - s.position))) (reader_position s)) e
+      → result ≡ Err e → t ≡ stopped_state (resumed_state s end depth) s.position
       → Closes converts answer s end depth result t
-  whole : (v : T) → answer ≡ Ok v → s.position ≡ s.end → result ≡ Ok v → t ≡ resumed s end depth
+  whole : (v : T) → answer ≡ Ok v → s.position ≡ s.end → result ≡ Ok v → t ≡ resumed_state s end depth
       → Closes converts answer s end depth result t
 
 -- a part may be left: its outer end lies between the position and the input's length
-pub record CanLeave (s : State) (end depth : ℕ) : Type 0 where
+pub record CanLeave (s : ReaderState) (end depth : ℕ) : Type 0 where
   pub passed : s.position ≤ end
   pub in_input : end ≤ length s.input
   pub shallow : depth ≤ 64
@@ -40,57 +40,57 @@ pub record CanLeave (s : State) (end depth : ℕ) : Type 0 where
 -- the condition on a closure that reads a part of n octets: it may be called inside the part, and
 -- hands back the same reader
 pub record HandsBack {P Q A : Type 0} (pre : P → Type 0) (post : P → A → Q → Type 0)
-    (before : P → State) (after : Q → State) (s : State) (n : ℕ) : Type 0 where
-  pub callable : (p : P) → CanNest s n → before p ≡ inside s n → pre p
-  pub same : (p : P) (a : A) (q : Q) → CanNest s n → before p ≡ inside s n → post p a q
+    (before : P → ReaderState) (after : Q → ReaderState) (s : ReaderState) (n : ℕ) : Type 0 where
+  pub callable : (p : P) → CanNest s n → before p ≡ nested_state s n → pre p
+  pub same : (p : P) (a : A) (q : Q) → CanNest s n → before p ≡ nested_state s n → post p a q
       → Same (before p) (after q)
 
 -- the closure ran inside the part of n octets, and this is made of what it answered
 pub data NestedAnswers {P Q T E : Type 0} (converts : Error → E → Type 0)
-    (post : P → Result T E → Q → Type 0) (before : P → State) (after : Q → State) (n : ℕ)
-    (s : State) (result : Result T E) (t : State) : Type 0 where
+    (post : P → Result T E → Q → Type 0) (before : P → ReaderState) (after : Q → ReaderState) (n : ℕ)
+    (s : ReaderState) (result : Result T E) (t : ReaderState) : Type 0 where
   not_entered : (e : Error) (f : E) → Gives (enter_nested_outcome n) s (Err e) t → converts e f
       → result ≡ Err f → NestedAnswers converts post before after n s result t
-  entered : (p : P) (answer : Result T E) (q : Q) → CanNest s n → before p ≡ inside s n
+  entered : (p : P) (answer : Result T E) (q : Q) → CanNest s n → before p ≡ nested_state s n
       → post p answer q → Closes converts answer (after q) s.end s.depth result t
       → NestedAnswers converts post before after n s result t
 
 -- a part and the end mark that closes it, where its length was read in the indefinite form
 pub data ClosesValue {T E : Type 0} (converts : Error → E → Type 0) (answer : Result T E)
-    (s : State) (end depth : ℕ) (marked : Bool) (result : Result T E) (t : State) : Type 0 where
+    (s : ReaderState) (end depth : ℕ) (marked : Bool) (result : Result T E) (t : ReaderState) : Type 0 where
   part_refused : (e : E) → Closes converts answer s end depth (Err e) t → result ≡ Err e
       → ClosesValue converts answer s end depth marked result t
   without_mark : (v : T) → Closes converts answer s end depth (Ok v) t → marked ≡ false
       → result ≡ Ok v → ClosesValue converts answer s end depth marked result t
-  with_mark : (v : T) (u : State) → Closes converts answer s end depth (Ok v) u → marked ≡ true
+  with_mark : (v : T) (u : ReaderState) → Closes converts answer s end depth (Ok v) u → marked ≡ true
       → Gives read_eoc_outcome u (Ok tt) t → result ≡ Ok v
       → ClosesValue converts answer s end depth marked result t
-  mark_refused : (v : T) (u : State) (e : Error) (f : E)
+  mark_refused : (v : T) (u : ReaderState) (e : Error) (f : E)
       → Closes converts answer s end depth (Ok v) u → marked ≡ true
       → Gives read_eoc_outcome u (Err e) t → converts e f → result ≡ Err f
       → ClosesValue converts answer s end depth marked result t
 
 -- the closure ran inside the contents of a length, and this is made of what it answered
 pub data ValueAnswers {P Q T E : Type 0} (converts : Error → E → Type 0)
-    (post : P → Result T E → Q → Type 0) (before : P → State) (after : Q → State) (length : Length)
-    (s : State) (result : Result T E) (t : State) : Type 0 where
+    (post : P → Result T E → Q → Type 0) (before : P → ReaderState) (after : Q → ReaderState) (length : Length)
+    (s : ReaderState) (result : Result T E) (t : ReaderState) : Type 0 where
   not_opened : (e : Error) (f : E) → Gives (enter_nested_outcome (number length)) s (Err e) t
       → converts e f → result ≡ Err f → ValueAnswers converts post before after length s result t
   opened : (p : P) (answer : Result T E) (q : Q) → CanNest s (number length)
-      → before p ≡ inside s (number length) → post p answer q
-      → ClosesValue converts answer (after q) s.end s.depth (flagged length) result t
+      → before p ≡ nested_state s (number length) → post p answer q
+      → ClosesValue converts answer (after q) s.end s.depth (is_indefinite length) result t
       → ValueAnswers converts post before after length s result t
 
 -- a sequence: its header, its tag, and its contents
 pub data SequenceAnswers {P Q T E : Type 0} (converts : Error → E → Type 0)
-    (post : P → Result T E → Q → Type 0) (before : P → State) (after : Q → State) (s : State)
-    (result : Result T E) (t : State) : Type 0 where
-  no_header : (e : Error) (f : E) → GrammarAnswers header_ahead HeaderFault s (Err e) t
+    (post : P → Result T E → Q → Type 0) (before : P → ReaderState) (after : Q → ReaderState) (s : ReaderState)
+    (result : Result T E) (t : ReaderState) : Type 0 where
+  no_header : (e : Error) (f : E) → GrammarAnswers IsHeaderAhead HeaderFault s (Err e) t
       → converts e f → result ≡ Err f → SequenceAnswers converts post before after s result t
-  other_tag : (h : Header) (f : E) → Passed (λ rules octets m. header_ahead rules octets h m) s t
+  other_tag : (h : Header) (f : E) → Passes (λ rules octets m. IsHeaderAhead rules octets h m) s t
       → (head_of h).tag ≢ Sequence → converts (unexpected_tag Sequence (head_of h).tag) f
       → result ≡ Err f → SequenceAnswers converts post before after s result t
-  in_sequence : (h : Header) (u : State)
-      → Passed (λ rules octets m. header_ahead rules octets h m) s u → (head_of h).tag ≡ Sequence
-      → ValueAnswers converts post before after (without_end (head_of h).length) u result t
+  in_sequence : (h : Header) (u : ReaderState)
+      → Passes (λ rules octets m. IsHeaderAhead rules octets h m) s u → (head_of h).tag ≡ Sequence
+      → ValueAnswers converts post before after (sans_eoc (head_of h).length) u result t
       → SequenceAnswers converts post before after s result t

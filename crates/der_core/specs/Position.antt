@@ -1,8 +1,8 @@
 -- What a `Position` means, and the tables of its calls.
 use Rattle.std.specs.Prelude.{◌≡◌, ℕ, ◌+◌, ◌^◌, Result, Ok, Err, if◌then◌else◌, nat_lt, not}
-use Rattle.der_base.specs.Length.{plain}
-use Rattle.der_base.specs.Error.{at, bare}
-use Rattle.der_base.specs.Refusal.{cut_at, owed}
+use Rattle.der_base.specs.Length.{definite_length}
+use Rattle.der_base.specs.Error.{at, error_of_kind}
+use Rattle.der_base.specs.Refusal.{end_refusal, error_of}
 use Rattle.der_base.specs.declared.length.Length.{Length}
 use Rattle.der_base.specs.declared.error.Error.{Error}
 use Rattle.der_base.specs.declared.error.ErrorKind.TheVariants.{Overflow, Incomplete, NestingDepth}
@@ -14,35 +14,35 @@ pub record Place : Type 0 where
   pub position : ℕ
   pub depth : ℕ
 
-abbrev pub place : Position → Place
-place p = record { end = p.end; position = p.position; depth = p.depth }
+abbrev pub position_place : Position → Place
+position_place p = record { end = p.end; position = p.position; depth = p.depth }
 
-abbrev pub place_of : ℕ → ℕ → ℕ → Place
-place_of e p d = record { end = e; position = p; depth = d }
+abbrev pub place_at : ℕ → ℕ → ℕ → Place
+place_at e p d = record { end = e; position = p; depth = d }
 
-pub record Placed (A : Type 0) : Type 0 where
+pub record PlaceOutcome (A : Type 0) : Type 0 where
   pub answer : Result A Error
   pub after : Place
 
-abbrev pub placed : {A : Type 0} → Result A Error → Place → Placed A
-placed answer after = record { answer = answer; after = after }
+abbrev pub place_outcome : {A : Type 0} → Result A Error → Place → PlaceOutcome A
+place_outcome answer after = record { answer = answer; after = after }
 
 -- from a place the call answers so and leaves another, as its table says
-pub record Moves {A : Type 0} (table : Place → Placed A) (s : Place) (answer : Result A Error)
+pub record Moves {A : Type 0} (table : Place → PlaceOutcome A) (s : Place) (answer : Result A Error)
     (t : Place) : Type 0 where
   pub answered : answer ≡ (table s).answer
   pub leaves : t ≡ (table s).after
 
-abbrev pub advance_outcome : ℕ → Place → Placed Length
+abbrev pub advance_outcome : ℕ → Place → PlaceOutcome Length
 advance_outcome n s =
-    if not (nat_lt (s.position + n) (2 ^ 32)) then placed (Err (bare Overflow)) s
+    if not (nat_lt (s.position + n) (2 ^ 32)) then place_outcome (Err (error_of_kind Overflow)) s
     else if nat_lt s.end (s.position + n) then
-    placed (Err (at (Incomplete (plain (s.position + n)) (plain s.end)) (plain s.position))) s
-    else placed (Ok (plain (s.position + n))) (place_of s.end (s.position + n) s.depth)
+    place_outcome (Err (at (Incomplete (definite_length (s.position + n)) (definite_length s.end)) (definite_length s.position))) s
+    else place_outcome (Ok (definite_length (s.position + n))) (place_at s.end (s.position + n) s.depth)
 
-abbrev pub split_nested_outcome : ℕ → Place → Placed (ℕ × ℕ)
+abbrev pub split_nested_outcome : ℕ → Place → PlaceOutcome (ℕ × ℕ)
 split_nested_outcome n s =
-    if not (nat_lt s.depth 64) then placed (Err (at NestingDepth (plain s.position))) s
-    else if not (nat_lt (s.position + n) (2 ^ 32)) then placed (Err (bare Overflow)) s
-    else if nat_lt s.end (s.position + n) then placed (Err (owed (cut_at s.end))) s
-    else placed (Ok (s.end, s.depth)) (place_of (s.position + n) s.position (s.depth + 1))
+    if not (nat_lt s.depth 64) then place_outcome (Err (at NestingDepth (definite_length s.position))) s
+    else if not (nat_lt (s.position + n) (2 ^ 32)) then place_outcome (Err (error_of_kind Overflow)) s
+    else if nat_lt s.end (s.position + n) then place_outcome (Err (error_of (end_refusal s.end))) s
+    else place_outcome (Ok (s.end, s.depth)) (place_at (s.position + n) s.position (s.depth + 1))

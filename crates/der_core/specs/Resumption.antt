@@ -8,5 +8,5 @@ outer_end r = r.end
 abbrev pub outer_depth : Resumption → ℕ
 outer_depth r = r.depth
 
-abbrev pub outer : Resumption → ℕ × ℕ
-outer r = (r.end, r.depth)
+abbrev pub outer_place : Resumption → ℕ × ℕ
+outer_place r = (r.end, r.depth)

@@ -1,9 +1,9 @@
 -- What a `SliceReader` means.
 use Rattle.std.specs.Prelude.{true}
-use Rattle.der_core.specs.State.{State}
+use Rattle.der_core.specs.ReaderState.{ReaderState}
 use Rattle.der_core.specs.declared.reader.slice.SliceReader.{SliceReader}
 
-abbrev pub slice_state : SliceReader → State
+abbrev pub slice_state : SliceReader → ReaderState
 slice_state r =
     record {
       input = r.bytes.now;

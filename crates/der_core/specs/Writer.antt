@@ -1,6 +1,6 @@
 -- What a writer means, and what a write answers and leaves.
 use Rattle.std.specs.Prelude.{◌≡◌, ℕ, ◌+◌, ◌-◌, ◌^◌, Bool, true, false, List, [], ◌∷◌, ◌++◌, length, take, Result, Ok, Err, OnOk, IsOk, ◌≤◌, min, nat_lt, if◌then◌else◌}
-use Rattle.der_base.specs.Length.{plain}
+use Rattle.der_base.specs.Length.{definite_length}
 use Rattle.der_base.specs.Error.{at}
 use Rattle.der_base.specs.declared.length.Length.{Length}
 use Rattle.der_base.specs.declared.error.Error.{Error}
@@ -22,8 +22,8 @@ pub record WriterState : Type 0 where
   pub reference : ℕ
 
 -- a writer over a whole buffer of n octets, of which it takes no more than a length can count
-abbrev pub fresh : ℕ → ℕ → WriterState
-fresh n reference =
+abbrev pub fresh_state : ℕ → ℕ → WriterState
+fresh_state n reference =
     record {
       octets = [];
       start = 0;
@@ -34,21 +34,21 @@ fresh n reference =
     }
 
 -- how many octets were written into the part
-abbrev pub written : WriterState → ℕ
-written s = length s.octets - s.start
+abbrev pub written_count : WriterState → ℕ
+written_count s = length s.octets - s.start
 
 -- the position: that number as a length
-abbrev pub here : WriterState → Length
-here s = plain (written s)
+abbrev pub writer_position : WriterState → Length
+writer_position s = definite_length (written_count s)
 
-abbrev pub appended : WriterState → List ℕ → WriterState
-appended s octets = record s { octets = s.octets ++ octets }
+abbrev pub appended_state : WriterState → List ℕ → WriterState
+appended_state s octets = record s { octets = s.octets ++ octets }
 
-abbrev pub fallen : WriterState → WriterState
-fallen s = record s { failed = true }
+abbrev pub failed_state : WriterState → WriterState
+failed_state s = record s { failed = true }
 
 -- the same writer is handed back, not less failed, and what was written before still stands
-pub record Kept (s t : WriterState) : Type 0 where
+pub record Keeps (s t : WriterState) : Type 0 where
   pub start : t.start ≡ s.start
   pub stop : t.stop ≡ s.stop
   pub capacity : t.capacity ≡ s.capacity
@@ -58,7 +58,7 @@ pub record Kept (s t : WriterState) : Type 0 where
 
 -- where a call succeeded it appended the octets
 abbrev pub Appends : WriterState → List ℕ → Result (Unit {0}) Error → WriterState → Type 0
-Appends s octets result t = OnOk result (t ≡ appended s octets)
+Appends s octets result t = OnOk result (t ≡ appended_state s octets)
 
 -- a call on a writer that has not failed and has room for the octets succeeds
 abbrev pub Takes : WriterState → List ℕ → Result (Unit {0}) Error → Type 0
@@ -75,33 +75,33 @@ pub record Writes (outcome : WriterOutcome) (answer : Result (Unit {0}) Error)
   pub answered : answer ≡ outcome.answer
   pub leaves : t ≡ outcome.after
 
-abbrev pub succeeded : WriterState → WriterOutcome
-succeeded t = record { answer = Ok tt; after = t }
+abbrev pub success_outcome : WriterState → WriterOutcome
+success_outcome t = record { answer = Ok tt; after = t }
 
-abbrev pub write_refused : Error → WriterState → WriterOutcome
-write_refused e t = record { answer = Err e; after = t }
+abbrev pub refusal_outcome : Error → WriterState → WriterOutcome
+refusal_outcome e t = record { answer = Err e; after = t }
 
 -- n octets more, for which there has to be room; each refusal leaves the writer failed
-abbrev pub with_room : ℕ → WriterState → WriterState → WriterOutcome
-with_room n s granted =
-    if s.failed then write_refused (at Failed (here s)) s
-    else if nat_lt (written s + n) (2 ^ 32) then (
+abbrev pub room_outcome : ℕ → WriterState → WriterState → WriterOutcome
+room_outcome n s granted =
+    if s.failed then refusal_outcome (at Failed (writer_position s)) s
+    else if nat_lt (written_count s + n) (2 ^ 32) then (
     if nat_lt s.stop (length s.octets + n)
-    then write_refused (at Overlength (plain (written s + n))) (fallen s)
-    else succeeded granted)
-    else write_refused (at Overflow (here s)) (fallen s)
+    then refusal_outcome (at Overlength (definite_length (written_count s + n))) (failed_state s)
+    else success_outcome granted)
+    else refusal_outcome (at Overflow (writer_position s)) (failed_state s)
 
 abbrev pub write_outcome : List ℕ → WriterState → WriterOutcome
-write_outcome octets s = with_room (length octets) s (appended s octets)
+write_outcome octets s = room_outcome (length octets) s (appended_state s octets)
 
 -- a call, and where it succeeds another
-abbrev pub then_call : Result (Unit {0}) Error → WriterState
+abbrev pub chained_write : Result (Unit {0}) Error → WriterState
     → (WriterState → WriterOutcome) → WriterOutcome
-then_call (Ok _) t next = next t
-then_call (Err e) t next = write_refused e t
+chained_write (Ok _) t next = next t
+chained_write (Err e) t next = refusal_outcome e t
 
 -- octets that go out in pieces, a write for each
 abbrev pub write_pieces : List (List ℕ) → WriterState → WriterOutcome
-write_pieces [] s = succeeded s
+write_pieces [] s = success_outcome s
 write_pieces (piece ∷ pieces) s =
-    then_call (write_outcome piece s).answer (write_outcome piece s).after (write_pieces pieces)
+    chained_write (write_outcome piece s).answer (write_outcome piece s).after (write_pieces pieces)

@@ -2,13 +2,13 @@
 -- contents.
 use Rattle.std.specs.Prelude.{◌≡◌, ℕ, ◌+◌, ◌<◌, ◌≤◌, true, false, length, take, Result, Ok, Err, OnOk}
 use Rattle.std.specs.Borrow.{MutBor}
-use Rattle.der_base.specs.Length.{plain}
+use Rattle.der_base.specs.Length.{definite_length}
 use Rattle.der_base.specs.Header.{header_octets}
 use Rattle.der_base.specs.Error.{at}
 use Rattle.der_base.specs.declared.tag.Tag.TheVariants.{Sequence}
 use Rattle.der_base.specs.declared.error.Error.{Error}
 use Rattle.der_base.specs.declared.error.ErrorKind.TheVariants.{Failed, Length as IncorrectLength}
-use Rattle.der_core.specs.Writer.{WriterState, Kept, Writes, appended, written, here, with_room}
+use Rattle.der_core.specs.Writer.{WriterState, Keeps, Writes, appended_state, written_count, writer_position, room_outcome}
 use Rattle.der_core.specs.Encode.{header_outcome}
 use Rattle.der_core.specs.SliceWriter.{slice_writer_state}
 use Rattle.der_core.specs.declared.writer.slice.SliceWriter.{SliceWriter}
@@ -21,28 +21,28 @@ abbrev pub Run : Type 1
 Run = MutBor SliceWriter → Result (Unit {0}) Error → MutBor SliceWriter → Type 0
 
 -- a writer over the next n octets alone, which nothing was written to
-abbrev pub part : WriterState → ℕ → WriterState
-part s n = record s { start = length s.octets; stop = length s.octets + n; failed = false }
+abbrev pub part_state : WriterState → ℕ → WriterState
+part_state s n = record s { start = length s.octets; stop = length s.octets + n; failed = false }
 
 -- the writer round a part, which stands behind what was written before it
-abbrev pub around : WriterState → ℕ → ℕ → WriterState
-around q start stop =
+abbrev pub outer_state : WriterState → ℕ → ℕ → WriterState
+outer_state q start stop =
     record q { octets = take q.start q.octets; start = start; stop = stop; failed = false }
 
 -- behind the header of a SEQUENCE of n octets
-abbrev pub headed : WriterState → ℕ → WriterState
-headed s n = appended s (header_octets Sequence n)
+abbrev pub headed_state : WriterState → ℕ → WriterState
+headed_state s n = appended_state s (header_octets Sequence n)
 
 -- the condition on a closure that writes a part of n octets: it may be called with a writer over
 -- the part, and hands back the same writer
 pub record HandsBackPart (pre : Condition) (run : Run) (s : WriterState) (n : ℕ) : Type 0 where
-  pub callable : (p : MutBor SliceWriter) → slice_writer_state p.now ≡ part s n → pre p
+  pub callable : (p : MutBor SliceWriter) → slice_writer_state p.now ≡ part_state s n → pre p
   pub same : (p : MutBor SliceWriter) (r : Result (Unit {0}) Error) (q : MutBor SliceWriter)
-      → slice_writer_state p.now ≡ part s n → run p r q
-      → Kept (slice_writer_state p.now) (slice_writer_state q.now)
+      → slice_writer_state p.now ≡ part_state s n → run p r q
+      → Keeps (slice_writer_state p.now) (slice_writer_state q.now)
 
 -- failed behind a part of n octets, of which those that were written stand
-pub record Abandoned (s : WriterState) (n : ℕ) (q t : WriterState) : Type 0 where
+pub record Abandons (s : WriterState) (n : ℕ) (q t : WriterState) : Type 0 where
   pub start : t.start ≡ s.start
   pub stop : t.stop ≡ s.stop
   pub capacity : t.capacity ≡ s.capacity
@@ -52,30 +52,30 @@ pub record Abandoned (s : WriterState) (n : ℕ) (q t : WriterState) : Type 0 wh
   pub stands : take (length q.octets) t.octets ≡ q.octets
 
 -- what follows a closure that was handed the part, answered r and left the writer q
-pub data Closed (s : WriterState) (n : ℕ) (q t : WriterState)
+pub data ClosesPart (s : WriterState) (n : ℕ) (q t : WriterState)
     : Result (Unit {0}) Error → Result (Unit {0}) Error → Type 0 where
-  handed_on : (e : Error) → Abandoned s n q t → Closed s n q t (Err e) (Err e)
-  failed : q.failed ≡ true → Abandoned s n q t → Closed s n q t (Ok tt) (Err (at Failed (here q)))
-  unfilled : q.failed ≡ false → length q.octets < length s.octets + n → Abandoned s n q t
-      → Closed s n q t (Ok tt) (Err (at (IncorrectLength Sequence) (plain (written s + n))))
+  handed_on : (e : Error) → Abandons s n q t → ClosesPart s n q t (Err e) (Err e)
+  failed : q.failed ≡ true → Abandons s n q t → ClosesPart s n q t (Ok tt) (Err (at Failed (writer_position q)))
+  unfilled : q.failed ≡ false → length q.octets < length s.octets + n → Abandons s n q t
+      → ClosesPart s n q t (Ok tt) (Err (at (IncorrectLength Sequence) (definite_length (written_count s + n))))
   filled : q.failed ≡ false → length q.octets ≡ length s.octets + n
-      → t ≡ record s { octets = q.octets } → Closed s n q t (Ok tt) (Ok tt)
+      → t ≡ record s { octets = q.octets } → ClosesPart s n q t (Ok tt) (Ok tt)
 
 -- the closure ran over the part, and the answer is as it follows
-pub record Ran (run : Run) (s : WriterState) (n : ℕ) (result : Result (Unit {0}) Error)
+pub record Runs (run : Run) (s : WriterState) (n : ℕ) (result : Result (Unit {0}) Error)
     (t : WriterState) : Type 0 where
   pub given : MutBor SliceWriter
   pub answer : Result (Unit {0}) Error
   pub after : MutBor SliceWriter
-  pub over_part : slice_writer_state given.now ≡ part s n
+  pub over_part : slice_writer_state given.now ≡ part_state s n
   pub ran : run given answer after
-  pub closed : Closed s n (slice_writer_state after.now) t answer result
+  pub closed : ClosesPart s n (slice_writer_state after.now) t answer result
 
 -- the closure ran over the part and filled it, without a refusal
-pub record FilledBy (run : Run) (s : WriterState) (n : ℕ) (t : WriterState) : Type 0 where
+pub record IsFilledBy (run : Run) (s : WriterState) (n : ℕ) (t : WriterState) : Type 0 where
   pub given : MutBor SliceWriter
   pub after : MutBor SliceWriter
-  pub over_part : slice_writer_state given.now ≡ part s n
+  pub over_part : slice_writer_state given.now ≡ part_state s n
   pub ran : run given (Ok tt) after
   pub working : (slice_writer_state after.now).failed ≡ false
   pub full : length (slice_writer_state after.now).octets ≡ length s.octets + n
@@ -83,23 +83,23 @@ pub record FilledBy (run : Run) (s : WriterState) (n : ℕ) (t : WriterState) : 
 
 -- where the closure's call succeeded it filled the part
 abbrev pub Fills : Run → WriterState → ℕ → Result (Unit {0}) Error → WriterState → Type 0
-Fills run s n result t = OnOk result (FilledBy run s n t)
+Fills run s n result t = OnOk result (IsFilledBy run s n t)
 
 -- where there is room the closure ran
 abbrev pub RunsInRoom : Run → WriterState → ℕ → Result (Unit {0}) Error → WriterState → Type 0
-RunsInRoom run s n result t = s.failed ≡ false → length s.octets + n ≤ s.stop → Ran run s n result t
+RunsInRoom run s n result t = s.failed ≡ false → length s.octets + n ≤ s.stop → Runs run s n result t
 
 -- n octets are set apart and filled: no room, or the closure ran
 pub data PartAnswer (run : Run) (s : WriterState) (n : ℕ) (result : Result (Unit {0}) Error)
     (t : WriterState) : Type 0 where
-  no_room : (e : Error) → (with_room n s s).answer ≡ Err e
-      → Writes (with_room n s s) result t → PartAnswer run s n result t
-  ran : (with_room n s s).answer ≡ Ok tt → Ran run s n result t → PartAnswer run s n result t
+  no_room : (e : Error) → (room_outcome n s s).answer ≡ Err e
+      → Writes (room_outcome n s s) result t → PartAnswer run s n result t
+  ran : (room_outcome n s s).answer ≡ Ok tt → Runs run s n result t → PartAnswer run s n result t
 
 -- the rows of `sequence`: no room for the header; else the part behind it
 pub data WritesSequence (run : Run) (s : WriterState) (n : ℕ) (result : Result (Unit {0}) Error)
     (t : WriterState) : Type 0 where
   no_header : (e : Error) → (header_outcome Sequence n s).answer ≡ Err e
       → Writes (header_outcome Sequence n s) result t → WritesSequence run s n result t
-  with_header : Writes (header_outcome Sequence n s) (Ok tt) (headed s n)
-      → PartAnswer run (headed s n) n result t → WritesSequence run s n result t
+  with_header : Writes (header_outcome Sequence n s) (Ok tt) (headed_state s n)
+      → PartAnswer run (headed_state s n) n result t → WritesSequence run s n result t

@@ -5,9 +5,9 @@ ghost use Rattle.der_base.specs.Error.{kind_of};
 ghost use Rattle.der_base.specs.declared.error.Error.{Error as AnError};
 ghost use Rattle.der_base.specs.declared.encoding_rules.EncodingRules.{EncodingRules as Rules};
 ghost use Rattle.der_base.specs.declared.encoding_rules.EncodingRules.TheVariants.{Der};
-ghost use Rattle.der_core.specs.State.{State, rest, Same};
-ghost use Rattle.der_core.specs.Outcome.{seen};
-ghost use Rattle.der_core.specs.Decode.{is_out_of_memory_kind, Passed, ReadsOrLacks, PartialAnswer};
+ghost use Rattle.der_core.specs.ReaderState.{ReaderState, rest, Same};
+ghost use Rattle.der_core.specs.Outcome.{map_ok};
+ghost use Rattle.der_core.specs.Decode.{is_out_of_memory_kind, Passes, ReadsOrLacks, PartialAnswer};
 
 use crate::reader::{Reader, SliceReader};
 use der_base::{Error, ErrorKind};
@@ -52,7 +52,7 @@ pub trait Decode<R: Reader>: Sized + Drop {
 
     ghost takes_memory: { Bool };
 
-    ghost answers: { State → AResult Self Self.Error → State → Type 0 };
+    ghost answers: { ReaderState → AResult Self Self.Error → ReaderState → Type 0 };
 
     /// Decodes a value from the front of the reader's rest, and passes its octets.
     ///
@@ -64,7 +64,7 @@ pub trait Decode<R: Reader>: Sized + Drop {
         ensures same { Same (R.state reader.old) (R.state reader.new) }
         ensures ok { IfOk result (λ v. (R.state reader.old).failed ≡ false
             → (R.state reader.new).failed ≡ false
-            → Passed (λ rules octets m. heads rules octets v m) (R.state reader.old)
+            → Passes (λ rules octets m. heads rules octets v m) (R.state reader.old)
             (R.state reader.new)) }
         ensures complete { (v : Self) (m : ℕ) → R.reliable ≡ true
             → (R.state reader.old).failed ≡ false
@@ -95,7 +95,7 @@ pub trait DecodeBytes<'a>: Decode<SliceReader<'a>> {
             → IsOk result ⊎ ((Self.takes_memory ≡ true)
             × IsErrAnd result (λ e. Self.Error.out_of_memory e ≡ true)) }
         ensures exact { PartialAnswer Self.answers Self.Error.from_gives bytes.now
-            (seen (λ p. (p.0, p.1.now)) result) }
+            (map_ok (λ p. (p.0, p.1.now)) result) }
     {
         let mut reader = SliceReader::new(bytes)?;
         let value = Self::decode(alloc, &mut reader)?;

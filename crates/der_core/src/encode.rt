@@ -1,10 +1,10 @@
 //! Encoding.
 ghost use Rattle.std.specs.Prelude.{◌≡◌, ◌++◌, ℕ, true, List, length, OnOk, OnErr, IfOk, Result as AResult};
-ghost use Rattle.der_base.specs.Length.{plain};
+ghost use Rattle.der_base.specs.Length.{definite_length};
 ghost use Rattle.der_base.specs.declared.error.Error.{Error as AnError};
 ghost use Rattle.der_base.specs.declared.length.Length.{Length as ALength};
-ghost use Rattle.der_core.specs.Outcome.{seen};
-ghost use Rattle.der_core.specs.Writer.{WriterState, Kept, Appends};
+ghost use Rattle.der_core.specs.Outcome.{map_ok};
+ghost use Rattle.der_core.specs.Writer.{WriterState, Keeps, Appends};
 ghost use Rattle.der_core.specs.Encode.{Counts, HasSize, TakesCounted, FitsInto, GrowsBy, element_octets, element_size, ElementAnswers, SliceAnswer, VecAnswer};
 
 mod header;
@@ -44,7 +44,7 @@ pub trait Encode {
     /// Writes the encoding. An error of the value or of the writer is handed on, and what was
     /// written before it stands; `answers` says which.
     fn encode<W: Writer>(&self, writer: &mut W) -> Result<(), Error>
-        ensures kept { Kept (W.state writer.old) (W.state writer.new) }
+        ensures kept { Keeps (W.state writer.old) (W.state writer.new) }
         ensures ok { Appends (W.state writer.old) (encoding self.now) result (W.state writer.new) }
         ensures succeeds { encodable self.now
             → TakesCounted (W.state writer.old) (encoding self.now) result }
@@ -60,7 +60,7 @@ pub trait Encode {
         ensures succeeds { Self.encodable self.now
             → FitsInto (Self.encoding self.now) (length buf.old) result }
         ensures exact { SliceAnswer (Self.answers self.now) (length buf.old)
-            (seen (λ r. r.now) result) }
+            (map_ok (λ r. r.now) result) }
     {
         let mut writer = SliceWriter::new(buf);
         self.encode(&mut writer)?;
@@ -73,7 +73,7 @@ pub trait Encode {
     /// both without a position. After each refusal the vector's contents are as before.
     final fn encode_to_vec(&self, out: &mut Vec<u8>) -> Result<Length, Error>
         ensures ok { OnOk result (out.new.items ≡ out.old.items ++ Self.encoding self.now) }
-        ensures count { IfOk result (λ l. l ≡ plain (length (Self.encoding self.now))) }
+        ensures count { IfOk result (λ l. l ≡ definite_length (length (Self.encoding self.now))) }
         ensures refused { OnErr result (out.new.items ≡ out.old.items) }
         ensures succeeds { Self.encodable self.now
             → GrowsBy (Self.encoding self.now) (length out.old.items) result }
@@ -90,7 +90,7 @@ pub trait Encode {
         ensures ok { IfOk result (λ v. v.items ≡ Self.encoding self.now) }
         ensures succeeds { Self.encodable self.now → GrowsBy (Self.encoding self.now) 0 result }
         ensures exact { VecAnswer (Self.size self.now) (Self.answers self.now) 0
-            (seen (λ v. plain (length v.items)) result) }
+            (map_ok (λ v. definite_length (length v.items)) result) }
     {
         to_der_in(alloc, self)
     }
@@ -133,7 +133,7 @@ pub fn encode_tlv<T: EncodeValue + Tagged, W: Writer>(
     value: &T,
     writer: &mut W,
 ) -> Result<(), Error>
-    ensures kept { Kept (W.state writer.old) (W.state writer.new) }
+    ensures kept { Keeps (W.state writer.old) (W.state writer.new) }
     ensures ok { Appends (W.state writer.old)
         (element_octets (T.tag_of value.now) (T.contents value.now)) result (W.state writer.new) }
     ensures succeeds { T.writable value.now → TakesCounted (W.state writer.old)

@@ -1,14 +1,14 @@
 //! Headers.
 ghost use Rattle.std.specs.Prelude.{◌≡◌, ℕ, ◌||◌, true, false, Ok, IfOk};
 ghost use Rattle.der_base.specs.Error.{retold_error};
-ghost use Rattle.der_base.specs.Length.{flagged};
+ghost use Rattle.der_base.specs.Length.{is_indefinite};
 ghost use Rattle.der_base.specs.Tag.{label};
 ghost use Rattle.der_base.specs.Header.{HeaderFault};
 ghost use Rattle.der_base.specs.declared.error.ErrorKind.TheVariants.{Length as IncorrectLength};
 ghost use Rattle.der_base.specs.declared.encoding_rules.EncodingRules.TheVariants.{Der};
-ghost use Rattle.der_core.specs.State.{rest, advanced, Same};
+ghost use Rattle.der_core.specs.ReaderState.{rest, advanced_state, Same};
 ghost use Rattle.der_core.specs.Header.{head_of};
-ghost use Rattle.der_core.specs.Decode.{Passed, GrammarAnswers, header_levels, header_ahead};
+ghost use Rattle.der_core.specs.Decode.{Passes, GrammarAnswers, grammar_levels, IsHeaderAhead};
 ghost use Rattle.der_core.specs.declared.header.Header.{Header as AHeader};
 
 use crate::decode::Decode;
@@ -34,7 +34,7 @@ impl Header {
     /// The header of a tag and a length: constructed where the tag is, or the length was read in
     /// the indefinite form.
     pub fn new(tag: Tag, length: Length) -> Self
-        ensures { head_of result ≡ head tag length ((label tag).constructed || flagged length) }
+        ensures { head_of result ≡ head tag length ((label tag).constructed || is_indefinite length) }
     {
         let constructed = tag.is_constructed() || length.is_indefinite();
         Header {
@@ -94,14 +94,14 @@ impl Header {
 #[inline(always)]
 pub fn decode_header<R: Reader>(reader: &mut R) -> Result<Header, Error>
     ensures same { Same (R.state reader.old) (R.state reader.new) }
-    ensures ok { IfOk result (λ h. Passed (λ rules octets m. header_ahead rules octets h m)
+    ensures ok { IfOk result (λ h. Passes (λ rules octets m. IsHeaderAhead rules octets h m)
         (R.state reader.old) (R.state reader.new)) }
     ensures accepts { R.reliable ≡ true → (R.state reader.old).rules ≡ Der
         → (R.state reader.old).failed ≡ false → (h : AHeader) (m : ℕ)
-        → header_ahead (R.state reader.old).rules (rest (R.state reader.old)) h m
-        → (result ≡ Ok h) × (R.state reader.new ≡ advanced (R.state reader.old) m) }
+        → IsHeaderAhead (R.state reader.old).rules (rest (R.state reader.old)) h m
+        → (result ≡ Ok h) × (R.state reader.new ≡ advanced_state (R.state reader.old) m) }
     ensures exact { R.reliable ≡ true
-        → GrammarAnswers header_ahead HeaderFault (R.state reader.old) result (R.state reader.new) }
+        → GrammarAnswers IsHeaderAhead HeaderFault (R.state reader.old) result (R.state reader.new) }
 {
     let (tag, constructed) = decode_with_constructed_bit(reader)?;
     let length = match decode_length(reader) {
@@ -135,25 +135,25 @@ fn incorrect_length(tag: Tag, error: Error) -> Error
 impl<R: Reader> Decode<R> for Header {
     type Error = Error;
 
-    ghost heads = { header_ahead };
+    ghost heads = { IsHeaderAhead };
 
-    ghost needs = { header_levels };
+    ghost needs = { grammar_levels };
 
     ghost takes_memory = { false };
 
-    ghost answers = { GrammarAnswers header_ahead HeaderFault };
+    ghost answers = { GrammarAnswers IsHeaderAhead HeaderFault };
 
     #[inline(always)]
     fn decode(_alloc: Global, reader: &mut R) -> Result<Header, Error>
         ensures same { Same (R.state reader.old) (R.state reader.new) }
-        ensures ok { IfOk result (λ h. Passed (λ rules octets m. header_ahead rules octets h m)
+        ensures ok { IfOk result (λ h. Passes (λ rules octets m. IsHeaderAhead rules octets h m)
             (R.state reader.old) (R.state reader.new)) }
         ensures accepts { R.reliable ≡ true → (R.state reader.old).rules ≡ Der
             → (R.state reader.old).failed ≡ false → (h : AHeader) (m : ℕ)
-            → header_ahead (R.state reader.old).rules (rest (R.state reader.old)) h m
-            → (result ≡ Ok h) × (R.state reader.new ≡ advanced (R.state reader.old) m) }
+            → IsHeaderAhead (R.state reader.old).rules (rest (R.state reader.old)) h m
+            → (result ≡ Ok h) × (R.state reader.new ≡ advanced_state (R.state reader.old) m) }
         ensures exact { R.reliable ≡ true
-            → GrammarAnswers header_ahead HeaderFault (R.state reader.old) result
+            → GrammarAnswers IsHeaderAhead HeaderFault (R.state reader.old) result
             (R.state reader.new) }
     {
         decode_header(reader)

@@ -5,9 +5,9 @@ ghost use Rattle.der_base.specs.Header.{LengthAhead, LengthFault};
 ghost use Rattle.der_base.specs.declared.error.ErrorKind.TheVariants.{Overlength};
 ghost use Rattle.der_base.specs.declared.length.Length.{Length as ALength};
 ghost use Rattle.der_base.specs.declared.encoding_rules.EncodingRules.TheVariants.{Der};
-ghost use Rattle.der_core.specs.State.{rest, advanced, Same, Reads};
-ghost use Rattle.der_core.specs.Behind.{LongLengthRefused};
-ghost use Rattle.der_core.specs.Decode.{Passed, GrammarAnswers, header_levels};
+ghost use Rattle.der_core.specs.ReaderState.{rest, advanced_state, Same, Reads};
+ghost use Rattle.der_core.specs.Behind.{RefusesLongLength};
+ghost use Rattle.der_core.specs.Decode.{Passes, GrammarAnswers, grammar_levels};
 
 use crate::decode::Decode;
 use crate::reader::{Reader, ReaderExt};
@@ -27,12 +27,12 @@ const INDEFINITE: u8 = 0x80;
 #[inline(always)]
 pub fn decode_length<R: Reader>(reader: &mut R) -> Result<Length, Error>
     ensures same { Same (R.state reader.old) (R.state reader.new) }
-    ensures ok { IfOk result (λ l. Passed (λ rules octets m. LengthAhead rules octets l m)
+    ensures ok { IfOk result (λ l. Passes (λ rules octets m. LengthAhead rules octets l m)
         (R.state reader.old) (R.state reader.new)) }
     ensures accepts { R.reliable ≡ true → (R.state reader.old).rules ≡ Der
         → (R.state reader.old).failed ≡ false → (l : ALength) (m : ℕ)
         → LengthAhead (R.state reader.old).rules (rest (R.state reader.old)) l m
-        → (result ≡ Ok l) × (R.state reader.new ≡ advanced (R.state reader.old) m) }
+        → (result ≡ Ok l) × (R.state reader.new ≡ advanced_state (R.state reader.old) m) }
     ensures exact { R.reliable ≡ true
         → GrammarAnswers LengthAhead (λ rules at. LengthFault Overlength at rules)
         (R.state reader.old) result (R.state reader.new) }
@@ -53,7 +53,7 @@ fn decode_long_length<R: Reader>(reader: &mut R, first: u8) -> Result<u32, Error
     ensures ok { IfOk result (λ n. (l : List ℕ) × (length_octets n ≡ first ∷ l)
         × Reads (R.state reader.old) (R.state reader.new) l × (n < 2 ^ 32)) }
     ensures exact { R.reliable ≡ true
-        → IfErr result (λ e. LongLengthRefused first (R.state reader.old) e (R.state reader.new)) }
+        → IfErr result (λ e. RefusesLongLength first (R.state reader.old) e (R.state reader.new)) }
 {
     if first == INDEFINITE {
         return Err(reader.error(ErrorKind::IndefiniteLength));
@@ -91,7 +91,7 @@ impl<R: Reader> Decode<R> for Length {
 
     ghost heads = { LengthAhead };
 
-    ghost needs = { header_levels };
+    ghost needs = { grammar_levels };
 
     ghost takes_memory = { false };
 
@@ -100,12 +100,12 @@ impl<R: Reader> Decode<R> for Length {
     #[inline(always)]
     fn decode(_alloc: Global, reader: &mut R) -> Result<Length, Error>
         ensures same { Same (R.state reader.old) (R.state reader.new) }
-        ensures ok { IfOk result (λ l. Passed (λ rules octets m. LengthAhead rules octets l m)
+        ensures ok { IfOk result (λ l. Passes (λ rules octets m. LengthAhead rules octets l m)
             (R.state reader.old) (R.state reader.new)) }
         ensures accepts { R.reliable ≡ true → (R.state reader.old).rules ≡ Der
             → (R.state reader.old).failed ≡ false → (l : ALength) (m : ℕ)
             → LengthAhead (R.state reader.old).rules (rest (R.state reader.old)) l m
-            → (result ≡ Ok l) × (R.state reader.new ≡ advanced (R.state reader.old) m) }
+            → (result ≡ Ok l) × (R.state reader.new ≡ advanced_state (R.state reader.old) m) }
         ensures exact { R.reliable ≡ true
             → GrammarAnswers LengthAhead (λ rules at. LengthFault Overlength at rules)
             (R.state reader.old) result (R.state reader.new) }

@@ -2,13 +2,13 @@
 ghost use Rattle.std.specs.Prelude.{◌≡◌, ◌↔◌, ℕ, Bool, true, false, IsTrue, Ok, IfOk};
 ghost use Rattle.der_base.specs.Tag.{label};
 ghost use Rattle.der_base.specs.Class.{class_number};
-ghost use Rattle.der_base.specs.Header.{TagAhead, HeaderFault};
+ghost use Rattle.der_base.specs.Header.{IdentifierAhead, HeaderFault};
 ghost use Rattle.der_base.specs.Identifier.{IdentifierFault};
 ghost use Rattle.der_base.specs.declared.tag.Tag.{Tag as ATag};
 ghost use Rattle.der_base.specs.declared.encoding_rules.EncodingRules.TheVariants.{Der};
-ghost use Rattle.der_core.specs.State.{rest, advanced, Same};
-ghost use Rattle.der_core.specs.Outcome.{Owed};
-ghost use Rattle.der_core.specs.Decode.{Passed, GrammarAnswers, Peeks, MatchAnswers, header_ahead, tag_ahead};
+ghost use Rattle.der_core.specs.ReaderState.{rest, advanced_state, Same};
+ghost use Rattle.der_core.specs.Outcome.{IsBinding};
+ghost use Rattle.der_core.specs.Decode.{Passes, GrammarAnswers, Peeks, MatchAnswers, IsHeaderAhead, TagAhead};
 
 use crate::header::Header;
 use crate::reader::{Reader, ReaderExt};
@@ -40,8 +40,8 @@ pub trait TagPeek: Sized {
 
 impl TagPeek for Tag {
     fn peek<R: Reader>(reader: &R) -> Result<Self, Error>
-        ensures { Owed R.reliable result
-            → Peeks tag_ahead IdentifierFault (R.state reader.now) result }
+        ensures { IsBinding R.reliable result
+            → Peeks TagAhead IdentifierFault (R.state reader.now) result }
     {
         reader.peek_tag()
     }
@@ -52,7 +52,7 @@ impl TagPeek for Tag {
         expected_tag_number: TagNumber,
     ) -> Result<bool, Error>
         ensures stays { R.state reader.new ≡ R.state reader.old }
-        ensures exact { Owed R.reliable result
+        ensures exact { IsBinding R.reliable result
             → MatchAnswers (class_number expected_class) expected_tag_number.0 (R.state reader.old)
             result }
     {
@@ -65,14 +65,14 @@ impl TagPeek for Tag {
 
     fn decode_with_constructed_bit<R: Reader>(reader: &mut R) -> Result<(Self, bool), Error>
         ensures same { Same (R.state reader.old) (R.state reader.new) }
-        ensures ok { IfOk result (λ r. Passed (λ rules octets m. TagAhead rules octets r.0 r.1 m)
+        ensures ok { IfOk result (λ r. Passes (λ rules octets m. IdentifierAhead rules octets r.0 r.1 m)
             (R.state reader.old) (R.state reader.new)) }
         ensures accepts { R.reliable ≡ true → (R.state reader.old).rules ≡ Der
             → (R.state reader.old).failed ≡ false → (t : ATag) (bit : Bool) (m : ℕ)
-            → TagAhead (R.state reader.old).rules (rest (R.state reader.old)) t bit m
-            → (result ≡ Ok (t, bit)) × (R.state reader.new ≡ advanced (R.state reader.old) m) }
+            → IdentifierAhead (R.state reader.old).rules (rest (R.state reader.old)) t bit m
+            → (result ≡ Ok (t, bit)) × (R.state reader.new ≡ advanced_state (R.state reader.old) m) }
         ensures exact { R.reliable ≡ true
-            → GrammarAnswers (λ rules octets r m. TagAhead rules octets r.0 r.1 m) IdentifierFault
+            → GrammarAnswers (λ rules octets r m. IdentifierAhead rules octets r.0 r.1 m) IdentifierFault
             (R.state reader.old) result (R.state reader.new) }
     {
         decode_with_constructed_bit(reader)
@@ -90,8 +90,8 @@ fn has(tag: Tag, class: Class, number: TagNumber) -> bool
 impl Header {
     /// The header ahead, as [`decode_header`](crate::decode_header) would answer; the reader stays.
     pub fn peek<R: Reader>(reader: &R) -> Result<Self, Error>
-        ensures { Owed R.reliable result
-            → Peeks header_ahead HeaderFault (R.state reader.now) result }
+        ensures { IsBinding R.reliable result
+            → Peeks IsHeaderAhead HeaderFault (R.state reader.now) result }
     {
         reader.peek_header()
     }

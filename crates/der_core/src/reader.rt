@@ -1,12 +1,12 @@
 //! Readers of octets.
 ghost use Rattle.std.specs.Prelude.{◌≡◌, ℕ, Bool, true, false, List, length, Ok, Err, IfOk, OnOk, OnErr};
 ghost use Rattle.der_base.specs.Error.{at};
-ghost use Rattle.der_base.specs.Length.{number, plain};
+ghost use Rattle.der_base.specs.Length.{number, definite_length};
 ghost use Rattle.der_base.specs.declared.error.ErrorKind.TheVariants.{Reader as CannotRead};
-ghost use Rattle.der_core.specs.State.{State, here, stopped, resumed, Same, Sound};
-ghost use Rattle.der_core.specs.Outcome.{Meets, seen};
+ghost use Rattle.der_core.specs.ReaderState.{ReaderState, reader_position, stopped_state, resumed_state, Same, IsSound};
+ghost use Rattle.der_core.specs.Outcome.{Meets, map_ok};
 ghost use Rattle.der_core.specs.Reader.{read_slice_outcome, read_into_outcome, remaining_answer, drain_outcome, finish_answer, enter_nested_outcome, VecMeets};
-ghost use Rattle.der_core.specs.Resumption.{outer, outer_end, outer_depth};
+ghost use Rattle.der_core.specs.Resumption.{outer_place, outer_end, outer_depth};
 ghost use Rattle.der_core.specs.Nested.{CanLeave};
 
 mod extension;
@@ -46,7 +46,7 @@ pub trait Reader: Sized + Drop {
     /// What [`Reader::read_slice`] lends: for a [`SliceReader`] a part of its input.
     type Lent: Octets;
 
-    ghost state: { Self → State };
+    ghost state: { Self → ReaderState };
 
     ghost reliable: { Bool };
 
@@ -65,11 +65,11 @@ pub trait Reader: Sized + Drop {
 
     /// How far may be read: the length of the input, or inside a part its end.
     fn input_len(&self) -> Length
-        ensures { result ≡ plain (state self.now).end };
+        ensures { result ≡ definite_length (state self.now).end };
 
     /// How many octets were read since the beginning of the input.
     fn position(&self) -> Length
-        ensures { result ≡ plain (state self.now).position };
+        ensures { result ≡ definite_length (state self.now).position };
 
     /// Whether the reader has failed; one that keeps no such state never has.
     fn is_failed(&self) -> bool
@@ -82,9 +82,9 @@ pub trait Reader: Sized + Drop {
     fn read_slice(&mut self, len: Length) -> Result<Self::Lent, Error>
         ensures same { Same (state self.old) (state self.new) }
         ensures exact { Meets reliable (read_slice_outcome (number len)) (state self.old)
-            (seen Self.Lent.octets result) (state self.new) }
+            (map_ok Self.Lent.octets result) (state self.new) }
         ensures unlent { lends ≡ false
-            → seen Self.Lent.octets result ≡ Err (at CannotRead (here (state self.old))) }
+            → map_ok Self.Lent.octets result ≡ Err (at CannotRead (reader_position (state self.old))) }
         ensures unmoved { lends ≡ false → state self.new ≡ state self.old };
 
     /// Fills the buffer with the next octets; refused as [`Reader::read_slice`] is, the buffer
@@ -92,14 +92,14 @@ pub trait Reader: Sized + Drop {
     fn read_into(&mut self, buf: &mut [u8]) -> Result<(), Error>
         ensures same { Same (state self.old) (state self.new) }
         ensures exact { Meets reliable (read_into_outcome (length buf.old)) (state self.old)
-            (seen (λ _. buf.new) result) (state self.new) }
+            (map_ok (λ _. buf.new) result) (state self.new) }
         ensures kept { OnErr result (buf.new ≡ buf.old) };
 
     /// The error of this kind at the position; the reader has failed, where it keeps such a state.
     fn error(&mut self, kind: ErrorKind) -> Error
         ensures same { Same (state self.old) (state self.new) }
-        ensures at_position { result ≡ at kind (here (state self.old)) }
-        ensures failed { state self.new ≡ stopped (state self.old) (state self.old).position };
+        ensures at_position { result ≡ at kind (reader_position (state self.old)) }
+        ensures failed { state self.new ≡ stopped_state (state self.old) (state self.old).position };
 
     /// The octets that are left, up to the end. A failed reader refuses by `Failed` at its
     /// position, one that cannot lend by `Reader`.
@@ -107,9 +107,9 @@ pub trait Reader: Sized + Drop {
         ensures ok { IfOk result (λ r. Ok (Self.Lent.octets r) ≡ remaining_answer
             (state self.now)) }
         ensures exact { reliable ≡ true
-            → seen Self.Lent.octets result ≡ remaining_answer (state self.now) }
+            → map_ok Self.Lent.octets result ≡ remaining_answer (state self.now) }
         ensures unlent { lends ≡ false
-            → seen Self.Lent.octets result ≡ Err (at CannotRead (here (state self.now))) };
+            → map_ok Self.Lent.octets result ≡ Err (at CannotRead (reader_position (state self.now))) };
 
     /// An equal reader; it takes no memory, and what is read by it leaves this one as it is.
     fn fork(&self) -> Self
@@ -119,7 +119,7 @@ pub trait Reader: Sized + Drop {
     /// `OutOfMemory` without a position, the reader unchanged.
     fn read_vec(&mut self, alloc: Global, len: Length) -> Result<Vec<u8>, Error>
         ensures same { Same (state self.old) (state self.new) }
-        ensures exact { VecMeets reliable (number len) (state self.old) (seen (λ v. v.items) result)
+        ensures exact { VecMeets reliable (number len) (state self.old) (map_ok (λ v. v.items) result)
             (state self.new) };
 
     /// Passes so many octets. An unflagged zero passes none, also on a failed reader. Where fewer
@@ -141,17 +141,17 @@ pub trait Reader: Sized + Drop {
     /// `NestingDepth` at the position, and the reader has failed.
     fn enter_nested(&mut self, len: Length) -> Result<Resumption, Error>
         ensures exact { Meets reliable (enter_nested_outcome (number len)) (state self.old)
-            (seen outer result) (state self.new) }
+            (map_ok outer_place result) (state self.new) }
         ensures err { OnErr result (Same (state self.old) (state self.new)) };
 
     /// Leaves a part, with the end and the depth around it.
     fn leave_nested(&mut self, resumption: Resumption)
         requires { CanLeave (state self.old) (outer_end resumption) (outer_depth resumption) }
-        ensures { state self.new ≡ resumed (state self.old) (outer_end resumption)
+        ensures { state self.new ≡ resumed_state (state self.old) (outer_end resumption)
             (outer_depth resumption) };
 
     // what is so of every reader
-    ghost lawful: { (s : Self) → Sound (state s) };
+    ghost lawful: { (s : Self) → IsSound (state s) };
 
     // a reliable reader lends
     ghost lending: { reliable ≡ true → lends ≡ true };

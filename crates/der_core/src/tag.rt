@@ -1,14 +1,14 @@
 //! Tags, read.
 ghost use Rattle.std.specs.Prelude.{◌≡◌, ℕ, ◌^◌, ◌<◌, ◌≤◌, Bool, true, false, [], Ok, IfOk, IfErr};
-ghost use Rattle.der_base.specs.Digits.{digits, continued};
+ghost use Rattle.der_base.specs.Digits.{digits, continuation_octets};
 ghost use Rattle.der_base.specs.Tag.{universal_tag, other_tag, is_constructed};
-ghost use Rattle.der_base.specs.Header.{TagAhead};
+ghost use Rattle.der_base.specs.Header.{IdentifierAhead};
 ghost use Rattle.der_base.specs.Identifier.{IdentifierFault, identifier_kind};
 ghost use Rattle.der_base.specs.declared.tag.Tag.{Tag as ATag};
 ghost use Rattle.der_base.specs.declared.encoding_rules.EncodingRules.TheVariants.{Der};
-ghost use Rattle.der_core.specs.State.{rest, advanced, Same, Reads};
-ghost use Rattle.der_core.specs.Behind.{NumberRefused};
-ghost use Rattle.der_core.specs.Decode.{Passed, GrammarAnswers, header_levels, tag_ahead};
+ghost use Rattle.der_core.specs.ReaderState.{rest, advanced_state, Same, Reads};
+ghost use Rattle.der_core.specs.Behind.{RefusesNumber};
+ghost use Rattle.der_core.specs.Decode.{Passes, GrammarAnswers, grammar_levels, TagAhead};
 
 pub mod fixed;
 
@@ -86,14 +86,14 @@ fn other(first: u8, number: u32) -> Tag
 #[inline(always)]
 pub(crate) fn decode_with_constructed_bit<R: Reader>(reader: &mut R) -> Result<(Tag, bool), Error>
     ensures same { Same (R.state reader.old) (R.state reader.new) }
-    ensures ok { IfOk result (λ r. Passed (λ rules octets m. TagAhead rules octets r.0 r.1 m)
+    ensures ok { IfOk result (λ r. Passes (λ rules octets m. IdentifierAhead rules octets r.0 r.1 m)
         (R.state reader.old) (R.state reader.new)) }
     ensures accepts { R.reliable ≡ true → (R.state reader.old).rules ≡ Der
         → (R.state reader.old).failed ≡ false → (t : ATag) (bit : Bool) (m : ℕ)
-        → TagAhead (R.state reader.old).rules (rest (R.state reader.old)) t bit m
-        → (result ≡ Ok (t, bit)) × (R.state reader.new ≡ advanced (R.state reader.old) m) }
+        → IdentifierAhead (R.state reader.old).rules (rest (R.state reader.old)) t bit m
+        → (result ≡ Ok (t, bit)) × (R.state reader.new ≡ advanced_state (R.state reader.old) m) }
     ensures exact { R.reliable ≡ true
-        → GrammarAnswers (λ rules octets r m. TagAhead rules octets r.0 r.1 m) IdentifierFault
+        → GrammarAnswers (λ rules octets r m. IdentifierAhead rules octets r.0 r.1 m) IdentifierFault
         (R.state reader.old) result (R.state reader.new) }
 {
     let first = reader.read_byte()?;
@@ -128,9 +128,9 @@ fn unknown(first: u8) -> ErrorKind
 fn decode_long_number<R: Reader>(reader: &mut R) -> Result<u32, Error>
     ensures same { Same (R.state reader.old) (R.state reader.new) }
     ensures ok { IfOk result (λ n. Reads (R.state reader.old) (R.state reader.new)
-        (continued (digits 128 n)) × (31 ≤ n) × (n < 2 ^ 32)) }
+        (continuation_octets (digits 128 n)) × (31 ≤ n) × (n < 2 ^ 32)) }
     ensures exact { R.reliable ≡ true
-        → IfErr result (λ e. NumberRefused (R.state reader.old) e (R.state reader.new)) }
+        → IfErr result (λ e. RefusesNumber (R.state reader.old) e (R.state reader.new)) }
 {
     let mut number = 0u32;
     'octets: loop {
@@ -157,14 +157,14 @@ fn decode_long_number<R: Reader>(reader: &mut R) -> Result<u32, Error>
 #[inline(always)]
 pub(crate) fn decode_tag<R: Reader>(reader: &mut R) -> Result<Tag, Error>
     ensures same { Same (R.state reader.old) (R.state reader.new) }
-    ensures ok { IfOk result (λ t. Passed (λ rules octets m. tag_ahead rules octets t m)
+    ensures ok { IfOk result (λ t. Passes (λ rules octets m. TagAhead rules octets t m)
         (R.state reader.old) (R.state reader.new)) }
     ensures accepts { R.reliable ≡ true → (R.state reader.old).rules ≡ Der
         → (R.state reader.old).failed ≡ false → (t : ATag) (m : ℕ)
-        → tag_ahead (R.state reader.old).rules (rest (R.state reader.old)) t m
-        → (result ≡ Ok t) × (R.state reader.new ≡ advanced (R.state reader.old) m) }
+        → TagAhead (R.state reader.old).rules (rest (R.state reader.old)) t m
+        → (result ≡ Ok t) × (R.state reader.new ≡ advanced_state (R.state reader.old) m) }
     ensures exact { R.reliable ≡ true
-        → GrammarAnswers tag_ahead IdentifierFault (R.state reader.old) result
+        → GrammarAnswers TagAhead IdentifierFault (R.state reader.old) result
         (R.state reader.new) }
 {
     let (tag, _) = decode_with_constructed_bit(reader)?;
@@ -174,25 +174,25 @@ pub(crate) fn decode_tag<R: Reader>(reader: &mut R) -> Result<Tag, Error>
 impl<R: Reader> Decode<R> for Tag {
     type Error = Error;
 
-    ghost heads = { tag_ahead };
+    ghost heads = { TagAhead };
 
-    ghost needs = { header_levels };
+    ghost needs = { grammar_levels };
 
     ghost takes_memory = { false };
 
-    ghost answers = { GrammarAnswers tag_ahead IdentifierFault };
+    ghost answers = { GrammarAnswers TagAhead IdentifierFault };
 
     #[inline(always)]
     fn decode(_alloc: Global, reader: &mut R) -> Result<Tag, Error>
         ensures same { Same (R.state reader.old) (R.state reader.new) }
-        ensures ok { IfOk result (λ t. Passed (λ rules octets m. tag_ahead rules octets t m)
+        ensures ok { IfOk result (λ t. Passes (λ rules octets m. TagAhead rules octets t m)
             (R.state reader.old) (R.state reader.new)) }
         ensures accepts { R.reliable ≡ true → (R.state reader.old).rules ≡ Der
             → (R.state reader.old).failed ≡ false → (t : ATag) (m : ℕ)
-            → tag_ahead (R.state reader.old).rules (rest (R.state reader.old)) t m
-            → (result ≡ Ok t) × (R.state reader.new ≡ advanced (R.state reader.old) m) }
+            → TagAhead (R.state reader.old).rules (rest (R.state reader.old)) t m
+            → (result ≡ Ok t) × (R.state reader.new ≡ advanced_state (R.state reader.old) m) }
         ensures exact { R.reliable ≡ true
-            → GrammarAnswers tag_ahead IdentifierFault (R.state reader.old) result
+            → GrammarAnswers TagAhead IdentifierFault (R.state reader.old) result
             (R.state reader.new) }
     {
         decode_tag(reader)

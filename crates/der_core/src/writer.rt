@@ -1,6 +1,6 @@
 //! Writers of octets.
 ghost use Rattle.std.specs.Prelude.{◌≡◌, Bool, true, [], ◌∷◌};
-ghost use Rattle.der_core.specs.Writer.{WriterState, Kept, Appends, Takes, Writes, write_outcome};
+ghost use Rattle.der_core.specs.Writer.{WriterState, Keeps, Appends, Takes, Writes, write_outcome};
 
 pub mod slice;
 
@@ -23,7 +23,7 @@ pub trait Writer {
     /// room `Overlength` at the end that was wished; the writer has then failed, and its position
     /// stands.
     fn write(&mut self, octets: &[u8]) -> Result<(), Error>
-        ensures kept { Kept (state self.old) (state self.new) }
+        ensures kept { Keeps (state self.old) (state self.new) }
         ensures ok { Appends (state self.old) octets.now result (state self.new) }
         ensures succeeds { Takes (state self.old) octets.now result }
         ensures exact { reliable ≡ true
@@ -31,7 +31,7 @@ pub trait Writer {
 
     /// Appends one octet, as [`Writer::write`] does.
     final fn write_byte(&mut self, octet: u8) -> Result<(), Error>
-        ensures kept { Kept (Self.state self.old) (Self.state self.new) }
+        ensures kept { Keeps (Self.state self.old) (Self.state self.new) }
         ensures ok { Appends (Self.state self.old) (octet ∷ []) result (Self.state self.new) }
         ensures succeeds { Takes (Self.state self.old) (octet ∷ []) result }
         ensures exact { Self.reliable ≡ true

@@ -1,16 +1,16 @@
 -- What the octets of a whole element say of the input.
 use Rattle.std.proofs.Common.{◌≡◌, ℕ, ◌+◌, ◌^◌, ◌<◌, ◌≤◌, if◌then◌else◌, Bool, true, false, Result, Ok, Err, IfOk, IfErr, List, length, take, refl, sym, ap, ◌∙◌, subst, inl, inr, ⊎_elim, arith}
 use Rattle.std.proofs.lemmas.Bool.{lt-ltb, le-ltb, cases_lt, lt-leb, le-leb}
-use Rattle.der_base.specs.Error.{bare}
+use Rattle.der_base.specs.Error.{error_of_kind}
 use Rattle.der_base.specs.Length.{number}
-use Rattle.der_base.specs.Refusal.{wants, owed}
+use Rattle.der_base.specs.Refusal.{missing_refusal, error_of}
 use Rattle.der_base.specs.Header.{Head, HeaderAhead, HeaderFault}
 use Rattle.der_base.specs.declared.error.Error.{Error}
 use Rattle.der_base.specs.declared.error.ErrorKind.TheVariants.{Overflow}
 use Rattle.der_base.specs.declared.encoding_rules.EncodingRules.TheVariants.{Der}
-use Rattle.der_core.specs.State.{State, beginning, rest, advanced}
-use Rattle.der_core.specs.Outcome.{answers_and, seen, Owed}
-use Rattle.der_core.specs.Refused.{Refused}
+use Rattle.der_core.specs.ReaderState.{ReaderState, initial_state, rest, advanced_state}
+use Rattle.der_core.specs.Outcome.{outcome_of, map_ok, IsBinding}
+use Rattle.der_core.specs.Refused.{IsRefusedBy}
 use Rattle.der_core.specs.Reader.{read_slice_outcome, short_outcome, tlv_outcome}
 use Rattle.der_core.specs.Header.{head_of}
 use Rattle.der_core.specs.Decode.{TlvAnswers}
@@ -23,30 +23,30 @@ ElementSays octets (Ok element) = IsElement octets element
 ElementSays octets (Err e) = NoElement octets e
 
 module _ (octets : List ℕ) where
-  left : rest (beginning Der octets) ≡ octets
+  left : rest (initial_state Der octets) ≡ octets
   left = rest-beginning Der octets
 
-  fault_says : (e : Error) {t : State} → length octets < 2 ^ 32 → Refused HeaderFault (beginning Der octets) e t → NoElement octets e
-  fault_says e small (Refused.has_failed h told same) = absurd (let no : false ≡ true = h in cc)
-  fault_says e small (Refused.at_fault r working fault stops) = NoElement.no_header (inr (r, small, subst (λ o. HeaderFault Der 0 o r) left fault, stops.told))
+  fault_says : (e : Error) {t : ReaderState} → length octets < 2 ^ 32 → IsRefusedBy HeaderFault (initial_state Der octets) e t → NoElement octets e
+  fault_says e small (IsRefusedBy.has_failed h told same) = absurd (let no : false ≡ true = h in cc)
+  fault_says e small (IsRefusedBy.at_fault r working fault stops) = NoElement.no_header (inr (r, small, subst (λ o. HeaderFault Der 0 o r) left fault, stops.told))
 
-  pub too_long_says : (e : Error) → (length octets < 2 ^ 32 → ⊥) → e ≡ bare Overflow → NoElement octets e
+  pub too_long_says : (e : Error) → (length octets < 2 ^ 32 → ⊥) → e ≡ error_of_kind Overflow → NoElement octets e
   too_long_says e long told = NoElement.no_header (inl (⊎_elim (λ small. absurd (long small)) (λ far. far) (cases_lt (length octets) (2 ^ 32)), told))
 
-  abbrev begun : State
-  begun = beginning Der octets
+  abbrev begun : ReaderState
+  begun = initial_state Der octets
 
   -- the answer of an element of n octets, and what its two tests choose from
   abbrev whole_answer : ℕ → Result (List ℕ) Error
-  whole_answer n = (tlv_outcome n (beginning Der octets)).answer
+  whole_answer n = (tlv_outcome n (initial_state Der octets)).answer
 
   abbrev counted : ℕ → Bool → Result (List ℕ) Error
-  counted n near = (if near then read_slice_outcome n begun else answers_and (Err (bare Overflow)) begun).answer
+  counted n near = (if near then read_slice_outcome n begun else outcome_of (Err (error_of_kind Overflow)) begun).answer
 
   abbrev lent : ℕ → Bool → Result (List ℕ) Error
-  lent n there = (if there then answers_and (Ok (take n (rest begun))) (advanced begun n) else short_outcome (List ℕ) begun n).answer
+  lent n there = (if there then outcome_of (Ok (take n (rest begun))) (advanced_state begun n) else short_outcome (List ℕ) begun n).answer
 
-  far_answer : (n : ℕ) → 2 ^ 32 ≤ n → whole_answer n ≡ Err (bare Overflow)
+  far_answer : (n : ℕ) → 2 ^ 32 ≤ n → whole_answer n ≡ Err (error_of_kind Overflow)
   far_answer n far = ap (counted n) (le-ltb n (2 ^ 32) far)
 
   from_zero : (n : ℕ) → 0 + n ≡ n
@@ -55,10 +55,10 @@ module _ (octets : List ℕ) where
   there_answer : (n : ℕ) → n < 2 ^ 32 → n ≤ length octets → whole_answer n ≡ Ok (take n octets)
   there_answer n near there = ap (counted n) (lt-ltb n (2 ^ 32) near) ∙ ap (lent n) (le-leb (0 + n) (length octets) (omega (arith, there))) ∙ ap (λ o. Ok (take n o)) left
 
-  short_answer : (n : ℕ) → n < 2 ^ 32 → length octets < n → whole_answer n ≡ Err (owed (wants n (length octets) 0))
+  short_answer : (n : ℕ) → n < 2 ^ 32 → length octets < n → whole_answer n ≡ Err (error_of (missing_refusal n (length octets) 0))
   short_answer n near few =
       ap (counted n) (lt-ltb n (2 ^ 32) near) ∙ ap (lent n) (lt-leb (0 + n) (length octets) (omega (arith, few)))
-      ∙ ap (λ k. Err (owed (wants k (length octets) 0))) (from_zero n)
+      ∙ ap (λ k. Err (error_of (missing_refusal k (length octets) 0))) (from_zero n)
 
   whole_says : (r : Result (List ℕ) Error) (h : Head) (m : ℕ) → length octets < 2 ^ 32 → HeaderAhead Der octets h m → r ≡ whole_answer (m + number h.length) → ElementSays octets r
   whole_says r h m small ahead is =
@@ -71,21 +71,21 @@ module _ (octets : List ℕ) where
       (λ far. subst (ElementSays octets) (sym (is ∙ far_answer n far)) (NoElement.past_every_length h m small ahead far))
       (cases_lt n (2 ^ 32))
 
-  begun_says : (r : Result (List ℕ) Error) (t : State) → length octets < 2 ^ 32 → TlvAnswers begun r t → ElementSays octets r
+  begun_says : (r : Result (List ℕ) Error) (t : ReaderState) → length octets < 2 ^ 32 → TlvAnswers begun r t → ElementSays octets r
   begun_says r t small (TlvAnswers.no_header e peeked is same) = subst (ElementSays octets) (sym is) (fault_says e small (peeked.1 refl))
   begun_says r t small (TlvAnswers.with_header h m ahead working gives) =
       whole_says r (head_of h) m small (subst (λ o. HeaderAhead Der o (head_of h) m) left ahead) gives.answered
 
-  element_says : (s t : State) (r : Result (List ℕ) Error) → length octets < 2 ^ 32 → s ≡ beginning Der octets → TlvAnswers s r t → ElementSays octets r
+  element_says : (s t : ReaderState) (r : Result (List ℕ) Error) → length octets < 2 ^ 32 → s ≡ initial_state Der octets → TlvAnswers s r t → ElementSays octets r
   element_says s t r small e h = begun_says r t small (subst (λ x. TlvAnswers x r t) e h)
 
   -- what a reliable reader lends, or the error that it tells
-  pub lent_says : {B : Type 0} (now : B → List ℕ) (s t : State) (r : Result B Error) → length octets < 2 ^ 32 → s ≡ beginning Der octets → (Owed true r → TlvAnswers s (seen now r) t)
+  pub lent_says : {B : Type 0} (now : B → List ℕ) (s t : ReaderState) (r : Result B Error) → length octets < 2 ^ 32 → s ≡ initial_state Der octets → (IsBinding true r → TlvAnswers s (map_ok now r) t)
       → IfOk r (λ e. IsElement octets (now e))
   lent_says now s t (Ok e) small is h = element_says s t (Ok (now e)) small is (h tt)
   lent_says now s t (Err e) small is h = tt
 
-  pub told_says : {B : Type 0} (now : B → List ℕ) (s t : State) (r : Result B Error) → length octets < 2 ^ 32 → s ≡ beginning Der octets → (Owed true r → TlvAnswers s (seen now r) t)
+  pub told_says : {B : Type 0} (now : B → List ℕ) (s t : ReaderState) (r : Result B Error) → length octets < 2 ^ 32 → s ≡ initial_state Der octets → (IsBinding true r → TlvAnswers s (map_ok now r) t)
       → IfErr r (NoElement octets)
   told_says now s t (Ok e) small is h = tt
   told_says now s t (Err e) small is h = element_says s t (Err e) small is (h refl)

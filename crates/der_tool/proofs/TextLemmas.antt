@@ -3,9 +3,9 @@ use Rattle.std.proofs.Common.{◌≡◌, ℕ, ◌+◌, ◌++◌, ◌==◌, List,
 use Rattle.std.proofs.lemmas.Bool.{cases_Bool}
 use Rattle.der_base.specs.Header.{Head, LengthFault, HeaderFault}
 use Rattle.der_base.specs.Identifier.{IdentifierFault}
-use Rattle.der_base.specs.Refusal.{Refusal, wants, is_far, kind_told, owed}
+use Rattle.der_base.specs.Refusal.{Refusal, missing_refusal, is_far, kind_of_reason, error_of}
 use Rattle.der_base.specs.Error.{kind_of, position_of, at}
-use Rattle.der_base.specs.Length.{number, plain}
+use Rattle.der_base.specs.Length.{number, definite_length}
 use Rattle.der_base.specs.Text.{kind_text, position_text, error_text}
 use Rattle.der_base.specs.declared.error.Error.{Error}
 use Rattle.der_base.specs.declared.error.ErrorKind.{ErrorKind}
@@ -19,14 +19,14 @@ HasText printed = (text : List ℕ) × (printed ≡ Some text)
 error_text_of_kind : (e : Error) → HasText (kind_text (kind_of e)) → HasText (error_text e)
 error_text_of_kind e (t, is) = (t ++ position_text (position_of e), rw is refl)
 
-owed_text : (r : Refusal) → HasText (kind_text (kind_told r.reason)) → HasText (error_text (owed r))
+owed_text : (r : Refusal) → HasText (kind_text (kind_of_reason r.reason)) → HasText (error_text (error_of r))
 owed_text r told =
     elim (cases_Bool (is_far r.reason)) [
       | inl far ↦ rw far (_, refl)
-      | inr near ↦ rw near (error_text_of_kind (at (kind_told r.reason) (plain r.position)) told)
+      | inr near ↦ rw near (error_text_of_kind (at (kind_of_reason r.reason) (definite_length r.position)) told)
     ]
 
-identifier_text : {rules : EncodingRules} {at : ℕ} {s : List ℕ} {r : Refusal} → IdentifierFault rules at s r → HasText (kind_text (kind_told r.reason))
+identifier_text : {rules : EncodingRules} {at : ℕ} {s : List ℕ} {r : Refusal} → IdentifierFault rules at s r → HasText (kind_text (kind_of_reason r.reason))
 identifier_text (IdentifierFault.cut s c) = (_, refl)
 identifier_text (IdentifierFault.refused [] o rest c n) =
     elim (cases_Bool (o == 31)) [
@@ -36,14 +36,14 @@ identifier_text (IdentifierFault.refused [] o rest c n) =
 identifier_text (IdentifierFault.refused (first ∷ s) o rest c n) = (_, refl)
 
 length_text : {wrong : ErrorKind} {at : ℕ} {rules : EncodingRules} {s : List ℕ} {r : Refusal} → HasText (kind_text wrong) → LengthFault wrong at rules s r
-    → HasText (kind_text (kind_told r.reason))
+    → HasText (kind_text (kind_of_reason r.reason))
 length_text t LengthFault.nothing = (_, refl)
 length_text t (LengthFault.few k ds a b) = (_, refl)
 length_text t (LengthFault.far o rest a) = t
 length_text t (LengthFault.longer k ds rest a b c d) = t
 length_text t (LengthFault.indefinite_form rest) = (_, refl)
 
-header_text : {rules : EncodingRules} {at : ℕ} {s : List ℕ} {r : Refusal} → HeaderFault rules at s r → HasText (kind_text (kind_told r.reason))
+header_text : {rules : EncodingRules} {at : ℕ} {s : List ℕ} {r : Refusal} → HeaderFault rules at s r → HasText (kind_text (kind_of_reason r.reason))
 header_text (HeaderFault.no_identifier f) = identifier_text f
 header_text (HeaderFault.no_length i f) = length_text (_, refl) f
 
@@ -64,7 +64,7 @@ answer_refused octets text e refused tells =
 pub missing_text : (octets : List ℕ) (e : Error) → NoElement octets e → (reason : List ℕ) × (error_text e ≡ Some reason)
 missing_text octets e (NoElement.no_header refused) = refused_text octets e refused
 missing_text octets e (NoElement.past_every_length h count small ahead far) = (_, refl)
-missing_text octets e (NoElement.contents_missing h count ahead near few) = owed_text (wants (count + number h.length) (length octets) 0) (_, refl)
+missing_text octets e (NoElement.contents_missing h count ahead near few) = owed_text (missing_refusal (count + number h.length) (length octets) 0) (_, refl)
 
 pub element_told : (octets text element : List ℕ) → IsElement octets element → text ≡ element_line element → AnswersTlv octets 0 text
 element_told octets text element read line = AnswersTlv.told record { element = element; read = read; line = line }

@@ -4,8 +4,8 @@ use Rattle.std.specs.Io.KnownBytes.{Appends}
 use Rattle.hex.specs.Hex.{decode_of}
 use Rattle.der_base.specs.Header.{Head, HeaderAhead, HeaderFault}
 use Rattle.der_base.specs.Length.{number}
-use Rattle.der_base.specs.Refusal.{Refusal, wants, owed}
-use Rattle.der_base.specs.Error.{bare}
+use Rattle.der_base.specs.Refusal.{Refusal, missing_refusal, error_of}
+use Rattle.der_base.specs.Error.{error_of_kind}
 use Rattle.der_base.specs.Text.{error_text}
 use Rattle.der_base.specs.declared.error.Error.{Error}
 use Rattle.der_base.specs.declared.error.ErrorKind.TheVariants.{Overflow}
@@ -27,8 +27,8 @@ pub record IsHeaderRead (octets : List ℕ) (h : Head) (rest : List ℕ) : Type 
 -- the octets are more than a length can count, or begin with no header; the error tells which
 abbrev pub IsRefusedFor : List ℕ → Error → Type 0
 IsRefusedFor octets e =
-    ((2 ^ 32 ≤ length octets) × (e ≡ bare Overflow))
-    ⊎ ((r : Refusal) × (length octets < 2 ^ 32) × HeaderFault Der 0 octets r × (e ≡ owed r))
+    ((2 ^ 32 ≤ length octets) × (e ≡ error_of_kind Overflow))
+    ⊎ ((r : Refusal) × (length octets < 2 ^ 32) × HeaderFault Der 0 octets r × (e ≡ error_of r))
 
 -- as many octets as a length can count begin with this element: a header, and as many octets more
 -- as its length says
@@ -45,10 +45,10 @@ pub data NoElement (octets : List ℕ) : Error → Type 0 where
   no_header : {e : Error} → IsRefusedFor octets e → NoElement octets e
   past_every_length : (h : Head) (count : ℕ) → length octets < 2 ^ 32
       → HeaderAhead Der octets h count → 2 ^ 32 ≤ count + number h.length
-      → NoElement octets (bare Overflow)
+      → NoElement octets (error_of_kind Overflow)
   contents_missing : (h : Head) (count : ℕ) → HeaderAhead Der octets h count
       → count + number h.length < 2 ^ 32 → length octets < count + number h.length
-      → NoElement octets (owed (wants (count + number h.length) (length octets) 0))
+      → NoElement octets (error_of (missing_refusal (count + number h.length) (length octets) 0))
 
 -- the lines tell the header that the octets begin with
 pub record Tells (octets text : List ℕ) : Type 0 where
@@ -104,8 +104,8 @@ pub data Answers (words : List (List ℕ)) : ℕ → List ℕ → Type 0 where
   no_memory : IsCommand words → Answers words 1 (error_line (codes "out of memory"))
 
 -- the output took an answer to the words whole, and nothing else
-abbrev pub Writes : List (List ℕ) → ℕ → Option (List ℕ) → Option (List ℕ) → Type 0
-Writes words status old new = (text : List ℕ) × Answers words status text × Appends old new text
+abbrev pub WritesAnswer : List (List ℕ) → ℕ → Option (List ℕ) → Option (List ℕ) → Type 0
+WritesAnswer words status old new = (text : List ℕ) × Answers words status text × Appends old new text
 
 -- an answer's status and text
 abbrev pub status_of : {A : Type 0} → Answer A → ℕ

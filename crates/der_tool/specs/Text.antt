@@ -2,7 +2,7 @@
 use Rattle.std.specs.Prelude.{ℕ, Bool, List, [], ◌∷◌, ◌++◌, codes, if◌then◌else◌}
 use Rattle.hex.specs.Hex.{encode_lower}
 use Rattle.der_base.specs.Header.{Head}
-use Rattle.der_base.specs.Length.{flagged}
+use Rattle.der_base.specs.Length.{is_indefinite}
 use Rattle.der_base.specs.Text.{tag_text, length_text}
 
 abbrev pub usage_line : List ℕ
@@ -31,5 +31,5 @@ element_line element = encode_lower element ++ codes "\n"
 abbrev pub header_lines : Head → List ℕ → List ℕ
 header_lines h rest =
     codes "tag: " ++ tag_text h.tag ++ codes "\nconstructed: " ++ yes_or_no h.constructed
-    ++ codes "\nlength: " ++ length_text h.length ++ indefinite_mark (flagged h.length)
+    ++ codes "\nlength: " ++ length_text h.length ++ indefinite_mark (is_indefinite h.length)
     ++ codes "\nrest: " ++ octets_text rest ++ codes "\n"

@@ -3,7 +3,7 @@
 #![tactic(auto)]
 
 ghost use Rattle.std.specs.Prelude.{◌≡◌, ◌⊎◌, ℕ, List};
-ghost use Rattle.der_tool.specs.Answer.{Writes};
+ghost use Rattle.der_tool.specs.Answer.{WritesAnswer};
 
 mod answer;
 mod command;
@@ -29,7 +29,7 @@ fn main(rt: HostRuntime) -> ExitCode {
 // arguments is seen in the stored run.
 fn run_arguments<W: Output>(rt: &(impl Env + AllocGlobal), out: &mut W) -> u8
     ensures { (result ≡ 1) ⊎ ((words : List (List ℕ))
-        × Writes words result (W.contents out.old) (W.contents out.new)) }
+        × WritesAnswer words result (W.contents out.old) (W.contents out.new)) }
 {
     match arguments(rt) {
         Ok(words) => run(rt.alloc(), &words, out),

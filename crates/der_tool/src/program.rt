@@ -3,7 +3,7 @@ ghost use Rattle.std.specs.Prelude.{◌≡◌, ◌⊎◌, true, Ok, IfOk, OnOk, 
 ghost use Rattle.std.specs.Io.KnownBytes.{Appends};
 ghost use Rattle.hex.specs.Hex.{decode_of};
 ghost use Rattle.der_tool.specs.Command.{texts, hex_of, IsHex};
-ghost use Rattle.der_tool.specs.Answer.{Answers, Fulfils, Writes, status_of, text_of};
+ghost use Rattle.der_tool.specs.Answer.{Answers, Fulfils, WritesAnswer, status_of, text_of};
 
 use crate::answer::Answer;
 use crate::command::Command;
@@ -19,9 +19,9 @@ use std::io;
 /// Nothing is said of what an output that fails took.
 pub fn run<W: Output>(alloc: Global, words: &[String], out: &mut W) -> u8
     ensures answers { (result ≡ 1)
-        ⊎ Writes (texts words.now) result (W.contents out.old) (W.contents out.new) }
+        ⊎ WritesAnswer (texts words.now) result (W.contents out.old) (W.contents out.new) }
     ensures exact { W.reliable ≡ true
-        → Writes (texts words.now) result (W.contents out.old) (W.contents out.new) }
+        → WritesAnswer (texts words.now) result (W.contents out.old) (W.contents out.new) }
 {
     respond(alloc, alloc, words, out).unwrap_or(1)
 }
@@ -36,7 +36,7 @@ pub fn respond<A: Allocator + Copy, W: Output>(
     out: &mut W,
 ) -> io::Result<u8>
     ensures answers { IfOk result (λ status.
-        Writes (texts words.now) status (W.contents out.old) (W.contents out.new)) }
+        WritesAnswer (texts words.now) status (W.contents out.old) (W.contents out.new)) }
     ensures succeeds { W.reliable ≡ true → IsOk result }
 {
     say(&answer(alloc, global, words), out)

@@ -1,7 +1,7 @@
 //! Sums and differences of lengths.
 ghost use Rattle.std.specs.Prelude.{◌≡◌, ◌+◌, ◌-◌};
-ghost use Rattle.der_base.specs.Length.{number, plain};
-ghost use Rattle.der_base.specs.Arithmetic.{capped, counted, left_over, then_sum, then_left_over};
+ghost use Rattle.der_base.specs.Length.{number, definite_length};
+ghost use Rattle.der_base.specs.Arithmetic.{saturated_number, checked_length, checked_difference, result_sum, result_difference};
 
 use crate::error::{ErrorKind, Result};
 use crate::length::Length;
@@ -10,14 +10,14 @@ use std::ops::{Add, Sub};
 impl Length {
     /// The sum, unflagged, stopping at 4294967295.
     pub const fn saturating_add(self, rhs: Self) -> Self
-        ensures { result ≡ plain (capped (number self + number rhs)) }
+        ensures { result ≡ definite_length (saturated_number (number self + number rhs)) }
     {
         Length::new(self.inner.saturating_add(rhs.inner))
     }
 
     /// The difference, unflagged, stopping at zero.
     pub const fn saturating_sub(self, rhs: Self) -> Self
-        ensures { result ≡ plain (number self - number rhs) }
+        ensures { result ≡ definite_length (number self - number rhs) }
     {
         Length::new(self.inner.saturating_sub(rhs.inner))
     }
@@ -27,7 +27,7 @@ impl Length {
 impl Add for Length {
     type Output = Result<Self>;
 
-    ghost add_gives = { λ a b r. r ≡ counted (number a + number b) };
+    ghost add_gives = { λ a b r. r ≡ checked_length (number a + number b) };
 
     fn add(self, rhs: Self) -> Result<Self> {
         self + rhs.inner
@@ -38,7 +38,7 @@ impl Add for Length {
 impl Add<u8> for Length {
     type Output = Result<Self>;
 
-    ghost add_gives = { λ a n r. r ≡ counted (number a + n) };
+    ghost add_gives = { λ a n r. r ≡ checked_length (number a + n) };
 
     fn add(self, rhs: u8) -> Result<Self> {
         self + u32::from(rhs)
@@ -49,7 +49,7 @@ impl Add<u8> for Length {
 impl Add<u16> for Length {
     type Output = Result<Self>;
 
-    ghost add_gives = { λ a n r. r ≡ counted (number a + n) };
+    ghost add_gives = { λ a n r. r ≡ checked_length (number a + n) };
 
     fn add(self, rhs: u16) -> Result<Self> {
         self + u32::from(rhs)
@@ -60,7 +60,7 @@ impl Add<u16> for Length {
 impl Add<u32> for Length {
     type Output = Result<Self>;
 
-    ghost add_gives = { λ a n r. r ≡ counted (number a + n) };
+    ghost add_gives = { λ a n r. r ≡ checked_length (number a + n) };
 
     fn add(self, rhs: u32) -> Result<Self> {
         match self.inner.checked_add(rhs) {
@@ -74,7 +74,7 @@ impl Add<u32> for Length {
 impl Add<usize> for Length {
     type Output = Result<Self>;
 
-    ghost add_gives = { λ a n r. r ≡ counted (number a + n) };
+    ghost add_gives = { λ a n r. r ≡ checked_length (number a + n) };
 
     fn add(self, rhs: usize) -> Result<Self> {
         self + Length::new_usize(rhs)?
@@ -85,7 +85,7 @@ impl Add<usize> for Length {
 impl Sub for Length {
     type Output = Result<Self>;
 
-    ghost sub_gives = { λ a b r. r ≡ left_over (number a) (number b) };
+    ghost sub_gives = { λ a b r. r ≡ checked_difference (number a) (number b) };
 
     fn sub(self, rhs: Self) -> Result<Self> {
         match self.inner.checked_sub(rhs.inner) {
@@ -99,7 +99,7 @@ impl Sub for Length {
 impl Add<Length> for Result<Length> {
     type Output = Self;
 
-    ghost add_gives = { λ a b r. r ≡ then_sum a b };
+    ghost add_gives = { λ a b r. r ≡ result_sum a b };
 
     fn add(self, rhs: Length) -> Self {
         self? + rhs
@@ -110,7 +110,7 @@ impl Add<Length> for Result<Length> {
 impl Sub<Length> for Result<Length> {
     type Output = Self;
 
-    ghost sub_gives = { λ a b r. r ≡ then_left_over a b };
+    ghost sub_gives = { λ a b r. r ≡ result_difference a b };
 
     fn sub(self, rhs: Length) -> Self {
         self? - rhs

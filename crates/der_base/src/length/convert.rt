@@ -1,14 +1,14 @@
 //! Numbers as lengths, and lengths as numbers.
 ghost use Rattle.std.specs.Prelude.{◌≡◌, Ok};
-ghost use Rattle.der_base.specs.Length.{number, plain};
-ghost use Rattle.der_base.specs.Arithmetic.{counted};
+ghost use Rattle.der_base.specs.Length.{number, definite_length};
+ghost use Rattle.der_base.specs.Arithmetic.{checked_length};
 
 use crate::error::{Error, Result};
 use crate::length::Length;
 
 /// So many octets, unflagged.
 impl From<u8> for Length {
-    ghost from_gives = { λ n l. l ≡ plain n };
+    ghost from_gives = { λ n l. l ≡ definite_length n };
 
     fn from(value: u8) -> Self {
         Length::new(u32::from(value))
@@ -17,7 +17,7 @@ impl From<u8> for Length {
 
 /// So many octets, unflagged.
 impl From<u16> for Length {
-    ghost from_gives = { λ n l. l ≡ plain n };
+    ghost from_gives = { λ n l. l ≡ definite_length n };
 
     fn from(value: u16) -> Self {
         Length::new(u32::from(value))
@@ -26,7 +26,7 @@ impl From<u16> for Length {
 
 /// So many octets, unflagged.
 impl From<u32> for Length {
-    ghost from_gives = { λ n l. l ≡ plain n };
+    ghost from_gives = { λ n l. l ≡ definite_length n };
 
     fn from(value: u32) -> Self {
         Length::new(value)
@@ -46,7 +46,7 @@ impl From<Length> for u32 {
 impl TryFrom<usize> for Length {
     type Error = Error;
 
-    ghost try_from_gives = { λ n r. r ≡ counted n };
+    ghost try_from_gives = { λ n r. r ≡ checked_length n };
 
     fn try_from(value: usize) -> Result<Self> {
         Length::new_usize(value)

@@ -1,7 +1,7 @@
 //! How many octets lengths and whole elements take.
 ghost use Rattle.std.specs.Prelude.{◌≡◌, ◌≤◌, length};
 ghost use Rattle.der_base.specs.Length.{number, length_octets};
-ghost use Rattle.der_base.specs.Arithmetic.{counted, element_count};
+ghost use Rattle.der_base.specs.Arithmetic.{checked_length, element_count};
 
 use crate::error::Result;
 use crate::length::Length;
@@ -12,7 +12,7 @@ impl Length {
     /// tag (X.690 8.1.2), those of the length (8.1.3), and the contents. The answer is unflagged,
     /// and kind `Overflow` without a position where it would pass 4294967295.
     pub fn for_tlv(self, tag: Tag) -> Result<Self>
-        ensures { result ≡ counted (element_count tag (number self)) }
+        ensures { result ≡ checked_length (element_count tag (number self)) }
     {
         Length::new(tag.octet_count() + self.octet_count()) + self
     }

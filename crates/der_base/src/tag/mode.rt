@@ -20,9 +20,9 @@ pub enum TagMode {
 impl FromStr for TagMode {
     type Err = Error;
 
-    ghost use Rattle.der_base.specs.Names.{mode_named};
+    ghost use Rattle.der_base.specs.Names.{mode_of_name};
 
-    ghost from_str_gives = { λ text r. r ≡ mode_named text };
+    ghost from_str_gives = { λ text r. r ≡ mode_of_name text };
 
     fn from_str(text: &str) -> Result<Self> {
         match text {

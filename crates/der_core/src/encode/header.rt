@@ -1,6 +1,6 @@
 //! Headers, written.
 ghost use Rattle.std.specs.Prelude.{◌≡◌, length, Ok};
-ghost use Rattle.der_base.specs.Length.{number, plain};
+ghost use Rattle.der_base.specs.Length.{number, definite_length};
 ghost use Rattle.der_base.specs.Header.{header_octets};
 ghost use Rattle.der_core.specs.Header.{head_of};
 ghost use Rattle.der_core.specs.Writer.{Writes};
@@ -18,7 +18,7 @@ impl Encode for Header {
 
     ghost encodable = { λ _. Unit {0} };
 
-    ghost size = { λ h. Ok (plain (length
+    ghost size = { λ h. Ok (definite_length (length
         (header_octets (head_of h).tag (number (head_of h).length)))) };
 
     ghost answers = { λ h s r t.

@@ -1,6 +1,6 @@
 //! Lengths, written.
 ghost use Rattle.std.specs.Prelude.{◌≡◌, ◌+◌, length, Ok};
-ghost use Rattle.der_base.specs.Length.{number, plain, length_octets};
+ghost use Rattle.der_base.specs.Length.{number, definite_length, length_octets};
 ghost use Rattle.der_core.specs.Writer.{Writes};
 ghost use Rattle.der_core.specs.Encode.{length_outcome};
 
@@ -15,7 +15,7 @@ impl Encode for Length {
 
     ghost encodable = { λ _. Unit {0} };
 
-    ghost size = { λ l. Ok (plain (length (length_octets (number l)))) };
+    ghost size = { λ l. Ok (definite_length (length (length_octets (number l)))) };
 
     ghost answers = { λ l s r t. Writes (length_outcome (number l) s) r t };
 

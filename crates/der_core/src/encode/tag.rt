@@ -1,9 +1,9 @@
 //! Tags, written.
 ghost use Rattle.std.specs.Prelude.{◌≡◌, ◌<◌, length, Ok, true};
-ghost use Rattle.der_base.specs.Length.{plain};
-ghost use Rattle.der_base.specs.Tag.{label, tag_octets, first_octet};
-ghost use Rattle.der_core.specs.Writer.{Writes, Kept, Appends, Takes, write_pieces};
-ghost use Rattle.der_core.specs.Encode.{singly, high_digits, tag_outcome};
+ghost use Rattle.der_base.specs.Length.{definite_length};
+ghost use Rattle.der_base.specs.Tag.{label, tag_octets, leading_octet};
+ghost use Rattle.der_core.specs.Writer.{Writes, Keeps, Appends, Takes, write_pieces};
+ghost use Rattle.der_core.specs.Encode.{single_octets, high_digits, tag_outcome};
 
 use crate::encode::Encode;
 use crate::writer::Writer;
@@ -15,7 +15,7 @@ impl Encode for Tag {
 
     ghost encodable = { λ _. Unit {0} };
 
-    ghost size = { λ t. Ok (plain (length (tag_octets t))) };
+    ghost size = { λ t. Ok (definite_length (length (tag_octets t))) };
 
     ghost answers = { λ t s r u. Writes (tag_outcome t s) r u };
 
@@ -37,7 +37,7 @@ impl Encode for Tag {
 // The first octet of a tag, with these five low bits.
 fn first_octet_of(tag: Tag, low: u8) -> u8
     requires { low < 32 }
-    ensures { result ≡ first_octet (label tag) low }
+    ensures { result ≡ leading_octet (label tag) low }
 {
     let constructed = if tag.is_constructed() { 0x20 } else { 0 };
     tag.class().bits() + constructed + low
@@ -46,11 +46,11 @@ fn first_octet_of(tag: Tag, low: u8) -> u8
 // Writes the digits of a number in base 128, the most significant first, with bit 8 set on each
 // (X.690 8.1.2.4.2).
 fn encode_high_digits<W: Writer>(number: u32, writer: &mut W) -> Result<(), Error>
-    ensures kept { Kept (W.state writer.old) (W.state writer.new) }
+    ensures kept { Keeps (W.state writer.old) (W.state writer.new) }
     ensures ok { Appends (W.state writer.old) (high_digits number) result (W.state writer.new) }
     ensures succeeds { Takes (W.state writer.old) (high_digits number) result }
     ensures exact { W.reliable ≡ true → Writes
-        (write_pieces (singly (high_digits number)) (W.state writer.old)) result
+        (write_pieces (single_octets (high_digits number)) (W.state writer.old)) result
         (W.state writer.new) }
 {
     if number == 0 {

@@ -2,8 +2,8 @@
 ghost use Rattle.std.specs.Prelude.{◌≡◌, ℕ, true, List, length, IfOk, Result as AResult};
 ghost use Rattle.der_base.specs.declared.error.Error.{Error as AnError};
 ghost use Rattle.der_base.specs.declared.length.Length.{Length as ALength};
-ghost use Rattle.der_core.specs.Outcome.{seen};
-ghost use Rattle.der_core.specs.Writer.{WriterState, Kept, Appends};
+ghost use Rattle.der_core.specs.Outcome.{map_ok};
+ghost use Rattle.der_core.specs.Writer.{WriterState, Keeps, Appends};
 ghost use Rattle.der_core.specs.Encode.{Counts, HasSize, TakesCounted, FitsInto, HeaderOf, HeaderAnswers, SliceAnswer};
 
 use crate::header::Header;
@@ -29,7 +29,7 @@ pub trait WrittenValue {
 ///
 /// ```
 /// ghost use Rattle.std.specs.Prelude.{◌≡◌, [], ◌∷◌, Ok, IfOk};
-/// ghost use Rattle.der_base.specs.Length.{plain};
+/// ghost use Rattle.der_base.specs.Length.{definite_length};
 /// ghost use Rattle.der_base.specs.declared.tag.Tag.TheVariants.{OctetString};
 /// ghost use Rattle.der_core.specs.Writer.{Writes, write_outcome};
 ///
@@ -58,7 +58,7 @@ pub trait WrittenValue {
 /// }
 ///
 /// impl EncodeValue for Month {
-///     ghost value_size = { λ _. Ok (plain 1) };
+///     ghost value_size = { λ _. Ok (definite_length 1) };
 ///
 ///     ghost value_answers = { λ month s r t. Writes (write_outcome (month.number ∷ []) s) r t };
 ///
@@ -105,7 +105,7 @@ pub trait EncodeValue: WrittenValue {
     /// Writes the contents. An error of the value or of the writer is handed on, and what was
     /// written before it stands; `value_answers` says which.
     fn encode_value<W: Writer>(&self, writer: &mut W) -> Result<(), Error>
-        ensures kept { Kept (W.state writer.old) (W.state writer.new) }
+        ensures kept { Keeps (W.state writer.old) (W.state writer.new) }
         ensures ok { Appends (W.state writer.old) (Self.contents self.now) result
             (W.state writer.new) }
         ensures succeeds { Self.writable self.now
@@ -126,7 +126,7 @@ pub fn encode_value_to_slice<'a, T: EncodeValue>(
     ensures succeeds { T.writable value.now
         → FitsInto (T.contents value.now) (length buf.old) result }
     ensures exact { SliceAnswer (T.value_answers value.now) (length buf.old)
-        (seen (λ r. r.now) result) }
+        (map_ok (λ r. r.now) result) }
 {
     let mut writer = SliceWriter::new(buf);
     value.encode_value(&mut writer)?;

@@ -1,9 +1,9 @@
 //! Encoding into memory of any allocator; [`Encode::to_der`] and [`Encode::encode_to_vec`] take the
 //! global one.
 ghost use Rattle.std.specs.Prelude.{◌≡◌, ◌++◌, length, OnOk, OnErr, IfOk};
-ghost use Rattle.der_base.specs.Length.{plain};
+ghost use Rattle.der_base.specs.Length.{definite_length};
 ghost use Rattle.der_core.specs.Encode.{Begins, FitsInto, FreshAnswer, GrowsBy, VecAnswer};
-ghost use Rattle.der_core.specs.Outcome.{seen};
+ghost use Rattle.der_core.specs.Outcome.{map_ok};
 
 use crate::encode::Encode;
 use crate::writer::SliceWriter;
@@ -15,7 +15,7 @@ pub fn to_der_in<T: Encode, A: Allocator>(alloc: A, value: &T) -> Result<Vec<u8,
     ensures ok { IfOk result (λ v. v.items ≡ T.encoding value.now) }
     ensures succeeds { T.encodable value.now → GrowsBy (T.encoding value.now) 0 result }
     ensures exact { VecAnswer (T.size value.now) (T.answers value.now) 0
-        (seen (λ v. plain (length v.items)) result) }
+        (map_ok (λ v. definite_length (length v.items)) result) }
 {
     let mut out = Vec::new(alloc);
     encode_to_vec_in(value, &mut out)?;
@@ -28,7 +28,7 @@ pub fn encode_to_vec_in<T: Encode, A: Allocator>(
     out: &mut Vec<u8, A>,
 ) -> Result<Length, Error>
     ensures ok { OnOk result (out.new.items ≡ out.old.items ++ T.encoding value.now) }
-    ensures count { IfOk result (λ l. l ≡ plain (length (T.encoding value.now))) }
+    ensures count { IfOk result (λ l. l ≡ definite_length (length (T.encoding value.now))) }
     ensures refused { OnErr result (out.new.items ≡ out.old.items) }
     ensures succeeds { T.encodable value.now
         → GrowsBy (T.encoding value.now) (length out.old.items) result }

@@ -2,15 +2,15 @@
 ghost use Rattle.std.specs.Prelude.{◌≡◌, ◌↔◌, ℕ, ◌+◌, ◌-◌, ◌≤◌, true, false, IsTrue, length, IfOk, OnErr};
 ghost use Rattle.der_base.specs.Header.{HeaderFault};
 ghost use Rattle.der_base.specs.Identifier.{IdentifierFault};
-ghost use Rattle.der_base.specs.Length.{number, plain};
-ghost use Rattle.der_core.specs.State.{State, rest, Same, resumed};
-ghost use Rattle.der_core.specs.Outcome.{Meets, AnswersAs, PeeksAs, Owed, seen};
+ghost use Rattle.der_base.specs.Length.{number, definite_length};
+ghost use Rattle.der_core.specs.ReaderState.{ReaderState, rest, Same, resumed_state};
+ghost use Rattle.der_core.specs.Outcome.{Meets, AnswersAs, PeeksAs, IsBinding, map_ok};
 ghost use Rattle.der_core.specs.Reader.{read_byte_outcome, read_into_outcome};
 ghost use Rattle.der_core.specs.Resumption.{outer_end, outer_depth};
-ghost use Rattle.der_core.specs.Decode.{Passed, Peeks, TlvAnswers, ReaderDecodes, ReadsOrLacks, header_ahead, tag_ahead};
+ghost use Rattle.der_core.specs.Decode.{Passes, Peeks, TlvAnswers, ReaderDecodes, ReadsOrLacks, IsHeaderAhead, TagAhead};
 ghost use Rattle.der_core.specs.Header.{head_of};
 ghost use Rattle.der_core.specs.declared.header.Header.{Header as AHeader};
-ghost use Rattle.der_base.specs.Arithmetic.{without_end};
+ghost use Rattle.der_base.specs.Arithmetic.{sans_eoc};
 ghost use Rattle.der_base.specs.declared.tag.Tag.TheVariants.{Sequence};
 ghost use Rattle.der_core.specs.Nested.{CanLeave, Closes, HandsBack, NestedAnswers, SequenceAnswers};
 
@@ -38,14 +38,14 @@ pub trait ReaderExt: Reader {
 
     /// The same as [`Reader::position`].
     final fn offset(&self) -> Length
-        ensures { result ≡ plain (Self.state self.now).position }
+        ensures { result ≡ definite_length (Self.state self.now).position }
     {
         self.position()
     }
 
     /// How many octets are left, up to the end.
     final fn remaining_len(&self) -> Length
-        ensures { result ≡ plain ((Self.state self.now).end - (Self.state self.now).position) }
+        ensures { result ≡ definite_length ((Self.state self.now).end - (Self.state self.now).position) }
     {
         self.input_len().saturating_sub(self.position())
     }
@@ -65,7 +65,7 @@ pub trait ReaderExt: Reader {
         answer: Result<T, E>,
     ) -> Result<T, E>
         requires { CanLeave (Self.state self.old) (outer_end outer) (outer_depth outer) }
-        ensures same { Same (resumed (Self.state self.old) (outer_end outer) (outer_depth outer))
+        ensures same { Same (resumed_state (Self.state self.old) (outer_end outer) (outer_depth outer))
             (Self.state self.new) }
         ensures exact { Closes E.from_gives answer (Self.state self.old) (outer_end outer)
             (outer_depth outer) result (Self.state self.new) }
@@ -94,7 +94,7 @@ pub trait ReaderExt: Reader {
         requires { HandsBack (F.pre f) (F.post f) (λ p. Self.state p.now) (λ q. Self.state q.now)
             (Self.state self.old) (number len) }
         ensures same { Same (Self.state self.old) (Self.state self.new) }
-        ensures exact { Owed Self.reliable result
+        ensures exact { IsBinding Self.reliable result
             → NestedAnswers E.from_gives (F.post f) (λ p. Self.state p.now) (λ q. Self.state q.now)
             (number len) (Self.state self.old) result (Self.state self.new) }
     {
@@ -114,7 +114,7 @@ pub trait ReaderExt: Reader {
     /// Fills the buffer with the next octets, as [`Reader::read_into`] does; the reader stays.
     final fn peek_into(&self, buf: &mut [u8]) -> Result<(), Error>
         ensures exact { AnswersAs Self.reliable (read_into_outcome (length buf.old))
-            (Self.state self.now) (seen (λ _. buf.new) result) }
+            (Self.state self.now) (map_ok (λ _. buf.new) result) }
         ensures kept { OnErr result (buf.new ≡ buf.old) }
     {
         let mut fork = self.fork();
@@ -123,8 +123,8 @@ pub trait ReaderExt: Reader {
 
     /// The header ahead, as [`decode_header`] would answer; the reader stays.
     final fn peek_header(&self) -> Result<Header, Error>
-        ensures { Owed Self.reliable result
-            → Peeks header_ahead HeaderFault (Self.state self.now) result }
+        ensures { IsBinding Self.reliable result
+            → Peeks IsHeaderAhead HeaderFault (Self.state self.now) result }
     {
         let mut fork = self.fork();
         decode_header(&mut fork)
@@ -132,8 +132,8 @@ pub trait ReaderExt: Reader {
 
     /// The tag ahead, as decoding it would answer; the reader stays.
     final fn peek_tag(&self) -> Result<Tag, Error>
-        ensures { Owed Self.reliable result
-            → Peeks tag_ahead IdentifierFault (Self.state self.now) result }
+        ensures { IsBinding Self.reliable result
+            → Peeks TagAhead IdentifierFault (Self.state self.now) result }
     {
         let mut fork = self.fork();
         decode_tag(&mut fork)
@@ -146,8 +146,8 @@ pub trait ReaderExt: Reader {
     /// [`Reader::read_slice`].
     final fn tlv_bytes(&mut self) -> Result<Self::Lent, Error>
         ensures same { Same (Self.state self.old) (Self.state self.new) }
-        ensures exact { Owed Self.reliable result
-            → TlvAnswers (Self.state self.old) (seen Self.Lent.octets result)
+        ensures exact { IsBinding Self.reliable result
+            → TlvAnswers (Self.state self.old) (map_ok Self.Lent.octets result)
             (Self.state self.new) }
     {
         let mut fork = self.fork();
@@ -165,7 +165,7 @@ pub trait ReaderExt: Reader {
     ) -> Result<T, <T as Decode<Self>>::Error>
         ensures same { Same (Self.state self.old) (Self.state self.new) }
         ensures ok { IfOk result (λ v. (Self.state self.new).failed ≡ false
-            → Passed (λ rules octets m. T.heads rules octets v m) (Self.state self.old)
+            → Passes (λ rules octets m. T.heads rules octets v m) (Self.state self.old)
             (Self.state self.new)) }
         ensures complete { (v : T) (m : ℕ) → Self.reliable ≡ true
             → (Self.state self.old).failed ≡ false
@@ -196,13 +196,13 @@ pub trait ReaderExt: Reader {
         &mut self,
         f: F,
     ) -> Result<T, E>
-        requires { (h : AHeader) (s : State)
-            → Passed (λ rules octets m. header_ahead rules octets h m) (Self.state self.old) s
+        requires { (h : AHeader) (s : ReaderState)
+            → Passes (λ rules octets m. IsHeaderAhead rules octets h m) (Self.state self.old) s
             → (head_of h).tag ≡ Sequence
             → HandsBack (F.pre f) (F.post f) (λ p. Self.state p.now) (λ q. Self.state q.now) s
-            (number (without_end (head_of h).length)) }
+            (number (sans_eoc (head_of h).length)) }
         ensures same { Same (Self.state self.old) (Self.state self.new) }
-        ensures exact { Owed Self.reliable result
+        ensures exact { IsBinding Self.reliable result
             → SequenceAnswers E.from_gives (F.post f) (λ p. Self.state p.now)
             (λ q. Self.state q.now) (Self.state self.old) result (Self.state self.new) }
     {

@@ -17,14 +17,14 @@ pub struct Position {
 impl Position {
     ghost use Rattle.std.specs.Prelude.{◌-◌};
     ghost use Rattle.der_base.specs.Error.{at};
-    ghost use Rattle.der_base.specs.Length.{number, plain};
-    ghost use Rattle.der_core.specs.Outcome.{seen};
-    ghost use Rattle.der_core.specs.Position.{place, place_of, Moves, advance_outcome, split_nested_outcome};
-    ghost use Rattle.der_core.specs.Resumption.{outer, outer_end, outer_depth};
+    ghost use Rattle.der_base.specs.Length.{number, definite_length};
+    ghost use Rattle.der_core.specs.Outcome.{map_ok};
+    ghost use Rattle.der_core.specs.Position.{position_place, place_at, Moves, advance_outcome, split_nested_outcome};
+    ghost use Rattle.der_core.specs.Resumption.{outer_place, outer_end, outer_depth};
 
     /// The beginning of an input of this length.
     pub fn new(input_len: Length) -> Self
-        ensures { place result ≡ place_of (number input_len) 0 0 }
+        ensures { position_place result ≡ place_at (number input_len) 0 0 }
     {
         Position {
             end: u32::from(input_len),
@@ -35,35 +35,35 @@ impl Position {
 
     /// The position, in octets from the beginning.
     pub fn current(&self) -> Length
-        ensures { result ≡ plain (place self.now).position }
+        ensures { result ≡ definite_length (position_place self.now).position }
     {
         Length::new(self.position)
     }
 
     /// How far may be read.
     pub fn input_len(&self) -> Length
-        ensures { result ≡ plain (place self.now).end }
+        ensures { result ≡ definite_length (position_place self.now).end }
     {
         Length::new(self.end)
     }
 
     /// How many octets are left, up to the end.
     pub fn remaining_len(&self) -> Length
-        ensures { result ≡ plain ((place self.now).end - (place self.now).position) }
+        ensures { result ≡ definite_length ((position_place self.now).end - (position_place self.now).position) }
     {
         self.input_len().saturating_sub(self.current())
     }
 
     /// How many parts stand around the position.
     pub fn depth(&self) -> u8
-        ensures { result ≡ (place self.now).depth }
+        ensures { result ≡ (position_place self.now).depth }
     {
         self.depth
     }
 
     /// The error of this kind at the position.
     pub fn error(&self, kind: ErrorKind) -> Error
-        ensures { result ≡ at kind (plain (place self.now).position) }
+        ensures { result ≡ at kind (definite_length (position_place self.now).position) }
     {
         kind.at(self.current())
     }
@@ -72,7 +72,7 @@ impl Position {
     /// `Overflow` without a position, one past the end by `Incomplete` at the old position; both
     /// leave it as it is.
     pub fn advance(&mut self, amount: Length) -> Result<Length, Error>
-        ensures { Moves (advance_outcome (number amount)) (place self.old) result (place self.new) }
+        ensures { Moves (advance_outcome (number amount)) (position_place self.old) result (position_place self.new) }
     {
         let count = u32::from(amount);
         if count > u32::MAX - self.position {
@@ -94,8 +94,8 @@ impl Position {
     /// refused by `NestingDepth` at the position, one past 4294967295 by `Overflow` without a
     /// position, one past the end by `Incomplete` at the end; all leave the position as it is.
     pub fn split_nested(&mut self, len: Length) -> Result<Resumption, Error>
-        ensures { Moves (split_nested_outcome (number len)) (place self.old) (seen outer result)
-            (place self.new) }
+        ensures { Moves (split_nested_outcome (number len)) (position_place self.old) (map_ok outer_place result)
+            (position_place self.new) }
     {
         let count = u32::from(len);
         if self.depth >= MAX_DEPTH {
@@ -116,7 +116,7 @@ impl Position {
 
     /// Leaves a part: end and depth are again those around it.
     pub fn resume_nested(&mut self, resumption: Resumption)
-        ensures { place self.new ≡ place_of (outer_end resumption) (place self.old).position
+        ensures { position_place self.new ≡ place_at (outer_end resumption) (position_place self.old).position
             (outer_depth resumption) }
     {
         self.end = u32::from(resumption.input_len());
@@ -132,7 +132,7 @@ pub struct Resumption {
 }
 
 impl Resumption {
-    ghost use Rattle.der_base.specs.Length.{number, plain};
+    ghost use Rattle.der_base.specs.Length.{number, definite_length};
     ghost use Rattle.der_core.specs.Resumption.{outer_end, outer_depth};
 
     /// The end and the depth around a part, for a reader that keeps them itself.
@@ -148,7 +148,7 @@ impl Resumption {
 
     /// The end around the part.
     pub fn input_len(&self) -> Length
-        ensures { result ≡ plain (outer_end self.now) }
+        ensures { result ≡ definite_length (outer_end self.now) }
     {
         Length::new(self.end)
     }

@@ -38,22 +38,22 @@ impl Drop for SliceReader<'_> {
 }
 
 impl<'a> SliceReader<'a> {
-    ghost use Rattle.der_base.specs.Error.{at, bare};
-    ghost use Rattle.der_base.specs.Refusal.{wants, owed};
+    ghost use Rattle.der_base.specs.Error.{at, error_of_kind};
+    ghost use Rattle.der_base.specs.Refusal.{missing_refusal, error_of};
     ghost use Rattle.der_base.specs.declared.error.ErrorKind.TheVariants.{Failed, Overflow};
     ghost use Rattle.der_base.specs.declared.encoding_rules.EncodingRules.TheVariants.{Der};
     ghost use Rattle.der_base.specs.Length.{number};
-    ghost use Rattle.der_core.specs.State.{beginning, here, left, Same};
-    ghost use Rattle.der_core.specs.Outcome.{seen};
+    ghost use Rattle.der_core.specs.ReaderState.{initial_state, reader_position, state_after, Same};
+    ghost use Rattle.der_core.specs.Outcome.{map_ok};
     ghost use Rattle.der_core.specs.Reader.{VecGives};
     ghost use Rattle.der_core.specs.SliceReader.{slice_state};
 
     /// A reader of these octets under the Distinguished Encoding Rules, at their beginning;
     /// `Overflow` without a position for more than 4294967295 of them.
     pub fn new(bytes: &'a [u8]) -> Result<Self, Error>
-        ensures ok { IfOk result (λ r. slice_state r ≡ beginning Der bytes.now) }
+        ensures ok { IfOk result (λ r. slice_state r ≡ initial_state Der bytes.now) }
         ensures fits { IsOk result ↔ (length bytes.now < 2 ^ 32) }
-        ensures refused { IfErr result (λ e. e ≡ bare Overflow) }
+        ensures refused { IfErr result (λ e. e ≡ error_of_kind Overflow) }
     {
         let len = Length::new_usize(bytes.len())?;
         Ok(SliceReader {
@@ -70,7 +70,7 @@ impl<'a> SliceReader<'a> {
     /// asked for once the octets are there.
     pub fn read_vec_in<A: Allocator>(&mut self, alloc: A, len: Length) -> Result<Vec<u8, A>, Error>
         ensures same { Same (slice_state self.old) (slice_state self.new) }
-        ensures gives { VecGives (number len) (slice_state self.old) (seen (λ v. v.items) result)
+        ensures gives { VecGives (number len) (slice_state self.old) (map_ok (λ v. v.items) result)
             (slice_state self.new) }
     {
         let before = self.position;
@@ -87,7 +87,7 @@ impl<'a> SliceReader<'a> {
     // the error of a reader that has failed
     #[cold]
     fn has_failed(&self) -> Error
-        ensures { result ≡ at Failed (here (slice_state self.now)) }
+        ensures { result ≡ at Failed (reader_position (slice_state self.now)) }
     {
         ErrorKind::Failed.at(Length::new(self.position))
     }
@@ -95,10 +95,10 @@ impl<'a> SliceReader<'a> {
     // so many octets are not there
     #[cold]
     fn incomplete(&mut self, count: u32) -> Error
-        ensures told { result ≡ owed (wants (self.old.position + count) self.old.end
+        ensures told { result ≡ error_of (missing_refusal (self.old.position + count) self.old.end
             self.old.position) }
-        ensures leaves { slice_state self.new ≡ left (slice_state self.old)
-            (wants (self.old.position + count) self.old.end self.old.position) }
+        ensures leaves { slice_state self.new ≡ state_after (slice_state self.old)
+            (missing_refusal (self.old.position + count) self.old.end self.old.position) }
     {
         if count > u32::MAX - self.position {
             return ErrorKind::Overflow.to_error();
@@ -115,8 +115,8 @@ impl<'a> SliceReader<'a> {
 impl<'a> Reader for SliceReader<'a> {
     ghost use Rattle.std.proofs.Common.{rules};
     ghost use Rattle.der_base.specs.Length.{number};
-    ghost use Rattle.der_core.specs.State.{Same};
-    ghost use Rattle.der_core.specs.Outcome.{seen};
+    ghost use Rattle.der_core.specs.ReaderState.{Same};
+    ghost use Rattle.der_core.specs.Outcome.{map_ok};
     ghost use Rattle.der_core.specs.Reader.{VecGives, VecMeets};
     ghost use Rattle.der_core.specs.SliceReader.{slice_state};
 
@@ -204,8 +204,8 @@ impl<'a> Reader for SliceReader<'a> {
     fn read_vec(&mut self, alloc: Global, len: Length) -> Result<Vec<u8>, Error>
         ensures same { Same (slice_state self.old) (slice_state self.new) }
         ensures exact { VecMeets true (number len) (slice_state self.old)
-            (seen (λ v. v.items) result) (slice_state self.new) }
-        ensures gives { VecGives (number len) (slice_state self.old) (seen (λ v. v.items) result)
+            (map_ok (λ v. v.items) result) (slice_state self.new) }
+        ensures gives { VecGives (number len) (slice_state self.old) (map_ok (λ v. v.items) result)
             (slice_state self.new) }
     {
         self.read_vec_in(alloc, len)

@@ -1,9 +1,9 @@
 //! The contents of an element, read by a closure.
 ghost use Rattle.std.specs.Prelude.{◌≡◌};
-ghost use Rattle.der_base.specs.Arithmetic.{without_end};
-ghost use Rattle.der_base.specs.Length.{number, flagged};
-ghost use Rattle.der_core.specs.State.{Same, resumed};
-ghost use Rattle.der_core.specs.Outcome.{Meets, Owed};
+ghost use Rattle.der_base.specs.Arithmetic.{sans_eoc};
+ghost use Rattle.der_base.specs.Length.{number, is_indefinite};
+ghost use Rattle.der_core.specs.ReaderState.{Same, resumed_state};
+ghost use Rattle.der_core.specs.Outcome.{Meets, IsBinding};
 ghost use Rattle.der_core.specs.Reader.{read_eoc_outcome, read_zero_octet_outcome};
 ghost use Rattle.der_core.specs.Resumption.{outer_end, outer_depth};
 ghost use Rattle.der_core.specs.Header.{head_of, contents_header};
@@ -46,11 +46,11 @@ pub fn close_value<R: Reader, T: Drop, E: From<Error> + Drop>(
     answer: Result<T, E>,
 ) -> Result<T, E>
     requires { CanLeave (R.state reader.old) (outer_end outer) (outer_depth outer) }
-    ensures same { Same (resumed (R.state reader.old) (outer_end outer) (outer_depth outer))
+    ensures same { Same (resumed_state (R.state reader.old) (outer_end outer) (outer_depth outer))
         (R.state reader.new) }
-    ensures exact { Owed R.reliable result
+    ensures exact { IsBinding R.reliable result
         → ClosesValue E.from_gives answer (R.state reader.old) (outer_end outer) (outer_depth outer)
-        (flagged length) result (R.state reader.new) }
+        (is_indefinite length) result (R.state reader.new) }
 {
     let value = reader.close_nested(outer, answer)?;
     if !length.is_indefinite() {
@@ -73,12 +73,12 @@ pub fn read_value<
     requires { HandsBack (λ p. F.pre f p (contents_header header)) (λ p a q. (h : _)
         × (h ≡ contents_header header)
         × F.post f p h a q) (λ p. R.state p.now) (λ q. R.state q.now) (R.state reader.old)
-        (number (without_end (head_of header).length)) }
+        (number (sans_eoc (head_of header).length)) }
     ensures same { Same (R.state reader.old) (R.state reader.new) }
-    ensures exact { Owed R.reliable result
+    ensures exact { IsBinding R.reliable result
         → ValueAnswers E.from_gives (λ p a q. (h : _) × (h ≡ contents_header header)
         × F.post f p h a q) (λ p. R.state p.now) (λ q. R.state q.now)
-        (without_end (head_of header).length) (R.state reader.old) result (R.state reader.new) }
+        (sans_eoc (head_of header).length) (R.state reader.old) result (R.state reader.new) }
 {
     let contents = header.contents();
     let length = contents.length();
@@ -97,7 +97,7 @@ pub(crate) fn read_contents<
     requires { HandsBack (F.pre f) (F.post f) (λ p. R.state p.now) (λ q. R.state q.now)
         (R.state reader.old) (number length) }
     ensures same { Same (R.state reader.old) (R.state reader.new) }
-    ensures exact { Owed R.reliable result
+    ensures exact { IsBinding R.reliable result
         → ValueAnswers E.from_gives (F.post f) (λ p. R.state p.now) (λ q. R.state q.now) length
         (R.state reader.old) result (R.state reader.new) }
 {

@@ -26,15 +26,15 @@ pub struct SliceWriter<'a> {
 impl<'a> SliceWriter<'a> {
     ghost use Rattle.der_base.specs.Error.{at};
     ghost use Rattle.der_base.specs.Length.{number};
-    ghost use Rattle.der_core.specs.Outcome.{seen};
-    ghost use Rattle.der_core.specs.Writer.{Kept, Appends, Writes, fresh, here, fallen, with_room};
+    ghost use Rattle.der_core.specs.Outcome.{map_ok};
+    ghost use Rattle.der_core.specs.Writer.{Keeps, Appends, Writes, fresh_state, writer_position, failed_state, room_outcome};
     ghost use Rattle.der_core.specs.Encode.{TakesCounted, RefusesFailed, PlacesErrors, finished_answer};
     ghost use Rattle.der_core.specs.SliceWriter.{slice_writer_state};
-    ghost use Rattle.der_core.specs.WrittenSequence.{HandsBackPart, Closed, Fills, RunsInRoom, PartAnswer, WritesSequence, headed, part, around};
+    ghost use Rattle.der_core.specs.WrittenSequence.{HandsBackPart, ClosesPart, Fills, RunsInRoom, PartAnswer, WritesSequence, headed_state, part_state, outer_state};
 
     /// A writer into these octets, at their beginning.
     pub fn new(bytes: &'a mut [u8]) -> Self
-        ensures { slice_writer_state result ≡ fresh (length bytes.old) bytes.entry.ghost_name }
+        ensures { slice_writer_state result ≡ fresh_state (length bytes.old) bytes.entry.ghost_name }
     {
         let stop = bytes.len().min(u32::MAX as usize);
         SliceWriter {
@@ -55,15 +55,15 @@ impl<'a> SliceWriter<'a> {
 
     // How many octets of the part are written.
     fn position(&self) -> Length
-        ensures { result ≡ here (slice_writer_state self.now) }
+        ensures { result ≡ writer_position (slice_writer_state self.now) }
     {
         Length::new(self.position)
     }
 
     /// The error of this kind at the position; the writer has failed.
     pub fn error<T>(&mut self, kind: ErrorKind) -> Result<T, Error>
-        ensures at_position { result ≡ Err (at kind (here (slice_writer_state self.old))) }
-        ensures failed { slice_writer_state self.new ≡ fallen (slice_writer_state self.old) }
+        ensures at_position { result ≡ Err (at kind (writer_position (slice_writer_state self.old))) }
+        ensures failed { slice_writer_state self.new ≡ failed_state (slice_writer_state self.old) }
     {
         self.failed = true;
         Err(kind.at(self.position()))
@@ -71,7 +71,7 @@ impl<'a> SliceWriter<'a> {
 
     /// The octets written, or `Failed` at the position of a writer that has failed.
     pub fn finish(self) -> Result<&'a [u8], Error>
-        ensures { seen (λ r. r.now) result ≡ finished_answer (slice_writer_state self.entry) }
+        ensures { map_ok (λ r. r.now) result ≡ finished_answer (slice_writer_state self.entry) }
     {
         if self.failed {
             return Err(ErrorKind::Failed.at(self.position()));
@@ -85,7 +85,7 @@ impl<'a> SliceWriter<'a> {
     /// value's error keeps its position, or gets the writer's where it has none, and the writer
     /// has failed.
     pub fn encode<T: Encode>(&mut self, value: &T) -> Result<(), Error>
-        ensures kept { Kept (slice_writer_state self.old) (slice_writer_state self.new) }
+        ensures kept { Keeps (slice_writer_state self.old) (slice_writer_state self.new) }
         ensures ok { Appends (slice_writer_state self.old) (T.encoding value.now) result
             (slice_writer_state self.new) }
         ensures succeeds { T.encodable value.now
@@ -125,13 +125,13 @@ impl<'a> SliceWriter<'a> {
         f: F,
     ) -> Result<(), Error>
         requires { HandsBackPart (F.pre f) (F.post f)
-            (headed (slice_writer_state self.old) (number len)) (number len) }
-        ensures kept { Kept (slice_writer_state self.old) (slice_writer_state self.new) }
+            (headed_state (slice_writer_state self.old) (number len)) (number len) }
+        ensures kept { Keeps (slice_writer_state self.old) (slice_writer_state self.new) }
         ensures ok { Fills (F.post f)
-            (headed (slice_writer_state self.old) (number len)) (number len) result
+            (headed_state (slice_writer_state self.old) (number len)) (number len) result
             (slice_writer_state self.new) }
         ensures runs { RunsInRoom (F.post f)
-            (headed (slice_writer_state self.old) (number len)) (number len) result
+            (headed_state (slice_writer_state self.old) (number len)) (number len) result
             (slice_writer_state self.new) }
         ensures exact { WritesSequence (F.post f) (slice_writer_state self.old)
             (number len) result (slice_writer_state self.new) }
@@ -148,7 +148,7 @@ impl<'a> SliceWriter<'a> {
     ) -> Result<(), Error>
         requires { HandsBackPart (F.pre f) (F.post f) (slice_writer_state self.old)
             (number len) }
-        ensures kept { Kept (slice_writer_state self.old) (slice_writer_state self.new) }
+        ensures kept { Keeps (slice_writer_state self.old) (slice_writer_state self.new) }
         ensures ok { Fills (F.post f) (slice_writer_state self.old) (number len) result
             (slice_writer_state self.new) }
         ensures runs { RunsInRoom (F.post f) (slice_writer_state self.old) (number len) result
@@ -165,9 +165,9 @@ impl<'a> SliceWriter<'a> {
     // Over the next octets alone, where there is room for so many.
     fn set_apart(&mut self, len: Length) -> Result<(), Error>
         ensures refused { OnErr result
-            (Kept (slice_writer_state self.old) (slice_writer_state self.new)) }
-        ensures exact { Writes (with_room (number len) (slice_writer_state self.old)
-            (part (slice_writer_state self.old) (number len))) result
+            (Keeps (slice_writer_state self.old) (slice_writer_state self.new)) }
+        ensures exact { Writes (room_outcome (number len) (slice_writer_state self.old)
+            (part_state (slice_writer_state self.old) (number len))) result
             (slice_writer_state self.new) }
     {
         let count = u32::from(len) as usize;
@@ -188,9 +188,9 @@ impl<'a> SliceWriter<'a> {
         requires behind { self.old.stop ≤ stop }
         requires within { stop ≤ length self.old.bytes.now }
         requires countable { stop < start + 2 ^ 32 }
-        ensures kept { Kept (around (slice_writer_state self.old) start stop)
+        ensures kept { Keeps (outer_state (slice_writer_state self.old) start stop)
             (slice_writer_state self.new) }
-        ensures exact { Closed (around (slice_writer_state self.old) start stop)
+        ensures exact { ClosesPart (outer_state (slice_writer_state self.old) start stop)
             (self.old.stop - self.old.start) (slice_writer_state self.old)
             (slice_writer_state self.new) answer result }
     {
@@ -217,11 +217,11 @@ impl<'a> SliceWriter<'a> {
 
     // Refuses so many octets where there is no room for them; answers where the next one goes.
     fn admit(&mut self, count: usize) -> Result<usize, Error>
-        ensures kept { Kept (slice_writer_state self.old) (slice_writer_state self.new) }
+        ensures kept { Keeps (slice_writer_state self.old) (slice_writer_state self.new) }
         ensures ok { IfOk result (λ from. from ≡ self.old.start + self.old.position) }
         ensures exact { Writes
-            (with_room count (slice_writer_state self.old) (slice_writer_state self.old))
-            (seen (λ _. tt) result) (slice_writer_state self.new) }
+            (room_outcome count (slice_writer_state self.old) (slice_writer_state self.old))
+            (map_ok (λ _. tt) result) (slice_writer_state self.new) }
     {
         if self.failed {
             return Err(ErrorKind::Failed.at(self.position()));

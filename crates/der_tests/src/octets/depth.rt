@@ -1,6 +1,6 @@
 //! Parts inside each other, entered and left.
 ghost use Rattle.der_core.specs.SliceReader.{slice_state};
-ghost use Rattle.der_core.specs.State.{Same};
+ghost use Rattle.der_core.specs.ReaderState.{Same};
 
 use super::*;
 use crate::checks::{holds, same};

@@ -1,6 +1,6 @@
 //! A type of a user's own: a month as an `OCTET STRING` of one octet.
 ghost use Rattle.std.specs.Prelude.{◌≡◌, ◌+◌, [], ◌∷◌, Ok, ◌++◌, IfOk, OnErr, OnOk};
-ghost use Rattle.der_base.specs.Length.{plain};
+ghost use Rattle.der_base.specs.Length.{definite_length};
 ghost use Rattle.der_base.specs.declared.tag.Tag.TheVariants.{OctetString, Sequence};
 ghost use Rattle.der_core.specs.Writer.{Writes, write_outcome};
 
@@ -30,7 +30,7 @@ impl WrittenValue for Month {
 }
 
 impl EncodeValue for Month {
-    ghost value_size = { λ _. Ok (plain 1) };
+    ghost value_size = { λ _. Ok (definite_length 1) };
 
     ghost value_answers = { λ month s r t. Writes (write_outcome (month.number ∷ []) s) r t };
 
@@ -51,7 +51,7 @@ fn month_der(alloc: Global, month: &Month) -> Result<Vec<u8>, Error>
 }
 
 fn append_month(out: &mut Vec<u8>, month: &Month) -> Result<Length, Error>
-    ensures count { IfOk result (λ n. n ≡ plain 3) }
+    ensures count { IfOk result (λ n. n ≡ definite_length 3) }
     ensures ok { OnOk result (out.new.items ≡ out.old.items ++ (4 ∷ 1 ∷ month.now.number ∷ [])) }
     ensures refused { OnErr result (out.new.items ≡ out.old.items) }
 {

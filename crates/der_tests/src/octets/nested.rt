@@ -1,6 +1,6 @@
 //! Parts, sequences and values that are read by a function of the caller, and positions.
 ghost use Rattle.der_core.specs.SliceReader.{slice_state};
-ghost use Rattle.der_core.specs.State.{Same};
+ghost use Rattle.der_core.specs.ReaderState.{Same};
 
 use super::*;
 use crate::checks::{holds, same};

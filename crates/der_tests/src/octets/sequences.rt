@@ -3,9 +3,9 @@ ghost use Rattle.std.specs.Prelude.{◌≡◌, ◌+◌, ◌≤◌, ◌++◌, fal
 ghost use Rattle.der_base.specs.Length.{number};
 ghost use Rattle.der_base.specs.Header.{header_octets};
 ghost use Rattle.der_base.specs.declared.tag.Tag.TheVariants.{Sequence};
-ghost use Rattle.der_core.specs.Writer.{Kept, Appends};
+ghost use Rattle.der_core.specs.Writer.{Keeps, Appends};
 ghost use Rattle.der_core.specs.SliceWriter.{slice_writer_state};
-ghost use Rattle.der_core.specs.WrittenSequence.{headed};
+ghost use Rattle.der_core.specs.WrittenSequence.{headed_state};
 
 use super::*;
 use crate::checks::{holds, same, same_at};
@@ -17,14 +17,14 @@ fn encode_in_sequence<T: Encode>(
     len: Length,
     value: &T,
 ) -> Result<(), Error>
-    ensures kept { Kept (slice_writer_state writer.old) (slice_writer_state writer.new) }
+    ensures kept { Keeps (slice_writer_state writer.old) (slice_writer_state writer.new) }
     ensures ok { Appends (slice_writer_state writer.old)
         (header_octets Sequence (number len) ++ T.encoding value.now) result
         (slice_writer_state writer.new) }
     ensures fills { OnOk result (length (T.encoding value.now) ≡ number len) }
     ensures succeeds { T.encodable value.now → length (T.encoding value.now) ≡ number len
         → (slice_writer_state writer.old).failed ≡ false
-        → length (headed (slice_writer_state writer.old) (number len)).octets + number len
+        → length (headed_state (slice_writer_state writer.old) (number len)).octets + number len
         ≤ (slice_writer_state writer.old).stop → IsOk result }
 {
     match writer.sequence(len, |w| value.encode(w)) {

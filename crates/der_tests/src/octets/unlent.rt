@@ -1,7 +1,7 @@
 //! A reader that cannot lend, through which the generic calls run a second time.
 ghost use Rattle.std.specs.Prelude.{◌≡◌, false, true};
 ghost use Rattle.der_core.specs.SliceReader.{slice_state};
-ghost use Rattle.der_core.specs.State.{Same};
+ghost use Rattle.der_core.specs.ReaderState.{Same};
 
 use super::*;
 use crate::checks::{holds, same};

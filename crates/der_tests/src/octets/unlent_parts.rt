@@ -1,6 +1,6 @@
 //! Parts and values of a reader that cannot lend.
 ghost use Rattle.der_core.specs.SliceReader.{slice_state};
-ghost use Rattle.der_core.specs.State.{Same};
+ghost use Rattle.der_core.specs.ReaderState.{Same};
 
 use super::unlent::{Unlent, make_unlent};
 use super::*;

@@ -1,7 +1,7 @@
 //! A type that writes an octet and then refuses.
 ghost use Rattle.std.specs.Prelude.{◌≡◌, [], ◌∷◌, Ok, Err};
-ghost use Rattle.der_base.specs.Length.{plain};
-ghost use Rattle.der_base.specs.Error.{bare};
+ghost use Rattle.der_base.specs.Length.{definite_length};
+ghost use Rattle.der_base.specs.Error.{error_of_kind};
 ghost use Rattle.der_base.specs.declared.error.ErrorKind.TheVariants.{Overflow};
 ghost use Rattle.der_core.specs.Writer.{write_outcome};
 ghost use Rattle.der_core.specs.Encode.{ThenAnswers};
@@ -18,10 +18,10 @@ impl Encode for Wrong {
 
     ghost encodable = { λ _. ⊥ };
 
-    ghost size = { λ _. Ok (plain 1) };
+    ghost size = { λ _. Ok (definite_length 1) };
 
     ghost answers = { λ _ s r t. ThenAnswers (write_outcome (170 ∷ []) s).answer
-        (write_outcome (170 ∷ []) s).after (λ u r t. (r ≡ Err (bare Overflow)) × (t ≡ u)) s r t };
+        (write_outcome (170 ∷ []) s).after (λ u r t. (r ≡ Err (error_of_kind Overflow)) × (t ≡ u)) s r t };
 
     fn encoded_len(&self) -> Result<Length, Error> {
         Ok(Length::ONE)

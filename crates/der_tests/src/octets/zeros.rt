@@ -1,7 +1,7 @@
 //! A type with contents of any length, which it does not write.
 ghost use Rattle.std.specs.Prelude.{◌≡◌, Ok, Err, replicate};
-ghost use Rattle.der_base.specs.Length.{plain};
-ghost use Rattle.der_base.specs.Error.{bare};
+ghost use Rattle.der_base.specs.Length.{definite_length};
+ghost use Rattle.der_base.specs.Error.{error_of_kind};
 ghost use Rattle.der_base.specs.declared.tag.Tag.{Tag as ATag};
 ghost use Rattle.der_base.specs.declared.tag.Tag.TheVariants.{OctetString};
 ghost use Rattle.der_base.specs.declared.error.ErrorKind.TheVariants.{Overlength};
@@ -30,9 +30,9 @@ impl WrittenValue for Zeros {
 }
 
 impl EncodeValue for Zeros {
-    ghost value_size = { λ zeros. Ok (plain zeros.count) };
+    ghost value_size = { λ zeros. Ok (definite_length zeros.count) };
 
-    ghost value_answers = { λ _ s r t. (r ≡ Err (bare Overlength)) × (t ≡ s) };
+    ghost value_answers = { λ _ s r t. (r ≡ Err (error_of_kind Overlength)) × (t ≡ s) };
 
     fn value_len(&self) -> Result<Length, Error> {
         Ok(Length::new(self.count))

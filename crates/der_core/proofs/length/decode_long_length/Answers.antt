@@ -1,6 +1,6 @@
 use Rattle.std.proofs.Common.{◌≡◌, ℕ, ◌-◌, ◌∙◌, subst, arith}
 use Rattle.std.proofs.lemmas.Result.{err_from_is_err_and}
-use Rattle.der_core.specs.State.{State}
+use Rattle.der_core.specs.ReaderState.{ReaderState}
 use Rattle.der_core.proofs.StateLemmas.{byte_read, byte_refused, cut_refused, failed_on}
 use Rattle.der_core.proofs.LengthReadLemmas.{DigitsSoFar, digits_next, digits_fit, refused_indefinite, refused_far, refused_cut, refused_longer, found_long}
 use Rattle.der_core.proofs.length.decode_long_length.Goals as goal
@@ -30,7 +30,7 @@ pub loop-i-preserved : goal.loop-i-preserved
 loop-i-preserved g c = digits_next c.loop-i.invariant (byte_read c.in_ok-octet.ensures.exact) (omega arith)
 
 -- all octets that the first announces
-whole : (i o : ℕ) → i ≡ o - 128 → (a b : State) (n : ℕ) → DigitsSoFar a b i n → DigitsSoFar a b (o - 128) n
+whole : (i o : ℕ) → i ≡ o - 128 → (a b : ReaderState) (n : ℕ) → DigitsSoFar a b i n → DigitsSoFar a b (o - 128) n
 whole i o e a b n h = subst (λ k. DigitsSoFar a b k n) e h
 
 pub returns-then-number-least_of-clause-exact : goal.returns-then-number-least_of-clause-exact

@@ -1,6 +1,6 @@
 use Rattle.std.proofs.Common.{ℕ, List, ◌++◌, length, Ok, Err, sym, subst, ap, ◌∙◌}
 use Rattle.std.proofs.lemmas.Result.{err_from_is_err_and}
-use Rattle.der_base.specs.Length.{plain}
+use Rattle.der_base.specs.Length.{definite_length}
 use Rattle.der_core.specs.Encode.{VecAnswer}
 use Rattle.der_core.proofs.encode.vec.to_der_in.Goals as goal
 
@@ -15,5 +15,5 @@ pub returns-clause-exact : goal.returns-clause-exact
 returns-clause-exact g c =
     let none = ap length c.new-out.ensures.items in
     let whole = c.in_ok-encode_to_vec_in.ensures.ok ∙ ap (λ (l : List ℕ). l ++ g.T.Encode.encoding c.args.value.now) c.new-out.ensures.items in
-    subst (λ r. VecAnswer (g.T.Encode.size c.args.value.now) (g.T.Encode.answers c.args.value.now) 0 r) (ap Ok (c.in_ok-encode_to_vec_in.ensures.count ∙ ap (λ (l : List ℕ). plain (length l)) (sym whole)))
+    subst (λ r. VecAnswer (g.T.Encode.size c.args.value.now) (g.T.Encode.answers c.args.value.now) 0 r) (ap Ok (c.in_ok-encode_to_vec_in.ensures.count ∙ ap (λ (l : List ℕ). definite_length (length l)) (sym whole)))
     (subst (λ n. VecAnswer (g.T.Encode.size c.args.value.now) (g.T.Encode.answers c.args.value.now) n (Ok c.in_ok-encode_to_vec_in.field-0)) none c.in_ok-encode_to_vec_in.ensures.exact)

@@ -4,12 +4,12 @@ use Rattle.der_base.specs.declared.error.Error.{Error}
 use Rattle.der_core.specs.Writer.{WriterState, Appends}
 use Rattle.der_core.specs.Encode.{TakesCounted}
 use Rattle.der_core.specs.SliceWriter.{slice_writer_state}
-use Rattle.der_core.specs.WrittenSequence.{Closed, handed_on, failed, unfilled, filled, part, headed}
+use Rattle.der_core.specs.WrittenSequence.{ClosesPart, handed_on, failed, unfilled, filled, part_state, headed_state}
 use Rattle.der_tests.proofs.octets.sequences.encode_in_sequence.Goals as goal
 
 -- a part that is filled is not refused
-not_refused : (s p q t : WriterState) (n : ℕ) (octets : List ℕ) (answer result : Result (Unit {0}) Error) (e : Error) → p ≡ part s n → length octets ≡ n → n < 2 ^ 32
-    → TakesCounted p octets answer → Appends p octets answer q → Closed s n q t answer result → result ≡ Err e → ⊥
+not_refused : (s p q t : WriterState) (n : ℕ) (octets : List ℕ) (answer result : Result (Unit {0}) Error) (e : Error) → p ≡ part_state s n → length octets ≡ n → n < 2 ^ 32
+    → TakesCounted p octets answer → Appends p octets answer q → ClosesPart s n q t answer result → result ≡ Err e → ⊥
 not_refused s p q t n octets _ _ e over full few takes appends (handed_on f abandoned) is =
     let alive : p.failed ≡ false = ap (λ (u : WriterState). u.failed) over in
     let begin : length p.octets ≡ length s.octets = ap (λ (u : WriterState). length u.octets) over in
@@ -32,4 +32,4 @@ returns-in-Err-clause-succeeds g c can full alive room =
     let did = c.in-Err.ensures.runs alive room in
     let takes : TakesCounted (slice_writer_state did.given.now) (g.T.Encode.encoding c.args.value.now) did.answer = (let ran = did.ran in search rules) in
     let appends : Appends (slice_writer_state did.given.now) (g.T.Encode.encoding c.args.value.now) did.answer (slice_writer_state did.after.now) = (let ran = did.ran in search rules) in
-    absurd (not_refused (headed (slice_writer_state c.args.writer.now) (number c.args.len)) _ _ _ (number c.args.len) (g.T.Encode.encoding c.args.value.now) _ _ _ did.over_part full few takes appends did.closed refl)
+    absurd (not_refused (headed_state (slice_writer_state c.args.writer.now) (number c.args.len)) _ _ _ (number c.args.len) (g.T.Encode.encoding c.args.value.now) _ _ _ did.over_part full few takes appends did.closed refl)

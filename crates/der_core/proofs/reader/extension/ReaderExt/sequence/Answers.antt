@@ -1,6 +1,6 @@
 use Rattle.std.proofs.Common.{rules, ◌≡◌, refl, sym, ap, subst, ◌∙◌}
 use Rattle.std.proofs.lemmas.Result.{err_from_is_err_and}
-use Rattle.der_base.specs.Arithmetic.{without_end}
+use Rattle.der_base.specs.Arithmetic.{sans_eoc}
 use Rattle.der_base.specs.Error.{unexpected_tag}
 use Rattle.der_base.specs.declared.tag.Tag.TheVariants.{Sequence}
 use Rattle.der_core.specs.Nested.{no_header, other_tag, in_sequence}
@@ -28,4 +28,4 @@ read_contents-requires g c =
 pub returns-clause-exact : goal.returns-clause-exact
 returns-clause-exact g c owed =
     let is = sym c.tag.ensures ∙ sequence_asserted c.tag.result c.in_ok-assert_eq.field-0 c.assert_eq.result c.in_ok-assert_eq.was c.assert_eq.ensures.other_tag in
-    in_sequence c.in_ok-header.header _ c.in_ok-header.ensures.ok is (value_at (c.sans_eoc.ensures ∙ ap without_end c.length.ensures) (c.read_contents.ensures.exact owed))
+    in_sequence c.in_ok-header.header _ c.in_ok-header.ensures.ok is (value_at (c.sans_eoc.ensures ∙ ap sans_eoc c.length.ensures) (c.read_contents.ensures.exact owed))

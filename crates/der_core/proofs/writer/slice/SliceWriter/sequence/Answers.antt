@@ -2,7 +2,7 @@ use Rattle.std.proofs.Common.{refl, sym, ap, ◌∙◌, subst, Ok, Err}
 use Rattle.std.proofs.lemmas.Result.{err_from_is_err_and}
 use Rattle.der_base.specs.Length.{number}
 use Rattle.der_base.specs.Header.{Head, header_octets}
-use Rattle.der_core.specs.Writer.{WriterState, Writes, appended}
+use Rattle.der_core.specs.Writer.{WriterState, Writes, appended_state}
 use Rattle.der_core.specs.Encode.{header_outcome}
 use Rattle.der_core.specs.SliceWriter.{slice_writer_state}
 use Rattle.der_core.specs.WrittenSequence.{no_header}
@@ -12,7 +12,7 @@ use Rattle.der_core.proofs.writer.slice.SliceWriter.sequence.Goals as goal
 pub returns-clause-exact : goal.returns-clause-exact
 returns-clause-exact g c =
     let s : WriterState = slice_writer_state c.args.self.now in
-    behind_header _ s _ _ _ _ (c.in_ok-encode.ensures.ok ∙ ap (λ (h : Head). appended s (header_octets h.tag (number h.length))) c.new.ensures)
+    behind_header _ s _ _ _ _ (c.in_ok-encode.ensures.ok ∙ ap (λ (h : Head). appended_state s (header_octets h.tag (number h.length))) c.new.ensures)
     (subst (λ (h : Head). Writes (header_outcome h.tag (number h.length) s) (Ok tt) (slice_writer_state c.encode.new.writer)) c.new.ensures (c.in_ok-encode.ensures.exact refl)) c.fill_part.ensures.exact
 
 pub returns-in_err-encode-clause-exact : goal.returns-in_err-encode-clause-exact

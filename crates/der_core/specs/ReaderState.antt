@@ -1,11 +1,11 @@
 -- What a reader means.
 use Rattle.std.specs.Prelude.{◌≡◌, ℕ, ◌+◌, ◌-◌, ◌^◌, ◌<◌, ◌≤◌, Bool, true, false, IsTrue, Option, Some, None, List, ◌++◌, length, take, drop, if◌then◌else◌}
-use Rattle.der_base.specs.Length.{plain}
+use Rattle.der_base.specs.Length.{definite_length}
 use Rattle.der_base.specs.Refusal.{Refusal, is_far}
 use Rattle.der_base.specs.declared.length.Length.{Length}
 use Rattle.der_base.specs.declared.encoding_rules.EncodingRules.{EncodingRules}
 
-pub record State : Type 0 where
+pub record ReaderState : Type 0 where
   pub input : List ℕ
   pub rules : EncodingRules
   -- how far may be read: inside a part, its end
@@ -17,8 +17,8 @@ pub record State : Type 0 where
   pub marks : Bool
 
 -- a reader of a whole input that nothing was read of
-abbrev pub beginning : EncodingRules → List ℕ → State
-beginning rules input =
+abbrev pub initial_state : EncodingRules → List ℕ → ReaderState
+initial_state rules input =
     record {
       input = input;
       rules = rules;
@@ -30,40 +30,40 @@ beginning rules input =
     }
 
 -- what is left up to the present end
-abbrev pub rest : State → List ℕ
+abbrev pub rest : ReaderState → List ℕ
 rest s = take (s.end - s.position) (drop s.position s.input)
 
 -- the position as a length
-abbrev pub here : State → Length
-here s = plain s.position
+abbrev pub reader_position : ReaderState → Length
+reader_position s = definite_length s.position
 
-abbrev pub advanced : State → ℕ → State
-advanced s n = record s { position = s.position + n }
+abbrev pub advanced_state : ReaderState → ℕ → ReaderState
+advanced_state s n = record s { position = s.position + n }
 
 -- inside a part of n octets
-abbrev pub inside : State → ℕ → State
-inside s n = record s { end = s.position + n; depth = s.depth + 1 }
+abbrev pub nested_state : ReaderState → ℕ → ReaderState
+nested_state s n = record s { end = s.position + n; depth = s.depth + 1 }
 
 -- outside of a part again, with this end and depth
-abbrev pub resumed : State → ℕ → ℕ → State
-resumed s end depth = record s { end = end; depth = depth }
+abbrev pub resumed_state : ReaderState → ℕ → ℕ → ReaderState
+resumed_state s end depth = record s { end = end; depth = depth }
 
 -- at a position, failed where the reader keeps such a state
-abbrev pub stopped : State → ℕ → State
-stopped s at = record s { position = at; failed = s.marks }
+abbrev pub stopped_state : ReaderState → ℕ → ReaderState
+stopped_state s at = record s { position = at; failed = s.marks }
 
 -- a reader that looked ahead stays where it was; another is stopped at the position of the refusal,
 -- but not failed where that is told as an overflow
-abbrev pub left_at : State → Bool → ℕ → Option ℕ → State
-left_at s far at (Some from) = record s { position = from }
-left_at s far at None = if far then record s { position = at } else stopped s at
+abbrev pub state_left_at : ReaderState → Bool → ℕ → Option ℕ → ReaderState
+state_left_at s far at (Some from) = record s { position = from }
+state_left_at s far at None = if far then record s { position = at } else stopped_state s at
 
 -- how a reader is left that is refused so
-abbrev pub left : State → Refusal → State
-left s r = left_at s (is_far r.reason) r.position r.seen_from
+abbrev pub state_after : ReaderState → Refusal → ReaderState
+state_after s r = state_left_at s (is_far r.reason) r.position r.seen_from
 
 -- the facts of every reader
-pub record Sound (s : State) : Type 0 where
+pub record IsSound (s : ReaderState) : Type 0 where
   pub ordered : s.position ≤ s.end
   pub in_input : s.end ≤ length s.input
   pub addressable : length s.input < 2 ^ 32
@@ -71,7 +71,7 @@ pub record Sound (s : State) : Type 0 where
   pub marked : IsTrue s.failed → IsTrue s.marks
 
 -- the same reader is handed back: not earlier, within its end, and not less failed
-pub record Same (s t : State) : Type 0 where
+pub record Same (s t : ReaderState) : Type 0 where
   pub input : t.input ≡ s.input
   pub rules : t.rules ≡ s.rules
   pub end : t.end ≡ s.end
@@ -82,6 +82,6 @@ pub record Same (s t : State) : Type 0 where
   pub failed : IsTrue s.failed → IsTrue t.failed
 
 -- these octets were read, and nothing else changed
-pub record Reads (s t : State) (octets : List ℕ) : Type 0 where
+pub record Reads (s t : ReaderState) (octets : List ℕ) : Type 0 where
   pub split : rest s ≡ octets ++ rest t
-  pub state : t ≡ advanced s (length octets)
+  pub state : t ≡ advanced_state s (length octets)
