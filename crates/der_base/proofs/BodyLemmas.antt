@@ -1,7 +1,7 @@
 -- No item and no body begins another.
 use Rattle.std.proofs.Common.{◌≡◌, ◌≢◌, ℕ, suc, ◌+◌, Bool, List, ◌∷◌, ◌++◌, length, refl, sym, ap, ◌∙◌, append_assoc}
 use Rattle.der_base.specs.Length.{length_octets}
-use Rattle.der_base.specs.Identifier.{IsIdentifier}
+use Rattle.der_base.specs.Tag.{IsIdentifier}
 use Rattle.der_base.specs.Body.{Item, Body, definite, indefinite, ends, more}
 use Rattle.der_base.specs.declared.tag.Tag.{Tag}
 use Rattle.der_base.specs.declared.encoding_rules.EncodingRules.TheVariants.{Ber}

@@ -4,9 +4,8 @@ use Rattle.std.specs.Int.Digits.{digits_of}
 use Rattle.std.proofs.lemmas.Int.Digits.{number_lt, number_digits_of, length-digits_of-le, all_below_base_digits_of}
 use Rattle.std.proofs.Math.Nat.{pow-le-pow_right}
 use Rattle.std.proofs.lemmas.Bool.Decides.{nat_tests}
-use Rattle.der_base.specs.Digits.{digits, continuation_octets}
-use Rattle.der_base.specs.Length.{length_octets}
-use Rattle.der_base.specs.Tag.{label, tag_octets}
+use Rattle.der_base.specs.Length.{length_octets, digits}
+use Rattle.der_base.specs.Tag.{label, tag_octets, continuation_octets}
 use Rattle.der_base.specs.declared.tag.Tag.{Tag}
 
 -- a number with fewer than k + 1 digits is below the k-th power of the base

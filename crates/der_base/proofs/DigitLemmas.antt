@@ -6,7 +6,8 @@ use Rattle.std.proofs.lemmas.Nat.{mul-le, div-mul-add, mod-mul-add}
 use Rattle.std.proofs.lemmas.Int.Digits.{digits_of_step, length-digits_of_step, all_below_base_digits_of, same_from_digits_of, number_lt}
 use Rattle.std.proofs.Math.Nat.{pow-le-pow_right, pow-suc, mul-le-mul_right}
 use Rattle.std.specs.Int.Digits.{digits_of, number_from_digits, number_from_digits_after, AllBelowBase}
-use Rattle.der_base.specs.Digits.{digits, continuation_octets}
+use Rattle.der_base.specs.Length.{digits}
+use Rattle.der_base.specs.Tag.{continuation_octets}
 
 -- fronts of equal length of one list are equal, and so is what follows them
 pub same_length_front : (a b x y : List ℕ) → length a ≡ length b → a ++ x ≡ b ++ y → (a ≡ b) × (x ≡ y)

@@ -1,16 +1,16 @@
 -- Tags, lengths and headers at the front of octets: there is one at most, and none where there is
 -- a fault, and one fault at most.
-use Rattle.std.proofs.Common.{◌≡◌, ℕ, ◌+◌, ◌^◌, ◌<◌, ◌≤◌, Bool, true, false, List, ◌∷◌, ◌++◌, length, if◌then◌else◌, refl, sym, ap, ◌∙◌, subst, append_assoc, length-append, arith}
-use Rattle.der_base.specs.Length.{is_indefinite, length_of, definite_length, length_octets, number}
-use Rattle.der_base.specs.Identifier.{IsIdentifier, IdentifierFault}
-use Rattle.der_base.specs.Body.{Body}
-use Rattle.der_base.specs.Refusal.{Refusal, Reason, Wants, Kind, is_far, kind_of_reason, error_of}
-use Rattle.der_base.specs.Error.{at, error_of_kind, retold_kind, retold_error}
-use Rattle.der_base.specs.Header.{header_octets, IdentifierAhead, tag, LengthAhead, definite, indefinite, Head, head, HeaderAhead, header, LengthFault, nothing, few, far, longer, indefinite_form, HeaderFault, no_identifier, no_length}
+use Rattle.std.proofs.Common.{◌≡◌, ℕ, ◌+◌, ◌^◌, ◌<◌, ◌≤◌, Bool, true, false, List, ◌∷◌, ◌++◌, length, refl, sym, ap, ◌∙◌, subst, append_assoc, length-append, arith}
+use Rattle.der_base.specs.Length.{is_indefinite, definite_length, indefinite_length, length_octets, number}
+use Rattle.der_base.specs.Tag.{IsIdentifier, IdentifierFault}
+use Rattle.der_base.specs.Body.{Body, BodyFault}
+use Rattle.der_base.specs.Error.{Refusal, refusal}
+use Rattle.der_base.specs.Header.{header_octets, IdentifierAhead, identifier, TagAhead, LengthAhead, definite, indefinite, Head, head, HeaderAhead, header, LengthFault, HeaderFault, no_identifier, no_length, primitive}
+use Rattle.der_base.specs.Laws.{IsGrammar, IsBodyFault}
 use Rattle.der_base.specs.declared.length.Length.{Length}
 use Rattle.der_base.specs.declared.tag.Tag.{Tag}
 use Rattle.der_base.specs.declared.error.ErrorKind.{ErrorKind}
-use Rattle.der_base.specs.declared.error.ErrorKind.TheVariants.{Overlength, Overflow, Length as IncorrectLength}
+use Rattle.der_base.specs.declared.error.ErrorKind.TheVariants.{IndefiniteLength, Length as IncorrectLength}
 use Rattle.der_base.specs.declared.encoding_rules.EncodingRules.{EncodingRules}
 use Rattle.der_base.specs.declared.encoding_rules.EncodingRules.TheVariants.{Ber, Der}
 use Rattle.der_base.proofs.TagLemmas.{tag_front}
@@ -25,151 +25,185 @@ header_front t u m n x y e =
     let two = length_front m n x y one.1 in
     (one.0, two.0, two.1)
 
--- a tag ahead: its identifier, and what follows
-pub data TagView (rules : EncodingRules) (s : List ℕ) (t : Tag) (b : Bool) (m : ℕ) : Type 0 where
-  tag_view_of : (id rest : List ℕ) → IsIdentifier rules id t b → s ≡ id ++ rest → m ≡ length id → TagView rules s t b m
+-- an identifier ahead, and what follows
+pub data IdentifierView (x : Tag × Bool) (rules : EncodingRules) (s : List ℕ) (m : ℕ) : Type 0 where
+  identifier_view_of : (id rest : List ℕ) → IsIdentifier rules id x.0 x.1 → s ≡ id ++ rest → m ≡ length id → IdentifierView x rules s m
 
-pub tag_view : {rules : EncodingRules} {s : List ℕ} {t : Tag} {b : Bool} {m : ℕ} → IdentifierAhead rules s t b m → TagView rules s t b m
-tag_view (tag {id = id} rest h) = tag_view_of id rest h refl refl
+pub identifier_view : {x : Tag × Bool} {rules : EncodingRules} {s : List ℕ} {m : ℕ} → IdentifierAhead x rules s m → IdentifierView x rules s m
+identifier_view (identifier {id = id} rest h) = identifier_view_of id rest h refl refl
+
+-- octets begin with one identifier at most
+pub one_identifier : {rules : EncodingRules} {s : List ℕ} {x y : Tag × Bool} {m n : ℕ} → IdentifierAhead x rules s m → IdentifierAhead y rules s n → (x ≡ y) × (m ≡ n)
+one_identifier {rules} {s} {x} {y} {m} {n} h g = go (identifier_view h) (identifier_view g)
+  where
+    go : IdentifierView x rules s m → IdentifierView y rules s n → (x ≡ y) × (m ≡ n)
+    go (identifier_view_of a p d e f) (identifier_view_of b q i j k) =
+        let r = identifier_front d i p q (sym e ∙ j) in
+        let same : x ≡ y = ap (λ z. (z, x.1)) r.1 ∙ ap (λ z. (y.0, z)) r.2 in
+        (same, f ∙ ap length r.0 ∙ sym k)
 
 -- octets begin with one tag at most
-pub one_tag : {rules : EncodingRules} {s : List ℕ} {t u : Tag} {b c : Bool} {m n : ℕ} → IdentifierAhead rules s t b m → IdentifierAhead rules s u c n → (t ≡ u) × (b ≡ c) × (m ≡ n)
-one_tag {rules} {s} {t} {u} {b} {c} {m} {n} h g = go (tag_view h) (tag_view g)
-  where
-    go : TagView rules s t b m → TagView rules s u c n → (t ≡ u) × (b ≡ c) × (m ≡ n)
-    go (tag_view_of a x d e f) (tag_view_of z y i j k) =
-        let r = identifier_front d i x y (sym e ∙ j) in
-        (r.1, r.2, f ∙ ap length r.0 ∙ sym k)
+pub one_tag : {rules : EncodingRules} {s : List ℕ} {t u : Tag} {m n : ℕ} → TagAhead t rules s m → TagAhead u rules s n → (t ≡ u) × (m ≡ n)
+one_tag h g = let one = one_identifier h.1 g.1 in (ap (λ z. z.0) one.0, one.1)
 
 -- a length ahead: a definite one, or octet 80 and a body
-pub data LengthView (rules : EncodingRules) (s : List ℕ) (l : Length) (m : ℕ) : Type 0 where
-  view_definite : (n : ℕ) (rest : List ℕ) → n < 2 ^ 32 → s ≡ length_octets n ++ rest → l ≡ length_of n false → m ≡ length (length_octets n) → LengthView rules s l m
-  view_indefinite : {parts : ℕ} (body rest : List ℕ) → rules ≡ Ber → Body 1 parts body → s ≡ 128 ∷ (body ++ rest) → l ≡ length_of (length body) true → m ≡ 1 → LengthView rules s l m
+pub data LengthView (l : Length) (rules : EncodingRules) (s : List ℕ) (m : ℕ) : Type 0 where
+  view_definite : (n : ℕ) (rest : List ℕ) → n < 2 ^ 32 → s ≡ length_octets n ++ rest → l ≡ definite_length n → m ≡ length (length_octets n) → LengthView l rules s m
+  view_indefinite : {parts : ℕ} (body rest : List ℕ) → rules ≡ Ber → Body 1 parts body → s ≡ 128 ∷ (body ++ rest) → l ≡ indefinite_length (length body) → m ≡ 1 → LengthView l rules s m
 
-pub length_view : {rules : EncodingRules} {s : List ℕ} {l : Length} {m : ℕ} → LengthAhead rules s l m → LengthView rules s l m
+pub length_view : {l : Length} {rules : EncodingRules} {s : List ℕ} {m : ℕ} → LengthAhead l rules s m → LengthView l rules s m
 length_view (definite n rest h) = view_definite n rest h refl refl refl
 length_view (indefinite {body = body} rest h) = view_indefinite body rest refl h refl refl refl
 
 -- octets begin with one length at most
-pub one_length : {rules : EncodingRules} {s t : List ℕ} {l k : Length} {m n : ℕ} → LengthAhead rules s l m → LengthAhead rules t k n → s ≡ t → (l ≡ k) × (m ≡ n)
+pub one_length : {rules : EncodingRules} {s t : List ℕ} {l k : Length} {m n : ℕ} → LengthAhead l rules s m → LengthAhead k rules t n → s ≡ t → (l ≡ k) × (m ≡ n)
 one_length {rules} {s} {t} {l} {k} {m} {n} h g e = go (length_view h) (length_view g)
   where
-    go : LengthView rules s l m → LengthView rules t k n → (l ≡ k) × (m ≡ n)
+    go : LengthView l rules s m → LengthView k rules t n → (l ≡ k) × (m ≡ n)
     go (view_definite a x p q f c) (view_definite b y u v w z) =
         let r = length_front a b x y (sym q ∙ e ∙ v) in
-        (f ∙ ap (λ i. length_of i false) r.0 ∙ sym w, c ∙ ap (λ i. length (length_octets i)) r.0 ∙ sym z)
+        (f ∙ ap definite_length r.0 ∙ sym w, c ∙ ap (λ i. length (length_octets i)) r.0 ∙ sym z)
     go (view_definite a x p q f c) (view_indefinite body y ber d v w z) = absurd (length_definite a x (body ++ y) (sym q ∙ e ∙ v))
     go (view_indefinite body y ber d v w z) (view_definite a x p q f c) = absurd (length_definite a x (body ++ y) (sym q ∙ sym e ∙ v))
     go (view_indefinite a x ber d v w z) (view_indefinite b y rber g q f c) =
         let i : 128 ∷ (a ++ x) ≡ 128 ∷ (b ++ y) = sym v ∙ e ∙ q in
         let r = body_front d g x y (cc) in
-        (w ∙ ap (λ o. length_of (length o) true) r.0 ∙ sym f, z ∙ sym c)
+        (w ∙ ap (λ o. indefinite_length (length o)) r.0 ∙ sym f, z ∙ sym c)
 
 -- a header ahead: an identifier, and a length behind it
-pub data HeaderView (rules : EncodingRules) (s : List ℕ) (h : Head) (m : ℕ) : Type 0 where
-  header_view_of : {t : Tag} {b : Bool} {l : Length} {k : ℕ} (id more : List ℕ) → IsIdentifier rules id t b → LengthAhead rules more l k → (is_indefinite l ≡ true → b ≡ true) → s ≡ id ++ more → h ≡ head t l b → m ≡ length id + k → HeaderView rules s h m
+pub data HeaderView (h : Head) (rules : EncodingRules) (s : List ℕ) (m : ℕ) : Type 0 where
+  header_view_of : {k : ℕ} (id more : List ℕ) → IsIdentifier rules id h.tag h.constructed → LengthAhead h.length rules more k → (is_indefinite h.length ≡ true → h.constructed ≡ true) → s ≡ id ++ more → m ≡ length id + k → HeaderView h rules s m
 
-pub header_view : {rules : EncodingRules} {s : List ℕ} {h : Head} {m : ℕ} → HeaderAhead rules s h m → HeaderView rules s h m
-header_view (header {id = id} {more = more} d l ok) = header_view_of id more d l ok refl refl refl
+pub header_view : {h : Head} {rules : EncodingRules} {s : List ℕ} {m : ℕ} → HeaderAhead h rules s m → HeaderView h rules s m
+header_view (header {id = id} {more = more} d l ok) = header_view_of id more d l ok refl refl
 
 same_head : {t u : Tag} {l k : Length} {b c : Bool} → t ≡ u → l ≡ k → b ≡ c → head t l b ≡ head u k c
 same_head {t} {u} {l} {k} {b} {c} p q r = ap (λ x. head x l b) p ∙ ap (λ x. head u x b) q ∙ ap (head u k) r
 
 -- octets begin with one header at most
-pub one_header : {rules : EncodingRules} {s : List ℕ} {h g : Head} {m n : ℕ} → HeaderAhead rules s h m → HeaderAhead rules s g n → (h ≡ g) × (m ≡ n)
+pub one_header : {rules : EncodingRules} {s : List ℕ} {h g : Head} {m n : ℕ} → HeaderAhead h rules s m → HeaderAhead g rules s n → (h ≡ g) × (m ≡ n)
 one_header {rules} {s} {h} {g} {m} {n} p q = go (header_view p) (header_view q)
   where
-    go : HeaderView rules s h m → HeaderView rules s g n → (h ≡ g) × (m ≡ n)
-    go (header_view_of {k = i} a x d l ok e f c) (header_view_of {k = j} b y o k fine u v w) =
+    go : HeaderView h rules s m → HeaderView g rules s n → (h ≡ g) × (m ≡ n)
+    go (header_view_of {k = i} a x d l ok e c) (header_view_of {k = j} b y o k fine u w) =
         let r = identifier_front d o x y (sym e ∙ u) in
         let z = one_length l k r.3 in
-        (f ∙ same_head r.1 z.0 r.2 ∙ sym v, c ∙ ap (λ o. length o + i) r.0 ∙ ap (λ o. length b + o) z.1 ∙ sym w)
+        (same_head r.1 z.0 r.2, c ∙ ap (λ o. length o + i) r.0 ∙ ap (λ o. length b + o) z.1 ∙ sym w)
 
--- octets that begin with a length have no fault
-pub no_length_fault : {wrong : ErrorKind} {at m : ℕ} {rules : EncodingRules} {s t : List ℕ} {r : Refusal} {l : Length} → LengthFault wrong at rules s r → LengthAhead rules t l m → s ≡ t → ⊥
-no_length_fault {m = m} {rules = rules} {t = t} {l = l} f h e = go (length_view h)
+-- octets that begin with an identifier have no fault
+pub no_tag_fault : {x : Tag × Bool} {rules : EncodingRules} {at m : ℕ} {s t : List ℕ} {r : Refusal} → IdentifierFault rules at s r → IdentifierAhead x rules t m → s ≡ t → ⊥
+no_tag_fault {x} {rules} {m = m} {t = t} f h e = go (identifier_view h)
   where
-    go : LengthView rules t l m → ⊥
-    go (view_definite n rest small q c z) = no_definite_fault n rest small f (e ∙ q)
-    go (view_indefinite body rest ber d q c z) = no_open_fault (body ++ rest) ber f (e ∙ q)
+    go : IdentifierView x rules t m → ⊥
+    go (identifier_view_of id rest d q c) = no_identifier_fault rest f d (e ∙ q)
 
--- octets that begin with a tag have no fault
-pub no_tag_fault : {rules : EncodingRules} {at m : ℕ} {s t : List ℕ} {r : Refusal} {u : Tag} {b : Bool} → IdentifierFault rules at s r → IdentifierAhead rules t u b m → s ≡ t → ⊥
-no_tag_fault {rules} {m = m} {t = t} {u = u} {b = b} f h e = go (tag_view h)
-  where
-    go : TagView rules t u b m → ⊥
-    go (tag_view_of id rest d q c) = no_identifier_fault rest f d (e ∙ q)
+-- over the fault of a body, of which its laws are premises
+module _ (Fault : ℕ → List ℕ → Refusal → Type 0) (laws : IsBodyFault Fault) where
+  -- octets that begin with a length have no fault
+  pub no_length_fault : {wrong : ErrorKind} {at m : ℕ} {rules : EncodingRules} {s t : List ℕ} {r : Refusal} {l : Length} → LengthFault Fault wrong rules at s r → LengthAhead l rules t m → s ≡ t → ⊥
+  no_length_fault {m = m} {rules = rules} {t = t} {l = l} f h e = go (length_view h)
+    where
+      go : LengthView l rules t m → ⊥
+      go (view_definite n rest small q c z) = no_definite_fault n rest small f (e ∙ q)
+      go (view_indefinite body rest ber d q c z) = no_open_fault laws d rest ber f (e ∙ q)
 
--- octets that begin with a header have no fault
-pub no_header_fault : {rules : EncodingRules} {at m : ℕ} {s t : List ℕ} {r : Refusal} {h : Head} → HeaderFault rules at s r → HeaderAhead rules t h m → s ≡ t → ⊥
-no_header_fault {rules = rules} {m = m} {t = t} {h = h} fault ahead e = go fault (header_view ahead) e
-  where
-    go : {at : ℕ} {s : List ℕ} {r : Refusal} → HeaderFault rules at s r → HeaderView rules t h m → s ≡ t → ⊥
-    go (no_identifier f) (header_view_of a x d l ok q c z) e = no_identifier_fault x f d (e ∙ q)
-    go (no_length {more = more} d f) (header_view_of a x o l ok q c z) e =
-        let r = identifier_front d o more x (e ∙ q) in no_length_fault f l r.3
+  -- octets that begin with a header have no fault
+  pub no_header_fault : {rules : EncodingRules} {at m : ℕ} {s t : List ℕ} {r : Refusal} {h : Head} → HeaderFault Fault rules at s r → HeaderAhead h rules t m → s ≡ t → ⊥
+  no_header_fault {rules = rules} {m = m} {t = t} {h = h} fault ahead e = go fault (header_view ahead) e
+    where
+      go : {at : ℕ} {s : List ℕ} {r : Refusal} → HeaderFault Fault rules at s r → HeaderView h rules t m → s ≡ t → ⊥
+      go (no_identifier f) (header_view_of a x d l ok q z) e = no_identifier_fault x f d (e ∙ q)
+      go (no_length {more = more} d f) (header_view_of a x o l ok q z) e =
+          let r = identifier_front d o more x (e ∙ q) in no_length_fault f l r.3
+      go (primitive {more = more} d k flag) (header_view_of a x o l ok q z) e =
+          let r = identifier_front d o more x (e ∙ q) in
+          let same = one_length k l r.3 in
+          let w : false ≡ true = r.2 ∙ ok (ap is_indefinite (sym same.0) ∙ flag) in cc
 
--- octets have one fault of a header
-pub one_header_fault : {rules : EncodingRules} {at : ℕ} {s t : List ℕ} {r q : Refusal} → HeaderFault rules at s r → HeaderFault rules at t q → s ≡ t → r ≡ q
-one_header_fault (no_identifier f) (no_identifier g) e = one_identifier_fault f g e
-one_header_fault (no_identifier f) (no_length {more = more} d g) e = absurd (no_identifier_fault more f d e)
-one_header_fault (no_length {more = more} d g) (no_identifier f) e = absurd (no_identifier_fault more f d (sym e))
-one_header_fault {rules = rules} {at = at} {r = p} (no_length {id = a} {more = x} {t = t} d f) (no_length {id = b} {more = y} {t = u} o g) e =
-    let r = identifier_front d o x y e in
-    one_length_fault (subst (λ v. LengthFault (IncorrectLength v) (at + length b) rules x p) r.1 (subst (λ i. LengthFault (IncorrectLength t) (at + length i) rules x p) r.0 f)) g r.3
+  -- an indefinite length behind a primitive identifier, and no length there
+  not_both_behind : {rules : EncodingRules} {at m : ℕ} {wrong : ErrorKind} {a b x y : List ℕ} {t u : Tag} {p c : Bool} {r : Refusal} {l : Length}
+      → IsIdentifier rules a t p → IsIdentifier rules b u c → LengthFault Fault wrong rules at x r → LengthAhead l rules y m → a ++ x ≡ b ++ y → ⊥
+  not_both_behind {x = x} {y = y} d o f l e = no_length_fault f l (identifier_front d o x y e).3
 
--- a tag ahead is within the octets
-pub tag_fits : {rules : EncodingRules} {s : List ℕ} {t : Tag} {b : Bool} {m : ℕ} → IdentifierAhead rules s t b m → m ≤ length s
-tag_fits (tag {id = id} rest h) = omega (arith, length-append id rest)
+  -- octets have one fault of a header
+  pub one_header_fault : {rules : EncodingRules} {at : ℕ} {s t : List ℕ} {r q : Refusal} → HeaderFault Fault rules at s r → HeaderFault Fault rules at t q → s ≡ t → r ≡ q
+  one_header_fault (no_identifier f) (no_identifier g) e = one_identifier_fault f g e
+  one_header_fault (no_identifier f) (no_length {more = more} d g) e = absurd (no_identifier_fault more f d e)
+  one_header_fault (no_identifier f) (primitive {more = more} d l g) e = absurd (no_identifier_fault more f d e)
+  one_header_fault (no_length {more = more} d g) (no_identifier f) e = absurd (no_identifier_fault more f d (sym e))
+  one_header_fault {rules = rules} {at = at} {r = p} (no_length {id = a} {more = x} {t = t} d f) (no_length {id = b} {more = y} {t = u} o g) e =
+      let r = identifier_front d o x y e in
+      one_length_fault laws (subst (λ v. LengthFault Fault (IncorrectLength v) rules (at + length b) x p) r.1 (subst (λ i. LengthFault Fault (IncorrectLength t) rules (at + length i) x p) r.0 f)) g r.3
+  one_header_fault (no_length d f) (primitive o l g) e = absurd (not_both_behind d o f l e)
+  one_header_fault (primitive {more = more} d l g) (no_identifier f) e = absurd (no_identifier_fault more f d (sym e))
+  one_header_fault (primitive o l g) (no_length d f) e = absurd (not_both_behind d o f l (sym e))
+  one_header_fault {at = at} (primitive {id = a} {more = x} {m = m} d l f) (primitive {id = b} {more = y} {m = n} o k g) e =
+      let r = identifier_front d o x y e in
+      let z = one_length l k r.3 in
+      ap (λ i. refusal IndefiniteLength (at + length i + m)) r.0 ∙ ap (λ i. refusal IndefiniteLength (at + length b + i)) z.1
+
+  -- the grammars of lengths and headers
+  pub length_grammar : (wrong : ErrorKind) → IsGrammar LengthAhead (LengthFault Fault wrong)
+  length_grammar wrong =
+      record {
+        one = λ rules octets v w m n h g. one_length h g refl;
+        one_fault = λ rules at octets r q f g. one_length_fault laws f g refl;
+        never_both = λ rules at octets v m r h f. no_length_fault f h refl;
+      }
+
+  pub header_grammar : IsGrammar HeaderAhead (HeaderFault Fault)
+  header_grammar =
+      record {
+        one = λ rules octets v w m n h g. one_header h g;
+        one_fault = λ rules at octets r q f g. one_header_fault f g refl;
+        never_both = λ rules at octets v m r h f. no_header_fault f h refl;
+      }
+
+-- the grammars of identifiers and tags
+pub identifier_grammar : IsGrammar IdentifierAhead IdentifierFault
+identifier_grammar =
+    record {
+      one = λ rules octets v w m n h g. one_identifier h g;
+      one_fault = λ rules at octets r q f g. one_identifier_fault f g refl;
+      never_both = λ rules at octets v m r h f. no_tag_fault f h refl;
+    }
+
+pub tag_grammar : IsGrammar TagAhead IdentifierFault
+tag_grammar =
+    record {
+      one = λ rules octets v w m n h g. one_tag h g;
+      one_fault = λ rules at octets r q f g. one_identifier_fault f g refl;
+      never_both = λ rules at octets v m r h f. no_tag_fault f h.1 refl;
+    }
+
+-- no fault of a body is told today
+pub body_fault_laws : IsBodyFault BodyFault
+body_fault_laws = record { one_fault = λ at octets r q f g. absurd f; never_both = λ at parts body rest r b f. f }
+
+-- an identifier ahead is within the octets
+pub identifier_fits : {x : Tag × Bool} {rules : EncodingRules} {s : List ℕ} {m : ℕ} → IdentifierAhead x rules s m → m ≤ length s
+identifier_fits (identifier {id = id} rest h) = omega (arith, length-append id rest)
 
 -- a length ahead is within the octets
-pub length_fits : {rules : EncodingRules} {s : List ℕ} {l : Length} {m : ℕ} → LengthAhead rules s l m → m ≤ length s
+pub length_fits : {l : Length} {rules : EncodingRules} {s : List ℕ} {m : ℕ} → LengthAhead l rules s m → m ≤ length s
 length_fits (definite n rest h) = omega (arith, length-append (length_octets n) rest)
 length_fits (indefinite {body = body} rest h) = omega arith
 
 -- a length ahead has from one to five octets
-pub length_size : {rules : EncodingRules} {s : List ℕ} {l : Length} {m : ℕ} → LengthAhead rules s l m → (1 ≤ m) × (m ≤ 5)
+pub length_size : {l : Length} {rules : EncodingRules} {s : List ℕ} {m : ℕ} → LengthAhead l rules s m → (1 ≤ m) × (m ≤ 5)
 length_size (definite n rest h) = (length_octets_some n, length_octets_few n h)
 length_size (indefinite {body = body} rest h) = (omega arith, omega arith)
 
 -- a definite length ahead has 32 bits
-pub length_bits : {rules : EncodingRules} {s : List ℕ} {l : Length} {m : ℕ} → LengthAhead rules s l m → is_indefinite l ≡ false → number l < 2 ^ 32
+pub length_bits : {l : Length} {rules : EncodingRules} {s : List ℕ} {m : ℕ} → LengthAhead l rules s m → is_indefinite l ≡ false → number l < 2 ^ 32
 length_bits (definite n rest h) e = h
 length_bits (indefinite {body = body} rest h) e = cc
 
 -- under DER each length ahead is definite
-pub length_definite_form : {rules : EncodingRules} {s : List ℕ} {l : Length} {m : ℕ} → rules ≡ Der → LengthAhead rules s l m → is_indefinite l ≡ false
+pub length_definite_form : {l : Length} {rules : EncodingRules} {s : List ℕ} {m : ℕ} → rules ≡ Der → LengthAhead l rules s m → is_indefinite l ≡ false
 length_definite_form d (definite n rest h) = refl
 length_definite_form d (indefinite {body = body} rest h) = cc
 
 -- a header ahead is within the octets
-pub header_fits : {rules : EncodingRules} {s : List ℕ} {h : Head} {m : ℕ} → HeaderAhead rules s h m → m ≤ length s
+pub header_fits : {h : Head} {rules : EncodingRules} {s : List ℕ} {m : ℕ} → HeaderAhead h rules s m → m ≤ length s
 header_fits (header {id = id} {more = more} d l ok) = omega (arith, length-append id more, length_fits l)
-
--- a refused length, told by another kind
-abbrev pub retold_reason : ErrorKind → Reason → Reason
-retold_reason k (Wants expected actual) = Wants expected actual
-retold_reason k (Kind other) = Kind (retold_kind k other)
-
-abbrev pub retold : ErrorKind → Refusal → Refusal
-retold k r = record r { reason = retold_reason k r.reason }
-
--- the fault of a length, told by another kind
-pub retold_fault : {at : ℕ} {rules : EncodingRules} {s : List ℕ} {r : Refusal} (k : ErrorKind) → LengthFault Overlength at rules s r → LengthFault k at rules s (retold k r)
-retold_fault k nothing = nothing
-retold_fault k (few n ds p q) = few n ds p q
-retold_fault k (far o rest p) = far o rest p
-retold_fault k (longer n ds rest p q u v) = longer n ds rest p q u v
-retold_fault k (indefinite_form rest) = indefinite_form rest
-
--- the error that a retold refusal is told as is that of the refusal, retold
-pub owed_retold : (k : ErrorKind) (r : Refusal) → error_of (retold k r) ≡ retold_error k (error_of r)
-owed_retold k r = go r.reason r
-  where
-    far_or_not : (b : Bool) (x y p : ℕ) → (if b then error_of_kind Overflow else at (kind_of_reason (Wants x y)) (definite_length p)) ≡ retold_error k (if b then error_of_kind Overflow else at (kind_of_reason (Wants x y)) (definite_length p))
-    far_or_not true x y p = refl
-    far_or_not false x y p = refl
-
-    go : (o : Reason) (q : Refusal) → error_of (record q { reason = retold_reason k o }) ≡ retold_error k (error_of (record q { reason = o }))
-    go (Wants x y) q = far_or_not (is_far (Wants x y)) x y q.position
-    go (Kind other) q = refl

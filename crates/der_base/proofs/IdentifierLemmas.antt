@@ -1,10 +1,9 @@
 -- Identifiers at the front of octets, and where octets begin with none.
 use Rattle.std.proofs.Common.{◌≡◌, ◌≢◌, ℕ, ◌+◌, ◌%◌, ◌^◌, ◌<◌, ◌≤◌, ◌⊎◌, Bool, true, false, Some, None, List, [], ◌∷◌, ◌++◌, length, refl, sym, ap, ◌∙◌, subst, ⊎_elim, append_assoc, append-nil, length-append, arith}
 use Rattle.std.proofs.lemmas.Bool.{cases_lt, cases_eq, ne_eqb}
-use Rattle.der_base.specs.Digits.{digits, continuation_octets}
-use Rattle.der_base.specs.Tag.{label, leading_octet, tag_octets, HasCountableNumber, universal_tag, is_constructed, other_tag}
-use Rattle.der_base.specs.Refusal.{Refusal, refusal, end_refusal}
-use Rattle.der_base.specs.Identifier.{IsIdentifier, of_tag, of_segments, IsCutIdentifier, BeginsNoIdentifier, identifier_kind, IdentifierFault, cut, refused}
+use Rattle.der_base.specs.Length.{digits}
+use Rattle.der_base.specs.Tag.{label, leading_octet, tag_octets, universal_tag, is_constructed, other_tag, continuation_octets, IsIdentifier, of_tag, of_segments, IsCutIdentifier, identifier_kind, IdentifierFault, cut, refused}
+use Rattle.der_base.specs.Error.{Refusal, refusal, end_refusal}
 use Rattle.der_base.specs.declared.error.ErrorKind.TheVariants.{TagNumberInvalid, TagUnknown}
 use Rattle.der_base.specs.declared.encoding_rules.EncodingRules.{EncodingRules}
 use Rattle.der_base.specs.declared.encoding_rules.EncodingRules.TheVariants.{Ber, Der}
@@ -12,6 +11,11 @@ use Rattle.der_base.specs.declared.tag.Tag.{Tag}
 use Rattle.der_base.specs.declared.tag.Tag.TheVariants.{Boolean, OctetString}
 use Rattle.der_base.proofs.DigitLemmas.{two_fronts}
 use Rattle.der_base.proofs.TagLemmas.{label_small, label_large, tag_begins, tag_front, no_segments, universal_found, universal_octets, universal_is_tag, other_constructed, other_number, other_octet, other_octets}
+
+-- no identifier begins so
+abbrev pub BeginsNoIdentifier : EncodingRules → List ℕ → Type 0
+BeginsNoIdentifier rules s =
+    (more : List ℕ) (t : Tag) (b : Bool) → IsIdentifier rules (s ++ more) t b → ⊥
 
 -- moved to equal octets and an equal bit
 pub identifier_at : {rules : EncodingRules} {a b : List ℕ} {t : Tag} {c d : Bool} → a ≡ b → c ≡ d → IsIdentifier rules a t c → IsIdentifier rules b t d
@@ -24,13 +28,13 @@ universal_identifier o t e = identifier_at (universal_octets o t e) refl (of_tag
 -- one octet is an identifier of another class, unless its five low bits are set
 pub short_identifier : {rules : EncodingRules} (o : ℕ) → 64 ≤ o → o < 256 → o % 32 < 31 → IsIdentifier rules (o ∷ []) (other_tag o (o % 32)) (is_constructed o)
 short_identifier o low high small =
-    let tag : HasCountableNumber (other_tag o (o % 32)) = omega (arith, other_number o (o % 32) low high) in
+    let tag : (label (other_tag o (o % 32))).number < 2 ^ 32 = omega (arith, other_number o (o % 32) low high) in
     identifier_at (other_octet o low high small) (other_constructed o (o % 32) low high) (of_tag tag)
 
 -- an octet with its five low bits set, and a number behind it, are an identifier of another class
 pub long_identifier : {rules : EncodingRules} (o n : ℕ) → 64 ≤ o → o < 256 → o % 32 ≡ 31 → 31 ≤ n → n < 2 ^ 32 → IsIdentifier rules (o ∷ continuation_octets (digits 128 n)) (other_tag o n) (is_constructed o)
 long_identifier o n low high set large small =
-    let tag : HasCountableNumber (other_tag o n) = omega (arith, other_number o n low high) in
+    let tag : (label (other_tag o n)).number < 2 ^ 32 = omega (arith, other_number o n low high) in
     identifier_at (other_octets o n low high set large) (other_constructed o n low high) (of_tag tag)
 
 -- under BER the octet 24 is an identifier
@@ -39,7 +43,7 @@ segments_identifier o e = subst (λ x. IsIdentifier Ber (x ∷ []) OctetString t
 
 -- an identifier is a tag's, or the octet 24 under BER
 pub data IdentifierView (rules : EncodingRules) (a : List ℕ) (t : Tag) (c : Bool) : Type 0 where
-  tagged : HasCountableNumber t → a ≡ tag_octets t → c ≡ (label t).constructed → IdentifierView rules a t c
+  tagged : (label t).number < 2 ^ 32 → a ≡ tag_octets t → c ≡ (label t).constructed → IdentifierView rules a t c
   segmented : rules ≡ Ber → a ≡ 36 ∷ [] → t ≡ OctetString → c ≡ true → IdentifierView rules a t c
 
 pub identifier_view : {rules : EncodingRules} {a : List ℕ} {t : Tag} {c : Bool} → IsIdentifier rules a t c → IdentifierView rules a t c

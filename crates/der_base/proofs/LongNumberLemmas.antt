@@ -3,15 +3,14 @@ use Rattle.std.proofs.Common.{◌≡◌, ◌≢◌, ℕ, ◌+◌, ◌-◌, ◌*�
 use Rattle.std.proofs.lemmas.Bool.{cases_lt}
 use Rattle.std.proofs.lemmas.Int.Digits.{first_digits_of, number_digits_of, number_push, number_after_append, number_after_ge, all_below_base_digits_of}
 use Rattle.std.specs.Int.Digits.{digits_of, number_from_digits, number_from_digits_after, AllBelowBase}
-use Rattle.der_base.specs.Digits.{digits, continuation_octets}
-use Rattle.der_base.specs.Tag.{label, label_of, leading_octet, is_constructed, other_tag}
-use Rattle.der_base.specs.Refusal.{refusal, end_refusal}
-use Rattle.der_base.specs.Identifier.{IsIdentifier, IsCutIdentifier, BeginsNoIdentifier, IdentifierFault, cut, refused}
+use Rattle.der_base.specs.Length.{digits}
+use Rattle.der_base.specs.Tag.{label, label_of, leading_octet, is_constructed, other_tag, continuation_octets, IsIdentifier, IsCutIdentifier, IdentifierFault, cut, refused}
+use Rattle.der_base.specs.Error.{refusal, end_refusal}
 use Rattle.der_base.specs.declared.encoding_rules.EncodingRules.{EncodingRules}
 use Rattle.der_base.specs.declared.error.ErrorKind.TheVariants.{TagNumberInvalid}
 use Rattle.der_base.proofs.DigitLemmas.{digits_positive, length_digits_positive, digits_of_push}
 use Rattle.der_base.proofs.TagLemmas.{label_small, label_large, octet_parts, octet_back}
-use Rattle.der_base.proofs.IdentifierLemmas.{IdentifierView, tagged, segmented, identifier_view, identifier_at, long_identifier}
+use Rattle.der_base.proofs.IdentifierLemmas.{BeginsNoIdentifier, IdentifierView, tagged, segmented, identifier_view, identifier_at, long_identifier}
 
 -- digits that more digits follow
 abbrev pub going_on : List ℕ → List ℕ

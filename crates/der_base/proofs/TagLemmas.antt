@@ -1,13 +1,23 @@
 -- Tags and their octets: what an octet says, and that no tag begins another.
-use Rattle.std.proofs.Common.{◌≡◌, ◌≢◌, ℕ, ◌+◌, ◌*◌, ◌/◌, ◌%◌, ◌<◌, ◌≤◌, Bool, true, false, nat_eq, Option, Some, None, if◌then◌else◌, List, [], ◌∷◌, ◌++◌, refl, sym, ap, ◌∙◌, subst, ⊎_elim, arith, length}
+use Rattle.std.proofs.Common.{◌≡◌, ◌≢◌, ℕ, ◌+◌, ◌*◌, ◌/◌, ◌%◌, ◌^◌, ◌<◌, ◌≤◌, Bool, true, false, nat_eq, nat_lt, Option, Some, None, if◌then◌else◌, List, [], ◌∷◌, ◌++◌, refl, sym, ap, ◌∙◌, subst, ⊎_elim, arith, length}
 use Rattle.std.proofs.lemmas.Bool.{cases_lt, cases_eq, lt-ltb, le-ltb, ne_eqb, eq-eqb, eqb-true, eqb-false}
 use Rattle.std.proofs.lemmas.Int.Digits.{all_below_base_digits_of, length-digits_of-le}
 use Rattle.std.specs.Int.Digits.{digits_of, AllBelowBase}
-use Rattle.der_base.specs.Digits.{digits, continuation_octets}
-use Rattle.der_base.specs.Tag.{Label, label_of, label, constructed_bit, leading_octet, label_octets, tag_octets, HasCountableNumber, universal_rows, tag_among, universal_tag, is_constructed, tag_number, other_tag}
+use Rattle.der_base.specs.Length.{digits}
+use Rattle.der_base.specs.Tag.{Label, label_of, label, leading_octet, tag_octets, universal_rows, tag_among, universal_tag, is_constructed, tag_number, other_tag, continuation_octets}
 use Rattle.der_base.specs.declared.tag.Tag.{Tag}
 use Rattle.der_base.specs.declared.tag.Tag.TheVariants.{Boolean, Integer, BitString, OctetString, Null, ObjectIdentifier, Real, Enumerated, Utf8String, RelativeOid, Sequence, Set, NumericString, PrintableString, TeletexString, VideotexString, Ia5String, UtcTime, GeneralizedTime, VisibleString, GeneralString, BmpString, Application, ContextSpecific, Private}
 use Rattle.der_base.proofs.DigitLemmas.{digits_positive, number_front, continued_octets, length_continued}
+
+-- the number that the constructed bit adds to a first octet
+abbrev pub constructed_bit : Bool → ℕ
+constructed_bit constructed = if constructed then 32 else 0
+
+-- the octets that a label is spelled by
+abbrev pub label_octets : Label → List ℕ
+label_octets l =
+    if nat_lt l.number 31 then leading_octet l l.number ∷ []
+    else leading_octet l 31 ∷ continuation_octets (digits 128 l.number)
 
 -- a number below 31 stands in the first octet
 pub label_small : (l : Label) → l.number < 31 → label_octets l ≡ leading_octet l l.number ∷ []
@@ -111,7 +121,7 @@ class_small t = omega arith
 
 -- what a row of the universal tags says
 UniversalRow : ℕ → Tag → Type 0
-UniversalRow o t = (tag_octets t ≡ o ∷ []) × (HasCountableNumber t) × ((label t).constructed ≡ is_constructed o) × ((label t).class ≡ 0)
+UniversalRow o t = (tag_octets t ≡ o ∷ []) × ((label t).number < 2 ^ 32) × ((label t).constructed ≡ is_constructed o) × ((label t).class ≡ 0)
 
 data UniversalRows : List (ℕ × Tag) → Type 0 where
   none : UniversalRows []
@@ -148,7 +158,7 @@ unfolding UniversalRow
 universal_octets o t e = (universal_row o t e).0
 
 -- a universal tag's number has 32 bits
-pub universal_is_tag : (o : ℕ) (t : Tag) → universal_tag o ≡ Some t → HasCountableNumber t
+pub universal_is_tag : (o : ℕ) (t : Tag) → universal_tag o ≡ Some t → (label t).number < 2 ^ 32
 unfolding UniversalRow
 universal_is_tag o t e = (universal_row o t e).1
 
@@ -270,7 +280,7 @@ tag_begins t =
         (cases_lt (label t).number 31)
 
 -- a tag has at most six octets
-pub tag_octets_few : (t : Tag) → HasCountableNumber t → length (tag_octets t) ≤ 6
+pub tag_octets_few : (t : Tag) → (label t).number < 2 ^ 32 → length (tag_octets t) ≤ 6
 tag_octets_few t h =
     ⊎_elim
     (λ a. subst (λ l. length l ≤ 6) (sym (label_small (label t) a)) (omega arith))

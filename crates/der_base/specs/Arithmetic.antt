@@ -1,6 +1,6 @@
 -- Numbers of octets, added and taken away.
-use Rattle.std.specs.Prelude.{ℕ, ◌+◌, ◌-◌, ◌^◌, true, length, min, nat_lt, Result, Ok, Err, if◌then◌else◌}
-use Rattle.der_base.specs.Length.{number, is_indefinite, length_of, definite_length, length_octets}
+use Rattle.std.specs.Prelude.{ℕ, ◌+◌, ◌-◌, ◌^◌, length, min, nat_lt, Result, Ok, Err, if◌then◌else◌}
+use Rattle.der_base.specs.Length.{number, is_indefinite, definite_length, indefinite_length, length_octets}
 use Rattle.der_base.specs.Tag.{tag_octets}
 use Rattle.der_base.specs.Error.{error_of_kind}
 use Rattle.der_base.specs.declared.length.Length.{Length}
@@ -36,4 +36,4 @@ element_count t n = length (tag_octets t) + length (length_octets n) + n
 -- the octets of a body without the end mark that closes it, two zero octets (8.1.5); a definite
 -- length has none
 abbrev pub sans_eoc : Length → Length
-sans_eoc l = if is_indefinite l then length_of (number l - 2) true else l
+sans_eoc l = if is_indefinite l then indefinite_length (number l - 2) else l

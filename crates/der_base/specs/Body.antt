@@ -2,7 +2,8 @@
 -- on a length does through `LengthAhead`; no contract names `Items` and `Open` yet.
 use Rattle.std.specs.Prelude.{ℕ, suc, ◌+◌, ◌^◌, ◌<◌, Bool, true, List, [], ◌∷◌, ◌++◌, length}
 use Rattle.der_base.specs.Length.{length_octets}
-use Rattle.der_base.specs.Identifier.{IsIdentifier}
+use Rattle.der_base.specs.Tag.{IsIdentifier}
+use Rattle.der_base.specs.Error.{Refusal}
 use Rattle.der_base.specs.declared.tag.Tag.{Tag}
 use Rattle.der_base.specs.declared.encoding_rules.EncodingRules.TheVariants.{Ber}
 
@@ -35,3 +36,7 @@ pub data Open : ℕ → ℕ → List ℕ → Type 0 where
   deeper : {level m n : ℕ} {p id items : List ℕ} {t : Tag} → Open level m p
       → IsIdentifier Ber id t true → level < 64 → Items (suc level) n items
       → Open (suc level) (m + suc n) (p ++ (id ++ 128 ∷ items))
+
+-- octets at a position begin with no body, and why: none is told, since no body is read yet
+abbrev pub BodyFault : ℕ → List ℕ → Refusal → Type 0
+BodyFault at octets r = ⊥

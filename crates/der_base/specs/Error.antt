@@ -1,11 +1,11 @@
--- Errors: a kind, and a position or none.
-use Rattle.std.specs.Prelude.{◌+◌, ◌-◌, ◌^◌, ◌==◌, Option, Some, None, if◌then◌else◌}
+-- Errors: a kind, and a position or none. Refusals: an error, and how it leaves a reader.
+use Rattle.std.specs.Prelude.{ℕ, ◌+◌, ◌-◌, ◌^◌, ◌==◌, nat_lt, Bool, true, Option, Some, None, if◌then◌else◌}
 use Rattle.der_base.specs.Length.{number, definite_length}
 use Rattle.der_base.specs.declared.length.Length.{Length}
 use Rattle.der_base.specs.declared.tag.Tag.{Tag}
 use Rattle.der_base.specs.declared.error.Error.{Error}
 use Rattle.der_base.specs.declared.error.ErrorKind.{ErrorKind}
-use Rattle.der_base.specs.declared.error.ErrorKind.TheVariants.{Incomplete, Overflow, Overlength, TagUnexpected}
+use Rattle.der_base.specs.declared.error.ErrorKind.TheVariants.{Incomplete, Overflow, TagUnexpected}
 
 abbrev pub kind_of : Error → ErrorKind
 kind_of e = e.kind
@@ -22,16 +22,38 @@ at k p = record { kind = k; position = Some p }
 
 -- the input ends after so many octets, and one more is wanted, which 32 bits may not count
 abbrev pub error_at_end : Length → Error
-error_at_end l = at (if number l == 2 ^ 32 - 1 then Overflow else Incomplete (definite_length (number l + 1)) l) l
-
--- a length that is not spelled rightly, told as another kind
-abbrev pub retold_kind : ErrorKind → ErrorKind → ErrorKind
-retold_kind k Overlength = k
-retold_kind k other = other
-
-abbrev pub retold_error : ErrorKind → Error → Error
-retold_error k e = record { kind = retold_kind k e.kind; position = e.position }
+error_at_end l =
+    at (if number l == 2 ^ 32 - 1 then Overflow
+    else Incomplete (definite_length (number l + 1)) l) l
 
 -- another tag was expected
 abbrev pub unexpected_tag : Tag → Tag → Error
 unexpected_tag expected actual = error_of_kind (TagUnexpected (Some expected) actual)
+
+-- what a grammar refuses octets by: the error, where it leaves a reader, and whether that has
+-- failed then
+pub record Refusal : Type 0 where
+  pub error : Error
+  pub position : ℕ
+  pub fails : Bool
+
+-- of a kind, at a position
+abbrev pub refusal : ErrorKind → ℕ → Refusal
+refusal k p = record { error = at k (definite_length p); position = p; fails = true }
+
+-- an input of so many octets would have to have more; where no length can count those, that is an
+-- overflow without a position, and no reader fails by it
+abbrev pub missing_refusal : ℕ → ℕ → ℕ → Refusal
+missing_refusal expected actual p =
+    record {
+      error =
+          if nat_lt expected (2 ^ 32)
+          then at (Incomplete (definite_length expected) (definite_length actual)) (definite_length p)
+          else error_of_kind Overflow;
+      position = p;
+      fails = nat_lt expected (2 ^ 32);
+    }
+
+-- the input ends at this position, and one octet more is wanted
+abbrev pub end_refusal : ℕ → Refusal
+end_refusal end = missing_refusal (end + 1) end end

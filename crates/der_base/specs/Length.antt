@@ -1,6 +1,6 @@
--- Lengths (X.690 8.1.3).
-use Rattle.std.specs.Prelude.{ℕ, ◌+◌, Bool, false, List, [], ◌∷◌, length, nat_lt, if◌then◌else◌}
-use Rattle.der_base.specs.Digits.{digits}
+-- Lengths (X.690 8.1.3), and the digits that numbers are spelled in.
+use Rattle.std.specs.Prelude.{ℕ, ◌+◌, ◌==◌, Bool, true, false, List, [], ◌∷◌, length, nat_lt, if◌then◌else◌}
+use Rattle.std.specs.Int.Digits.{digits_of}
 use Rattle.der_base.specs.declared.length.Length.{Length}
 
 -- how many octets, and whether that was read in the indefinite form
@@ -10,12 +10,15 @@ number l = l.inner
 abbrev pub is_indefinite : Length → Bool
 is_indefinite l = l.indefinite
 
-abbrev pub length_of : ℕ → Bool → Length
-length_of n b = record { inner = n; indefinite = b }
-
--- an unflagged length
 abbrev pub definite_length : ℕ → Length
-definite_length n = length_of n false
+definite_length n = record { inner = n; indefinite = false }
+
+abbrev pub indefinite_length : ℕ → Length
+indefinite_length n = record { inner = n; indefinite = true }
+
+-- the shortest list of digits of a number in a base, the most significant first; of 0 it is one zero
+abbrev pub digits : ℕ → ℕ → List ℕ
+digits base n = if n == 0 then 0 ∷ [] else digits_of base n
 
 -- the length octets of a number: the fewest possible (8.1.3.4, 8.1.3.5, 10.1)
 abbrev pub length_octets : ℕ → List ℕ

@@ -1,14 +1,12 @@
-pub mod Digits
 pub mod Order
 pub mod Length
 pub mod Class
 pub mod Tag
-pub mod Identifier
 pub mod Body
 pub mod Header
 pub mod Error
-pub mod Refusal
 pub mod Text
 pub mod Arithmetic
 pub mod Names
 pub mod Compare
+pub mod Laws

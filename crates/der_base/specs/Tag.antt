@@ -1,9 +1,14 @@
--- Tags and their identifier octets (X.690 8.1.2).
-use Rattle.std.specs.Prelude.{ℕ, ◌+◌, ◌*◌, ◌/◌, ◌%◌, ◌^◌, ◌<◌, Bool, true, false, nat_lt, nat_eq, Option, Some, None, List, [], ◌∷◌, if◌then◌else◌}
-use Rattle.der_base.specs.Digits.{digits, continuation_octets}
+-- Tags, their identifier octets, and where octets begin with none (X.690 8.1.2).
+use Rattle.std.specs.Prelude.{ℕ, ◌+◌, ◌*◌, ◌/◌, ◌%◌, ◌^◌, ◌<◌, ◌==◌, Bool, true, false, nat_lt, nat_eq, Option, Some, None, List, [], ◌∷◌, ◌++◌, length, if◌then◌else◌}
+use Rattle.der_base.specs.Length.{digits}
+use Rattle.der_base.specs.Error.{Refusal, refusal, end_refusal}
 use Rattle.der_base.specs.declared.tag.number.TagNumber.{TagNumber}
 use Rattle.der_base.specs.declared.tag.Tag.{Tag}
 use Rattle.der_base.specs.declared.tag.Tag.TheVariants.{Boolean, Integer, BitString, OctetString, Null, ObjectIdentifier, Real, Enumerated, Utf8String, RelativeOid, Sequence, Set, NumericString, PrintableString, TeletexString, VideotexString, Ia5String, UtcTime, GeneralizedTime, VisibleString, GeneralString, BmpString, Application, ContextSpecific, Private}
+use Rattle.der_base.specs.declared.error.ErrorKind.{ErrorKind}
+use Rattle.der_base.specs.declared.error.ErrorKind.TheVariants.{TagNumberInvalid, TagUnknown}
+use Rattle.der_base.specs.declared.encoding_rules.EncodingRules.{EncodingRules}
+use Rattle.der_base.specs.declared.encoding_rules.EncodingRules.TheVariants.{Ber}
 
 -- what identifier octets say: a class, the constructed bit and a number (8.1.2.2)
 pub record Label : Type 0 where
@@ -42,26 +47,21 @@ label (Application b n) = label_of 1 b n.0
 label (ContextSpecific b n) = label_of 2 b n.0
 label (Private b n) = label_of 3 b n.0
 
--- numbers have 32 bits
-abbrev pub HasCountableNumber : Tag → Type 0
-HasCountableNumber t = (label t).number < 2 ^ 32
-
--- bit 6 of the first octet
-abbrev pub constructed_bit : Bool → ℕ
-constructed_bit constructed = if constructed then 32 else 0
-
 -- a first octet with these five low bits
 abbrev pub leading_octet : Label → ℕ → ℕ
-leading_octet l low = 64 * l.class + constructed_bit l.constructed + low
+leading_octet l low = 64 * l.class + (if l.constructed then 32 else 0) + low
+
+-- bit 8 set on all octets but the last (8.1.2.4.2)
+abbrev pub continuation_octets : List ℕ → List ℕ
+continuation_octets [] = []
+continuation_octets (d ∷ []) = d ∷ []
+continuation_octets (d ∷ e ∷ ds) = (128 + d) ∷ continuation_octets (e ∷ ds)
 
 -- one octet for numbers to 30 (8.1.2.2), else the number in base 128 behind it (8.1.2.4)
-abbrev pub label_octets : Label → List ℕ
-label_octets l =
-    if nat_lt l.number 31 then leading_octet l l.number ∷ []
-    else leading_octet l 31 ∷ continuation_octets (digits 128 l.number)
-
 abbrev pub tag_octets : Tag → List ℕ
-tag_octets t = label_octets (label t)
+tag_octets t =
+    if nat_lt (label t).number 31 then leading_octet (label t) (label t).number ∷ []
+    else leading_octet (label t) 31 ∷ continuation_octets (digits 128 (label t).number)
 
 -- the universal tags by their first octets, which are all that they have
 abbrev pub universal_rows : List (ℕ × Tag)
@@ -95,3 +95,30 @@ other_tag o n =
     if nat_lt o 128 then Application (is_constructed o) (tag_number n)
     else if nat_lt o 192 then ContextSpecific (is_constructed o) (tag_number n)
     else Private (is_constructed o) (tag_number n)
+
+-- the octets of a tag, with its constructed bit; under BER also octet 24, an OCTET STRING that is
+-- constructed (8.7.1)
+pub data IsIdentifier : EncodingRules → List ℕ → Tag → Bool → Type 0 where
+  of_tag : {rules : EncodingRules} {t : Tag} → (label t).number < 2 ^ 32
+      → IsIdentifier rules (tag_octets t) t (label t).constructed
+  of_segments : IsIdentifier Ber (36 ∷ []) OctetString true
+
+-- some identifier begins so, and goes on
+abbrev pub IsCutIdentifier : EncodingRules → List ℕ → Type 0
+IsCutIdentifier rules s =
+    (o : ℕ) × (more : List ℕ) × (t : Tag) × (b : Bool) × IsIdentifier rules (s ++ o ∷ more) t b
+
+-- of an octet that begins no identifier, else of one in a long number; 31 begins a long number,
+-- which no universal tag has
+abbrev pub identifier_kind : List ℕ → ℕ → ErrorKind
+identifier_kind [] o = if o == 31 then TagNumberInvalid else TagUnknown o
+identifier_kind (first ∷ s) o = TagNumberInvalid
+
+-- octets at a position begin with no identifier: they are cut, or an octet is refused after which
+-- none can follow
+pub data IdentifierFault (rules : EncodingRules) (at : ℕ) : List ℕ → Refusal → Type 0 where
+  cut : (s : List ℕ) → IsCutIdentifier rules s → IdentifierFault rules at s (end_refusal (at + length s))
+  refused : (s : List ℕ) (o : ℕ) (rest : List ℕ) → IsCutIdentifier rules s
+      → ((more : List ℕ) (t : Tag) (b : Bool)
+      → IsIdentifier rules ((s ++ o ∷ []) ++ more) t b → ⊥)
+      → IdentifierFault rules at (s ++ o ∷ rest) (refusal (identifier_kind s o) (at + length s + 1))

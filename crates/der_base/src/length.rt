@@ -18,7 +18,7 @@ pub struct Length {
 }
 
 impl Length {
-    ghost use Rattle.der_base.specs.Length.{number, is_indefinite, definite_length, length_of};
+    ghost use Rattle.der_base.specs.Length.{number, is_indefinite, definite_length, indefinite_length};
     ghost use Rattle.der_base.specs.Arithmetic.{checked_length, sans_eoc};
 
     /// No octets.
@@ -51,7 +51,7 @@ impl Length {
 
     /// A length of so many octets that was read in the indefinite form.
     pub const fn new_indefinite(value: u32) -> Self
-        ensures { result ≡ length_of value true }
+        ensures { result ≡ indefinite_length value }
     {
         Length {
             inner: value,

@@ -8,7 +8,7 @@ mod comparisons;
 mod constants;
 pub mod encoding_rules;
 pub mod error;
-pub mod laws;
+mod laws;
 pub mod length;
 pub mod tag;
 

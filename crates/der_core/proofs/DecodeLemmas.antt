@@ -1,14 +1,17 @@
 -- What is left behind a value, and what was promised of one that stands ahead.
 use Rattle.std.proofs.Common.{◌≡◌, ℕ, ◌+◌, ◌≤◌, ◌^◌, ◌<◌, Bool, true, false, Result, Ok, Err, List, length, take, ◌-◌, refl, sym, ap, ◌∙◌, subst, inl, inr, arith}
 use Rattle.std.proofs.lemmas.List.{take_all}
-use Rattle.der_base.specs.Error.{at}
+use Rattle.std.specs.Result.{is_ok}
+use Rattle.der_base.specs.Error.{at, Refusal}
 use Rattle.der_base.specs.declared.error.Error.{Error}
 use Rattle.der_base.specs.declared.error.ErrorKind.TheVariants.{Failed}
 use Rattle.der_base.specs.declared.encoding_rules.EncodingRules.{EncodingRules}
 use Rattle.der_base.specs.declared.encoding_rules.EncodingRules.TheVariants.{Ber, Der}
-use Rattle.der_core.specs.ReaderState.{ReaderState, rest, reader_position, advanced_state, initial_state}
+use Rattle.der_core.specs.ReaderState.{ReaderState, rest, reader_position, advanced_state, initial_state, Same}
 use Rattle.der_core.specs.Reader.{remaining_answer}
-use Rattle.der_core.specs.Decode.{ReadsOrLacks, grammar_levels, PartialAnswer, decoded}
+use Rattle.der_core.specs.Decode.{Passes, Decodes, Accepts, IsRefusedBy, has_failed, at_fault, IsSupported, ReadsOrLacks, grammar_levels, PartialAnswer, decoded}
+use Rattle.der_core.specs.Outcome.{IsBinding}
+use Rattle.der_base.specs.Laws.{IsGrammar}
 
 pub remaining_ok : (t : ReaderState) (x : List ℕ) → Ok x ≡ remaining_answer t → (t.failed ≡ false) × (x ≡ rest t)
 remaining_ok t x h = go t.failed refl h
@@ -36,29 +39,64 @@ read_on E oom s m v (inl h) = h.1
 read_on E oom s m v (inr h) = absurd h.1
 
 -- headers are promised under DER alone
-pub header_rules : (rules : EncodingRules) (depth : ℕ) → depth + grammar_levels rules ≤ 64 → rules ≡ Der
-header_rules Ber depth h = absurd (omega arith)
-header_rules Der depth h = refl
+pub supported : (rules : EncodingRules) (depth : ℕ) → depth + grammar_levels rules ≤ 64 → IsSupported rules
+supported Ber depth h = absurd (omega arith)
+supported Der depth h = refl
+
+module _ {A : Type 0} {Ahead : A → EncodingRules → List ℕ → ℕ → Type 0} {Fault : EncodingRules → ℕ → List ℕ → Refusal → Type 0} where
+  -- a value that was read, and a refusal
+  pub decoded_ok : {reliable : Bool} {s t : ReaderState} {v : A} → Same s t → Passes (Ahead v) s t → Decodes Ahead Fault reliable s (Ok v) t
+  decoded_ok same read = record { same = same; ok = read; refused = λ _ _. tt }
+
+  pub decoded_err : {reliable : Bool} {s t : ReaderState} {e : Error} → Same s t → (reliable ≡ true → IsSupported s.rules → IsRefusedBy Fault s e t) → Decodes Ahead Fault reliable s (Err e) t
+  decoded_err same refused = record { same = same; ok = tt; refused = refused }
+
+  -- what a reliable reader owes
+  pub decodes_reliably : {reliable : Bool} {s t : ReaderState} {answer : Result A Error} → reliable ≡ true → Decodes Ahead Fault reliable s answer t → Decodes Ahead Fault true s answer t
+  decodes_reliably is h = record { same = h.same; ok = h.ok; refused = λ _. h.refused is }
+
+  -- and what any reader owes that answered
+  pub decodes_bound : {s t : ReaderState} (reliable : Bool) (answer : Result A Error) → IsBinding reliable answer → Decodes Ahead Fault reliable s answer t → Decodes Ahead Fault true s answer t
+  decodes_bound reliable (Ok v) owed h = record { same = h.same; ok = h.ok; refused = λ _ _. tt }
+  decodes_bound reliable (Err e) owed h = decodes_reliably owed h
+
+  not_refused : IsGrammar Ahead Fault → {s t : ReaderState} {e : Error} {v : A} {m : ℕ} → IsRefusedBy Fault s e t → s.failed ≡ false → Ahead v s.rules (rest s) m → ⊥
+  not_refused laws (has_failed f told leaves) working ahead = (let no : true ≡ false = sym f ∙ working in cc)
+  not_refused laws {s} {v = v} {m = m} (at_fault r w fault told leaves) working ahead = laws.never_both s.rules s.position (rest s) v m r ahead fault
+
+  -- what stands ahead is read
+  pub accepts : IsGrammar Ahead Fault → Accepts Ahead Fault
+  accepts laws s t (Ok w) v m h supported working ahead =
+      let one = laws.one s.rules (rest s) w v h.ok.octets m h.ok.ahead ahead in
+      (ap Ok one.0, h.ok.leaves ∙ ap (advanced_state s) one.1)
+  accepts laws s t (Err e) v m h supported working ahead = absurd (not_refused laws (h.refused refl supported) working ahead)
+
+  -- so what was promised is not lost
+  pub reads : IsGrammar Ahead Fault → {reliable : Bool} {s t : ReaderState} {answer : Result A Error} (oom : Error → Bool) (takes : Bool) (v : A) (m : ℕ) → Decodes Ahead Fault reliable s answer t → reliable ≡ true → s.failed ≡ false
+      → Ahead v s.rules (rest s) m → s.depth + grammar_levels s.rules ≤ 64 → ReadsOrLacks oom takes s m answer t
+  reads laws {s = s} {t} {answer} oom takes v m h reliable working ahead levels =
+      let read = accepts laws s t answer v m (decodes_reliably reliable h) (supported s.rules s.depth levels) working ahead in
+      inl (ap is_ok read.0, read.1)
 
 pub rest-beginning : (rules : EncodingRules) (octets : List ℕ) → rest (initial_state rules octets) ≡ octets
 rest-beginning rules octets = let e : length octets - 0 ≡ length octets = omega arith in ap (λ n. take n octets) e ∙ take_all (length octets) octets (omega arith)
 
 -- what is promised of a reader at the beginning
-module _ {A E : Type 0} (heads : EncodingRules → List ℕ → A → ℕ → Type 0) (needs : EncodingRules → ℕ) (oom : E → Bool) (takes : Bool) where
-  pub promised : (octets : List ℕ) (s t : ReaderState) (v : A) (m : ℕ) (result : Result A E) → s ≡ initial_state Der octets → heads Der octets v m → needs Der ≤ 64
-      → (s.failed ≡ false → heads s.rules (rest s) v m → s.depth + needs s.rules ≤ 64 → ReadsOrLacks oom takes s m result t) → ReadsOrLacks oom takes s m result t
+module _ {A E : Type 0} (heads : A → EncodingRules → List ℕ → ℕ → Type 0) (needs : EncodingRules → ℕ) (oom : E → Bool) (takes : Bool) where
+  pub promised : (octets : List ℕ) (s t : ReaderState) (v : A) (m : ℕ) (result : Result A E) → s ≡ initial_state Der octets → heads v Der octets m → needs Der ≤ 64
+      → (s.failed ≡ false → heads v s.rules (rest s) m → s.depth + needs s.rules ≤ 64 → ReadsOrLacks oom takes s m result t) → ReadsOrLacks oom takes s m result t
   promised octets s t v m result e ahead levels complete =
       let working : s.failed ≡ false = ap (λ (x : ReaderState). x.failed) e in
       let rules : s.rules ≡ Der = ap (λ (x : ReaderState). x.rules) e in
       let depth : s.depth ≡ 0 = ap (λ (x : ReaderState). x.depth) e in
       let left : rest s ≡ octets = ap rest e ∙ rest-beginning Der octets in
-      let there : heads s.rules (rest s) v m = subst (λ r. heads r (rest s) v m) (sym rules) (subst (λ l. heads Der l v m) (sym left) ahead) in
+      let there : heads v s.rules (rest s) m = subst (λ r. heads v r (rest s) m) (sym rules) (subst (λ l. heads v Der l m) (sym left) ahead) in
       let few : s.depth + needs s.rules ≤ 64 = omega (arith, depth, ap needs rules) in
       complete working there few
 
   -- a value that was promised is not lost behind it
-  pub not_lost : (octets : List ℕ) (s t : ReaderState) (v w : A) (m : ℕ) (e : Error) → s ≡ initial_state Der octets → heads Der octets v m → needs Der ≤ 64
-      → (s.failed ≡ false → heads s.rules (rest s) v m → s.depth + needs s.rules ≤ 64 → ReadsOrLacks oom takes s m (Ok w) t) → Err e ≡ remaining_answer t → ⊥
+  pub not_lost : (octets : List ℕ) (s t : ReaderState) (v w : A) (m : ℕ) (e : Error) → s ≡ initial_state Der octets → heads v Der octets m → needs Der ≤ 64
+      → (s.failed ≡ false → heads v s.rules (rest s) m → s.depth + needs s.rules ≤ 64 → ReadsOrLacks oom takes s m (Ok w) t) → Err e ≡ remaining_answer t → ⊥
   not_lost octets s t v w m e begun ahead levels complete lost =
       let there : t ≡ advanced_state s m = read_on E oom s m w (promised octets s t v m (Ok w) begun ahead levels complete) in
       let working : t.failed ≡ false = ap (λ (x : ReaderState). x.failed) there ∙ ap (λ (x : ReaderState). x.failed) begun in

@@ -4,11 +4,10 @@ use Rattle.std.proofs.lemmas.Bool.{cases_lt}
 use Rattle.std.specs.Int.{to_be_bytes}
 use Rattle.std.specs.Int.Digits.{digits_of}
 use Rattle.std.proofs.lemmas.Int.Digits.{digits_of_step, length-digits_of_step}
-use Rattle.der_base.specs.Digits.{digits, continuation_octets}
-use Rattle.der_base.specs.Length.{length_octets}
+use Rattle.der_base.specs.Length.{length_octets, digits}
 use Rattle.der_base.proofs.DigitLemmas.{digits_positive}
 use Rattle.der_base.proofs.LengthLemmas.{length_small, length_large}
-use Rattle.der_base.specs.Tag.{label, leading_octet, tag_octets}
+use Rattle.der_base.specs.Tag.{label, leading_octet, tag_octets, continuation_octets}
 use Rattle.der_base.specs.declared.tag.Tag.{Tag}
 use Rattle.der_base.specs.declared.error.Error.{Error}
 use Rattle.der_base.proofs.TagLemmas.{label_large}

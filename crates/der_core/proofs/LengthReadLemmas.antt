@@ -1,23 +1,22 @@
 -- Lengths, octet by octet.
-use Rattle.std.proofs.Common.{◌≡◌, ℕ, max, ◌+◌, ◌-◌, ◌*◌, ◌^◌, ◌<◌, ◌≤◌, true, false, List, [], ◌∷◌, ◌++◌, length, refl, sym, ap, ◌∙◌, subst, append-nil, length-append, arith}
+use Rattle.std.proofs.Common.{◌≡◌, ℕ, max, ◌+◌, ◌-◌, ◌*◌, ◌^◌, ◌<◌, ◌≤◌, false, List, [], ◌∷◌, ◌++◌, length, refl, sym, ap, ◌∙◌, subst, append-nil, length-append, arith}
 use Rattle.std.specs.Int.Digits.{number_from_digits, AllBelowBase}
 use Rattle.std.proofs.lemmas.Int.Digits.{number_push, number_lt}
 use Rattle.std.proofs.Math.Nat.{pow-le-pow_right}
-use Rattle.der_base.specs.Error.{at as error_at}
+use Rattle.der_base.specs.Error.{at as error_at, Refusal, refusal, end_refusal}
 use Rattle.der_base.specs.Length.{definite_length, length_octets}
+use Rattle.der_base.specs.Body.{BodyFault}
 use Rattle.der_base.specs.Header.{LengthAhead, definite, LengthFault, nothing, far, indefinite_form}
-use Rattle.der_base.specs.Refusal.{Refusal, refusal, end_refusal}
 use Rattle.der_base.specs.declared.length.Length.{Length}
 use Rattle.der_base.specs.declared.error.Error.{Error}
-use Rattle.der_base.specs.declared.error.ErrorKind.TheVariants.{Overlength, IndefiniteLength}
+use Rattle.der_base.specs.declared.error.ErrorKind.{ErrorKind}
+use Rattle.der_base.specs.declared.error.ErrorKind.TheVariants.{IndefiniteLength}
 use Rattle.der_base.specs.declared.encoding_rules.EncodingRules.TheVariants.{Der}
 use Rattle.der_base.proofs.DigitLemmas.{all_below_push, number_small}
 use Rattle.der_base.proofs.LengthLemmas.{length_small, octet_shortest, octet_cut, octet_longer}
-use Rattle.der_base.proofs.HeaderLemmas.{no_length_fault, one_length}
-use Rattle.der_core.specs.ReaderState.{ReaderState, rest, reader_position, advanced_state, stopped_state, Reads}
-use Rattle.der_core.specs.Refused.{IsRefusedBy, at_fault, has_failed, Stops}
-use Rattle.der_core.specs.Decode.{Passes}
-use Rattle.der_core.specs.Behind.{RefusesLongLength}
+use Rattle.der_core.specs.ReaderState.{ReaderState, rest, reader_position, stopped_state, Reads}
+use Rattle.der_core.specs.Decode.{Passes, IsRefusedBy, at_fault, has_failed}
+use Rattle.der_core.specs.AfterFirstOctet.{RefusesLongLength, Stops}
 use Rattle.der_core.proofs.StateLemmas.{reads_none, reads_on, position_on, failed_on, rules_on, stops_on, error_stops, ByteRefused, byte_failed, byte_cut}
 
 -- some octets of a length were read, which are digits of the number so far
@@ -51,39 +50,38 @@ digits_fit h l =
     omega (arith, number_lt 256 h.digits h.below, few, h.is)
 
 -- refusals behind the first octet
-pub refused_indefinite : {a t : ReaderState} {o : ℕ} {e : Error} → o ≡ 128 → e ≡ error_at IndefiniteLength (reader_position a) → t ≡ stopped_state a a.position → RefusesLongLength o a e t
-refused_indefinite {a} {t} {o} {e} is told leaves at der reader_position working = (
+pub refused_indefinite : {wrong : ErrorKind} {a t : ReaderState} {o : ℕ} {e : Error} → o ≡ 128 → e ≡ error_at IndefiniteLength (reader_position a) → t ≡ stopped_state a a.position → RefusesLongLength wrong o a e t
+refused_indefinite {wrong} {a} {t} {o} {e} is told leaves at der here working = (
   refusal IndefiniteLength (at + 1),
-  subst (λ x. LengthFault Overlength at a.rules (x ∷ rest a) (refusal IndefiniteLength (at + 1))) (sym is)
-      (subst (λ rules. LengthFault Overlength at rules (128 ∷ rest a) (refusal IndefiniteLength (at + 1))) (sym der) (indefinite_form (rest a))),
-  subst (λ n. Stops a (refusal IndefiniteLength n) e t) reader_position (error_stops a t IndefiniteLength e told leaves),
+  subst (λ x. LengthFault BodyFault wrong a.rules at (x ∷ rest a) (refusal IndefiniteLength (at + 1))) (sym is) (indefinite_form der (rest a)),
+  subst (λ n. Stops a (refusal IndefiniteLength n) e t) here (error_stops a t IndefiniteLength e told leaves),
 )
 
-pub refused_far : {a t : ReaderState} {o : ℕ} {e : Error} → 133 ≤ o → e ≡ error_at Overlength (reader_position a) → t ≡ stopped_state a a.position → RefusesLongLength o a e t
-refused_far {a} {t} {o} {e} high told leaves at der reader_position working = (
-  refusal Overlength (at + 1),
+pub refused_far : {wrong : ErrorKind} {a t : ReaderState} {o : ℕ} {e : Error} → 133 ≤ o → e ≡ error_at wrong (reader_position a) → t ≡ stopped_state a a.position → RefusesLongLength wrong o a e t
+refused_far {wrong} {a} {t} {o} {e} high told leaves at der here working = (
+  refusal wrong (at + 1),
   far o (rest a) high,
-  subst (λ n. Stops a (refusal Overlength n) e t) reader_position (error_stops a t Overlength e told leaves),
+  subst (λ n. Stops a (refusal wrong n) e t) here (error_stops a t wrong e told leaves),
 )
 
-pub refused_cut : {a b t : ReaderState} {o i value : ℕ} {e : Error} → DigitsSoFar a b i value → 128 ≤ o → o < 133 → i < o - 128
-    → (rest b ≡ []) × Stops b (end_refusal b.position) e t → (at : ℕ) → a.position ≡ at + 1 → (r : Refusal) × LengthFault Overlength at a.rules (o ∷ rest a) r × Stops a r e t
-refused_cut {a} {b} {t} {o} {e = e} h low high short g at reader_position =
+pub refused_cut : {wrong : ErrorKind} {a b t : ReaderState} {o i value : ℕ} {e : Error} → DigitsSoFar a b i value → 128 ≤ o → o < 133 → i < o - 128
+    → (rest b ≡ []) × Stops b (end_refusal b.position) e t → (at : ℕ) → a.position ≡ at + 1 → (r : Refusal) × LengthFault BodyFault wrong a.rules at (o ∷ rest a) r × Stops a r e t
+refused_cut {wrong} {a} {b} {t} {o} {e = e} h low high short g at here =
     let whole : h.digits ≡ rest a = sym (h.reads.split ∙ ap (λ l. h.digits ++ l) g.0 ∙ append-nil h.digits) in
     let end : at + 1 + length h.digits ≡ b.position = omega (arith, position_on h.reads) in (
       end_refusal (at + 1 + length h.digits),
-      subst (λ l. LengthFault Overlength at a.rules (o ∷ l) (end_refusal (at + 1 + length h.digits))) whole (octet_cut at o h.digits low high (omega (arith, h.count))),
+      subst (λ l. LengthFault BodyFault wrong a.rules at (o ∷ l) (end_refusal (at + 1 + length h.digits))) whole (octet_cut at o h.digits low high (omega (arith, h.count))),
       subst (λ n. Stops a (end_refusal n) e t) (sym end) (stops_on h.reads g.1),
     )
 
-pub refused_longer : {a b t : ReaderState} {o value least : ℕ} {e : Error} → DigitsSoFar a b (o - 128) value → 128 < o → o < 133 → least ≡ max 128 (256 ^ (o - 128 - 1))
-    → value < least → e ≡ error_at Overlength (reader_position b) → t ≡ stopped_state b b.position → RefusesLongLength o a e t
-refused_longer {a} {b} {t} {o} {value} {least} {e} h low high is small told leaves at der reader_position working =
+pub refused_longer : {wrong : ErrorKind} {a b t : ReaderState} {o value least : ℕ} {e : Error} → DigitsSoFar a b (o - 128) value → 128 < o → o < 133 → least ≡ max 128 (256 ^ (o - 128 - 1))
+    → value < least → e ≡ error_at wrong (reader_position b) → t ≡ stopped_state b b.position → RefusesLongLength wrong o a e t
+refused_longer {wrong} {a} {b} {t} {o} {value} {least} {e} h low high is small told leaves at der here working =
     let below : number_from_digits 256 h.digits < max 128 (256 ^ (o - 128 - 1)) = omega (arith, h.is) in
     let there : at + 1 + (o - 128) ≡ b.position = omega (arith, position_on h.reads, h.count) in (
-      refusal Overlength (at + 1 + (o - 128)),
-      subst (λ l. LengthFault Overlength at a.rules (o ∷ l) (refusal Overlength (at + 1 + (o - 128)))) (sym h.reads.split) (octet_longer at o h.digits (rest b) low high h.count below),
-      subst (λ n. Stops a (refusal Overlength n) e t) (sym there) (stops_on h.reads (error_stops b t Overlength e told leaves)),
+      refusal wrong (at + 1 + (o - 128)),
+      subst (λ l. LengthFault BodyFault wrong a.rules at (o ∷ l) (refusal wrong (at + 1 + (o - 128)))) (sym h.reads.split) (octet_longer at o h.digits (rest b) low high h.count below),
+      subst (λ n. Stops a (refusal wrong n) e t) (sym there) (stops_on h.reads (error_stops b t wrong e told leaves)),
     )
 
 pub found_long : {a b : ReaderState} {o value least : ℕ} → DigitsSoFar a b (o - 128) value → 128 < o → least ≡ max 128 (256 ^ (o - 128 - 1)) → least ≤ value
@@ -93,45 +91,35 @@ found_long {o = o} h low is large high =
     (h.digits, ap length_octets h.is ∙ octet_shortest o h.digits low h.count h.below enough, h.reads, digits_small h (omega arith))
 
 -- a length was read
-passed_octets : {a t : ReaderState} {n : ℕ} → a.failed ≡ false → Reads a t (length_octets n) → n < 2 ^ 32 → Passes (λ rules octets m. LengthAhead rules octets (definite_length n) m) a t
+passed_octets : {a t : ReaderState} {n : ℕ} → a.failed ≡ false → Reads a t (length_octets n) → n < 2 ^ 32 → Passes (LengthAhead (definite_length n)) a t
 passed_octets {a} {t} {n} working h small =
     record {
       octets = length (length_octets n);
       working = working;
-      ahead = subst (λ l. LengthAhead a.rules l (definite_length n) (length (length_octets n))) (sym h.split) (definite n (rest t) small);
+      ahead = subst (λ l. LengthAhead (definite_length n) a.rules l (length (length_octets n))) (sym h.split) (definite n (rest t) small);
       there = omega (arith, ap length h.split, length-append (length_octets n) (rest t));
       leaves = h.state;
     }
 
-as_length : {a t : ReaderState} {l k : Length} → k ≡ l → Passes (λ rules octets m. LengthAhead rules octets l m) a t → Passes (λ rules octets m. LengthAhead rules octets k m) a t
-as_length {a} {t} e h = subst (λ x. Passes (λ rules octets m. LengthAhead rules octets x m) a t) (sym e) h
+as_length : {a t : ReaderState} {l k : Length} → k ≡ l → Passes (LengthAhead l) a t → Passes (LengthAhead k) a t
+as_length {a} {t} e h = subst (λ x. Passes (LengthAhead x) a t) (sym e) h
 
-pub passed_short : {a t : ReaderState} {o : ℕ} {l : Length} → a.failed ≡ false → Reads a t (o ∷ []) → o < 128 → l ≡ definite_length o → Passes (λ rules octets m. LengthAhead rules octets l m) a t
+pub passed_short : {a t : ReaderState} {o : ℕ} {l : Length} → a.failed ≡ false → Reads a t (o ∷ []) → o < 128 → l ≡ definite_length o → Passes (LengthAhead l) a t
 passed_short {a} {t} {o} working h small e = as_length e (passed_octets working (subst (Reads a t) (sym (length_small o small)) h) (omega arith))
 
 pub passed_long : {a b t : ReaderState} {o n : ℕ} {l : Length} → a.failed ≡ false → Reads a b (o ∷ []) → (x : List ℕ) × (length_octets n ≡ o ∷ x) × Reads b t x × (n < 2 ^ 32)
-    → l ≡ definite_length n → Passes (λ rules octets m. LengthAhead rules octets l m) a t
+    → l ≡ definite_length n → Passes (LengthAhead l) a t
 passed_long {a} {b} {t} working h g e = as_length e (passed_octets working (subst (Reads a t) (sym g.1) (reads_on h g.2)) g.3)
 
 -- a length is refused
-pub length_ends : {a t : ReaderState} {e : Error} → ByteRefused a e t → IsRefusedBy (λ rules at. LengthFault Overlength at rules) a e t
+pub length_ends : {wrong : ErrorKind} {a t : ReaderState} {e : Error} → ByteRefused a e t → IsRefusedBy (LengthFault BodyFault wrong) a e t
 length_ends (byte_failed f told leaves) = has_failed f told leaves
-length_ends {a} (byte_cut working none stops) =
-    at_fault (end_refusal a.position) working (subst (λ l. LengthFault Overlength a.position a.rules l (end_refusal a.position)) (sym none) nothing) stops
+length_ends {wrong} {a} (byte_cut working none stops) =
+    at_fault (end_refusal a.position) working (subst (λ l. LengthFault BodyFault wrong a.rules a.position l (end_refusal a.position)) (sym none) nothing) stops.told stops.leaves
 
-pub length_refused : {a b t : ReaderState} {o : ℕ} {e : Error} → a.rules ≡ Der → a.failed ≡ false → Reads a b (o ∷ []) → RefusesLongLength o b e t
-    → IsRefusedBy (λ rules at. LengthFault Overlength at rules) a e t
-length_refused {a} {b} {t} {o} {e} der working h n =
+pub length_refused : {wrong : ErrorKind} {a b t : ReaderState} {o : ℕ} {e : Error} → a.rules ≡ Der → a.failed ≡ false → Reads a b (o ∷ []) → RefusesLongLength wrong o b e t
+    → IsRefusedBy (LengthFault BodyFault wrong) a e t
+length_refused {wrong} {a} {b} {t} {o} {e} der working h n =
     let r = n a.position (rules_on h ∙ der) (position_on h) (failed_on h ∙ working) in
-    let fault : LengthFault Overlength a.position a.rules (o ∷ rest b) r.0 = subst (λ rules. LengthFault Overlength a.position rules (o ∷ rest b) r.0) (rules_on h) r.1 in
-    at_fault r.0 working (subst (λ l. LengthFault Overlength a.position a.rules l r.0) (sym h.split) fault) (stops_on h r.2)
-
--- where a length stands ahead it is read
-pub length_accepted : {a t : ReaderState} {l k : Length} {m : ℕ} → Passes (λ rules octets m. LengthAhead rules octets l m) a t → LengthAhead a.rules (rest a) k m
-    → (l ≡ k) × (t ≡ advanced_state a m)
-length_accepted {a} h ahead = let one = one_length h.ahead ahead refl in (one.0, h.leaves ∙ ap (advanced_state a) one.1)
-
-pub length_not_refused : {a t : ReaderState} {e : Error} {k : Length} {m : ℕ} → IsRefusedBy (λ rules at. LengthFault Overlength at rules) a e t → a.failed ≡ false
-    → LengthAhead a.rules (rest a) k m → ⊥
-length_not_refused (has_failed f told leaves) working ahead = (let no : true ≡ false = sym f ∙ working in cc)
-length_not_refused (at_fault r w fault stops) working ahead = no_length_fault fault ahead refl
+    let fault : LengthFault BodyFault wrong a.rules a.position (o ∷ rest b) r.0 = subst (λ rules. LengthFault BodyFault wrong rules a.position (o ∷ rest b) r.0) (rules_on h) r.1 in
+    at_fault r.0 working (subst (λ l. LengthFault BodyFault wrong a.rules a.position l r.0) (sym h.split) fault) (stops_on h r.2).told (stops_on h r.2).leaves

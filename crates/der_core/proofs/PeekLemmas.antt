@@ -1,42 +1,38 @@
 -- What is seen on a fork, and what follows it.
-use Rattle.std.proofs.Common.{◌≡◌, ℕ, ◌+◌, ◌-◌, ◌^◌, ◌<◌, ◌≤◌, Bool, true, false, Result, Ok, Err, IfOk, List, refl, sym, ap, ◌∙◌, subst, ⊎_elim, arith}
+use Rattle.std.proofs.Common.{◌≡◌, ℕ, ◌+◌, ◌-◌, ◌^◌, ◌<◌, ◌≤◌, Bool, true, false, Result, Ok, Err, List, refl, sym, ap, ◌∙◌, subst, ⊎_elim, arith}
 use Rattle.std.proofs.lemmas.Bool.{lt-ltb, le-ltb, cases_lt}
-use Rattle.der_base.specs.Error.{error_of_kind}
+use Rattle.der_base.specs.Error.{error_of_kind, Refusal}
 use Rattle.der_base.specs.Length.{number, definite_length}
-use Rattle.der_base.specs.Refusal.{Refusal}
 use Rattle.der_base.specs.declared.length.Length.{Length}
 use Rattle.der_base.specs.declared.error.Error.{Error}
 use Rattle.der_base.specs.declared.error.ErrorKind.TheVariants.{Overflow}
 use Rattle.der_base.specs.declared.encoding_rules.EncodingRules.{EncodingRules}
-use Rattle.der_base.specs.declared.encoding_rules.EncodingRules.TheVariants.{Der}
 use Rattle.der_core.specs.ReaderState.{ReaderState, rest}
 use Rattle.der_base.specs.Arithmetic.{checked_length}
 use Rattle.der_core.specs.Outcome.{Outcome, Gives, Meets, IsBinding, map_ok}
 use Rattle.der_core.specs.Reader.{read_slice_outcome, tlv_outcome}
-use Rattle.der_core.specs.Refused.{IsRefusedBy}
-use Rattle.der_core.specs.Header.{head_of}
-use Rattle.der_core.specs.Decode.{Passes, GrammarAnswers, Peeks, TlvAnswers, with_header, IsHeaderAhead}
+use Rattle.der_core.specs.Header.{head_of, IsHeaderAhead}
+use Rattle.der_core.specs.Decode.{Passes, Decodes, Peeks, TlvAnswers, with_header}
 use Rattle.der_core.specs.declared.header.Header.{Header}
+use Rattle.der_core.proofs.DecodeLemmas.{decodes_bound}
 
-module _ {A : Type 0} (Ahead : EncodingRules → List ℕ → A → ℕ → Type 0) (Fault : EncodingRules → ℕ → List ℕ → Refusal → Type 0) (s f t : ReaderState) where
-  peeks_ok : (v : A) → f ≡ s → Passes (λ rules octets m. Ahead rules octets v m) f t → Peeks Ahead Fault s (Ok v)
-  peeks_ok v same h = (t, subst (λ x. Passes (λ rules octets m. Ahead rules octets v m) x t) same h)
+-- what decoding on a fork answers
+pub peeks : {A : Type 0} {Ahead : A → EncodingRules → List ℕ → ℕ → Type 0} {Fault : EncodingRules → ℕ → List ℕ → Refusal → Type 0} {reliable : Bool} {s f t : ReaderState} {answer : Result A Error}
+    → f ≡ s → Decodes Ahead Fault reliable f answer t → Peeks Ahead Fault reliable s answer
+peeks {Ahead = Ahead} {Fault} {reliable} {t = t} {answer} same h = (t, subst (λ x. Decodes Ahead Fault reliable x answer t) same h)
 
-  pub peeks_err : (e : Error) → f ≡ s → (f.rules ≡ Der → IsRefusedBy Fault f e t) → Peeks Ahead Fault s (Err e)
-  peeks_err e same h = (t, subst (λ x. x.rules ≡ Der → IsRefusedBy Fault x e t) same h)
-
-  pub peeks : (reliable : Bool) (r : Result A Error) → f ≡ s → IfOk r (λ v. Passes (λ rules octets m. Ahead rules octets v m) f t) → (reliable ≡ true → GrammarAnswers Ahead Fault f r t)
-      → IsBinding reliable r → Peeks Ahead Fault s r
-  peeks reliable (Ok v) same ok exact owed = peeks_ok v same ok
-  peeks reliable (Err e) same ok exact owed = peeks_err e same (exact owed)
+-- what is owed of a peek by a reliable reader, or by any that answered
+pub peeks_reliably : {A : Type 0} {Ahead : A → EncodingRules → List ℕ → ℕ → Type 0} {Fault : EncodingRules → ℕ → List ℕ → Refusal → Type 0} {reliable : Bool} {s : ReaderState} (answer : Result A Error)
+    → IsBinding reliable answer → Peeks Ahead Fault reliable s answer → Peeks Ahead Fault true s answer
+peeks_reliably {reliable = reliable} answer owed h = (h.0, decodes_bound reliable answer owed h.1)
 
 -- whole elements
 tlv_near : (n : ℕ) (s : ReaderState) → n < 2 ^ 32 → tlv_outcome n s ≡ read_slice_outcome n s
 tlv_near n s l = rw (lt-ltb n (2 ^ 32) l) refl
 
-module _ (s f t : ReaderState) (h : Header) (same : f ≡ s) (p : Passes (λ rules octets m. IsHeaderAhead rules octets h m) f t) where
-  here : IsHeaderAhead s.rules (rest s) h p.octets
-  here = subst (λ x. IsHeaderAhead x.rules (rest x) h p.octets) same p.ahead
+module _ (s f t : ReaderState) (h : Header) (same : f ≡ s) (p : Passes (IsHeaderAhead h) f t) where
+  here : IsHeaderAhead h s.rules (rest s) p.octets
+  here = subst (λ x. IsHeaderAhead h x.rules (rest x) p.octets) same p.ahead
 
   working : s.failed ≡ false
   working = ap (λ (x : ReaderState). x.failed) (sym same) ∙ p.working

@@ -1,15 +1,14 @@
 -- How reading goes on.
-use Rattle.std.proofs.Common.{◌≡◌, Option, Some, None, ℕ, ◌+◌, ◌-◌, ◌≤◌, Bool, true, false, IsTrue, Ok, Err, List, [], ◌∷◌, ◌++◌, length, take, drop, refl, sym, ap, ◌∙◌, subst, append_assoc, length-append, length-take, length-take-le, length-drop, drop-drop, add-zero, arith}
+use Rattle.std.proofs.Common.{◌≡◌, ℕ, ◌+◌, ◌-◌, ◌≤◌, Bool, true, false, IsTrue, Ok, Err, List, [], ◌∷◌, ◌++◌, length, take, drop, refl, sym, ap, ◌∙◌, subst, append_assoc, length-append, length-take, length-take-le, length-drop, drop-drop, add-zero, arith}
 use Rattle.std.proofs.lemmas.List.{drop-take}
-use Rattle.der_base.specs.Error.{at}
-use Rattle.der_base.specs.Refusal.{Refusal, refusal, is_far, error_of, end_refusal, missing_refusal}
+use Rattle.der_base.specs.Error.{at, Refusal, refusal, end_refusal, missing_refusal}
 use Rattle.der_base.specs.declared.error.Error.{Error}
 use Rattle.der_base.specs.declared.error.ErrorKind.{ErrorKind}
 use Rattle.der_base.specs.declared.error.ErrorKind.TheVariants.{Failed}
-use Rattle.der_core.specs.ReaderState.{ReaderState, rest, reader_position, advanced_state, stopped_state, state_after, state_left_at, IsSound, Same, Reads}
+use Rattle.der_core.specs.ReaderState.{ReaderState, rest, reader_position, advanced_state, stopped_state, state_after, IsSound, Same, Reads}
 use Rattle.der_core.specs.Outcome.{Gives}
 use Rattle.der_core.specs.Reader.{next_octet_outcome, short_outcome, read_byte_outcome}
-use Rattle.der_core.specs.Refused.{Stops}
+use Rattle.der_core.specs.AfterFirstOctet.{Stops}
 
 pub reads_none : (s : ReaderState) → Reads s s []
 reads_none s = record { split = refl; state = ap (λ p. record s { position = p }) (sym (add-zero s.position)) }
@@ -31,13 +30,8 @@ failed_on h = ap (λ (s : ReaderState). s.failed) h.state
 pub rules_on : {a b : ReaderState} {x : List ℕ} → Reads a b x → b.rules ≡ a.rules
 rules_on h = ap (λ (s : ReaderState). s.rules) h.state
 
-left_as_on : (far : Bool) (seen_from : Option ℕ) (position : ℕ) (a : ReaderState) (n : ℕ) → state_left_at (advanced_state a n) far position seen_from ≡ state_left_at a far position seen_from
-left_as_on far (Some from) p a n = refl
-left_as_on true None p a n = refl
-left_as_on false None p a n = refl
-
 pub left_on : {a b : ReaderState} {x : List ℕ} → Reads a b x → (r : Refusal) → state_after b r ≡ state_after a r
-left_on {a} {b} {x} h r = ap (λ s. state_after s r) h.state ∙ left_as_on (is_far r.reason) r.seen_from r.position a (length x)
+left_on h r = ap (λ s. state_after s r) h.state
 
 pub stops_on : {a b t : ReaderState} {x : List ℕ} {r : Refusal} {e : Error} → Reads a b x → Stops b r e t → Stops a r e t
 stops_on {r = r} h g = record { told = g.told; leaves = g.leaves ∙ left_on h r }
@@ -118,8 +112,8 @@ cut_here : (s t : ReaderState) (e : Error) → IsSound s → rest s ≡ [] → G
 cut_here s t e sound none h =
     let end : s.end ≡ s.position = omega (arith, length-rest s sound, ap length none, sound.ordered) in
     let same : missing_refusal (s.position + 1) s.end s.position ≡ end_refusal s.position = ap (λ n. missing_refusal (s.position + 1) n s.position) end in
-    let told : e ≡ error_of (missing_refusal (s.position + 1) s.end s.position) = (let a = h.answered in cc) in
-    record { told = told ∙ ap error_of same; leaves = h.leaves ∙ ap (state_after s) same }
+    let told : e ≡ (missing_refusal (s.position + 1) s.end s.position).error = (let a = h.answered in cc) in
+    record { told = told ∙ ap (λ (r : Refusal). r.error) same; leaves = h.leaves ∙ ap (state_after s) same }
 
 refused_as : (s t : ReaderState) (e : Error) (failed : Bool) → s.failed ≡ failed → IsSound s → Gives read_byte_outcome s (Err e) t → ByteRefused s e t
 refused_as s t e true f sound h = byte_failed f (let a = h.answered in grind arith) (let l = h.leaves in grind arith)

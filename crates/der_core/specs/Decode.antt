@@ -1,22 +1,20 @@
 -- What decoding answers.
-use Rattle.std.specs.Prelude.{◌≡◌, ℕ, ◌^◌, ◌<◌, ◌≤◌, ◌⊎◌, Bool, true, false, List, length, Result, Ok, Err, IsOk, IsErr, IsErrAnd, IsTrue, ◌↔◌, ◌+◌}
-use Rattle.der_base.specs.Error.{at, error_of_kind}
-use Rattle.der_base.specs.Refusal.{Refusal}
-use Rattle.der_base.specs.Identifier.{IdentifierFault}
-use Rattle.der_base.specs.Length.{number}
-use Rattle.der_base.specs.Tag.{label}
-use Rattle.der_base.specs.Header.{IdentifierAhead, HeaderAhead, HeaderFault}
+use Rattle.std.specs.Prelude.{◌≡◌, ℕ, ◌^◌, ◌<◌, ◌≤◌, ◌⊎◌, Bool, true, false, List, length, Result, Ok, Err, IsOk, IfOk, IsErr, IfErr, IsErrAnd, IsTrue, ◌↔◌, ◌+◌}
+use Rattle.der_base.specs.Error.{at, error_of_kind, Refusal}
+use Rattle.der_base.specs.Length.{number, definite_length}
+use Rattle.der_base.specs.Tag.{label, IdentifierFault}
+use Rattle.der_base.specs.Body.{BodyFault}
+use Rattle.der_base.specs.Header.{TagAhead, HeaderFault}
 use Rattle.der_base.specs.declared.tag.Tag.{Tag}
 use Rattle.der_base.specs.declared.error.Error.{Error}
 use Rattle.der_base.specs.declared.error.ErrorKind.{ErrorKind}
 use Rattle.der_base.specs.declared.error.ErrorKind.TheVariants.{Failed, Overflow, OutOfMemory}
 use Rattle.der_base.specs.declared.encoding_rules.EncodingRules.{EncodingRules}
 use Rattle.der_base.specs.declared.encoding_rules.EncodingRules.TheVariants.{Ber, Der}
-use Rattle.der_core.specs.ReaderState.{ReaderState, initial_state, rest, reader_position, advanced_state, stopped_state}
+use Rattle.der_core.specs.ReaderState.{ReaderState, initial_state, rest, reader_position, advanced_state, stopped_state, state_after, Same}
 use Rattle.der_core.specs.Outcome.{Gives}
 use Rattle.der_core.specs.Reader.{tlv_outcome}
-use Rattle.der_core.specs.Refused.{IsRefusedBy}
-use Rattle.der_core.specs.Header.{head_of}
+use Rattle.der_core.specs.Header.{head_of, IsHeaderAhead}
 use Rattle.der_core.specs.declared.header.Header.{Header}
 
 -- whether a kind says that memory was refused
@@ -24,26 +22,47 @@ abbrev pub is_out_of_memory_kind : ErrorKind → Bool
 is_out_of_memory_kind OutOfMemory = true
 is_out_of_memory_kind _ = false
 
+-- the rules that tags, lengths and headers are read by: under BER they are not read yet
+abbrev pub IsSupported : EncodingRules → Type 0
+IsSupported rules = rules ≡ Der
+
 -- the first octets of the rest are this, and the reader has passed them
 pub record Passes (Ahead : EncodingRules → List ℕ → ℕ → Type 0) (s t : ReaderState) : Type 0 where
   pub octets : ℕ
   pub working : s.failed ≡ false
   pub ahead : Ahead s.rules (rest s) octets
   pub there : octets ≤ length (rest s)
-  pub leaves : t ≡ advanced_state s octets
+  pub leaves : t ≡ record s { position = s.position + octets }
 
--- a decoder succeeds and passes m octets, or it takes memory and was refused it
-abbrev pub ReadsOrLacks : {A E : Type 0}
-    → (E → Bool) → Bool → ReaderState → ℕ → Result A E → ReaderState → Type 0
-ReadsOrLacks out_of_memory takes_memory s m result t =
-    (IsOk result × (t ≡ advanced_state s m))
-    ⊎ ((takes_memory ≡ true) × IsErrAnd result (λ e. out_of_memory e ≡ true))
+-- a reader that had failed is left as it is; on another the rest has a fault, which is told
+pub data IsRefusedBy (Fault : EncodingRules → ℕ → List ℕ → Refusal → Type 0) (s : ReaderState)
+    (e : Error) (t : ReaderState) : Type 0 where
+  has_failed : s.failed ≡ true → e ≡ at Failed (definite_length s.position) → t ≡ s
+      → IsRefusedBy Fault s e t
+  at_fault : (r : Refusal) → s.failed ≡ false → Fault s.rules s.position (rest s) r → e ≡ r.error
+      → t ≡ state_after s r → IsRefusedBy Fault s e t
 
--- a decoder of a grammar: what it read is ahead, or the rest has a fault
-abbrev pub GrammarAnswers : {A : Type 0} → (EncodingRules → List ℕ → A → ℕ → Type 0)
-    → (EncodingRules → ℕ → List ℕ → Refusal → Type 0) → ReaderState → Result A Error → ReaderState → Type 0
-GrammarAnswers Ahead Fault s (Ok v) t = Passes (λ rules octets m. Ahead rules octets v m) s t
-GrammarAnswers Ahead Fault s (Err e) t = s.rules ≡ Der → IsRefusedBy Fault s e t
+-- a decoder of a grammar, by what stands ahead and by its faults: it hands back the same reader;
+-- what it answers stood ahead and is passed; what a reliable reader refuses has a fault
+pub record Decodes {A : Type 0} (Ahead : A → EncodingRules → List ℕ → ℕ → Type 0)
+    (Fault : EncodingRules → ℕ → List ℕ → Refusal → Type 0) (reliable : Bool) (s : ReaderState)
+    (answer : Result A Error) (t : ReaderState) : Type 0 where
+  pub same : Same s t
+  pub ok : IfOk answer (λ v. Passes (Ahead v) s t)
+  pub refused : reliable ≡ true → IsSupported s.rules → IfErr answer (λ e. IsRefusedBy Fault s e t)
+
+-- a peek tells what decoding would answer; the reader stays
+abbrev pub Peeks : {A : Type 0} → (A → EncodingRules → List ℕ → ℕ → Type 0)
+    → (EncodingRules → ℕ → List ℕ → Refusal → Type 0) → Bool → ReaderState → Result A Error → Type 0
+Peeks Ahead Fault reliable s answer = (t : ReaderState) × Decodes Ahead Fault reliable s answer t
+
+-- on a reliable reader a decoder reads what stands ahead
+abbrev pub Accepts : {A : Type 0} → (A → EncodingRules → List ℕ → ℕ → Type 0)
+    → (EncodingRules → ℕ → List ℕ → Refusal → Type 0) → Type 0
+Accepts {A} Ahead Fault =
+    (s t : ReaderState) (answer : Result A Error) (v : A) (m : ℕ)
+    → Decodes Ahead Fault true s answer t → IsSupported s.rules → s.failed ≡ false
+    → Ahead v s.rules (rest s) m → (answer ≡ Ok v) × (t ≡ advanced_state s m)
 
 -- how many levels of nesting a header wants: under BER more than any reader has, since octet 24 and
 -- indefinite lengths are not read yet, so nothing is promised there
@@ -51,11 +70,12 @@ abbrev pub grammar_levels : EncodingRules → ℕ
 grammar_levels Ber = 65
 grammar_levels Der = 0
 
-abbrev pub TagAhead : EncodingRules → List ℕ → Tag → ℕ → Type 0
-TagAhead rules octets t m = (b : Bool) × IdentifierAhead rules octets t b m
-
-abbrev pub IsHeaderAhead : EncodingRules → List ℕ → Header → ℕ → Type 0
-IsHeaderAhead rules octets h m = HeaderAhead rules octets (head_of h) m
+-- a decoder succeeds and passes m octets, or it takes memory and was refused it
+abbrev pub ReadsOrLacks : {A E : Type 0}
+    → (E → Bool) → Bool → ReaderState → ℕ → Result A E → ReaderState → Type 0
+ReadsOrLacks out_of_memory takes_memory s m result t =
+    (IsOk result × (t ≡ advanced_state s m))
+    ⊎ ((takes_memory ≡ true) × IsErrAnd result (λ e. out_of_memory e ≡ true))
 
 -- what follows the answer of a decoder: its error, or the value with the rest of a reader that is
 -- not failed
@@ -76,17 +96,12 @@ pub data PartialAnswer {A E : Type 0} (answers : ReaderState → Result A E → 
       → answers (initial_state Der octets) answer t → PartialThen converts answer t result
       → PartialAnswer answers converts octets result
 
--- what a peek tells is what decoding would answer; the reader stays
-abbrev pub Peeks : {A : Type 0} → (EncodingRules → List ℕ → A → ℕ → Type 0)
-    → (EncodingRules → ℕ → List ℕ → Refusal → Type 0) → ReaderState → Result A Error → Type 0
-Peeks Ahead Fault s answer = (t : ReaderState) × GrammarAnswers Ahead Fault s answer t
-
 -- the octets of a whole element: its header is looked at first, which leaves the reader; header and
 -- contents together are then lent, or pass every length
 pub data TlvAnswers (s : ReaderState) (answer : Result (List ℕ) Error) (t : ReaderState) : Type 0 where
-  no_header : (e : Error) → Peeks IsHeaderAhead HeaderFault s (Err e) → answer ≡ Err e → t ≡ s
+  no_header : (e : Error) → Peeks IsHeaderAhead (HeaderFault BodyFault) true s (Err e) → answer ≡ Err e → t ≡ s
       → TlvAnswers s answer t
-  with_header : (h : Header) (m : ℕ) → IsHeaderAhead s.rules (rest s) h m → s.failed ≡ false
+  with_header : (h : Header) (m : ℕ) → IsHeaderAhead h s.rules (rest s) m → s.failed ≡ false
       → Gives (tlv_outcome (m + number (head_of h).length)) s answer t → TlvAnswers s answer t
 
 -- a reader decodes: one that has failed refuses, and any refusal leaves it failed; a reliable one
@@ -104,9 +119,9 @@ pub data ReaderDecodes {A E : Type 0} (reliable : Bool)
 -- whether the tag ahead has this class and number: none is ahead of a finished reader
 pub data MatchAnswers (class number : ℕ) (s : ReaderState) (answer : Result Bool Error) : Type 0 where
   finished : s.position ≡ s.end → answer ≡ Ok false → MatchAnswers class number s answer
-  tag_ahead_is : (t : Tag) (matches : Bool) → Peeks TagAhead IdentifierFault s (Ok t)
+  tag_ahead_is : (t : Tag) (matches : Bool) → Peeks TagAhead IdentifierFault true s (Ok t)
       → answer ≡ Ok matches
       → (IsTrue matches ↔ (((label t).class ≡ class) × ((label t).number ≡ number)))
       → MatchAnswers class number s answer
-  no_tag : (e : Error) → s.position < s.end → Peeks TagAhead IdentifierFault s (Err e)
+  no_tag : (e : Error) → s.position < s.end → Peeks TagAhead IdentifierFault true s (Err e)
       → answer ≡ Err e → MatchAnswers class number s answer

@@ -2,10 +2,9 @@ pub mod ReaderState
 pub mod Outcome
 pub mod Reader
 pub mod SliceReader
-pub mod Refused
 pub mod Header
 pub mod Decode
-pub mod Behind
+pub mod AfterFirstOctet
 pub mod Resumption
 pub mod Nested
 pub mod Position

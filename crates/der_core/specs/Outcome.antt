@@ -1,7 +1,7 @@
 -- What a call on a reader answers and leaves: a table, whose cases are the rows of that call in the
 -- order of their refusals.
 use Rattle.std.specs.Prelude.{◌≡◌, Bool, true, Option, Some, None, Result, Ok, Err, IsErr}
-use Rattle.der_base.specs.Refusal.{Refusal, error_of}
+use Rattle.der_base.specs.Error.{Refusal}
 use Rattle.der_base.specs.declared.error.Error.{Error}
 use Rattle.der_core.specs.ReaderState.{ReaderState, state_after}
 
@@ -14,7 +14,7 @@ outcome_of answer after = record { answer = answer; after = after }
 
 -- refused, and left as a reader is that is refused so
 abbrev pub refused_outcome : (A : Type 0) → ReaderState → Refusal → Outcome A
-refused_outcome A s r = record { answer = Err (error_of r); after = state_after s r }
+refused_outcome A s r = record { answer = Err r.error; after = state_after s r }
 
 -- from s the call answers so and leaves t, as its table says
 pub record Gives {A : Type 0} (table : ReaderState → Outcome A) (s : ReaderState) (answer : Result A Error)

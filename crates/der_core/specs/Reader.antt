@@ -1,8 +1,7 @@
 -- The tables of a reader's calls.
 use Rattle.std.specs.Prelude.{◌≡◌, ℕ, zero, suc, ◌+◌, ◌-◌, ◌*◌, ◌/◌, ◌^◌, ◌⊎◌, Bool, true, List, [], ◌∷◌, take, min, Result, Ok, Err, IsOk, if◌then◌else◌, nat_lt, nat_le, ◌==◌, ◌&&◌, not}
 use Rattle.der_base.specs.Length.{number, is_indefinite, definite_length}
-use Rattle.der_base.specs.Error.{at, error_of_kind}
-use Rattle.der_base.specs.Refusal.{missing_refusal, end_refusal, error_of}
+use Rattle.der_base.specs.Error.{at, error_of_kind, missing_refusal, end_refusal}
 use Rattle.der_base.specs.declared.length.Length.{Length}
 use Rattle.der_base.specs.declared.error.Error.{Error}
 use Rattle.der_base.specs.declared.error.ErrorKind.{ErrorKind}
@@ -69,7 +68,7 @@ finish_answer s =
 abbrev pub enter_nested_outcome : ℕ → ReaderState → Outcome (ℕ × ℕ)
 enter_nested_outcome n s =
     if not (nat_lt (s.position + n) (2 ^ 32)) then outcome_of (Err (error_of_kind Overflow)) s
-    else if nat_lt s.end (s.position + n) then outcome_of (Err (error_of (end_refusal s.end))) s
+    else if nat_lt s.end (s.position + n) then outcome_of (Err (end_refusal s.end).error) s
     else if nat_lt s.depth 64 then outcome_of (Ok (s.end, s.depth)) (nested_state s n)
     else outcome_of (Err (at NestingDepth (reader_position s))) (stopped_state s s.position)
 

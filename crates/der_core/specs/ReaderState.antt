@@ -1,7 +1,7 @@
 -- What a reader means.
-use Rattle.std.specs.Prelude.{◌≡◌, ℕ, ◌+◌, ◌-◌, ◌^◌, ◌<◌, ◌≤◌, Bool, true, false, IsTrue, Option, Some, None, List, ◌++◌, length, take, drop, if◌then◌else◌}
+use Rattle.std.specs.Prelude.{◌≡◌, ℕ, ◌+◌, ◌-◌, ◌^◌, ◌<◌, ◌≤◌, Bool, true, false, IsTrue, List, ◌++◌, length, take, drop, if◌then◌else◌}
 use Rattle.der_base.specs.Length.{definite_length}
-use Rattle.der_base.specs.Refusal.{Refusal, is_far}
+use Rattle.der_base.specs.Error.{Refusal}
 use Rattle.der_base.specs.declared.length.Length.{Length}
 use Rattle.der_base.specs.declared.encoding_rules.EncodingRules.{EncodingRules}
 
@@ -52,15 +52,10 @@ resumed_state s end depth = record s { end = end; depth = depth }
 abbrev pub stopped_state : ReaderState → ℕ → ReaderState
 stopped_state s at = record s { position = at; failed = s.marks }
 
--- a reader that looked ahead stays where it was; another is stopped at the position of the refusal,
--- but not failed where that is told as an overflow
-abbrev pub state_left_at : ReaderState → Bool → ℕ → Option ℕ → ReaderState
-state_left_at s far at (Some from) = record s { position = from }
-state_left_at s far at None = if far then record s { position = at } else stopped_state s at
-
 -- how a reader is left that is refused so
 abbrev pub state_after : ReaderState → Refusal → ReaderState
-state_after s r = state_left_at s (is_far r.reason) r.position r.seen_from
+state_after s r =
+    record s { position = r.position; failed = if r.fails then s.marks else s.failed }
 
 -- the facts of every reader
 pub record IsSound (s : ReaderState) : Type 0 where

@@ -46,7 +46,7 @@ pub trait Decode<R: Reader>: Sized + Drop {
     /// The error of decoding.
     type Error: DecodeError;
 
-    ghost heads: { Rules → List ℕ → Self → ℕ → Type 0 };
+    ghost heads: { Self → Rules → List ℕ → ℕ → Type 0 };
 
     ghost needs: { Rules → ℕ };
 
@@ -64,11 +64,10 @@ pub trait Decode<R: Reader>: Sized + Drop {
         ensures same { Same (R.state reader.old) (R.state reader.new) }
         ensures ok { IfOk result (λ v. (R.state reader.old).failed ≡ false
             → (R.state reader.new).failed ≡ false
-            → Passes (λ rules octets m. heads rules octets v m) (R.state reader.old)
-            (R.state reader.new)) }
+            → Passes (heads v) (R.state reader.old) (R.state reader.new)) }
         ensures complete { (v : Self) (m : ℕ) → R.reliable ≡ true
             → (R.state reader.old).failed ≡ false
-            → heads (R.state reader.old).rules (rest (R.state reader.old)) v m
+            → heads v (R.state reader.old).rules (rest (R.state reader.old)) m
             → (R.state reader.old).depth + needs (R.state reader.old).rules ≤ 64
             → ReadsOrLacks Self.Error.out_of_memory takes_memory (R.state reader.old) m result
             (R.state reader.new) }
@@ -88,10 +87,10 @@ pub trait DecodeBytes<'a>: Decode<SliceReader<'a>> {
         alloc: Global,
         bytes: &'a [u8],
     ) -> Result<(Self, &'a [u8]), <Self as Decode<SliceReader<'a>>>::Error>
-        ensures ok { IfOk result (λ p. (m : ℕ) × Self.heads Der bytes.now p.0 m
+        ensures ok { IfOk result (λ p. (m : ℕ) × Self.heads p.0 Der bytes.now m
             × (m ≤ length bytes.now) × (p.1.now ≡ drop m bytes.now)) }
         ensures complete { (v : Self) (m : ℕ) → length bytes.now < 2 ^ 32
-            → Self.heads Der bytes.now v m → Self.needs Der ≤ 64
+            → Self.heads v Der bytes.now m → Self.needs Der ≤ 64
             → IsOk result ⊎ ((Self.takes_memory ≡ true)
             × IsErrAnd result (λ e. Self.Error.out_of_memory e ≡ true)) }
         ensures exact { PartialAnswer Self.answers Self.Error.from_gives bytes.now

@@ -1,20 +1,20 @@
 //! Headers.
-ghost use Rattle.std.specs.Prelude.{◌≡◌, ℕ, ◌||◌, true, false, Ok, IfOk};
-ghost use Rattle.der_base.specs.Error.{retold_error};
-ghost use Rattle.der_base.specs.Length.{is_indefinite};
+ghost use Rattle.std.specs.Prelude.{◌≡◌, ◌||◌, false, true, length, Ok};
+ghost use Rattle.der_base.specs.Body.{BodyFault};
+ghost use Rattle.der_base.specs.Header.{HeaderFault, header_octets};
+ghost use Rattle.der_base.specs.Length.{number, is_indefinite, definite_length};
 ghost use Rattle.der_base.specs.Tag.{label};
-ghost use Rattle.der_base.specs.Header.{HeaderFault};
-ghost use Rattle.der_base.specs.declared.error.ErrorKind.TheVariants.{Length as IncorrectLength};
-ghost use Rattle.der_base.specs.declared.encoding_rules.EncodingRules.TheVariants.{Der};
-ghost use Rattle.der_core.specs.ReaderState.{rest, advanced_state, Same};
-ghost use Rattle.der_core.specs.Header.{head_of};
-ghost use Rattle.der_core.specs.Decode.{Passes, GrammarAnswers, grammar_levels, IsHeaderAhead};
-ghost use Rattle.der_core.specs.declared.header.Header.{Header as AHeader};
+ghost use Rattle.der_core.specs.Decode.{Decodes, Peeks, grammar_levels};
+ghost use Rattle.der_core.specs.Encode.{header_outcome};
+ghost use Rattle.der_core.specs.Header.{head_of, IsHeaderAhead};
+ghost use Rattle.der_core.specs.Writer.{Writes};
 
 use crate::decode::Decode;
-use crate::length::decode_length;
-use crate::reader::Reader;
+use crate::encode::Encode;
+use crate::length::decode_length_as;
+use crate::reader::{Reader, ReaderExt};
 use crate::tag::decode_with_constructed_bit;
+use crate::writer::Writer;
 use der_base::{Error, ErrorKind, Length, Tag};
 use std::alloc::Global;
 
@@ -88,26 +88,16 @@ impl Header {
 /// Decodes a header (X.690 8.1.2, 8.1.3, 10.1), as [`Header::decode`] does, without an allocator.
 ///
 /// The identifier is refused as by [`Tag::decode_with_constructed_bit`](crate::TagPeek), and the
-/// length as by [`decode_length`], where a length that is not spelled as it has to be is told as
-/// `Length` with the tag, at the same position. The reader has failed then. One that had failed
+/// length as by [`decode_length`](crate::decode_length), where a length that is not spelled as it
+/// has to be is told as `Length` with the tag. The reader has failed then. One that had failed
 /// before refuses by `Failed` at its position.
 #[inline(always)]
 pub fn decode_header<R: Reader>(reader: &mut R) -> Result<Header, Error>
-    ensures same { Same (R.state reader.old) (R.state reader.new) }
-    ensures ok { IfOk result (λ h. Passes (λ rules octets m. IsHeaderAhead rules octets h m)
-        (R.state reader.old) (R.state reader.new)) }
-    ensures accepts { R.reliable ≡ true → (R.state reader.old).rules ≡ Der
-        → (R.state reader.old).failed ≡ false → (h : AHeader) (m : ℕ)
-        → IsHeaderAhead (R.state reader.old).rules (rest (R.state reader.old)) h m
-        → (result ≡ Ok h) × (R.state reader.new ≡ advanced_state (R.state reader.old) m) }
-    ensures exact { R.reliable ≡ true
-        → GrammarAnswers IsHeaderAhead HeaderFault (R.state reader.old) result (R.state reader.new) }
+    ensures { Decodes IsHeaderAhead (HeaderFault BodyFault) R.reliable (R.state reader.old) result
+        (R.state reader.new) }
 {
     let (tag, constructed) = decode_with_constructed_bit(reader)?;
-    let length = match decode_length(reader) {
-        Ok(length) => length,
-        Err(error) => return Err(incorrect_length(tag, error)),
-    };
+    let length = decode_length_as(reader, tag.length_error())?;
     if length.is_indefinite() && !constructed {
         return Err(reader.error(ErrorKind::IndefiniteLength));
     }
@@ -116,20 +106,6 @@ pub fn decode_header<R: Reader>(reader: &mut R) -> Result<Header, Error>
         length,
         constructed,
     })
-}
-
-// A length behind a tag that is not spelled rightly, told with the tag, at the same position.
-#[cold]
-fn incorrect_length(tag: Tag, error: Error) -> Error
-    ensures { result ≡ retold_error (IncorrectLength tag) error }
-{
-    match error.kind() {
-        ErrorKind::Overlength => match error.position() {
-            Some(position) => tag.length_error().at(position),
-            None => tag.length_error().to_error(),
-        },
-        _ => error,
-    }
 }
 
 impl<R: Reader> Decode<R> for Header {
@@ -141,21 +117,47 @@ impl<R: Reader> Decode<R> for Header {
 
     ghost takes_memory = { false };
 
-    ghost answers = { GrammarAnswers IsHeaderAhead HeaderFault };
+    ghost answers = { Decodes IsHeaderAhead (HeaderFault BodyFault) true };
 
     #[inline(always)]
     fn decode(_alloc: Global, reader: &mut R) -> Result<Header, Error>
-        ensures same { Same (R.state reader.old) (R.state reader.new) }
-        ensures ok { IfOk result (λ h. Passes (λ rules octets m. IsHeaderAhead rules octets h m)
-            (R.state reader.old) (R.state reader.new)) }
-        ensures accepts { R.reliable ≡ true → (R.state reader.old).rules ≡ Der
-            → (R.state reader.old).failed ≡ false → (h : AHeader) (m : ℕ)
-            → IsHeaderAhead (R.state reader.old).rules (rest (R.state reader.old)) h m
-            → (result ≡ Ok h) × (R.state reader.new ≡ advanced_state (R.state reader.old) m) }
-        ensures exact { R.reliable ≡ true
-            → GrammarAnswers IsHeaderAhead HeaderFault (R.state reader.old) result
-            (R.state reader.new) }
+        ensures { Decodes IsHeaderAhead (HeaderFault BodyFault) R.reliable (R.state reader.old)
+            result (R.state reader.new) }
     {
         decode_header(reader)
+    }
+}
+
+impl Header {
+    /// The header ahead, as [`decode_header`] would answer; the reader stays.
+    pub fn peek<R: Reader>(reader: &R) -> Result<Self, Error>
+        ensures { Peeks IsHeaderAhead (HeaderFault BodyFault) R.reliable (R.state reader.now)
+            result }
+    {
+        reader.peek_header()
+    }
+}
+
+/// The tag is written and then the length, of which the number alone counts; the constructed bit is
+/// that of the tag.
+impl Encode for Header {
+    ghost encoding = { λ h. header_octets (head_of h).tag (number (head_of h).length) };
+
+    ghost encodable = { λ _. Unit {0} };
+
+    ghost size = { λ h. Ok (definite_length (length
+        (header_octets (head_of h).tag (number (head_of h).length)))) };
+
+    ghost answers = { λ h s r t.
+        Writes (header_outcome (head_of h).tag (number (head_of h).length) s) r t };
+
+    fn encoded_len(&self) -> Result<Length, Error> {
+        let count = self.tag().octet_count() + self.length().octet_count();
+        Ok(Length::new(count))
+    }
+
+    fn encode<W: Writer>(&self, writer: &mut W) -> Result<(), Error> {
+        self.tag().encode(writer)?;
+        self.length().encode(writer)
     }
 }

@@ -1,16 +1,19 @@
-//! Lengths, read.
-ghost use Rattle.std.specs.Prelude.{◌≡◌, ℕ, ◌-◌, ◌^◌, ◌<◌, ◌≤◌, true, false, List, ◌∷◌, max, Ok, IfOk, IfErr};
-ghost use Rattle.der_base.specs.Length.{length_octets};
+//! Lengths.
+ghost use Rattle.std.specs.Prelude.{◌≡◌, ℕ, ◌+◌, ◌-◌, ◌^◌, ◌<◌, ◌≤◌, true, false, List, ◌∷◌, length, max, Ok, IfOk, IfErr};
+ghost use Rattle.der_base.specs.Body.{BodyFault};
+ghost use Rattle.der_base.specs.Length.{number, definite_length, length_octets};
 ghost use Rattle.der_base.specs.Header.{LengthAhead, LengthFault};
 ghost use Rattle.der_base.specs.declared.error.ErrorKind.TheVariants.{Overlength};
-ghost use Rattle.der_base.specs.declared.length.Length.{Length as ALength};
-ghost use Rattle.der_base.specs.declared.encoding_rules.EncodingRules.TheVariants.{Der};
-ghost use Rattle.der_core.specs.ReaderState.{rest, advanced_state, Same, Reads};
-ghost use Rattle.der_core.specs.Behind.{RefusesLongLength};
-ghost use Rattle.der_core.specs.Decode.{Passes, GrammarAnswers, grammar_levels};
+ghost use Rattle.der_core.specs.AfterFirstOctet.{RefusesLongLength};
+ghost use Rattle.der_core.specs.Decode.{Decodes, grammar_levels};
+ghost use Rattle.der_core.specs.Encode.{length_outcome};
+ghost use Rattle.der_core.specs.ReaderState.{Same, Reads};
+ghost use Rattle.der_core.specs.Writer.{Writes};
 
 use crate::decode::Decode;
+use crate::encode::Encode;
 use crate::reader::{Reader, ReaderExt};
+use crate::writer::Writer;
 use der_base::{Error, ErrorKind, Length};
 use std::alloc::Global;
 
@@ -26,40 +29,42 @@ const INDEFINITE: u8 = 0x80;
 /// failed before refuses by `Failed` at its position.
 #[inline(always)]
 pub fn decode_length<R: Reader>(reader: &mut R) -> Result<Length, Error>
-    ensures same { Same (R.state reader.old) (R.state reader.new) }
-    ensures ok { IfOk result (λ l. Passes (λ rules octets m. LengthAhead rules octets l m)
-        (R.state reader.old) (R.state reader.new)) }
-    ensures accepts { R.reliable ≡ true → (R.state reader.old).rules ≡ Der
-        → (R.state reader.old).failed ≡ false → (l : ALength) (m : ℕ)
-        → LengthAhead (R.state reader.old).rules (rest (R.state reader.old)) l m
-        → (result ≡ Ok l) × (R.state reader.new ≡ advanced_state (R.state reader.old) m) }
-    ensures exact { R.reliable ≡ true
-        → GrammarAnswers LengthAhead (λ rules at. LengthFault Overlength at rules)
+    ensures { Decodes LengthAhead (LengthFault BodyFault Overlength) R.reliable
         (R.state reader.old) result (R.state reader.new) }
+{
+    decode_length_as(reader, ErrorKind::Overlength)
+}
+
+// The same, but a length that is not spelled as it has to be is told as the wrong kind.
+#[inline(always)]
+pub(crate) fn decode_length_as<R: Reader>(reader: &mut R, wrong: ErrorKind) -> Result<Length, Error>
+    ensures { Decodes LengthAhead (LengthFault BodyFault wrong) R.reliable (R.state reader.old)
+        result (R.state reader.new) }
 {
     let first = reader.read_byte()?;
     if first < INDEFINITE {
         return Ok(Length::new(first as u32));
     }
-    let number = decode_long_length(reader, first)?;
+    let number = decode_long_length(reader, first, wrong)?;
     Ok(Length::new(number))
 }
 
 // The rest of a length behind a first octet from 80 on: so many octets in base 256, the fewest
-// possible.
-fn decode_long_length<R: Reader>(reader: &mut R, first: u8) -> Result<u32, Error>
+// possible. One that is not spelled as it has to be is told as the wrong kind.
+fn decode_long_length<R: Reader>(reader: &mut R, first: u8, wrong: ErrorKind) -> Result<u32, Error>
     requires { 128 ≤ first }
     ensures same { Same (R.state reader.old) (R.state reader.new) }
     ensures ok { IfOk result (λ n. (l : List ℕ) × (length_octets n ≡ first ∷ l)
         × Reads (R.state reader.old) (R.state reader.new) l × (n < 2 ^ 32)) }
     ensures exact { R.reliable ≡ true
-        → IfErr result (λ e. RefusesLongLength first (R.state reader.old) e (R.state reader.new)) }
+        → IfErr result (λ e. RefusesLongLength wrong first (R.state reader.old) e
+        (R.state reader.new)) }
 {
     if first == INDEFINITE {
         return Err(reader.error(ErrorKind::IndefiniteLength));
     }
     if first > 0x84 {
-        return Err(reader.error(ErrorKind::Overlength));
+        return Err(reader.error(wrong));
     }
     let count = first - INDEFINITE;
     let mut number = 0u32;
@@ -68,7 +73,7 @@ fn decode_long_length<R: Reader>(reader: &mut R, first: u8) -> Result<u32, Error
         number = number * 256 + octet as u32;
     }
     if number < least_of(count) {
-        return Err(reader.error(ErrorKind::Overlength));
+        return Err(reader.error(wrong));
     }
     Ok(number)
 }
@@ -95,21 +100,39 @@ impl<R: Reader> Decode<R> for Length {
 
     ghost takes_memory = { false };
 
-    ghost answers = { GrammarAnswers LengthAhead (λ rules at. LengthFault Overlength at rules) };
+    ghost answers = { Decodes LengthAhead (LengthFault BodyFault Overlength) true };
 
     #[inline(always)]
     fn decode(_alloc: Global, reader: &mut R) -> Result<Length, Error>
-        ensures same { Same (R.state reader.old) (R.state reader.new) }
-        ensures ok { IfOk result (λ l. Passes (λ rules octets m. LengthAhead rules octets l m)
-            (R.state reader.old) (R.state reader.new)) }
-        ensures accepts { R.reliable ≡ true → (R.state reader.old).rules ≡ Der
-            → (R.state reader.old).failed ≡ false → (l : ALength) (m : ℕ)
-            → LengthAhead (R.state reader.old).rules (rest (R.state reader.old)) l m
-            → (result ≡ Ok l) × (R.state reader.new ≡ advanced_state (R.state reader.old) m) }
-        ensures exact { R.reliable ≡ true
-            → GrammarAnswers LengthAhead (λ rules at. LengthFault Overlength at rules)
+        ensures { Decodes LengthAhead (LengthFault BodyFault Overlength) R.reliable
             (R.state reader.old) result (R.state reader.new) }
     {
         decode_length(reader)
+    }
+}
+
+/// The number alone is written, in the fewest octets (X.690 8.1.3, 10.1): one octet, and then its
+/// digits in base 256 in one write, where it has any.
+impl Encode for Length {
+    ghost encoding = { λ l. length_octets (number l) };
+
+    ghost encodable = { λ _. Unit {0} };
+
+    ghost size = { λ l. Ok (definite_length (length (length_octets (number l)))) };
+
+    ghost answers = { λ l s r t. Writes (length_outcome (number l) s) r t };
+
+    fn encoded_len(&self) -> Result<Length, Error> {
+        Ok(Length::new(self.octet_count()))
+    }
+
+    fn encode<W: Writer>(&self, writer: &mut W) -> Result<(), Error> {
+        let number = u32::from(*self);
+        let digits = self.octet_count() - 1;
+        if digits == 0 {
+            return writer.write_byte(number as u8);
+        }
+        writer.write_byte(0x80 + digits as u8)?;
+        writer.write(&number.to_be_bytes()[4 - digits as usize..])
     }
 }

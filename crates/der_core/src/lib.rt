@@ -9,8 +9,8 @@ pub mod decode;
 pub mod encode;
 pub mod encode_ref;
 pub mod header;
+mod laws;
 mod length;
-mod peek;
 pub mod reader;
 mod tag;
 pub mod writer;
@@ -27,9 +27,9 @@ pub use encode::{
 pub use encode_ref::{EncodeRef, EncodeValueRef};
 pub use header::{Header, decode_header};
 pub use length::decode_length;
-pub use peek::TagPeek;
 pub use reader::{
     Octets, Position, Reader, ReaderExt, Resumption, SliceReader, close_value, read_eoc, read_value,
 };
+pub use tag::TagPeek;
 pub use tag::fixed::{FixedTag, IsConstructed, Tagged};
 pub use writer::{SliceWriter, Writer};

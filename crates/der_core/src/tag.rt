@@ -1,20 +1,23 @@
-//! Tags, read.
-ghost use Rattle.std.specs.Prelude.{◌≡◌, ℕ, ◌^◌, ◌<◌, ◌≤◌, Bool, true, false, [], Ok, IfOk, IfErr};
-ghost use Rattle.der_base.specs.Digits.{digits, continuation_octets};
-ghost use Rattle.der_base.specs.Tag.{universal_tag, other_tag, is_constructed};
-ghost use Rattle.der_base.specs.Header.{IdentifierAhead};
-ghost use Rattle.der_base.specs.Identifier.{IdentifierFault, identifier_kind};
-ghost use Rattle.der_base.specs.declared.tag.Tag.{Tag as ATag};
-ghost use Rattle.der_base.specs.declared.encoding_rules.EncodingRules.TheVariants.{Der};
-ghost use Rattle.der_core.specs.ReaderState.{rest, advanced_state, Same, Reads};
-ghost use Rattle.der_core.specs.Behind.{RefusesNumber};
-ghost use Rattle.der_core.specs.Decode.{Passes, GrammarAnswers, grammar_levels, TagAhead};
+//! Tags.
+ghost use Rattle.std.specs.Prelude.{◌≡◌, ◌^◌, ◌<◌, ◌≤◌, true, false, [], length, Ok, IfOk, IfErr};
+ghost use Rattle.der_base.specs.Length.{definite_length, digits};
+ghost use Rattle.der_base.specs.Tag.{label, leading_octet, tag_octets, continuation_octets, universal_tag, other_tag, is_constructed, IdentifierFault, identifier_kind};
+ghost use Rattle.der_base.specs.Header.{IdentifierAhead, TagAhead};
+ghost use Rattle.der_core.specs.AfterFirstOctet.{RefusesNumber};
+ghost use Rattle.der_core.specs.Decode.{Decodes, grammar_levels};
+ghost use Rattle.der_core.specs.Encode.{single_octets, high_digits, tag_outcome};
+ghost use Rattle.der_core.specs.ReaderState.{Same, Reads};
+ghost use Rattle.der_core.specs.Writer.{Writes, Keeps, Appends, Takes, write_pieces};
 
 pub mod fixed;
+mod peek;
 
 use crate::decode::Decode;
+use crate::encode::Encode;
 use crate::reader::{Reader, ReaderExt};
-use der_base::{Error, ErrorKind, Tag, TagNumber};
+use crate::writer::Writer;
+use der_base::{Error, ErrorKind, Length, Tag, TagNumber};
+pub use peek::TagPeek;
 use std::alloc::Global;
 
 // The universal tag whose only octet this is (X.680 8.6).
@@ -85,16 +88,8 @@ fn other(first: u8, number: u32) -> Tag
 // Decodes a tag (X.690 8.1.2), and tells the constructed bit of its identifier.
 #[inline(always)]
 pub(crate) fn decode_with_constructed_bit<R: Reader>(reader: &mut R) -> Result<(Tag, bool), Error>
-    ensures same { Same (R.state reader.old) (R.state reader.new) }
-    ensures ok { IfOk result (λ r. Passes (λ rules octets m. IdentifierAhead rules octets r.0 r.1 m)
-        (R.state reader.old) (R.state reader.new)) }
-    ensures accepts { R.reliable ≡ true → (R.state reader.old).rules ≡ Der
-        → (R.state reader.old).failed ≡ false → (t : ATag) (bit : Bool) (m : ℕ)
-        → IdentifierAhead (R.state reader.old).rules (rest (R.state reader.old)) t bit m
-        → (result ≡ Ok (t, bit)) × (R.state reader.new ≡ advanced_state (R.state reader.old) m) }
-    ensures exact { R.reliable ≡ true
-        → GrammarAnswers (λ rules octets r m. IdentifierAhead rules octets r.0 r.1 m) IdentifierFault
-        (R.state reader.old) result (R.state reader.new) }
+    ensures { Decodes IdentifierAhead IdentifierFault R.reliable (R.state reader.old) result
+        (R.state reader.new) }
 {
     let first = reader.read_byte()?;
     let constructed = has_constructed_bit(first);
@@ -156,15 +151,7 @@ fn decode_long_number<R: Reader>(reader: &mut R) -> Result<u32, Error>
 // Decodes a tag (X.690 8.1.2), as `Tag::decode` does, without an allocator.
 #[inline(always)]
 pub(crate) fn decode_tag<R: Reader>(reader: &mut R) -> Result<Tag, Error>
-    ensures same { Same (R.state reader.old) (R.state reader.new) }
-    ensures ok { IfOk result (λ t. Passes (λ rules octets m. TagAhead rules octets t m)
-        (R.state reader.old) (R.state reader.new)) }
-    ensures accepts { R.reliable ≡ true → (R.state reader.old).rules ≡ Der
-        → (R.state reader.old).failed ≡ false → (t : ATag) (m : ℕ)
-        → TagAhead (R.state reader.old).rules (rest (R.state reader.old)) t m
-        → (result ≡ Ok t) × (R.state reader.new ≡ advanced_state (R.state reader.old) m) }
-    ensures exact { R.reliable ≡ true
-        → GrammarAnswers TagAhead IdentifierFault (R.state reader.old) result
+    ensures { Decodes TagAhead IdentifierFault R.reliable (R.state reader.old) result
         (R.state reader.new) }
 {
     let (tag, _) = decode_with_constructed_bit(reader)?;
@@ -180,21 +167,64 @@ impl<R: Reader> Decode<R> for Tag {
 
     ghost takes_memory = { false };
 
-    ghost answers = { GrammarAnswers TagAhead IdentifierFault };
+    ghost answers = { Decodes TagAhead IdentifierFault true };
 
     #[inline(always)]
     fn decode(_alloc: Global, reader: &mut R) -> Result<Tag, Error>
-        ensures same { Same (R.state reader.old) (R.state reader.new) }
-        ensures ok { IfOk result (λ t. Passes (λ rules octets m. TagAhead rules octets t m)
-            (R.state reader.old) (R.state reader.new)) }
-        ensures accepts { R.reliable ≡ true → (R.state reader.old).rules ≡ Der
-            → (R.state reader.old).failed ≡ false → (t : ATag) (m : ℕ)
-            → TagAhead (R.state reader.old).rules (rest (R.state reader.old)) t m
-            → (result ≡ Ok t) × (R.state reader.new ≡ advanced_state (R.state reader.old) m) }
-        ensures exact { R.reliable ≡ true
-            → GrammarAnswers TagAhead IdentifierFault (R.state reader.old) result
+        ensures { Decodes TagAhead IdentifierFault R.reliable (R.state reader.old) result
             (R.state reader.new) }
     {
         decode_tag(reader)
     }
+}
+
+/// A tag is written octet by octet (X.690 8.1.2).
+impl Encode for Tag {
+    ghost encoding = { tag_octets };
+
+    ghost encodable = { λ _. Unit {0} };
+
+    ghost size = { λ t. Ok (definite_length (length (tag_octets t))) };
+
+    ghost answers = { λ t s r u. Writes (tag_outcome t s) r u };
+
+    fn encoded_len(&self) -> Result<Length, Error> {
+        Ok(Length::new(self.octet_count()))
+    }
+
+    fn encode<W: Writer>(&self, writer: &mut W) -> Result<(), Error> {
+        let number = self.number().0;
+        if number < 31 {
+            return writer.write_byte(first_octet_of(*self, number as u8));
+        }
+        writer.write_byte(first_octet_of(*self, 31))?;
+        encode_high_digits(number / 128, writer)?;
+        writer.write_byte((number % 128) as u8)
+    }
+}
+
+// The first octet of a tag, with these five low bits.
+fn first_octet_of(tag: Tag, low: u8) -> u8
+    requires { low < 32 }
+    ensures { result ≡ leading_octet (label tag) low }
+{
+    let constructed = if tag.is_constructed() { 0x20 } else { 0 };
+    tag.class().bits() + constructed + low
+}
+
+// Writes the digits of a number in base 128, the most significant first, with bit 8 set on each
+// (X.690 8.1.2.4.2).
+fn encode_high_digits<W: Writer>(number: u32, writer: &mut W) -> Result<(), Error>
+    ensures kept { Keeps (W.state writer.old) (W.state writer.new) }
+    ensures ok { Appends (W.state writer.old) (high_digits number) result (W.state writer.new) }
+    ensures succeeds { Takes (W.state writer.old) (high_digits number) result }
+    ensures exact { W.reliable ≡ true → Writes
+        (write_pieces (single_octets (high_digits number)) (W.state writer.old)) result
+        (W.state writer.new) }
+{
+    if number == 0 {
+        return Ok(());
+    }
+    encode_high_digits(number / 128, writer)?;
+    writer.write_byte(128 + (number % 128) as u8)
 }

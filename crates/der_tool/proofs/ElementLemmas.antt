@@ -1,19 +1,18 @@
 -- What the octets of a whole element say of the input.
 use Rattle.std.proofs.Common.{◌≡◌, ℕ, ◌+◌, ◌^◌, ◌<◌, ◌≤◌, if◌then◌else◌, Bool, true, false, Result, Ok, Err, IfOk, IfErr, List, length, take, refl, sym, ap, ◌∙◌, subst, inl, inr, ⊎_elim, arith}
 use Rattle.std.proofs.lemmas.Bool.{lt-ltb, le-ltb, cases_lt, lt-leb, le-leb}
-use Rattle.der_base.specs.Error.{error_of_kind}
+use Rattle.der_base.specs.Error.{error_of_kind, missing_refusal}
 use Rattle.der_base.specs.Length.{number}
-use Rattle.der_base.specs.Refusal.{missing_refusal, error_of}
+use Rattle.der_base.specs.Body.{BodyFault}
 use Rattle.der_base.specs.Header.{Head, HeaderAhead, HeaderFault}
 use Rattle.der_base.specs.declared.error.Error.{Error}
 use Rattle.der_base.specs.declared.error.ErrorKind.TheVariants.{Overflow}
 use Rattle.der_base.specs.declared.encoding_rules.EncodingRules.TheVariants.{Der}
 use Rattle.der_core.specs.ReaderState.{ReaderState, initial_state, rest, advanced_state}
 use Rattle.der_core.specs.Outcome.{outcome_of, map_ok, IsBinding}
-use Rattle.der_core.specs.Refused.{IsRefusedBy}
 use Rattle.der_core.specs.Reader.{read_slice_outcome, short_outcome, tlv_outcome}
 use Rattle.der_core.specs.Header.{head_of}
-use Rattle.der_core.specs.Decode.{TlvAnswers}
+use Rattle.der_core.specs.Decode.{TlvAnswers, IsRefusedBy}
 use Rattle.der_core.proofs.DecodeLemmas.{rest-beginning}
 use Rattle.der_tool.specs.Answer.{IsElement, NoElement}
 
@@ -26,9 +25,9 @@ module _ (octets : List ℕ) where
   left : rest (initial_state Der octets) ≡ octets
   left = rest-beginning Der octets
 
-  fault_says : (e : Error) {t : ReaderState} → length octets < 2 ^ 32 → IsRefusedBy HeaderFault (initial_state Der octets) e t → NoElement octets e
+  fault_says : (e : Error) {t : ReaderState} → length octets < 2 ^ 32 → IsRefusedBy (HeaderFault BodyFault) (initial_state Der octets) e t → NoElement octets e
   fault_says e small (IsRefusedBy.has_failed h told same) = absurd (let no : false ≡ true = h in cc)
-  fault_says e small (IsRefusedBy.at_fault r working fault stops) = NoElement.no_header (inr (r, small, subst (λ o. HeaderFault Der 0 o r) left fault, stops.told))
+  fault_says e small (IsRefusedBy.at_fault r working fault told leaves) = NoElement.no_header (inr (r, small, subst (λ o. HeaderFault BodyFault Der 0 o r) left fault, told))
 
   pub too_long_says : (e : Error) → (length octets < 2 ^ 32 → ⊥) → e ≡ error_of_kind Overflow → NoElement octets e
   too_long_says e long told = NoElement.no_header (inl (⊎_elim (λ small. absurd (long small)) (λ far. far) (cases_lt (length octets) (2 ^ 32)), told))
@@ -55,12 +54,12 @@ module _ (octets : List ℕ) where
   there_answer : (n : ℕ) → n < 2 ^ 32 → n ≤ length octets → whole_answer n ≡ Ok (take n octets)
   there_answer n near there = ap (counted n) (lt-ltb n (2 ^ 32) near) ∙ ap (lent n) (le-leb (0 + n) (length octets) (omega (arith, there))) ∙ ap (λ o. Ok (take n o)) left
 
-  short_answer : (n : ℕ) → n < 2 ^ 32 → length octets < n → whole_answer n ≡ Err (error_of (missing_refusal n (length octets) 0))
+  short_answer : (n : ℕ) → n < 2 ^ 32 → length octets < n → whole_answer n ≡ Err (missing_refusal n (length octets) 0).error
   short_answer n near few =
       ap (counted n) (lt-ltb n (2 ^ 32) near) ∙ ap (lent n) (lt-leb (0 + n) (length octets) (omega (arith, few)))
-      ∙ ap (λ k. Err (error_of (missing_refusal k (length octets) 0))) (from_zero n)
+      ∙ ap (λ k. Err (missing_refusal k (length octets) 0).error) (from_zero n)
 
-  whole_says : (r : Result (List ℕ) Error) (h : Head) (m : ℕ) → length octets < 2 ^ 32 → HeaderAhead Der octets h m → r ≡ whole_answer (m + number h.length) → ElementSays octets r
+  whole_says : (r : Result (List ℕ) Error) (h : Head) (m : ℕ) → length octets < 2 ^ 32 → HeaderAhead h Der octets m → r ≡ whole_answer (m + number h.length) → ElementSays octets r
   whole_says r h m small ahead is =
       let n = m + number h.length in
       ⊎_elim
@@ -72,9 +71,9 @@ module _ (octets : List ℕ) where
       (cases_lt n (2 ^ 32))
 
   begun_says : (r : Result (List ℕ) Error) (t : ReaderState) → length octets < 2 ^ 32 → TlvAnswers begun r t → ElementSays octets r
-  begun_says r t small (TlvAnswers.no_header e peeked is same) = subst (ElementSays octets) (sym is) (fault_says e small (peeked.1 refl))
+  begun_says r t small (TlvAnswers.no_header e peeked is same) = subst (ElementSays octets) (sym is) (fault_says e small (peeked.1.refused refl refl))
   begun_says r t small (TlvAnswers.with_header h m ahead working gives) =
-      whole_says r (head_of h) m small (subst (λ o. HeaderAhead Der o (head_of h) m) left ahead) gives.answered
+      whole_says r (head_of h) m small (subst (λ o. HeaderAhead (head_of h) Der o m) left ahead) gives.answered
 
   element_says : (s t : ReaderState) (r : Result (List ℕ) Error) → length octets < 2 ^ 32 → s ≡ initial_state Der octets → TlvAnswers s r t → ElementSays octets r
   element_says s t r small e h = begun_says r t small (subst (λ x. TlvAnswers x r t) e h)

@@ -1,11 +1,11 @@
 -- What is refused has a text.
-use Rattle.std.proofs.Common.{◌≡◌, ℕ, ◌+◌, ◌++◌, ◌==◌, List, length, [], ◌∷◌, Option, Some, refl, inl, inr}
+use Rattle.std.proofs.Common.{◌≡◌, ℕ, ◌+◌, ◌++◌, ◌^◌, ◌==◌, nat_lt, List, length, [], ◌∷◌, Option, Some, refl, inl, inr}
 use Rattle.std.proofs.lemmas.Bool.{cases_Bool}
+use Rattle.der_base.specs.Body.{BodyFault}
 use Rattle.der_base.specs.Header.{Head, LengthFault, HeaderFault}
-use Rattle.der_base.specs.Identifier.{IdentifierFault}
-use Rattle.der_base.specs.Refusal.{Refusal, missing_refusal, is_far, kind_of_reason, error_of}
-use Rattle.der_base.specs.Error.{kind_of, position_of, at}
-use Rattle.der_base.specs.Length.{number, definite_length}
+use Rattle.der_base.specs.Tag.{IdentifierFault}
+use Rattle.der_base.specs.Error.{kind_of, position_of, Refusal, refusal, missing_refusal}
+use Rattle.der_base.specs.Length.{number}
 use Rattle.der_base.specs.Text.{kind_text, position_text, error_text}
 use Rattle.der_base.specs.declared.error.Error.{Error}
 use Rattle.der_base.specs.declared.error.ErrorKind.{ErrorKind}
@@ -19,38 +19,40 @@ HasText printed = (text : List ℕ) × (printed ≡ Some text)
 error_text_of_kind : (e : Error) → HasText (kind_text (kind_of e)) → HasText (error_text e)
 error_text_of_kind e (t, is) = (t ++ position_text (position_of e), rw is refl)
 
-owed_text : (r : Refusal) → HasText (kind_text (kind_of_reason r.reason)) → HasText (error_text (error_of r))
-owed_text r told =
-    elim (cases_Bool (is_far r.reason)) [
-      | inl far ↦ rw far (_, refl)
-      | inr near ↦ rw near (error_text_of_kind (at (kind_of_reason r.reason) (definite_length r.position)) told)
+missing_printed : (expected actual p : ℕ) → HasText (error_text (missing_refusal expected actual p).error)
+missing_printed expected actual p =
+    elim (cases_Bool (nat_lt expected (2 ^ 32))) [
+      | inl near ↦ rw near (_, refl)
+      | inr far ↦ rw far (_, refl)
     ]
 
-identifier_text : {rules : EncodingRules} {at : ℕ} {s : List ℕ} {r : Refusal} → IdentifierFault rules at s r → HasText (kind_text (kind_of_reason r.reason))
-identifier_text (IdentifierFault.cut s c) = (_, refl)
-identifier_text (IdentifierFault.refused [] o rest c n) =
+identifier_text : {rules : EncodingRules} {at : ℕ} {s : List ℕ} {r : Refusal} → IdentifierFault rules at s r → HasText (error_text r.error)
+identifier_text {at = at} (IdentifierFault.cut s c) = missing_printed (at + length s + 1) (at + length s) (at + length s)
+identifier_text {at = at} (IdentifierFault.refused [] o rest c n) =
     elim (cases_Bool (o == 31)) [
       | inl long ↦ rw long (_, refl)
       | inr unknown ↦ rw unknown (_, refl)
     ]
 identifier_text (IdentifierFault.refused (first ∷ s) o rest c n) = (_, refl)
 
-length_text : {wrong : ErrorKind} {at : ℕ} {rules : EncodingRules} {s : List ℕ} {r : Refusal} → HasText (kind_text wrong) → LengthFault wrong at rules s r
-    → HasText (kind_text (kind_of_reason r.reason))
-length_text t LengthFault.nothing = (_, refl)
-length_text t (LengthFault.few k ds a b) = (_, refl)
-length_text t (LengthFault.far o rest a) = t
-length_text t (LengthFault.longer k ds rest a b c d) = t
-length_text t (LengthFault.indefinite_form rest) = (_, refl)
+length_text : {wrong : ErrorKind} {rules : EncodingRules} {at : ℕ} {s : List ℕ} {r : Refusal} → HasText (kind_text wrong) → LengthFault BodyFault wrong rules at s r
+    → HasText (error_text r.error)
+length_text {at = at} t LengthFault.nothing = missing_printed (at + 1) at at
+length_text {at = at} t (LengthFault.few k ds a b) = missing_printed (at + 1 + length ds + 1) (at + 1 + length ds) (at + 1 + length ds)
+length_text {wrong} {at = at} t (LengthFault.far o rest a) = error_text_of_kind (refusal wrong (at + 1)).error t
+length_text {wrong} {at = at} t (LengthFault.longer k ds rest a b c d) = error_text_of_kind (refusal wrong (at + 1 + k)).error t
+length_text t (LengthFault.indefinite_form der rest) = (_, refl)
+length_text t (LengthFault.no_body ber rest f) = absurd f
 
-header_text : {rules : EncodingRules} {at : ℕ} {s : List ℕ} {r : Refusal} → HeaderFault rules at s r → HasText (kind_text (kind_of_reason r.reason))
+header_text : {rules : EncodingRules} {at : ℕ} {s : List ℕ} {r : Refusal} → HeaderFault BodyFault rules at s r → HasText (error_text r.error)
 header_text (HeaderFault.no_identifier f) = identifier_text f
 header_text (HeaderFault.no_length i f) = length_text (_, refl) f
+header_text (HeaderFault.primitive i l f) = (_, refl)
 
 -- each error that a refused input is told as prints
 pub refused_text : (octets : List ℕ) (e : Error) → IsRefusedFor octets e → (reason : List ℕ) × (error_text e ≡ Some reason)
 refused_text octets e (inl (long, told)) = rw told (_, refl)
-refused_text octets e (inr (r, small, fault, told)) = rw told (owed_text r (header_text fault))
+refused_text octets e (inr (r, small, fault, told)) = rw told (header_text fault)
 
 pub answer_told : (octets text rest : List ℕ) (h : Head) → IsHeaderRead octets h rest → text ≡ header_lines h rest → AnswersHead octets 0 text
 answer_told octets text rest h read lines = AnswersHead.told record { head = h; rest = rest; read = read; lines = lines }
@@ -64,7 +66,7 @@ answer_refused octets text e refused tells =
 pub missing_text : (octets : List ℕ) (e : Error) → NoElement octets e → (reason : List ℕ) × (error_text e ≡ Some reason)
 missing_text octets e (NoElement.no_header refused) = refused_text octets e refused
 missing_text octets e (NoElement.past_every_length h count small ahead far) = (_, refl)
-missing_text octets e (NoElement.contents_missing h count ahead near few) = owed_text (missing_refusal (count + number h.length) (length octets) 0) (_, refl)
+missing_text octets e (NoElement.contents_missing h count ahead near few) = missing_printed (count + number h.length) (length octets) 0
 
 pub element_told : (octets text element : List ℕ) → IsElement octets element → text ≡ element_line element → AnswersTlv octets 0 text
 element_told octets text element read line = AnswersTlv.told record { element = element; read = read; line = line }

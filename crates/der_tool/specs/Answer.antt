@@ -2,10 +2,10 @@
 use Rattle.std.specs.Prelude.{◌≡◌, ℕ, ◌+◌, ◌^◌, ◌<◌, ◌≤◌, ◌⊎◌, List, length, take, drop, codes, Option, Some, Ok, string_bytes}
 use Rattle.std.specs.Io.KnownBytes.{Appends}
 use Rattle.hex.specs.Hex.{decode_of}
+use Rattle.der_base.specs.Body.{BodyFault}
 use Rattle.der_base.specs.Header.{Head, HeaderAhead, HeaderFault}
 use Rattle.der_base.specs.Length.{number}
-use Rattle.der_base.specs.Refusal.{Refusal, missing_refusal, error_of}
-use Rattle.der_base.specs.Error.{error_of_kind}
+use Rattle.der_base.specs.Error.{error_of_kind, Refusal, missing_refusal}
 use Rattle.der_base.specs.Text.{error_text}
 use Rattle.der_base.specs.declared.error.Error.{Error}
 use Rattle.der_base.specs.declared.error.ErrorKind.TheVariants.{Overflow}
@@ -21,14 +21,14 @@ use Rattle.der_tool.specs.declared.answer.Answer.TheVariants as answer
 pub record IsHeaderRead (octets : List ℕ) (h : Head) (rest : List ℕ) : Type 0 where
   pub countable : length octets < 2 ^ 32
   pub count : ℕ
-  pub ahead : HeaderAhead Der octets h count
+  pub ahead : HeaderAhead h Der octets count
   pub behind : rest ≡ drop count octets
 
 -- the octets are more than a length can count, or begin with no header; the error tells which
 abbrev pub IsRefusedFor : List ℕ → Error → Type 0
 IsRefusedFor octets e =
     ((2 ^ 32 ≤ length octets) × (e ≡ error_of_kind Overflow))
-    ⊎ ((r : Refusal) × (length octets < 2 ^ 32) × HeaderFault Der 0 octets r × (e ≡ error_of r))
+    ⊎ ((r : Refusal) × (length octets < 2 ^ 32) × HeaderFault BodyFault Der 0 octets r × (e ≡ r.error))
 
 -- as many octets as a length can count begin with this element: a header, and as many octets more
 -- as its length says
@@ -36,7 +36,7 @@ pub record IsElement (octets element : List ℕ) : Type 0 where
   pub countable : length octets < 2 ^ 32
   pub head : Head
   pub count : ℕ
-  pub ahead : HeaderAhead Der octets head count
+  pub ahead : HeaderAhead head Der octets count
   pub there : count + number head.length ≤ length octets
   pub whole : element ≡ take (count + number head.length) octets
 
@@ -44,11 +44,11 @@ pub record IsElement (octets element : List ℕ) : Type 0 where
 pub data NoElement (octets : List ℕ) : Error → Type 0 where
   no_header : {e : Error} → IsRefusedFor octets e → NoElement octets e
   past_every_length : (h : Head) (count : ℕ) → length octets < 2 ^ 32
-      → HeaderAhead Der octets h count → 2 ^ 32 ≤ count + number h.length
+      → HeaderAhead h Der octets count → 2 ^ 32 ≤ count + number h.length
       → NoElement octets (error_of_kind Overflow)
-  contents_missing : (h : Head) (count : ℕ) → HeaderAhead Der octets h count
+  contents_missing : (h : Head) (count : ℕ) → HeaderAhead h Der octets count
       → count + number h.length < 2 ^ 32 → length octets < count + number h.length
-      → NoElement octets (error_of (missing_refusal (count + number h.length) (length octets) 0))
+      → NoElement octets (missing_refusal (count + number h.length) (length octets) 0).error
 
 -- the lines tell the header that the octets begin with
 pub record Tells (octets text : List ℕ) : Type 0 where

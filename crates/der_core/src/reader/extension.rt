@@ -1,14 +1,15 @@
 //! The calls that every reader has.
 ghost use Rattle.std.specs.Prelude.{◌≡◌, ◌↔◌, ℕ, ◌+◌, ◌-◌, ◌≤◌, true, false, IsTrue, length, IfOk, OnErr};
-ghost use Rattle.der_base.specs.Header.{HeaderFault};
-ghost use Rattle.der_base.specs.Identifier.{IdentifierFault};
+ghost use Rattle.der_base.specs.Body.{BodyFault};
+ghost use Rattle.der_base.specs.Header.{TagAhead, HeaderFault};
+ghost use Rattle.der_base.specs.Tag.{IdentifierFault};
 ghost use Rattle.der_base.specs.Length.{number, definite_length};
 ghost use Rattle.der_core.specs.ReaderState.{ReaderState, rest, Same, resumed_state};
 ghost use Rattle.der_core.specs.Outcome.{Meets, AnswersAs, PeeksAs, IsBinding, map_ok};
 ghost use Rattle.der_core.specs.Reader.{read_byte_outcome, read_into_outcome};
 ghost use Rattle.der_core.specs.Resumption.{outer_end, outer_depth};
-ghost use Rattle.der_core.specs.Decode.{Passes, Peeks, TlvAnswers, ReaderDecodes, ReadsOrLacks, IsHeaderAhead, TagAhead};
-ghost use Rattle.der_core.specs.Header.{head_of};
+ghost use Rattle.der_core.specs.Decode.{Passes, Peeks, TlvAnswers, ReaderDecodes, ReadsOrLacks};
+ghost use Rattle.der_core.specs.Header.{head_of, IsHeaderAhead};
 ghost use Rattle.der_core.specs.declared.header.Header.{Header as AHeader};
 ghost use Rattle.der_base.specs.Arithmetic.{sans_eoc};
 ghost use Rattle.der_base.specs.declared.tag.Tag.TheVariants.{Sequence};
@@ -123,8 +124,8 @@ pub trait ReaderExt: Reader {
 
     /// The header ahead, as [`decode_header`] would answer; the reader stays.
     final fn peek_header(&self) -> Result<Header, Error>
-        ensures { IsBinding Self.reliable result
-            → Peeks IsHeaderAhead HeaderFault (Self.state self.now) result }
+        ensures { Peeks IsHeaderAhead (HeaderFault BodyFault) Self.reliable (Self.state self.now)
+            result }
     {
         let mut fork = self.fork();
         decode_header(&mut fork)
@@ -132,8 +133,7 @@ pub trait ReaderExt: Reader {
 
     /// The tag ahead, as decoding it would answer; the reader stays.
     final fn peek_tag(&self) -> Result<Tag, Error>
-        ensures { IsBinding Self.reliable result
-            → Peeks TagAhead IdentifierFault (Self.state self.now) result }
+        ensures { Peeks TagAhead IdentifierFault Self.reliable (Self.state self.now) result }
     {
         let mut fork = self.fork();
         decode_tag(&mut fork)
@@ -165,11 +165,10 @@ pub trait ReaderExt: Reader {
     ) -> Result<T, <T as Decode<Self>>::Error>
         ensures same { Same (Self.state self.old) (Self.state self.new) }
         ensures ok { IfOk result (λ v. (Self.state self.new).failed ≡ false
-            → Passes (λ rules octets m. T.heads rules octets v m) (Self.state self.old)
-            (Self.state self.new)) }
+            → Passes (T.heads v) (Self.state self.old) (Self.state self.new)) }
         ensures complete { (v : T) (m : ℕ) → Self.reliable ≡ true
             → (Self.state self.old).failed ≡ false
-            → T.heads (Self.state self.old).rules (rest (Self.state self.old)) v m
+            → T.heads v (Self.state self.old).rules (rest (Self.state self.old)) m
             → (Self.state self.old).depth + T.needs (Self.state self.old).rules ≤ 64
             → ReadsOrLacks T.Error.out_of_memory T.takes_memory (Self.state self.old) m result
             (Self.state self.new) }
@@ -197,7 +196,7 @@ pub trait ReaderExt: Reader {
         f: F,
     ) -> Result<T, E>
         requires { (h : AHeader) (s : ReaderState)
-            → Passes (λ rules octets m. IsHeaderAhead rules octets h m) (Self.state self.old) s
+            → Passes (IsHeaderAhead h) (Self.state self.old) s
             → (head_of h).tag ≡ Sequence
             → HandsBack (F.pre f) (F.post f) (λ p. Self.state p.now) (λ q. Self.state q.now) s
             (number (sans_eoc (head_of h).length)) }

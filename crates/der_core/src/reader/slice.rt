@@ -38,8 +38,7 @@ impl Drop for SliceReader<'_> {
 }
 
 impl<'a> SliceReader<'a> {
-    ghost use Rattle.der_base.specs.Error.{at, error_of_kind};
-    ghost use Rattle.der_base.specs.Refusal.{missing_refusal, error_of};
+    ghost use Rattle.der_base.specs.Error.{at, error_of_kind, missing_refusal};
     ghost use Rattle.der_base.specs.declared.error.ErrorKind.TheVariants.{Failed, Overflow};
     ghost use Rattle.der_base.specs.declared.encoding_rules.EncodingRules.TheVariants.{Der};
     ghost use Rattle.der_base.specs.Length.{number};
@@ -95,8 +94,8 @@ impl<'a> SliceReader<'a> {
     // so many octets are not there
     #[cold]
     fn incomplete(&mut self, count: u32) -> Error
-        ensures told { result ≡ error_of (missing_refusal (self.old.position + count) self.old.end
-            self.old.position) }
+        ensures told { result ≡ (missing_refusal (self.old.position + count) self.old.end
+            self.old.position).error }
         ensures leaves { slice_state self.new ≡ state_after (slice_state self.old)
             (missing_refusal (self.old.position + count) self.old.end self.old.position) }
     {

@@ -1,7 +1,6 @@
-use Rattle.std.proofs.Common.{ap, inl}
-use Rattle.std.specs.Result.{is_ok}
 use Rattle.std.proofs.lemmas.Result.{IfOk-weaker}
-use Rattle.der_core.proofs.DecodeLemmas.{header_rules}
+use Rattle.der_base.proofs.HeaderLemmas.{tag_grammar}
+use Rattle.der_core.proofs.DecodeLemmas.{decodes_reliably, reads}
 use Rattle.der_core.proofs.tag.TagDecode.TheImpl.Goals as goal
 
 pub decode-tells : goal.decode-tells
@@ -9,6 +8,6 @@ decode-tells g x y z w c =
     record {
       same = c.ensures.same;
       ok = IfOk-weaker c.result _ _ (λ v read working after. read) c.ensures.ok;
-      complete = λ v m reliable working ahead levels. (let read = c.ensures.accepts reliable (header_rules _ _ levels) working v m ahead in inl (ap is_ok read.0, read.1));
-      exact = c.ensures.exact;
+      complete = λ v m reliable working ahead levels. reads tag_grammar _ _ v m c.ensures reliable working ahead levels;
+      exact = λ reliable. decodes_reliably reliable c.ensures;
     }

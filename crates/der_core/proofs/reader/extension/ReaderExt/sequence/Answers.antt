@@ -4,13 +4,14 @@ use Rattle.der_base.specs.Arithmetic.{sans_eoc}
 use Rattle.der_base.specs.Error.{unexpected_tag}
 use Rattle.der_base.specs.declared.tag.Tag.TheVariants.{Sequence}
 use Rattle.der_core.specs.Nested.{no_header, other_tag, in_sequence}
+use Rattle.der_core.proofs.DecodeLemmas.{decodes_reliably}
 use Rattle.der_core.proofs.NestedLemmas.{value_at, sequence_asserted, another_asserted, told_another}
 use Rattle.der_core.proofs.reader.extension.ReaderExt.sequence.Goals as goal
 
 pub returns-in_err-header-clause-exact : goal.returns-in_err-header-clause-exact
 returns-in_err-header-clause-exact g c =
     let p = err_from_is_err_and c.from_residual.result c.from_residual.ensures.1 in
-    rw (p.1) (λ owed. no_header _ _ (c.in_err-header.ensures.exact owed) p.2 refl)
+    rw (p.1) (λ owed. no_header _ _ (decodes_reliably owed c.in_err-header.ensures) p.2 refl)
 
 pub returns-in_err-assert_eq-clause-exact : goal.returns-in_err-assert_eq-clause-exact
 returns-in_err-assert_eq-clause-exact g c =

@@ -1,17 +1,17 @@
 use Rattle.std.proofs.Common.{◌+◌, refl, ap, arith}
 use Rattle.std.proofs.lemmas.Result.{err_from_is_err_and}
-use Rattle.der_base.specs.Header.{HeaderFault}
 use Rattle.der_base.specs.Length.{number}
-use Rattle.der_core.specs.Decode.{IsHeaderAhead, no_header}
+use Rattle.der_core.specs.Decode.{no_header}
 use Rattle.der_core.specs.Reader.{read_slice_outcome}
-use Rattle.der_core.proofs.PeekLemmas.{peeks_err, header_octets_are, tlv_read, tlv_far, owed_gives, counted_ok, counted_err}
+use Rattle.der_core.proofs.DecodeLemmas.{decodes_reliably}
+use Rattle.der_core.proofs.PeekLemmas.{peeks, header_octets_are, tlv_read, tlv_far, owed_gives, counted_ok, counted_err}
 use Rattle.der_core.proofs.reader.extension.ReaderExt.tlv_bytes.Goals as goal
 
 pub returns-in_err-header-clause-exact : goal.returns-in_err-header-clause-exact
 returns-in_err-header-clause-exact g c =
     let p = err_from_is_err_and c.from_residual.result c.from_residual.ensures.1 in
     rw (p.1, p.2)
-    (λ owed. no_header _ (peeks_err IsHeaderAhead HeaderFault (g.Self.Reader.state c.args.self.now) _ _ _ c.fork-fork.ensures (c.in_err-header.ensures.exact owed)) refl refl)
+    (λ owed. no_header _ (peeks c.fork-fork.ensures (decodes_reliably owed c.in_err-header.ensures)) refl refl)
 
 pub returns-clause-exact : goal.returns-clause-exact
 returns-clause-exact g c owed =

@@ -1,0 +1,63 @@
+-- Laws of the octets of tags, lengths, headers and bodies. The crate proves each of them.
+use Rattle.std.specs.Prelude.{◌≡◌, ℕ, Bool, List, ◌++◌}
+use Rattle.der_base.specs.Length.{length_octets}
+use Rattle.der_base.specs.Tag.{label, tag_octets, IsIdentifier}
+use Rattle.der_base.specs.Header.{header_octets}
+use Rattle.der_base.specs.Body.{Body}
+use Rattle.der_base.specs.Error.{Refusal}
+use Rattle.der_base.specs.declared.tag.Tag.{Tag}
+use Rattle.der_base.specs.declared.encoding_rules.EncodingRules.{EncodingRules}
+
+-- class, constructed bit and number say which tag it is (X.690 8.1.2.2)
+abbrev pub OneTagOfALabel : Type 0
+OneTagOfALabel = (t u : Tag) → label t ≡ label u → t ≡ u
+
+-- no tag's octets begin another's (X.690 8.1.2)
+abbrev pub NoTagBeginsAnother : Type 0
+NoTagBeginsAnother =
+    (t u : Tag) (x y : List ℕ) → tag_octets t ++ x ≡ tag_octets u ++ y → (t ≡ u) × (x ≡ y)
+
+-- no identifier begins another, and each says one tag and one constructed bit, octet 24 under BER
+-- too (X.690 8.1.2, 8.7.1)
+abbrev pub NoIdentifierBeginsAnother : Type 0
+NoIdentifierBeginsAnother =
+    (rules : EncodingRules) (a b : List ℕ) (t u : Tag) (p q : Bool) (x y : List ℕ)
+    → IsIdentifier rules a t p → IsIdentifier rules b u q → a ++ x ≡ b ++ y
+    → (a ≡ b) × (t ≡ u) × (p ≡ q) × (x ≡ y)
+
+-- no definite length's octets begin another's (X.690 8.1.3)
+abbrev pub NoLengthBeginsAnother : Type 0
+NoLengthBeginsAnother =
+    (m n : ℕ) (x y : List ℕ) → length_octets m ++ x ≡ length_octets n ++ y → (m ≡ n) × (x ≡ y)
+
+-- no header of a definite length begins another (X.690 8.1.2, 8.1.3)
+abbrev pub NoHeaderBeginsAnother : Type 0
+NoHeaderBeginsAnother =
+    (t u : Tag) (m n : ℕ) (x y : List ℕ) → header_octets t m ++ x ≡ header_octets u n ++ y
+    → (t ≡ u) × (m ≡ n) × (x ≡ y)
+
+-- no body of an indefinite length begins another, and each has one number of identifiers and end
+-- marks (X.690 8.1.3.6, 8.1.5)
+abbrev pub NoBodyBeginsAnother : Type 0
+NoBodyBeginsAnother =
+    (a b x y : List ℕ) (m n : ℕ) → Body 1 m a → Body 1 n b → a ++ x ≡ b ++ y
+    → (a ≡ b) × (m ≡ n) × (x ≡ y)
+
+-- octets begin with one value of a grammar at most, and with none where they have a fault; and they
+-- have one fault at most
+pub record IsGrammar {A : Type 0} (Ahead : A → EncodingRules → List ℕ → ℕ → Type 0)
+    (Fault : EncodingRules → ℕ → List ℕ → Refusal → Type 0) : Type 0 where
+  pub one : (rules : EncodingRules) (octets : List ℕ) (v w : A) (m n : ℕ)
+      → Ahead v rules octets m → Ahead w rules octets n → (v ≡ w) × (m ≡ n)
+  pub one_fault : (rules : EncodingRules) (at : ℕ) (octets : List ℕ) (r q : Refusal)
+      → Fault rules at octets r → Fault rules at octets q → r ≡ q
+  pub never_both : (rules : EncodingRules) (at : ℕ) (octets : List ℕ) (v : A) (m : ℕ) (r : Refusal)
+      → Ahead v rules octets m → Fault rules at octets r → ⊥
+
+-- what the laws of lengths and headers ask of the fault of a body: there is one at most, and none
+-- where a body stands
+pub record IsBodyFault (BodyFault : ℕ → List ℕ → Refusal → Type 0) : Type 0 where
+  pub one_fault : (at : ℕ) (octets : List ℕ) (r q : Refusal)
+      → BodyFault at octets r → BodyFault at octets q → r ≡ q
+  pub never_both : (at parts : ℕ) (body rest : List ℕ) (r : Refusal)
+      → Body 1 parts body → BodyFault at (body ++ rest) r → ⊥

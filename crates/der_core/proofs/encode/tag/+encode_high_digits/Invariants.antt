@@ -1,4 +1,0 @@
-use Rattle.der_core.proofs.encode.tag.+encode_high_digits.Given as goal
-
-abbrev pub decreases-encode_high_digits : goal.decreases-encode_high_digits
-decreases-encode_high_digits g c = c.number

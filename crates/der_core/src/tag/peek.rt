@@ -1,0 +1,74 @@
+//! Tags ahead of a reader, which stays.
+ghost use Rattle.std.specs.Prelude.{◌≡◌, ◌↔◌, true, IsTrue};
+ghost use Rattle.der_base.specs.Class.{class_number};
+ghost use Rattle.der_base.specs.Header.{IdentifierAhead, TagAhead};
+ghost use Rattle.der_base.specs.Tag.{label, IdentifierFault};
+ghost use Rattle.der_core.specs.Decode.{Decodes, Peeks, MatchAnswers};
+ghost use Rattle.der_core.specs.Outcome.{IsBinding};
+
+use crate::reader::{Reader, ReaderExt};
+use crate::tag::decode_with_constructed_bit;
+use der_base::{Class, Error, Tag, TagNumber};
+
+/// Calls on the type `Tag` that want a reader; no other type has them.
+pub trait TagPeek: Sized {
+    /// The tag ahead, as decoding it would answer; the reader stays.
+    fn peek<R: Reader>(reader: &R) -> Result<Self, Error>;
+
+    /// Whether the tag ahead has this class and number; false where no octets are left. The reader
+    /// stays.
+    fn peek_matches<R: Reader>(
+        reader: &mut R,
+        expected_class: Class,
+        expected_tag_number: TagNumber,
+    ) -> Result<bool, Error>;
+
+    /// Decodes a tag (X.690 8.1.2), and tells the constructed bit of its identifier.
+    ///
+    /// Refused by `TagUnknown` after a first octet that begins no tag, by `TagNumberInvalid` after
+    /// an octet that no tag number goes on with, and by `Incomplete` where one more octet is
+    /// wanted, as by [`ReaderExt::read_byte`], each at the position after the octets that were
+    /// read. The reader has failed then. One that had failed before refuses by `Failed` at its
+    /// position.
+    fn decode_with_constructed_bit<R: Reader>(reader: &mut R) -> Result<(Self, bool), Error>;
+}
+
+impl TagPeek for Tag {
+    fn peek<R: Reader>(reader: &R) -> Result<Self, Error>
+        ensures { Peeks TagAhead IdentifierFault R.reliable (R.state reader.now) result }
+    {
+        reader.peek_tag()
+    }
+
+    fn peek_matches<R: Reader>(
+        reader: &mut R,
+        expected_class: Class,
+        expected_tag_number: TagNumber,
+    ) -> Result<bool, Error>
+        ensures stays { R.state reader.new ≡ R.state reader.old }
+        ensures exact { IsBinding R.reliable result
+            → MatchAnswers (class_number expected_class) expected_tag_number.0 (R.state reader.old)
+            result }
+    {
+        if reader.is_finished() {
+            return Ok(false);
+        }
+        let tag = reader.peek_tag()?;
+        Ok(has(tag, expected_class, expected_tag_number))
+    }
+
+    fn decode_with_constructed_bit<R: Reader>(reader: &mut R) -> Result<(Self, bool), Error>
+        ensures { Decodes IdentifierAhead IdentifierFault R.reliable (R.state reader.old) result
+            (R.state reader.new) }
+    {
+        decode_with_constructed_bit(reader)
+    }
+}
+
+// Whether a tag has this class and number.
+fn has(tag: Tag, class: Class, number: TagNumber) -> bool
+    ensures { IsTrue result ↔ (((label tag).class ≡ class_number class)
+        × ((label tag).number ≡ number.0)) }
+{
+    tag.class() == class && tag.number() == number
+}
