@@ -1,12 +1,12 @@
 -- What a header says.
 use Rattle.der_base.specs.Arithmetic.{sans_eoc}
 use Rattle.std.specs.Prelude.{ℕ, List}
-use Rattle.der_base.specs.Header.{Head, head, HeaderAhead}
+use Rattle.der_base.specs.Header.{Head, HeaderAhead}
 use Rattle.der_base.specs.declared.encoding_rules.EncodingRules.{EncodingRules}
 use Rattle.der_core.specs.declared.header.Header.{Header}
 
 abbrev pub head_of : Header → Head
-head_of h = head h.tag h.length h.constructed
+head_of h = record { tag = h.tag; length = h.length; constructed = h.constructed }
 
 -- the first m octets of a list are this header
 abbrev pub IsHeaderAhead : Header → EncodingRules → List ℕ → ℕ → Type 0
