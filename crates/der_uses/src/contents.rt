@@ -1,0 +1,20 @@
+//! The contents of an element, lent by the input.
+ghost use Rattle.std.specs.Prelude.{◌≡◌, ℕ, take, drop, IfOk};
+ghost use Rattle.der_base.specs.Header.{HeaderAhead};
+ghost use Rattle.der_base.specs.Length.{number};
+ghost use Rattle.der_base.specs.declared.encoding_rules.EncodingRules.TheVariants.{Der};
+ghost use Rattle.der_core.specs.Header.{head_of};
+
+use der_core::{Error, Header, Reader, SliceReader, decode_header};
+
+/// The header at the front of the octets, and the contents that it announces; they are a part of
+/// the octets, and not copied.
+pub fn first_contents(octets: &[u8]) -> Result<(Header, &[u8]), Error>
+    ensures { IfOk result (λ p. (m : ℕ) × HeaderAhead (head_of p.0) Der octets.now m
+        × (p.1.now ≡ take (number (head_of p.0).length) (drop m octets.now))) }
+{
+    let mut reader = SliceReader::new(octets)?;
+    let header = decode_header(&mut reader)?;
+    let contents = reader.read_slice(header.length())?;
+    Ok((header, contents))
+}

@@ -1,0 +1,16 @@
+//! What octets begin with.
+ghost use Rattle.std.specs.Prelude.{◌≡◌, ℕ, drop, IfOk};
+ghost use Rattle.der_base.specs.Header.{HeaderAhead};
+ghost use Rattle.der_base.specs.declared.encoding_rules.EncodingRules.TheVariants.{Der};
+ghost use Rattle.der_core.specs.Header.{head_of};
+
+use der_core::{DecodeBytes, Error, Header};
+use std::alloc::Global;
+
+/// The header at the front of the octets, and the octets behind it.
+pub fn first_header(alloc: Global, octets: &[u8]) -> Result<(Header, &[u8]), Error>
+    ensures { IfOk result (λ p. (m : ℕ) × HeaderAhead (head_of p.0) Der octets.now m
+        × (p.1.now ≡ drop m octets.now)) }
+{
+    Header::from_der_partial(alloc, octets)
+}

@@ -1,0 +1,30 @@
+//! Parts that are entered and left by hand.
+ghost use Rattle.der_core.specs.ReaderState.{Same};
+ghost use Rattle.der_core.specs.SliceReader.{slice_state};
+
+use der_core::{Error, Reader, ReaderExt, SliceReader, Tag, decode_header};
+
+/// How many elements stand in the SEQUENCE at the front of the octets.
+pub fn count_of_elements(octets: &[u8]) -> Result<u32, Error> {
+    let mut reader = SliceReader::new(octets)?;
+    let header = decode_header(&mut reader)?;
+    header.tag().assert_eq(Tag::Sequence)?;
+    let outer = reader.enter_nested(header.length())?;
+    let count = count_rest(&mut reader);
+    reader.close_nested(outer, count)
+}
+
+// Passes element after element, up to the end of the part; each has an octet at least.
+fn count_rest(reader: &mut SliceReader<'_>) -> Result<u32, Error>
+    ensures { Same (slice_state reader.old) (slice_state reader.new) }
+{
+    let mut count = 0;
+    for _ in 0..u32::from(reader.remaining_len()) {
+        if reader.is_finished() {
+            break;
+        }
+        reader.tlv_bytes()?;
+        count += 1;
+    }
+    Ok(count)
+}
