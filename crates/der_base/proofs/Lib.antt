@@ -2,6 +2,7 @@ pub mod BodyLemmas
 pub mod CompareLemmas
 pub mod CountLemmas
 pub mod DigitLemmas
+pub mod EqualityLemmas
 pub mod HeaderLemmas
 pub mod IdentifierLemmas
 pub mod LengthLemmas

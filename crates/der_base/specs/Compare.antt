@@ -1,5 +1,7 @@
 -- Comparisons. The order of tags is not that of their octets.
-use Rattle.std.specs.Prelude.{ℕ}
+use Rattle.std.specs.Prelude.{ℕ, pos, [], ◌++◌}
+use Rattle.std.specs.Hash as fed
+use Rattle.std.specs.Hash.{HashWrites}
 use Rattle.std.specs.Ordering.{ordering_then, nat_cmp, bool_cmp}
 use Rattle.std.specs.declared.cmp.Ordering.{Ordering}
 use Rattle.der_base.specs.Length.{number, is_indefinite}
@@ -49,6 +51,17 @@ abbrev pub tag_order : Tag → Tag → Ordering
 tag_order a b =
     ordering_then (nat_cmp (variant_index a) (variant_index b))
     (ordering_then (bool_cmp (label a).constructed (label b).constructed) (nat_cmp (label a).number (label b).number))
+
+-- the fields of a variant, as a hasher gets them
+abbrev pub field_writes : Tag → HashWrites
+field_writes (tag.Application b n) = fed.bool b ++ fed.u32 n.0
+field_writes (tag.ContextSpecific b n) = fed.bool b ++ fed.u32 n.0
+field_writes (tag.Private b n) = fed.bool b ++ fed.u32 n.0
+field_writes other = []
+
+-- what a hasher gets of a tag: the place of the variant as 64 bits, then its fields
+abbrev pub tag_writes : Tag → HashWrites
+tag_writes t = fed.isize (pos (variant_index t)) ++ field_writes t
 
 -- the places of the modes and of the rules
 abbrev pub mode_index : TagMode → ℕ

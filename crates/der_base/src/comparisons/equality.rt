@@ -1,0 +1,65 @@
+//! Two values are equal exactly where they are the same value.
+ghost use Rattle.std.specs.Prelude.{◌≡◌, ◌↔◌, IsTrue};
+ghost use Rattle.der_base.specs.Length.{number, is_indefinite};
+
+use crate::encoding_rules::EncodingRules;
+use crate::error::{Error, ErrorKind};
+use crate::length::Length;
+use crate::tag::{Class, Tag, TagMode, TagNumber};
+
+/// The same number and the same flag.
+fn length_equality(a: Length, b: Length) -> bool
+    ensures parts { IsTrue result ↔ ((number a ≡ number b) × (is_indefinite a ≡ is_indefinite b)) }
+    ensures equality { IsTrue result ↔ (a ≡ b) }
+{
+    a == b
+}
+
+/// The same variant, constructed bit and number.
+fn tag_equality(a: Tag, b: Tag) -> bool
+    ensures { IsTrue result ↔ (a ≡ b) }
+{
+    a == b
+}
+
+/// The same number.
+fn tag_number_equality(a: TagNumber, b: TagNumber) -> bool
+    ensures { IsTrue result ↔ (a ≡ b) }
+{
+    a == b
+}
+
+/// The same class.
+fn class_equality(a: Class, b: Class) -> bool
+    ensures { IsTrue result ↔ (a ≡ b) }
+{
+    a == b
+}
+
+/// The same mode.
+fn mode_equality(a: TagMode, b: TagMode) -> bool
+    ensures { IsTrue result ↔ (a ≡ b) }
+{
+    a == b
+}
+
+/// The same rules.
+fn rules_equality(a: EncodingRules, b: EncodingRules) -> bool
+    ensures { IsTrue result ↔ (a ≡ b) }
+{
+    a == b
+}
+
+/// The same kind, with the same lengths, tags, octet or error of std.
+fn error_kind_equality(a: ErrorKind, b: ErrorKind) -> bool
+    ensures { IsTrue result ↔ (a ≡ b) }
+{
+    a == b
+}
+
+/// The same kind, and the same position or none.
+fn error_equality(a: Error, b: Error) -> bool
+    ensures { IsTrue result ↔ (a ≡ b) }
+{
+    a == b
+}

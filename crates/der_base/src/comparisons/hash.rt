@@ -1,0 +1,31 @@
+//! What a hasher gets of a value.
+ghost use Rattle.std.specs.Prelude.{◌≡◌, ◌++◌, fold};
+ghost use Rattle.std.specs.Hash as fed;
+ghost use Rattle.der_base.specs.Compare.{tag_writes};
+ghost use Rattle.der_base.specs.Length.{number, is_indefinite};
+
+use crate::length::Length;
+use crate::tag::{Tag, TagNumber};
+use std::hash::{Hash, Hasher};
+
+/// The number of a length and then the flag.
+fn length_hash<H: Hasher>(length: Length, state: &mut H)
+    ensures { state.new
+        ≡ fold H.write state.old (fed.u32 (number length) ++ fed.bool (is_indefinite length)) }
+{
+    length.hash(state);
+}
+
+/// The number.
+fn tag_number_hash<H: Hasher>(number: TagNumber, state: &mut H)
+    ensures { state.new ≡ fold H.write state.old (fed.u32 number.0) }
+{
+    number.hash(state);
+}
+
+/// The place of the variant, then its constructed bit and its number, where it has them.
+fn tag_hash<H: Hasher>(tag: Tag, state: &mut H)
+    ensures { state.new ≡ fold H.write state.old (tag_writes tag) }
+{
+    tag.hash(state);
+}
