@@ -1,18 +1,41 @@
--- No item and no body begins another.
-use Rattle.std.proofs.Common.{◌≡◌, ◌≢◌, ℕ, suc, ◌+◌, Bool, List, ◌∷◌, ◌++◌, length, refl, sym, ap, ◌∙◌, append_assoc}
+-- No item and no body begins another; all stand at levels 1 to 64.
+use Rattle.std.proofs.Common.{◌≡◌, ◌≢◌, ℕ, suc, ◌+◌, ◌≤◌, Bool, List, ◌∷◌, ◌++◌, length, refl, sym, ap, ◌∙◌, append_assoc, length-append, arith, lit≤}
 use Rattle.der_base.specs.Length.{length_octets}
 use Rattle.der_base.specs.Tag.{IsIdentifier}
-use Rattle.der_base.specs.Body.{Item, Body, definite, indefinite, ends, more}
+use Rattle.der_base.specs.Body.{IsLevel, Item, Body, Items, Open, definite, indefinite, ends, more, none, then_item, first, deeper}
 use Rattle.der_base.specs.declared.tag.Tag.{Tag}
 use Rattle.der_base.specs.declared.encoding_rules.EncodingRules.TheVariants.{Ber}
 use Rattle.der_base.proofs.DigitLemmas.{same_length_front}
 use Rattle.der_base.proofs.LengthLemmas.{length_front, length_definite}
 use Rattle.der_base.proofs.IdentifierLemmas.{identifier_begins, identifier_front}
 
+-- each stands at a level
+
+pub item_level : {level parts : ℕ} {item : List ℕ} → Item level parts item → IsLevel level
+item_level (definite at id contents l) = at
+item_level (indefinite at id b) = at
+
+pub body_level : {level parts : ℕ} {body : List ℕ} → Body level parts body → IsLevel level
+body_level (ends at) = at
+body_level (more i b) = item_level i
+
+pub items_level : {level parts : ℕ} {items : List ℕ} → Items level parts items → IsLevel level
+items_level (none at) = at
+items_level (then_item all i) = item_level i
+
+pub open_level : {level parts : ℕ} {octets : List ℕ} → Open level parts octets → IsLevel level
+open_level (first all) = items_level all
+open_level (deeper p id all) = items_level all
+
+-- a body ends with its end mark
+pub body_size : {level parts : ℕ} {body : List ℕ} → Body level parts body → 2 ≤ length body
+body_size (ends at) = lit≤ tt
+body_size (more {item = i} {body = b} h s) = omega (arith, length-append i b, body_size s)
+
 -- an item has octets, and the first is not 0
 pub item_begins : {level n : ℕ} {item : List ℕ} → Item level n item → (o : ℕ) × (rest : List ℕ) × (item ≡ o ∷ rest) × (o ≢ 0)
-item_begins (definite id contents l) = let b = identifier_begins id in (b.0, b.1 ++ (length_octets (length contents) ++ contents), ap (λ l. l ++ (length_octets (length contents) ++ contents)) b.2, b.3)
-item_begins (indefinite {body = body} id l b) = let h = identifier_begins id in (h.0, h.1 ++ 128 ∷ body, ap (λ l. l ++ 128 ∷ body) h.2, h.3)
+item_begins (definite _ id contents l) = let b = identifier_begins id in (b.0, b.1 ++ (length_octets (length contents) ++ contents), ap (λ l. l ++ (length_octets (length contents) ++ contents)) b.2, b.3)
+item_begins (indefinite {body = body} _ id b) = let h = identifier_begins id in (h.0, h.1 ++ 128 ∷ body, ap (λ l. l ++ 128 ∷ body) h.2, h.3)
 
 -- no item begins with an end mark
 pub no_item_at_end : {level n : ℕ} {item : List ℕ} → Item level n item → (x y : List ℕ) → item ++ x ≡ 0 ∷ y → ⊥
@@ -35,10 +58,10 @@ mixed_front h k c d x y e =
 mutual
   -- no item begins another, whatever their levels
   pub item_front : {k l m n : ℕ} {i j : List ℕ} → Item k m i → Item l n j → (x y : List ℕ) → i ++ x ≡ j ++ y → (i ≡ j) × (m ≡ n) × (x ≡ y)
-  item_front (definite h c _) (definite g d _) x y e = let r = definite_front h g c d x y e in (r.0, refl, r.1)
-  item_front (definite h c _) (indefinite {body = d} g _ _) x y e = absurd (mixed_front h g c d x y e)
-  item_front (indefinite {body = c} h _ _) (definite g d _) x y e = absurd (mixed_front g h d c y x (sym e))
-  item_front (indefinite {id = a} {body = c} h _ s) (indefinite {id = b} {body = d} g _ t) x y e =
+  item_front (definite _ h c _) (definite _ g d _) x y e = let r = definite_front h g c d x y e in (r.0, refl, r.1)
+  item_front (definite _ h c _) (indefinite {body = d} _ g _) x y e = absurd (mixed_front h g c d x y e)
+  item_front (indefinite {body = c} _ h _) (definite _ g d _) x y e = absurd (mixed_front g h d c y x (sym e))
+  item_front (indefinite {id = a} {body = c} _ h s) (indefinite {id = b} {body = d} _ g t) x y e =
       let one = identifier_front h g (128 ∷ (c ++ x)) (128 ∷ (d ++ y)) (simp append_assoc at e) in
       let tail : c ++ x ≡ d ++ y = let f : 128 ∷ (c ++ x) ≡ 128 ∷ (d ++ y) = one.3 in cc in
       let two = body_front s t x y tail in
@@ -46,9 +69,9 @@ mutual
 
   -- no body begins another, whatever their levels
   pub body_front : {k l m n : ℕ} {a b : List ℕ} → Body k m a → Body l n b → (x y : List ℕ) → a ++ x ≡ b ++ y → (a ≡ b) × (m ≡ n) × (x ≡ y)
-  body_front ends ends x y e = (refl, refl, cc)
-  body_front ends (more {item = j} {body = b} g t) x y e = absurd (no_item_at_end g (b ++ y) (0 ∷ x) (sym (e ∙ append_assoc j b y)))
-  body_front (more {item = i} {body = a} h s) ends x y e = absurd (no_item_at_end h (a ++ x) (0 ∷ y) (sym (append_assoc i a x) ∙ e))
+  body_front (ends _) (ends _) x y e = (refl, refl, cc)
+  body_front (ends _) (more {item = j} {body = b} g t) x y e = absurd (no_item_at_end g (b ++ y) (0 ∷ x) (sym (e ∙ append_assoc j b y)))
+  body_front (more {item = i} {body = a} h s) (ends _) x y e = absurd (no_item_at_end h (a ++ x) (0 ∷ y) (sym (append_assoc i a x) ∙ e))
   body_front (more {m = m} {n = n} {item = i} {body = a} h s) (more {m = p} {n = q} {item = j} {body = b} g t) x y e =
       let one = item_front h g (a ++ x) (b ++ y) (sym (append_assoc i a x) ∙ e ∙ append_assoc j b y) in
       let two = body_front s t x y one.2 in

@@ -1,32 +1,37 @@
--- The body of an indefinite length (X.690 8.1.3.6, 8.1.5). The laws name `Body`, and each contract
--- on a length does through `LengthAhead`; no contract names `Items` and `Open` yet.
-use Rattle.std.specs.Prelude.{ℕ, suc, ◌+◌, ◌^◌, ◌<◌, Bool, true, List, [], ◌∷◌, ◌++◌, length}
+-- The body of an indefinite length (X.690 8.1.3.6, 8.1.5). The laws name all of this; of the other
+-- contracts each on a length names `Body` through `LengthAhead`, and none names `Items` or `Open` yet.
+use Rattle.std.specs.Prelude.{ℕ, suc, ◌+◌, ◌^◌, ◌<◌, ◌≤◌, Bool, true, List, [], ◌∷◌, ◌++◌, length}
 use Rattle.der_base.specs.Length.{length_octets}
 use Rattle.der_base.specs.Tag.{IsIdentifier}
 use Rattle.der_base.specs.Error.{Refusal}
 use Rattle.der_base.specs.declared.tag.Tag.{Tag}
 use Rattle.der_base.specs.declared.encoding_rules.EncodingRules.TheVariants.{Ber}
 
+-- bodies stand within bodies 64 deep at most: the outermost is at level 1
+pub record IsLevel (level : ℕ) : Type 0 where
+  pub least : 1 ≤ level
+  pub most : level ≤ 64
+
 mutual
   -- an item at a level, and its number of identifiers and end marks: contents of a definite length
-  -- are any octets, those of an indefinite one are a body one level deeper, 64 levels at most
+  -- are any octets, those of an indefinite one are a body one level deeper
   pub data Item : ℕ → ℕ → List ℕ → Type 0 where
-    definite : {level : ℕ} {id : List ℕ} {t : Tag} {b : Bool} → IsIdentifier Ber id t b
-        → (contents : List ℕ) → length contents < 2 ^ 32
+    definite : {level : ℕ} {id : List ℕ} {t : Tag} {b : Bool} → IsLevel level
+        → IsIdentifier Ber id t b → (contents : List ℕ) → length contents < 2 ^ 32
         → Item level 1 (id ++ (length_octets (length contents) ++ contents))
-    indefinite : {level parts : ℕ} {id body : List ℕ} {t : Tag} → IsIdentifier Ber id t true
-        → level < 64 → Body (suc level) parts body
+    indefinite : {level parts : ℕ} {id body : List ℕ} {t : Tag} → IsLevel level
+        → IsIdentifier Ber id t true → Body (suc level) parts body
         → Item level (suc parts) (id ++ 128 ∷ body)
 
   -- a body at a level: the end mark, two zero octets, or an item and a body
   pub data Body : ℕ → ℕ → List ℕ → Type 0 where
-    ends : {level : ℕ} → Body level 1 (0 ∷ 0 ∷ [])
+    ends : {level : ℕ} → IsLevel level → Body level 1 (0 ∷ 0 ∷ [])
     more : {level m n : ℕ} {item body : List ℕ} → Item level m item → Body level n body
         → Body level (m + n) (item ++ body)
 
 -- joined items of a level
 pub data Items : ℕ → ℕ → List ℕ → Type 0 where
-  none : {level : ℕ} → Items level 0 []
+  none : {level : ℕ} → IsLevel level → Items level 0 []
   then_item : {level m n : ℕ} {items item : List ℕ} → Items level m items → Item level n item
       → Items level (m + n) (items ++ item)
 
@@ -34,7 +39,7 @@ pub data Items : ℕ → ℕ → List ℕ → Type 0 where
 pub data Open : ℕ → ℕ → List ℕ → Type 0 where
   first : {n : ℕ} {items : List ℕ} → Items 1 n items → Open 1 n items
   deeper : {level m n : ℕ} {p id items : List ℕ} {t : Tag} → Open level m p
-      → IsIdentifier Ber id t true → level < 64 → Items (suc level) n items
+      → IsIdentifier Ber id t true → Items (suc level) n items
       → Open (suc level) (m + suc n) (p ++ (id ++ 128 ∷ items))
 
 -- octets at a position begin with no body, and why: none is told, since no body is read yet

@@ -49,7 +49,7 @@ missing_refusal expected actual p =
       error =
           if nat_lt expected (2 ^ 32)
           then at (Incomplete (definite_length expected) (definite_length actual)) (definite_length p)
-          else error_of_kind Overflow;
+          else record { kind = Overflow; position = None };
       position = p;
       fails = nat_lt expected (2 ^ 32);
     }

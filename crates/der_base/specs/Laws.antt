@@ -1,9 +1,9 @@
 -- Laws of the octets of tags, lengths, headers and bodies. The crate proves each of them.
-use Rattle.std.specs.Prelude.{◌≡◌, ℕ, Bool, List, ◌++◌}
+use Rattle.std.specs.Prelude.{◌≡◌, ℕ, ◌≤◌, Bool, List, [], ◌∷◌, ◌++◌, length}
 use Rattle.der_base.specs.Length.{length_octets}
 use Rattle.der_base.specs.Tag.{label, tag_octets, IsIdentifier}
 use Rattle.der_base.specs.Header.{header_octets}
-use Rattle.der_base.specs.Body.{Body}
+use Rattle.der_base.specs.Body.{Item, Body, Items, Open}
 use Rattle.der_base.specs.Error.{Refusal}
 use Rattle.der_base.specs.declared.tag.Tag.{Tag}
 use Rattle.der_base.specs.declared.encoding_rules.EncodingRules.{EncodingRules}
@@ -61,3 +61,33 @@ pub record IsBodyFault (BodyFault : ℕ → List ℕ → Refusal → Type 0) : T
       → BodyFault at octets r → BodyFault at octets q → r ≡ q
   pub never_both : (at parts : ℕ) (body rest : List ℕ) (r : Refusal)
       → Body 1 parts body → BodyFault at (body ++ rest) r → ⊥
+
+-- bodies, their items and their beginnings stand at levels 1 to 64 alone
+abbrev pub NoBodyOutsideLevels : Type 0
+NoBodyOutsideLevels =
+    (level parts : ℕ) (body : List ℕ) → Body level parts body
+    → (1 ≤ level) × (level ≤ 64)
+
+abbrev pub NoItemOutsideLevels : Type 0
+NoItemOutsideLevels =
+    (level parts : ℕ) (item : List ℕ) → Item level parts item
+    → (1 ≤ level) × (level ≤ 64)
+
+abbrev pub NoItemsOutsideLevels : Type 0
+NoItemsOutsideLevels =
+    (level parts : ℕ) (items : List ℕ) → Items level parts items
+    → (1 ≤ level) × (level ≤ 64)
+
+abbrev pub NothingOpenOutsideLevels : Type 0
+NothingOpenOutsideLevels =
+    (level parts : ℕ) (octets : List ℕ) → Open level parts octets
+    → (1 ≤ level) × (level ≤ 64)
+
+-- and there are bodies at each of these
+abbrev pub BodiesAtEachLevel : Type 0
+BodiesAtEachLevel = (level : ℕ) → 1 ≤ level → level ≤ 64 → Body level 1 (0 ∷ 0 ∷ [])
+
+-- a body ends with the two octets of its end mark
+abbrev pub BodiesHaveTwoOctets : Type 0
+BodiesHaveTwoOctets =
+    (level parts : ℕ) (body : List ℕ) → Body level parts body → 2 ≤ length body

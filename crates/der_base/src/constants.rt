@@ -7,7 +7,9 @@ ghost use Rattle.der_base.specs.declared.tag.mode.TagMode.TheVariants.{Explicit}
 
 use crate::encoding_rules::EncodingRules;
 use crate::length::Length;
-use crate::tag::TagMode;
+use crate::tag::{
+    CLASS_APPLICATION, CLASS_CONTEXT_SPECIFIC, CLASS_PRIVATE, CLASS_UNIVERSAL, TagMode,
+};
 
 /// No octets.
 fn zero() -> Length
@@ -28,6 +30,34 @@ fn max() -> Length
     ensures { result ≡ definite_length 4294967295 }
 {
     Length::MAX
+}
+
+/// Bits 8 and 7 of class UNIVERSAL (X.690 8.1.2.2, table 1).
+fn class_universal() -> u8
+    ensures { result ≡ 0x00 }
+{
+    CLASS_UNIVERSAL
+}
+
+/// Bits 8 and 7 of class APPLICATION.
+fn class_application() -> u8
+    ensures { result ≡ 0x40 }
+{
+    CLASS_APPLICATION
+}
+
+/// Bits 8 and 7 of class CONTEXT-SPECIFIC.
+fn class_context_specific() -> u8
+    ensures { result ≡ 0x80 }
+{
+    CLASS_CONTEXT_SPECIFIC
+}
+
+/// Bits 8 and 7 of class PRIVATE.
+fn class_private() -> u8
+    ensures { result ≡ 0xC0 }
+{
+    CLASS_PRIVATE
 }
 
 /// A length of no octets, unflagged.

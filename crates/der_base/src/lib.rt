@@ -10,6 +10,7 @@ pub mod encoding_rules;
 pub mod error;
 mod laws;
 pub mod length;
+mod levels;
 pub mod tag;
 
 pub use encoding_rules::EncodingRules;
