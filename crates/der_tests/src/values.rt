@@ -4,4 +4,5 @@ mod class;
 mod error;
 mod length;
 mod names;
+mod recorder;
 mod tag;

@@ -1,5 +1,5 @@
 //! Errors and their printed texts.
-use crate::checks::{holds, same};
+use crate::checks::{holds, same, same_at};
 use der_base::{Error, ErrorKind, Length, Tag};
 use std::alloc::Global;
 use std::process::Abort;
@@ -31,6 +31,45 @@ const PLAIN: [(ErrorKind, &str); 14] = [
     (ErrorKind::TagModeUnknown, "unknown tag mode"),
     (ErrorKind::TagNumberInvalid, "invalid tag number"),
     (ErrorKind::OutOfMemory, "out of memory"),
+];
+
+/// Kinds that differ from one another in the variant or in a field.
+const DISTINCT: [ErrorKind; 14] = [
+    ErrorKind::Failed,
+    ErrorKind::OutOfMemory,
+    ErrorKind::Incomplete {
+        expected_len: Length::ONE,
+        actual_len: Length::ZERO,
+    },
+    ErrorKind::Incomplete {
+        expected_len: Length::MAX,
+        actual_len: Length::ZERO,
+    },
+    ErrorKind::Incomplete {
+        expected_len: Length::MAX,
+        actual_len: Length::ONE,
+    },
+    ErrorKind::TrailingData {
+        decoded: Length::ONE,
+        remaining: Length::ZERO,
+    },
+    ErrorKind::TrailingData {
+        decoded: Length::ONE,
+        remaining: Length::MAX,
+    },
+    ErrorKind::Length { tag: Tag::Null },
+    ErrorKind::Value { tag: Tag::Null },
+    ErrorKind::Value { tag: Tag::Set },
+    ErrorKind::TagUnknown { byte: 0x20 },
+    ErrorKind::TagUnknown { byte: 0x60 },
+    ErrorKind::TagUnexpected {
+        expected: None,
+        actual: Tag::Null,
+    },
+    ErrorKind::TagUnexpected {
+        expected: Some(Tag::Set),
+        actual: Tag::Null,
+    },
 ];
 
 fn plain(rt: &impl Abort, alloc: Global, kind: ErrorKind, text: &str) -> Result<(), Fail> {
@@ -172,4 +211,41 @@ fn from_errors_of_std(rt: HostRuntime) {
     if let Err(error) = str::from_utf8(&[0xFF]) {
         same(&rt, Error::from(error), ErrorKind::Utf8(error).to_error());
     }
+}
+
+#[test]
+fn kinds_equal_where_all_is_equal(rt: HostRuntime) {
+    for i in 0..DISTINCT.len() {
+        for j in 0..DISTINCT.len() {
+            same_at(&rt, i, DISTINCT[i] == DISTINCT[j], i == j);
+            let (first, second) = (DISTINCT[i].to_error(), DISTINCT[j].to_error());
+            same_at(&rt, i, first == second, i == j);
+        }
+    }
+}
+
+#[test]
+fn errors_equal_where_the_position_is_too(rt: HostRuntime) {
+    let distinct = [
+        ErrorKind::Failed.to_error(),
+        ErrorKind::Failed.at(Length::ZERO),
+        ErrorKind::Failed.at(Length::new(7)),
+        ErrorKind::Failed.at(Length::new_indefinite(7)),
+        ErrorKind::Reader.at(Length::new(7)),
+    ];
+    for i in 0..distinct.len() {
+        for j in 0..distinct.len() {
+            same_at(&rt, i, distinct[i] == distinct[j], i == j);
+        }
+    }
+}
+
+#[test]
+fn texts_cut_at_other_octets_are_other_errors(rt: HostRuntime) {
+    let (Err(first), Err(second)) = (str::from_utf8(&[0xFF]), str::from_utf8(&[0x41, 0xFF])) else {
+        holds(&rt, false);
+        return;
+    };
+    holds(&rt, ErrorKind::Utf8(first) == ErrorKind::Utf8(first));
+    holds(&rt, ErrorKind::Utf8(first) != ErrorKind::Utf8(second));
 }

@@ -1,5 +1,6 @@
 //! Tags and tag numbers.
 use crate::checks::{holds, same, same_at};
+use crate::values::recorder::recorded;
 use der_base::{Class, ErrorKind, Tag, TagNumber};
 use std::alloc::Global;
 use std::cmp::Ordering;
@@ -167,4 +168,54 @@ fn errors_of_a_tag(rt: HostRuntime) {
 fn numbers(rt: HostRuntime) {
     same(&rt, u32::from(TagNumber::from(31)), 31);
     holds(&rt, TagNumber::new(30) < TagNumber::new(31));
+}
+
+/// Tags that differ from one another in the variant, the constructed bit or the number.
+const DISTINCT: [Tag; 8] = [
+    Tag::Boolean,
+    Tag::Integer,
+    Tag::Application {
+        constructed: false,
+        number: TagNumber(1),
+    },
+    Tag::ContextSpecific {
+        constructed: false,
+        number: TagNumber(1),
+    },
+    Tag::Private {
+        constructed: false,
+        number: TagNumber(1),
+    },
+    Tag::Private {
+        constructed: true,
+        number: TagNumber(1),
+    },
+    Tag::Private {
+        constructed: false,
+        number: TagNumber(257),
+    },
+    Tag::BmpString,
+];
+
+#[test]
+fn equal_and_hashed_equally_where_all_is_equal(rt: HostRuntime) {
+    for i in 0..DISTINCT.len() {
+        for j in 0..DISTINCT.len() {
+            same_at(&rt, i, DISTINCT[i] == DISTINCT[j], i == j);
+            let is_hashed_equally = recorded(&DISTINCT[i]) == recorded(&DISTINCT[j]);
+            same_at(&rt, i, is_hashed_equally, i == j);
+        }
+    }
+}
+
+/// A derived hash feeds the place of the variant in 8 octets, the lowest first, and then the fields.
+#[test]
+fn octets_that_a_hasher_gets(rt: HostRuntime) {
+    same(&rt, recorded(&TagNumber(0x01020304)), 0x01_04030201);
+    same(&rt, recorded(&Tag::Boolean), 0x01_0000000000000000);
+    same(&rt, recorded(&Tag::Integer), 0x01_0100000000000000);
+    let tag = TagNumber(0x0105).application(true);
+    same(&rt, recorded(&tag), 0x01_1600000000000000_01_05010000);
+    let tag = TagNumber(5).private(false);
+    same(&rt, recorded(&tag), 0x01_1800000000000000_00_05000000);
 }
