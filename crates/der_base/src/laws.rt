@@ -1,8 +1,8 @@
-//! The laws of the octets of tags, lengths and headers. Each function does nothing; its contract is
+//! The laws of the octets of tags, lengths, headers and bodies. Each function does nothing; its contract is
 //! a law, whose statement is a word of `specs/Laws.antt`. Nothing else uses these.
 ghost use Rattle.der_base.specs.Body.{BodyFault};
 ghost use Rattle.der_base.specs.Header.{IdentifierAhead, TagAhead, LengthAhead, LengthFault, HeaderAhead, HeaderFault};
-ghost use Rattle.der_base.specs.Laws.{OneTagOfALabel, NoTagBeginsAnother, NoIdentifierBeginsAnother, NoLengthBeginsAnother, NoHeaderBeginsAnother, NoBodyBeginsAnother, IsGrammar, IsBodyFault};
+ghost use Rattle.der_base.specs.Laws.{OneTagOfALabel, NoTagBeginsAnother, NoIdentifierBeginsAnother, NoLengthBeginsAnother, NoHeaderBeginsAnother, NoBodyBeginsAnother, NoBodyOutsideLevels, NoItemOutsideLevels, NoItemsOutsideLevels, NothingOpenOutsideLevels, BodiesAtEachLevel, BodiesHaveTwoOctets, IsGrammar, IsBodyFault};
 ghost use Rattle.der_base.specs.Tag.{IdentifierFault};
 ghost use Rattle.der_base.specs.declared.error.ErrorKind.{ErrorKind};
 
@@ -48,4 +48,28 @@ fn headers_are_a_grammar()
 
 fn body_faults_are_single()
     ensures { IsBodyFault BodyFault }
+{}
+
+fn no_body_outside_levels()
+    ensures { NoBodyOutsideLevels }
+{}
+
+fn no_item_outside_levels()
+    ensures { NoItemOutsideLevels }
+{}
+
+fn no_items_outside_levels()
+    ensures { NoItemsOutsideLevels }
+{}
+
+fn nothing_open_outside_levels()
+    ensures { NothingOpenOutsideLevels }
+{}
+
+fn bodies_at_each_level()
+    ensures { BodiesAtEachLevel }
+{}
+
+fn bodies_have_two_octets()
+    ensures { BodiesHaveTwoOctets }
 {}

@@ -10,7 +10,6 @@ pub mod encoding_rules;
 pub mod error;
 mod laws;
 pub mod length;
-mod levels;
 pub mod tag;
 
 pub use encoding_rules::EncodingRules;

@@ -1,5 +1,5 @@
 use Rattle.der_base.proofs.BodyLemmas.{body_level}
-use Rattle.der_base.proofs.levels.no_body_outside_levels.Goals as goal
+use Rattle.der_base.proofs.laws.no_body_outside_levels.Goals as goal
 
 pub returns : goal.returns
 returns c = λ level parts octets h. let at = body_level h in (at.least, at.most)

@@ -1,5 +1,5 @@
 use Rattle.der_base.proofs.BodyLemmas.{open_level}
-use Rattle.der_base.proofs.levels.nothing_open_outside_levels.Goals as goal
+use Rattle.der_base.proofs.laws.nothing_open_outside_levels.Goals as goal
 
 pub returns : goal.returns
 returns c = λ level parts octets h. let at = open_level h in (at.least, at.most)

@@ -1,5 +1,5 @@
 use Rattle.der_base.proofs.BodyLemmas.{items_level}
-use Rattle.der_base.proofs.levels.no_items_outside_levels.Goals as goal
+use Rattle.der_base.proofs.laws.no_items_outside_levels.Goals as goal
 
 pub returns : goal.returns
 returns c = λ level parts octets h. let at = items_level h in (at.least, at.most)
