@@ -1,5 +1,6 @@
 -- The pieces in which tags and lengths are written.
 use Rattle.std.proofs.Common.{◌≡◌, ◌≢◌, ℕ, zero, suc, ◌+◌, ◌-◌, ◌/◌, ◌%◌, ◌^◌, ◌<◌, ◌≤◌, List, [], ◌∷◌, ◌++◌, length, drop, map, refl, sym, ap, ◌∙◌, subst, length-append, arith, w32, Result, Ok, Err, OnOk, false, ⊎_elim, append_assoc}
+use Rattle.std.proofs.lemmas.List.{drop-drop}
 use Rattle.std.proofs.lemmas.Bool.{cases_lt}
 use Rattle.std.specs.Int.{to_be_bytes}
 use Rattle.std.specs.Int.Digits.{digits_of}
@@ -121,13 +122,28 @@ length_parts k n pos few e =
     length_large n a ∙ ap (λ l. (128 + length l) ∷ l) same ∙ ap (λ m. (128 + m) ∷ digits_of 256 n) size ∙ ap (λ l. (128 + k) ∷ l) (sym (last_octets k n pos few size)))
     (cases_lt n 128)
 
+-- a length that takes one octet
+pub one_octet : (x n : ℕ) → x ≡ n → length (length_octets n) ≡ 1 → length_octets n ≡ x ∷ []
+one_octet x n e one =
+    ⊎_elim
+    (λ a. length_small n a ∙ ap (λ y. y ∷ []) (sym e))
+    (λ a. absurd (omega (arith, ap length (length_large n a), ap length (digits_positive 256 n (omega arith)), length-digits_of_step 256 n (omega arith) (omega arith), one)))
+    (cases_lt n 128)
+
+-- appending twice is appending both
+appended_both : (s : WriterState) (xs ys : List ℕ) → appended_state (appended_state s xs) ys ≡ appended_state s (xs ++ ys)
+appended_both s xs ys =
+    let octets : (s.octets ++ xs) ++ ys ≡ s.octets ++ (xs ++ ys) = append_assoc s.octets xs ys in
+    let behind : drop (length ys) (drop (length xs) s.behind) ≡ drop (length (xs ++ ys)) s.behind = drop-drop (length ys) (length xs) s.behind ∙ ap (λ k. drop k s.behind) (sym (length-append xs ys)) in
+    cc
+
 -- it is appended by two writes
 pub length_appended : (k n : ℕ) (q : List ℕ) (s t u : WriterState) (r : Result (Unit {0}) Error) → 1 ≤ k → k ≤ 4 → length (length_octets n) ≡ k + 1 → q ≡ drop (4 - k) (to_be_bytes w32 n)
     → t ≡ appended_state s ((128 + k) ∷ []) → OnOk r (u ≡ appended_state t q) → OnOk r (u ≡ appended_state s (length_octets n))
 length_appended k n q s t u (Err e) pos few size same first next = next
 length_appended k n q s t u (Ok x) pos few size same first next =
     let parts : length_octets n ≡ (128 + k) ∷ q = length_parts k n pos few size ∙ ap (λ l. (128 + k) ∷ l) (sym same) in
-    next ∙ ap (λ v. appended_state v q) first ∙ ap (λ l. record s { octets = l }) (append_assoc s.octets ((128 + k) ∷ []) q) ∙ ap (appended_state s) (sym parts)
+    next ∙ ap (λ v. appended_state v q) first ∙ appended_both s ((128 + k) ∷ []) q ∙ ap (appended_state s) (sym parts)
 
 -- and its outcome is theirs
 pub length_outcome_of : (k n : ℕ) (q : List ℕ) (s t u : WriterState) (r : Result (Unit {0}) Error) → 1 ≤ k → k ≤ 4 → length (length_octets n) ≡ k + 1 → q ≡ drop (4 - k) (to_be_bytes w32 n)
@@ -161,7 +177,7 @@ singly_stop xs x s t e first =
 -- octets appended in two parts
 pub appended_twice : (xs ys : List ℕ) (s t u : WriterState) (r : Result (Unit {0}) Error) → t ≡ appended_state s xs → OnOk r (u ≡ appended_state t ys) → OnOk r (u ≡ appended_state s (xs ++ ys))
 appended_twice xs ys s t u (Err e) first next = next
-appended_twice xs ys s t u (Ok x) first next = next ∙ ap (λ v. appended_state v ys) first ∙ ap (λ l. record s { octets = l }) (append_assoc s.octets xs ys)
+appended_twice xs ys s t u (Ok x) first next = next ∙ ap (λ v. appended_state v ys) first ∙ appended_both s xs ys
 
 -- room for more, once the first octets were appended
 pub room_then : (xs : List ℕ) (k : ℕ) (s t : WriterState) → t ≡ appended_state s xs → s.failed ≡ false → length s.octets + (length xs + k) ≤ s.stop → (t.failed ≡ false) × (length t.octets + k ≤ t.stop)

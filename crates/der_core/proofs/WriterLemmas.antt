@@ -1,7 +1,8 @@
 -- Slice writers: room, parts that are set apart, and what follows them.
-use Rattle.std.proofs.Common.{rules, arith, ◌≡◌, ℕ, ◌+◌, ◌-◌, ◌^◌, ◌<◌, ◌≤◌, Bool, true, false, length, take, length-take-le, refl, sym, ap, ◌∙◌, subst, Result, Ok, Err, OnOk}
+use Rattle.std.proofs.Common.{rules, arith, ◌≡◌, ℕ, ◌+◌, ◌-◌, ◌^◌, ◌<◌, ◌≤◌, Bool, true, false, List, length, take, drop, ◌++◌, length-take, length-take-le, length-append, refl, sym, ap, ◌∙◌, subst, Result, Ok, Err, OnOk}
 use Rattle.std.specs.Borrow.{MutBor}
-use Rattle.std.proofs.lemmas.List.{take-take}
+use Rattle.std.proofs.lemmas.List.{take-append-drop, take-append-le, drop-drop}
+use Rattle.std.proofs.Math.Seq.{take-append_seam, drop-append-add, drop-append_seam}
 use Rattle.std.proofs.lemmas.Bool.Decides.{nat_tests}
 use Rattle.der_base.specs.Error.{at}
 use Rattle.der_base.specs.Length.{definite_length}
@@ -9,7 +10,7 @@ use Rattle.der_base.specs.declared.error.Error.{Error}
 use Rattle.der_base.specs.declared.error.ErrorKind.{ErrorKind}
 use Rattle.der_base.specs.declared.error.ErrorKind.TheVariants.{Failed, Length as IncorrectLength}
 use Rattle.der_base.specs.declared.tag.Tag.TheVariants.{Sequence}
-use Rattle.der_core.specs.Writer.{WriterState, Keeps, Writes, room_outcome, written_count, writer_position, failed_state}
+use Rattle.der_core.specs.Writer.{WriterState, Keeps, Writes, room_outcome, written_count, writer_position, appended_state, failed_state}
 use Rattle.der_core.specs.SliceWriter.{slice_writer_state}
 use Rattle.der_core.specs.Encode.{header_outcome}
 use Rattle.der_core.specs.WrittenSequence.{Condition, Run, part_state, outer_state, headed_state, HandsBackPart, Abandons, ClosesPart, handed_on, failed, unfilled, filled, IsFilledBy, Runs, PartAnswer, WritesSequence, with_header}
@@ -29,6 +30,12 @@ refused_alike n s g t e w =
     let l = w.leaves in
     record { answered = grind (rules, nat_tests); leaves = grind (rules, nat_tests) }
 
+-- a writer that was appended to is the same
+pub kept_appended : (s : WriterState) (octets : List ℕ) (t : WriterState) → t ≡ appended_state s octets → Keeps s t
+kept_appended s octets t e =
+    let more : length octets ≡ length (s.octets ++ octets) - length s.octets = omega (arith, length-append s.octets octets) in
+    subst (Keeps s) (sym e) (record { start = refl; stop = refl; capacity = refl; reference = refl; before = take-append_seam s.octets octets; behind = ap (λ k. drop k s.behind) more; fails = λ failing. failing })
+
 -- where a slice writer stands in its buffer
 pub stands_at : (w : SliceWriter) → length (slice_writer_state w).octets ≡ w.start + w.position
 stands_at w = length-take-le (w.start + w.position) w.bytes.now (omega (arith, w.ordered, w.within))
@@ -36,7 +43,7 @@ stands_at w = length-take-le (w.start + w.position) w.bytes.now (omega (arith, w
 -- a writer over its own part again, behind one that was set apart
 abbrev pub behind_part : SliceWriter → ℕ → ℕ → Bool → WriterState
 behind_part v start stop marked =
-    record { octets = take (start + (v.stop - start)) v.bytes.now; start = start; stop = stop; capacity = length v.bytes.now; failed = marked; reference = v.bytes.ghost_name }
+    record { octets = take (start + (v.stop - start)) v.bytes.now; behind = drop (start + (v.stop - start)) v.bytes.now; start = start; stop = stop; capacity = length v.bytes.now; failed = marked; reference = v.bytes.ghost_name }
 
 module _ (v : SliceWriter) (start stop : ℕ) (before : start ≤ v.start) (behind : v.stop ≤ stop) (within : stop ≤ length v.bytes.now) where
   abbrev inner : WriterState
@@ -64,9 +71,8 @@ module _ (v : SliceWriter) (start stop : ℕ) (before : start ≤ v.start) (behi
     capacity = ap (λ (u : WriterState). u.capacity) e;
     reference = ap (λ (u : WriterState). u.reference) e;
     failed = ap (λ (u : WriterState). u.failed) e;
-    behind = ap (λ (u : WriterState). length u.octets) e ∙ omega (arith, ends true, begins, v.ordered);
-    stands = ap (λ (u : WriterState). take (length inner.octets) u.octets) e ∙ ap (λ k. take k (take (start + (v.stop - start)) v.bytes.now)) (stands_at v)
-        ∙ take-take (v.start + v.position) (start + (v.stop - start)) v.bytes.now (omega (arith, whole, v.ordered));
+    passed = ap (λ (u : WriterState). length u.octets) e ∙ omega (arith, ends true, begins, v.ordered);
+    buffer = ap (λ (u : WriterState). u.octets ++ u.behind) e ∙ take-append-drop (start + (v.stop - start)) v.bytes.now ∙ sym (take-append-drop (v.start + v.position) v.bytes.now);
   }
 
   pub closed_refused : (answer : Result (Unit {0}) Error) (e : Error) → answer ≡ Err e → ClosesPart outer size inner (behind_part v start stop true) answer (Err e)
@@ -94,17 +100,29 @@ module _ (v : SliceWriter) (start stop : ℕ) (before : start ≤ v.start) (behi
   closed_filled answer is alive full =
       let held : length inner.octets ≡ length outer.octets + size = omega (arith, stands_at v, begins, v.ordered, full) in
       let octets : take (start + (v.stop - start)) v.bytes.now ≡ inner.octets = ap (λ k. take k v.bytes.now) (omega (arith, whole, v.ordered, full)) in
-      let leaves : behind_part v start stop v.failed ≡ record outer { octets = inner.octets } = cc in
+      let behind : drop (start + (v.stop - start)) v.bytes.now ≡ inner.behind = ap (λ k. drop k v.bytes.now) (omega (arith, whole, v.ordered, full)) in
+      let leaves : behind_part v start stop v.failed ≡ record outer { octets = inner.octets; behind = inner.behind } = cc in
       subst (λ a. ClosesPart outer size inner (behind_part v start stop v.failed) a (Ok tt)) (sym is) (filled alive held leaves)
 
--- what is round a part that was handed back is what it was set apart from
-same_around : (s q : WriterState) (n : ℕ) → Keeps (part_state s n) q → s.failed ≡ false → outer_state q s.start s.stop ≡ s
+abandons_alike : (s : WriterState) (behind : List ℕ) (q t : WriterState) (n : ℕ) → Abandons (record s { behind = behind }) n q t → Abandons s n q t
+abandons_alike s behind q t n gone =
+    record { start = gone.start; stop = gone.stop; capacity = gone.capacity; reference = gone.reference; failed = gone.failed; passed = gone.passed; buffer = gone.buffer }
+
+-- what is round a part that was handed back is what it was set apart from, but for what is behind
+same_around : (s q : WriterState) (n : ℕ) → Keeps (part_state s n) q → s.failed ≡ false → outer_state q s.start s.stop ≡ record s { behind = q.behind }
 same_around s q n kept alive =
     let octets : take q.start q.octets ≡ s.octets = ap (λ k. take k q.octets) kept.start ∙ kept.before in
     let capacity : q.capacity ≡ s.capacity = kept.capacity in
     let reference : q.reference ≡ s.reference = kept.reference in
-    let same : outer_state q s.start s.stop ≡ record { octets = s.octets; start = s.start; stop = s.stop; capacity = s.capacity; failed = s.failed; reference = s.reference } = cc in
+    let same : outer_state q s.start s.stop ≡ record { octets = s.octets; behind = q.behind; start = s.start; stop = s.stop; capacity = s.capacity; failed = s.failed; reference = s.reference } = cc in
     same
+
+-- what follows a part does not ask what was behind it
+closed_alike : (s : WriterState) (behind : List ℕ) (q t : WriterState) (n : ℕ) (a r : Result (Unit {0}) Error) → ClosesPart (record s { behind = behind }) n q t a r → ClosesPart s n q t a r
+closed_alike s behind q t n a r (handed_on e gone) = handed_on e (abandons_alike s behind q t n gone)
+closed_alike s behind q t n a r (failed f gone) = failed f (abandons_alike s behind q t n gone)
+closed_alike s behind q t n a r (unfilled alive few gone) = unfilled alive few (abandons_alike s behind q t n gone)
+closed_alike s behind q t n a r (filled alive full leaves) = filled alive full leaves
 
 -- a part that was handed back
 pub handed_back : (pre : Condition) (run : Run) (s : WriterState) (n : ℕ) (g : MutBor SliceWriter) (a : Result (Unit {0}) Error) (q : MutBor SliceWriter)
@@ -121,8 +139,44 @@ ran_over pre run s t n g a r q hands alive over did closes =
     let start : q.now.start ≡ length s.octets = kept.start in
     let stop : q.now.stop ≡ length s.octets + n = kept.stop in
     let size : q.now.stop - q.now.start ≡ n = omega (arith, start, stop) in
-    let ends = subst (λ x. ClosesPart x n u t a r) (same_around s u n kept alive) (subst (λ m. ClosesPart (outer_state u s.start s.stop) m u t a r) size closes) in
+    let ends = closed_alike s u.behind u t n a r (subst (λ x. ClosesPart x n u t a r) (same_around s u n kept alive) (subst (λ m. ClosesPart (outer_state u s.start s.stop) m u t a r) size closes)) in
     record { given = g; answer = a; after = q; over_part = over; ran = did; closed = ends }
+
+-- behind a part the writer is the same, and the buffer behind the part is as it was
+module _ (s q t : WriterState) (n : ℕ) (kept : Keeps (part_state s n) q) (within : length q.octets ≤ length s.octets + n) where
+  reached : length s.octets ≤ length q.octets
+  reached = omega (arith, ap length kept.before, length-take (length s.octets) q.octets)
+
+  kept_abandoned : Abandons s n q t → Keeps s t
+  kept_abandoned gone =
+      let more : length t.octets ≡ length q.octets + (length t.octets - length q.octets) = omega (arith, gone.passed, within) in
+      record {
+        start = gone.start;
+        stop = gone.stop;
+        capacity = gone.capacity;
+        reference = gone.reference;
+        before = sym (take-append-le (length s.octets) t.octets t.behind (omega (arith, gone.passed))) ∙ ap (take (length s.octets)) gone.buffer
+            ∙ take-append-le (length s.octets) q.octets q.behind reached ∙ kept.before;
+        behind = sym (drop-append_seam t.octets t.behind) ∙ ap (drop (length t.octets)) gone.buffer ∙ ap (λ k. drop k (q.octets ++ q.behind)) more
+            ∙ drop-append-add q.octets q.behind (length t.octets - length q.octets) ∙ ap (drop (length t.octets - length q.octets)) kept.behind
+            ∙ drop-drop (length t.octets - length q.octets) (length q.octets - length s.octets) s.behind ∙ ap (λ k. drop k s.behind) (omega (arith, gone.passed, within, reached));
+        fails = λ _. gone.failed;
+      }
+
+  kept_behind : (a r : Result (Unit {0}) Error) → ClosesPart s n q t a r → Keeps s t
+  kept_behind a r (handed_on e gone) = kept_abandoned gone
+  kept_behind a r (failed f gone) = kept_abandoned gone
+  kept_behind a r (unfilled alive few gone) = kept_abandoned gone
+  kept_behind a r (filled alive full leaves) =
+      subst (Keeps s) (sym leaves) (record { start = refl; stop = refl; capacity = refl; reference = refl; before = kept.before; behind = kept.behind; fails = λ failing. failing })
+
+-- so it is where a closure ran over the part
+pub kept_round : (pre : Condition) (run : Run) (s t : WriterState) (n : ℕ) (r : Result (Unit {0}) Error) → HandsBackPart pre run s n → Runs run s n r t → Keeps s t
+kept_round pre run s t n r hands did =
+    let v : SliceWriter = did.after.now in
+    let kept = handed_back pre run s n did.given did.answer did.after hands did.over_part did.ran in
+    let stop : v.stop ≡ length s.octets + n = kept.stop in
+    kept_behind s (slice_writer_state v) t n kept (omega (arith, stands_at v, v.ordered, stop)) did.answer r did.closed
 
 -- where it was not refused it filled the part
 pub fills : (run : Run) (s t : WriterState) (n : ℕ) (r : Result (Unit {0}) Error) → Runs run s n r t → OnOk r (IsFilledBy run s n t)

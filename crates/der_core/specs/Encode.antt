@@ -106,21 +106,21 @@ finished_answer t = if t.failed then Err (at Failed (writer_position t)) else Ok
 abbrev pub Begins : {E : Type 0} → List ℕ → Result (Unit {0}) E → List ℕ → Type 0
 Begins octets result buf = OnOk result (take (length octets) buf ≡ octets)
 
--- what is answered where a writer over n octets is written to
-abbrev pub FreshAnswer : WriterAnswer → ℕ → Result (Unit {0}) Error → Type 0
-FreshAnswer answers n result =
-    (reference : ℕ) × (t : WriterState) × answers (fresh_state n reference) result t
+-- what is answered where a writer over a buffer is written to
+abbrev pub FreshAnswer : WriterAnswer → List ℕ → Result (Unit {0}) Error → Type 0
+FreshAnswer answers buffer result =
+    (reference : ℕ) × (t : WriterState) × answers (fresh_state buffer reference) result t
 
 -- what is answered where a writer is finished behind an answer: that answer's error, if it is one
 abbrev pub closing_answer : Result (Unit {0}) Error → WriterState → Result (List ℕ) Error
 closing_answer (Ok _) t = finished_answer t
 closing_answer (Err e) t = Err e
 
--- what is answered where a writer over n octets is written to and finished
-abbrev pub SliceAnswer : WriterAnswer → ℕ → Result (List ℕ) Error → Type 0
-SliceAnswer answers n result =
+-- what is answered where a writer over a buffer is written to and finished
+abbrev pub SliceAnswer : WriterAnswer → List ℕ → Result (List ℕ) Error → Type 0
+SliceAnswer answers buffer result =
     (reference : ℕ) × (r : Result (Unit {0}) Error) × (t : WriterState)
-    × answers (fresh_state n reference) r t × (result ≡ closing_answer r t)
+    × answers (fresh_state buffer reference) r t × (result ≡ closing_answer r t)
 
 -- what is answered where an encoding, of this size and with these answers, is appended to so many
 -- octets: no size; more octets than a vector can have; memory refused; else what writing into that
@@ -132,8 +132,9 @@ pub data VecAnswer (size : Result Length Error) (answers : WriterAnswer) (before
       → result ≡ Err (error_of_kind Overflow) → VecAnswer size answers before result
   no_memory : (l : Length) → size ≡ Ok l → before + number l < 2 ^ 64
       → result ≡ Err (error_of_kind OutOfMemory) → VecAnswer size answers before result
-  written : (l : Length) (reference : ℕ) (r : Result (Unit {0}) Error) (t : WriterState)
-      → size ≡ Ok l → before + number l < 2 ^ 64 → answers (fresh_state (number l) reference) r t
+  written : (l : Length) (buffer : List ℕ) (reference : ℕ) (r : Result (Unit {0}) Error) (t : WriterState)
+      → size ≡ Ok l → before + number l < 2 ^ 64 → length buffer ≡ number l
+      → answers (fresh_state buffer reference) r t
       → result ≡ map_ok (λ _. definite_length (number l)) r → VecAnswer size answers before result
 
 -- an error's position, or the writer's where it has none

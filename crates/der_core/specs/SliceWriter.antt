@@ -1,5 +1,5 @@
 -- What a `SliceWriter` means.
-use Rattle.std.specs.Prelude.{◌+◌, take, length}
+use Rattle.std.specs.Prelude.{◌+◌, take, drop, length}
 use Rattle.der_core.specs.Writer.{WriterState}
 use Rattle.der_core.specs.declared.writer.slice.SliceWriter.{SliceWriter}
 
@@ -7,6 +7,7 @@ abbrev pub slice_writer_state : SliceWriter → WriterState
 slice_writer_state w =
     record {
       octets = take (w.start + w.position) w.bytes.now;
+      behind = drop (w.start + w.position) w.bytes.now;
       start = w.start;
       stop = w.stop;
       capacity = length w.bytes.now;

@@ -1,5 +1,5 @@
 -- What a writer means, and what a write answers and leaves.
-use Rattle.std.specs.Prelude.{◌≡◌, ℕ, ◌+◌, ◌-◌, ◌^◌, Bool, true, false, List, [], ◌∷◌, ◌++◌, length, take, Result, Ok, Err, OnOk, IsOk, ◌≤◌, min, nat_lt, if◌then◌else◌}
+use Rattle.std.specs.Prelude.{◌≡◌, ℕ, ◌+◌, ◌-◌, ◌^◌, Bool, true, false, List, [], ◌∷◌, ◌++◌, length, take, drop, Result, Ok, Err, OnOk, IsOk, ◌≤◌, min, nat_lt, if◌then◌else◌}
 use Rattle.der_base.specs.Length.{definite_length}
 use Rattle.der_base.specs.Error.{at}
 use Rattle.der_base.specs.declared.length.Length.{Length}
@@ -7,11 +7,13 @@ use Rattle.der_base.specs.declared.error.Error.{Error}
 use Rattle.der_base.specs.declared.error.ErrorKind.TheVariants.{Failed, Overflow, Overlength}
 
 -- What a writer means. One without a buffer begins at 0 with nothing written, stops where it takes
--- no more, and keeps any capacity and reference: these two tell a writer that is handed back from
--- another one.
+-- no more, has nothing behind, and keeps any capacity and reference: these two tell a writer that is
+-- handed back from another one.
 pub record WriterState : Type 0 where
   -- all octets written since the buffer began
   pub octets : List ℕ
+  -- what the buffer holds behind them
+  pub behind : List ℕ
   -- where the part of the buffer that may be written begins and ends
   pub start : ℕ
   pub stop : ℕ
@@ -21,14 +23,15 @@ pub record WriterState : Type 0 where
   -- which buffer it is
   pub reference : ℕ
 
--- a writer over a whole buffer of n octets, of which it takes no more than a length can count
-abbrev pub fresh_state : ℕ → ℕ → WriterState
-fresh_state n reference =
+-- a writer over a whole buffer, of which it takes no more octets than a length can count
+abbrev pub fresh_state : List ℕ → ℕ → WriterState
+fresh_state buffer reference =
     record {
       octets = [];
+      behind = buffer;
       start = 0;
-      stop = min n (2 ^ 32 - 1);
-      capacity = n;
+      stop = min (length buffer) (2 ^ 32 - 1);
+      capacity = length buffer;
       failed = false;
       reference = reference;
     }
@@ -42,18 +45,21 @@ abbrev pub writer_position : WriterState → Length
 writer_position s = definite_length (written_count s)
 
 abbrev pub appended_state : WriterState → List ℕ → WriterState
-appended_state s octets = record s { octets = s.octets ++ octets }
+appended_state s octets =
+    record s { octets = s.octets ++ octets; behind = drop (length octets) s.behind }
 
 abbrev pub failed_state : WriterState → WriterState
 failed_state s = record s { failed = true }
 
--- the same writer is handed back, not less failed, and what was written before still stands
+-- the same writer is handed back, not less failed; what was written before still stands, and the
+-- buffer behind what is written now is as it was
 pub record Keeps (s t : WriterState) : Type 0 where
   pub start : t.start ≡ s.start
   pub stop : t.stop ≡ s.stop
   pub capacity : t.capacity ≡ s.capacity
   pub reference : t.reference ≡ s.reference
   pub before : take (length s.octets) t.octets ≡ s.octets
+  pub behind : t.behind ≡ drop (length t.octets - length s.octets) s.behind
   pub fails : s.failed ≡ true → t.failed ≡ true
 
 -- where a call succeeded it appended the octets

@@ -1,6 +1,6 @@
 -- A SEQUENCE (X.690 8.9) that is written by a closure: its header, and a part of the buffer for its
 -- contents.
-use Rattle.std.specs.Prelude.{◌≡◌, ℕ, ◌+◌, ◌<◌, ◌≤◌, true, false, length, take, Result, Ok, Err, OnOk}
+use Rattle.std.specs.Prelude.{◌≡◌, ℕ, ◌+◌, ◌<◌, ◌≤◌, true, false, length, take, ◌++◌, Result, Ok, Err, OnOk}
 use Rattle.std.specs.Borrow.{MutBor}
 use Rattle.der_base.specs.Length.{definite_length}
 use Rattle.der_base.specs.Header.{header_octets}
@@ -41,15 +41,15 @@ pub record HandsBackPart (pre : Condition) (run : Run) (s : WriterState) (n : �
       → slice_writer_state p.now ≡ part_state s n → run p r q
       → Keeps (slice_writer_state p.now) (slice_writer_state q.now)
 
--- failed behind a part of n octets, of which those that were written stand
+-- failed behind a part of n octets; the buffer is as the closure left it
 pub record Abandons (s : WriterState) (n : ℕ) (q t : WriterState) : Type 0 where
   pub start : t.start ≡ s.start
   pub stop : t.stop ≡ s.stop
   pub capacity : t.capacity ≡ s.capacity
   pub reference : t.reference ≡ s.reference
   pub failed : t.failed ≡ true
-  pub behind : length t.octets ≡ length s.octets + n
-  pub stands : take (length q.octets) t.octets ≡ q.octets
+  pub passed : length t.octets ≡ length s.octets + n
+  pub buffer : t.octets ++ t.behind ≡ q.octets ++ q.behind
 
 -- what follows a closure that was handed the part, answered r and left the writer q
 pub data ClosesPart (s : WriterState) (n : ℕ) (q t : WriterState)
@@ -59,7 +59,7 @@ pub data ClosesPart (s : WriterState) (n : ℕ) (q t : WriterState)
   unfilled : q.failed ≡ false → length q.octets < length s.octets + n → Abandons s n q t
       → ClosesPart s n q t (Ok tt) (Err (at (IncorrectLength Sequence) (definite_length (written_count s + n))))
   filled : q.failed ≡ false → length q.octets ≡ length s.octets + n
-      → t ≡ record s { octets = q.octets } → ClosesPart s n q t (Ok tt) (Ok tt)
+      → t ≡ record s { octets = q.octets; behind = q.behind } → ClosesPart s n q t (Ok tt) (Ok tt)
 
 -- the closure ran over the part, and the answer is as it follows
 pub record Runs (run : Run) (s : WriterState) (n : ℕ) (result : Result (Unit {0}) Error)
@@ -79,7 +79,8 @@ pub record IsFilledBy (run : Run) (s : WriterState) (n : ℕ) (t : WriterState) 
   pub ran : run given (Ok tt) after
   pub working : (slice_writer_state after.now).failed ≡ false
   pub full : length (slice_writer_state after.now).octets ≡ length s.octets + n
-  pub leaves : t ≡ record s { octets = (slice_writer_state after.now).octets }
+  pub leaves : t ≡ record s {
+      octets = (slice_writer_state after.now).octets; behind = (slice_writer_state after.now).behind }
 
 -- where the closure's call succeeded it filled the part
 abbrev pub Fills : Run → WriterState → ℕ → Result (Unit {0}) Error → WriterState → Type 0

@@ -56,7 +56,7 @@ pub trait Encode {
         ensures ok { IfOk result (λ r. r.now ≡ Self.encoding self.now) }
         ensures succeeds { Self.encodable self.now
             → FitsInto (Self.encoding self.now) (length buf.old) result }
-        ensures exact { SliceAnswer (Self.answers self.now) (length buf.old)
+        ensures exact { SliceAnswer (Self.answers self.now) buf.old
             (map_ok (λ r. r.now) result) }
     {
         let mut writer = SliceWriter::new(buf);

@@ -125,7 +125,7 @@ pub fn encode_value_to_slice<'a, T: EncodeValue>(
     ensures ok { IfOk result (λ r. r.now ≡ T.contents value.now) }
     ensures succeeds { T.writable value.now
         → FitsInto (T.contents value.now) (length buf.old) result }
-    ensures exact { SliceAnswer (T.value_answers value.now) (length buf.old)
+    ensures exact { SliceAnswer (T.value_answers value.now) buf.old
         (map_ok (λ r. r.now) result) }
 {
     let mut writer = SliceWriter::new(buf);

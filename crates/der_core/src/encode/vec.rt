@@ -58,7 +58,7 @@ fn fill<T: Encode>(value: &T, buf: &mut [u8]) -> Result<(), Error>
     ensures ok { Begins (T.encoding value.now) result buf.new }
     ensures succeeds { T.encodable value.now
         → FitsInto (T.encoding value.now) (length buf.old) result }
-    ensures exact { FreshAnswer (T.answers value.now) (length buf.old) result }
+    ensures exact { FreshAnswer (T.answers value.now) buf.old result }
 {
     let mut writer = SliceWriter::new(buf);
     value.encode(&mut writer)

@@ -34,7 +34,7 @@ impl<'a> SliceWriter<'a> {
 
     /// A writer into these octets, at their beginning.
     pub fn new(bytes: &'a mut [u8]) -> Self
-        ensures { slice_writer_state result ≡ fresh_state (length bytes.old) bytes.entry.ghost_name }
+        ensures { slice_writer_state result ≡ fresh_state bytes.old bytes.entry.ghost_name }
     {
         let stop = bytes.len().min(u32::MAX as usize);
         SliceWriter {
@@ -188,9 +188,7 @@ impl<'a> SliceWriter<'a> {
         requires behind { self.old.stop ≤ stop }
         requires within { stop ≤ length self.old.bytes.now }
         requires countable { stop < start + 2 ^ 32 }
-        ensures kept { Keeps (outer_state (slice_writer_state self.old) start stop)
-            (slice_writer_state self.new) }
-        ensures exact { ClosesPart (outer_state (slice_writer_state self.old) start stop)
+        ensures { ClosesPart (outer_state (slice_writer_state self.old) start stop)
             (self.old.stop - self.old.start) (slice_writer_state self.old)
             (slice_writer_state self.new) answer result }
     {

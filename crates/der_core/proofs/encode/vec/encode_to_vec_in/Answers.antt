@@ -1,8 +1,7 @@
-use Rattle.std.proofs.Common.{arith, ◌≡◌, ◌-◌, ℕ, List, length, take, length-drop, drop, Ok, Err, sym, subst, ap, ◌∙◌, refl}
+use Rattle.std.proofs.Common.{arith, ◌≡◌, ◌-◌, ℕ, List, length, take, length-drop, drop, Ok, Err, sym, ap, ◌∙◌, refl}
 use Rattle.std.proofs.lemmas.List.{take_rest}
 use Rattle.std.proofs.lemmas.Result.{err_from_is_err_and}
 use Rattle.der_base.specs.Length.{number, definite_length}
-use Rattle.der_core.specs.Writer.{fresh_state}
 use Rattle.der_core.specs.Encode.{no_size, no_memory, written}
 use Rattle.der_core.proofs.encode.vec.encode_to_vec_in.Goals as goal
 
@@ -28,7 +27,7 @@ returns-in-Err-fill-clause-exact g c =
     let len = c.deref_mut.ensures.len in
     let size = c.in-Ok.ensures.len in
     let room : length (take (length d - c.len-before.result) (drop c.len-before.result d)) ≡ number c.in_ok-encoded_len.field-0 = ap length (take_rest d c.len-before.result) ∙ length-drop c.len-before.result d ∙ omega (arith, len, size, s.1, f) in
-    written c.in_ok-encoded_len.field-0 x.0 (Err c.in-Err-fill.error) x.1 (sym c.in_ok-encoded_len.ensures.exact) (omega (arith, s.0, f, b)) (subst (λ n. g.T.Encode.answers c.args.value.now (fresh_state n x.0) (Err c.in-Err-fill.error) x.1) room x.2) refl
+    written c.in_ok-encoded_len.field-0 _ x.0 (Err c.in-Err-fill.error) x.1 (sym c.in_ok-encoded_len.ensures.exact) (omega (arith, s.0, f, b)) room x.2 refl
 
 pub returns-in-Ok-fill-clause-exact : goal.returns-in-Ok-fill-clause-exact
 returns-in-Ok-fill-clause-exact g c =
@@ -40,5 +39,5 @@ returns-in-Ok-fill-clause-exact g c =
     let len = c.deref_mut.ensures.len in
     let size = c.in-Ok.ensures.len in
     let room : length (take (length d - c.len-before.result) (drop c.len-before.result d)) ≡ number c.in_ok-encoded_len.field-0 = ap length (take_rest d c.len-before.result) ∙ length-drop c.len-before.result d ∙ omega (arith, len, size, s.1, f) in
-    written c.in_ok-encoded_len.field-0 x.0 (Ok tt) x.1 (sym c.in_ok-encoded_len.ensures.exact) (omega (arith, s.0, f, b)) (subst (λ n. g.T.Encode.answers c.args.value.now (fresh_state n x.0) (Ok tt) x.1) room x.2)
+    written c.in_ok-encoded_len.field-0 _ x.0 (Ok tt) x.1 (sym c.in_ok-encoded_len.ensures.exact) (omega (arith, s.0, f, b)) room x.2
     (ap Ok (c.new.ensures ∙ ap definite_length f))

@@ -1,9 +1,24 @@
-use Rattle.std.proofs.Common.{arith, ℕ, ◌-◌, ◌∙◌, ap, take, drop, w32}
+use Rattle.std.proofs.Common.{arith, ℕ, ◌-◌, ◌∙◌, [], ◌∷◌, sym, subst, ap, take, drop, w32}
 use Rattle.std.specs.Int.{to_be_bytes}
 use Rattle.std.proofs.lemmas.List.{take_rest}
 use Rattle.der_base.specs.Length.{number}
-use Rattle.der_core.proofs.EncodeLemmas.{length_appended, length_outcome_of}
+use Rattle.der_core.specs.Writer.{Appends, Writes, write_pieces}
+use Rattle.der_core.specs.Encode.{first_and_others}
+use Rattle.der_core.proofs.EncodeLemmas.{one_octet, one_piece, length_appended, length_outcome_of}
 use Rattle.der_core.proofs.length.LengthEncode.encode.Goals as goal
+
+pub returns-then-digits-eq0-clause-ok : goal.returns-then-digits-eq0-clause-ok
+returns-then-digits-eq0-clause-ok g c =
+    let size = c.octet_count-digits.ensures in
+    let e = one_octet c.from-number.result (number c.args.self.now) c.from-number.ensures (omega (arith, size.some, size.octets, c.if-digits-eq0.true)) in
+    subst (λ l. Appends (g.W.Writer.state c.args.writer.now) l c.write_byte.result (g.W.Writer.state c.write_byte.new.self)) (sym e) c.write_byte.ensures.ok
+
+pub returns-then-digits-eq0-clause-exact : goal.returns-then-digits-eq0-clause-exact
+returns-then-digits-eq0-clause-exact g c reliable =
+    let size = c.octet_count-digits.ensures in
+    let e = one_octet c.from-number.result (number c.args.self.now) c.from-number.ensures (omega (arith, size.some, size.octets, c.if-digits-eq0.true)) in
+    subst (λ l. Writes (write_pieces (first_and_others l) (g.W.Writer.state c.args.writer.now)) c.write_byte.result (g.W.Writer.state c.write_byte.new.self)) (sym e)
+    (one_piece (c.from-number.result ∷ []) (g.W.Writer.state c.args.writer.now) _ _ (c.write_byte.ensures.exact reliable))
 
 pub returns-clause-ok : goal.returns-clause-ok
 returns-clause-ok g c =

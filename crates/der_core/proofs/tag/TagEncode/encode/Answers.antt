@@ -21,7 +21,7 @@ returns-clause-succeeds g c can small alive room =
     let spelled = tag_spelled c.args.self.now x n c.first_octet_of-2.ensures c.number-number.ensures (omega (arith, c.if-number-lt31.false)) in
     let size = ap length spelled in
     let sum = length-append (high_digits (n / 128)) (n % 128 ∷ []) in
-    let first = room_then (x ∷ []) (length (high_digits (n / 128)) + 1) _ _ c.in_ok-write_byte.ensures.ok alive (omega (arith, room, size, sum)) in
+    let first = room_then (x ∷ []) (length (high_digits (n / 128)) + 1) (g.W.Writer.state c.args.writer.now) (g.W.Writer.state c.write_byte-2.new.self) c.in_ok-write_byte.ensures.ok alive (omega (arith, room, size, sum)) in
     let more = room_then (high_digits (n / 128)) 1 _ _ c.in_ok-encode_high_digits.ensures.ok first.0 first.1 in
     c.write_byte-3.ensures.succeeds more.0 more.1
 
@@ -41,7 +41,7 @@ returns-in_err-encode_high_digits-clause-succeeds g c can small alive room =
     let spelled = tag_spelled c.args.self.now x n c.first_octet_of-2.ensures c.number-number.ensures (omega (arith, c.if-number-lt31.false)) in
     let size = ap length spelled in
     let sum = length-append (high_digits (n / 128)) (n % 128 ∷ []) in
-    let first = room_then (x ∷ []) (length (high_digits (n / 128))) _ _ c.in_ok-write_byte.ensures.ok alive (omega (arith, room, size, sum)) in
+    let first = room_then (x ∷ []) (length (high_digits (n / 128))) (g.W.Writer.state c.args.writer.now) (g.W.Writer.state c.write_byte-2.new.self) c.in_ok-write_byte.ensures.ok alive (omega (arith, room, size, sum)) in
     let p = err_from_is_err_and c.from_residual-in_err-encode_high_digits.result c.from_residual-in_err-encode_high_digits.ensures.1 in
     rw (p.1) (c.in_err-encode_high_digits.ensures.succeeds first.0 first.1)
 

@@ -4,23 +4,23 @@ use Rattle.der_base.specs.declared.error.ErrorKind.TheVariants.{Failed}
 use Rattle.der_core.proofs.WriterLemmas.{closed_refused, closed_failed, closed_unfilled, closed_filled}
 use Rattle.der_core.proofs.writer.slice.SliceWriter.close_part.Goals as goal
 
-pub returns-in-Err-clause-exact : goal.returns-in-Err-clause-exact
-returns-in-Err-clause-exact c =
+pub returns-in-Err : goal.returns-in-Err
+returns-in-Err c =
     let r = c.requires in
     closed_refused c.args.self.now c.args.start c.args.stop r.before r.behind r.within c.args.answer c.in-Err.error c.in-Err.is
 
-pub returns-then-self-clause-exact : goal.returns-then-self-clause-exact
-returns-then-self-clause-exact c =
+pub returns-then-self : goal.returns-then-self
+returns-then-self c =
     let r = c.requires in
     closed_failed c.args.self.now c.args.start c.args.stop r.before r.behind r.within c.args.answer c.at.result c.in-Ok.is c.if-self.true (c.at.ensures ∙ ap (at Failed) c.new.ensures)
 
-pub returns-then-filled-count-clause-exact : goal.returns-then-filled-count-clause-exact
-returns-then-filled-count-clause-exact c =
+pub returns-then-filled-count : goal.returns-then-filled-count
+returns-then-filled-count c =
     let r = c.requires in
     closed_unfilled c.args.self.now c.args.start c.args.stop r.before r.behind r.within c.args.answer c.error.result c.length_error.result _ c.in-Ok.is c.if-self.false
     (omega (arith, c.if-filled-count.true)) c.length_error.ensures c.error.ensures.at_position c.error.ensures.failed
 
-pub returns-else-filled-count-clause-exact : goal.returns-else-filled-count-clause-exact
-returns-else-filled-count-clause-exact c =
+pub returns-else-filled-count : goal.returns-else-filled-count
+returns-else-filled-count c =
     let r = c.requires in
     closed_filled c.args.self.now c.args.start c.args.stop r.before r.behind r.within c.args.answer c.in-Ok.is c.if-self.false (omega (arith, c.if-filled-count.false))
