@@ -7,9 +7,9 @@ pub mod slice;
 use der_base::Error;
 pub use slice::SliceWriter;
 
-/// A writer of octets: what was written, how much room there is, and whether it has failed. A
-/// writer without a buffer begins with a `start` of 0, takes what it likes as `stop`, and keeps any
-/// `capacity` and `reference`, as long as they stay.
+/// A writer of octets: what was written, what stands behind it, how much room there is, and whether
+/// it has failed. A writer without a buffer begins with a `start` of 0, takes what it likes as
+/// `stop`, has nothing `behind`, and keeps any `capacity` and `reference`, as long as they stay.
 ///
 /// A writer that has not failed takes every write that fits into its room. One that is reliable
 /// refuses exactly as the table of a call says; a writer that vows nothing counts as failed.

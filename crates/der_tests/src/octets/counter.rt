@@ -1,5 +1,5 @@
 //! A writer that counts its writes, through which the generic calls run a second time.
-ghost use Rattle.std.specs.Prelude.{true, false};
+ghost use Rattle.std.specs.Prelude.{true, false, []};
 
 use super::month::Month;
 use super::*;
@@ -16,6 +16,7 @@ impl Writer for Counter {
     // it vows nothing of the memory that is left, and so counts as failed
     ghost state = { λ w. record {
       octets = w.octets.items;
+      behind = [];
       start = 0;
       stop = 0;
       capacity = 0;

@@ -1,7 +1,8 @@
 //! What a writer into a slice takes, and what it refuses.
 use super::*;
+use super::month::Month;
 use crate::checks::{holds, same};
-use der_core::{Encode, SliceWriter, Writer};
+use der_core::{Encode, SliceWriter, Writer, encode_value_to_slice};
 
 #[test]
 fn octets_are_written_to_the_end_of_the_room(rt: HostRuntime) -> Result<(), Fail> {
@@ -96,4 +97,38 @@ fn headers_for_which_there_is_no_room(rt: HostRuntime) {
         &rt,
         matches!(writer.finish(), Err(error) if error == failed),
     );
+}
+
+#[test]
+fn what_stands_behind_is_left(rt: HostRuntime) -> Result<(), Fail> {
+    let mut buf = [0xEE; 7];
+    let mut writer = SliceWriter::new(&mut buf);
+    same(&rt, writer.write(&[0x01]), Ok(()));
+    same(
+        &rt,
+        writer.sequence(Length::ONE, |w| w.write_byte(0x07)),
+        Ok(()),
+    );
+    same(&rt, writer.encode(&Tag::Null), Ok(()));
+    same(
+        &rt,
+        buf.as_slice(),
+        [0x01, 0x30, 0x01, 0x07, 0x05, 0xEE, 0xEE].as_slice(),
+    );
+
+    let mut buf = [0xEE; 3];
+    same(
+        &rt,
+        Tag::Null.encode_to_slice(&mut buf)?,
+        [0x05].as_slice(),
+    );
+    same(&rt, buf.as_slice(), [0x05, 0xEE, 0xEE].as_slice());
+    let month = Month { number: 9 };
+    same(
+        &rt,
+        encode_value_to_slice(&mut buf, &month)?,
+        [0x09].as_slice(),
+    );
+    same(&rt, buf.as_slice(), [0x09, 0xEE, 0xEE].as_slice());
+    Ok(())
 }
