@@ -72,17 +72,17 @@ enter_nested_outcome n s =
     else if nat_lt s.depth 64 then outcome_of (Ok (s.end, s.depth)) (nested_state s n)
     else outcome_of (Err (at NestingDepth (reader_position s))) (stopped_state s s.position)
 
--- octets in memory of their own: as they are lent, or memory is refused and the reader unchanged
+-- octets in memory of their own: refused as they are lent, or where they are there memory is refused
+-- and the reader unchanged
+abbrev pub VecRefused : ℕ → ReaderState → Error → ReaderState → Type 0
+VecRefused n s e t =
+    Gives (read_slice_outcome n) s (Err e) t
+    ⊎ ((e ≡ error_of_kind OutOfMemory) × (t ≡ s) × IsOk (read_slice_outcome n s).answer)
+
+-- they are answered as they are lent; a reliable reader refuses them only so
 abbrev pub VecMeets : Bool → ℕ → ReaderState → Result (List ℕ) Error → ReaderState → Type 0
 VecMeets reliable n s (Ok octets) t = Gives (read_slice_outcome n) s (Ok octets) t
-VecMeets reliable n s (Err e) t =
-    reliable ≡ true → Gives (read_slice_outcome n) s (Err e) t ⊎ ((e ≡ error_of_kind OutOfMemory) × (t ≡ s))
-
--- memory is asked for only where the octets are there
-abbrev pub VecGives : ℕ → ReaderState → Result (List ℕ) Error → ReaderState → Type 0
-VecGives n s answer t =
-    Gives (read_slice_outcome n) s answer t
-    ⊎ ((answer ≡ Err (error_of_kind OutOfMemory)) × (t ≡ s) × IsOk (read_slice_outcome n s).answer)
+VecMeets reliable n s (Err e) t = reliable ≡ true → VecRefused n s e t
 
 -- refused with this kind where the reader stands, which is then failed
 abbrev pub kind_outcome : (A : Type 0) → ErrorKind → ReaderState → Outcome A

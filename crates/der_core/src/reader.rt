@@ -18,7 +18,7 @@ use der_base::{EncodingRules, Error, ErrorKind, Length};
 pub use extension::ReaderExt;
 pub use position::{Position, Resumption};
 pub use slice::SliceReader;
-use std::alloc::Global;
+use std::alloc::{Allocator, Global};
 pub use value::{close_value, read_eoc, read_value};
 
 /// Octets that a reader has lent.
@@ -115,12 +115,22 @@ pub trait Reader: Sized + Drop {
     fn fork(&self) -> Self
         ensures { state result ≡ state self.now };
 
-    /// The next `len` octets in memory of their own; refused as [`Reader::read_slice`] is, or by
-    /// `OutOfMemory` without a position, the reader unchanged.
-    fn read_vec(&mut self, alloc: Global, len: Length) -> Result<Vec<u8>, Error>
+    /// The next `len` octets in memory of this allocator; refused as [`Reader::read_slice`] is, or
+    /// by `OutOfMemory` without a position, the reader unchanged. A reliable reader asks for memory
+    /// only once the octets are known to be there.
+    fn read_vec_in<A: Allocator>(&mut self, alloc: A, len: Length) -> Result<Vec<u8, A>, Error>
         ensures same { Same (state self.old) (state self.new) }
         ensures exact { VecMeets reliable (number len) (state self.old) (map_ok (λ v. v.items) result)
             (state self.new) };
+
+    /// The same in memory of the global allocator.
+    final fn read_vec(&mut self, alloc: Global, len: Length) -> Result<Vec<u8>, Error>
+        ensures same { Same (Self.state self.old) (Self.state self.new) }
+        ensures exact { VecMeets Self.reliable (number len) (Self.state self.old)
+            (map_ok (λ v. v.items) result) (Self.state self.new) }
+    {
+        self.read_vec_in(alloc, len)
+    }
 
     /// Passes so many octets. An unflagged zero passes none, also on a failed reader. Where fewer
     /// are left, whole steps of sixteen of them are passed, and then the next step is refused.

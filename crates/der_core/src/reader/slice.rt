@@ -4,7 +4,7 @@ ghost use Rattle.std.specs.Prelude.{◌≡◌, ◌+◌, ◌^◌, ◌<◌, ◌≤
 use crate::reader::position::MAX_DEPTH;
 use crate::reader::{Reader, Resumption};
 use der_base::{EncodingRules, Error, ErrorKind, Length};
-use std::alloc::{Allocator, Global};
+use std::alloc::Allocator;
 
 // how many octets `drain` passes in one step
 const STEP: u32 = 16;
@@ -42,9 +42,7 @@ impl<'a> SliceReader<'a> {
     ghost use Rattle.der_base.specs.declared.error.ErrorKind.TheVariants.{Failed, Overflow};
     ghost use Rattle.der_base.specs.declared.encoding_rules.EncodingRules.TheVariants.{Der};
     ghost use Rattle.der_base.specs.Length.{number};
-    ghost use Rattle.der_core.specs.ReaderState.{initial_state, reader_position, state_after, Same};
-    ghost use Rattle.der_core.specs.Outcome.{map_ok};
-    ghost use Rattle.der_core.specs.Reader.{VecGives};
+    ghost use Rattle.der_core.specs.ReaderState.{initial_state, reader_position, state_after};
     ghost use Rattle.der_core.specs.SliceReader.{slice_state};
 
     /// A reader of these octets under the Distinguished Encoding Rules, at their beginning;
@@ -63,24 +61,6 @@ impl<'a> SliceReader<'a> {
             depth: 0,
             failed: false,
         })
-    }
-
-    /// The next octets, in memory of this allocator; otherwise as [`Reader::read_vec`]. Memory is
-    /// asked for once the octets are there.
-    pub fn read_vec_in<A: Allocator>(&mut self, alloc: A, len: Length) -> Result<Vec<u8, A>, Error>
-        ensures same { Same (slice_state self.old) (slice_state self.new) }
-        ensures gives { VecGives (number len) (slice_state self.old) (map_ok (λ v. v.items) result)
-            (slice_state self.new) }
-    {
-        let before = self.position;
-        let octets = self.read_slice(len)?;
-        match octets.to_vec(alloc) {
-            Ok(copy) => Ok(copy),
-            Err(_) => {
-                self.position = before;
-                Err(ErrorKind::OutOfMemory.to_error())
-            }
-        }
     }
 
     // the error of a reader that has failed
@@ -113,10 +93,6 @@ impl<'a> SliceReader<'a> {
 
 impl<'a> Reader for SliceReader<'a> {
     ghost use Rattle.std.proofs.Common.{rules};
-    ghost use Rattle.der_base.specs.Length.{number};
-    ghost use Rattle.der_core.specs.ReaderState.{Same};
-    ghost use Rattle.der_core.specs.Outcome.{map_ok};
-    ghost use Rattle.der_core.specs.Reader.{VecGives, VecMeets};
     ghost use Rattle.der_core.specs.SliceReader.{slice_state};
 
     type Lent = &'a [u8];
@@ -199,15 +175,16 @@ impl<'a> Reader for SliceReader<'a> {
         }
     }
 
-    /// Memory is asked for only once the octets are known to be there.
-    fn read_vec(&mut self, alloc: Global, len: Length) -> Result<Vec<u8>, Error>
-        ensures same { Same (slice_state self.old) (slice_state self.new) }
-        ensures exact { VecMeets true (number len) (slice_state self.old)
-            (map_ok (λ v. v.items) result) (slice_state self.new) }
-        ensures gives { VecGives (number len) (slice_state self.old) (map_ok (λ v. v.items) result)
-            (slice_state self.new) }
-    {
-        self.read_vec_in(alloc, len)
+    fn read_vec_in<A: Allocator>(&mut self, alloc: A, len: Length) -> Result<Vec<u8, A>, Error> {
+        let before = self.position;
+        let octets = self.read_slice(len)?;
+        match octets.to_vec(alloc) {
+            Ok(copy) => Ok(copy),
+            Err(_) => {
+                self.position = before;
+                Err(ErrorKind::OutOfMemory.to_error())
+            }
+        }
     }
 
     fn drain(&mut self, amount: Length) -> Result<(), Error> {

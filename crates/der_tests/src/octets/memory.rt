@@ -1,8 +1,10 @@
 //! Memory that is refused.
+use super::unlent::make_unlent;
 use super::*;
 use crate::checks::{holds, holds_at, same, same_at};
 use der_core::{encode_to_vec_in, to_der_in};
 use linked_list_allocator::LocalHeap;
+use std::process::Abort;
 use std::test::Fail;
 
 const SIZES: [usize; 8] = [32, 48, 64, 80, 96, 128, 160, 256];
@@ -61,29 +63,35 @@ fn a_vector_that_cannot_grow_is_as_before(rt: HostRuntime) -> Result<(), Fail> {
     Ok(())
 }
 
+// Copies sixty octets, and says whether there was memory; where it is refused the reader stays.
+fn copy_sixty<R: Reader>(rt: &impl Abort, heap: &LocalHeap, mut reader: R, size: usize) -> bool {
+    match reader.read_vec_in(heap, Length::new(60)) {
+        Ok(copy) => {
+            same_at(rt, size, copy.as_slice(), [0x07u8; 60].as_slice());
+            same_at(rt, size, reader.position(), Length::new(60));
+            true
+        }
+        Err(error) => {
+            same_at(rt, size, error, ErrorKind::OutOfMemory.to_error());
+            same_at(rt, size, reader.position(), Length::ZERO);
+            holds_at(rt, size, !reader.is_failed());
+            false
+        }
+    }
+}
+
 #[test]
 fn a_refused_copy_leaves_the_reader(rt: HostRuntime) -> Result<(), Fail> {
     let octets = [0x07u8; 60];
-    let (mut refused, mut copied) = (0u8, 0u8);
+    let (mut lent, mut filled) = ([false, false], [false, false]);
     for size in SIZES {
         let heap = LocalHeap::new(rt.alloc(), size)?;
-        let mut reader = SliceReader::new(&octets)?;
-        match reader.read_vec_in(&heap, Length::new(60)) {
-            Ok(copy) => {
-                same_at(&rt, size, copy.as_slice(), octets.as_slice());
-                same_at(&rt, size, reader.position(), Length::new(60));
-                copied = copied.wrapping_add(1);
-            }
-            Err(error) => {
-                same_at(&rt, size, error, ErrorKind::OutOfMemory.to_error());
-                same_at(&rt, size, reader.position(), Length::ZERO);
-                holds_at(&rt, size, !reader.is_failed());
-                refused = refused.wrapping_add(1);
-            }
-        }
+        lent[copy_sixty(&rt, &heap, SliceReader::new(&octets)?, size) as usize] = true;
+        filled[copy_sixty(&rt, &heap, make_unlent(&octets)?, size) as usize] = true;
         same_at(&rt, size, heap.used(), 0);
     }
-    holds(&rt, refused > 0);
-    holds(&rt, copied > 0);
+    // each was refused once and copied once
+    same(&rt, lent, [true, true]);
+    same(&rt, filled, [true, true]);
     Ok(())
 }

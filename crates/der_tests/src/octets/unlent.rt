@@ -7,6 +7,7 @@ use super::*;
 use crate::checks::{holds, same};
 use der_base::EncodingRules;
 use der_core::{Resumption, read_eoc};
+use std::alloc::Allocator;
 
 #[derive(Drop)]
 pub struct Unlent<'a> {
@@ -70,8 +71,8 @@ impl<'a> Reader for Unlent<'a> {
         }
     }
 
-    fn read_vec(&mut self, alloc: Global, len: Length) -> Result<Vec<u8>, Error> {
-        self.inner.read_vec(alloc, len)
+    fn read_vec_in<A: Allocator>(&mut self, alloc: A, len: Length) -> Result<Vec<u8, A>, Error> {
+        self.inner.read_vec_in(alloc, len)
     }
 
     fn drain(&mut self, amount: Length) -> Result<(), Error> {
