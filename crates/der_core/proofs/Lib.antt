@@ -8,3 +8,4 @@ pub mod DecodeLemmas
 pub mod NestedLemmas
 pub mod PeekLemmas
 pub mod EndMarkLemmas
+pub mod CompareLemmas

@@ -5,6 +5,7 @@
 //! grammar of ITU-T X.690 stands in the crate `der_base`.
 #![tactic(auto)]
 
+mod comparisons;
 pub mod decode;
 pub mod encode;
 pub mod encode_ref;

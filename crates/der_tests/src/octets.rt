@@ -8,6 +8,7 @@ use std::alloc::Global;
 use std::test::Fail;
 
 mod ahead;
+mod constants;
 mod counter;
 mod depth;
 mod encoding;

@@ -142,6 +142,19 @@ fn positions_in_a_part(rt: HostRuntime) -> Result<(), Fail> {
 }
 
 #[test]
+fn a_clone_of_a_position(rt: HostRuntime) -> Result<(), Fail> {
+    let mut position = Position::new(Length::new(42));
+    same(&rt, position.advance(Length::new(2)), Ok(Length::new(2)));
+    position.split_nested(Length::new(10))?;
+    let clone = position.clone()?;
+    same(&rt, position.advance(Length::ONE), Ok(Length::new(3)));
+    same(&rt, clone.current(), Length::new(2));
+    same(&rt, clone.input_len(), Length::new(12));
+    same(&rt, clone.depth(), 1);
+    Ok(())
+}
+
+#[test]
 fn a_part_past_the_end_of_a_position(rt: HostRuntime) -> Result<(), Fail> {
     let mut position = Position::new(Length::new(42));
     same(&rt, position.advance(Length::ONE), Ok(Length::ONE));

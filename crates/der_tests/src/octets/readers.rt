@@ -10,8 +10,6 @@ fn a_new_reader(rt: HostRuntime) -> Result<(), Fail> {
     same(&rt, reader.input_len(), Length::new(2));
     same(&rt, reader.position(), Length::ZERO);
     holds(&rt, !reader.is_failed());
-    holds(&rt, SliceReader::can_lend());
-    holds(&rt, SliceReader::CAN_READ_SLICE);
     Ok(())
 }
 

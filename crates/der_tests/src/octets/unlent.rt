@@ -138,7 +138,6 @@ fn nothing_is_lent(rt: HostRuntime) -> Result<(), Fail> {
     let octets = [0x05, 0x00];
     let mut reader = make_unlent(&octets)?;
     let refused = ErrorKind::Reader.at(Length::ZERO);
-    holds(&rt, !Unlent::can_lend());
     same(&rt, reader.tlv_bytes().err(), Some(refused));
     same(&rt, reader.read_slice(Length::ONE).err(), Some(refused));
     same(&rt, reader.remaining().err(), Some(refused));

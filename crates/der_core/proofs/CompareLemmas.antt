@@ -1,0 +1,79 @@
+-- What the derived equalities of tags and headers answer.
+use Rattle.std.proofs.Common.{◌≡◌, ◌↔◌, Bool, true, false, ◌&&◌, IsTrue, List, [], ◌∷◌, refl, sym, ap, ◌∙◌, subst, inl, inr, rules}
+use Rattle.std.specs.Cmp.{first_so, second_so}
+use denote.Enum.Compared.{Each, by}
+use denote.Enum.Declared.{Choice}
+use denote.Struct.Field.{Field}
+use denote.Struct.Values.{Values}
+use Rattle.der_base.specs.contracts.tag.Tag.{enum}
+use Rattle.der_base.specs.contracts.tag.TagPartialEq.TheImpl as tag
+use Rattle.der_base.specs.declared.tag.Tag.{Tag}
+use Rattle.der_core.specs.contracts.header.HeaderPartialEq.TheImpl as header
+use Rattle.der_base.specs.Header.{Head, head}
+use Rattle.der_base.specs.contracts.length.LengthPartialEq.TheImpl as length
+use Rattle.der_base.specs.declared.length.Length.{Length}
+use Rattle.std.specs.contracts.prelude.BoolPartialEq.TheImpl as bool
+use Rattle.der_core.specs.Header.{head_of}
+use Rattle.der_core.specs.declared.header.Header.{Header}
+
+-- at each variant, two values of it are told equal where they are
+abbrev IsFaithful : (parts : List (List Field)) → Each Bool parts → Type 0
+IsFaithful [] each = Unit {0}
+IsFaithful (part ∷ parts) each =
+    ((x y : Values part) → each.0 x y ≡ true → x ≡ y) × ((x : Values part) → each.0 x x ≡ true) × IsFaithful parts each.1
+
+-- so two values of the type are
+same_values : (parts : List (List Field)) (each : Each Bool parts) → IsFaithful parts each → (c d : Choice parts) → by false false parts each c d ≡ true → c ≡ d
+same_values [] each all c d e = absurd c
+same_values (part ∷ parts) each all (inl x) (inl y) e = ap inl (all.0 x y e)
+same_values (part ∷ parts) each all (inl x) (inr d) e = absurd cc
+same_values (part ∷ parts) each all (inr c) (inl y) e = absurd cc
+same_values (part ∷ parts) each all (inr c) (inr d) e = ap inr (same_values parts each.1 all.2 c d e)
+
+values_same : (parts : List (List Field)) (each : Each Bool parts) → IsFaithful parts each → (c : Choice parts) → by false false parts each c c ≡ true
+values_same [] each all c = absurd c
+values_same (part ∷ parts) each all (inl x) = all.1 x
+values_same (part ∷ parts) each all (inr c) = values_same parts each.1 all.2 c
+
+tag_same : (s t : Tag) → tag.ghosts.eq s t ≡ true → s ≡ t
+tag_same s t e =
+    let same = same_values enum.parts _ (search rules) (enum.as_values s) (enum.as_values t) e in
+    cc (enum.eta s, enum.eta t)
+
+same_tag : (t : Tag) → tag.ghosts.eq t t ≡ true
+same_tag t = values_same enum.parts _ (search rules) (enum.as_values t)
+
+length_same : (a b : Length) → length.ghosts.eq a b ≡ true → a ≡ b
+length_same a b e = search rules
+
+same_length : (a : Length) → length.ghosts.eq a a ≡ true
+same_length a = search rules
+
+bit_same : (a b : Bool) → bool.ghosts.eq a b ≡ true → a ≡ b
+bit_same a b e = search rules
+
+same_bit : (a : Bool) → bool.ghosts.eq a a ≡ true
+same_bit a = search rules
+
+all_told : (x y z : Bool) → x ≡ true → y ≡ true → z ≡ true → (x && (y && z)) ≡ true
+all_told x y z p q r = rw (p, q, r) refl
+
+header_same : (a b : Header) → header.ghosts.eq a b ≡ true → head_of a ≡ head_of b
+header_same a b e =
+    let more = second_so (tag.ghosts.eq a.tag b.tag) (length.ghosts.eq a.length b.length && bool.ghosts.eq a.constructed b.constructed) e in
+    let t : a.tag ≡ b.tag = tag_same a.tag b.tag (first_so _ _ e) in
+    let l : a.length ≡ b.length = length_same a.length b.length (first_so _ _ more) in
+    let bit : a.constructed ≡ b.constructed = bit_same a.constructed b.constructed (second_so (length.ghosts.eq a.length b.length) _ more) in
+    let same : head a.tag a.length a.constructed ≡ head b.tag b.length b.constructed = cc in
+    same
+
+same_header : (a b : Header) → head_of a ≡ head_of b → header.ghosts.eq a b ≡ true
+same_header a b e =
+    all_told (tag.ghosts.eq a.tag b.tag) (length.ghosts.eq a.length b.length) (bool.ghosts.eq a.constructed b.constructed)
+    (subst (λ u. tag.ghosts.eq a.tag u ≡ true) (ap (λ (h : Head). h.tag) e) (same_tag a.tag))
+    (subst (λ u. length.ghosts.eq a.length u ≡ true) (ap (λ (h : Head). h.length) e) (same_length a.length))
+    (subst (λ u. bool.ghosts.eq a.constructed u ≡ true) (ap (λ (h : Head). h.constructed) e) (same_bit a.constructed))
+
+-- two headers are told equal exactly where they say the same
+pub headers_told : (a b : Header) (told : Bool) → told ≡ header.ghosts.eq a b → IsTrue told ↔ (head_of a ≡ head_of b)
+headers_told a b told e = (λ is. header_same a b (sym e ∙ is), λ same. e ∙ same_header a b same)
