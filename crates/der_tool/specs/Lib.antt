@@ -1,3 +1,4 @@
 pub mod Command
 pub mod Text
 pub mod Answer
+pub mod Arguments

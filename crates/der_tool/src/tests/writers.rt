@@ -92,7 +92,7 @@ fn a_writer_that_takes_nothing_is_status_1(rt: HostRuntime) -> Result<(), Fail> 
 
 /// Counts the octets.
 #[derive(Drop)]
-struct Tally(usize);
+pub struct Tally(pub usize);
 
 impl Output for Tally {
     ghost contents = { λ _. None };
