@@ -2,7 +2,7 @@
 use Rattle.std.proofs.Common.{◌≡◌, ◌≢◌, ℕ, suc, ◌+◌, ◌≤◌, Bool, List, ◌∷◌, ◌++◌, length, refl, sym, ap, ◌∙◌, append_assoc, length-append, arith, lit≤}
 use Rattle.der_base.specs.Length.{length_octets}
 use Rattle.der_base.specs.Tag.{IsIdentifier}
-use Rattle.der_base.specs.Body.{IsLevel, Item, Body, Items, Open, definite, indefinite, ends, more, none, then_item, first, deeper}
+use Rattle.der_base.specs.Body.{Item, Body, Items, Open, definite, indefinite, ends, more, none, then_item, first, deeper}
 use Rattle.der_base.specs.declared.tag.Tag.{Tag}
 use Rattle.der_base.specs.declared.encoding_rules.EncodingRules.TheVariants.{Ber}
 use Rattle.der_base.proofs.DigitLemmas.{same_length_front}
@@ -11,19 +11,19 @@ use Rattle.der_base.proofs.IdentifierLemmas.{identifier_begins, identifier_front
 
 -- each stands at a level
 
-pub item_level : {level parts : ℕ} {item : List ℕ} → Item level parts item → IsLevel level
+pub item_level : {level parts : ℕ} {item : List ℕ} → Item level parts item → (1 ≤ level) × (level ≤ 64)
 item_level (definite at id contents l) = at
 item_level (indefinite at id b) = at
 
-pub body_level : {level parts : ℕ} {body : List ℕ} → Body level parts body → IsLevel level
+pub body_level : {level parts : ℕ} {body : List ℕ} → Body level parts body → (1 ≤ level) × (level ≤ 64)
 body_level (ends at) = at
 body_level (more i b) = item_level i
 
-pub items_level : {level parts : ℕ} {items : List ℕ} → Items level parts items → IsLevel level
+pub items_level : {level parts : ℕ} {items : List ℕ} → Items level parts items → (1 ≤ level) × (level ≤ 64)
 items_level (none at) = at
 items_level (then_item all i) = item_level i
 
-pub open_level : {level parts : ℕ} {octets : List ℕ} → Open level parts octets → IsLevel level
+pub open_level : {level parts : ℕ} {octets : List ℕ} → Open level parts octets → (1 ≤ level) × (level ≤ 64)
 open_level (first all) = items_level all
 open_level (deeper p id all) = items_level all
 

@@ -1,5 +1,5 @@
--- The body of an indefinite length (X.690 8.1.3.6, 8.1.5). The laws name all of this; of the other
--- contracts each on a length names `Body` through `LengthAhead`, and none names `Items` or `Open` yet.
+-- The body of an indefinite length (X.690 8.1.3.6, 8.1.5). The laws name all of this. Each contract
+-- on a length names `Body` too, through `LengthAhead`; none names `Items` and `Open` yet.
 use Rattle.std.specs.Prelude.{ℕ, suc, ◌+◌, ◌^◌, ◌<◌, ◌≤◌, Bool, true, List, [], ◌∷◌, ◌++◌, length}
 use Rattle.der_base.specs.Length.{length_octets}
 use Rattle.der_base.specs.Tag.{IsIdentifier}
@@ -8,9 +8,8 @@ use Rattle.der_base.specs.declared.tag.Tag.{Tag}
 use Rattle.der_base.specs.declared.encoding_rules.EncodingRules.TheVariants.{Ber}
 
 -- bodies stand within bodies 64 deep at most: the outermost is at level 1
-pub record IsLevel (level : ℕ) : Type 0 where
-  pub least : 1 ≤ level
-  pub most : level ≤ 64
+abbrev pub IsLevel : ℕ → Type 0
+IsLevel level = (1 ≤ level) × (level ≤ 64)
 
 mutual
   -- an item at a level, and its number of identifiers and end marks: contents of a definite length

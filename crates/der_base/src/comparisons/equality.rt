@@ -9,7 +9,8 @@ use crate::tag::{Class, Tag, TagMode, TagNumber};
 
 /// The same number and the same flag.
 fn length_equality(a: Length, b: Length) -> bool
-    ensures parts { IsTrue result ↔ ((number a ≡ number b) × (is_indefinite a ≡ is_indefinite b)) }
+    ensures parts { IsTrue result
+        ↔ ((number a ≡ number b) × (is_indefinite a ≡ is_indefinite b)) }
     ensures equality { IsTrue result ↔ (a ≡ b) }
 {
     a == b

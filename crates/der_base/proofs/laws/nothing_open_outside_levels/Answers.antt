@@ -2,4 +2,4 @@ use Rattle.der_base.proofs.BodyLemmas.{open_level}
 use Rattle.der_base.proofs.laws.nothing_open_outside_levels.Goals as goal
 
 pub returns : goal.returns
-returns c = λ level parts octets h. let at = open_level h in (at.least, at.most)
+returns c = λ level parts octets h. open_level h
