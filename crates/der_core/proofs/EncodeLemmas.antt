@@ -131,7 +131,7 @@ one_octet x n e one =
     (cases_lt n 128)
 
 -- appending twice is appending both
-appended_both : (s : WriterState) (xs ys : List ℕ) → appended_state (appended_state s xs) ys ≡ appended_state s (xs ++ ys)
+pub appended_both : (s : WriterState) (xs ys : List ℕ) → appended_state (appended_state s xs) ys ≡ appended_state s (xs ++ ys)
 appended_both s xs ys =
     let octets : (s.octets ++ xs) ++ ys ≡ s.octets ++ (xs ++ ys) = append_assoc s.octets xs ys in
     let behind : drop (length ys) (drop (length xs) s.behind) ≡ drop (length (xs ++ ys)) s.behind = drop-drop (length ys) (length xs) s.behind ∙ ap (λ k. drop k s.behind) (sym (length-append xs ys)) in

@@ -15,6 +15,7 @@ use Rattle.der_core.specs.SliceWriter.{slice_writer_state}
 use Rattle.der_core.specs.Encode.{header_outcome}
 use Rattle.der_core.specs.WrittenSequence.{Condition, Run, part_state, outer_state, headed_state, HandsBackPart, Abandons, ClosesPart, handed_on, failed, unfilled, filled, IsFilledBy, Runs, PartAnswer, WritesSequence, with_header}
 use Rattle.der_core.specs.declared.writer.slice.SliceWriter.{SliceWriter}
+use Rattle.der_core.proofs.EncodeLemmas.{appended_both}
 
 -- where there is room it is granted
 pub granted : (n : ℕ) (s g t : WriterState) → Writes (room_outcome n s g) (Ok tt) t → ((room_outcome n s s).answer ≡ Ok tt) × (t ≡ g) × (s.failed ≡ false) × (length s.octets + n ≤ s.stop)
@@ -193,6 +194,15 @@ fills run s t n r did = go did.given did.after did.answer r did.over_part did.ra
 pub behind_header : (run : Run) (s t u : WriterState) (n : ℕ) (r : Result (Unit {0}) Error) → u ≡ headed_state s n → Writes (header_outcome Sequence n s) (Ok tt) u → PartAnswer run u n r t → WritesSequence run s n r t
 behind_header run s t u n r same wrote answer =
     with_header (subst (λ v. Writes (header_outcome Sequence n s) (Ok tt) v) same wrote) (subst (λ v. PartAnswer run v n r t) same answer)
+
+-- octets that fill a part behind others are appended with them
+pub filled_appends : (first octets : List ℕ) (n : ℕ) (s p q t : WriterState) → p ≡ part_state (appended_state s first) n → q ≡ appended_state p octets
+    → t ≡ record (appended_state s first) { octets = q.octets; behind = q.behind } → t ≡ appended_state s (first ++ octets)
+filled_appends first octets n s p q t over more leaves =
+    let held : q.octets ≡ (s.octets ++ first) ++ octets = ap (λ (u : WriterState). u.octets) more ∙ ap (λ (u : WriterState). u.octets ++ octets) over in
+    let behind : q.behind ≡ drop (length octets) (drop (length first) s.behind) = ap (λ (u : WriterState). u.behind) more ∙ ap (λ (u : WriterState). drop (length octets) u.behind) over in
+    let same : record (appended_state s first) { octets = q.octets; behind = q.behind } ≡ appended_state (appended_state s first) octets = cc in
+    leaves ∙ same ∙ appended_both s first octets
 
 -- there is room for so many octets
 pub room_there : (w : SliceWriter) (n : ℕ) → w.failed ≡ false → length (slice_writer_state w).octets + n ≤ w.stop

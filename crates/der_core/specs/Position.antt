@@ -39,6 +39,17 @@ advance_outcome n s =
     place_outcome (Err (at (Incomplete (definite_length (s.position + n)) (definite_length s.end)) (definite_length s.position))) s
     else place_outcome (Ok (definite_length (s.position + n))) (place_at s.end (s.position + n) s.depth)
 
+-- where a part of n octets ends
+abbrev pub part_end : ℕ → Place → Result ℕ Error
+part_end n s =
+    if not (nat_lt (s.position + n) (2 ^ 32)) then Err (error_of_kind Overflow)
+    else if nat_lt s.end (s.position + n) then Err (end_refusal s.end).error
+    else Ok (s.position + n)
+
+-- inside a part that ends there
+abbrev pub nested_place : Place → ℕ → Place
+nested_place s end = place_at end s.position (s.depth + 1)
+
 abbrev pub split_nested_outcome : ℕ → Place → PlaceOutcome (ℕ × ℕ)
 split_nested_outcome n s =
     if not (nat_lt s.depth 64) then place_outcome (Err (at NestingDepth (definite_length s.position))) s

@@ -8,9 +8,9 @@ slice_state r =
     record {
       input = r.bytes.now;
       rules = r.encoding_rules;
-      end = r.end;
-      position = r.position;
-      depth = r.depth;
+      end = r.place.end;
+      position = r.place.position;
+      depth = r.place.depth;
       failed = r.failed;
       marks = true;
     }

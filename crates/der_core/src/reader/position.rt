@@ -4,22 +4,22 @@ ghost use Rattle.std.specs.Prelude.{◌≡◌};
 use der_base::{Error, ErrorKind, Length};
 
 // how many parts may stand inside each other
-pub(crate) const MAX_DEPTH: u8 = 64;
+pub(super) const MAX_DEPTH: u8 = 64;
 
 /// A position in an input, the end up to which may be read, and how many parts stand around it.
 #[derive(Clone, Debug, Drop)]
 pub struct Position {
-    end: u32,
-    position: u32,
-    depth: u8,
+    pub(super) end: u32,
+    pub(super) position: u32,
+    pub(super) depth: u8,
 }
 
 impl Position {
-    ghost use Rattle.std.specs.Prelude.{◌-◌};
-    ghost use Rattle.der_base.specs.Error.{at};
+    ghost use Rattle.std.specs.Prelude.{◌+◌, ◌-◌, ◌<◌};
+    ghost use Rattle.der_base.specs.Error.{at, missing_refusal};
     ghost use Rattle.der_base.specs.Length.{number, definite_length};
     ghost use Rattle.der_core.specs.Outcome.{map_ok};
-    ghost use Rattle.der_core.specs.Position.{position_place, place_at, Moves, advance_outcome, split_nested_outcome};
+    ghost use Rattle.der_core.specs.Position.{position_place, place_at, Moves, advance_outcome, part_end, nested_place, split_nested_outcome};
     ghost use Rattle.der_core.specs.Resumption.{outer_place, outer_end, outer_depth};
 
     /// The beginning of an input of this length.
@@ -75,19 +75,26 @@ impl Position {
         ensures { Moves (advance_outcome (number amount)) (position_place self.old) result (position_place self.new) }
     {
         let count = u32::from(amount);
+        if count > u32::MAX - self.position || self.position + count > self.end {
+            return Err(self.missing(count));
+        }
+        self.position += count;
+        Ok(self.current())
+    }
+
+    // The error where so many octets are not there.
+    #[cold]
+    pub(super) fn missing(&self, count: u32) -> Error
+        ensures { result ≡ (missing_refusal (self.now.position + count) self.now.end
+            self.now.position).error }
+    {
         if count > u32::MAX - self.position {
-            return Err(ErrorKind::Overflow.to_error());
+            return ErrorKind::Overflow.to_error();
         }
-        let stop = self.position + count;
-        if stop > self.end {
-            let kind = ErrorKind::Incomplete {
-                expected_len: Length::new(stop),
-                actual_len: self.input_len(),
-            };
-            return Err(self.error(kind));
-        }
-        self.position = stop;
-        Ok(Length::new(stop))
+        self.error(ErrorKind::Incomplete {
+            expected_len: Length::new(self.position + count),
+            actual_len: self.input_len(),
+        })
     }
 
     /// Enters a part of `len` octets and gives what to go back to. A part inside 64 others is
@@ -97,21 +104,38 @@ impl Position {
         ensures { Moves (split_nested_outcome (number len)) (position_place self.old) (map_ok outer_place result)
             (position_place self.new) }
     {
-        let count = u32::from(len);
         if self.depth >= MAX_DEPTH {
             return Err(self.error(ErrorKind::NestingDepth));
         }
+        match self.part_end(u32::from(len)) {
+            Ok(end) => Ok(self.enter(end)),
+            Err(error) => Err(error),
+        }
+    }
+
+    // Where a part of so many octets ends.
+    pub(super) fn part_end(&self, count: u32) -> Result<u32, Error>
+        ensures { result ≡ part_end count (position_place self.now) }
+    {
         if count > u32::MAX - self.position {
             return Err(ErrorKind::Overflow.to_error());
         }
-        let stop = self.position + count;
-        if stop > self.end {
+        if self.position + count > self.end {
             return Err(Error::incomplete(self.input_len()));
         }
+        Ok(self.position + count)
+    }
+
+    // Inside a part that ends there; gives what to go back to.
+    pub(super) fn enter(&mut self, end: u32) -> Resumption
+        requires { self.old.depth < 64 }
+        ensures outer { outer_place result ≡ (self.old.end, self.old.depth) }
+        ensures inner { position_place self.new ≡ nested_place (position_place self.old) end }
+    {
         let around = Resumption::new(self.input_len(), self.depth);
-        self.end = stop;
+        self.end = end;
         self.depth += 1;
-        Ok(around)
+        around
     }
 
     /// Leaves a part: end and depth are again those around it.

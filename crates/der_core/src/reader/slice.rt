@@ -2,7 +2,7 @@
 ghost use Rattle.std.specs.Prelude.{◌≡◌, ◌+◌, ◌^◌, ◌<◌, ◌≤◌, ◌↔◌, true, length, IfOk, IfErr, IsOk};
 
 use crate::reader::position::MAX_DEPTH;
-use crate::reader::{Reader, Resumption};
+use crate::reader::{Position, Reader, Resumption};
 use der_base::{EncodingRules, Error, ErrorKind, Length};
 use std::alloc::Allocator;
 
@@ -14,14 +14,12 @@ const STEP: u32 = 16;
 pub struct SliceReader<'a> {
     bytes: &'a [u8],
     encoding_rules: EncodingRules,
-    end: u32,
-    position: u32,
-    depth: u8,
+    place: Position,
     failed: bool,
-    ghost ordered: { position ≤ end },
-    ghost in_input: { end ≤ length bytes.now },
+    ghost ordered: { place.position ≤ place.end },
+    ghost in_input: { place.end ≤ length bytes.now },
     ghost addressable: { length bytes.now < 2 ^ 32 },
-    ghost shallow: { depth ≤ 64 },
+    ghost shallow: { place.depth ≤ 64 },
 }
 
 impl Drop for SliceReader<'_> {
@@ -29,9 +27,7 @@ impl Drop for SliceReader<'_> {
         let SliceReader {
             bytes: _,
             encoding_rules: _,
-            end: _,
-            position: _,
-            depth: _,
+            place: _,
             failed: _,
         } = self;
     }
@@ -56,9 +52,7 @@ impl<'a> SliceReader<'a> {
         Ok(SliceReader {
             bytes,
             encoding_rules: EncodingRules::Der,
-            end: u32::from(len),
-            position: 0,
-            depth: 0,
+            place: Position::new(len),
             failed: false,
         })
     }
@@ -68,26 +62,20 @@ impl<'a> SliceReader<'a> {
     fn has_failed(&self) -> Error
         ensures { result ≡ at Failed (reader_position (slice_state self.now)) }
     {
-        ErrorKind::Failed.at(Length::new(self.position))
+        self.place.error(ErrorKind::Failed)
     }
 
     // so many octets are not there
     #[cold]
     fn incomplete(&mut self, count: u32) -> Error
-        ensures told { result ≡ (missing_refusal (self.old.position + count) self.old.end
-            self.old.position).error }
+        ensures told { result ≡ (missing_refusal (self.old.place.position + count)
+            self.old.place.end self.old.place.position).error }
         ensures leaves { slice_state self.new ≡ state_after (slice_state self.old)
-            (missing_refusal (self.old.position + count) self.old.end self.old.position) }
+            (missing_refusal (self.old.place.position + count) self.old.place.end
+            self.old.place.position) }
     {
-        if count > u32::MAX - self.position {
-            return ErrorKind::Overflow.to_error();
-        }
-        self.failed = true;
-        ErrorKind::Incomplete {
-            expected_len: Length::new(self.position + count),
-            actual_len: Length::new(self.end),
-        }
-        .at(Length::new(self.position))
+        self.failed = self.failed || count <= u32::MAX - self.place.position;
+        self.place.missing(count)
     }
 }
 
@@ -116,11 +104,11 @@ impl<'a> Reader for SliceReader<'a> {
     }
 
     fn input_len(&self) -> Length {
-        Length::new(self.end)
+        self.place.input_len()
     }
 
     fn position(&self) -> Length {
-        Length::new(self.position)
+        self.place.current()
     }
 
     fn is_failed(&self) -> bool {
@@ -133,11 +121,11 @@ impl<'a> Reader for SliceReader<'a> {
             return Err(self.has_failed());
         }
         let count = u32::from(len);
-        if count > self.end - self.position {
+        if count > self.place.end - self.place.position {
             return Err(self.incomplete(count));
         }
-        let start = self.position as usize;
-        self.position += count;
+        let start = self.place.position as usize;
+        self.place.position += count;
         // a sum of two `usize`, so that the compiler sees how long the slice is
         Ok(&self.bytes[start..start + count as usize])
     }
@@ -154,34 +142,36 @@ impl<'a> Reader for SliceReader<'a> {
 
     fn error(&mut self, kind: ErrorKind) -> Error {
         self.failed = true;
-        kind.at(Length::new(self.position))
+        self.place.error(kind)
     }
 
     fn remaining(&self) -> Result<&'a [u8], Error> {
         if self.failed {
             return Err(self.has_failed());
         }
-        Ok(&self.bytes[self.position as usize..self.end as usize])
+        Ok(&self.bytes[self.place.position as usize..self.place.end as usize])
     }
 
     fn fork(&self) -> Self {
         SliceReader {
             bytes: self.bytes,
             encoding_rules: self.encoding_rules,
-            end: self.end,
-            position: self.position,
-            depth: self.depth,
+            place: Position {
+                end: self.place.end,
+                position: self.place.position,
+                depth: self.place.depth,
+            },
             failed: self.failed,
         }
     }
 
     fn read_vec_in<A: Allocator>(&mut self, alloc: A, len: Length) -> Result<Vec<u8, A>, Error> {
-        let before = self.position;
+        let before = self.place.position;
         let octets = self.read_slice(len)?;
         match octets.to_vec(alloc) {
             Ok(copy) => Ok(copy),
             Err(_) => {
-                self.position = before;
+                self.place.position = before;
                 Err(ErrorKind::OutOfMemory.to_error())
             }
         }
@@ -195,13 +185,13 @@ impl<'a> Reader for SliceReader<'a> {
             return Err(self.has_failed());
         }
         let count = u32::from(amount);
-        let left = self.end - self.position;
+        let left = self.place.end - self.place.position;
         if count <= left {
-            self.position += count;
+            self.place.position += count;
             return Ok(());
         }
         let whole = left - left % STEP;
-        self.position += whole;
+        self.place.position += whole;
         Err(self.incomplete((count - whole).min(STEP)))
     }
 
@@ -209,39 +199,25 @@ impl<'a> Reader for SliceReader<'a> {
         if self.failed {
             return Err(self.has_failed());
         }
-        if self.position < self.end {
-            let position = Length::new(self.position);
-            return Err(ErrorKind::TrailingData {
-                decoded: position,
-                remaining: Length::new(self.end - self.position),
-            }
-            .at(position));
+        if self.place.position < self.place.end {
+            return Err(self.place.error(ErrorKind::TrailingData {
+                decoded: self.place.current(),
+                remaining: self.place.remaining_len(),
+            }));
         }
         Ok(())
     }
 
     fn enter_nested(&mut self, len: Length) -> Result<Resumption, Error> {
-        let count = u32::from(len);
-        let end = self.end;
-        let start = self.position;
-        if count > u32::MAX - start {
-            return Err(ErrorKind::Overflow.to_error());
+        match self.place.part_end(u32::from(len)) {
+            Err(error) => Err(error),
+            Ok(_) if self.place.depth >= MAX_DEPTH => Err(self.error(ErrorKind::NestingDepth)),
+            Ok(end) => Ok(self.place.enter(end)),
         }
-        if count > end - start {
-            return Err(Error::incomplete(Length::new(end)));
-        }
-        if self.depth >= MAX_DEPTH {
-            return Err(self.error(ErrorKind::NestingDepth));
-        }
-        let outer = Resumption::new(Length::new(end), self.depth);
-        self.end = start + count;
-        self.depth += 1;
-        Ok(outer)
     }
 
     fn leave_nested(&mut self, resumption: Resumption) {
-        self.end = u32::from(resumption.input_len());
-        self.depth = resumption.depth();
+        self.place.resume_nested(resumption);
     }
 
     ghost lawful = { λ s. record {

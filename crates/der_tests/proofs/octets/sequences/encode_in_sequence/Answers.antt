@@ -1,9 +1,12 @@
 use Rattle.std.proofs.Common.{arith, rules, ◌≡◌, ℕ, ◌+◌, ◌^◌, ◌<◌, true, false, List, length, length-append, refl, ap, ◌∙◌, Result, Err}
 use Rattle.der_base.specs.Length.{number}
+use Rattle.der_base.specs.Header.{header_octets}
+use Rattle.der_base.specs.declared.tag.Tag.TheVariants.{Sequence}
 use Rattle.der_base.specs.declared.error.Error.{Error}
-use Rattle.der_core.specs.Writer.{WriterState, Appends}
+use Rattle.der_core.specs.Writer.{WriterState, Appends, appended_state}
 use Rattle.der_core.specs.Encode.{TakesCounted}
 use Rattle.der_core.specs.SliceWriter.{slice_writer_state}
+use Rattle.der_core.proofs.WriterLemmas.{filled_appends}
 use Rattle.der_core.specs.WrittenSequence.{ClosesPart, handed_on, failed, unfilled, filled, part_state, headed_state}
 use Rattle.der_tests.proofs.octets.sequences.encode_in_sequence.Goals as goal
 
@@ -25,6 +28,13 @@ not_refused s p q t n octets _ _ e over full few takes appends (unfilled alive s
     let more : length q.octets ≡ length p.octets + length octets = ap (λ (u : WriterState). length u.octets) appends ∙ length-append p.octets octets in
     absurd (omega (arith, begin, more, full, short))
 not_refused s p q t n octets _ _ e over full few takes appends (filled alive whole leaves) is = absurd cc
+
+pub returns-in-Ok-clause-ok : goal.returns-in-Ok-clause-ok
+returns-in-Ok-clause-ok g c =
+    let did = c.in-Ok.ensures.ok in
+    let appends : slice_writer_state did.after.now ≡ appended_state (slice_writer_state did.given.now) (g.T.Encode.encoding c.args.value.now) = (let ran = did.ran in search rules) in
+    filled_appends (header_octets Sequence (number c.args.len)) (g.T.Encode.encoding c.args.value.now) (number c.args.len) (slice_writer_state c.args.writer.now)
+    (slice_writer_state did.given.now) (slice_writer_state did.after.now) _ did.over_part appends did.leaves
 
 pub returns-in-Err-clause-succeeds : goal.returns-in-Err-clause-succeeds
 returns-in-Err-clause-succeeds g c can full alive room =
