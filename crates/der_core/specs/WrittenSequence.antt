@@ -80,7 +80,9 @@ pub record IsFilledBy (run : Run) (s : WriterState) (n : ℕ) (t : WriterState) 
   pub working : (slice_writer_state after.now).failed ≡ false
   pub full : length (slice_writer_state after.now).octets ≡ length s.octets + n
   pub leaves : t ≡ record s {
-      octets = (slice_writer_state after.now).octets; behind = (slice_writer_state after.now).behind }
+    octets = (slice_writer_state after.now).octets;
+    behind = (slice_writer_state after.now).behind;
+  }
 
 -- where the closure's call succeeded it filled the part
 abbrev pub Fills : Run → WriterState → ℕ → Result (Unit {0}) Error → WriterState → Type 0

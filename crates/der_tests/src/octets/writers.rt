@@ -1,6 +1,6 @@
 //! What a writer into a slice takes, and what it refuses.
-use super::*;
 use super::month::Month;
+use super::*;
 use crate::checks::{holds, same};
 use der_core::{Encode, SliceWriter, Writer, encode_value_to_slice};
 
@@ -117,11 +117,7 @@ fn what_stands_behind_is_left(rt: HostRuntime) -> Result<(), Fail> {
     );
 
     let mut buf = [0xEE; 3];
-    same(
-        &rt,
-        Tag::Null.encode_to_slice(&mut buf)?,
-        [0x05].as_slice(),
-    );
+    same(&rt, Tag::Null.encode_to_slice(&mut buf)?, [0x05].as_slice());
     same(&rt, buf.as_slice(), [0x05, 0xEE, 0xEE].as_slice());
     let month = Month { number: 9 };
     same(
