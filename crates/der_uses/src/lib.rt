@@ -2,6 +2,9 @@
 #![tactic(auto)]
 
 pub mod contents;
-pub mod nested;
 pub mod front;
+pub mod month;
+pub mod nested;
+pub mod reader;
 pub mod sequence;
+pub mod writer;

@@ -1,0 +1,42 @@
+//! A writer of a user's own: one that collects what is written.
+ghost use Rattle.std.specs.Prelude.{◌≡◌, ◌++◌, true, false, [], OnOk};
+ghost use Rattle.der_base.specs.Tag.{tag_octets};
+
+use der_core::{Encode, Error, ErrorKind, Tag, Writer};
+
+/// What was written, in a vector that grows.
+#[derive(Drop)]
+pub struct Collected {
+    /// The octets.
+    pub octets: Vec<u8>,
+}
+
+impl Writer for Collected {
+    // It has no buffer, and nobody knows how much it takes: so it begins at 0, stops at 0, and
+    // counts as failed, which promises nothing of what it takes.
+    ghost state = { λ w. record {
+      octets = w.octets.items;
+      behind = [];
+      start = 0;
+      stop = 0;
+      capacity = 0;
+      failed = true;
+      reference = 0;
+    } };
+
+    ghost reliable = { false };
+
+    fn write(&mut self, octets: &[u8]) -> Result<(), Error> {
+        match self.octets.extend_from_slice(octets) {
+            Ok(()) => Ok(()),
+            Err(_) => Err(ErrorKind::OutOfMemory.to_error()),
+        }
+    }
+}
+
+/// Writes a tag behind what was collected.
+pub fn collect_tag(tag: &Tag, out: &mut Collected) -> Result<(), Error>
+    ensures { OnOk result (out.new.octets.items ≡ out.old.octets.items ++ tag_octets tag.now) }
+{
+    tag.encode(out)
+}
