@@ -1,0 +1,170 @@
+"""Reads wrong edits.
+
+A file of must-fail-together/N/ is named after a source file, as reader_slice.edits after
+src/reader/slice.rt, and is a list of edits of it:
+
+    # What is wrong, in one sentence.
+    fn: PATH ..
+    weak: why it is kept though its refusal says little (only then)
+    file: src/reader/slice.rt
+    old: a text of one line that stands once in the file
+    new: what stands in its place
+
+A block has further files and pairs where it needs them. A file of must-fail/ is one edit, with
+`file:`, `old:` and `new:` alone.
+"""
+import collections
+import os
+import re
+
+from checker import TOP, folder_of, give_up, text_of
+
+ONE = ("file", "old", "new")
+MANY = ("fn", "weak", *ONE)
+
+
+class Edit:
+    """What an edit changes, and which functions it makes wrong."""
+
+    def __init__(self, path, number, title, keys):
+        self.at = f"{os.path.relpath(path, TOP)}:{number}"
+        self.title, self.keys = title, keys
+        self.functions, self.weak, self.changes = [], "", []
+        self.file = self.old = None
+
+    def take(self, line):
+        """Takes a line of the edit."""
+        key, colon, rest = line.partition(":")
+        if not colon or key not in self.keys:
+            self.refuse(f"has a line of no key: {line}")
+        if not rest.startswith(" ") and (key != "new" or rest):
+            self.refuse(f"has no blank behind a key's colon: {line}")
+        rest = rest[1:]
+        if self.old is not None and key != "new":
+            self.refuse(f"has an old text without a new one: {self.old}")
+        if key == "fn":
+            self.functions += rest.split()
+        elif key == "weak":
+            self.weak = rest
+        elif key == "file":
+            self.file = rest
+        elif key == "old":
+            self.old = rest
+        else:
+            self.change(rest)
+
+    def change(self, new):
+        """Takes the text that stands in place of the old one."""
+        if self.old is None or self.file is None:
+            self.refuse(f"has a new text without a file or an old one: {new}")
+        if not self.old or self.old == new:
+            self.refuse("has an old text that is empty or stays as it is")
+        self.changes.append((self.file, self.old, new))
+        self.old = None
+
+    def end(self):
+        """Sees that the edit is whole."""
+        if self.old is not None:
+            self.refuse(f"has an old text without a new one: {self.old}")
+        if not self.changes:
+            self.refuse("changes nothing")
+        if "fn" in self.keys and not self.functions:
+            self.refuse("names no function")
+        if "fn" in self.keys and not all(it.startswith("src/") for it, _, _ in self.changes):
+            self.refuse("changes more than bodies: it is to be tried by itself, in must-fail/")
+        return self
+
+    def adds_call(self):
+        """Whether a function or macro is called by a new text that its old one does not call."""
+        calls = [collections.Counter(re.findall(r"[a-z]\w*(?=[(!]|::<)", "\n".join(texts)))
+                 for texts in zip(*((old, new) for _, old, new in self.changes))]
+        return bool(calls[1] - calls[0])
+
+    def refuse(self, why):
+        give_up(f"{self.at} {why}")
+
+
+def module_of(file):
+    """The name of the list of edits of a source file."""
+    return re.sub(r"^src/|\.rt$", "", file).replace("/", "_")
+
+
+def edits_of(path):
+    """The edits of a list, each with its sentence."""
+    edits = []
+    for number, line in enumerate(text_of(path).split("\n"), 1):
+        if line.startswith("# "):
+            edits.append(Edit(path, number, line[2:], MANY))
+        elif line and not edits:
+            give_up(f"{os.path.relpath(path, TOP)} does not begin with '# ' and a sentence")
+        elif line:
+            edits[-1].take(line)
+    if not edits:
+        give_up(f"{os.path.relpath(path, TOP)} has no edit")
+    for edit in edits:
+        edit.end()
+        if module_of(edit.changes[0][0]) + ".edits" != os.path.basename(path):
+            edit.refuse("stands in a list that is not named after its source file")
+    return edits
+
+
+def edit_of(path):
+    """The edit of a file of must-fail/."""
+    edit = Edit(path, 1, "", ONE)
+    for line in text_of(path).split("\n"):
+        if line:
+            edit.take(line)
+    return edit.end()
+
+
+def files_of(folder, ending):
+    """The files right in the folder, each of which has this ending."""
+    for it in sorted(os.listdir(folder)):
+        path = f"{folder}/{it}"
+        if not os.path.isfile(path) or not it.endswith(ending):
+            give_up(f"{os.path.relpath(path, TOP)} is no file that ends in {ending}")
+        yield path
+
+
+def one_by_one(name):
+    """The edits of the crate's must-fail/."""
+    folder = f"{folder_of(name)}/must-fail"
+    return [edit_of(it) for it in files_of(folder, ".edit")] if os.path.isdir(folder) else []
+
+
+def together(name):
+    """The edits of each folder of the crate's must-fail-together/, by the folder's name."""
+    top, found = f"{folder_of(name)}/must-fail-together", {}
+    for it in sorted(os.listdir(top)) if os.path.isdir(top) else []:
+        if not os.path.isdir(f"{top}/{it}") or not it.isdecimal():
+            give_up(f"{os.path.relpath(top, TOP)}/{it} is no folder that has a number as its name")
+        found[it] = [edit for path in files_of(f"{top}/{it}", ".edits") for edit in edits_of(path)]
+        if not found[it]:
+            give_up(f"{os.path.relpath(top, TOP)}/{it} has no edit")
+        see_apart(found[it])
+    return found
+
+
+def see_apart(edits):
+    """Sees that no two edits make one function wrong."""
+    seen = {}
+    for edit in edits:
+        for function in edit.functions:
+            if function in seen:
+                edit.refuse(f"makes {function} wrong, which {seen[function]} does too")
+            seen[function] = edit.at
+
+
+def changed(name, edits):
+    """The texts of the crate with all these changes."""
+    texts = {}
+    for edit in edits:
+        for file, old, new in edit.changes:
+            if file not in texts:
+                if not os.path.isfile(f"{folder_of(name)}/{file}"):
+                    edit.refuse(f"names the file {file}, which is not there")
+                texts[file] = text_of(f"{folder_of(name)}/{file}")
+            if texts[file].count(old) != 1:
+                edit.refuse(f"has an old text that does not stand once in {file}: {old}")
+            texts[file] = texts[file].replace(old, new)
+    return texts
