@@ -200,12 +200,11 @@ impl<'a> Reader for SliceReader<'a> {
             return Err(self.has_failed());
         }
         if self.place.position < self.place.end {
-            return Err(
-                self.place.error(ErrorKind::TrailingData {
-                    decoded: self.place.current(),
-                    remaining: self.place.remaining_len(),
-                }),
-            );
+            let kind = ErrorKind::TrailingData {
+                decoded: self.place.current(),
+                remaining: self.place.remaining_len(),
+            };
+            return Err(self.place.error(kind));
         }
         Ok(())
     }
