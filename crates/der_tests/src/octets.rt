@@ -9,22 +9,16 @@ use std::test::Fail;
 
 mod ahead;
 mod constants;
-mod counter;
 mod depth;
-mod encoding;
 mod headers;
 mod lengths;
 mod memory;
-mod month;
 mod nested;
 mod readers;
-mod references;
-mod sequences;
 mod tags;
 mod unlent;
 mod unlent_parts;
 mod unlent_peeks;
-mod writers;
 mod wrong;
 mod zeros;
 
