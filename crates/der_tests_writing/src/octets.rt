@@ -7,6 +7,7 @@ use der_core::{
 use std::alloc::Global;
 use std::test::Fail;
 
+mod constants;
 mod counter;
 mod encoding;
 mod month;
