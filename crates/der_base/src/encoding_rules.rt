@@ -33,7 +33,11 @@ impl EncodingRules {
     }
 }
 
-/// Reads `ber`, `BER`, `der` and `DER`. Any other text is kind `EncodingRules` without a position.
+/// Reads `ber`, `BER`, `der` and `DER`.
+///
+/// # Errors
+///
+/// - `EncodingRules` without a position, of any other text.
 impl FromStr for EncodingRules {
     type Err = Error;
 

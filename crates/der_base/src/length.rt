@@ -59,8 +59,11 @@ impl Length {
         }
     }
 
-    /// A length of so many octets, unflagged. A number above 4294967295 is kind `Overflow`
-    /// without a position.
+    /// A length of so many octets, unflagged.
+    ///
+    /// # Errors
+    ///
+    /// - `Overflow` without a position, where the number is above 4294967295.
     pub const fn new_usize(value: usize) -> Result<Self>
         ensures { result ≡ checked_length value }
     {

@@ -198,7 +198,11 @@ impl Tag {
         matches!(self.class(), Class::Universal)
     }
 
-    /// This tag where it is the expected one, else kind `TagUnexpected` without a position.
+    /// This tag, where it is the expected one.
+    ///
+    /// # Errors
+    ///
+    /// - `TagUnexpected` with both tags, without a position, where it is another.
     pub fn assert_eq(self, expected: Tag) -> Result<Tag>
         ensures expected_tag { self ≡ expected → result ≡ Ok self }
         ensures other_tag { self ≢ expected → result ≡ Err (unexpected_tag expected self) }

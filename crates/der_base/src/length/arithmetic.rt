@@ -23,7 +23,11 @@ impl Length {
     }
 }
 
-/// The sum, unflagged; kind `Overflow` without a position past 4294967295.
+/// The sum, unflagged.
+///
+/// # Errors
+///
+/// - `Overflow` without a position, where the sum would pass 4294967295.
 impl Add for Length {
     type Output = Result<Self>;
 
@@ -34,7 +38,11 @@ impl Add for Length {
     }
 }
 
-/// The sum, unflagged; kind `Overflow` without a position past 4294967295.
+/// The sum, unflagged.
+///
+/// # Errors
+///
+/// - `Overflow` without a position, where the sum would pass 4294967295.
 impl Add<u8> for Length {
     type Output = Result<Self>;
 
@@ -45,7 +53,11 @@ impl Add<u8> for Length {
     }
 }
 
-/// The sum, unflagged; kind `Overflow` without a position past 4294967295.
+/// The sum, unflagged.
+///
+/// # Errors
+///
+/// - `Overflow` without a position, where the sum would pass 4294967295.
 impl Add<u16> for Length {
     type Output = Result<Self>;
 
@@ -56,7 +68,11 @@ impl Add<u16> for Length {
     }
 }
 
-/// The sum, unflagged; kind `Overflow` without a position past 4294967295.
+/// The sum, unflagged.
+///
+/// # Errors
+///
+/// - `Overflow` without a position, where the sum would pass 4294967295.
 impl Add<u32> for Length {
     type Output = Result<Self>;
 
@@ -70,7 +86,11 @@ impl Add<u32> for Length {
     }
 }
 
-/// The sum, unflagged; kind `Overflow` without a position past 4294967295.
+/// The sum, unflagged.
+///
+/// # Errors
+///
+/// - `Overflow` without a position, where the sum would pass 4294967295.
 impl Add<usize> for Length {
     type Output = Result<Self>;
 
@@ -81,7 +101,11 @@ impl Add<usize> for Length {
     }
 }
 
-/// The difference, unflagged; kind `Overflow` without a position where it would be below zero.
+/// The difference, unflagged.
+///
+/// # Errors
+///
+/// - `Overflow` without a position, where the difference would be below zero.
 impl Sub for Length {
     type Output = Result<Self>;
 
@@ -95,7 +119,12 @@ impl Sub for Length {
     }
 }
 
-/// The sum, as of two lengths; an error that is given is the answer.
+/// The sum, as of two lengths.
+///
+/// # Errors
+///
+/// - The error that is given, with its position or none.
+/// - `Overflow` without a position, where the sum would pass 4294967295.
 impl Add<Length> for Result<Length> {
     type Output = Self;
 
@@ -106,7 +135,12 @@ impl Add<Length> for Result<Length> {
     }
 }
 
-/// The difference, as of two lengths; an error that is given is the answer.
+/// The difference, as of two lengths.
+///
+/// # Errors
+///
+/// - The error that is given, with its position or none.
+/// - `Overflow` without a position, where the difference would be below zero.
 impl Sub<Length> for Result<Length> {
     type Output = Self;
 

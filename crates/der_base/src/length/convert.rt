@@ -42,7 +42,11 @@ impl From<Length> for u32 {
     }
 }
 
-/// So many octets, unflagged; kind `Overflow` without a position above 4294967295.
+/// So many octets, unflagged.
+///
+/// # Errors
+///
+/// - `Overflow` without a position, where the number is above 4294967295.
 impl TryFrom<usize> for Length {
     type Error = Error;
 
@@ -53,7 +57,11 @@ impl TryFrom<usize> for Length {
     }
 }
 
-/// The number of octets, whatever the flag. A `usize` has 64 bits, so the answer is never an error.
+/// The number of octets, whatever the flag.
+///
+/// # Errors
+///
+/// None: a `usize` has 64 bits.
 impl TryFrom<Length> for usize {
     type Error = Error;
 

@@ -9,8 +9,11 @@ use crate::tag::Tag;
 
 impl Length {
     /// How many octets an element with this tag and so many octets of contents takes: those of the
-    /// tag (X.690 8.1.2), those of the length (8.1.3), and the contents. The answer is unflagged,
-    /// and kind `Overflow` without a position where it would pass 4294967295.
+    /// tag (X.690 8.1.2), those of the length (8.1.3), and the contents. The answer is unflagged.
+    ///
+    /// # Errors
+    ///
+    /// - `Overflow` without a position, where the answer would pass 4294967295.
     pub fn for_tlv(self, tag: Tag) -> Result<Self>
         ensures { result ≡ checked_length (element_count tag (number self)) }
     {

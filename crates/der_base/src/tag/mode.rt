@@ -15,8 +15,11 @@ pub enum TagMode {
     Implicit,
 }
 
-/// Reads `EXPLICIT`, `explicit`, `IMPLICIT` and `implicit`. Any other text is kind
-/// `TagModeUnknown` without a position.
+/// Reads `EXPLICIT`, `explicit`, `IMPLICIT` and `implicit`.
+///
+/// # Errors
+///
+/// - `TagModeUnknown` without a position, of any other text.
 impl FromStr for TagMode {
     type Err = Error;
 
