@@ -14,6 +14,11 @@ use der_base::{Error, ErrorKind};
 use std::alloc::Global;
 
 /// The errors that decoding may answer: an [`Error`] converts to each of them.
+///
+/// Ghost members:
+///
+/// - `out_of_memory` says whether an error says that memory was refused.
+/// - `carries` is the law that a converted error says so exactly where the [`Error`] did.
 pub trait DecodeError: From<Error> + Drop {
     ghost out_of_memory: { Self → Bool };
 
@@ -38,10 +43,13 @@ impl DecodeError for Error {
 
 /// Types that are decoded from the octets of a reader `R`.
 ///
-/// `heads` says which values stand at the front of octets, and in how many of them; it is a
-/// relation over all that is left, since an indefinite length depends on what follows. `needs` is
-/// how many levels of nesting decoding wants, `takes_memory` whether it takes memory, and `answers`
-/// is the exact outcome on a reliable reader, refusals and their states included.
+/// Ghost members:
+///
+/// - `heads` says which values stand at the front of octets, and in how many of them; it is a
+///   relation over all that is left, since an indefinite length depends on what follows.
+/// - `needs` is how many levels of nesting decoding wants under these rules.
+/// - `takes_memory` says whether decoding takes memory.
+/// - `answers` is the exact outcome on a reliable reader, refusals and their states included.
 pub trait Decode<R: Reader>: Sized + Drop {
     /// The error of decoding.
     type Error: DecodeError;
@@ -57,9 +65,13 @@ pub trait Decode<R: Reader>: Sized + Drop {
     /// Decodes a value from the front of the reader's rest, and passes its octets.
     ///
     /// A reliable reader that has not failed, with `needs` levels of nesting left, gives the value
-    /// that stands ahead, or an error that says that memory was refused. Which other errors there
-    /// are, at which positions, and whether the reader has failed then, is said by `answers` of
-    /// each type.
+    /// that stands ahead, or an error that says that memory was refused.
+    ///
+    /// # Errors
+    ///
+    /// - One that says that memory was refused, where the type takes memory.
+    /// - Those of the type: `answers` says which there are, at which positions, and whether the
+    ///   reader has failed then.
     fn decode(alloc: Global, reader: &mut R) -> Result<Self, Self::Error>
         ensures same { Same (R.state reader.old) (R.state reader.new) }
         ensures ok { IfOk result (λ v. (R.state reader.old).failed ≡ false
@@ -80,9 +92,12 @@ pub trait DecodeBytes<'a>: Decode<SliceReader<'a>> {
     /// The value at the front of the octets under the Distinguished Encoding Rules, and the octets
     /// behind it.
     ///
-    /// More than 4294967295 octets are refused by `Overflow` without a position. Other errors are
-    /// those of the type; where it answers a value and leaves its reader failed, that is `Failed`
-    /// at the reader's position.
+    /// # Errors
+    ///
+    /// - `Overflow` without a position, where there are more than 4294967295 octets.
+    /// - Those of the type, as by [`Decode::decode`] at the beginning of the octets.
+    /// - `Failed` at the reader's position, where the type answers a value and leaves its reader
+    ///   failed.
     final fn from_der_partial(
         alloc: Global,
         bytes: &'a [u8],

@@ -22,6 +22,8 @@ use std::alloc::{Allocator, Global};
 pub use value::{close_value, read_eoc, read_value};
 
 /// Octets that a reader has lent.
+///
+/// Ghost member: `octets` is the list of them.
 pub trait Octets: Drop {
     ghost octets: { Self → List ℕ };
 
@@ -41,7 +43,19 @@ impl<'a> Octets for &'a [u8] {
 /// A reader of octets: an input, how far of it may be read, a position, and whether it has failed.
 ///
 /// A reader that is reliable refuses only where the table of a call says, with its error and its
-/// position. Any other may refuse at every call; of it only the answers `Ok` are owed.
+/// position. Any other may refuse at every call; of it only the answers `Ok` are owed. A reader
+/// that keeps no failed state has not failed where a call says that the reader has failed then.
+///
+/// Ghost members:
+///
+/// - `state` is what the reader is: input, rules, end, position, depth, failed, and whether it
+///   keeps a failed state; see `specs/ReaderState.antt`.
+/// - `reliable` says whether its refusals are those of the tables too.
+/// - `lends` says whether it can lend octets.
+/// - `lawful` is the law of every state: the position lies within the end, the end within the
+///   input, of at most 4294967295 octets; the depth is at most 64; and only a reader that keeps a
+///   failed state fails.
+/// - `lending` is the law that a reliable reader lends.
 pub trait Reader: Sized + Drop {
     /// What [`Reader::read_slice`] lends: for a [`SliceReader`] a part of its input.
     type Lent: Octets;
@@ -75,10 +89,15 @@ pub trait Reader: Sized + Drop {
     fn is_failed(&self) -> bool
         ensures { result ≡ (state self.now).failed };
 
-    /// Lends the next `len` octets. A failed reader refuses by `Failed`. Where fewer are left, that
-    /// is `Incomplete` at the position, and the reader has failed; a length that passes
-    /// 4294967295 together with the position is `Overflow` without a position, the reader
-    /// unchanged. A reader that cannot lend refuses by `Reader` at its position, unchanged.
+    /// Lends the next `len` octets.
+    ///
+    /// # Errors
+    ///
+    /// - `Reader` at the position, where the reader cannot lend; it is unchanged.
+    /// - `Failed` at the position, where the reader had failed; it is unchanged.
+    /// - `Incomplete` at the position, where fewer octets are left; the reader has failed then.
+    /// - `Overflow` without a position, where fewer octets are left and position and length
+    ///   together pass 4294967295; the reader is unchanged.
     fn read_slice(&mut self, len: Length) -> Result<Self::Lent, Error>
         ensures same { Same (state self.old) (state self.new) }
         ensures exact { Meets reliable (read_slice_outcome (number len)) (state self.old)
@@ -87,8 +106,16 @@ pub trait Reader: Sized + Drop {
             → map_ok Self.Lent.octets result ≡ Err (at CannotRead (reader_position (state self.old))) }
         ensures unmoved { lends ≡ false → state self.new ≡ state self.old };
 
-    /// Fills the buffer with the next octets; refused as [`Reader::read_slice`] is, the buffer
-    /// unchanged, and by `Overflow` where the buffer is longer than 4294967295 octets.
+    /// Fills the buffer with the next octets.
+    ///
+    /// # Errors
+    ///
+    /// The buffer is unchanged after each.
+    ///
+    /// - `Overflow` without a position, where the buffer is longer than 4294967295 octets, or where
+    ///   fewer octets are left and position and length together pass that; the reader is unchanged.
+    /// - `Failed` at the position, where the reader had failed; it is unchanged.
+    /// - `Incomplete` at the position, where fewer octets are left; the reader has failed then.
     fn read_into(&mut self, buf: &mut [u8]) -> Result<(), Error>
         ensures same { Same (state self.old) (state self.new) }
         ensures exact { Meets reliable (read_into_outcome (length buf.old)) (state self.old)
@@ -101,8 +128,12 @@ pub trait Reader: Sized + Drop {
         ensures at_position { result ≡ at kind (reader_position (state self.old)) }
         ensures failed { state self.new ≡ stopped_state (state self.old) (state self.old).position };
 
-    /// The octets that are left, up to the end. A failed reader refuses by `Failed` at its
-    /// position, one that cannot lend by `Reader`.
+    /// Lends the octets that are left, up to the end; the reader stays.
+    ///
+    /// # Errors
+    ///
+    /// - `Reader` at the position, where the reader cannot lend.
+    /// - `Failed` at the position, where the reader had failed.
     fn remaining(&self) -> Result<Self::Lent, Error>
         ensures ok { IfOk result (λ r. Ok (Self.Lent.octets r) ≡ remaining_answer
             (state self.now)) }
@@ -115,15 +146,26 @@ pub trait Reader: Sized + Drop {
     fn fork(&self) -> Self
         ensures { state result ≡ state self.now };
 
-    /// The next `len` octets in memory of this allocator; refused as [`Reader::read_slice`] is, or
-    /// by `OutOfMemory` without a position, the reader unchanged. A reliable reader asks for memory
-    /// only once the octets are known to be there.
+    /// The next `len` octets in memory of this allocator. A reliable reader asks for memory only
+    /// once the octets are known to be there.
+    ///
+    /// # Errors
+    ///
+    /// - `Failed` at the position, where the reader had failed; it is unchanged.
+    /// - `Incomplete` at the position, where fewer octets are left; the reader has failed then.
+    /// - `Overflow` without a position, where fewer octets are left and position and length
+    ///   together pass 4294967295; the reader is unchanged.
+    /// - `OutOfMemory` without a position, where memory is refused; the reader is unchanged.
     fn read_vec_in<A: Allocator>(&mut self, alloc: A, len: Length) -> Result<Vec<u8, A>, Error>
         ensures same { Same (state self.old) (state self.new) }
         ensures exact { VecMeets reliable (number len) (state self.old) (map_ok (λ v. v.items) result)
             (state self.new) };
 
     /// The same in memory of the global allocator.
+    ///
+    /// # Errors
+    ///
+    /// `Failed`, `Incomplete`, `Overflow` and `OutOfMemory`, as by [`Reader::read_vec_in`].
     final fn read_vec(&mut self, alloc: Global, len: Length) -> Result<Vec<u8>, Error>
         ensures same { Same (Self.state self.old) (Self.state self.new) }
         ensures exact { VecMeets Self.reliable (number len) (Self.state self.old)
@@ -134,27 +176,48 @@ pub trait Reader: Sized + Drop {
 
     /// Passes so many octets. An unflagged zero passes none, also on a failed reader. Where fewer
     /// are left, whole steps of sixteen of them are passed, and then the next step is refused.
+    ///
+    /// # Errors
+    ///
+    /// - `Failed` at the position, where the reader had failed; it is unchanged.
+    /// - `Incomplete` at the position behind the whole steps, where fewer octets are left; the
+    ///   reader stands there and has failed.
+    /// - `Overflow` without a position, where fewer octets are left and the end of the next step
+    ///   would pass 4294967295; the reader stands behind the whole steps and has not failed.
     fn drain(&mut self, amount: Length) -> Result<(), Error>
         ensures same { Same (state self.old) (state self.new) }
         ensures exact { Meets reliable (drain_outcome amount) (state self.old) result
             (state self.new) };
 
-    /// Ends the reading: refused by `Failed` at the position on a failed reader, and by
-    /// `TrailingData` at the position where octets are left.
+    /// Ends the reading, and the reader.
+    ///
+    /// # Errors
+    ///
+    /// - `Failed` at the position, where the reader had failed.
+    /// - `TrailingData` at the position, where octets are left.
     fn finish(self) -> Result<(), Error>
         ensures ok { OnOk result (finish_answer (state self) ≡ Ok tt) }
         ensures exact { reliable ≡ true → result ≡ finish_answer (state self) };
 
     /// Enters a part of `len` octets: until it is left, they are all that may be read, and the
-    /// depth is one more. A part past 4294967295 is refused by `Overflow` without a position, one
-    /// past the end by `Incomplete` at the end, both unchanged; a part inside 64 others by
-    /// `NestingDepth` at the position, and the reader has failed.
+    /// depth is one more. A failed reader enters it too.
+    ///
+    /// # Errors
+    ///
+    /// - `Overflow` without a position, where the part would pass 4294967295; the reader is
+    ///   unchanged.
+    /// - `Incomplete` at the end, where the part would pass the end; the reader is unchanged.
+    /// - `NestingDepth` at the position, where the part would stand inside 64 others; the reader
+    ///   has failed then.
     fn enter_nested(&mut self, len: Length) -> Result<Resumption, Error>
         ensures exact { Meets reliable (enter_nested_outcome (number len)) (state self.old)
             (map_ok outer_place result) (state self.new) }
         ensures err { OnErr result (Same (state self.old) (state self.new)) };
 
     /// Leaves a part, with the end and the depth around it.
+    ///
+    /// The caller sees to it that the outer end lies neither before the position nor behind the
+    /// input, and that the outer depth is at most 64. What [`Reader::enter_nested`] gave is so.
     fn leave_nested(&mut self, resumption: Resumption)
         requires { CanLeave (state self.old) (outer_end resumption) (outer_depth resumption) }
         ensures { state self.new ≡ resumed_state (state self.old) (outer_end resumption)

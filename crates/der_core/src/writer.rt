@@ -13,15 +13,28 @@ pub use slice::SliceWriter;
 ///
 /// A writer that has not failed takes every write that fits into its room. One that is reliable
 /// refuses exactly as the table of a call says; a writer that vows nothing counts as failed.
+///
+/// Ghost members:
+///
+/// - `state` is what the writer is: the octets written, `behind`, `start`, `stop`, `capacity`,
+///   failed, and `reference`; see `specs/Writer.antt`.
+/// - `reliable` says whether its refusals are those of the tables too.
 pub trait Writer {
     ghost state: { Self → WriterState };
 
     ghost reliable: { Bool };
 
-    /// Appends the octets. A failed writer refuses by `Failed` at its position. Where the end
-    /// would pass 4294967295 octets, that is `Overflow` at the position, and where there is no
-    /// room `Overlength` at the end that was wished; the writer has then failed, and its position
-    /// stands.
+    /// Appends the octets.
+    ///
+    /// # Errors
+    ///
+    /// Nothing is written, and the position stands.
+    ///
+    /// - `Failed` at the position, where the writer had failed; it is unchanged.
+    /// - `Overflow` at the position, where the end would pass 4294967295; the writer has failed
+    ///   then.
+    /// - `Overlength` at the end that was wished, where there is no room; the writer has failed
+    ///   then.
     fn write(&mut self, octets: &[u8]) -> Result<(), Error>
         ensures kept { Keeps (state self.old) (state self.new) }
         ensures ok { Appends (state self.old) octets.now result (state self.new) }
@@ -30,6 +43,10 @@ pub trait Writer {
             → Writes (write_outcome octets.now (state self.old)) result (state self.new) };
 
     /// Appends one octet, as [`Writer::write`] does.
+    ///
+    /// # Errors
+    ///
+    /// `Failed`, `Overflow` and `Overlength`, as by [`Writer::write`] of one octet.
     final fn write_byte(&mut self, octet: u8) -> Result<(), Error>
         ensures kept { Keeps (Self.state self.old) (Self.state self.new) }
         ensures ok { Appends (Self.state self.old) (octet ∷ []) result (Self.state self.new) }

@@ -68,9 +68,14 @@ impl Position {
         kind.at(self.current())
     }
 
-    /// Passes so many octets and gives the new position. A position past 4294967295 is refused by
-    /// `Overflow` without a position, one past the end by `Incomplete` at the old position; both
-    /// leave it as it is.
+    /// Passes so many octets and gives the new position.
+    ///
+    /// # Errors
+    ///
+    /// The position is unchanged after each.
+    ///
+    /// - `Overflow` without a position, where the new one would pass 4294967295.
+    /// - `Incomplete` at the old position, where the new one would pass the end.
     pub fn advance(&mut self, amount: Length) -> Result<Length, Error>
         ensures { Moves (advance_outcome (number amount)) (position_place self.old) result (position_place self.new) }
     {
@@ -97,9 +102,15 @@ impl Position {
         })
     }
 
-    /// Enters a part of `len` octets and gives what to go back to. A part inside 64 others is
-    /// refused by `NestingDepth` at the position, one past 4294967295 by `Overflow` without a
-    /// position, one past the end by `Incomplete` at the end; all leave the position as it is.
+    /// Enters a part of `len` octets and gives what to go back to.
+    ///
+    /// # Errors
+    ///
+    /// The position is unchanged after each.
+    ///
+    /// - `NestingDepth` at the position, where the part would stand inside 64 others.
+    /// - `Overflow` without a position, where the part would pass 4294967295.
+    /// - `Incomplete` at the end, where the part would pass the end.
     pub fn split_nested(&mut self, len: Length) -> Result<Resumption, Error>
         ensures { Moves (split_nested_outcome (number len)) (position_place self.old) (map_ok outer_place result)
             (position_place self.new) }

@@ -41,8 +41,11 @@ impl<'a> SliceReader<'a> {
     ghost use Rattle.der_core.specs.ReaderState.{initial_state, reader_position, state_after};
     ghost use Rattle.der_core.specs.SliceReader.{slice_state};
 
-    /// A reader of these octets under the Distinguished Encoding Rules, at their beginning;
-    /// `Overflow` without a position for more than 4294967295 of them.
+    /// A reader of these octets under the Distinguished Encoding Rules, at their beginning.
+    ///
+    /// # Errors
+    ///
+    /// - `Overflow` without a position, where there are more than 4294967295 octets.
     pub fn new(bytes: &'a [u8]) -> Result<Self, Error>
         ensures ok { IfOk result (λ r. slice_state r ≡ initial_state Der bytes.now) }
         ensures fits { IsOk result ↔ (length bytes.now < 2 ^ 32) }
@@ -79,6 +82,8 @@ impl<'a> SliceReader<'a> {
     }
 }
 
+/// A reliable reader: it refuses exactly where [`Reader`] says, keeps a failed state, and lends, so
+/// that nothing is refused by `Reader`.
 impl<'a> Reader for SliceReader<'a> {
     ghost use Rattle.std.proofs.Common.{rules};
     ghost use Rattle.der_core.specs.SliceReader.{slice_state};

@@ -13,9 +13,16 @@ use crate::header::Header;
 use crate::reader::{Reader, ReaderExt, Resumption};
 use der_base::{Error, ErrorKind, Length};
 
-/// Reads the end mark of an indefinite length, two zero octets (X.690 8.1.5). The first octet that
-/// is not zero is refused by `IndefiniteLength` at the position after it, and the reader has
-/// failed; one that is missing is refused as by [`ReaderExt::read_byte`].
+/// Reads the end mark of an indefinite length, two zero octets (X.690 8.1.5).
+///
+/// # Errors
+///
+/// - `Failed` at the position, where the reader had failed; it is unchanged.
+/// - `IndefiniteLength` at the position behind the first octet that is not zero; the reader stands
+///   there and has failed.
+/// - `Incomplete` at the end, where an octet is missing; the reader stands there and has failed.
+/// - `Overflow` without a position, where an octet is missing at position 4294967295; the reader
+///   stands there and has not failed.
 pub fn read_eoc<R: Reader>(reader: &mut R) -> Result<(), Error>
     ensures same { Same (R.state reader.old) (R.state reader.new) }
     ensures exact { Meets R.reliable read_eoc_outcome (R.state reader.old) result
@@ -39,6 +46,18 @@ fn read_zero_octet<R: Reader>(reader: &mut R) -> Result<(), Error>
 
 /// Leaves the contents of an element with what was made of them, as [`ReaderExt::close_nested`]
 /// does, and reads the end mark behind them where the length was read in the indefinite form.
+///
+/// The caller sees to it that the outer end lies neither before the position nor behind the input,
+/// and that the outer depth is at most 64. What [`Reader::enter_nested`] gave is so.
+///
+/// # Errors
+///
+/// After each the reader has the end and the depth around the contents.
+///
+/// - The error that is given, with its position or none; the reader has not moved.
+/// - `TrailingData` at the position, where octets are left in the contents; the reader has failed
+///   then.
+/// - `Failed`, `IndefiniteLength`, `Incomplete` and `Overflow` of the end mark, as by [`read_eoc`].
 pub fn close_value<R: Reader, T: Drop, E: From<Error> + Drop>(
     reader: &mut R,
     length: Length,
@@ -62,8 +81,20 @@ pub fn close_value<R: Reader, T: Drop, E: From<Error> + Drop>(
 
 /// Reads the contents behind a header by `f`, which gets the reader inside them and the header with
 /// the length of the contents alone; where that was read in the indefinite form, the end mark is
-/// read behind them. What `f` leaves of the contents is a refusal, as in
-/// [`ReaderExt::read_nested`]; the end mark is refused as by [`read_eoc`].
+/// read behind them. What `f` leaves of the contents is a refusal, never skipped.
+///
+/// The caller sees to it that `f` may be called with this reader inside the contents and with that
+/// header, where the contents do not pass the end and stand inside fewer than 64 parts, and that
+/// `f` hands back the same reader: input, rules, end and depth as they were, at no earlier
+/// position, and failed where it was.
+///
+/// # Errors
+///
+/// - `Overflow`, `Incomplete` and `NestingDepth` of contents that cannot be entered, as by
+///   [`Reader::enter_nested`].
+/// - The error of `f`, handed on; the reader stands where `f` left it, with its own end and depth.
+/// - `TrailingData` at the position, where `f` leaves octets; the reader has failed then.
+/// - `Failed`, `IndefiniteLength`, `Incomplete` and `Overflow` of the end mark, as by [`read_eoc`].
 pub fn read_value<
     R: Reader,
     T: Drop,
