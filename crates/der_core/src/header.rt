@@ -87,10 +87,10 @@ impl Header {
 
 /// Decodes a header (X.690 8.1.2, 8.1.3, 10.1), as [`Header::decode`] does, without an allocator.
 ///
-/// The identifier is refused as by [`Tag::decode_with_constructed_bit`](crate::TagPeek), and the
-/// length as by [`decode_length`](crate::decode_length), where a length that is not spelled as it
-/// has to be is told as `Length` with the tag. The reader has failed then. One that had failed
-/// before refuses by `Failed` at its position.
+/// # Errors
+///
+/// `Failed`, `Overflow`, `Incomplete`, `TagUnknown`, `TagNumberInvalid`, `IndefiniteLength` and
+/// `Length`, as by [`Header::decode`].
 #[inline(always)]
 pub fn decode_header<R: Reader>(reader: &mut R) -> Result<Header, Error>
     ensures { Decodes IsHeaderAhead (HeaderFault BodyFault) R.reliable (R.state reader.old) result
@@ -119,6 +119,23 @@ impl<R: Reader> Decode<R> for Header {
 
     ghost answers = { Decodes IsHeaderAhead (HeaderFault BodyFault) true };
 
+    /// Decodes a header (X.690 8.1.2, 8.1.3, 10.1).
+    ///
+    /// # Errors
+    ///
+    /// After all but `Failed` and `Overflow` the reader stands at the error's position and has
+    /// failed. Under the Basic Encoding Rules nothing is promised of a refusal.
+    ///
+    /// - `Failed` at the position, where the reader had failed; it is unchanged.
+    /// - `Overflow` without a position, where an octet is missing at position 4294967295; the
+    ///   reader stands there and has not failed.
+    /// - `Incomplete` at the end, where one more octet is wanted.
+    /// - `TagUnknown` with the octet, behind a first octet that begins no tag.
+    /// - `TagNumberInvalid` behind octet 1F where it is the first, or behind an octet with which no
+    ///   tag number goes on (X.690 8.1.2.4).
+    /// - `IndefiniteLength` behind an octet 80 where the length begins.
+    /// - `Length` with the tag, behind the length's octets where fewer would do, or behind the
+    ///   first of them where it announces more than four.
     #[inline(always)]
     fn decode(_alloc: Global, reader: &mut R) -> Result<Header, Error>
         ensures { Decodes IsHeaderAhead (HeaderFault BodyFault) R.reliable (R.state reader.old)
@@ -130,6 +147,12 @@ impl<R: Reader> Decode<R> for Header {
 
 impl Header {
     /// The header ahead, as [`decode_header`] would answer; the reader stays.
+    ///
+    /// # Errors
+    ///
+    /// `Failed`, `Overflow`, `Incomplete`, `TagUnknown`, `TagNumberInvalid`, `IndefiniteLength` and
+    /// `Length`, where and with the positions that [`Header::decode`] says; the reader is
+    /// unchanged.
     pub fn peek<R: Reader>(reader: &R) -> Result<Self, Error>
         ensures { Peeks IsHeaderAhead (HeaderFault BodyFault) R.reliable (R.state reader.now)
             result }
@@ -140,6 +163,11 @@ impl Header {
 
 /// The tag is written and then the length, of which the number alone counts; the constructed bit is
 /// that of the tag.
+///
+/// # Errors
+///
+/// The number of octets is never refused. Writing hands on the writer's errors, as by
+/// [`Writer::write`]; the octets of earlier writes stand.
 impl Encode for Header {
     ghost encoding = { λ h. header_octets (head_of h).tag (number (head_of h).length) };
 

@@ -22,11 +22,10 @@ const INDEFINITE: u8 = 0x80;
 
 /// Decodes a length (X.690 8.1.3, 10.1), as [`Length::decode`] does, without an allocator.
 ///
-/// An octet that is missing is refused as by [`ReaderExt::read_byte`]: `Incomplete` at the position
-/// where it would stand. An octet 80 is refused by `IndefiniteLength` at the position after it.
-/// `Overlength` is told at the position after the length's octets, where fewer would do, or after
-/// the first alone, where it announces more than four. The reader has failed then. One that had
-/// failed before refuses by `Failed` at its position.
+/// # Errors
+///
+/// `Failed`, `Overflow`, `Incomplete`, `IndefiniteLength` and `Overlength`, as by
+/// [`Length::decode`].
 #[inline(always)]
 pub fn decode_length<R: Reader>(reader: &mut R) -> Result<Length, Error>
     ensures { Decodes LengthAhead (LengthFault BodyFault Overlength) R.reliable
@@ -102,6 +101,20 @@ impl<R: Reader> Decode<R> for Length {
 
     ghost answers = { Decodes LengthAhead (LengthFault BodyFault Overlength) true };
 
+    /// Decodes a length (X.690 8.1.3, 10.1).
+    ///
+    /// # Errors
+    ///
+    /// After all but `Failed` and `Overflow` the reader stands at the error's position and has
+    /// failed. Under the Basic Encoding Rules nothing is promised of a refusal.
+    ///
+    /// - `Failed` at the position, where the reader had failed; it is unchanged.
+    /// - `Overflow` without a position, where an octet is missing at position 4294967295; the
+    ///   reader stands there and has not failed.
+    /// - `Incomplete` at the end, where one more octet is wanted.
+    /// - `IndefiniteLength` behind octet 80 where it is the first.
+    /// - `Overlength` behind the length's octets where fewer would do, or behind the first of them
+    ///   where it announces more than four.
     #[inline(always)]
     fn decode(_alloc: Global, reader: &mut R) -> Result<Length, Error>
         ensures { Decodes LengthAhead (LengthFault BodyFault Overlength) R.reliable
@@ -113,6 +126,11 @@ impl<R: Reader> Decode<R> for Length {
 
 /// The number alone is written, in the fewest octets (X.690 8.1.3, 10.1): one octet, and then its
 /// digits in base 256 in one write, where it has any.
+///
+/// # Errors
+///
+/// The number of octets is never refused. Writing hands on the writer's errors, as by
+/// [`Writer::write`]; the octets of earlier writes stand.
 impl Encode for Length {
     ghost encoding = { λ l. length_octets (number l) };
 

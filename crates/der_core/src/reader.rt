@@ -45,6 +45,7 @@ impl<'a> Octets for &'a [u8] {
 /// A reader that is reliable refuses only where the table of a call says, with its error and its
 /// position. Any other may refuse at every call; of it only the answers `Ok` are owed. A reader
 /// that keeps no failed state has not failed where a call says that the reader has failed then.
+/// Where several errors of a call's list fit, the first of them is told.
 ///
 /// Ghost members:
 ///
@@ -95,9 +96,9 @@ pub trait Reader: Sized + Drop {
     ///
     /// - `Reader` at the position, where the reader cannot lend; it is unchanged.
     /// - `Failed` at the position, where the reader had failed; it is unchanged.
-    /// - `Incomplete` at the position, where fewer octets are left; the reader has failed then.
     /// - `Overflow` without a position, where fewer octets are left and position and length
     ///   together pass 4294967295; the reader is unchanged.
+    /// - `Incomplete` at the position, where fewer octets are left; the reader has failed then.
     fn read_slice(&mut self, len: Length) -> Result<Self::Lent, Error>
         ensures same { Same (state self.old) (state self.new) }
         ensures exact { Meets reliable (read_slice_outcome (number len)) (state self.old)
@@ -112,9 +113,11 @@ pub trait Reader: Sized + Drop {
     ///
     /// The buffer is unchanged after each.
     ///
-    /// - `Overflow` without a position, where the buffer is longer than 4294967295 octets, or where
-    ///   fewer octets are left and position and length together pass that; the reader is unchanged.
+    /// - `Overflow` without a position, where the buffer is longer than 4294967295 octets; the
+    ///   reader is unchanged.
     /// - `Failed` at the position, where the reader had failed; it is unchanged.
+    /// - `Overflow` without a position, where fewer octets are left and position and length
+    ///   together pass 4294967295; the reader is unchanged.
     /// - `Incomplete` at the position, where fewer octets are left; the reader has failed then.
     fn read_into(&mut self, buf: &mut [u8]) -> Result<(), Error>
         ensures same { Same (state self.old) (state self.new) }
@@ -152,9 +155,9 @@ pub trait Reader: Sized + Drop {
     /// # Errors
     ///
     /// - `Failed` at the position, where the reader had failed; it is unchanged.
-    /// - `Incomplete` at the position, where fewer octets are left; the reader has failed then.
     /// - `Overflow` without a position, where fewer octets are left and position and length
     ///   together pass 4294967295; the reader is unchanged.
+    /// - `Incomplete` at the position, where fewer octets are left; the reader has failed then.
     /// - `OutOfMemory` without a position, where memory is refused; the reader is unchanged.
     fn read_vec_in<A: Allocator>(&mut self, alloc: A, len: Length) -> Result<Vec<u8, A>, Error>
         ensures same { Same (state self.old) (state self.new) }
@@ -180,10 +183,10 @@ pub trait Reader: Sized + Drop {
     /// # Errors
     ///
     /// - `Failed` at the position, where the reader had failed; it is unchanged.
-    /// - `Incomplete` at the position behind the whole steps, where fewer octets are left; the
-    ///   reader stands there and has failed.
     /// - `Overflow` without a position, where fewer octets are left and the end of the next step
     ///   would pass 4294967295; the reader stands behind the whole steps and has not failed.
+    /// - `Incomplete` at the position behind the whole steps, where fewer octets are left; the
+    ///   reader stands there and has failed.
     fn drain(&mut self, amount: Length) -> Result<(), Error>
         ensures same { Same (state self.old) (state self.new) }
         ensures exact { Meets reliable (drain_outcome amount) (state self.old) result

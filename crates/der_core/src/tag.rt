@@ -169,6 +169,20 @@ impl<R: Reader> Decode<R> for Tag {
 
     ghost answers = { Decodes TagAhead IdentifierFault true };
 
+    /// Decodes a tag (X.690 8.1.2).
+    ///
+    /// # Errors
+    ///
+    /// After all but `Failed` and `Overflow` the reader stands at the error's position and has
+    /// failed. Under the Basic Encoding Rules nothing is promised of a refusal.
+    ///
+    /// - `Failed` at the position, where the reader had failed; it is unchanged.
+    /// - `Overflow` without a position, where an octet is missing at position 4294967295; the
+    ///   reader stands there and has not failed.
+    /// - `Incomplete` at the end, where one more octet is wanted.
+    /// - `TagUnknown` with the octet, behind a first octet that begins no tag.
+    /// - `TagNumberInvalid` behind octet 1F where it is the first, or behind an octet with which no
+    ///   tag number goes on (X.690 8.1.2.4).
     #[inline(always)]
     fn decode(_alloc: Global, reader: &mut R) -> Result<Tag, Error>
         ensures { Decodes TagAhead IdentifierFault R.reliable (R.state reader.old) result
@@ -179,6 +193,11 @@ impl<R: Reader> Decode<R> for Tag {
 }
 
 /// A tag is written octet by octet (X.690 8.1.2).
+///
+/// # Errors
+///
+/// The number of octets is never refused. Writing hands on the writer's errors, as by
+/// [`Writer::write`]; the octets of earlier writes stand.
 impl Encode for Tag {
     ghost encoding = { tag_octets };
 

@@ -12,7 +12,8 @@ pub use slice::SliceWriter;
 /// `stop`, has nothing `behind`, and keeps any `capacity` and `reference`, as long as they stay.
 ///
 /// A writer that has not failed takes every write that fits into its room. One that is reliable
-/// refuses exactly as the table of a call says; a writer that vows nothing counts as failed.
+/// refuses exactly as the table of a call says; a writer that vows nothing counts as failed. Where
+/// several errors of a call's list fit, the first of them is told.
 ///
 /// Ghost members:
 ///

@@ -25,7 +25,14 @@ use std::alloc::Global;
 
 /// The calls that every reader has, by those of [`Reader`] alone.
 pub trait ReaderExt: Reader {
-    /// The next octet; refused as [`Reader::read_slice`] of one octet is.
+    /// The next octet.
+    ///
+    /// # Errors
+    ///
+    /// - `Failed` at the position, where the reader had failed; it is unchanged.
+    /// - `Overflow` without a position, where no octet is left at position 4294967295; the reader
+    ///   is unchanged.
+    /// - `Incomplete` at the position, where no octet is left; the reader has failed then.
     #[inline(always)]
     final fn read_byte(&mut self) -> Result<u8, Error>
         ensures same { Same (Self.state self.old) (Self.state self.new) }
@@ -58,8 +65,18 @@ pub trait ReaderExt: Reader {
         self.remaining_len().is_zero()
     }
 
-    /// Leaves a part with what was made of it. Octets that are left in the part are a refusal,
-    /// `TrailingData` at the position, and the reader has failed.
+    /// Leaves a part with what was made of it. Octets that are left in the part are a refusal.
+    ///
+    /// The caller sees to it that the outer end lies neither before the position nor behind the
+    /// input, and that the outer depth is at most 64. What [`Reader::enter_nested`] gave is so.
+    ///
+    /// # Errors
+    ///
+    /// After each the reader has the end and the depth around the part.
+    ///
+    /// - The error that is given, with its position or none; the reader has not moved.
+    /// - `TrailingData` at the position, where octets are left in the part; the reader has failed
+    ///   then.
     final fn close_nested<T: Drop, E: From<Error> + Drop>(
         &mut self,
         outer: Resumption,
@@ -85,8 +102,20 @@ pub trait ReaderExt: Reader {
     }
 
     /// Reads a part of `len` octets by `f`, which gets this reader with its end at the part's end
-    /// and the depth one more. What `f` leaves of the part is a refusal, never skipped: see
-    /// [`Reader::enter_nested`] and [`ReaderExt::close_nested`] for the refusals.
+    /// and the depth one more. What `f` leaves of the part is a refusal, never skipped.
+    ///
+    /// The caller sees to it that `f` may be called with this reader inside the part, where the
+    /// part does not pass the end and stands inside fewer than 64 others, and that `f` hands back
+    /// the same reader: input, rules, end and depth as they were, at no earlier position, and
+    /// failed where it was.
+    ///
+    /// # Errors
+    ///
+    /// - `Overflow`, `Incomplete` and `NestingDepth` of a part that cannot be entered, as by
+    ///   [`Reader::enter_nested`].
+    /// - The error of `f`, handed on; the reader stands where `f` left it, with its own end and
+    ///   depth.
+    /// - `TrailingData` at the position, where `f` leaves octets; the reader has failed then.
     final fn read_nested<T: Drop, E: From<Error> + Drop, F: FnOnce(&mut Self) -> Result<T, E>>(
         &mut self,
         len: Length,
@@ -113,6 +142,11 @@ pub trait ReaderExt: Reader {
     }
 
     /// Fills the buffer with the next octets, as [`Reader::read_into`] does; the reader stays.
+    ///
+    /// # Errors
+    ///
+    /// `Overflow`, `Failed` and `Incomplete`, where and with the positions that
+    /// [`Reader::read_into`] says; buffer and reader are unchanged.
     final fn peek_into(&self, buf: &mut [u8]) -> Result<(), Error>
         ensures exact { AnswersAs Self.reliable (read_into_outcome (length buf.old))
             (Self.state self.now) (map_ok (λ _. buf.new) result) }
@@ -123,6 +157,12 @@ pub trait ReaderExt: Reader {
     }
 
     /// The header ahead, as [`decode_header`] would answer; the reader stays.
+    ///
+    /// # Errors
+    ///
+    /// `Failed`, `Overflow`, `Incomplete`, `TagUnknown`, `TagNumberInvalid`, `IndefiniteLength` and
+    /// `Length`, where and with the positions that [`Header::decode`] says; the reader is
+    /// unchanged.
     final fn peek_header(&self) -> Result<Header, Error>
         ensures { Peeks IsHeaderAhead (HeaderFault BodyFault) Self.reliable (Self.state self.now)
             result }
@@ -132,6 +172,11 @@ pub trait ReaderExt: Reader {
     }
 
     /// The tag ahead, as decoding it would answer; the reader stays.
+    ///
+    /// # Errors
+    ///
+    /// `Failed`, `Overflow`, `Incomplete`, `TagUnknown` and `TagNumberInvalid`, where and with the
+    /// positions that [`Tag::decode`] says; the reader is unchanged.
     final fn peek_tag(&self) -> Result<Tag, Error>
         ensures { Peeks TagAhead IdentifierFault Self.reliable (Self.state self.now) result }
     {
@@ -139,11 +184,16 @@ pub trait ReaderExt: Reader {
         decode_tag(&mut fork)
     }
 
-    /// Lends the octets of the whole element ahead, header and contents. A header that is refused
-    /// leaves the reader as it is, and so does a length that passes 4294967295 together with the
-    /// header's octets: `Overflow` without a position. Contents that are not all there are
-    /// `Incomplete` at the position, before the header, and the reader has failed; see
-    /// [`Reader::read_slice`].
+    /// Lends the octets of the whole element ahead, header and contents.
+    ///
+    /// # Errors
+    ///
+    /// - `Failed`, `Overflow`, `Incomplete`, `TagUnknown`, `TagNumberInvalid`, `IndefiniteLength`
+    ///   and `Length` of the header, as by [`ReaderExt::peek_header`]; the reader is unchanged.
+    /// - `Overflow` without a position, where the octets of header and contents pass 4294967295, or
+    ///   are not all there and do so together with the position; the reader is unchanged.
+    /// - `Incomplete` at the position, before the header, where the contents are not all there; the
+    ///   reader has failed then.
     final fn tlv_bytes(&mut self) -> Result<Self::Lent, Error>
         ensures same { Same (Self.state self.old) (Self.state self.new) }
         ensures exact { IsBinding Self.reliable result
@@ -157,8 +207,13 @@ pub trait ReaderExt: Reader {
         self.read_slice(len)
     }
 
-    /// Decodes a value, as [`Decode::decode`] does. A reader that has failed refuses by `Failed` at
-    /// its position, and every refusal leaves it failed, where it keeps such a state.
+    /// Decodes a value, as [`Decode::decode`] does.
+    ///
+    /// # Errors
+    ///
+    /// - `Failed` at the position, where the reader had failed; it is unchanged.
+    /// - Those of the type, as by [`Decode::decode`]; the reader stands where that leaves it and
+    ///   has failed, whatever the error.
     final fn decode<T: Decode<Self>>(
         &mut self,
         alloc: Global,
@@ -187,10 +242,26 @@ pub trait ReaderExt: Reader {
         }
     }
 
-    /// Reads a SEQUENCE by `f`, which gets this reader inside its contents. A header is refused as
-    /// by [`decode_header`], and one with another tag by `TagUnexpected` without a position, the
-    /// reader behind the header. What `f` leaves of the contents is a refusal, as in
-    /// [`ReaderExt::read_nested`].
+    /// Reads a SEQUENCE (X.690 8.9) by `f`, which gets this reader inside its contents. What `f`
+    /// leaves of the contents is a refusal, never skipped.
+    ///
+    /// The caller sees to it that, whichever header of a SEQUENCE stands ahead, `f` may be called
+    /// with this reader inside its contents, where they do not pass the end and stand inside fewer
+    /// than 64 parts, and that `f` hands back the same reader: input, rules, end and depth as they
+    /// were, at no earlier position, and failed where it was.
+    ///
+    /// # Errors
+    ///
+    /// - `Failed`, `Overflow`, `Incomplete`, `TagUnknown`, `TagNumberInvalid`, `IndefiniteLength`
+    ///   and `Length` of the header, as by [`Header::decode`].
+    /// - `TagUnexpected` without a position, where the header has another tag; the reader stands
+    ///   behind the header and has not failed.
+    /// - `Overflow`, `Incomplete` and `NestingDepth` of contents that cannot be entered, as by
+    ///   [`Reader::enter_nested`]; the reader stands behind the header.
+    /// - The error of `f`, handed on; the reader stands where `f` left it, with its own end and
+    ///   depth.
+    /// - `TrailingData` at the position, where `f` leaves octets; the reader has failed then.
+    /// - Those of [`read_eoc`](crate::read_eoc), where the length was read in the indefinite form.
     final fn sequence<T: Drop, E: From<Error> + Drop, F: FnOnce(&mut Self) -> Result<T, E>>(
         &mut self,
         f: F,

@@ -6,6 +6,8 @@ ghost use Rattle.der_base.specs.declared.tag.Tag.{Tag as ATag};
 use der_base::Tag;
 
 /// Types all of whose values have one tag.
+///
+/// Ghost member: `tag_is` is that tag.
 pub trait FixedTag {
     ghost tag_is: { ATag };
 
@@ -19,6 +21,8 @@ pub trait FixedTag {
 }
 
 /// Types whose values have a tag, each its own.
+///
+/// Ghost member: `tag_of` is the tag of a value.
 pub trait Tagged {
     ghost tag_of: { Self → ATag };
 
@@ -36,6 +40,8 @@ impl<T: FixedTag> Tagged for T {
 }
 
 /// Types whose tag says whether their contents are constructed.
+///
+/// Ghost member: `constructed` is whether the tag has the constructed bit.
 pub trait IsConstructed {
     ghost constructed: { Bool };
 

@@ -13,10 +13,20 @@ use der_base::{Class, Error, Tag, TagNumber};
 /// Calls on the type `Tag` that want a reader; no other type has them.
 pub trait TagPeek: Sized {
     /// The tag ahead, as decoding it would answer; the reader stays.
+    ///
+    /// # Errors
+    ///
+    /// `Failed`, `Overflow`, `Incomplete`, `TagUnknown` and `TagNumberInvalid`, where and with the
+    /// positions that [`Tag::decode`] says; the reader is unchanged.
     fn peek<R: Reader>(reader: &R) -> Result<Self, Error>;
 
-    /// Whether the tag ahead has this class and number; false where no octets are left. The reader
-    /// stays.
+    /// Whether the tag ahead has this class and number; false where no octets are left, also on a
+    /// failed reader. The reader stays.
+    ///
+    /// # Errors
+    ///
+    /// `Failed`, `Overflow`, `Incomplete`, `TagUnknown` and `TagNumberInvalid`, where and with the
+    /// positions that [`Tag::decode`] says; the reader is unchanged.
     fn peek_matches<R: Reader>(
         reader: &mut R,
         expected_class: Class,
@@ -25,11 +35,10 @@ pub trait TagPeek: Sized {
 
     /// Decodes a tag (X.690 8.1.2), and tells the constructed bit of its identifier.
     ///
-    /// Refused by `TagUnknown` after a first octet that begins no tag, by `TagNumberInvalid` after
-    /// an octet that no tag number goes on with, and by `Incomplete` where one more octet is
-    /// wanted, as by [`ReaderExt::read_byte`], each at the position after the octets that were
-    /// read. The reader has failed then. One that had failed before refuses by `Failed` at its
-    /// position.
+    /// # Errors
+    ///
+    /// `Failed`, `Overflow`, `Incomplete`, `TagUnknown` and `TagNumberInvalid`, as by
+    /// [`Tag::decode`].
     fn decode_with_constructed_bit<R: Reader>(reader: &mut R) -> Result<(Self, bool), Error>;
 }
 

@@ -6,8 +6,8 @@ use crate::header::Header;
 use crate::writer::Writer;
 use der_base::{Error, ErrorKind, Length, Tag};
 
-/// A writer into a slice, which takes no memory. It writes at most 4294967295 octets. What the slice
-/// holds behind the written octets stays as it is.
+/// A writer into a slice, which takes no memory. It writes at most 4294967295 octets. What the
+/// slice holds behind the written octets stays as it is.
 ///
 /// After a refusal it has failed and refuses everything.
 #[derive(Debug, Drop)]
