@@ -19,9 +19,13 @@ pub use vec::{encode_to_vec_in, to_der_in};
 
 /// Types whose values are written as octets.
 ///
-/// `encoding` is the octets of a value, `encodable` whether it can be written at all. `size` is
-/// the exact answer of [`Encode::encoded_len`], and `answers` the exact outcome of
-/// [`Encode::encode`] on a reliable writer, refusals and their states included.
+/// Ghost members:
+///
+/// - `encoding` is the octets of a value.
+/// - `encodable` says whether a value can be written at all.
+/// - `size` is the exact answer of [`Encode::encoded_len`], refusals included.
+/// - `answers` is the exact outcome of [`Encode::encode`] on a reliable writer, refusals and their
+///   states included.
 pub trait Encode {
     ghost encoding: { Self → List ℕ };
 
@@ -31,15 +35,25 @@ pub trait Encode {
 
     ghost answers: { Self → WriterState → AResult (Unit {0}) AnError → WriterState → Type 0 };
 
-    /// How many octets the encoding has. An element of more than 4294967295 octets is `Overflow`
-    /// without a position; other errors are the type's own. `size` says which.
+    /// How many octets the encoding has.
+    ///
+    /// # Errors
+    ///
+    /// - `Overflow` without a position, where an element has more than 4294967295 octets.
+    /// - Those of the type, which `size` says.
     fn encoded_len(&self) -> Result<Length, Error>
         ensures ok { Counts (encoding self.now) result }
         ensures succeeds { encodable self.now → HasSize (encoding self.now) result }
         ensures exact { result ≡ size self.now };
 
-    /// Writes the encoding. An error of the value or of the writer is handed on, and what was
-    /// written before it stands; `answers` says which.
+    /// Writes the encoding.
+    ///
+    /// # Errors
+    ///
+    /// What was written before stands after each; `answers` says how the writer is left.
+    ///
+    /// - Those of the type.
+    /// - `Failed`, `Overflow` and `Overlength` of the writer, as by [`Writer::write`].
     fn encode<W: Writer>(&self, writer: &mut W) -> Result<(), Error>
         ensures kept { Keeps (W.state writer.old) (W.state writer.new) }
         ensures ok { Appends (W.state writer.old) (encoding self.now) result (W.state writer.new) }
@@ -48,10 +62,15 @@ pub trait Encode {
         ensures exact { W.reliable ≡ true
             → answers self.now (W.state writer.old) result (W.state writer.new) };
 
-    /// Writes the encoding to the beginning of the buffer, and answers it. Takes no memory. An
-    /// error of [`Encode::encode`] is handed on; a buffer that is too short is `Overlength` at the
-    /// end that was wished by the write for which there is no room. After a refusal nothing is
-    /// promised of the buffer.
+    /// Writes the encoding to the beginning of the buffer, and answers it. Takes no memory.
+    ///
+    /// # Errors
+    ///
+    /// After a refusal nothing is promised of the buffer.
+    ///
+    /// - Those of the type, as by [`Encode::encode`].
+    /// - `Overflow` at the number of octets written, where the next write would pass 4294967295.
+    /// - `Overlength` at the end that was wished by the first write for which there is no room.
     final fn encode_to_slice<'b>(&self, buf: &'b mut [u8]) -> Result<&'b [u8], Error>
         ensures ok { IfOk result (λ r. r.now ≡ Self.encoding self.now) }
         ensures succeeds { Self.encodable self.now
@@ -64,10 +83,17 @@ pub trait Encode {
         writer.finish()
     }
 
-    /// Appends the encoding, and answers its number of octets. An error of
-    /// [`Encode::encoded_len`] is handed on, and then one of [`Encode::encode`]; where the vector
-    /// would pass the greatest `usize` that is `Overflow`, where memory is refused `OutOfMemory`,
-    /// both without a position. After each refusal the vector's contents are as before.
+    /// Appends the encoding, and answers its number of octets.
+    ///
+    /// # Errors
+    ///
+    /// After each the vector's contents are as before. Where several fit, the first is told.
+    ///
+    /// - Those of [`Encode::encoded_len`], `Overflow` without a position past 4294967295 octets
+    ///   among them.
+    /// - `Overflow` without a position, where the vector would pass the greatest `usize`.
+    /// - `OutOfMemory` without a position, where memory is refused.
+    /// - Those of [`Encode::encode`], with positions counted from the beginning of the encoding.
     final fn encode_to_vec(&self, out: &mut Vec<u8>) -> Result<Length, Error>
         ensures ok { OnOk result (out.new.items ≡ out.old.items ++ Self.encoding self.now) }
         ensures count { IfOk result (λ l. l ≡ definite_length (length (Self.encoding self.now))) }
@@ -80,9 +106,16 @@ pub trait Encode {
         encode_to_vec_in(self, out)
     }
 
-    /// The encoding. An error of [`Encode::encoded_len`] is handed on, `Overflow` without a
-    /// position past 4294967295 octets among them, and then one of [`Encode::encode`];
-    /// `OutOfMemory` without a position where memory is refused.
+    /// The encoding.
+    ///
+    /// # Errors
+    ///
+    /// Where several fit, the first is told.
+    ///
+    /// - Those of [`Encode::encoded_len`], `Overflow` without a position past 4294967295 octets
+    ///   among them.
+    /// - `OutOfMemory` without a position, where memory is refused.
+    /// - Those of [`Encode::encode`].
     final fn to_der(&self, alloc: Global) -> Result<Vec<u8>, Error>
         ensures ok { IfOk result (λ v. v.items ≡ Self.encoding self.now) }
         ensures succeeds { Self.encodable self.now → GrowsBy (Self.encoding self.now) 0 result }
@@ -93,6 +126,11 @@ pub trait Encode {
     }
 }
 
+/// The element of a value that has a tag: its header, and then its contents (X.690 8.1.1).
+///
+/// # Errors
+///
+/// Those of [`encoded_len_tlv`] and [`encode_tlv`].
 impl<T: EncodeValue + Tagged> Encode for T {
     ghost encoding = { λ v. element_octets (T.tag_of v) (T.contents v) };
 
@@ -111,9 +149,12 @@ impl<T: EncodeValue + Tagged> Encode for T {
     }
 }
 
-/// How many octets the element of a value has: its tag, its length, and its contents. An error of
-/// [`EncodeValue::value_len`] is handed on; more octets than 4294967295 are `Overflow` without a
-/// position.
+/// How many octets the element of a value has: its tag, its length, and its contents.
+///
+/// # Errors
+///
+/// - Those of [`EncodeValue::value_len`].
+/// - `Overflow` without a position, where there are more octets than 4294967295.
 pub fn encoded_len_tlv<T: EncodeValue + Tagged>(value: &T) -> Result<Length, Error>
     ensures ok { Counts (element_octets (T.tag_of value.now) (T.contents value.now)) result }
     ensures succeeds { T.writable value.now
@@ -123,9 +164,14 @@ pub fn encoded_len_tlv<T: EncodeValue + Tagged>(value: &T) -> Result<Length, Err
     value.value_len()?.for_tlv(value.tag())
 }
 
-/// Writes the element of a value: its header, and then its contents (X.690 8.1.1). An error of
-/// [`EncodeValue::value_len`] is handed on before anything is written; one of the writer or of
-/// [`EncodeValue::encode_value`] is handed on, and what was written before it stands.
+/// Writes the element of a value: its header, and then its contents (X.690 8.1.1).
+///
+/// # Errors
+///
+/// - Those of [`EncodeValue::value_len`]; the writer is unchanged.
+/// - `Failed`, `Overflow` and `Overlength` of the writer at the header, as by [`Writer::write`];
+///   the octets of earlier writes stand.
+/// - Those of [`EncodeValue::encode_value`]; what was written before stands.
 pub fn encode_tlv<T: EncodeValue + Tagged, W: Writer>(
     value: &T,
     writer: &mut W,

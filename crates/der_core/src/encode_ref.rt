@@ -21,6 +21,11 @@ impl<'a, T> EncodeRef<'a, T> {
     }
 }
 
+/// The value's encoding.
+///
+/// # Errors
+///
+/// Those of the value, with the same positions and states.
 impl<'a, T: Encode> Encode for EncodeRef<'a, T> {
     ghost encoding = { λ v. T.encoding v.0.now };
 

@@ -11,8 +11,12 @@ use crate::tag::fixed::Tagged;
 use crate::writer::{SliceWriter, Writer};
 use der_base::{Error, Length};
 
-/// What a value means when it is written: the octets of its contents, and whether it can be
-/// written.
+/// What a value means when it is written.
+///
+/// Ghost members:
+///
+/// - `contents` is the octets of its contents.
+/// - `writable` says whether it can be written at all.
 pub trait WrittenValue {
     ghost contents: { Self → List ℕ };
 
@@ -22,8 +26,11 @@ pub trait WrittenValue {
 /// Types whose values have contents, which stand behind a header. Such a type that also has a tag
 /// is encoded by [`crate::Encode`]: its header, and then its contents.
 ///
-/// `value_size` is the exact answer of [`EncodeValue::value_len`], and `value_answers` the exact
-/// outcome of [`EncodeValue::encode_value`] on a reliable writer.
+/// Ghost members:
+///
+/// - `value_size` is the exact answer of [`EncodeValue::value_len`], refusals included.
+/// - `value_answers` is the exact outcome of [`EncodeValue::encode_value`] on a reliable writer,
+///   refusals and their states included.
 ///
 /// A month as an `OCTET STRING` of one octet:
 ///
@@ -83,8 +90,11 @@ pub trait EncodeValue: WrittenValue {
 
     ghost value_answers: { Self → WriterState → AResult (Unit {0}) AnError → WriterState → Type 0 };
 
-    /// The header of the value's element: its tag, and the number of octets of its contents. An
-    /// error of [`EncodeValue::value_len`] is handed on.
+    /// The header of the value's element: its tag, and the number of octets of its contents.
+    ///
+    /// # Errors
+    ///
+    /// - Those of [`EncodeValue::value_len`].
     fn header(&self) -> Result<Header, Error>
     where
         Self: Tagged,
@@ -96,14 +106,24 @@ pub trait EncodeValue: WrittenValue {
         Ok(Header::new(self.tag(), len))
     }
 
-    /// How many octets the contents have. Errors are the type's own; `value_size` says which.
+    /// How many octets the contents have.
+    ///
+    /// # Errors
+    ///
+    /// - Those of the type, which `value_size` says.
     fn value_len(&self) -> Result<Length, Error>
         ensures ok { Counts (Self.contents self.now) result }
         ensures succeeds { Self.writable self.now → HasSize (Self.contents self.now) result }
         ensures exact { result ≡ value_size self.now };
 
-    /// Writes the contents. An error of the value or of the writer is handed on, and what was
-    /// written before it stands; `value_answers` says which.
+    /// Writes the contents.
+    ///
+    /// # Errors
+    ///
+    /// What was written before stands after each; `value_answers` says how the writer is left.
+    ///
+    /// - Those of the type.
+    /// - `Failed`, `Overflow` and `Overlength` of the writer, as by [`Writer::write`].
     fn encode_value<W: Writer>(&self, writer: &mut W) -> Result<(), Error>
         ensures kept { Keeps (W.state writer.old) (W.state writer.new) }
         ensures ok { Appends (W.state writer.old) (Self.contents self.now) result
@@ -114,10 +134,15 @@ pub trait EncodeValue: WrittenValue {
             → value_answers self.now (W.state writer.old) result (W.state writer.new) };
 }
 
-/// Writes the contents to the beginning of the buffer, and answers them. Takes no memory. An error
-/// of [`EncodeValue::encode_value`] is handed on; a buffer that is too short is `Overlength` at the
-/// end that was wished by the write for which there is no room. After a refusal nothing is promised
-/// of the buffer.
+/// Writes the contents to the beginning of the buffer, and answers them. Takes no memory.
+///
+/// # Errors
+///
+/// After a refusal nothing is promised of the buffer.
+///
+/// - Those of the type, as by [`EncodeValue::encode_value`].
+/// - `Overflow` at the number of octets written, where the next write would pass 4294967295.
+/// - `Overlength` at the end that was wished by the first write for which there is no room.
 pub fn encode_value_to_slice<'a, T: EncodeValue>(
     buf: &'a mut [u8],
     value: &T,

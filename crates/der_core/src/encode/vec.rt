@@ -11,6 +11,11 @@ use der_base::{Error, ErrorKind, Length};
 use std::alloc::Allocator;
 
 /// The encoding, in memory of this allocator; otherwise as [`Encode::to_der`].
+///
+/// # Errors
+///
+/// Those of [`Encode::encoded_len`], `OutOfMemory` without a position, and those of
+/// [`Encode::encode`], as by [`Encode::to_der`].
 pub fn to_der_in<T: Encode, A: Allocator>(alloc: A, value: &T) -> Result<Vec<u8, A>, Error>
     ensures ok { IfOk result (λ v. v.items ≡ T.encoding value.now) }
     ensures succeeds { T.encodable value.now → GrowsBy (T.encoding value.now) 0 result }
@@ -23,6 +28,11 @@ pub fn to_der_in<T: Encode, A: Allocator>(alloc: A, value: &T) -> Result<Vec<u8,
 }
 
 /// Appends the encoding to a vector of any allocator; otherwise as [`Encode::encode_to_vec`].
+///
+/// # Errors
+///
+/// Those of [`Encode::encoded_len`], `Overflow` and `OutOfMemory` without a position, and those of
+/// [`Encode::encode`], as by [`Encode::encode_to_vec`]; the vector's contents are as before.
 pub fn encode_to_vec_in<T: Encode, A: Allocator>(
     value: &T,
     out: &mut Vec<u8, A>,

@@ -25,6 +25,11 @@ impl<'a, T: WrittenValue> WrittenValue for EncodeValueRef<'a, T> {
     ghost writable = { λ v. T.writable v.0.now };
 }
 
+/// The value's contents.
+///
+/// # Errors
+///
+/// Those of the value, with the same positions and states.
 impl<'a, T: EncodeValue> EncodeValue for EncodeValueRef<'a, T> {
     ghost value_size = { λ v. T.value_size v.0.now };
 

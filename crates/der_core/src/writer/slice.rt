@@ -61,7 +61,11 @@ impl<'a> SliceWriter<'a> {
         Length::new(self.position)
     }
 
-    /// The error of this kind at the position; the writer has failed.
+    /// The error of this kind at the position, as an answer.
+    ///
+    /// # Errors
+    ///
+    /// - This kind at the position, always; the writer has failed then.
     pub fn error<T>(&mut self, kind: ErrorKind) -> Result<T, Error>
         ensures at_position { result ≡ Err (at kind (writer_position (slice_writer_state self.old))) }
         ensures failed { slice_writer_state self.new ≡ failed_state (slice_writer_state self.old) }
@@ -70,7 +74,11 @@ impl<'a> SliceWriter<'a> {
         Err(kind.at(self.position()))
     }
 
-    /// The octets written, or `Failed` at the position of a writer that has failed.
+    /// Ends the writing, and the writer: the octets written.
+    ///
+    /// # Errors
+    ///
+    /// - `Failed` at the position, where the writer had failed.
     pub fn finish(self) -> Result<&'a [u8], Error>
         ensures { map_ok (λ r. r.now) result ≡ finished_answer (slice_writer_state self.entry) }
     {
@@ -82,9 +90,13 @@ impl<'a> SliceWriter<'a> {
         Ok(&bytes[..end])
     }
 
-    /// Writes a value. A writer that has failed refuses by `Failed` at its position. A refused
-    /// value's error keeps its position, or gets the writer's where it has none, and the writer
-    /// has failed.
+    /// Writes a value.
+    ///
+    /// # Errors
+    ///
+    /// - `Failed` at the position, where the writer had failed; it is unchanged.
+    /// - Those of the value's [`Encode::encode`], with the error's position, or the writer's where
+    ///   it has none; what was written before stands, and the writer has failed.
     pub fn encode<T: Encode>(&mut self, value: &T) -> Result<(), Error>
         ensures kept { Keeps (slice_writer_state self.old) (slice_writer_state self.new) }
         ensures ok { Appends (slice_writer_state self.old) (T.encoding value.now) result
@@ -112,14 +124,28 @@ impl<'a> SliceWriter<'a> {
     }
 
     /// Writes the header of a SEQUENCE (X.690 8.9), and has its contents written by `f`, which is
-    /// handed this writer over the next `len` octets alone: at position 0 and not failed. `f` has
-    /// to hand this writer back: the same part, and what was written before it. Afterwards the
-    /// writer is over its own part again, whatever `f` answered.
+    /// handed this writer over the next `len` octets alone: at position 0 and not failed.
+    /// Afterwards the writer is over its own part again, whatever `f` answered.
     ///
-    /// The header is written as [`Header`] is. No room for the contents is refused as by a write of
-    /// so many octets. An error of `f` is handed on. A part whose writer has failed is `Failed` at
-    /// its position in the part, and one that is not filled `Length` at the position behind it.
-    /// After each refusal the writer has failed.
+    /// The caller sees to it that `f` may be called with any writer over that part, and that `f`
+    /// hands the same writer back: the same slice and part, what was written before it, the slice
+    /// behind the written octets as it was, and failed where it was.
+    ///
+    /// # Errors
+    ///
+    /// After each the writer has failed; after those of a part that was entered it stands behind
+    /// the part. Where several fit, the first is told.
+    ///
+    /// - `Failed` at the position, where the writer had failed; it is unchanged.
+    /// - `Overflow` at the position of the write, where the header, or behind it the contents,
+    ///   would pass 4294967295.
+    /// - `Overlength` at the end that was wished, where there is no room for the header, or behind
+    ///   it for the contents; the octets of the header that were written stand.
+    /// - The error of `f`, handed on.
+    /// - `Failed` at the position in the part, where `f` answers none, but leaves its writer
+    ///   failed.
+    /// - `Length` with the tag SEQUENCE at the position behind the part, where `f` does not fill
+    ///   it.
     pub fn sequence<F: FnOnce(&mut SliceWriter<'a>) -> Result<(), Error>>(
         &mut self,
         len: Length,
@@ -237,6 +263,7 @@ impl<'a> SliceWriter<'a> {
     }
 }
 
+/// A reliable writer: it refuses exactly where [`Writer::write`] says.
 impl<'a> Writer for SliceWriter<'a> {
     ghost use Rattle.der_core.specs.SliceWriter.{slice_writer_state};
 
