@@ -129,7 +129,7 @@ impl<R: Reader> Decode<R> for Header {
     /// - `Failed` at the position, where the reader had failed; it is unchanged.
     /// - `Overflow` without a position, where an octet is missing at position 4294967295; the
     ///   reader stands there and has not failed.
-    /// - `Incomplete` at the end, where one more octet is wanted.
+    /// - `Incomplete` at the end, where an octet is missing at any other position.
     /// - `TagUnknown` with the octet, behind a first octet that begins no tag.
     /// - `TagNumberInvalid` behind octet 1F where it is the first, or behind an octet with which no
     ///   tag number goes on (X.690 8.1.2.4).

@@ -111,7 +111,7 @@ impl<R: Reader> Decode<R> for Length {
     /// - `Failed` at the position, where the reader had failed; it is unchanged.
     /// - `Overflow` without a position, where an octet is missing at position 4294967295; the
     ///   reader stands there and has not failed.
-    /// - `Incomplete` at the end, where one more octet is wanted.
+    /// - `Incomplete` at the end, where an octet is missing at any other position.
     /// - `IndefiniteLength` behind octet 80 where it is the first.
     /// - `Overlength` behind the length's octets where fewer would do, or behind the first of them
     ///   where it announces more than four.

@@ -32,7 +32,8 @@ pub trait ReaderExt: Reader {
     /// - `Failed` at the position, where the reader had failed; it is unchanged.
     /// - `Overflow` without a position, where no octet is left at position 4294967295; the reader
     ///   is unchanged.
-    /// - `Incomplete` at the position, where no octet is left; the reader has failed then.
+    /// - `Incomplete` at the position, where no octet is left at any other; the reader has failed
+    ///   then.
     #[inline(always)]
     final fn read_byte(&mut self) -> Result<u8, Error>
         ensures same { Same (Self.state self.old) (Self.state self.new) }

@@ -72,7 +72,7 @@ impl Position {
     ///
     /// # Errors
     ///
-    /// The position is unchanged after each.
+    /// The position is unchanged after each. Where several fit, the first is told.
     ///
     /// - `Overflow` without a position, where the new one would pass 4294967295.
     /// - `Incomplete` at the old position, where the new one would pass the end.
@@ -106,7 +106,7 @@ impl Position {
     ///
     /// # Errors
     ///
-    /// The position is unchanged after each.
+    /// The position is unchanged after each. Where several fit, the first is told.
     ///
     /// - `NestingDepth` at the position, where the part would stand inside 64 others.
     /// - `Overflow` without a position, where the part would pass 4294967295.

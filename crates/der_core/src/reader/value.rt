@@ -22,7 +22,8 @@ use der_base::{Error, ErrorKind, Length};
 ///   there and has failed.
 /// - `Overflow` without a position, where an octet is missing at position 4294967295; the reader
 ///   stands there and has not failed.
-/// - `Incomplete` at the end, where an octet is missing; the reader stands there and has failed.
+/// - `Incomplete` at the end, where an octet is missing at any other position; the reader stands
+///   there and has failed.
 pub fn read_eoc<R: Reader>(reader: &mut R) -> Result<(), Error>
     ensures same { Same (R.state reader.old) (R.state reader.new) }
     ensures exact { Meets R.reliable read_eoc_outcome (R.state reader.old) result
