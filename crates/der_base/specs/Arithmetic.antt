@@ -10,11 +10,13 @@ use Rattle.der_base.specs.declared.error.ErrorKind.TheVariants.{Overflow}
 
 -- so many octets, where 32 bits can count them
 abbrev pub checked_length : ℕ → Result Length Error
-checked_length n = if nat_lt n (2 ^ 32) then Ok (definite_length n) else Err (error_of_kind Overflow)
+checked_length n = if nat_lt n (2 ^ 32) then Ok (definite_length n)
+    else Err (error_of_kind Overflow)
 
 -- what is left of m octets without n of them, where there are so many
 abbrev pub checked_difference : ℕ → ℕ → Result Length Error
-checked_difference m n = if nat_lt m n then Err (error_of_kind Overflow) else Ok (definite_length (m - n))
+checked_difference m n = if nat_lt m n then Err (error_of_kind Overflow)
+    else Ok (definite_length (m - n))
 
 -- a sum or a difference of which the first may be an error already, which is then the answer
 abbrev pub result_sum : Result Length Error → Length → Result Length Error

@@ -16,7 +16,8 @@ use Rattle.der_base.specs.declared.encoding_rules.EncodingRules.TheVariants.{Ber
 
 -- by the number, then by the flag, the unflagged first
 abbrev pub length_order : Length → Length → Ordering
-length_order a b = ordering_then (nat_cmp (number a) (number b)) (bool_cmp (is_indefinite a) (is_indefinite b))
+length_order a b = ordering_then (nat_cmp (number a) (number b))
+    (bool_cmp (is_indefinite a) (is_indefinite b))
 
 -- the place of a variant among the others
 abbrev pub variant_index : Tag → ℕ
@@ -50,7 +51,8 @@ variant_index (tag.Private b n) = 24
 abbrev pub tag_order : Tag → Tag → Ordering
 tag_order a b =
     ordering_then (nat_cmp (variant_index a) (variant_index b))
-    (ordering_then (bool_cmp (label a).constructed (label b).constructed) (nat_cmp (label a).number (label b).number))
+    (ordering_then (bool_cmp (label a).constructed (label b).constructed)
+    (nat_cmp (label a).number (label b).number))
 
 -- the fields of a variant, as a hasher gets them
 abbrev pub field_writes : Tag → HashWrites

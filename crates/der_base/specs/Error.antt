@@ -48,7 +48,8 @@ missing_refusal expected actual p =
     record {
       error =
           if nat_lt expected (2 ^ 32)
-          then at (Incomplete (definite_length expected) (definite_length actual)) (definite_length p)
+          then at (Incomplete (definite_length expected) (definite_length actual))
+          (definite_length p)
           else record { kind = Overflow; position = None };
       position = p;
       fails = nat_lt expected (2 ^ 32);

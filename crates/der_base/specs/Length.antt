@@ -16,7 +16,8 @@ definite_length n = record { inner = n; indefinite = false }
 abbrev pub indefinite_length : ℕ → Length
 indefinite_length n = record { inner = n; indefinite = true }
 
--- the shortest list of digits of a number in a base, the most significant first; of 0 it is one zero
+-- the shortest list of digits of a number in a base, the most significant first; of 0 it is one
+-- zero
 abbrev pub digits : ℕ → ℕ → List ℕ
 digits base n = if n == 0 then 0 ∷ [] else digits_of base n
 

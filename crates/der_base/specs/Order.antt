@@ -6,4 +6,5 @@ use Rattle.std.specs.Prelude.{◌≡◌, ℕ, ◌<◌, List, ◌∷◌, ◌++◌
 -- first; no contract names this yet
 pub data IsBefore (a b : List ℕ) : Type 0 where
   begins : (o : ℕ) (more : List ℕ) → b ≡ a ++ o ∷ more → IsBefore a b
-  differs : (same x y : List ℕ) (m n : ℕ) → m < n → a ≡ same ++ m ∷ x → b ≡ same ++ n ∷ y → IsBefore a b
+  differs : (same x y : List ℕ) (m n : ℕ) → m < n → a ≡ same ++ m ∷ x → b ≡ same ++ n ∷ y
+      → IsBefore a b

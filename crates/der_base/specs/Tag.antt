@@ -117,7 +117,8 @@ identifier_kind (first ∷ s) o = TagNumberInvalid
 -- octets at a position begin with no identifier: they are cut, or an octet is refused after which
 -- none can follow
 pub data IdentifierFault (rules : EncodingRules) (at : ℕ) : List ℕ → Refusal → Type 0 where
-  cut : (s : List ℕ) → IsCutIdentifier rules s → IdentifierFault rules at s (end_refusal (at + length s))
+  cut : (s : List ℕ) → IsCutIdentifier rules s
+      → IdentifierFault rules at s (end_refusal (at + length s))
   refused : (s : List ℕ) (o : ℕ) (rest : List ℕ) → IsCutIdentifier rules s
       → ((more : List ℕ) (t : Tag) (b : Bool)
       → IsIdentifier rules ((s ++ o ∷ []) ++ more) t b → ⊥)

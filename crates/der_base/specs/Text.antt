@@ -23,7 +23,8 @@ length_text l = decimal (number l)
 
 abbrev pub length_debug : Length → List ℕ
 length_debug l =
-    if is_indefinite l then codes "Length([indefinite])" else codes "Length(" ++ decimal (number l) ++ codes ")"
+    if is_indefinite l then codes "Length([indefinite])"
+    else codes "Length(" ++ decimal (number l) ++ codes ")"
 
 abbrev pub class_text : Class → List ℕ
 class_text class.Universal = codes "UNIVERSAL"
@@ -88,7 +89,8 @@ kind_text kind.DateTime = Some (codes "date/time error")
 kind_text kind.EncodingRules = Some (codes "invalid encoding rules")
 kind_text kind.Failed = Some (codes "operation failed")
 kind_text (kind.Incomplete expected actual) =
-    Some (codes "ASN.1 DER message is incomplete: expected " ++ length_text expected ++ codes ", actual " ++ length_text actual)
+    Some (codes "ASN.1 DER message is incomplete: expected " ++ length_text expected
+    ++ codes ", actual " ++ length_text actual)
 kind_text kind.IndefiniteLength = Some (codes "indefinite length disallowed/malformed")
 kind_text (kind.Length t) = Some (codes "incorrect length for " ++ tag_text t)
 kind_text kind.NestingDepth = Some (codes "too many nested productions encountered")
@@ -103,7 +105,8 @@ kind_text kind.Reader = Some (codes "reader does not support the requested opera
 kind_text kind.TagModeUnknown = Some (codes "unknown tag mode")
 kind_text kind.TagNumberInvalid = Some (codes "invalid tag number")
 kind_text (kind.TagUnexpected (Some expected) actual) =
-    Some (codes "unexpected ASN.1 DER tag: expected " ++ tag_text expected ++ codes ", got " ++ tag_text actual)
+    Some (codes "unexpected ASN.1 DER tag: expected " ++ tag_text expected ++ codes ", got "
+    ++ tag_text actual)
 kind_text (kind.TagUnexpected None actual) =
     Some (codes "unexpected ASN.1 DER tag: got " ++ tag_text actual)
 kind_text (kind.TagUnknown byte) =

@@ -98,8 +98,10 @@ pub data PartialAnswer {A E : Type 0} (answers : ReaderState → Result A E → 
 
 -- the octets of a whole element: its header is looked at first, which leaves the reader; header and
 -- contents together are then lent, or pass every length
-pub data TlvAnswers (s : ReaderState) (answer : Result (List ℕ) Error) (t : ReaderState) : Type 0 where
-  no_header : (e : Error) → Peeks IsHeaderAhead (HeaderFault BodyFault) true s (Err e) → answer ≡ Err e → t ≡ s
+pub data TlvAnswers (s : ReaderState) (answer : Result (List ℕ) Error) (t : ReaderState)
+    : Type 0 where
+  no_header : (e : Error) → Peeks IsHeaderAhead (HeaderFault BodyFault) true s (Err e)
+      → answer ≡ Err e → t ≡ s
       → TlvAnswers s answer t
   with_header : (h : Header) (m : ℕ) → IsHeaderAhead h s.rules (rest s) m → s.failed ≡ false
       → Gives (tlv_outcome (m + number (head_of h).length)) s answer t → TlvAnswers s answer t
@@ -107,17 +109,20 @@ pub data TlvAnswers (s : ReaderState) (answer : Result (List ℕ) Error) (t : Re
 -- a reader decodes: one that has failed refuses, and any refusal leaves it failed; a reliable one
 -- owes the decoder's answer too
 pub data ReaderDecodes {A E : Type 0} (reliable : Bool)
-    (answers : ReaderState → Result A E → ReaderState → Type 0) (converts : Error → E → Type 0) (s : ReaderState)
+    (answers : ReaderState → Result A E → ReaderState → Type 0) (converts : Error → E → Type 0)
+    (s : ReaderState)
     (result : Result A E) (t : ReaderState) : Type 0 where
   had_failed : s.failed ≡ true → IsErrAnd result (λ e. converts (at Failed (reader_position s)) e)
       → t ≡ stopped_state s s.position → ReaderDecodes reliable answers converts s result t
   decodes : s.failed ≡ false → IsOk result → (reliable ≡ true → answers s result t)
       → ReaderDecodes reliable answers converts s result t
-  refuses : (u : ReaderState) → s.failed ≡ false → IsErr result → (reliable ≡ true → answers s result u)
+  refuses : (u : ReaderState) → s.failed ≡ false → IsErr result
+      → (reliable ≡ true → answers s result u)
       → t ≡ stopped_state u u.position → ReaderDecodes reliable answers converts s result t
 
 -- whether the tag ahead has this class and number: none is ahead of a finished reader
-pub data MatchAnswers (class number : ℕ) (s : ReaderState) (answer : Result Bool Error) : Type 0 where
+pub data MatchAnswers (class number : ℕ) (s : ReaderState) (answer : Result Bool Error)
+    : Type 0 where
   finished : s.position ≡ s.end → answer ≡ Ok false → MatchAnswers class number s answer
   tag_ahead_is : (t : Tag) (matches : Bool) → Peeks TagAhead IdentifierFault true s (Ok t)
       → answer ≡ Ok matches

@@ -67,7 +67,8 @@ length_outcome n = write_pieces (first_and_others (length_octets n))
 
 -- the tag, and then the length
 abbrev pub header_outcome : Tag → ℕ → WriterState → WriterOutcome
-header_outcome t n s = chained_write (tag_outcome t s).answer (tag_outcome t s).after (length_outcome n)
+header_outcome t n s = chained_write (tag_outcome t s).answer (tag_outcome t s).after
+    (length_outcome n)
 
 -- after an answer, the rest, if it is no error
 abbrev pub ThenAnswers : Result (Unit {0}) Error → WriterState → WriterAnswer → WriterAnswer
@@ -132,7 +133,8 @@ pub data VecAnswer (size : Result Length Error) (answers : WriterAnswer) (before
       → result ≡ Err (error_of_kind Overflow) → VecAnswer size answers before result
   no_memory : (l : Length) → size ≡ Ok l → before + number l < 2 ^ 64
       → result ≡ Err (error_of_kind OutOfMemory) → VecAnswer size answers before result
-  written : (l : Length) (buffer : List ℕ) (reference : ℕ) (r : Result (Unit {0}) Error) (t : WriterState)
+  written : (l : Length) (buffer : List ℕ) (reference : ℕ) (r : Result (Unit {0}) Error)
+      (t : WriterState)
       → size ≡ Ok l → before + number l < 2 ^ 64 → length buffer ≡ number l
       → answers (fresh_state buffer reference) r t
       → result ≡ map_ok (λ _. definite_length (number l)) r → VecAnswer size answers before result
@@ -153,7 +155,8 @@ writer_after (Err e) t = failed_state t
 
 -- a writer that has failed is left as it is
 abbrev pub RefusesFailed : WriterAnswer
-RefusesFailed s result u = s.failed ≡ true → (result ≡ Err (at Failed (writer_position s))) × (u ≡ s)
+RefusesFailed s result u = s.failed ≡ true → (result ≡ Err (at Failed (writer_position s)))
+    × (u ≡ s)
 
 -- what a slice writer that has not failed answers to a value, and how it is left
 abbrev pub PlacesErrors : WriterAnswer → WriterAnswer

@@ -21,15 +21,18 @@ abbrev pub CanNest : ReaderState → ℕ → Type 0
 CanNest s n = (s.position + n ≤ s.end) × (s.depth < 64)
 
 -- what a closure makes of a part is handed on; octets that it left are a refusal
-pub data Closes {T E : Type 0} (converts : Error → E → Type 0) (answer : Result T E) (s : ReaderState)
+pub data Closes {T E : Type 0} (converts : Error → E → Type 0) (answer : Result T E)
+    (s : ReaderState)
     (end depth : ℕ) (result : Result T E) (t : ReaderState) : Type 0 where
   handed_on : (e : E) → answer ≡ Err e → result ≡ Err e → t ≡ resumed_state s end depth
       → Closes converts answer s end depth result t
   left_over : (v : T) (e : E) → answer ≡ Ok v → s.position < s.end
-      → converts (at (TrailingData (reader_position s) (definite_length (s.end - s.position))) (reader_position s)) e
+      → converts (at (TrailingData (reader_position s) (definite_length (s.end - s.position)))
+      (reader_position s)) e
       → result ≡ Err e → t ≡ stopped_state (resumed_state s end depth) s.position
       → Closes converts answer s end depth result t
-  whole : (v : T) → answer ≡ Ok v → s.position ≡ s.end → result ≡ Ok v → t ≡ resumed_state s end depth
+  whole : (v : T) → answer ≡ Ok v → s.position ≡ s.end → result ≡ Ok v
+      → t ≡ resumed_state s end depth
       → Closes converts answer s end depth result t
 
 -- a part may be left: its outer end lies between the position and the input's length
@@ -48,7 +51,8 @@ pub record HandsBack {P Q A : Type 0} (pre : P → Type 0) (post : P → A → Q
 
 -- the closure ran inside the part of n octets, and this is made of what it answered
 pub data NestedAnswers {P Q T E : Type 0} (converts : Error → E → Type 0)
-    (post : P → Result T E → Q → Type 0) (before : P → ReaderState) (after : Q → ReaderState) (n : ℕ)
+    (post : P → Result T E → Q → Type 0) (before : P → ReaderState) (after : Q → ReaderState)
+    (n : ℕ)
     (s : ReaderState) (result : Result T E) (t : ReaderState) : Type 0 where
   not_entered : (e : Error) (f : E) → Gives (enter_nested_outcome n) s (Err e) t → converts e f
       → result ≡ Err f → NestedAnswers converts post before after n s result t
@@ -58,12 +62,14 @@ pub data NestedAnswers {P Q T E : Type 0} (converts : Error → E → Type 0)
 
 -- a part and the end mark that closes it, where its length was read in the indefinite form
 pub data ClosesValue {T E : Type 0} (converts : Error → E → Type 0) (answer : Result T E)
-    (s : ReaderState) (end depth : ℕ) (marked : Bool) (result : Result T E) (t : ReaderState) : Type 0 where
+    (s : ReaderState) (end depth : ℕ) (marked : Bool) (result : Result T E) (t : ReaderState)
+    : Type 0 where
   part_refused : (e : E) → Closes converts answer s end depth (Err e) t → result ≡ Err e
       → ClosesValue converts answer s end depth marked result t
   without_mark : (v : T) → Closes converts answer s end depth (Ok v) t → marked ≡ false
       → result ≡ Ok v → ClosesValue converts answer s end depth marked result t
-  with_mark : (v : T) (u : ReaderState) → Closes converts answer s end depth (Ok v) u → marked ≡ true
+  with_mark : (v : T) (u : ReaderState) → Closes converts answer s end depth (Ok v) u
+      → marked ≡ true
       → Gives read_eoc_outcome u (Ok tt) t → result ≡ Ok v
       → ClosesValue converts answer s end depth marked result t
   mark_refused : (v : T) (u : ReaderState) (e : Error) (f : E)
@@ -73,7 +79,8 @@ pub data ClosesValue {T E : Type 0} (converts : Error → E → Type 0) (answer 
 
 -- the closure ran inside the contents of a length, and this is made of what it answered
 pub data ValueAnswers {P Q T E : Type 0} (converts : Error → E → Type 0)
-    (post : P → Result T E → Q → Type 0) (before : P → ReaderState) (after : Q → ReaderState) (length : Length)
+    (post : P → Result T E → Q → Type 0) (before : P → ReaderState) (after : Q → ReaderState)
+    (length : Length)
     (s : ReaderState) (result : Result T E) (t : ReaderState) : Type 0 where
   not_opened : (e : Error) (f : E) → Gives (enter_nested_outcome (number length)) s (Err e) t
       → converts e f → result ≡ Err f → ValueAnswers converts post before after length s result t
@@ -84,7 +91,8 @@ pub data ValueAnswers {P Q T E : Type 0} (converts : Error → E → Type 0)
 
 -- a sequence: its header, its tag, and its contents
 pub data SequenceAnswers {P Q T E : Type 0} (converts : Error → E → Type 0)
-    (post : P → Result T E → Q → Type 0) (before : P → ReaderState) (after : Q → ReaderState) (s : ReaderState)
+    (post : P → Result T E → Q → Type 0) (before : P → ReaderState) (after : Q → ReaderState)
+    (s : ReaderState)
     (result : Result T E) (t : ReaderState) : Type 0 where
   no_header : (e : Error) (f : E) → Decodes IsHeaderAhead (HeaderFault BodyFault) true s (Err e) t
       → converts e f → result ≡ Err f → SequenceAnswers converts post before after s result t

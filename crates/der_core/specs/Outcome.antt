@@ -17,7 +17,8 @@ abbrev pub refused_outcome : (A : Type 0) → ReaderState → Refusal → Outcom
 refused_outcome A s r = record { answer = Err r.error; after = state_after s r }
 
 -- from s the call answers so and leaves t, as its table says
-pub record Gives {A : Type 0} (table : ReaderState → Outcome A) (s : ReaderState) (answer : Result A Error)
+pub record Gives {A : Type 0} (table : ReaderState → Outcome A) (s : ReaderState)
+    (answer : Result A Error)
     (t : ReaderState) : Type 0 where
   pub answered : answer ≡ (table s).answer
   pub leaves : t ≡ (table s).after
@@ -29,12 +30,14 @@ Meets reliable table s (Ok a) t = Gives table s (Ok a) t
 Meets reliable table s (Err e) t = reliable ≡ true → Gives table s (Err e) t
 
 -- the same of the answer alone, where the reader stays as it is
-abbrev pub AnswersAs : {A : Type 0} → Bool → (ReaderState → Outcome A) → ReaderState → Result A Error → Type 0
+abbrev pub AnswersAs : {A : Type 0} → Bool → (ReaderState → Outcome A) → ReaderState
+    → Result A Error → Type 0
 AnswersAs reliable table s (Ok a) = Ok a ≡ (table s).answer
 AnswersAs reliable table s (Err e) = reliable ≡ true → Err e ≡ (table s).answer
 
 -- what follows an answer
-abbrev pub outcome_following : {A B : Type 0} → Result A Error → ReaderState → (A → ReaderState → Outcome B) → Outcome B
+abbrev pub outcome_following : {A B : Type 0} → Result A Error → ReaderState
+    → (A → ReaderState → Outcome B) → Outcome B
 outcome_following (Ok a) t next = next a t
 outcome_following (Err e) t next = outcome_of (Err e) t
 

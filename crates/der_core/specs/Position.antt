@@ -36,8 +36,11 @@ abbrev pub advance_outcome : ℕ → Place → PlaceOutcome Length
 advance_outcome n s =
     if not (nat_lt (s.position + n) (2 ^ 32)) then place_outcome (Err (error_of_kind Overflow)) s
     else if nat_lt s.end (s.position + n) then
-    place_outcome (Err (at (Incomplete (definite_length (s.position + n)) (definite_length s.end)) (definite_length s.position))) s
-    else place_outcome (Ok (definite_length (s.position + n))) (place_at s.end (s.position + n) s.depth)
+    place_outcome
+    (Err (at (Incomplete (definite_length (s.position + n)) (definite_length s.end))
+    (definite_length s.position))) s
+    else place_outcome (Ok (definite_length (s.position + n)))
+    (place_at s.end (s.position + n) s.depth)
 
 -- where a part of n octets ends
 abbrev pub part_end : ℕ → Place → Result ℕ Error
@@ -52,7 +55,9 @@ nested_place s end = place_at end s.position (s.depth + 1)
 
 abbrev pub split_nested_outcome : ℕ → Place → PlaceOutcome (ℕ × ℕ)
 split_nested_outcome n s =
-    if not (nat_lt s.depth 64) then place_outcome (Err (at NestingDepth (definite_length s.position))) s
-    else if not (nat_lt (s.position + n) (2 ^ 32)) then place_outcome (Err (error_of_kind Overflow)) s
+    if not (nat_lt s.depth 64) then place_outcome
+    (Err (at NestingDepth (definite_length s.position))) s
+    else if not (nat_lt (s.position + n) (2 ^ 32))
+    then place_outcome (Err (error_of_kind Overflow)) s
     else if nat_lt s.end (s.position + n) then place_outcome (Err (end_refusal s.end).error) s
     else place_outcome (Ok (s.end, s.depth)) (place_at (s.position + n) s.position (s.depth + 1))

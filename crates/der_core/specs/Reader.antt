@@ -15,7 +15,8 @@ short_outcome A s n = refused_outcome A s (missing_refusal (s.position + n) s.en
 
 -- a failed reader reads nothing
 abbrev pub outcome_unless_failed : {A : Type 0} → ReaderState → Outcome A → Outcome A
-outcome_unless_failed s working = if s.failed then outcome_of (Err (at Failed (reader_position s))) s else working
+outcome_unless_failed s working = if s.failed then outcome_of (Err (at Failed (reader_position s)))
+    s else working
 
 abbrev pub read_slice_outcome : ℕ → ReaderState → Outcome (List ℕ)
 read_slice_outcome n s =
@@ -61,7 +62,8 @@ abbrev pub finish_answer : ReaderState → Result (Unit {0}) Error
 finish_answer s =
     if s.failed then Err (at Failed (reader_position s))
     else if nat_lt s.position s.end then
-    Err (at (TrailingData (reader_position s) (definite_length (s.end - s.position))) (reader_position s))
+    Err (at (TrailingData (reader_position s) (definite_length (s.end - s.position)))
+    (reader_position s))
     else Ok tt
 
 -- a part of n octets does not pass the end, nor stand inside 64 others
@@ -72,7 +74,8 @@ enter_nested_outcome n s =
     else if nat_lt s.depth 64 then outcome_of (Ok (s.end, s.depth)) (nested_state s n)
     else outcome_of (Err (at NestingDepth (reader_position s))) (stopped_state s s.position)
 
--- octets in memory of their own: refused as they are lent, or where they are there memory is refused
+-- octets in memory of their own: refused as they are lent, or where they are there memory is
+-- refused
 -- and the reader unchanged
 abbrev pub VecRefused : ℕ → ReaderState → Error → ReaderState → Type 0
 VecRefused n s e t =
@@ -93,7 +96,8 @@ abbrev pub end_mark_outcome : ReaderState → List ℕ → Outcome (Unit {0})
 end_mark_outcome s [] = short_outcome (Unit {0}) s 1
 end_mark_outcome s (zero ∷ []) = short_outcome (Unit {0}) (advanced_state s 1) 1
 end_mark_outcome s (zero ∷ zero ∷ more) = outcome_of (Ok tt) (advanced_state s 2)
-end_mark_outcome s (zero ∷ suc o ∷ more) = kind_outcome (Unit {0}) IndefiniteLength (advanced_state s 2)
+end_mark_outcome s (zero ∷ suc o ∷ more) = kind_outcome (Unit {0}) IndefiniteLength
+    (advanced_state s 2)
 end_mark_outcome s (suc o ∷ more) = kind_outcome (Unit {0}) IndefiniteLength (advanced_state s 1)
 
 abbrev pub read_eoc_outcome : ReaderState → Outcome (Unit {0})

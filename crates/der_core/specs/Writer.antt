@@ -7,8 +7,8 @@ use Rattle.der_base.specs.declared.error.Error.{Error}
 use Rattle.der_base.specs.declared.error.ErrorKind.TheVariants.{Failed, Overflow, Overlength}
 
 -- What a writer means. One without a buffer begins at 0 with nothing written, stops where it takes
--- no more, has nothing behind, and keeps any capacity and reference: these two tell a writer that is
--- handed back from another one.
+-- no more, has nothing behind, and keeps any capacity and reference: these two tell a writer that
+-- is handed back from another one.
 pub record WriterState : Type 0 where
   -- all octets written since the buffer began
   pub octets : List ℕ

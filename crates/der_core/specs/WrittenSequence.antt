@@ -55,9 +55,11 @@ pub record Abandons (s : WriterState) (n : ℕ) (q t : WriterState) : Type 0 whe
 pub data ClosesPart (s : WriterState) (n : ℕ) (q t : WriterState)
     : Result (Unit {0}) Error → Result (Unit {0}) Error → Type 0 where
   handed_on : (e : Error) → Abandons s n q t → ClosesPart s n q t (Err e) (Err e)
-  failed : q.failed ≡ true → Abandons s n q t → ClosesPart s n q t (Ok tt) (Err (at Failed (writer_position q)))
+  failed : q.failed ≡ true → Abandons s n q t → ClosesPart s n q t (Ok tt)
+      (Err (at Failed (writer_position q)))
   unfilled : q.failed ≡ false → length q.octets < length s.octets + n → Abandons s n q t
-      → ClosesPart s n q t (Ok tt) (Err (at (IncorrectLength Sequence) (definite_length (written_count s + n))))
+      → ClosesPart s n q t (Ok tt)
+      (Err (at (IncorrectLength Sequence) (definite_length (written_count s + n))))
   filled : q.failed ≡ false → length q.octets ≡ length s.octets + n
       → t ≡ record s { octets = q.octets; behind = q.behind } → ClosesPart s n q t (Ok tt) (Ok tt)
 
@@ -90,7 +92,8 @@ Fills run s n result t = OnOk result (IsFilledBy run s n t)
 
 -- where there is room the closure ran
 abbrev pub RunsInRoom : Run → WriterState → ℕ → Result (Unit {0}) Error → WriterState → Type 0
-RunsInRoom run s n result t = s.failed ≡ false → length s.octets + n ≤ s.stop → Runs run s n result t
+RunsInRoom run s n result t = s.failed ≡ false → length s.octets + n ≤ s.stop
+    → Runs run s n result t
 
 -- n octets are set apart and filled: no room, or the closure ran
 pub data PartAnswer (run : Run) (s : WriterState) (n : ℕ) (result : Result (Unit {0}) Error)

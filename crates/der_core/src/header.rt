@@ -34,7 +34,8 @@ impl Header {
     /// The header of a tag and a length: constructed where the tag is, or the length was read in
     /// the indefinite form.
     pub fn new(tag: Tag, length: Length) -> Self
-        ensures { head_of result ≡ head tag length ((label tag).constructed || is_indefinite length) }
+        ensures { head_of result ≡ head tag length
+            ((label tag).constructed || is_indefinite length) }
     {
         let constructed = tag.is_constructed() || length.is_indefinite();
         Header {

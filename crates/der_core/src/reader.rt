@@ -104,7 +104,8 @@ pub trait Reader: Sized + Drop {
         ensures exact { Meets reliable (read_slice_outcome (number len)) (state self.old)
             (map_ok Self.Lent.octets result) (state self.new) }
         ensures unlent { lends ≡ false
-            → map_ok Self.Lent.octets result ≡ Err (at CannotRead (reader_position (state self.old))) }
+            → map_ok Self.Lent.octets result ≡ Err
+            (at CannotRead (reader_position (state self.old))) }
         ensures unmoved { lends ≡ false → state self.new ≡ state self.old };
 
     /// Fills the buffer with the next octets.
@@ -129,7 +130,8 @@ pub trait Reader: Sized + Drop {
     fn error(&mut self, kind: ErrorKind) -> Error
         ensures same { Same (state self.old) (state self.new) }
         ensures at_position { result ≡ at kind (reader_position (state self.old)) }
-        ensures failed { state self.new ≡ stopped_state (state self.old) (state self.old).position };
+        ensures failed { state self.new ≡ stopped_state (state self.old)
+            (state self.old).position };
 
     /// Lends the octets that are left, up to the end; the reader stays.
     ///
@@ -143,7 +145,8 @@ pub trait Reader: Sized + Drop {
         ensures exact { reliable ≡ true
             → map_ok Self.Lent.octets result ≡ remaining_answer (state self.now) }
         ensures unlent { lends ≡ false
-            → map_ok Self.Lent.octets result ≡ Err (at CannotRead (reader_position (state self.now))) };
+            → map_ok Self.Lent.octets result ≡ Err
+            (at CannotRead (reader_position (state self.now))) };
 
     /// An equal reader; it takes no memory, and what is read by it leaves this one as it is.
     fn fork(&self) -> Self
@@ -161,7 +164,8 @@ pub trait Reader: Sized + Drop {
     /// - `OutOfMemory` without a position, where memory is refused; the reader is unchanged.
     fn read_vec_in<A: Allocator>(&mut self, alloc: A, len: Length) -> Result<Vec<u8, A>, Error>
         ensures same { Same (state self.old) (state self.new) }
-        ensures exact { VecMeets reliable (number len) (state self.old) (map_ok (λ v. v.items) result)
+        ensures exact { VecMeets reliable (number len) (state self.old)
+            (map_ok (λ v. v.items) result)
             (state self.new) };
 
     /// The same in memory of the global allocator.

@@ -28,7 +28,8 @@ pub record IsHeaderRead (octets : List ℕ) (h : Head) (rest : List ℕ) : Type 
 abbrev pub IsRefusedFor : List ℕ → Error → Type 0
 IsRefusedFor octets e =
     ((2 ^ 32 ≤ length octets) × (e ≡ error_of_kind Overflow))
-    ⊎ ((r : Refusal) × (length octets < 2 ^ 32) × HeaderFault BodyFault Der 0 octets r × (e ≡ r.error))
+    ⊎ ((r : Refusal) × (length octets < 2 ^ 32) × HeaderFault BodyFault Der 0 octets r
+    × (e ≡ r.error))
 
 -- as many octets as a length can count begin with this element: a header, and as many octets more
 -- as its length says
@@ -105,7 +106,8 @@ pub data Answers (words : List (List ℕ)) : ℕ → List ℕ → Type 0 where
 
 -- the output took an answer to the words whole, and nothing else
 abbrev pub WritesAnswer : List (List ℕ) → ℕ → Option (List ℕ) → Option (List ℕ) → Type 0
-WritesAnswer words status old new = (text : List ℕ) × Answers words status text × Appends old new text
+WritesAnswer words status old new = (text : List ℕ) × Answers words status text
+    × Appends old new text
 
 -- an answer's status and text
 abbrev pub status_of : {A : Type 0} → Answer A → ℕ

@@ -14,13 +14,17 @@ use Rattle.der_tool.specs.Text.{usage_line, error_line}
 -- the words are what the arguments give until they end, without the first, the program's name
 abbrev pub AreWordsOf : {A B : Type 0} → IntoIter (String A) B → List (List ℕ) → Type 0
 AreWordsOf {A} arguments words =
-    (given : List (String A)) × Drains into_iter_steps arguments given × (words ≡ drop 1 (texts given))
+    (given : List (String A)) × Drains into_iter_steps arguments given
+    × (words ≡ drop 1 (texts given))
 
 -- what the program may say to its arguments, or to why there are none: with one that is not text
 -- they are no command
-pub data AnswersArguments {A B : Type 0} : Result (IntoIter (String A) B) Error → ℕ → List ℕ → Type 0 where
-  answered : {status : ℕ} {text : List ℕ} (arguments : IntoIter (String A) B) (words : List (List ℕ))
-      → AreWordsOf arguments words → Answers words status text → AnswersArguments (Ok arguments) status text
+pub data AnswersArguments {A B : Type 0} : Result (IntoIter (String A) B) Error → ℕ → List ℕ
+    → Type 0 where
+  answered : {status : ℕ} {text : List ℕ} (arguments : IntoIter (String A) B)
+      (words : List (List ℕ))
+      → AreWordsOf arguments words → Answers words status text
+      → AnswersArguments (Ok arguments) status text
   no_memory_for_words : (arguments : IntoIter (String A) B)
       → AnswersArguments (Ok arguments) 1 (error_line (codes "out of memory"))
   not_text : (e : Error) → error_kind e ≡ InvalidData → AnswersArguments (Err e) 2 usage_line

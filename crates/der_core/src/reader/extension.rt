@@ -54,7 +54,8 @@ pub trait ReaderExt: Reader {
 
     /// How many octets are left, up to the end.
     final fn remaining_len(&self) -> Length
-        ensures { result ≡ definite_length ((Self.state self.now).end - (Self.state self.now).position) }
+        ensures { result ≡ definite_length
+            ((Self.state self.now).end - (Self.state self.now).position) }
     {
         self.input_len().saturating_sub(self.position())
     }
@@ -84,7 +85,8 @@ pub trait ReaderExt: Reader {
         answer: Result<T, E>,
     ) -> Result<T, E>
         requires { CanLeave (Self.state self.old) (outer_end outer) (outer_depth outer) }
-        ensures same { Same (resumed_state (Self.state self.old) (outer_end outer) (outer_depth outer))
+        ensures same { Same
+            (resumed_state (Self.state self.old) (outer_end outer) (outer_depth outer))
             (Self.state self.new) }
         ensures exact { Closes E.from_gives answer (Self.state self.old) (outer_end outer)
             (outer_depth outer) result (Self.state self.new) }

@@ -49,7 +49,8 @@ impl Position {
 
     /// How many octets are left, up to the end.
     pub fn remaining_len(&self) -> Length
-        ensures { result ≡ definite_length ((position_place self.now).end - (position_place self.now).position) }
+        ensures { result ≡ definite_length
+            ((position_place self.now).end - (position_place self.now).position) }
     {
         self.input_len().saturating_sub(self.current())
     }
@@ -77,7 +78,8 @@ impl Position {
     /// - `Overflow` without a position, where the new one would pass 4294967295.
     /// - `Incomplete` at the old position, where the new one would pass the end.
     pub fn advance(&mut self, amount: Length) -> Result<Length, Error>
-        ensures { Moves (advance_outcome (number amount)) (position_place self.old) result (position_place self.new) }
+        ensures { Moves (advance_outcome (number amount)) (position_place self.old) result
+            (position_place self.new) }
     {
         let count = u32::from(amount);
         if count > u32::MAX - self.position || self.position + count > self.end {
@@ -112,7 +114,8 @@ impl Position {
     /// - `Overflow` without a position, where the part would pass 4294967295.
     /// - `Incomplete` at the end, where the part would pass the end.
     pub fn split_nested(&mut self, len: Length) -> Result<Resumption, Error>
-        ensures { Moves (split_nested_outcome (number len)) (position_place self.old) (map_ok outer_place result)
+        ensures { Moves (split_nested_outcome (number len)) (position_place self.old)
+            (map_ok outer_place result)
             (position_place self.new) }
     {
         if self.depth >= MAX_DEPTH {
@@ -151,7 +154,8 @@ impl Position {
 
     /// Leaves a part: end and depth are again those around it.
     pub fn resume_nested(&mut self, resumption: Resumption)
-        ensures { position_place self.new ≡ place_at (outer_end resumption) (position_place self.old).position
+        ensures { position_place self.new ≡ place_at (outer_end resumption)
+            (position_place self.old).position
             (outer_depth resumption) }
     {
         self.end = u32::from(resumption.input_len());

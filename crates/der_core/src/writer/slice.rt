@@ -67,7 +67,8 @@ impl<'a> SliceWriter<'a> {
     ///
     /// - This kind at the position, always; the writer has failed then.
     pub fn error<T>(&mut self, kind: ErrorKind) -> Result<T, Error>
-        ensures at_position { result ≡ Err (at kind (writer_position (slice_writer_state self.old))) }
+        ensures at_position { result ≡ Err
+            (at kind (writer_position (slice_writer_state self.old))) }
         ensures failed { slice_writer_state self.new ≡ failed_state (slice_writer_state self.old) }
     {
         self.failed = true;
