@@ -1,11 +1,13 @@
 -- What is refused behind a first octet, which stood at a position and was read.
-use Rattle.std.specs.Prelude.{◌≡◌, ℕ, ◌+◌, ◌%◌, ◌<◌, ◌≤◌, false, ◌∷◌}
+use Rattle.std.specs.Prelude.{◌≡◌, ℕ, ◌+◌, ◌%◌, ◌<◌, ◌≤◌, false, Option, Some, None, ◌∷◌}
 use Rattle.der_base.specs.Error.{Refusal}
 use Rattle.der_base.specs.Tag.{IdentifierFault}
 use Rattle.der_base.specs.Body.{BodyFault}
 use Rattle.der_base.specs.Header.{LengthFault}
 use Rattle.der_base.specs.declared.error.Error.{Error}
 use Rattle.der_base.specs.declared.error.ErrorKind.{ErrorKind}
+use Rattle.der_base.specs.declared.error.ErrorKind.TheVariants.{Overlength, Length as IncorrectLength}
+use Rattle.der_base.specs.declared.tag.Tag.{Tag}
 use Rattle.der_core.specs.ReaderState.{ReaderState, rest, state_after}
 use Rattle.der_core.specs.Decode.{IsSupported}
 
@@ -20,6 +22,12 @@ RefusesNumber s e t =
     (at first : ℕ) → s.position ≡ at + 1 → s.failed ≡ false → 64 ≤ first → first < 256
     → first % 32 ≡ 31
     → (r : Refusal) × IdentifierFault s.rules at (first ∷ rest s) r × Stops s r e t
+
+-- the kind that a length not spelled as it has to be is told as: with the tag that it stands behind,
+-- if it does
+abbrev pub wrong_length_kind : Option Tag → ErrorKind
+wrong_length_kind None = Overlength
+wrong_length_kind (Some t) = IncorrectLength t
 
 -- a length, behind this first octet; one that is not spelled as it has to be is told as this kind
 abbrev pub RefusesLongLength : ErrorKind → ℕ → ReaderState → Error → ReaderState → Type 0

@@ -11,7 +11,7 @@ ghost use Rattle.der_core.specs.Writer.{Writes};
 
 use crate::decode::Decode;
 use crate::encode::Encode;
-use crate::length::decode_length_as;
+use crate::length::decode_length_behind;
 use crate::reader::{Reader, ReaderExt};
 use crate::tag::decode_with_constructed_bit;
 use crate::writer::Writer;
@@ -98,7 +98,7 @@ pub fn decode_header<R: Reader>(reader: &mut R) -> Result<Header, Error>
         (R.state reader.new) }
 {
     let (tag, constructed) = decode_with_constructed_bit(reader)?;
-    let length = decode_length_as(reader, tag.length_error())?;
+    let length = decode_length_behind(reader, Some(tag))?;
     if length.is_indefinite() && !constructed {
         return Err(reader.error(ErrorKind::IndefiniteLength));
     }

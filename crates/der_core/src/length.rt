@@ -4,7 +4,7 @@ ghost use Rattle.der_base.specs.Body.{BodyFault};
 ghost use Rattle.der_base.specs.Length.{number, definite_length, length_octets};
 ghost use Rattle.der_base.specs.Header.{LengthAhead, LengthFault};
 ghost use Rattle.der_base.specs.declared.error.ErrorKind.TheVariants.{Overlength};
-ghost use Rattle.der_core.specs.AfterFirstOctet.{RefusesLongLength};
+ghost use Rattle.der_core.specs.AfterFirstOctet.{RefusesLongLength, wrong_length_kind};
 ghost use Rattle.der_core.specs.Decode.{Decodes, grammar_levels};
 ghost use Rattle.der_core.specs.Encode.{length_outcome};
 ghost use Rattle.der_core.specs.ReaderState.{Same, Reads};
@@ -14,7 +14,7 @@ use crate::decode::Decode;
 use crate::encode::Encode;
 use crate::reader::{Reader, ReaderExt};
 use crate::writer::Writer;
-use der_base::{Error, ErrorKind, Length};
+use der_base::{Error, ErrorKind, Length, Tag};
 use std::alloc::Global;
 
 // the octet of the indefinite form
@@ -31,39 +31,42 @@ pub fn decode_length<R: Reader>(reader: &mut R) -> Result<Length, Error>
     ensures { Decodes LengthAhead (LengthFault BodyFault Overlength) R.reliable
         (R.state reader.old) result (R.state reader.new) }
 {
-    decode_length_as(reader, ErrorKind::Overlength)
+    decode_length_behind(reader, None)
 }
 
-// The same, but a length that is not spelled as it has to be is told as the wrong kind.
+// The same behind a tag, with which a length is told that is not spelled as it has to be.
 #[inline(always)]
-pub(crate) fn decode_length_as<R: Reader>(reader: &mut R, wrong: ErrorKind) -> Result<Length, Error>
-    ensures { Decodes LengthAhead (LengthFault BodyFault wrong) R.reliable (R.state reader.old)
-        result (R.state reader.new) }
+pub(crate) fn decode_length_behind<R: Reader>(
+    reader: &mut R,
+    tag: Option<Tag>,
+) -> Result<Length, Error>
+    ensures { Decodes LengthAhead (LengthFault BodyFault (wrong_length_kind tag)) R.reliable
+        (R.state reader.old) result (R.state reader.new) }
 {
     let first = reader.read_byte()?;
     if first < INDEFINITE {
         return Ok(Length::new(first as u32));
     }
-    let number = decode_long_length(reader, first, wrong)?;
+    let number = decode_long_length(reader, first, tag)?;
     Ok(Length::new(number))
 }
 
 // The rest of a length behind a first octet from 80 on: so many octets in base 256, the fewest
-// possible. One that is not spelled as it has to be is told as the wrong kind.
-fn decode_long_length<R: Reader>(reader: &mut R, first: u8, wrong: ErrorKind) -> Result<u32, Error>
+// possible.
+fn decode_long_length<R: Reader>(reader: &mut R, first: u8, tag: Option<Tag>) -> Result<u32, Error>
     requires { 128 ≤ first }
     ensures same { Same (R.state reader.old) (R.state reader.new) }
     ensures ok { IfOk result (λ n. (l : List ℕ) × (length_octets n ≡ first ∷ l)
         × Reads (R.state reader.old) (R.state reader.new) l × (n < 2 ^ 32)) }
     ensures exact { R.reliable ≡ true
-        → IfErr result (λ e. RefusesLongLength wrong first (R.state reader.old) e
-        (R.state reader.new)) }
+        → IfErr result (λ e. RefusesLongLength (wrong_length_kind tag) first
+        (R.state reader.old) e (R.state reader.new)) }
 {
     if first == INDEFINITE {
         return Err(reader.error(ErrorKind::IndefiniteLength));
     }
     if first > 0x84 {
-        return Err(reader.error(wrong));
+        return Err(reader.error(wrong_length(tag)));
     }
     let count = first - INDEFINITE;
     let mut number = 0u32;
@@ -72,9 +75,20 @@ fn decode_long_length<R: Reader>(reader: &mut R, first: u8, wrong: ErrorKind) ->
         number = number * 256 + octet as u32;
     }
     if number < least_of(count) {
-        return Err(reader.error(wrong));
+        return Err(reader.error(wrong_length(tag)));
     }
     Ok(number)
+}
+
+// What is said of a length that is not spelled as it has to be.
+#[cold]
+fn wrong_length(tag: Option<Tag>) -> ErrorKind
+    ensures { result ≡ wrong_length_kind tag }
+{
+    match tag {
+        Some(tag) => tag.length_error(),
+        None => ErrorKind::Overlength,
+    }
 }
 
 // The least length that takes so many octets behind the first.

@@ -1,4 +1,4 @@
-use Rattle.std.proofs.Common.{sym, ◌∙◌}
+use Rattle.std.proofs.Common.{refl, sym, ◌∙◌}
 use Rattle.std.proofs.lemmas.Result.{err_from_is_err_and}
 use Rattle.der_core.proofs.StateLemmas.{same_trans}
 use Rattle.der_core.proofs.HeaderReadLemmas.{passed_header, header_tag_refused, header_length_refused, not_flagged, bit_of_flag, rules_after}
@@ -15,7 +15,7 @@ returns-in_err-length g c =
     let p = err_from_is_err_and c.from_residual-in_err-length.result c.from_residual-in_err-length.ensures.1 in
     let read = c.in_ok-tag.ensures.ok in
     rw (p.1, p.2) (decoded_err (same_trans c.in_ok-tag.ensures.same c.in_err-length.ensures.same)
-    (λ reliable der. header_length_refused read c.length_error.ensures (c.in_err-length.ensures.refused reliable (rules_after read ∙ der))))
+    (λ reliable der. header_length_refused read refl (c.in_err-length.ensures.refused reliable (rules_after read ∙ der))))
 
 pub returns-then-not-constructed : goal.returns-then-not-constructed
 returns-then-not-constructed g c =

@@ -10,7 +10,7 @@ returns-then-first-eq-INDEFINITE-clause-exact g c reliable = refused_indefinite 
 
 pub returns-then-first-gt132-clause-exact : goal.returns-then-first-gt132-clause-exact
 returns-then-first-gt132-clause-exact g c reliable =
-    refused_far (omega arith) c.error-then-first-gt132.ensures.at_position c.error-then-first-gt132.ensures.failed
+    refused_far (omega arith) (let told = c.error-then-first-gt132.ensures.at_position in let kind = c.wrong_length.ensures in cc) c.error-then-first-gt132.ensures.failed
 
 pub returns-in_err-octet-clause-exact : goal.returns-in_err-octet-clause-exact
 returns-in_err-octet-clause-exact g c =
@@ -36,7 +36,7 @@ whole i o e a b n h = subst (λ k. DigitsSoFar a b k n) e h
 pub returns-then-number-least_of-clause-exact : goal.returns-then-number-least_of-clause-exact
 returns-then-number-least_of-clause-exact g c reliable =
     refused_longer (whole c.loop-i.i c.args.first (omega arith) _ _ _ c.loop-i.invariant) (omega (arith, c.requires)) (omega arith) c.least_of.ensures c.if-number-least_of.true
-    c.error-then-number-least_of.ensures.at_position c.error-then-number-least_of.ensures.failed
+    (let told = c.error-then-number-least_of.ensures.at_position in let kind = c.wrong_length-then-number-least_of.ensures in cc) c.error-then-number-least_of.ensures.failed
 
 pub returns-clause-ok : goal.returns-clause-ok
 returns-clause-ok g c =

@@ -2,7 +2,7 @@ use Rattle.std.proofs.lemmas.Result.{err_from_is_err_and}
 use Rattle.der_core.proofs.StateLemmas.{byte_working, byte_read, byte_refused, same_trans}
 use Rattle.der_core.proofs.LengthReadLemmas.{passed_short, passed_long, length_ends, length_refused}
 use Rattle.der_core.proofs.DecodeLemmas.{decoded_ok, decoded_err}
-use Rattle.der_core.proofs.length.decode_length_as.Goals as goal
+use Rattle.der_core.proofs.length.decode_length_behind.Goals as goal
 
 pub returns-in_err-first : goal.returns-in_err-first
 returns-in_err-first g c =
