@@ -1,11 +1,6 @@
--- What the derived equalities of tags and headers answer.
-use Rattle.std.proofs.Common.{◌≡◌, ◌↔◌, Bool, true, false, ◌&&◌, IsTrue, List, [], ◌∷◌, refl, sym, ap, ◌∙◌, subst, inl, inr, rules}
+-- What the derived equality of headers answers.
+use Rattle.std.proofs.Common.{◌≡◌, ◌↔◌, Bool, true, ◌&&◌, IsTrue, refl, sym, ap, ◌∙◌, subst, rules}
 use Rattle.std.specs.Cmp.{first_so, second_so}
-use denote.Enum.Compared.{Each, by}
-use denote.Enum.Declared.{Choice}
-use denote.Struct.Field.{Field}
-use denote.Struct.Values.{Values}
-use Rattle.der_base.specs.contracts.tag.Tag.{enum}
 use Rattle.der_base.specs.contracts.tag.TagPartialEq.TheImpl as tag
 use Rattle.der_base.specs.declared.tag.Tag.{Tag}
 use Rattle.der_core.specs.contracts.header.HeaderPartialEq.TheImpl as header
@@ -15,33 +10,13 @@ use Rattle.der_base.specs.declared.length.Length.{Length}
 use Rattle.std.specs.contracts.prelude.BoolPartialEq.TheImpl as bool
 use Rattle.der_core.specs.Header.{head_of}
 use Rattle.der_core.specs.declared.header.Header.{Header}
-
--- at each variant, two values of it are told equal where they are
-abbrev IsFaithful : (parts : List (List Field)) → Each Bool parts → Type 0
-IsFaithful [] each = Unit {0}
-IsFaithful (part ∷ parts) each =
-    ((x y : Values part) → each.0 x y ≡ true → x ≡ y) × ((x : Values part) → each.0 x x ≡ true) × IsFaithful parts each.1
-
--- so two values of the type are
-same_values : (parts : List (List Field)) (each : Each Bool parts) → IsFaithful parts each → (c d : Choice parts) → by false false parts each c d ≡ true → c ≡ d
-same_values [] each all c d e = absurd c
-same_values (part ∷ parts) each all (inl x) (inl y) e = ap inl (all.0 x y e)
-same_values (part ∷ parts) each all (inl x) (inr d) e = absurd cc
-same_values (part ∷ parts) each all (inr c) (inl y) e = absurd cc
-same_values (part ∷ parts) each all (inr c) (inr d) e = ap inr (same_values parts each.1 all.2 c d e)
-
-values_same : (parts : List (List Field)) (each : Each Bool parts) → IsFaithful parts each → (c : Choice parts) → by false false parts each c c ≡ true
-values_same [] each all c = absurd c
-values_same (part ∷ parts) each all (inl x) = all.1 x
-values_same (part ∷ parts) each all (inr c) = values_same parts each.1 all.2 c
+use Rattle.der_base.proofs.EqualityLemmas.{tag_equality}
 
 tag_same : (s t : Tag) → tag.ghosts.eq s t ≡ true → s ≡ t
-tag_same s t e =
-    let same = same_values enum.parts _ (search rules) (enum.as_values s) (enum.as_values t) e in
-    cc (enum.eta s, enum.eta t)
+tag_same s t e = (tag_equality s t).0 e
 
 same_tag : (t : Tag) → tag.ghosts.eq t t ≡ true
-same_tag t = values_same enum.parts _ (search rules) (enum.as_values t)
+same_tag t = (tag_equality t t).1 refl
 
 length_same : (a b : Length) → length.ghosts.eq a b ≡ true → a ≡ b
 length_same a b e = search rules

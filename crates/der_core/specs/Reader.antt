@@ -75,8 +75,7 @@ enter_nested_outcome n s =
     else outcome_of (Err (at NestingDepth (reader_position s))) (stopped_state s s.position)
 
 -- octets in memory of their own: refused as they are lent, or where they are there memory is
--- refused
--- and the reader unchanged
+-- refused and the reader unchanged
 abbrev pub VecRefused : ℕ → ReaderState → Error → ReaderState → Type 0
 VecRefused n s e t =
     Gives (read_slice_outcome n) s (Err e) t
