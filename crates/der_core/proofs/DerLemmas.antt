@@ -79,7 +79,7 @@ at_octets Ahead {v} {y = y} {m = m} e f h = subst (Ahead v Der y) f (subst (λ s
 
 -- tags, lengths and headers ahead are the encodings of those with 32 bits
 pub tags_are_encodings : ReadsEncodings TagAhead (λ t. (label t).number < 2 ^ 32) tag_octets
-tags_are_encodings = record { front = λ octets t m short. (λ h. from octets t m (identifier_view h.1), λ e. (_, at_octets (λ x. IdentifierAhead (x, (label x).constructed)) (sym e.split) (sym e.whole) (identifier e.behind (of_tag e.is_valid)))) }
+tags_are_encodings = record { only = λ octets t m h. from octets t m (identifier_view h.1); every = λ octets t m short e. (_, at_octets (λ x. IdentifierAhead (x, (label x).constructed)) (sym e.split) (sym e.whole) (identifier e.behind (of_tag e.is_valid))) }
   where
     from : (octets : List ℕ) (t : Tag) (m : ℕ) {b : Bool} → IdentifierView (t, b) Der octets m → EncodingAhead (λ x. (label x).number < 2 ^ 32) tag_octets t octets m
     from octets t m (identifier_view_of id rest d e c) =
@@ -87,7 +87,7 @@ tags_are_encodings = record { front = λ octets t m short. (λ h. from octets t 
         record { is_valid = r.numbered; behind = rest; split = e ∙ ap (λ x. x ++ rest) r.octets; whole = c ∙ ap length r.octets }
 
 pub lengths_are_encodings : ReadsEncodings LengthAhead IsDefinite (λ l. length_octets (number l))
-lengths_are_encodings = record { front = λ octets l m short. (from octets l m, λ e. at_octets LengthAhead (sym e.split) (sym e.whole) (to octets l m e)) }
+lengths_are_encodings = record { only = from; every = λ octets l m short e. at_octets LengthAhead (sym e.split) (sym e.whole) (to octets l m e) }
   where
     from : (octets : List ℕ) (l : Length) (m : ℕ) → LengthAhead l Der octets m → EncodingAhead IsDefinite (λ x. length_octets (number x)) l octets m
     from octets l m h =
@@ -104,7 +104,7 @@ lengths_are_encodings = record { front = λ octets l m short. (from octets l m, 
     to octets l m e = subst (λ x. LengthAhead x Der (length_octets (number l) ++ e.behind) (length (length_octets (number l)))) (sym e.is_valid.0) (definite (number l) e.behind e.is_valid.1)
 
 pub headers_are_encodings : ReadsEncodings IsHeaderAhead IsDefiniteHeader (λ h. header_octets (head_of h).tag (number (head_of h).length))
-headers_are_encodings = record { front = λ octets h m short. (from octets h m, λ e. at_octets IsHeaderAhead (sym e.split) (sym e.whole) (to octets h m e)) }
+headers_are_encodings = record { only = from; every = λ octets h m short e. at_octets IsHeaderAhead (sym e.split) (sym e.whole) (to octets h m e) }
   where
     from : (octets : List ℕ) (h : Header) (m : ℕ) → IsHeaderAhead h Der octets m → EncodingAhead IsDefiniteHeader (λ x. header_octets (head_of x).tag (number (head_of x).length)) h octets m
     from octets h m ahead =
@@ -125,4 +125,4 @@ headers_are_encodings = record { front = λ octets h m short. (from octets h m, 
 
 -- no octets are the encoding of nothing
 pub nothing_is_encoding : {A : Type 0} → ReadsEncodings (λ (_ : A) _ _ m. m ≡ 0) (λ _. Unit {0}) (λ _. [])
-nothing_is_encoding = record { front = λ octets v m short. (λ e. record { is_valid = tt; behind = octets; split = refl; whole = e }, λ e. e.whole) }
+nothing_is_encoding = record { only = λ octets v m e. record { is_valid = tt; behind = octets; split = refl; whole = e }; every = λ octets v m short e. e.whole }

@@ -1,5 +1,5 @@
 -- Elements of types that are read as they are written.
-use Rattle.std.proofs.Common.{◌≡◌, ℕ, ◌^◌, ◌<◌, ◌≤◌, Bool, true, false, List, [], ◌∷◌, ◌++◌, length, drop, refl, sym, ap, subst, ◌∙◌, append_assoc, append-nil, length-append, arith}
+use Rattle.std.proofs.Common.{◌≡◌, ℕ, ◌^◌, ◌<◌, ◌≤◌, Bool, true, false, List, [], ◌∷◌, ◌++◌, length, drop, refl, sym, ap, subst, ◌∙◌, append_assoc, append-nil, length-append, length-drop, arith}
 use Rattle.std.proofs.lemmas.List.{drop_at}
 use Rattle.der_base.specs.Length.{number, is_indefinite}
 use Rattle.der_base.specs.Tag.{label}
@@ -11,6 +11,7 @@ use Rattle.der_base.proofs.HeaderLemmas.{header_front}
 use Rattle.der_core.specs.Decode.{Whole}
 use Rattle.der_core.specs.Element.{IsEndMark, contents_head, ElementAhead}
 use Rattle.der_core.specs.Encode.{element_octets}
+use Rattle.der_core.specs.Fields.{FieldsAhead, TakesWhole}
 use Rattle.der_core.specs.Lawful.{definite_head, IsLawful, EncodingAhead, ReadsEncodings, ReadsWholeEncodings, ReadsWritten}
 use Rattle.der_core.proofs.DerLemmas.{header_read, header_written}
 
@@ -73,7 +74,7 @@ encoding_within {encoding = encoding} {v = v} e = omega (arith, ap length e.spli
 -- an element of a lawful type stands ahead exactly where its encoding does
 module _ {A : Type 0} {tag : Tag} {takes : A → EncodingRules → Head → List ℕ → Type 0} {valid : A → Type 0} {contents : A → List ℕ} {levels : EncodingRules → ℕ} (laws : IsLawful tag takes valid contents levels) where
   pub elements_are_encodings : ReadsEncodings (ElementAhead tag takes) valid (λ v. element_octets tag (contents v))
-  elements_are_encodings = record { front = λ octets v m short. (from octets v m, to octets v m short) }
+  elements_are_encodings = record { only = from; every = to }
     where
       from : (octets : List ℕ) (v : A) (m : ℕ) → ElementAhead tag takes v Der octets m → EncodingAhead valid (λ x. element_octets tag (contents x)) v octets m
       from octets v m e =
@@ -96,8 +97,8 @@ module _ {A : Type 0} {tag : Tag} {takes : A → EncodingRules → Head → List
   pub written_is_read : ReadsWritten tag takes valid contents
   written_is_read =
       record {
-        ahead = λ v more is short. (elements_are_encodings.front _ v _ short).1 (record { is_valid = is; behind = more; split = refl; whole = refl });
-        alone = λ v w more m short e. let there = (elements_are_encodings.front _ w m short).0 e in one v w more there.behind m there.split there.whole;
+        ahead = λ v more is short. elements_are_encodings.every _ v _ short (record { is_valid = is; behind = more; split = refl; whole = refl });
+        alone = λ v w more m e. let there = elements_are_encodings.only _ w m e in one v w more there.behind m there.split there.whole;
       }
     where
       same_front : (x y p q : List ℕ) → length x ≡ length y → x ++ p ≡ y ++ q → x ≡ y
@@ -119,22 +120,57 @@ module _ {A : Type 0} {tag : Tag} {takes : A → EncodingRules → Head → List
 
 -- octets are wholly a value exactly where they are its encoding
 pub whole_encodings : {A : Type 0} {Ahead : A → EncodingRules → List ℕ → ℕ → Type 0} {valid : A → Type 0} {encoding : A → List ℕ} → ReadsEncodings Ahead valid encoding → ReadsWholeEncodings Ahead valid encoding
-whole_encodings {A} {Ahead} {valid} {encoding} reads octets v short = (from, to)
+whole_encodings {A} {Ahead} {valid} {encoding} reads = record { only = from; every = to }
   where
     no_more : (l : List ℕ) → length l ≡ 0 → l ≡ []
     no_more [] h = refl
     no_more (x ∷ xs) h = absurd (omega arith)
 
-    from : Whole (Ahead v) Der octets → valid v × (octets ≡ encoding v)
-    from h =
-        let e = (reads.front octets v (length octets) short).0 h in
+    from : (octets : List ℕ) (v : A) → Whole (Ahead v) Der octets → valid v × (octets ≡ encoding v)
+    from octets v h =
+        let e = reads.only octets v (length octets) h in
         let none : e.behind ≡ [] = no_more e.behind (omega (arith, e.whole, ap length e.split, length-append (encoding v) e.behind)) in
         (e.is_valid, e.split ∙ ap (λ x. encoding v ++ x) none ∙ append-nil (encoding v))
 
-    to : valid v × (octets ≡ encoding v) → Whole (Ahead v) Der octets
-    to h = (reads.front octets v (length octets) short).1 (record { is_valid = h.0; behind = []; split = h.1 ∙ sym (append-nil (encoding v)); whole = ap length h.1 })
+    to : (octets : List ℕ) (v : A) → length octets < 2 ^ 32 → valid v → octets ≡ encoding v → Whole (Ahead v) Der octets
+    to octets v short is e = reads.every octets v (length octets) short (record { is_valid = is; behind = []; split = e ∙ sym (append-nil (encoding v)); whole = ap length e })
 
--- a type whose values stand for those of a lawful one is lawful
-pub mapped_lawful : {A B : Type 0} (f : B → A) {tag : Tag} {takes : A → EncodingRules → Head → List ℕ → Type 0} {valid : A → Type 0} {contents : A → List ℕ} {levels : EncodingRules → ℕ} → IsLawful tag takes valid contents levels
-    → IsLawful tag (λ b. takes (f b)) (λ b. valid (f b)) (λ b. contents (f b)) levels
-mapped_lawful f laws = record { exact = λ octets b short. laws.exact octets (f b) short; shallow = laws.shallow; numbered = laws.numbered }
+-- fields whose elements are encodings are the encodings one behind the other
+pub fields_are_encodings : {A B : Type 0} {First : A → EncodingRules → List ℕ → ℕ → Type 0} {Second : B → EncodingRules → List ℕ → ℕ → Type 0} {is_first : A → Type 0} {is_second : B → Type 0}
+    {first : A → List ℕ} {second : B → List ℕ} → ReadsEncodings First is_first first → ReadsEncodings Second is_second second
+    → ReadsEncodings (FieldsAhead First Second) (λ v. is_first v.0 × is_second v.1) (λ v. first v.0 ++ second v.1)
+fields_are_encodings {A} {B} {First} {Second} {is_first} {is_second} {first} {second} one two = record { only = from; every = to }
+  where
+    from : (octets : List ℕ) (v : A × B) (m : ℕ) → FieldsAhead First Second v Der octets m → EncodingAhead (λ w. is_first w.0 × is_second w.1) (λ w. first w.0 ++ second w.1) v octets m
+    from octets v m f =
+        let p = one.only octets v.0 f.first f.ahead in
+        let left : drop f.first octets ≡ p.behind = ap (drop f.first) p.split ∙ drop_at (first v.0) p.behind f.first (sym p.whole) in
+        let q = two.only (drop f.first octets) v.1 f.second f.behind in
+        record {
+          is_valid = (p.is_valid, q.is_valid);
+          behind = q.behind;
+          split = p.split ∙ ap (λ x. first v.0 ++ x) (sym left ∙ q.split) ∙ sym (append_assoc (first v.0) (second v.1) q.behind);
+          whole = omega (arith, f.whole, p.whole, q.whole, length-append (first v.0) (second v.1));
+        }
+
+    to : (octets : List ℕ) (v : A × B) (m : ℕ) → length octets < 2 ^ 32 → EncodingAhead (λ w. is_first w.0 × is_second w.1) (λ w. first w.0 ++ second w.1) v octets m → FieldsAhead First Second v Der octets m
+    to octets v m short e =
+        let whole : octets ≡ first v.0 ++ (second v.1 ++ e.behind) = e.split ∙ append_assoc (first v.0) (second v.1) e.behind in
+        let left : drop (length (first v.0)) octets ≡ second v.1 ++ e.behind = ap (drop (length (first v.0))) whole ∙ drop_at (first v.0) (second v.1 ++ e.behind) (length (first v.0)) refl in
+        record {
+          first = length (first v.0);
+          second = length (second v.1);
+          ahead = one.every octets v.0 _ short (record { is_valid = e.is_valid.0; behind = second v.1 ++ e.behind; split = whole; whole = refl });
+          behind = two.every (drop (length (first v.0)) octets) v.1 _ (omega (arith, short, length-drop (length (first v.0)) octets)) (record { is_valid = e.is_valid.1; behind = e.behind; split = left; whole = refl });
+          whole = e.whole ∙ length-append (first v.0) (second v.1);
+        }
+
+-- a type whose contents are wholly encodings, seen as another's values, is lawful
+pub contents_lawful : {A B : Type 0} {Ahead : A → EncodingRules → List ℕ → ℕ → Type 0} {valid : A → Type 0} {encoding : A → List ℕ} (tag : Tag) (levels : EncodingRules → ℕ) (f : B → A) → ReadsEncodings Ahead valid encoding
+    → levels Der ≤ 63 → (label tag).number < 2 ^ 32 → IsLawful tag (λ b. TakesWhole Ahead (f b)) (λ b. valid (f b)) (λ b. encoding (f b)) levels
+contents_lawful {A} {B} {Ahead} {valid} {encoding} tag levels f reads shallow numbered =
+    record {
+      exact = λ octets b short. (let whole = whole_encodings reads in (λ h. (let e = whole.only octets (f b) h in (e.0, sym e.1)), λ h. whole.every octets (f b) short h.0 (sym h.1)));
+      shallow = shallow;
+      numbered = numbered;
+    }

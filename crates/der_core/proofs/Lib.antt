@@ -15,3 +15,4 @@ pub mod TagAssertedLemmas
 pub mod ElementLemmas
 pub mod DerLemmas
 pub mod LawfulLemmas
+pub mod FieldLemmas

@@ -46,18 +46,22 @@ pub record EncodingAhead {A : Type 0} (valid : A → Type 0) (encoding : A → L
   pub split : octets ≡ encoding v ++ behind
   pub whole : m ≡ length (encoding v)
 
--- under DER a value stands at the front of octets exactly where they begin with its encoding
+-- under DER a value stands at the front of octets only where they begin with its encoding, and
+-- wherever octets that a length can count begin with it
 pub record ReadsEncodings {A : Type 0} (Ahead : A → EncodingRules → List ℕ → ℕ → Type 0)
     (valid : A → Type 0) (encoding : A → List ℕ) : Type 0 where
-  pub front : (octets : List ℕ) (v : A) (m : ℕ) → length octets < 2 ^ 32
-      → Ahead v Der octets m ↔ EncodingAhead valid encoding v octets m
+  pub only : (octets : List ℕ) (v : A) (m : ℕ) → Ahead v Der octets m
+      → EncodingAhead valid encoding v octets m
+  pub every : (octets : List ℕ) (v : A) (m : ℕ) → length octets < 2 ^ 32
+      → EncodingAhead valid encoding v octets m → Ahead v Der octets m
 
--- so under DER they are wholly a value exactly where they are its encoding
-abbrev pub ReadsWholeEncodings : {A : Type 0} → (A → EncodingRules → List ℕ → ℕ → Type 0)
-    → (A → Type 0) → (A → List ℕ) → Type 0
-ReadsWholeEncodings {A} Ahead valid encoding =
-    (octets : List ℕ) (v : A) → length octets < 2 ^ 32
-    → Whole (Ahead v) Der octets ↔ (valid v × (octets ≡ encoding v))
+-- so under DER they are wholly a value only where they are its encoding, and wherever they are
+pub record ReadsWholeEncodings {A : Type 0} (Ahead : A → EncodingRules → List ℕ → ℕ → Type 0)
+    (valid : A → Type 0) (encoding : A → List ℕ) : Type 0 where
+  pub only : (octets : List ℕ) (v : A) → Whole (Ahead v) Der octets
+      → valid v × (octets ≡ encoding v)
+  pub every : (octets : List ℕ) (v : A) → length octets < 2 ^ 32 → valid v
+      → octets ≡ encoding v → Whole (Ahead v) Der octets
 
 -- and what was written is read, whatever follows: the value stands there, and each that stands
 -- there has the same contents
@@ -69,6 +73,5 @@ pub record ReadsWritten {A : Type 0} (tag : Tag)
       → ElementAhead tag takes v Der (element_octets tag (contents v) ++ more)
       (length (element_octets tag (contents v)))
   pub alone : (v w : A) (more : List ℕ) (m : ℕ)
-      → length (element_octets tag (contents v) ++ more) < 2 ^ 32
       → ElementAhead tag takes w Der (element_octets tag (contents v) ++ more) m
       → (contents w ≡ contents v) × (m ≡ length (element_octets tag (contents v)))

@@ -16,3 +16,4 @@ pub mod SliceWriter
 pub mod Encode
 pub mod WrittenSequence
 pub mod Lawful
+pub mod Fields

@@ -10,12 +10,14 @@ ghost use Rattle.der_core.specs.Outcome.{map_ok};
 ghost use Rattle.der_core.specs.Decode.{is_out_of_memory_kind, Passes, ReadsOrLacks, PartialAnswer, Whole, WholeAnswer};
 
 mod boxed;
+mod fields;
 mod lawful;
 mod phantom;
 mod value;
 
 use crate::reader::{Reader, SliceReader};
 use der_base::{Error, ErrorKind};
+pub use fields::decode_contents;
 pub use lawful::Lawful;
 use std::alloc::Global;
 pub use value::{DecodeValue, ReadValue, decode_tlv};

@@ -8,6 +8,7 @@ ghost use Rattle.der_core.specs.Writer.{WriterState, Keeps, Appends};
 ghost use Rattle.der_core.specs.Encode.{Counts, HasSize, TakesCounted, FitsInto, GrowsBy, element_octets, element_size, ElementAnswers, SliceAnswer, VecAnswer};
 
 mod boxed;
+mod fields;
 mod phantom;
 mod value;
 mod vec;

@@ -16,7 +16,9 @@ pub mod reader;
 mod tag;
 pub mod writer;
 
-pub use decode::{Decode, DecodeBytes, DecodeError, DecodeValue, Lawful, ReadValue, decode_tlv};
+pub use decode::{
+    Decode, DecodeBytes, DecodeError, DecodeValue, Lawful, ReadValue, decode_contents, decode_tlv,
+};
 pub use der_base::{
     CLASS_APPLICATION, CLASS_CONTEXT_SPECIFIC, CLASS_PRIVATE, CLASS_UNIVERSAL, Class,
     EncodingRules, Error, ErrorKind, Length, Result, Tag, TagMode, TagNumber,

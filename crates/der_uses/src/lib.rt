@@ -1,8 +1,11 @@
 //! Callers of the libraries, as a user writes them. The guide `docs/CALLING.md` quotes them.
 #![tactic(auto)]
 
+pub mod algorithm_identifier;
 pub mod contents;
 pub mod front;
+pub mod key_info;
+pub mod lent;
 pub mod month;
 pub mod nested;
 pub mod reader;

@@ -1,10 +1,12 @@
-//! A type of a user's own that is written: a month as an `OCTET STRING` of one octet.
-ghost use Rattle.std.specs.Prelude.{◌≡◌, [], ◌∷◌, Ok, IfOk};
-ghost use Rattle.der_base.specs.Length.{definite_length};
+//! A type of a user's own: a month as an `OCTET STRING` of one octet.
+ghost use Rattle.std.specs.Prelude.{◌≡◌, ◌<◌, false, [], ◌∷◌, Ok, IfOk};
 ghost use Rattle.der_base.specs.declared.tag.Tag.TheVariants.{OctetString};
-ghost use Rattle.der_core.specs.Writer.{Writes, write_outcome};
+ghost use Rattle.der_uses.specs.Month.{IsMonth, TakesMonth, MonthAnswers, WritesMonth, month_contents, month_size, month_lawful};
 
-use der_core::{Encode, EncodeValue, Error, FixedTag, Length, Tag, Writer, WrittenValue};
+use der_core::{
+    DecodeValue, Encode, EncodeValue, Error, FixedTag, Header, Lawful, Length, ReadValue, Reader,
+    ReaderExt, Tag, Writer, WrittenValue,
+};
 use std::alloc::Global;
 
 /// A month, by its number.
@@ -24,16 +26,45 @@ impl FixedTag for Month {
     }
 }
 
-impl WrittenValue for Month {
-    ghost contents = { λ month. month.number ∷ [] };
+impl ReadValue for Month {
+    ghost valid = { IsMonth };
 
-    ghost writable = { λ _. Unit {0} };
+    ghost takes = { TakesMonth };
+
+    ghost levels = { λ _. 0 };
+
+    ghost takes_memory = { false };
+
+    ghost takes_valid = { λ month rules h octets taken. tt };
+}
+
+impl WrittenValue for Month {
+    ghost contents = { month_contents };
+
+    ghost writable = { IsMonth };
+}
+
+impl Lawful for Month {
+    ghost lawful = { month_lawful };
+}
+
+impl<R: Reader> DecodeValue<R> for Month {
+    type Error = Error;
+
+    ghost value_answers = { MonthAnswers };
+
+    fn decode_value(_alloc: Global, reader: &mut R, _header: Header) -> Result<Self, Error> {
+        let number = reader.read_byte()?;
+        Ok(Month { number })
+    }
+
+    fn is_value(&self) {}
 }
 
 impl EncodeValue for Month {
-    ghost value_size = { λ _. Ok (definite_length 1) };
+    ghost value_size = { month_size };
 
-    ghost value_answers = { λ month s r t. Writes (write_outcome (month.number ∷ []) s) r t };
+    ghost value_answers = { WritesMonth };
 
     fn value_len(&self) -> Result<Length, Error> {
         Ok(Length::ONE)

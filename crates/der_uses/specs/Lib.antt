@@ -1,0 +1,4 @@
+pub mod Lent
+pub mod Month
+pub mod AlgorithmIdentifier
+pub mod KeyInfo
