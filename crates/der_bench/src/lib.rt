@@ -1,7 +1,7 @@
 //! The walk over the elements of an input whose speed `bench/` measures.
 #![tactic(auto)]
 
-use der_core::{Reader, ReaderExt, SliceReader, decode_header};
+use der::{Reader, ReaderExt, SliceReader, decode_header};
 
 /// What a walk has passed.
 #[repr(C)]

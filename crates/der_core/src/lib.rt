@@ -19,10 +19,6 @@ pub mod writer;
 pub use decode::{
     Decode, DecodeBytes, DecodeError, DecodeValue, Lawful, ReadValue, decode_contents, decode_tlv,
 };
-pub use der_base::{
-    CLASS_APPLICATION, CLASS_CONTEXT_SPECIFIC, CLASS_PRIVATE, CLASS_UNIVERSAL, Class,
-    EncodingRules, Error, ErrorKind, Length, Result, Tag, TagMode, TagNumber,
-};
 pub use encode::{
     Encode, EncodeValue, WrittenValue, encode_tlv, encode_to_vec_in, encode_value_to_slice,
     encoded_len_tlv, to_der_in,

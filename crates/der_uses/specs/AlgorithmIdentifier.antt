@@ -14,12 +14,12 @@ use Rattle.der_core.specs.Outcome.{map_ok}
 use Rattle.der_core.specs.ReaderState.{ReaderState}
 use Rattle.der_core.proofs.LawfulLemmas.{contents_lawful, fields_are_encodings, elements_are_encodings}
 use Rattle.der_uses.specs.Lent.{IsLent, TakesLent, LentAnswers, WritesLent, lent_contents, lent_size, lent_lawful}
-use Rattle.der_uses.specs.Month.{IsMonth, TakesMonth, MonthAnswers, WritesMonth, month_contents, month_size, month_lawful}
+use Rattle.der.specs.MyByteMonth.{IsMonth, TakesMonth, MonthAnswers, WritesMonth, month_contents, month_size, month_lawful}
 use Rattle.der_uses.specs.declared.lent.Lent.{Lent}
-use Rattle.der_uses.specs.declared.month.Month.{Month}
+use Rattle.der.specs.declared.example.my_byte_month.MyByteMonth.{MyByteMonth}
 use Rattle.der_uses.specs.declared.algorithm_identifier.AlgorithmIdentifier.{AlgorithmIdentifier}
 
-abbrev pub identifier_fields : AlgorithmIdentifier → Lent × Month
+abbrev pub identifier_fields : AlgorithmIdentifier → Lent × MyByteMonth
 identifier_fields v = (v.algorithm, v.month)
 
 abbrev pub IsIdentifier : AlgorithmIdentifier → Type 0

@@ -1,4 +1,3 @@
 pub mod Lent
-pub mod Month
 pub mod AlgorithmIdentifier
 pub mod KeyInfo

@@ -4,8 +4,8 @@ ghost use Rattle.der_base.specs.declared.tag.Tag.TheVariants.{Sequence};
 ghost use Rattle.der_uses.specs.AlgorithmIdentifier.{IsIdentifier, TakesIdentifier, IdentifierAnswers, identifier_contents, identifier_levels, identifier_size, WritesIdentifier, identifier_lawful};
 
 use crate::lent::Lent;
-use crate::month::Month;
-use der_core::{
+use der::example::MyByteMonth;
+use der::{
     DecodeValue, Encode, EncodeRef, EncodeValue, Error, FixedTag, Header, Lawful, Length,
     ReadValue, Reader, Tag, Writer, WrittenValue, decode_contents,
 };
@@ -17,7 +17,7 @@ pub struct AlgorithmIdentifier<'a> {
     /// The algorithm, lent by the input.
     pub algorithm: Lent<'a>,
     /// Its parameter.
-    pub month: Month,
+    pub month: MyByteMonth,
 }
 
 impl<'a> FixedTag for AlgorithmIdentifier<'a> {
@@ -41,7 +41,7 @@ impl<'a> ReadValue for AlgorithmIdentifier<'a> {
 
     ghost takes_memory = { false };
 
-    ghost takes_valid = { λ v rules h octets taken. (tt, tt) };
+    ghost takes_valid = { λ v rules h octets taken. (tt, taken.behind.taken.0) };
 }
 
 impl<'a, R: Reader<Lent = &'a [u8]>> DecodeValue<R> for AlgorithmIdentifier<'a> {
@@ -50,7 +50,7 @@ impl<'a, R: Reader<Lent = &'a [u8]>> DecodeValue<R> for AlgorithmIdentifier<'a> 
     ghost value_answers = { IdentifierAnswers };
 
     fn decode_value(alloc: Global, reader: &mut R, header: Header) -> Result<Self, Error> {
-        let (algorithm, month) = decode_contents::<R, (Lent<'a>, Month)>(alloc, reader, header)?;
+        let (algorithm, month) = decode_contents::<R, (Lent<'a>, MyByteMonth)>(alloc, reader, header)?;
         Ok(AlgorithmIdentifier { algorithm, month })
     }
 

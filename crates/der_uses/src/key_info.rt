@@ -6,7 +6,7 @@ ghost use Rattle.der_uses.specs.KeyInfo.{IsKeyInfo, TakesKeyInfo, KeyInfoAnswers
 
 use crate::algorithm_identifier::AlgorithmIdentifier;
 use crate::lent::Lent;
-use der_core::{
+use der::{
     DecodeBytes, DecodeValue, Encode, EncodeRef, EncodeValue, Error, FixedTag, Header, Lawful,
     Length, ReadValue, Reader, Tag, Writer, WrittenValue, decode_contents,
 };
@@ -42,7 +42,8 @@ impl<'a> ReadValue for KeyInfo<'a> {
 
     ghost takes_memory = { false };
 
-    ghost takes_valid = { λ v rules h octets taken. ((tt, tt), tt) };
+    ghost takes_valid = { λ v rules h octets taken.
+        ((tt, taken.ahead.taken.behind.taken.0), tt) };
 }
 
 impl<'a, R: Reader<Lent = &'a [u8]>> DecodeValue<R> for KeyInfo<'a> {
@@ -86,8 +87,9 @@ impl<'a> Lawful for KeyInfo<'a> {
 
 /// The key that these octets are the encoding of.
 pub fn key_info_from_der<'a>(alloc: Global, octets: &'a [u8]) -> Result<KeyInfo<'a>, Error>
-    ensures ok { IfOk result (λ v. octets.now ≡ element_octets Sequence (key_info_contents v)) }
-    ensures complete { (v : _) → length octets.now < 2 ^ 32
+    ensures ok { IfOk result (λ v. IsKeyInfo v
+        × (octets.now ≡ element_octets Sequence (key_info_contents v))) }
+    ensures complete { (v : _) → length octets.now < 2 ^ 32 → IsKeyInfo v
         → octets.now ≡ element_octets Sequence (key_info_contents v) → IsOk result }
 {
     KeyInfo::from_der(alloc, octets)

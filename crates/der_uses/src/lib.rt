@@ -6,7 +6,6 @@ pub mod contents;
 pub mod front;
 pub mod key_info;
 pub mod lent;
-pub mod month;
 pub mod nested;
 pub mod reader;
 pub mod sequence;

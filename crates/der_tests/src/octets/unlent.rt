@@ -5,8 +5,8 @@ ghost use Rattle.der_core.specs.ReaderState.{Same};
 
 use super::*;
 use crate::checks::{holds, same};
-use der_base::EncodingRules;
-use der_core::{Resumption, read_eoc};
+use der::EncodingRules;
+use der::{Resumption, read_eoc};
 use std::alloc::Allocator;
 
 #[derive(Drop)]

@@ -5,7 +5,7 @@ ghost use Rattle.der_core.specs.ReaderState.{Same};
 use super::unlent::{Unlent, make_unlent};
 use super::*;
 use crate::checks::{holds, same};
-use der_core::{close_value, read_value};
+use der::{close_value, read_value};
 
 fn read_one(reader: &mut Unlent<'_>) -> Result<u8, Error>
     ensures { Same (slice_state reader.old.inner) (slice_state reader.new.inner) }
