@@ -12,7 +12,9 @@ use Rattle.der_core.specs.Decode.{Whole}
 use Rattle.der_core.specs.Element.{IsEndMark, contents_head, ElementAhead}
 use Rattle.der_core.specs.Encode.{element_octets}
 use Rattle.der_core.specs.Fields.{FieldsAhead, TakesWhole}
-use Rattle.der_core.specs.Lawful.{definite_head, IsLawful, EncodingAhead, ReadsEncodings, ReadsWholeEncodings, ReadsWritten}
+use Rattle.der_core.specs.Lawful.{definite_head, IsLawful, EncodingAhead, ReadsEncodings, ReadsWholeEncodings, PassesEncodings, ReadsWritten}
+use Rattle.der_core.specs.ReaderState.{rest, advanced_state}
+use Rattle.der_core.proofs.FieldLemmas.{rest_passed}
 use Rattle.der_core.proofs.DerLemmas.{header_read, header_written}
 
 no_mark : (b : Bool) (mark : List ℕ) → IsEndMark b mark → b ≡ false → mark ≡ []
@@ -134,6 +136,13 @@ whole_encodings {A} {Ahead} {valid} {encoding} reads = record { only = from; eve
 
     to : (octets : List ℕ) (v : A) → length octets < 2 ^ 32 → valid v → octets ≡ encoding v → Whole (Ahead v) Der octets
     to octets v short is e = reads.every octets v (length octets) short (record { is_valid = is; behind = []; split = e ∙ sym (append-nil (encoding v)); whole = ap length e })
+
+-- a reader that has passed a value has passed its encoding
+pub passed_encodings : {A : Type 0} {Ahead : A → EncodingRules → List ℕ → ℕ → Type 0} {valid : A → Type 0} {encoding : A → List ℕ} → ReadsEncodings Ahead valid encoding → PassesEncodings Ahead valid encoding
+passed_encodings {Ahead = Ahead} {encoding = encoding} reads s t v der passed =
+    let e = reads.only (rest s) v passed.octets (subst (λ r. Ahead v r (rest s) passed.octets) der passed.ahead) in
+    let left : rest t ≡ e.behind = rest_passed passed ∙ ap (drop passed.octets) e.split ∙ drop_at (encoding v) e.behind passed.octets (sym e.whole) in
+    (e.is_valid, record { split = e.split ∙ ap (λ x. encoding v ++ x) (sym left); state = passed.leaves ∙ ap (advanced_state s) e.whole })
 
 -- fields whose elements are encodings are the encodings one behind the other
 pub fields_are_encodings : {A B : Type 0} {First : A → EncodingRules → List ℕ → ℕ → Type 0} {Second : B → EncodingRules → List ℕ → ℕ → Type 0} {is_first : A → Type 0} {is_second : B → Type 0}

@@ -7,10 +7,11 @@ use Rattle.der_base.specs.declared.length.Length.{Length}
 use Rattle.der_base.specs.declared.tag.Tag.{Tag}
 use Rattle.der_base.specs.declared.encoding_rules.EncodingRules.{EncodingRules}
 use Rattle.der_base.specs.declared.encoding_rules.EncodingRules.TheVariants.{Der}
-use Rattle.der_core.specs.Decode.{Whole}
+use Rattle.der_core.specs.Decode.{Passes, Whole}
 use Rattle.der_core.specs.Element.{ElementAhead}
 use Rattle.der_core.specs.Encode.{element_octets}
 use Rattle.der_core.specs.Header.{head_of}
+use Rattle.der_core.specs.ReaderState.{ReaderState, Reads}
 use Rattle.der_core.specs.declared.header.Header.{Header}
 
 -- the header of a tag and of so many octets of contents (X.690 10.1)
@@ -62,6 +63,13 @@ pub record ReadsWholeEncodings {A : Type 0} (Ahead : A → EncodingRules → Lis
       → valid v × (octets ≡ encoding v)
   pub every : (octets : List ℕ) (v : A) → length octets < 2 ^ 32 → valid v
       → octets ≡ encoding v → Whole (Ahead v) Der octets
+
+-- and a DER reader that has passed a value has passed its encoding, and nothing else
+abbrev pub PassesEncodings : {A : Type 0} → (A → EncodingRules → List ℕ → ℕ → Type 0)
+    → (A → Type 0) → (A → List ℕ) → Type 0
+PassesEncodings {A} Ahead valid encoding =
+    (s t : ReaderState) (v : A) → s.rules ≡ Der → Passes (Ahead v) s t
+    → valid v × Reads s t (encoding v)
 
 -- and what was written is read, whatever follows: the value stands there, and each that stands
 -- there has the same contents

@@ -10,7 +10,7 @@ ghost use Rattle.der_core.specs.Decode.{Accepts};
 ghost use Rattle.der_core.specs.Element.{ElementAhead};
 ghost use Rattle.der_core.specs.Encode.{element_octets};
 ghost use Rattle.der_core.specs.Header.{head_of, IsHeaderAhead};
-ghost use Rattle.der_core.specs.Lawful.{IsDefinite, IsDefiniteHeader, ReadsEncodings, ReadsWholeEncodings, ReadsWritten};
+ghost use Rattle.der_core.specs.Lawful.{IsDefinite, IsDefiniteHeader, PassesEncodings, ReadsEncodings, ReadsWholeEncodings, ReadsWritten};
 
 use crate::decode::Lawful;
 use std::marker::PhantomData;
@@ -36,12 +36,15 @@ fn grammars_read_encodings<T>()
 {}
 
 /// Under DER an element of a lawful type stands at the front of octets exactly where the encoding
-/// of a valid value does; octets are wholly such an element exactly where they are the encoding;
-/// and what is written is read, whatever follows.
+/// of a valid value does; octets are wholly such an element exactly where they are the encoding; a
+/// reader that has passed one has passed the encoding; and what is written is read, whatever
+/// follows.
 fn lawful_types_read_encodings<T: Lawful>()
     ensures front { ReadsEncodings (ElementAhead T.tag_is T.takes) T.valid
         (λ v. element_octets T.tag_is (T.contents v)) }
     ensures whole { ReadsWholeEncodings (ElementAhead T.tag_is T.takes) T.valid
+        (λ v. element_octets T.tag_is (T.contents v)) }
+    ensures passed { PassesEncodings (ElementAhead T.tag_is T.takes) T.valid
         (λ v. element_octets T.tag_is (T.contents v)) }
     ensures written { ReadsWritten T.tag_is T.takes T.valid T.contents }
 {}
