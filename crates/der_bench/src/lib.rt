@@ -1,5 +1,7 @@
-//! The walk over the elements of an input whose speed `bench/` measures.
+//! The walk over the elements of an input, and the decoding of keys, whose speed `bench/` measures.
 #![tactic(auto)]
+
+mod decode;
 
 use der::{Reader, ReaderExt, SliceReader, decode_header};
 

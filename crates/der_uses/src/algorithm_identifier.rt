@@ -50,7 +50,9 @@ impl<'a, R: Reader<Lent = &'a [u8]>> DecodeValue<R> for AlgorithmIdentifier<'a> 
     ghost value_answers = { IdentifierAnswers };
 
     fn decode_value(alloc: Global, reader: &mut R, header: Header) -> Result<Self, Error> {
-        let (algorithm, month) = decode_contents::<R, (Lent<'a>, MyByteMonth)>(alloc, reader, header)?;
+        let (algorithm, month) = decode_contents::<R, (Lent<'a>, MyByteMonth)>(
+            alloc, reader, header,
+        )?;
         Ok(AlgorithmIdentifier { algorithm, month })
     }
 

@@ -28,6 +28,7 @@ impl<R: Reader, A: Decode<R>, B: Decode<R, Error = <A as Decode<R>>::Error>> Dec
 
     ghost answers = { FieldsRead A.answers B.answers };
 
+    #[inline(always)]
     fn decode(alloc: Global, reader: &mut R) -> Result<(A, B), <A as Decode<R>>::Error> {
         let first = A::decode(alloc, reader)?;
         let second = B::decode(alloc, reader)?;
@@ -43,6 +44,7 @@ impl<R: Reader, A: Decode<R>, B: Decode<R, Error = <A as Decode<R>>::Error>> Dec
 /// # Errors
 ///
 /// Those of the type, as by [`Decode::decode`].
+#[inline(always)]
 pub fn decode_contents<R: Reader, T: Decode<R>>(
     alloc: Global,
     reader: &mut R,

@@ -93,6 +93,7 @@ pub trait DecodeValue<R: Reader>: ReadValue + Drop {
 /// - Those of the type, as by [`DecodeValue::decode_value`].
 /// - `TrailingData` at the position, where the type leaves octets; the reader has failed then.
 /// - Those of [`read_eoc`](crate::read_eoc), where the length was read in the indefinite form.
+#[inline(always)]
 pub fn decode_tlv<R: Reader, T: DecodeValue<R> + FixedTag>(
     alloc: Global,
     reader: &mut R,
@@ -140,6 +141,7 @@ impl<R: Reader, T: DecodeValue<R> + FixedTag> Decode<R> for T {
 
     ghost answers = { ElementRead T.tag_is T.Error.from_gives T.value_answers };
 
+    #[inline(always)]
     fn decode(alloc: Global, reader: &mut R) -> Result<T, <T as DecodeValue<R>>::Error> {
         decode_tlv(alloc, reader)
     }

@@ -80,6 +80,7 @@ pub trait ReaderExt: Reader {
     /// - The error that is given, with its position or none; the reader has not moved.
     /// - `TrailingData` at the position, where octets are left in the part; the reader has failed
     ///   then.
+    #[inline]
     final fn close_nested<T: Drop, E: From<Error> + Drop>(
         &mut self,
         outer: Resumption,
@@ -218,6 +219,7 @@ pub trait ReaderExt: Reader {
     /// - `Failed` at the position, where the reader had failed; it is unchanged.
     /// - Those of the type, as by [`Decode::decode`]; the reader stands where that leaves it and
     ///   has failed, whatever the error.
+    #[inline]
     final fn decode<T: Decode<Self>>(
         &mut self,
         alloc: Global,

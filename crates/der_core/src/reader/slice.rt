@@ -214,6 +214,7 @@ impl<'a> Reader for SliceReader<'a> {
         Ok(())
     }
 
+    #[inline]
     fn enter_nested(&mut self, len: Length) -> Result<Resumption, Error> {
         match self.place.part_end(u32::from(len)) {
             Err(error) => Err(error),
@@ -222,6 +223,7 @@ impl<'a> Reader for SliceReader<'a> {
         }
     }
 
+    #[inline]
     fn leave_nested(&mut self, resumption: Resumption) {
         self.place.resume_nested(resumption);
     }
