@@ -9,7 +9,7 @@ use Rattle.der_base.specs.declared.encoding_rules.EncodingRules.{EncodingRules}
 use Rattle.der_base.specs.declared.encoding_rules.EncodingRules.TheVariants.{Der}
 use Rattle.der_core.specs.ReaderState.{ReaderState, rest, reader_position, advanced_state, initial_state}
 use Rattle.der_core.specs.Reader.{finish_answer}
-use Rattle.der_core.specs.Decode.{Passes, Whole, WholeAnswer, whole_decoded}
+use Rattle.der_core.specs.Decode.{Passes, Whole, WholeAnswer, decoded}
 use Rattle.der_core.proofs.DecodeLemmas.{rest-beginning}
 
 -- a reader that was finished had not failed, and nothing was left
@@ -48,10 +48,10 @@ module _ (octets : List ℕ) (s t : ReaderState) (begun : s ≡ initial_state De
     from_beginning {a} h = subst (λ x. answers x a t) begun h
 
     pub whole_err : (e : E) → length octets < 2 ^ 32 → answers s (Err e) t → WholeAnswer answers converts octets (Err e)
-    whole_err e small h = whole_decoded (Err e) t small (from_beginning h) refl
+    whole_err e small h = decoded (Err e) t small (from_beginning h) refl
 
     pub whole_left : (v : A) (e : Error) (f : E) → length octets < 2 ^ 32 → answers s (Ok v) t → Err e ≡ finish_answer t → converts e f → WholeAnswer answers converts octets (Err f)
-    whole_left v e f small h left told = whole_decoded (Ok v) t small (from_beginning h) (inr (e, sym left, told))
+    whole_left v e f small h left told = decoded (Ok v) t small (from_beginning h) (inr (e, sym left, told))
 
     pub whole_ok : (v : A) → length octets < 2 ^ 32 → answers s (Ok v) t → finish_answer t ≡ Ok tt → WholeAnswer answers converts octets (Ok v)
-    whole_ok v small h finished = whole_decoded (Ok v) t small (from_beginning h) (inl (finished, refl))
+    whole_ok v small h finished = decoded (Ok v) t small (from_beginning h) (inl (finished, refl))

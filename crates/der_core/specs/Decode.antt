@@ -77,12 +77,19 @@ ReadsOrLacks out_of_memory takes_memory s m result t =
     (IsOk result × (t ≡ advanced_state s m))
     ⊎ ((takes_memory ≡ true) × IsErrAnd result (λ e. out_of_memory e ≡ true))
 
--- octets are wholly what stands ahead in them
-abbrev pub Whole : (EncodingRules → List ℕ → ℕ → Type 0) → EncodingRules → List ℕ → Type 0
-Whole Ahead rules octets = Ahead rules octets (length octets)
+-- a value of octets: too many of them are an overflow; else what follows the decoder's answer
+pub data BytesAnswer {A B E : Type 0}
+    (answers : ReaderState → Result A E → ReaderState → Type 0) (converts : Error → E → Type 0)
+    (Follows : Result A E → ReaderState → Result B E → Type 0) (octets : List ℕ)
+    (result : Result B E) : Type 0 where
+  too_long : 2 ^ 32 ≤ length octets → IsErrAnd result (λ e. converts (error_of_kind Overflow) e)
+      → BytesAnswer answers converts Follows octets result
+  decoded : (answer : Result A E) (t : ReaderState) → length octets < 2 ^ 32
+      → answers (initial_state Der octets) answer t → Follows answer t result
+      → BytesAnswer answers converts Follows octets result
 
--- what follows the answer of a decoder: its error, or the value with the rest of a reader that is
--- not failed
+-- what follows the answer of a decoder at the front: its error, or the value with the rest of a
+-- reader that is not failed
 abbrev pub PartialThen : {A E : Type 0}
     → (Error → E → Type 0) → Result A E → ReaderState → Result (A × List ℕ) E → Type 0
 PartialThen converts (Err e) t result = result ≡ Err e
@@ -90,18 +97,8 @@ PartialThen converts (Ok v) t result =
     ((t.failed ≡ false) × (result ≡ Ok (v, rest t)))
     ⊎ ((t.failed ≡ true) × IsErrAnd result (λ e. converts (at Failed (reader_position t)) e))
 
--- a value at the front of octets: too many octets are an overflow; else the first step that fails
-pub data PartialAnswer {A E : Type 0} (answers : ReaderState → Result A E → ReaderState → Type 0)
-    (converts : Error → E → Type 0) (octets : List ℕ) (result : Result (A × List ℕ) E)
-    : Type 0 where
-  too_long : 2 ^ 32 ≤ length octets → IsErrAnd result (λ e. converts (error_of_kind Overflow) e)
-      → PartialAnswer answers converts octets result
-  decoded : (answer : Result A E) (t : ReaderState) → length octets < 2 ^ 32
-      → answers (initial_state Der octets) answer t → PartialThen converts answer t result
-      → PartialAnswer answers converts octets result
-
--- what follows the answer of a decoder that has to read all: its error, or that of finishing, or
--- the value
+-- what follows that of a decoder which has to read all: its error, or that of finishing, or the
+-- value
 abbrev pub WholeThen : {A E : Type 0}
     → (Error → E → Type 0) → Result A E → ReaderState → Result A E → Type 0
 WholeThen converts (Err e) t result = result ≡ Err e
@@ -109,15 +106,18 @@ WholeThen converts (Ok v) t result =
     ((finish_answer t ≡ Ok tt) × (result ≡ Ok v))
     ⊎ ((e : Error) × (finish_answer t ≡ Err e) × IsErrAnd result (λ f. converts e f))
 
--- a value of all the octets: too many are an overflow; else the first step that fails
-pub data WholeAnswer {A E : Type 0} (answers : ReaderState → Result A E → ReaderState → Type 0)
-    (converts : Error → E → Type 0) (octets : List ℕ) (result : Result A E)
-    : Type 0 where
-  whole_too_long : 2 ^ 32 ≤ length octets → IsErrAnd result (λ e. converts (error_of_kind Overflow) e)
-      → WholeAnswer answers converts octets result
-  whole_decoded : (answer : Result A E) (t : ReaderState) → length octets < 2 ^ 32
-      → answers (initial_state Der octets) answer t → WholeThen converts answer t result
-      → WholeAnswer answers converts octets result
+-- a value at the front of octets, and one of all the octets
+abbrev pub PartialAnswer : {A E : Type 0} → (ReaderState → Result A E → ReaderState → Type 0)
+    → (Error → E → Type 0) → List ℕ → Result (A × List ℕ) E → Type 0
+PartialAnswer answers converts = BytesAnswer answers converts (PartialThen converts)
+
+abbrev pub WholeAnswer : {A E : Type 0} → (ReaderState → Result A E → ReaderState → Type 0)
+    → (Error → E → Type 0) → List ℕ → Result A E → Type 0
+WholeAnswer answers converts = BytesAnswer answers converts (WholeThen converts)
+
+-- octets are wholly what stands ahead in them
+abbrev pub Whole : (EncodingRules → List ℕ → ℕ → Type 0) → EncodingRules → List ℕ → Type 0
+Whole Ahead rules octets = Ahead rules octets (length octets)
 
 -- the octets of a whole element: its header is looked at first, which leaves the reader; header and
 -- contents together are then lent, or pass every length
