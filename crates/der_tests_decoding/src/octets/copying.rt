@@ -1,0 +1,74 @@
+//! Values from a reader that cannot lend.
+use super::*;
+use crate::checks::{holds, same};
+use der_uses::algorithm_identifier::AlgorithmIdentifier;
+use der_uses::lent::Lent;
+use der_uses::reader::CopyingReader;
+
+#[test]
+fn a_month_without_lending(rt: HostRuntime) -> Result<(), Fail> {
+    let octets = [0x04, 0x01, 0x09, 0x05, 0x00];
+    let mut reader = CopyingReader::new(SliceReader::new(&octets)?);
+    let month = MyByteMonth::decode(rt.alloc(), &mut reader)?;
+    same(&rt, month.month(), 9);
+    same(&rt, reader.position(), Length::new(3));
+    same(&rt, reader.input_len(), Length::new(5));
+    holds(&rt, !reader.is_failed());
+    Ok(())
+}
+
+#[test]
+fn a_boxed_month_without_lending(rt: HostRuntime) -> Result<(), Fail> {
+    let octets = [0x04, 0x01, 0x09];
+    let mut reader = CopyingReader::new(SliceReader::new(&octets)?);
+    let boxed = Box::<MyByteMonth>::decode(rt.alloc(), &mut reader)?;
+    same(&rt, boxed.month(), 9);
+    holds(&rt, reader.is_finished());
+    Ok(())
+}
+
+#[test]
+fn months_refused_without_lending(rt: HostRuntime) -> Result<(), Fail> {
+    let octets = [0x04, 0x01, 0x0C];
+    let mut reader = CopyingReader::new(SliceReader::new(&octets)?);
+    let month: Result<MyByteMonth, Error> = reader.decode(rt.alloc());
+    same(&rt, month, Err(ErrorKind::DateTime.at(Length::new(3))));
+    holds(&rt, reader.is_failed());
+    let again: Result<MyByteMonth, Error> = reader.decode(rt.alloc());
+    same(&rt, again, Err(ErrorKind::Failed.at(Length::new(3))));
+    Ok(())
+}
+
+#[test]
+fn contents_that_want_lending(rt: HostRuntime) -> Result<(), Fail> {
+    let octets = [0x04, 0x01, 0x2A];
+    let mut reader = CopyingReader::new(SliceReader::new(&octets)?);
+    let refused = Lent::decode(rt.alloc(), &mut reader).err();
+    same(&rt, refused, Some(ErrorKind::Reader.at(Length::new(2))));
+    same(&rt, reader.position(), Length::new(2));
+    same(&rt, reader.input_len(), Length::new(3));
+    holds(&rt, !reader.is_failed());
+    Ok(())
+}
+
+#[test]
+fn a_field_that_wants_lending(rt: HostRuntime) -> Result<(), Fail> {
+    let octets = [0x30, 0x06, 0x04, 0x01, 0x2A, 0x04, 0x01, 0x09];
+    let mut reader = CopyingReader::new(SliceReader::new(&octets)?);
+    let refused = AlgorithmIdentifier::decode(rt.alloc(), &mut reader).err();
+    same(&rt, refused, Some(ErrorKind::Reader.at(Length::new(4))));
+    same(&rt, reader.position(), Length::new(4));
+    same(&rt, reader.input_len(), Length::new(8));
+    Ok(())
+}
+
+#[test]
+fn pairs_without_lending(rt: HostRuntime) -> Result<(), Fail> {
+    let octets = [0x04, 0x01, 0x09, 0x04, 0x01, 0x02];
+    let mut reader = CopyingReader::new(SliceReader::new(&octets)?);
+    let (first, second) = <(MyByteMonth, MyByteMonth)>::decode(rt.alloc(), &mut reader)?;
+    same(&rt, first.month(), 9);
+    same(&rt, second.month(), 2);
+    holds(&rt, reader.is_finished());
+    Ok(())
+}

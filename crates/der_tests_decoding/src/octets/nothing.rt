@@ -1,0 +1,40 @@
+//! Nothing, which is read from no octets.
+use super::*;
+use crate::checks::{holds, same};
+use std::marker::PhantomData;
+
+#[test]
+fn nothing_from_no_octets(rt: HostRuntime) {
+    holds(&rt, PhantomData::<u8>::from_der(rt.alloc(), &[]).is_ok());
+}
+
+#[test]
+fn octets_behind_nothing(rt: HostRuntime) -> Result<(), Fail> {
+    let refused = PhantomData::<u8>::from_der(rt.alloc(), &[0x00]).err();
+    same(&rt, refused, Some(trailing(0, 1)));
+    let (_, rest) = PhantomData::<u8>::from_der_partial(rt.alloc(), &[0x00])?;
+    same(&rt, rest, [0x00].as_slice());
+    Ok(())
+}
+
+#[test]
+fn nothing_leaves_the_reader(rt: HostRuntime) -> Result<(), Fail> {
+    let octets = [0x04, 0x01];
+    let mut reader = SliceReader::new(&octets)?;
+    same(&rt, reader.read_byte(), Ok(0x04));
+    holds(
+        &rt,
+        PhantomData::<u8>::decode(rt.alloc(), &mut reader).is_ok(),
+    );
+    same(&rt, reader.position(), Length::ONE);
+    holds(&rt, !reader.is_failed());
+    Ok(())
+}
+
+#[test]
+fn nothing_is_no_octets(rt: HostRuntime) -> Result<(), Fail> {
+    let nothing = PhantomData::<u8>;
+    same(&rt, nothing.encoded_len(), Ok(Length::ZERO));
+    same(&rt, nothing.to_der(rt.alloc())?.as_slice(), [].as_slice());
+    Ok(())
+}

@@ -1,0 +1,101 @@
+//! Values one behind the other.
+use super::*;
+use crate::checks::{holds, same};
+use std::marker::PhantomData;
+
+// The numbers of the two months that all the octets are.
+fn months(alloc: Global, bytes: &[u8]) -> Result<(u8, u8), Error> {
+    let (first, second) = <(MyByteMonth, MyByteMonth)>::from_der(alloc, bytes)?;
+    Ok((first.month(), second.month()))
+}
+
+#[test]
+fn a_tag_and_a_length(rt: HostRuntime) -> Result<(), Fail> {
+    let pair = <(Tag, Length)>::from_der(rt.alloc(), &[0x04, 0x05])?;
+    same(&rt, pair, (Tag::OctetString, Length::new(5)));
+    same(&rt, pair.encoded_len(), Ok(Length::new(2)));
+    let der = pair.to_der(rt.alloc())?;
+    same(&rt, der.as_slice(), [0x04, 0x05].as_slice());
+    Ok(())
+}
+
+#[test]
+fn a_header_and_nothing(rt: HostRuntime) -> Result<(), Fail> {
+    let (header, _) = <(Header, PhantomData<u8>)>::from_der(rt.alloc(), &[0x04, 0x05])?;
+    same(&rt, header, Header::new(Tag::OctetString, Length::new(5)));
+    let octets = [0x04, 0x05, 0x00];
+    let refused = <(Header, PhantomData<u8>)>::from_der(rt.alloc(), &octets).err();
+    same(&rt, refused, Some(trailing(2, 1)));
+    Ok(())
+}
+
+#[test]
+fn two_months(rt: HostRuntime) -> Result<(), Fail> {
+    let octets = [0x04, 0x01, 0x09, 0x04, 0x01, 0x02];
+    same(&rt, months(rt.alloc(), &octets), Ok((9, 2)));
+    let pair = <(MyByteMonth, MyByteMonth)>::from_der(rt.alloc(), &octets)?;
+    same(&rt, pair.encoded_len(), Ok(Length::new(6)));
+    let der = pair.to_der(rt.alloc())?;
+    same(&rt, der.as_slice(), octets.as_slice());
+    Ok(())
+}
+
+#[test]
+fn three_months_at_the_front(rt: HostRuntime) -> Result<(), Fail> {
+    let octets = [0x04, 0x01, 0x09, 0x04, 0x01, 0x02, 0x04, 0x01, 0x00, 0x05];
+    let ((first, (second, third)), rest) = <(
+        MyByteMonth,
+        (MyByteMonth, MyByteMonth),
+    )>::from_der_partial(rt.alloc(), &octets)?;
+    same(
+        &rt,
+        (first.month(), second.month(), third.month()),
+        (9, 2, 0),
+    );
+    same(&rt, rest, [0x05].as_slice());
+    Ok(())
+}
+
+#[test]
+fn a_first_month_that_is_refused(rt: HostRuntime) {
+    let alloc = rt.alloc();
+    let no_month = ErrorKind::DateTime.at(Length::new(3));
+    let octets = [0x04, 0x01, 0x0C, 0x04, 0x01, 0x0C];
+    same(&rt, months(alloc, &octets), Err(no_month));
+    same(&rt, months(alloc, &[]), Err(incomplete(1, 0, 0)));
+    let other_tag = unexpected(Tag::OctetString, Tag::Integer);
+    let octets = [0x02, 0x01, 0x09, 0x04, 0x01, 0x02];
+    same(&rt, months(alloc, &octets), Err(other_tag));
+}
+
+#[test]
+fn a_second_month_that_is_refused(rt: HostRuntime) {
+    let alloc = rt.alloc();
+    let no_month = ErrorKind::DateTime.at(Length::new(6));
+    let octets = [0x04, 0x01, 0x09, 0x04, 0x01, 0x0C];
+    same(&rt, months(alloc, &octets), Err(no_month));
+    let missing = Err(incomplete(4, 3, 3));
+    same(&rt, months(alloc, &[0x04, 0x01, 0x09]), missing);
+    let cut = Err(incomplete(6, 5, 5));
+    same(&rt, months(alloc, &[0x04, 0x01, 0x09, 0x04, 0x01]), cut);
+    let other_tag = unexpected(Tag::OctetString, Tag::Null);
+    let octets = [0x04, 0x01, 0x09, 0x05, 0x00];
+    same(&rt, months(alloc, &octets), Err(other_tag));
+}
+
+#[test]
+fn octets_behind_two_months(rt: HostRuntime) {
+    let octets = [0x04, 0x01, 0x09, 0x04, 0x01, 0x02, 0x00];
+    same(&rt, months(rt.alloc(), &octets), Err(trailing(6, 1)));
+}
+
+#[test]
+fn where_the_second_month_leaves_the_reader(rt: HostRuntime) -> Result<(), Fail> {
+    let octets = [0x04, 0x01, 0x09, 0x05, 0x00];
+    let mut reader = SliceReader::new(&octets)?;
+    let refused = <(MyByteMonth, MyByteMonth)>::decode(rt.alloc(), &mut reader).err();
+    same(&rt, refused, Some(unexpected(Tag::OctetString, Tag::Null)));
+    same(&rt, reader.position(), Length::new(5));
+    holds(&rt, !reader.is_failed());
+    Ok(())
+}

@@ -1,0 +1,87 @@
+//! Values decoded by a type from a reader, and by the reader, which then has failed.
+use super::*;
+use crate::checks::{holds, same};
+use der::{DecodeValue, decode_contents, decode_tlv};
+
+#[test]
+fn a_type_leaves_the_reader_behind_another_tag(rt: HostRuntime) -> Result<(), Fail> {
+    let octets = [0x30, 0x01, 0x09];
+    let mut reader = SliceReader::new(&octets)?;
+    let refused = unexpected(Tag::OctetString, Tag::Sequence);
+    same(
+        &rt,
+        MyByteMonth::decode(rt.alloc(), &mut reader),
+        Err(refused),
+    );
+    same(&rt, reader.position(), Length::new(2));
+    holds(&rt, !reader.is_failed());
+    Ok(())
+}
+
+#[test]
+fn a_reader_fails_behind_another_tag(rt: HostRuntime) -> Result<(), Fail> {
+    let octets = [0x30, 0x01, 0x09];
+    let mut reader = SliceReader::new(&octets)?;
+    let month: Result<MyByteMonth, Error> = reader.decode(rt.alloc());
+    same(&rt, month, Err(unexpected(Tag::OctetString, Tag::Sequence)));
+    same(&rt, reader.position(), Length::new(2));
+    holds(&rt, reader.is_failed());
+    let again: Result<MyByteMonth, Error> = reader.decode(rt.alloc());
+    same(&rt, again, Err(ErrorKind::Failed.at(Length::new(2))));
+    same(&rt, reader.position(), Length::new(2));
+    Ok(())
+}
+
+#[test]
+fn a_reader_has_failed_behind_a_number_of_no_month(rt: HostRuntime) -> Result<(), Fail> {
+    let octets = [0x04, 0x01, 0x0C, 0x05];
+    let mut reader = SliceReader::new(&octets)?;
+    let no_month = ErrorKind::DateTime.at(Length::new(3));
+    same(
+        &rt,
+        MyByteMonth::decode(rt.alloc(), &mut reader),
+        Err(no_month),
+    );
+    holds(&rt, reader.is_failed());
+    same(&rt, reader.position(), Length::new(3));
+    same(&rt, reader.input_len(), Length::new(4));
+    Ok(())
+}
+
+#[test]
+fn months_in_turn(rt: HostRuntime) -> Result<(), Fail> {
+    let octets = [0x04, 0x01, 0x09, 0x04, 0x01, 0x02, 0x05, 0x00];
+    let mut reader = SliceReader::new(&octets)?;
+    let first: MyByteMonth = reader.decode(rt.alloc())?;
+    same(&rt, first.month(), 9);
+    same(&rt, reader.position(), Length::new(3));
+    let second = decode_tlv::<SliceReader, MyByteMonth>(rt.alloc(), &mut reader)?;
+    same(&rt, second.month(), 2);
+    same(&rt, reader.position(), Length::new(6));
+    same(&rt, reader.input_len(), Length::new(8));
+    holds(&rt, !reader.is_failed());
+    Ok(())
+}
+
+#[test]
+fn contents_without_their_header(rt: HostRuntime) -> Result<(), Fail> {
+    let octets = [0x09, 0x05];
+    let mut reader = SliceReader::new(&octets)?;
+    let header = Header::new(Tag::OctetString, Length::ONE);
+    let month = MyByteMonth::decode_value(rt.alloc(), &mut reader, header)?;
+    same(&rt, month.month(), 9);
+    same(&rt, reader.position(), Length::ONE);
+    <MyByteMonth as DecodeValue<SliceReader>>::is_value(&month);
+    Ok(())
+}
+
+#[test]
+fn contents_that_are_fields(rt: HostRuntime) -> Result<(), Fail> {
+    let octets = [0x04, 0x01, 0x09];
+    let mut reader = SliceReader::new(&octets)?;
+    let header = Header::new(Tag::Sequence, Length::new(3));
+    let month = decode_contents::<SliceReader, MyByteMonth>(rt.alloc(), &mut reader, header)?;
+    same(&rt, month.month(), 9);
+    holds(&rt, reader.is_finished());
+    Ok(())
+}

@@ -1,0 +1,73 @@
+//! Tags that are all the octets.
+use super::*;
+use crate::checks::{same, same_at};
+
+#[test]
+fn tags_both_ways(rt: HostRuntime) -> Result<(), Fail> {
+    let rows = [
+        (Tag::OctetString, [0x04].as_slice()),
+        (Tag::Sequence, [0x30].as_slice()),
+        (TagNumber(33).application(true), [0x7F, 0x21].as_slice()),
+        (
+            TagNumber(16385).application(false),
+            [0x5F, 0x81, 0x80, 0x01].as_slice(),
+        ),
+        (
+            TagNumber(2097153).context_specific(false),
+            [0x9F, 0x81, 0x80, 0x80, 0x01].as_slice(),
+        ),
+        (
+            TagNumber(4294967295).private(false),
+            [0xDF, 0x8F, 0xFF, 0xFF, 0xFF, 0x7F].as_slice(),
+        ),
+    ];
+    for (tag, octets) in rows {
+        same_at(&rt, tag, Tag::from_der(rt.alloc(), octets), Ok(tag));
+        let der = tag.to_der(rt.alloc())?;
+        same_at(&rt, tag, der.as_slice(), octets);
+    }
+    Ok(())
+}
+
+#[test]
+fn numbers_that_are_refused(rt: HostRuntime) {
+    let rows = [
+        ([0xDF, 0x9F, 0x8F, 0x8F, 0x8F, 0x0F].as_slice(), 5),
+        ([0xFF, 0x03].as_slice(), 2),
+        ([0x5F, 0x80, 0x20].as_slice(), 2),
+        ([0x1F, 0xFF].as_slice(), 1),
+    ];
+    for (octets, position) in rows {
+        let invalid = ErrorKind::TagNumberInvalid.at(Length::new(position));
+        same_at(
+            &rt,
+            position,
+            Tag::from_der(rt.alloc(), octets),
+            Err(invalid),
+        );
+    }
+}
+
+#[test]
+fn tags_that_are_unknown_or_cut(rt: HostRuntime) {
+    let alloc = rt.alloc();
+    for byte in [0x3F, 0x21] {
+        let unknown = ErrorKind::TagUnknown { byte }.at(Length::ONE);
+        same(&rt, Tag::from_der(alloc, &[byte]), Err(unknown));
+    }
+    same(
+        &rt,
+        Tag::from_der(alloc, &[0x5F, 0x9E]),
+        Err(incomplete(3, 2, 2)),
+    );
+    same(&rt, Tag::from_der(alloc, &[]), Err(incomplete(1, 0, 0)));
+}
+
+#[test]
+fn octets_behind_a_tag(rt: HostRuntime) {
+    same(
+        &rt,
+        Tag::from_der(rt.alloc(), &[0x7F, 0x21, 0x00]),
+        Err(trailing(2, 1)),
+    );
+}
