@@ -13,6 +13,7 @@ mod careless;
 mod constants;
 mod copying;
 mod depth;
+mod errors;
 mod forms;
 mod headers;
 mod identifiers;

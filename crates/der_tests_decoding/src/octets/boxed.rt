@@ -2,6 +2,7 @@
 use super::*;
 use crate::checks::{holds, same};
 use der::{EncodeValue, Tagged};
+use der_uses::lent::Lent;
 
 #[test]
 fn a_boxed_month_both_ways(rt: HostRuntime) -> Result<(), Fail> {
@@ -41,4 +42,13 @@ fn boxed_months_that_are_refused(rt: HostRuntime) {
         refused(&[0x04, 0x02, 0x09, 0x00]),
         Some(trailing(3, 1)),
     );
+}
+
+#[test]
+fn boxed_contents_both_ways(rt: HostRuntime) -> Result<(), Fail> {
+    let octets = [0x04, 0x02, 0x2A, 0x2B];
+    let boxed = Box::<Lent>::from_der(rt.alloc(), &octets)?;
+    same(&rt, boxed.octets, [0x2A, 0x2B].as_slice());
+    same(&rt, boxed.to_der(rt.alloc())?.as_slice(), octets.as_slice());
+    Ok(())
 }

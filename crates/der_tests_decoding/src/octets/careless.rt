@@ -72,6 +72,14 @@ fn a_refusal_that_is_ignored(rt: HostRuntime) -> Result<(), Fail> {
     Ok(())
 }
 
+#[test]
+fn what_stands_behind_an_ignored_refusal(rt: HostRuntime) {
+    let octets = [0x04, 0x01, 0x09, 0x04, 0x01, 0x02];
+    let failed = ErrorKind::Failed.at(Length::new(3));
+    let refused = <(Hasty, MyByteMonth)>::from_der(rt.alloc(), &octets).err();
+    same(&rt, refused, Some(failed));
+}
+
 // Contents that are not read.
 #[derive(Clone, Copy)]
 struct Unread;
