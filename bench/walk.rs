@@ -1,24 +1,13 @@
 //! Walks over 16 MiB of elements by the proved reader and by hand, and tells how long an element
 //! takes each.
-use std::hint::black_box;
-use std::time::Instant;
+mod common;
 
-const INPUT_LEN: usize = 16 << 20;
-const ROUNDS: usize = 31;
+use common::{INPUT_LEN, Numbers, Totals, any_len, long_length, measure, push_length, short_len};
 
 // Tags of one octet, as certificates have them.
 const TAGS: [u8; 12] = [
     0x02, 0x02, 0x04, 0x06, 0x06, 0x0C, 0x13, 0x17, 0x30, 0x30, 0x31, 0xA0,
 ];
-
-/// What a walk has passed, as the library lays it out.
-#[repr(C)]
-#[derive(Clone, Copy, Debug, Default, PartialEq, Eq)]
-struct Totals {
-    elements: u64,
-    contents: u64,
-    first_octets: u64,
-}
 
 unsafe extern "C" {
     // A slice is handed over as a pointer and then a length.
@@ -102,62 +91,6 @@ fn skip_long_number(bytes: &[u8]) -> Option<&[u8]> {
     }
 }
 
-fn long_length(first: u8, bytes: &[u8]) -> Option<(usize, &[u8])> {
-    let count = (first & 0x7F) as usize;
-    if !(1..=4).contains(&count) {
-        return None;
-    }
-    let (octets, rest) = bytes.split_at_checked(count)?;
-    let mut len = 0usize;
-    for &octet in octets {
-        len = len << 8 | octet as usize;
-    }
-    let least = if count == 1 {
-        0x80
-    } else {
-        1 << (8 * (count - 1))
-    };
-    (len >= least).then_some((len, rest))
-}
-
-/// A sequence of numbers that is the same in every run.
-struct Numbers(u64);
-
-impl Numbers {
-    fn next(&mut self) -> u64 {
-        self.0 ^= self.0 << 13;
-        self.0 ^= self.0 >> 7;
-        self.0 ^= self.0 << 17;
-        self.0
-    }
-
-    fn below(&mut self, bound: u64) -> u64 {
-        self.next() % bound
-    }
-}
-
-/// From 1 to 18 octets of contents: with their headers the elements have 11.5 octets on average.
-fn short_len(numbers: &mut Numbers) -> usize {
-    1 + numbers.below(18) as usize
-}
-
-/// From 1 to 65536 octets of contents, of every size from few to many.
-fn any_len(numbers: &mut Numbers) -> usize {
-    let bound = 1 << numbers.below(17);
-    1 + numbers.below(bound) as usize
-}
-
-fn push_length(out: &mut Vec<u8>, len: usize) {
-    if len < 0x80 {
-        out.push(len as u8);
-        return;
-    }
-    let octets = len.to_be_bytes();
-    let zeros = octets.iter().take_while(|octet| **octet == 0).count();
-    out.push(0x80 | (octets.len() - zeros) as u8);
-    out.extend_from_slice(&octets[zeros..]);
-}
-
 /// Elements until the input is as long as wanted; their number stands beside them.
 fn elements(next_len: fn(&mut Numbers) -> usize) -> (Vec<u8>, u64) {
     let mut numbers = Numbers(0x9E37_79B9_7F4A_7C15);
@@ -175,23 +108,6 @@ fn elements(next_len: fn(&mut Numbers) -> usize) -> (Vec<u8>, u64) {
     (out, count)
 }
 
-/// The least time of a walk among the rounds, in nanoseconds an element; the rounds of the two
-/// walks alternate, so that both see the same machine.
-fn measure(bytes: &[u8], count: u64) -> (f64, f64) {
-    let walks: [fn(&[u8]) -> Totals; 2] = [proved_walk, walk_by_hand];
-    let mut least = [f64::INFINITY; 2];
-    for _ in 0..ROUNDS {
-        for (walk, least) in walks.iter().zip(&mut least) {
-            let start = Instant::now();
-            let totals = walk(black_box(bytes));
-            let elapsed = start.elapsed().as_nanos() as f64 / count as f64;
-            assert_eq!(black_box(totals).elements, count);
-            *least = least.min(elapsed);
-        }
-    }
-    (least[0], least[1])
-}
-
 fn main() {
     let mixes: [(&str, fn(&mut Numbers) -> usize); 2] = [
         ("1 to 18 octets of contents", short_len),
@@ -200,7 +116,7 @@ fn main() {
     for (name, next_len) in mixes {
         let (bytes, count) = elements(next_len);
         assert_eq!(proved_walk(&bytes), walk_by_hand(&bytes), "{name}");
-        let (proved, by_hand) = measure(&bytes, count);
+        let (proved, by_hand) = measure([proved_walk, walk_by_hand], &bytes, count);
         println!(
             "{name}: {count} elements of {:.1} octets; \
              library {proved:.2} ns, by hand {by_hand:.2} ns an element, ratio {:.2}",

@@ -1,7 +1,9 @@
-//! The walk over the elements of an input whose speed `bench/` measures.
+//! The walk over the elements of an input, and the decoding of keys, whose speed `bench/` measures.
 #![tactic(auto)]
 
-use der_core::{Reader, ReaderExt, SliceReader, decode_header};
+mod decode;
+
+use der::{Reader, ReaderExt, SliceReader, decode_header};
 
 /// What a walk has passed.
 #[repr(C)]

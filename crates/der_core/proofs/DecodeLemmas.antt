@@ -60,7 +60,8 @@ module _ {A : Type 0} {Ahead : A → EncodingRules → List ℕ → ℕ → Type
   decodes_bound reliable (Ok v) owed h = record { same = h.same; ok = h.ok; refused = λ _ _. tt }
   decodes_bound reliable (Err e) owed h = decodes_reliably owed h
 
-  not_refused : IsGrammar Ahead Fault → {s t : ReaderState} {e : Error} {v : A} {m : ℕ} → IsRefusedBy Fault s e t → s.failed ≡ false → Ahead v s.rules (rest s) m → ⊥
+  -- what stands ahead is not refused
+  pub not_refused : IsGrammar Ahead Fault → {s t : ReaderState} {e : Error} {v : A} {m : ℕ} → IsRefusedBy Fault s e t → s.failed ≡ false → Ahead v s.rules (rest s) m → ⊥
   not_refused laws (has_failed f told leaves) working ahead = (let no : true ≡ false = sym f ∙ working in cc)
   not_refused laws {s} {v = v} {m = m} (at_fault r w fault told leaves) working ahead = laws.never_both s.rules s.position (rest s) v m r ahead fault
 

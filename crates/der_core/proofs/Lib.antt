@@ -5,7 +5,14 @@ pub mod EncodeLemmas
 pub mod WriterLemmas
 pub mod HeaderReadLemmas
 pub mod DecodeLemmas
+pub mod WholeLemmas
 pub mod NestedLemmas
 pub mod PeekLemmas
 pub mod EndMarkLemmas
 pub mod CompareLemmas
+pub mod ContentsLemmas
+pub mod TagAssertedLemmas
+pub mod ElementLemmas
+pub mod DerLemmas
+pub mod LawfulLemmas
+pub mod FieldLemmas

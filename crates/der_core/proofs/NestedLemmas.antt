@@ -1,11 +1,6 @@
 -- Parts, entered and left.
-use Rattle.std.proofs.Common.{◌≡◌, ◌⊎◌, inl, inr, ⊎_elim, ◌≢◌, ℕ, ◌+◌, ◌-◌, ◌^◌, ◌≤◌, Bool, true, false, IsTrue, Result, Ok, Err, length, nat_lt, refl, sym, ap, ◌∙◌, subst, arith}
-use Rattle.std.proofs.lemmas.Bool.{cases_eq}
-use Rattle.der_base.specs.Tag.{Label, label_of, label}
-use Rattle.der_base.specs.declared.tag.Tag.{Tag}
-use Rattle.der_base.specs.declared.tag.Tag.TheVariants.{Sequence}
-use Rattle.der_base.proofs.TagLemmas.{same_label}
-use Rattle.der_base.specs.Error.{at, unexpected_tag}
+use Rattle.std.proofs.Common.{◌≡◌, ◌≢◌, ℕ, ◌+◌, ◌-◌, ◌^◌, ◌≤◌, Bool, true, false, IsTrue, Result, Ok, Err, length, nat_lt, refl, sym, ap, ◌∙◌, subst, arith}
+use Rattle.der_base.specs.Error.{at}
 use Rattle.der_base.specs.Length.{number, is_indefinite, definite_length}
 use Rattle.der_base.specs.declared.length.Length.{Length}
 use Rattle.der_base.specs.declared.error.Error.{Error}
@@ -115,28 +110,3 @@ value_not_opened s t of l e f same h told = not_opened e f (subst (λ x. Gives (
 pub value_at : {P Q T E : Type 0} {converts : Error → E → Type 0} {post : P → Result T E → Q → Type 0} {before : P → ReaderState} {after : Q → ReaderState} {s t : ReaderState} {of l : Length}
     {result : Result T E} → l ≡ of → ValueAnswers converts post before after l s result t → ValueAnswers converts post before after of s result t
 value_at {converts = converts} {post = post} {before = before} {after = after} {s = s} {t = t} {result = result} e h = subst (λ x. ValueAnswers converts post before after x s result t) e h
-
--- a tag is SEQUENCE or another
-labels : (a b : ℕ) (x : Bool) → a ≡ 0 → x ≡ true → b ≡ 16 → label_of a x b ≡ label Sequence
-labels a b x p q r = rw p (rw q (rw r refl))
-
-sequence_label : (l : Label) → (l ≡ label Sequence) ⊎ (l ≢ label Sequence)
-sequence_label l = go l.constructed refl (cases_eq l.class 0) (cases_eq l.number 16)
-  where
-    go : (b : Bool) → l.constructed ≡ b → (l.class ≡ 0) ⊎ (l.class ≢ 0) → (l.number ≡ 16) ⊎ (l.number ≢ 16) → (l ≡ label Sequence) ⊎ (l ≢ label Sequence)
-    go false e c n = inr (λ same. (let no : false ≡ true = sym e ∙ ap (λ (x : Label). x.constructed) same in cc))
-    go true e (inr c) n = inr (λ same. c (ap (λ (x : Label). x.class) same))
-    go true e (inl c) (inr n) = inr (λ same. n (ap (λ (x : Label). x.number) same))
-    go true e (inl c) (inl n) = inl (labels l.class l.number l.constructed c e n)
-
--- a tag that was not refused as another
-pub sequence_asserted : (t u : Tag) (r : Result Tag Error) → r ≡ Ok u → (t ≢ Sequence → r ≡ Err (unexpected_tag Sequence t)) → t ≡ Sequence
-sequence_asserted t u r ok other =
-    ⊎_elim (λ same. same_label t Sequence same) (λ not. absurd (let no : Ok u ≡ Err (unexpected_tag Sequence t) = sym ok ∙ other (λ e. not (ap label e)) in cc)) (sequence_label (label t))
-
--- a tag that was refused is another, and that is what the error says
-pub another_asserted : (t : Tag) (e : Error) (r : Result Tag Error) → r ≡ Err e → (t ≡ Sequence → r ≡ Ok t) → t ≢ Sequence
-another_asserted t e r refused same is = (let no : Err e ≡ Ok t = sym refused ∙ same is in cc)
-
-pub told_another : (t : Tag) (e : Error) (r : Result Tag Error) → r ≡ Err e → t ≢ Sequence → (t ≢ Sequence → r ≡ Err (unexpected_tag Sequence t)) → e ≡ unexpected_tag Sequence t
-told_another t e r refused not other = (let same : Err e ≡ Err (unexpected_tag Sequence t) = sym refused ∙ other not in cc)

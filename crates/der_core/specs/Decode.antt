@@ -13,7 +13,7 @@ use Rattle.der_base.specs.declared.encoding_rules.EncodingRules.{EncodingRules}
 use Rattle.der_base.specs.declared.encoding_rules.EncodingRules.TheVariants.{Ber, Der}
 use Rattle.der_core.specs.ReaderState.{ReaderState, initial_state, rest, reader_position, advanced_state, stopped_state, state_after, Same}
 use Rattle.der_core.specs.Outcome.{Gives}
-use Rattle.der_core.specs.Reader.{tlv_outcome}
+use Rattle.der_core.specs.Reader.{finish_answer, tlv_outcome}
 use Rattle.der_core.specs.Header.{head_of, IsHeaderAhead}
 use Rattle.der_core.specs.declared.header.Header.{Header}
 
@@ -77,6 +77,10 @@ ReadsOrLacks out_of_memory takes_memory s m result t =
     (IsOk result × (t ≡ advanced_state s m))
     ⊎ ((takes_memory ≡ true) × IsErrAnd result (λ e. out_of_memory e ≡ true))
 
+-- octets are wholly what stands ahead in them
+abbrev pub Whole : (EncodingRules → List ℕ → ℕ → Type 0) → EncodingRules → List ℕ → Type 0
+Whole Ahead rules octets = Ahead rules octets (length octets)
+
 -- what follows the answer of a decoder: its error, or the value with the rest of a reader that is
 -- not failed
 abbrev pub PartialThen : {A E : Type 0}
@@ -95,6 +99,25 @@ pub data PartialAnswer {A E : Type 0} (answers : ReaderState → Result A E → 
   decoded : (answer : Result A E) (t : ReaderState) → length octets < 2 ^ 32
       → answers (initial_state Der octets) answer t → PartialThen converts answer t result
       → PartialAnswer answers converts octets result
+
+-- what follows the answer of a decoder that has to read all: its error, or that of finishing, or
+-- the value
+abbrev pub WholeThen : {A E : Type 0}
+    → (Error → E → Type 0) → Result A E → ReaderState → Result A E → Type 0
+WholeThen converts (Err e) t result = result ≡ Err e
+WholeThen converts (Ok v) t result =
+    ((finish_answer t ≡ Ok tt) × (result ≡ Ok v))
+    ⊎ ((e : Error) × (finish_answer t ≡ Err e) × IsErrAnd result (λ f. converts e f))
+
+-- a value of all the octets: too many are an overflow; else the first step that fails
+pub data WholeAnswer {A E : Type 0} (answers : ReaderState → Result A E → ReaderState → Type 0)
+    (converts : Error → E → Type 0) (octets : List ℕ) (result : Result A E)
+    : Type 0 where
+  whole_too_long : 2 ^ 32 ≤ length octets → IsErrAnd result (λ e. converts (error_of_kind Overflow) e)
+      → WholeAnswer answers converts octets result
+  whole_decoded : (answer : Result A E) (t : ReaderState) → length octets < 2 ^ 32
+      → answers (initial_state Der octets) answer t → WholeThen converts answer t result
+      → WholeAnswer answers converts octets result
 
 -- the octets of a whole element: its header is looked at first, which leaves the reader; header and
 -- contents together are then lent, or pass every length

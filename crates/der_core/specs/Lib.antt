@@ -8,7 +8,12 @@ pub mod AfterFirstOctet
 pub mod Resumption
 pub mod Nested
 pub mod Position
+pub mod DecodeValue
+pub mod Element
+pub mod Boxed
 pub mod Writer
 pub mod SliceWriter
 pub mod Encode
 pub mod WrittenSequence
+pub mod Lawful
+pub mod Fields

@@ -1,20 +1,13 @@
 -- Reading a part by a closure.
-use Rattle.std.specs.Prelude.{◌≡◌, ◌≢◌, ℕ, ◌+◌, ◌-◌, ◌<◌, ◌≤◌, Bool, true, false, length, Result, Ok, Err}
-use Rattle.der_base.specs.Arithmetic.{sans_eoc}
-use Rattle.der_base.specs.Error.{at, unexpected_tag}
+use Rattle.std.specs.Prelude.{◌≡◌, ℕ, ◌+◌, ◌-◌, ◌<◌, ◌≤◌, Bool, true, false, length, Result, Ok, Err}
+use Rattle.der_base.specs.Error.{at}
 use Rattle.der_base.specs.Length.{number, is_indefinite, definite_length}
-use Rattle.der_base.specs.Body.{BodyFault}
-use Rattle.der_base.specs.Header.{HeaderFault}
 use Rattle.der_base.specs.declared.length.Length.{Length}
-use Rattle.der_base.specs.declared.tag.Tag.TheVariants.{Sequence}
 use Rattle.der_base.specs.declared.error.Error.{Error}
 use Rattle.der_base.specs.declared.error.ErrorKind.TheVariants.{TrailingData}
 use Rattle.der_core.specs.ReaderState.{ReaderState, reader_position, nested_state, resumed_state, stopped_state, Same}
 use Rattle.der_core.specs.Outcome.{Gives}
 use Rattle.der_core.specs.Reader.{enter_nested_outcome, read_eoc_outcome}
-use Rattle.der_core.specs.Header.{head_of, IsHeaderAhead}
-use Rattle.der_core.specs.Decode.{Passes, Decodes}
-use Rattle.der_core.specs.declared.header.Header.{Header}
 
 -- a part of n octets can be entered
 abbrev pub CanNest : ReaderState → ℕ → Type 0
@@ -88,18 +81,3 @@ pub data ValueAnswers {P Q T E : Type 0} (converts : Error → E → Type 0)
       → before p ≡ nested_state s (number length) → post p answer q
       → ClosesValue converts answer (after q) s.end s.depth (is_indefinite length) result t
       → ValueAnswers converts post before after length s result t
-
--- a sequence: its header, its tag, and its contents
-pub data SequenceAnswers {P Q T E : Type 0} (converts : Error → E → Type 0)
-    (post : P → Result T E → Q → Type 0) (before : P → ReaderState) (after : Q → ReaderState)
-    (s : ReaderState)
-    (result : Result T E) (t : ReaderState) : Type 0 where
-  no_header : (e : Error) (f : E) → Decodes IsHeaderAhead (HeaderFault BodyFault) true s (Err e) t
-      → converts e f → result ≡ Err f → SequenceAnswers converts post before after s result t
-  other_tag : (h : Header) (f : E) → Passes (IsHeaderAhead h) s t
-      → (head_of h).tag ≢ Sequence → converts (unexpected_tag Sequence (head_of h).tag) f
-      → result ≡ Err f → SequenceAnswers converts post before after s result t
-  in_sequence : (h : Header) (u : ReaderState)
-      → Passes (IsHeaderAhead h) s u → (head_of h).tag ≡ Sequence
-      → ValueAnswers converts post before after (sans_eoc (head_of h).length) u result t
-      → SequenceAnswers converts post before after s result t

@@ -7,11 +7,20 @@ ghost use Rattle.der_base.specs.declared.encoding_rules.EncodingRules.{EncodingR
 ghost use Rattle.der_base.specs.declared.encoding_rules.EncodingRules.TheVariants.{Der};
 ghost use Rattle.der_core.specs.ReaderState.{ReaderState, rest, Same};
 ghost use Rattle.der_core.specs.Outcome.{map_ok};
-ghost use Rattle.der_core.specs.Decode.{is_out_of_memory_kind, Passes, ReadsOrLacks, PartialAnswer};
+ghost use Rattle.der_core.specs.Decode.{is_out_of_memory_kind, Passes, ReadsOrLacks, PartialAnswer, Whole, WholeAnswer};
+
+mod boxed;
+mod fields;
+mod lawful;
+mod phantom;
+mod value;
 
 use crate::reader::{Reader, SliceReader};
 use der_base::{Error, ErrorKind};
+pub use fields::decode_contents;
+pub use lawful::Lawful;
 use std::alloc::Global;
+pub use value::{DecodeValue, ReadValue, decode_tlv};
 
 /// The errors that decoding may answer: an [`Error`] converts to each of them.
 ///
@@ -89,6 +98,33 @@ pub trait Decode<R: Reader>: Sized + Drop {
 
 /// Decoding from octets in memory, for every type that is decoded from a [`SliceReader`].
 pub trait DecodeBytes<'a>: Decode<SliceReader<'a>> {
+    /// The value whose encoding under the Distinguished Encoding Rules these octets are, all of
+    /// them.
+    ///
+    /// # Errors
+    ///
+    /// - `Overflow` without a position, where there are more than 4294967295 octets.
+    /// - Those of the type, as by [`Decode::decode`] at the beginning of the octets.
+    /// - `Failed` at the reader's position, where the type answers a value and leaves its reader
+    ///   failed.
+    /// - `TrailingData` at the reader's position, where octets are left behind the value.
+    final fn from_der(
+        alloc: Global,
+        bytes: &'a [u8],
+    ) -> Result<Self, <Self as Decode<SliceReader<'a>>>::Error>
+        ensures ok { IfOk result (λ v. Whole (Self.heads v) Der bytes.now) }
+        ensures complete { (v : Self) → length bytes.now < 2 ^ 32
+            → Whole (Self.heads v) Der bytes.now → Self.needs Der ≤ 64
+            → IsOk result ⊎ ((Self.takes_memory ≡ true)
+            × IsErrAnd result (λ e. Self.Error.out_of_memory e ≡ true)) }
+        ensures exact { WholeAnswer Self.answers Self.Error.from_gives bytes.now result }
+    {
+        let mut reader = SliceReader::new(bytes)?;
+        let value = Self::decode(alloc, &mut reader)?;
+        reader.finish()?;
+        Ok(value)
+    }
+
     /// The value at the front of the octets under the Distinguished Encoding Rules, and the octets
     /// behind it.
     ///

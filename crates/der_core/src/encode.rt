@@ -7,6 +7,9 @@ ghost use Rattle.der_core.specs.Outcome.{map_ok};
 ghost use Rattle.der_core.specs.Writer.{WriterState, Keeps, Appends};
 ghost use Rattle.der_core.specs.Encode.{Counts, HasSize, TakesCounted, FitsInto, GrowsBy, element_octets, element_size, ElementAnswers, SliceAnswer, VecAnswer};
 
+mod boxed;
+mod fields;
+mod phantom;
 mod value;
 mod vec;
 

@@ -1,15 +1,50 @@
-//! The law that follows from the contract of a decoder. The function does nothing; its contract is
-//! the law, and nothing else uses it.
+//! Laws that follow from the contracts. Each function does nothing; its contract is the law, and
+//! nothing else uses it.
+ghost use Rattle.std.specs.Prelude.{◌^◌, ◌<◌, ◌≡◌, []};
 ghost use Rattle.der_base.specs.Body.{BodyFault};
-ghost use Rattle.der_base.specs.Header.{IdentifierAhead, TagAhead, LengthAhead, LengthFault, HeaderFault};
-ghost use Rattle.der_base.specs.Tag.{IdentifierFault};
+ghost use Rattle.der_base.specs.Header.{header_octets, IdentifierAhead, TagAhead, LengthAhead, LengthFault, HeaderFault};
+ghost use Rattle.der_base.specs.Length.{length_octets, number};
+ghost use Rattle.der_base.specs.Tag.{label, tag_octets, IdentifierFault};
 ghost use Rattle.der_base.specs.declared.error.ErrorKind.{ErrorKind};
 ghost use Rattle.der_core.specs.Decode.{Accepts};
-ghost use Rattle.der_core.specs.Header.{IsHeaderAhead};
+ghost use Rattle.der_core.specs.Element.{ElementAhead};
+ghost use Rattle.der_core.specs.Encode.{element_octets};
+ghost use Rattle.der_core.specs.Header.{head_of, IsHeaderAhead};
+ghost use Rattle.der_core.specs.Lawful.{IsDefinite, IsDefiniteHeader, PassesEncodings, ReadsEncodings, ReadsWholeEncodings, ReadsWritten};
+
+use crate::decode::Lawful;
+use std::marker::PhantomData;
+
+/// What stands ahead is read.
 
 fn what_stands_ahead_is_read()
     ensures identifiers { Accepts IdentifierAhead IdentifierFault }
     ensures tags { Accepts TagAhead IdentifierFault }
     ensures lengths { (wrong : ErrorKind) → Accepts LengthAhead (LengthFault BodyFault wrong) }
     ensures headers { Accepts IsHeaderAhead (HeaderFault BodyFault) }
+{}
+
+/// Under DER tags, lengths and headers stand at the front of octets exactly where their encodings
+/// do; nothing is encoded as no octets.
+fn grammars_read_encodings<T>()
+    ensures tags { ReadsEncodings TagAhead (λ t. (label t).number < 2 ^ 32) tag_octets }
+    ensures lengths { ReadsEncodings LengthAhead IsDefinite (λ l. length_octets (number l)) }
+    ensures headers { ReadsEncodings IsHeaderAhead IsDefiniteHeader
+        (λ h. header_octets (head_of h).tag (number (head_of h).length)) }
+    ensures nothing { ReadsEncodings (λ (v : PhantomData T) _ _ m. m ≡ 0) (λ _. Unit {0})
+        (λ _. []) }
+{}
+
+/// Under DER an element of a lawful type stands at the front of octets exactly where the encoding
+/// of a valid value does; octets are wholly such an element exactly where they are the encoding; a
+/// reader that has passed one has passed the encoding; and what is written is read, whatever
+/// follows.
+fn lawful_types_read_encodings<T: Lawful>()
+    ensures front { ReadsEncodings (ElementAhead T.tag_is T.takes) T.valid
+        (λ v. element_octets T.tag_is (T.contents v)) }
+    ensures whole { ReadsWholeEncodings (ElementAhead T.tag_is T.takes) T.valid
+        (λ v. element_octets T.tag_is (T.contents v)) }
+    ensures passed { PassesEncodings (ElementAhead T.tag_is T.takes) T.valid
+        (λ v. element_octets T.tag_is (T.contents v)) }
+    ensures written { ReadsWritten T.tag_is T.takes T.valid T.contents }
 {}

@@ -53,6 +53,7 @@ pub(crate) fn decode_length_behind<R: Reader>(
 
 // The rest of a length behind a first octet from 80 on: so many octets in base 256, the fewest
 // possible.
+#[inline]
 fn decode_long_length<R: Reader>(reader: &mut R, first: u8, tag: Option<Tag>) -> Result<u32, Error>
     requires { 128 ≤ first }
     ensures same { Same (R.state reader.old) (R.state reader.new) }

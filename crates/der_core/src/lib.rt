@@ -16,10 +16,8 @@ pub mod reader;
 mod tag;
 pub mod writer;
 
-pub use decode::{Decode, DecodeBytes, DecodeError};
-pub use der_base::{
-    CLASS_APPLICATION, CLASS_CONTEXT_SPECIFIC, CLASS_PRIVATE, CLASS_UNIVERSAL, Class,
-    EncodingRules, Error, ErrorKind, Length, Result, Tag, TagMode, TagNumber,
+pub use decode::{
+    Decode, DecodeBytes, DecodeError, DecodeValue, Lawful, ReadValue, decode_contents, decode_tlv,
 };
 pub use encode::{
     Encode, EncodeValue, WrittenValue, encode_tlv, encode_to_vec_in, encode_value_to_slice,

@@ -3,7 +3,7 @@
 //! `.ci/refused_memory` runs this with each growth refused in turn.
 #![tactic(auto)]
 
-use der_core::{Encode, Error, ErrorKind, Header, Length, Reader, SliceReader, Tag};
+use der::{Encode, Error, ErrorKind, Header, Length, Reader, SliceReader, Tag};
 use std::alloc::Global;
 use std::io;
 

@@ -1,6 +1,6 @@
 //! Worked cases of reading and writing; what is expected is worked out by hand from X.690 and from
 //! the rules of refusals.
-use der_core::{
+use der::{
     Decode, DecodeBytes, Error, ErrorKind, Header, Length, Octets, Reader, ReaderExt, SliceReader,
     Tag, TagNumber, decode_header, decode_length,
 };

@@ -2,7 +2,7 @@
 ghost use Rattle.std.specs.Prelude.{◌≡◌, IfOk, string_bytes};
 ghost use Rattle.der_tool.specs.Answer.{TellsError};
 
-use der_core::Error;
+use der::Error;
 use std::alloc::{AllocError, Allocator};
 
 /// What the program says, and how it ends.

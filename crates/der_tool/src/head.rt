@@ -5,7 +5,7 @@ ghost use Rattle.der_tool.specs.Text as text;
 ghost use Rattle.der_tool.specs.Answer.{AnswersHead, IsHeaderRead, IsRefusedFor, status_of, text_of};
 
 use crate::answer::{Answer, error_line};
-use der_core::{DecodeBytes, Error, Header};
+use der::{DecodeBytes, Error, Header};
 use std::alloc::{AllocError, Allocator, Global};
 
 /// What is told of the header at the front of the octets. Reading it takes no memory, but the call

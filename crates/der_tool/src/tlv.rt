@@ -4,7 +4,7 @@ ghost use Rattle.der_tool.specs.Text as text;
 ghost use Rattle.der_tool.specs.Answer.{AnswersTlv, IsElement, NoElement, status_of, text_of};
 
 use crate::answer::{Answer, error_line};
-use der_core::{Error, ReaderExt, SliceReader};
+use der::{Error, ReaderExt, SliceReader};
 use std::alloc::{AllocError, Allocator};
 
 /// What is told of the whole element at the front of the octets.

@@ -5,7 +5,7 @@ ghost use Rattle.der_base.specs.Length.{number};
 ghost use Rattle.der_base.specs.declared.encoding_rules.EncodingRules.TheVariants.{Der};
 ghost use Rattle.der_core.specs.Header.{head_of};
 
-use der_core::{Error, Header, Reader, SliceReader, decode_header};
+use der::{Error, Header, Reader, SliceReader, decode_header};
 
 /// The header at the front of the octets, and the contents that it announces; they are a part of
 /// the octets, and not copied.

@@ -4,7 +4,7 @@ ghost use Rattle.der_base.specs.Header.{HeaderAhead};
 ghost use Rattle.der_base.specs.declared.encoding_rules.EncodingRules.TheVariants.{Der};
 ghost use Rattle.der_core.specs.Header.{head_of};
 
-use der_core::{DecodeBytes, Error, Header};
+use der::{DecodeBytes, Error, Header};
 use std::alloc::Global;
 
 /// The header at the front of the octets, and the octets behind it.

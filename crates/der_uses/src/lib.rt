@@ -1,9 +1,11 @@
 //! Callers of the libraries, as a user writes them. The guide `docs/CALLING.md` quotes them.
 #![tactic(auto)]
 
+pub mod algorithm_identifier;
 pub mod contents;
 pub mod front;
-pub mod month;
+pub mod key_info;
+pub mod lent;
 pub mod nested;
 pub mod reader;
 pub mod sequence;

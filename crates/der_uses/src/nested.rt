@@ -2,7 +2,7 @@
 ghost use Rattle.der_core.specs.ReaderState.{Same};
 ghost use Rattle.der_core.specs.SliceReader.{slice_state};
 
-use der_core::{Error, Reader, ReaderExt, SliceReader, Tag, decode_header};
+use der::{Error, Reader, ReaderExt, SliceReader, Tag, decode_header};
 
 /// How many elements stand in the SEQUENCE at the front of the octets.
 pub fn count_of_elements(octets: &[u8]) -> Result<u32, Error> {

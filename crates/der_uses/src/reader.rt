@@ -2,7 +2,7 @@
 ghost use Rattle.std.specs.Prelude.{◌≡◌, false};
 ghost use Rattle.der_core.specs.SliceReader.{slice_state};
 
-use der_core::{EncodingRules, Error, ErrorKind, Length, Reader, Resumption, SliceReader};
+use der::{EncodingRules, Error, ErrorKind, Length, Reader, Resumption, SliceReader};
 use std::alloc::Allocator;
 
 /// A reader over another one that lends nothing.

@@ -3,7 +3,7 @@ ghost use Rattle.std.specs.Prelude.{◌≡◌};
 ghost use Rattle.der_core.specs.ReaderState.{Same};
 ghost use Rattle.der_core.specs.SliceReader.{slice_state};
 
-use der_core::{Error, Reader, ReaderExt, SliceReader, Tag, decode_header};
+use der::{Error, Reader, ReaderExt, SliceReader, Tag, decode_header};
 
 /// The contents of the OCTET STRING that is all of the SEQUENCE that is all of the octets.
 pub fn wrapped_octets(octets: &[u8]) -> Result<&[u8], Error> {

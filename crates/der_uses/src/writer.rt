@@ -2,7 +2,7 @@
 ghost use Rattle.std.specs.Prelude.{◌≡◌, ◌++◌, true, false, [], OnOk};
 ghost use Rattle.der_base.specs.Tag.{tag_octets};
 
-use der_core::{Encode, Error, ErrorKind, Tag, Writer};
+use der::{Encode, Error, ErrorKind, Tag, Writer};
 
 /// What was written, in a vector that grows.
 #[derive(Drop)]

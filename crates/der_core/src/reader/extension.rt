@@ -13,7 +13,8 @@ ghost use Rattle.der_core.specs.Header.{head_of, IsHeaderAhead};
 ghost use Rattle.der_core.specs.declared.header.Header.{Header as AHeader};
 ghost use Rattle.der_base.specs.Arithmetic.{sans_eoc};
 ghost use Rattle.der_base.specs.declared.tag.Tag.TheVariants.{Sequence};
-ghost use Rattle.der_core.specs.Nested.{CanLeave, Closes, HandsBack, NestedAnswers, SequenceAnswers};
+ghost use Rattle.der_core.specs.Nested.{CanLeave, Closes, HandsBack, NestedAnswers};
+ghost use Rattle.der_core.specs.Element.{ElementReadBy};
 
 use crate::decode::Decode;
 use crate::header::{Header, decode_header};
@@ -79,6 +80,7 @@ pub trait ReaderExt: Reader {
     /// - The error that is given, with its position or none; the reader has not moved.
     /// - `TrailingData` at the position, where octets are left in the part; the reader has failed
     ///   then.
+    #[inline]
     final fn close_nested<T: Drop, E: From<Error> + Drop>(
         &mut self,
         outer: Resumption,
@@ -217,6 +219,7 @@ pub trait ReaderExt: Reader {
     /// - `Failed` at the position, where the reader had failed; it is unchanged.
     /// - Those of the type, as by [`Decode::decode`]; the reader stands where that leaves it and
     ///   has failed, whatever the error.
+    #[inline]
     final fn decode<T: Decode<Self>>(
         &mut self,
         alloc: Global,
@@ -276,7 +279,7 @@ pub trait ReaderExt: Reader {
             (number (sans_eoc (head_of h).length)) }
         ensures same { Same (Self.state self.old) (Self.state self.new) }
         ensures exact { IsBinding Self.reliable result
-            → SequenceAnswers E.from_gives (F.post f) (λ p. Self.state p.now)
+            → ElementReadBy Sequence E.from_gives (λ _. F.post f) (λ p. Self.state p.now)
             (λ q. Self.state q.now) (Self.state self.old) result (Self.state self.new) }
     {
         let header = decode_header(self)?;

@@ -1,21 +1,41 @@
 //! Positions in an input, and parts of it.
-ghost use Rattle.std.specs.Prelude.{◌≡◌};
+ghost use Rattle.std.specs.Prelude.{◌≡◌, ◌^◌, ◌<◌};
 
 use der_base::{Error, ErrorKind, Length};
+use std::alloc::AllocError;
 
 // how many parts may stand inside each other
 pub(super) const MAX_DEPTH: u8 = 64;
 
 /// A position in an input, the end up to which may be read, and how many parts stand around it.
-#[derive(Clone, Debug, Drop)]
+#[derive(Debug, Drop)]
 pub struct Position {
     pub(super) end: u32,
-    pub(super) position: u32,
+    // a `usize`, as slices are cut by it, so that no read has to widen it
+    pub(super) position: usize,
     pub(super) depth: u8,
+    ghost counted: { position < 2 ^ 32 },
+}
+
+/// The same place; it takes no memory.
+impl Clone for Position {
+    ghost use Rattle.std.specs.Prelude.{⊤};
+
+    ghost is_clone = { λ p q. q ≡ p };
+
+    ghost is_infallible = { λ _. ⊤ };
+
+    fn clone(&self) -> Result<Position, AllocError> {
+        Ok(Position {
+            end: self.end,
+            position: self.position,
+            depth: self.depth,
+        })
+    }
 }
 
 impl Position {
-    ghost use Rattle.std.specs.Prelude.{◌+◌, ◌-◌, ◌<◌};
+    ghost use Rattle.std.specs.Prelude.{◌+◌, ◌-◌};
     ghost use Rattle.der_base.specs.Error.{at, missing_refusal};
     ghost use Rattle.der_base.specs.Length.{number, definite_length};
     ghost use Rattle.der_core.specs.Outcome.{map_ok};
@@ -37,7 +57,7 @@ impl Position {
     pub fn current(&self) -> Length
         ensures { result ≡ definite_length (position_place self.now).position }
     {
-        Length::new(self.position)
+        Length::new(self.position as u32)
     }
 
     /// How far may be read.
@@ -82,10 +102,11 @@ impl Position {
             (position_place self.new) }
     {
         let count = u32::from(amount);
-        if count > u32::MAX - self.position || self.position + count > self.end {
+        let behind = self.position + count as usize;
+        if behind > self.end as usize {
             return Err(self.missing(count));
         }
-        self.position += count;
+        self.position = behind;
         Ok(self.current())
     }
 
@@ -95,11 +116,12 @@ impl Position {
         ensures { result ≡ (missing_refusal (self.now.position + count) self.now.end
             self.now.position).error }
     {
-        if count > u32::MAX - self.position {
+        let behind = self.position + count as usize;
+        if behind > u32::MAX as usize {
             return ErrorKind::Overflow.to_error();
         }
         self.error(ErrorKind::Incomplete {
-            expected_len: Length::new(self.position + count),
+            expected_len: Length::new(behind as u32),
             actual_len: self.input_len(),
         })
     }
@@ -131,13 +153,14 @@ impl Position {
     pub(super) fn part_end(&self, count: u32) -> Result<u32, Error>
         ensures { result ≡ part_end count (position_place self.now) }
     {
-        if count > u32::MAX - self.position {
+        let end = self.position + count as usize;
+        if end > u32::MAX as usize {
             return Err(ErrorKind::Overflow.to_error());
         }
-        if self.position + count > self.end {
+        if end > self.end as usize {
             return Err(Error::incomplete(self.input_len()));
         }
-        Ok(self.position + count)
+        Ok(end as u32)
     }
 
     // Inside a part that ends there; gives what to go back to.

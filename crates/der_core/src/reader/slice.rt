@@ -77,7 +77,7 @@ impl<'a> SliceReader<'a> {
             (missing_refusal (self.old.place.position + count) self.old.place.end
             self.old.place.position) }
     {
-        self.failed = self.failed || count <= u32::MAX - self.place.position;
+        self.failed = self.failed || self.place.position + count as usize <= u32::MAX as usize;
         self.place.missing(count)
     }
 }
@@ -126,13 +126,14 @@ impl<'a> Reader for SliceReader<'a> {
             return Err(self.has_failed());
         }
         let count = u32::from(len);
-        if count > self.place.end - self.place.position {
+        let start = self.place.position;
+        // one sum of two `usize` is looked at, ends the slice and is the new position
+        let behind = start + count as usize;
+        if behind > self.place.end as usize {
             return Err(self.incomplete(count));
         }
-        let start = self.place.position as usize;
-        self.place.position += count;
-        // a sum of two `usize`, so that the compiler sees how long the slice is
-        Ok(&self.bytes[start..start + count as usize])
+        self.place.position = behind;
+        Ok(&self.bytes[start..behind])
     }
 
     #[inline]
@@ -154,7 +155,7 @@ impl<'a> Reader for SliceReader<'a> {
         if self.failed {
             return Err(self.has_failed());
         }
-        Ok(&self.bytes[self.place.position as usize..self.place.end as usize])
+        Ok(&self.bytes[self.place.position..self.place.end as usize])
     }
 
     fn fork(&self) -> Self {
@@ -190,13 +191,13 @@ impl<'a> Reader for SliceReader<'a> {
             return Err(self.has_failed());
         }
         let count = u32::from(amount);
-        let left = self.place.end - self.place.position;
+        let left = self.place.end - self.place.position as u32;
         if count <= left {
-            self.place.position += count;
+            self.place.position += count as usize;
             return Ok(());
         }
         let whole = left - left % STEP;
-        self.place.position += whole;
+        self.place.position += whole as usize;
         Err(self.incomplete((count - whole).min(STEP)))
     }
 
@@ -204,7 +205,7 @@ impl<'a> Reader for SliceReader<'a> {
         if self.failed {
             return Err(self.has_failed());
         }
-        if self.place.position < self.place.end {
+        if self.place.position < self.place.end as usize {
             let kind = ErrorKind::TrailingData {
                 decoded: self.place.current(),
                 remaining: self.place.remaining_len(),
@@ -214,6 +215,7 @@ impl<'a> Reader for SliceReader<'a> {
         Ok(())
     }
 
+    #[inline]
     fn enter_nested(&mut self, len: Length) -> Result<Resumption, Error> {
         match self.place.part_end(u32::from(len)) {
             Err(error) => Err(error),
@@ -222,6 +224,7 @@ impl<'a> Reader for SliceReader<'a> {
         }
     }
 
+    #[inline]
     fn leave_nested(&mut self, resumption: Resumption) {
         self.place.resume_nested(resumption);
     }

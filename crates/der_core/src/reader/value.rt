@@ -59,6 +59,7 @@ fn read_zero_octet<R: Reader>(reader: &mut R) -> Result<(), Error>
 /// - `TrailingData` at the position, where octets are left in the contents; the reader has failed
 ///   then.
 /// - `Failed`, `IndefiniteLength`, `Incomplete` and `Overflow` of the end mark, as by [`read_eoc`].
+#[inline]
 pub fn close_value<R: Reader, T: Drop, E: From<Error> + Drop>(
     reader: &mut R,
     length: Length,
@@ -96,6 +97,7 @@ pub fn close_value<R: Reader, T: Drop, E: From<Error> + Drop>(
 /// - The error of `f`, handed on; the reader stands where `f` left it, with its own end and depth.
 /// - `TrailingData` at the position, where `f` leaves octets; the reader has failed then.
 /// - `Failed`, `IndefiniteLength`, `Incomplete` and `Overflow` of the end mark, as by [`read_eoc`].
+#[inline]
 pub fn read_value<
     R: Reader,
     T: Drop,

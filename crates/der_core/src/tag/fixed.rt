@@ -20,6 +20,17 @@ pub trait FixedTag {
         ensures { result ≡ tag_is };
 }
 
+/// A value in memory of its own has the tag of the value.
+impl<T: FixedTag> FixedTag for Box<T> {
+    ghost tag_is = { T.tag_is };
+
+    const TAG: Tag = T::TAG;
+
+    fn fixed_tag() -> Tag {
+        T::fixed_tag()
+    }
+}
+
 /// Types whose values have a tag, each its own.
 ///
 /// Ghost member: `tag_of` is the tag of a value.

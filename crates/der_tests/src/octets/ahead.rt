@@ -1,7 +1,7 @@
 //! What is ahead of a reader, whole elements, and octets that are passed.
 use super::*;
 use crate::checks::{holds, same};
-use der_core::{Class, TagPeek};
+use der::{Class, TagPeek};
 
 #[test]
 fn what_is_ahead(rt: HostRuntime) -> Result<(), Fail> {

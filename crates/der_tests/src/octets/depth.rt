@@ -4,7 +4,7 @@ ghost use Rattle.der_core.specs.ReaderState.{Same};
 
 use super::*;
 use crate::checks::{holds, same};
-use der_core::{Resumption, close_value};
+use der::{Resumption, close_value};
 
 // So many empty parts inside each other.
 fn nest(reader: &mut SliceReader<'_>, levels: u8) -> Result<(), Error>

@@ -2,7 +2,7 @@
 use super::unlent::make_unlent;
 use super::*;
 use crate::checks::{holds, holds_at, same, same_at};
-use der_core::{encode_to_vec_in, to_der_in};
+use der::{encode_to_vec_in, to_der_in};
 use linked_list_allocator::LocalHeap;
 use std::process::Abort;
 use std::test::Fail;

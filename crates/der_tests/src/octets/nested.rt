@@ -4,7 +4,7 @@ ghost use Rattle.der_core.specs.ReaderState.{Same};
 
 use super::*;
 use crate::checks::{holds, same};
-use der_core::{Position, read_eoc, read_value};
+use der::{Position, read_eoc, read_value};
 
 fn trailing(decoded: u32, remaining: u32) -> Error {
     ErrorKind::TrailingData {

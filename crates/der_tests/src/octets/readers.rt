@@ -1,7 +1,7 @@
 //! A reader of a slice: what it tells of itself, what it lends, and what it refuses.
 use super::*;
 use crate::checks::{holds, same};
-use der_core::DecodeError;
+use der::DecodeError;
 
 #[test]
 fn a_new_reader(rt: HostRuntime) -> Result<(), Fail> {

@@ -3,7 +3,7 @@ ghost use Rattle.der_core.specs.ReaderState.{Same};
 
 use super::*;
 use crate::checks::{holds, same};
-use der_core::read_eoc;
+use der::read_eoc;
 use der_uses::reader::CopyingReader;
 
 pub(super) fn make_unlent(bytes: &[u8]) -> Result<CopyingReader<'_>, Error> {

@@ -4,7 +4,7 @@ ghost use Rattle.der_core.specs.ReaderState.{Same};
 use super::unlent::make_unlent;
 use super::*;
 use crate::checks::{holds, same};
-use der_core::{close_value, read_value};
+use der::{close_value, read_value};
 
 fn read_one<R: Reader>(reader: &mut R) -> Result<u8, Error>
     ensures { Same (R.state reader.old) (R.state reader.new) }

@@ -2,7 +2,7 @@
 use super::unlent::make_unlent;
 use super::*;
 use crate::checks::{holds, same};
-use der_core::{Class, TagPeek};
+use der::{Class, TagPeek};
 
 #[test]
 fn a_header_ahead_without_lending(rt: HostRuntime) -> Result<(), Fail> {

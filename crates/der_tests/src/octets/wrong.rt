@@ -8,7 +8,7 @@ ghost use Rattle.der_core.specs.Encode.{ThenAnswers};
 
 use super::*;
 use crate::checks::{holds, same};
-use der_core::{Encode, SliceWriter, Writer};
+use der::{Encode, SliceWriter, Writer};
 
 #[derive(Clone, Copy)]
 pub struct Wrong;

@@ -8,7 +8,7 @@ ghost use Rattle.der_base.specs.declared.error.ErrorKind.TheVariants.{Overlength
 
 use super::*;
 use crate::checks::{holds, same};
-use der_core::{Encode, EncodeValue, Tagged, Writer, WrittenValue, encoded_len_tlv};
+use der::{Encode, EncodeValue, Tagged, Writer, WrittenValue, encoded_len_tlv};
 
 #[derive(Clone, Copy)]
 pub struct Zeros {

@@ -2,7 +2,7 @@
 use super::month::{Month, Months};
 use super::*;
 use crate::checks::same;
-use der_core::{FixedTag, IsConstructed};
+use der::{FixedTag, IsConstructed};
 use std::process::Abort;
 
 fn tags_agree<T: FixedTag>(rt: &impl Abort, tag: Tag, constructed: bool) {

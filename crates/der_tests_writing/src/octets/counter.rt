@@ -4,7 +4,7 @@ ghost use Rattle.std.specs.Prelude.{true, false, []};
 use super::month::Month;
 use super::*;
 use crate::checks::same;
-use der_core::{Encode, EncodeValue, Writer, encode_tlv};
+use der::{Encode, EncodeValue, Writer, encode_tlv};
 
 #[derive(Drop)]
 struct Counter {

@@ -2,7 +2,7 @@
 use super::month::Month;
 use super::*;
 use crate::checks::{holds, same, same_at};
-use der_core::{Encode, SliceWriter, encode_tlv, encoded_len_tlv};
+use der::{Encode, SliceWriter, encode_tlv, encoded_len_tlv};
 
 #[test]
 fn headers_as_octets(rt: HostRuntime) -> Result<(), Fail> {

@@ -6,7 +6,7 @@ ghost use Rattle.der_core.specs.Writer.{Writes, write_outcome};
 
 use super::*;
 use crate::checks::same;
-use der_core::{Encode, EncodeValue, FixedTag, Tagged, Writer, WrittenValue};
+use der::{Encode, EncodeValue, FixedTag, Tagged, Writer, WrittenValue};
 
 #[derive(Clone, Copy, Debug, PartialEq, Eq)]
 pub struct Month {

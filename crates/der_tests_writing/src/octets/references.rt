@@ -2,7 +2,7 @@
 use super::month::Month;
 use super::*;
 use crate::checks::{holds, same};
-use der_core::{Encode, EncodeRef, EncodeValue, EncodeValueRef, Tagged, encode_value_to_slice};
+use der::{Encode, EncodeRef, EncodeValue, EncodeValueRef, Tagged, encode_value_to_slice};
 
 #[test]
 fn references_are_encoded_as_their_values(rt: HostRuntime) -> Result<(), Fail> {

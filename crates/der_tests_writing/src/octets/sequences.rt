@@ -9,7 +9,7 @@ ghost use Rattle.der_core.specs.WrittenSequence.{headed_state};
 
 use super::*;
 use crate::checks::{holds, same, same_at};
-use der_core::{Encode, SliceWriter, Writer};
+use der::{Encode, SliceWriter, Writer};
 
 // Any value in a SEQUENCE of its own.
 fn encode_in_sequence<T: Encode>(

@@ -2,7 +2,7 @@
 use super::month::Month;
 use super::*;
 use crate::checks::{holds, same};
-use der_core::{Encode, SliceWriter, Writer, encode_value_to_slice};
+use der::{Encode, SliceWriter, Writer, encode_value_to_slice};
 
 #[test]
 fn octets_are_written_to_the_end_of_the_room(rt: HostRuntime) -> Result<(), Fail> {

@@ -1,0 +1,91 @@
+//! What both measurements have in common.
+// Neither driver uses all of it.
+#![allow(dead_code)]
+
+use std::hint::black_box;
+use std::time::Instant;
+
+pub const INPUT_LEN: usize = 16 << 20;
+const ROUNDS: usize = 31;
+
+/// What a walk has passed, as the library lays it out.
+#[repr(C)]
+#[derive(Clone, Copy, Debug, Default, PartialEq, Eq)]
+pub struct Totals {
+    pub elements: u64,
+    pub contents: u64,
+    pub first_octets: u64,
+}
+
+/// The length behind its first octet, from 128 on, and the octets behind it.
+pub fn long_length(first: u8, bytes: &[u8]) -> Option<(usize, &[u8])> {
+    let count = (first & 0x7F) as usize;
+    if !(1..=4).contains(&count) {
+        return None;
+    }
+    let (octets, rest) = bytes.split_at_checked(count)?;
+    let mut len = 0usize;
+    for &octet in octets {
+        len = len << 8 | octet as usize;
+    }
+    let least = if count == 1 {
+        0x80
+    } else {
+        1 << (8 * (count - 1))
+    };
+    (len >= least).then_some((len, rest))
+}
+
+/// A sequence of numbers that is the same in every run.
+pub struct Numbers(pub u64);
+
+impl Numbers {
+    pub fn next(&mut self) -> u64 {
+        self.0 ^= self.0 << 13;
+        self.0 ^= self.0 >> 7;
+        self.0 ^= self.0 << 17;
+        self.0
+    }
+
+    pub fn below(&mut self, bound: u64) -> u64 {
+        self.next() % bound
+    }
+}
+
+/// From 1 to 18 octets of contents: with their headers the elements have 11.5 octets on average.
+pub fn short_len(numbers: &mut Numbers) -> usize {
+    1 + numbers.below(18) as usize
+}
+
+/// From 1 to 65536 octets of contents, of every size from few to many.
+pub fn any_len(numbers: &mut Numbers) -> usize {
+    let bound = 1 << numbers.below(17);
+    1 + numbers.below(bound) as usize
+}
+
+pub fn push_length(out: &mut Vec<u8>, len: usize) {
+    if len < 0x80 {
+        out.push(len as u8);
+        return;
+    }
+    let octets = len.to_be_bytes();
+    let zeros = octets.iter().take_while(|octet| **octet == 0).count();
+    out.push(0x80 | (octets.len() - zeros) as u8);
+    out.extend_from_slice(&octets[zeros..]);
+}
+
+/// The least time of a walk among the rounds, in nanoseconds an element; the rounds of the two
+/// walks alternate, so that both see the same machine.
+pub fn measure(walks: [fn(&[u8]) -> Totals; 2], bytes: &[u8], count: u64) -> (f64, f64) {
+    let mut least = [f64::INFINITY; 2];
+    for _ in 0..ROUNDS {
+        for (walk, least) in walks.iter().zip(&mut least) {
+            let start = Instant::now();
+            let totals = walk(black_box(bytes));
+            let elapsed = start.elapsed().as_nanos() as f64 / count as f64;
+            assert_eq!(black_box(totals).elements, count);
+            *least = least.min(elapsed);
+        }
+    }
+    (least[0], least[1])
+}

@@ -1,0 +1,54 @@
+-- A month as one octet.
+use Rattle.std.specs.Prelude.{◌≡◌, ℕ, ◌<◌, List, [], ◌∷◌, Result, Ok, nat_lt, if◌then◌else◌}
+use Rattle.std.proofs.Common.{arith}
+use Rattle.der_base.specs.Header.{Head}
+use Rattle.der_base.specs.Length.{definite_length}
+use Rattle.der_base.specs.declared.length.Length.{Length}
+use Rattle.der_base.specs.declared.tag.Tag.TheVariants.{OctetString}
+use Rattle.der_base.specs.declared.error.Error.{Error}
+use Rattle.der_base.specs.declared.error.ErrorKind.TheVariants.{DateTime}
+use Rattle.der_base.specs.declared.encoding_rules.EncodingRules.{EncodingRules}
+use Rattle.der_core.specs.Encode.{WriterAnswer}
+use Rattle.der_core.specs.Lawful.{IsLawful}
+use Rattle.der_core.specs.Outcome.{Outcome, Gives, outcome_of, chained_outcome, map_ok}
+use Rattle.der_core.specs.Reader.{read_byte_outcome, kind_outcome}
+use Rattle.der_core.specs.ReaderState.{ReaderState}
+use Rattle.der_core.specs.Writer.{Writes, write_outcome}
+use Rattle.der.specs.declared.example.my_byte_month.MyByteMonth.{MyByteMonth}
+
+abbrev pub IsMonth : MyByteMonth → Type 0
+IsMonth month = month.number < 12
+
+abbrev pub month_contents : MyByteMonth → List ℕ
+month_contents month = month.number ∷ []
+
+-- one octet below 12 is taken as the month of that number, whatever the header
+abbrev pub TakesMonth : MyByteMonth → EncodingRules → Head → List ℕ → Type 0
+TakesMonth month rules h octets = IsMonth month × (month_contents month ≡ octets)
+
+-- an octet from 12 on is refused behind it
+abbrev pub month_of : ℕ → ReaderState → Outcome ℕ
+month_of octet s = if nat_lt octet 12 then outcome_of (Ok octet) s else kind_outcome ℕ DateTime s
+
+abbrev pub month_outcome : ReaderState → Outcome ℕ
+month_outcome s = chained_outcome (read_byte_outcome s) month_of
+
+-- what reading answers
+abbrev pub MonthAnswers : Head → ReaderState → Result MyByteMonth Error → ReaderState → Type 0
+MonthAnswers h s result t = Gives month_outcome s (map_ok (λ month. month.number) result) t
+
+-- how many octets there are, and what writing answers
+abbrev pub month_size : MyByteMonth → Result Length Error
+month_size month = Ok (definite_length 1)
+
+abbrev pub WritesMonth : MyByteMonth → WriterAnswer
+WritesMonth month s result t = Writes (write_outcome (month_contents month) s) result t
+
+-- it is read as it is written
+pub month_lawful : IsLawful OctetString TakesMonth IsMonth month_contents (λ _. 0)
+month_lawful =
+    record {
+      exact = λ octets month short. (λ h. h, λ h. h);
+      shallow = omega arith;
+      numbered = omega arith;
+    }

@@ -1,0 +1,84 @@
+//! How a month is read and written.
+ghost use Rattle.std.specs.Prelude.{◌≡◌, false};
+ghost use Rattle.der_base.specs.declared.tag.Tag.TheVariants.{OctetString};
+ghost use Rattle.der.specs.MyByteMonth.{IsMonth, TakesMonth, MonthAnswers, WritesMonth, month_contents, month_size, month_lawful};
+
+use crate::example::MyByteMonth;
+use der_base::{Error, ErrorKind, Length, Tag};
+use der_core::{
+    DecodeValue, EncodeValue, FixedTag, Header, Lawful, ReadValue, Reader, ReaderExt, Writer,
+    WrittenValue,
+};
+use std::alloc::Global;
+
+impl FixedTag for MyByteMonth {
+    ghost tag_is = { OctetString };
+
+    const TAG: Tag = Tag::OctetString;
+
+    fn fixed_tag() -> Tag {
+        Self::TAG
+    }
+}
+
+impl ReadValue for MyByteMonth {
+    ghost valid = { IsMonth };
+
+    ghost takes = { TakesMonth };
+
+    ghost levels = { λ _. 0 };
+
+    ghost takes_memory = { false };
+
+    ghost takes_valid = { λ month rules h octets taken. taken.0 };
+}
+
+/// One octet is read, whatever the header.
+///
+/// # Errors
+///
+/// - `Failed`, `Overflow` and `Incomplete`, as by [`ReaderExt::read_byte`].
+/// - `DateTime` behind an octet from 12 on; the reader stands there and has failed.
+impl<R: Reader> DecodeValue<R> for MyByteMonth {
+    type Error = Error;
+
+    ghost value_answers = { MonthAnswers };
+
+    fn decode_value(_alloc: Global, reader: &mut R, _header: Header) -> Result<Self, Error> {
+        let octet = reader.read_byte()?;
+        match MyByteMonth::new(octet) {
+            Some(month) => Ok(month),
+            None => Err(reader.error(ErrorKind::DateTime)),
+        }
+    }
+
+    fn is_value(&self) {}
+}
+
+impl WrittenValue for MyByteMonth {
+    ghost contents = { month_contents };
+
+    ghost writable = { IsMonth };
+}
+
+/// # Errors
+///
+/// The number of octets is never refused. Writing hands on the writer's errors, as by
+/// [`Writer::write`].
+impl EncodeValue for MyByteMonth {
+    ghost value_size = { month_size };
+
+    ghost value_answers = { WritesMonth };
+
+    fn value_len(&self) -> Result<Length, Error> {
+        Ok(Length::ONE)
+    }
+
+    fn encode_value<W: Writer>(&self, writer: &mut W) -> Result<(), Error> {
+        writer.write_byte(self.number)
+    }
+}
+
+impl Lawful for MyByteMonth {
+    ghost lawful = { month_lawful };
+}

@@ -1,0 +1,20 @@
+//! ASN.1 DER: tags, lengths, headers, readers and writers of the Distinguished Encoding Rules
+//! (ITU-T X.690), after the crate `der`.
+//!
+//! This crate has all of `der_base` and `der_core`, whose `specs/` say what each call answers, and
+//! the module [`example`].
+#![tactic(auto)]
+
+pub mod example;
+
+pub use der_base::{
+    CLASS_APPLICATION, CLASS_CONTEXT_SPECIFIC, CLASS_PRIVATE, CLASS_UNIVERSAL, Class,
+    EncodingRules, Error, ErrorKind, Length, Result, Tag, TagMode, TagNumber,
+};
+pub use der_core::{
+    Decode, DecodeBytes, DecodeError, DecodeValue, Encode, EncodeRef, EncodeValue, EncodeValueRef,
+    FixedTag, Header, IsConstructed, Lawful, Octets, Position, ReadValue, Reader, ReaderExt,
+    Resumption, SliceReader, SliceWriter, TagPeek, Tagged, Writer, WrittenValue, close_value,
+    decode_contents, decode_header, decode_length, decode_tlv, encode_tlv, encode_to_vec_in,
+    encode_value_to_slice, encoded_len_tlv, read_eoc, read_value, to_der_in,
+};

@@ -1,0 +1,308 @@
+-- Elements, read by their contents.
+use Rattle.std.proofs.Common.{◌≡◌, ℕ, ◌+◌, ◌≤◌, ◌<◌, ◌^◌, inl, inr, Bool, true, false, Result, Ok, Err, IfOk, IsOk, IsErrAnd, List, [], ◌∷◌, ◌++◌, length, take, drop, refl, sym, ap, ◌∙◌, subst, length-take-le, length-append, length-drop, arith}
+use Rattle.std.proofs.lemmas.Bool.{lt-ltb, le-ltb}
+use Rattle.std.proofs.lemmas.List.{take-append-drop, take_at, drop_at}
+use Rattle.der_base.specs.Length.{number, is_indefinite}
+use Rattle.der_base.specs.declared.length.Length.{Length}
+use Rattle.der_base.specs.Arithmetic.{sans_eoc}
+use Rattle.der_base.specs.Header.{Head}
+use Rattle.der_base.specs.declared.tag.Tag.{Tag}
+use Rattle.der_base.specs.declared.error.Error.{Error}
+use Rattle.der_base.specs.declared.encoding_rules.EncodingRules.{EncodingRules}
+use Rattle.der_core.specs.Header.{head_of, contents_header, IsHeaderAhead}
+use Rattle.der_core.specs.declared.header.Header.{Header}
+use Rattle.der_core.specs.Decode.{Passes, ReadsOrLacks}
+use Rattle.der_core.specs.DecodeValue.{StandsIn, IsAtEnd, ContentsAhead, EndsOrLacks}
+use Rattle.der_core.specs.Element.{IsEndMark, contents_head, ElementAhead}
+use Rattle.der_core.specs.ReaderState.{ReaderState, rest, advanced_state, nested_state, resumed_state, IsSound, Same}
+use Rattle.der_core.specs.Outcome.{Gives, IsBinding}
+use Rattle.der_core.specs.Reader.{end_mark_outcome, read_eoc_outcome, enter_nested_outcome}
+use Rattle.der_base.proofs.HeaderLemmas.{one_header}
+use Rattle.der_core.specs.Nested.{CanNest, Closes, handed_on, left_over, whole, ClosesValue, part_refused, without_mark, with_mark, mark_refused, ValueAnswers, not_opened, opened}
+use Rattle.der_core.proofs.StateLemmas.{length-rest}
+use Rattle.der_core.proofs.ContentsLemmas.{rest_advanced, rest_inside, part_passed, Behind, unmarked, behind_mark, Ran, closes_ok, value_ran}
+
+-- what is said of the contents of a header
+pub at_contents : {x : Header} (h : Header) (F : Head → Type 0) → x ≡ contents_header h → F (head_of x) → F (contents_head (head_of h))
+at_contents h F e f = subst (λ x. F (head_of x)) e f
+
+-- of a closure that reads contents, where it answers a value
+abbrev pub Tells : {A : Type 0} → (A → EncodingRules → Head → List ℕ → Type 0) → ReaderState → A → ReaderState → Head → Type 0
+Tells takes s v t h = StandsIn s (number h.length) → IsAtEnd t → takes v s.rules h (rest s)
+
+-- and where a value stands there
+abbrev pub Vows : {A E : Type 0} → (A → EncodingRules → Head → List ℕ → Type 0) → (E → Bool) → Bool → (EncodingRules → ℕ) → ReaderState → Result A E → ReaderState → Head → Type 0
+Vows {A} takes oom takes_memory levels s a t h = (w : A) → ContentsAhead (takes w) h s → s.depth + levels s.rules ≤ 64 → EndsOrLacks oom takes_memory a t
+
+pub reliable_owes : {T E : Type 0} (reliable : Bool) (r : Result T E) → reliable ≡ true → IsBinding reliable r
+reliable_owes reliable (Ok v) h = tt
+reliable_owes reliable (Err e) h = h
+
+-- the same of what a closure vows
+pub value_told : {P Q T E : Type 0} {converts : Error → E → Type 0} {post : P → Result T E → Q → Type 0} {before : P → ReaderState} {after : Q → ReaderState} {answers : ReaderState → Result T E → ReaderState → Type 0} {l : Length}
+    {s t : ReaderState} {result : Result T E} → ((p : P) (a : Result T E) (q : Q) → post p a q → answers (before p) a (after q)) → ValueAnswers converts post before after l s result t
+    → ValueAnswers converts answers (λ p. p) (λ q. q) l s result t
+value_told tells (not_opened e f h c r) = not_opened e f h c r
+value_told {before = before} {after = after} tells (opened p answer q can there ran closes) = opened (before p) answer (after q) can there (tells p answer q ran) closes
+
+-- the flag stays when the end mark is taken away
+pub flag_stays : (l : Length) → is_indefinite (sans_eoc l) ≡ is_indefinite l
+flag_stays l = go (is_indefinite l) refl
+  where
+    go : (b : Bool) → is_indefinite l ≡ b → is_indefinite (sans_eoc l) ≡ is_indefinite l
+    go true f = rw f refl
+    go false f = rw f refl
+
+-- contents and an end mark stand behind a header that was passed
+record IsPlaced (s u t : ReaderState) (h : Header) (mark behind : List ℕ) : Type 0 where
+  pub can : u.position + number (sans_eoc (head_of h).length) ≤ u.end
+  pub split : rest (advanced_state u (number (sans_eoc (head_of h).length))) ≡ mark ++ behind
+  pub marked : IsEndMark (is_indefinite (head_of h).length) mark
+  pub leaves : t ≡ advanced_state (advanced_state u (number (sans_eoc (head_of h).length))) (length mark)
+
+placed_element : {A : Type 0} (tag : Tag) (takes : A → EncodingRules → Head → List ℕ → Type 0) (s u t : ReaderState) (h : Header) (v : A) (mark behind : List ℕ) → IsSound u
+    → Passes (IsHeaderAhead h) s u → (head_of h).tag ≡ tag → IsPlaced s u t h mark behind
+    → takes v s.rules (contents_head (head_of h)) (rest (nested_state u (number (sans_eoc (head_of h).length)))) → Passes (ElementAhead tag takes v) s t
+placed_element tag takes s u t h v mark behind sound passed tagged placed taken =
+    let n = number (sans_eoc (head_of h).length) in
+    let m = passed.octets in
+    let left : n ≤ length (rest u) = omega (arith, length-rest u sound, placed.can) in
+    let contents : rest (nested_state u n) ≡ take n (rest u) = rest_inside u n placed.can in
+    let long : length (rest (nested_state u n)) ≡ n = ap length contents ∙ length-take-le n (rest u) left in
+    let after_header : rest u ≡ drop m (rest s) = ap rest passed.leaves ∙ rest_advanced s m passed.there in
+    let after_part : drop n (rest u) ≡ mark ++ behind = sym (rest_advanced u n left) ∙ placed.split in
+    let whole : rest u ≡ rest (nested_state u n) ++ (mark ++ behind) = sym (take-append-drop n (rest u)) ∙ ap (λ x. x ++ drop n (rest u)) (sym contents) ∙ ap (λ x. rest (nested_state u n) ++ x) after_part in
+    let sum : s.position + m + n + length mark ≡ s.position + (m + (length (rest (nested_state u n)) + length mark)) = omega (arith, long) in
+    record {
+      octets = m + (length (rest (nested_state u n)) + length mark);
+      working = passed.working;
+      ahead = record {
+        says = head_of h;
+        header = m;
+        contents = rest (nested_state u n);
+        mark = mark;
+        behind = behind;
+        ahead = passed.ahead;
+        tagged = tagged;
+        split = sym after_header ∙ whole;
+        sized = long;
+        marked = placed.marked;
+        whole = refl;
+        taken = taken;
+      };
+      there = omega (arith, ap length after_header, ap length whole, length-append (rest (nested_state u n)) (mark ++ behind), length-append mark behind, length-drop m (rest s), passed.there);
+      leaves = placed.leaves ∙ ap (λ x. advanced_state (advanced_state x n) (length mark)) passed.leaves ∙ ap (λ p. record s { position = p }) sum;
+    }
+
+-- a reader that is not failed now was not when the closure ended
+ended_fine : {marked : Bool} (t q : ReaderState) (end depth : ℕ) → Behind marked (resumed_state q end depth) t → t.failed ≡ false → q.failed ≡ false
+ended_fine t q end depth (unmarked f e) w = sym (ap (λ (x : ReaderState). x.failed) e) ∙ w
+ended_fine t q end depth (behind_mark f e) w = e.working
+
+fine_ended : {marked : Bool} (t q : ReaderState) (end depth : ℕ) → Behind marked (resumed_state q end depth) t → q.failed ≡ false → t.failed ≡ false
+fine_ended t q end depth (unmarked f e) w = ap (λ (x : ReaderState). x.failed) e ∙ w
+fine_ended t q end depth (behind_mark f e) w = ap (λ (x : ReaderState). x.failed) e.leaves ∙ w
+
+-- an element that was read stands ahead
+module _ {P Q A E : Type 0} {post : P → Result A E → Q → Type 0} {before : P → ReaderState} {after : Q → ReaderState} (tag : Tag) (takes : A → EncodingRules → Head → List ℕ → Type 0)
+    (s u t : ReaderState) (h : Header) where
+  -- the header is passed, and contents and mark stand behind it
+  element_of : (v : A) → IsSound u → Passes (IsHeaderAhead h) s u → (head_of h).tag ≡ tag
+      → ((p : P) (a : Result A E) (q : Q) → post p a q → Same (before p) (after q))
+      → ((p : P) (q : Q) → post p (Ok v) q → Tells takes (before p) v (after q) (contents_head (head_of h)))
+      → (ran : Ran post before after (sans_eoc (head_of h).length) u v t) → (after ran.last).failed ≡ false → Passes (ElementAhead tag takes v) s t
+  element_of v sound passed tagged same ok ran working = go ran.behind
+    where
+      n : ℕ
+      n = number (sans_eoc (head_of h).length)
+
+      inside_is : before ran.part ≡ nested_state u n
+      inside_is = ran.there
+
+      fine : u.failed ≡ false
+      fine = ap (λ (x : ReaderState). x.failed) passed.leaves ∙ passed.working
+
+      left : n ≤ length (rest u)
+      left = omega (arith, length-rest u sound, ran.can.0)
+
+      long : length (rest (nested_state u n)) ≡ n
+      long = ap length (rest_inside u n ran.can.0) ∙ length-take-le n (rest u) left
+
+      passes : resumed_state (after ran.last) u.end u.depth ≡ advanced_state u n
+      passes = part_passed u (after ran.last) n (subst (λ x. Same x (after ran.last)) inside_is (same _ _ _ ran.ran)) ran.at_end (working ∙ sym fine)
+
+      stands : StandsIn (before ran.part) n
+      stands = subst (λ x. StandsIn x n) (sym inside_is) (record { working = fine; nested = omega arith; sized = long })
+
+      taken : takes v s.rules (contents_head (head_of h)) (rest (nested_state u n))
+      taken =
+          let reader_position = subst (λ (x : ReaderState). takes v x.rules (contents_head (head_of h)) (rest x)) inside_is (ok _ _ ran.ran stands (record { at_end = ran.at_end; working = working })) in
+          subst (λ r. takes v r (contents_head (head_of h)) (rest (nested_state u n))) (ap (λ (x : ReaderState). x.rules) passed.leaves) reader_position
+
+      go : Behind (is_indefinite (sans_eoc (head_of h).length)) (resumed_state (after ran.last) u.end u.depth) t → Passes (ElementAhead tag takes v) s t
+      go (unmarked f e) =
+          placed_element tag takes s u t h v [] (rest (advanced_state u n)) sound passed tagged
+          (record {
+            can = ran.can.0;
+            split = refl;
+            marked = subst (λ b. IsEndMark b []) (sym f ∙ flag_stays (head_of h).length) refl;
+            leaves = e ∙ passes ∙ ap (λ p. record u { position = p }) (omega arith);
+          }) taken
+      go (behind_mark f e) =
+          placed_element tag takes s u t h v (0 ∷ 0 ∷ []) e.behind sound passed tagged
+          (record {
+            can = ran.can.0;
+            split = ap rest (sym passes) ∙ e.front;
+            marked = subst (λ b. IsEndMark b (0 ∷ 0 ∷ [])) (sym f ∙ flag_stays (head_of h).length) refl;
+            leaves = e.leaves ∙ ap (λ x. advanced_state x 2) passes;
+          }) taken
+
+  pub element_ok : {converts : Error → E → Type 0} (reliable : Bool) (result : Result A E) → IsSound u → Passes (IsHeaderAhead h) s u → (head_of h).tag ≡ tag
+      → ((p : P) (a : Result A E) (q : Q) → post p a q → Same (before p) (after q))
+      → ((p : P) (v : A) (q : Q) → post p (Ok v) q → Tells takes (before p) v (after q) (contents_head (head_of h)))
+      → (IsBinding reliable result → ValueAnswers converts post before after (sans_eoc (head_of h).length) u result t)
+      → IfOk result (λ v. t.failed ≡ false → Passes (ElementAhead tag takes v) s t)
+  element_ok reliable (Err e) sound passed tagged same ok answers = tt
+  element_ok reliable (Ok v) sound passed tagged same ok answers =
+      λ working. let ran = value_ran (answers tt) in element_of v sound passed tagged same (λ p q. ok p v q) ran (ended_fine t (after ran.last) u.end u.depth ran.behind working)
+
+-- the octets of an element are counted by its header
+element_size : {A : Type 0} {tag : Tag} {takes : A → EncodingRules → Head → List ℕ → Type 0} {rules : EncodingRules} {octets : List ℕ} {v w : A} {m k : ℕ} → ElementAhead tag takes v rules octets m
+    → ElementAhead tag takes w rules octets k → m ≡ k
+element_size x y =
+    let one = one_header x.ahead y.ahead in
+    let sized : length x.contents ≡ length y.contents = x.sized ∙ ap (λ (h : Head). number (sans_eoc h.length)) one.0 ∙ sym y.sized in
+    let marks : length x.mark ≡ length y.mark = same_mark (is_indefinite x.says.length) (is_indefinite y.says.length) x.mark y.mark (ap (λ (h : Head). is_indefinite h.length) one.0) x.marked y.marked in
+    omega (arith, x.whole, y.whole, one.1, sized, marks)
+  where
+    same_mark : (a b : Bool) (p q : List ℕ) → a ≡ b → IsEndMark a p → IsEndMark b q → length p ≡ length q
+    same_mark true true p q e f g = ap length (f ∙ sym g)
+    same_mark false false p q e f g = ap length (f ∙ sym g)
+    same_mark true false p q e f g = absurd (cc)
+    same_mark false true p q e f g = absurd (cc)
+
+-- the header that was read is that of the element
+pub header_tagged : {A : Type 0} {tag : Tag} {takes : A → EncodingRules → Head → List ℕ → Type 0} {s u : ReaderState} {h : Header} {v : A} {m : ℕ} → Passes (IsHeaderAhead h) s u
+    → ElementAhead tag takes v s.rules (rest s) m → h.tag ≡ tag
+header_tagged passed e = ap (λ (x : Head). x.tag) (one_header passed.ahead e.ahead).0 ∙ e.tagged
+
+-- a part that is there, with a level left, is entered
+pub entered_part : (s : ReaderState) (n : ℕ) → IsSound s → CanNest s n → (enter_nested_outcome n s).answer ≡ Ok (s.end, s.depth)
+entered_part s n sound can =
+    let small : s.position + n < 2 ^ 32 = omega (arith, can.0, sound.in_input, sound.addressable) in
+    rw (lt-ltb (s.position + n) (2 ^ 32) small) (rw (le-ltb s.end (s.position + n) can.0) (rw (lt-ltb s.depth 64 can.1) refl))
+
+eoc_working : (s : ReaderState) → s.failed ≡ false → read_eoc_outcome s ≡ end_mark_outcome s (rest s)
+eoc_working s f = rw f refl
+
+pub no_eoc_fault : (s t : ReaderState) (e : Error) (more : List ℕ) → s.failed ≡ false → rest s ≡ 0 ∷ 0 ∷ more → Gives read_eoc_outcome s (Err e) t → ⊥
+no_eoc_fault s t e more f front h =
+    let table : read_eoc_outcome s ≡ end_mark_outcome s (0 ∷ 0 ∷ more) = eoc_working s f ∙ ap (end_mark_outcome s) front in
+    let no : Err e ≡ Ok tt = h.answered ∙ ap (λ o. o.answer) table in
+    absurd (cc)
+
+-- an answer that ended or was refused memory, refused by what follows it
+module _ {A E : Type 0} (oom : E → Bool) (takes_memory : Bool) where
+  lacked : (answer : Result A E) (e : E) → answer ≡ Err e → (q : ReaderState) → EndsOrLacks oom takes_memory answer q → (takes_memory ≡ true) × (oom e ≡ true)
+  lacked answer e is q (inl z) = absurd (let err : Result A E = Err e in let no : IsOk err = subst (λ a. IsOk a) is z.0 in let w : false ≡ true = no in cc)
+  lacked answer e is q (inr z) = (z.0, subst (λ a. IsErrAnd a (λ x. oom x ≡ true)) is z.1)
+
+  ended : (answer : Result A E) (v : A) → answer ≡ Ok v → (q : ReaderState) → EndsOrLacks oom takes_memory answer q → IsAtEnd q
+  ended answer v is q (inl z) = z.1
+  ended answer v is q (inr z) = absurd (subst (λ a. IsErrAnd a (λ x. oom x ≡ true)) is z.1)
+
+  closes_err : {converts : Error → E → Type 0} {answer : Result A E} {q t : ReaderState} {end depth : ℕ} {e : E} → Closes converts answer q end depth (Err e) t → EndsOrLacks oom takes_memory answer q → (takes_memory ≡ true) × (oom e ≡ true)
+  closes_err {answer = answer} {q = q} {e = e} (handed_on x a r l) z = (let same : answer ≡ Err e = a ∙ sym r in lacked answer e same q z)
+  closes_err {answer = answer} {q = q} (left_over w x a less c r l) z = (let at = (ended answer w a q z).at_end in absurd (omega arith))
+  closes_err (whole w a at r l) z = absurd (cc)
+
+-- an element that stands ahead is read
+module _ {P Q A E : Type 0} {post : P → Result A E → Q → Type 0} {before : P → ReaderState} {after : Q → ReaderState} (tag : Tag) (takes : A → EncodingRules → Head → List ℕ → Type 0) (oom : E → Bool)
+    (takes_memory : Bool) (levels : EncodingRules → ℕ) (s u t : ReaderState) (h : Header) where
+  pub element_complete : (converts : Error → E → Type 0) (result : Result A E) (v : A) (m : ℕ) → IsSound u → Passes (IsHeaderAhead h) s u → (head_of h).tag ≡ tag
+      → ((p : P) (a : Result A E) (q : Q) → post p a q → Same (before p) (after q))
+      → ((p : P) (v : A) (q : Q) → post p (Ok v) q → Tells takes (before p) v (after q) (contents_head (head_of h)))
+      → ((p : P) (a : Result A E) (q : Q) → post p a q → Vows takes oom takes_memory levels (before p) a (after q) (contents_head (head_of h))) → ElementAhead tag takes v s.rules (rest s) m → s.depth + (1 + levels s.rules) ≤ 64
+      → ValueAnswers converts post before after (sans_eoc (head_of h).length) u result t → ReadsOrLacks oom takes_memory s m result t
+  element_complete converts result v m sound passed tagged same ok complete e deep answers = go result answers
+    where
+      n : ℕ
+      n = number (sans_eoc (head_of h).length)
+
+      sized : length e.contents ≡ n
+      sized = e.sized ∙ ap (λ (x : Head). number (sans_eoc x.length)) (sym (one_header passed.ahead e.ahead).0)
+
+      behind_header : rest u ≡ e.contents ++ (e.mark ++ e.behind)
+      behind_header = ap rest passed.leaves ∙ rest_advanced s passed.octets passed.there ∙ ap (λ k. drop k (rest s)) (one_header passed.ahead e.ahead).1 ∙ e.split
+
+      depth_is : u.depth ≡ s.depth
+      depth_is = ap (λ (x : ReaderState). x.depth) passed.leaves
+
+      rules_are : u.rules ≡ s.rules
+      rules_are = ap (λ (x : ReaderState). x.rules) passed.leaves
+
+      can : CanNest u n
+      can = (omega (arith, length-rest u sound, ap length behind_header, length-append e.contents (e.mark ++ e.behind), sized, sound.ordered), omega (arith, depth_is, deep))
+
+      left : n ≤ length (rest u)
+      left = omega (arith, length-rest u sound, can.0)
+
+      contents : rest (nested_state u n) ≡ e.contents
+      contents = rest_inside u n can.0 ∙ ap (take n) behind_header ∙ take_at e.contents (e.mark ++ e.behind) n sized
+
+      behind_part : rest (advanced_state u n) ≡ e.mark ++ e.behind
+      behind_part = rest_advanced u n left ∙ ap (drop n) behind_header ∙ drop_at e.contents (e.mark ++ e.behind) n sized
+
+      fine : u.failed ≡ false
+      fine = ap (λ (x : ReaderState). x.failed) passed.leaves ∙ passed.working
+
+      part : (p : P) → before p ≡ nested_state u n → ContentsAhead (takes v) (contents_head (head_of h)) (before p)
+      part p there =
+          subst (ContentsAhead (takes v) (contents_head (head_of h))) (sym there)
+          (record {
+            stands = record { working = fine; nested = omega arith; sized = ap length contents ∙ sized };
+            taken = subst (λ r. takes v r (contents_head (head_of h)) (rest (nested_state u n))) (sym rules_are)
+                (subst (λ x. takes v s.rules (contents_head x) (rest (nested_state u n))) (sym (one_header passed.ahead e.ahead).0) (subst (λ l. takes v s.rules (contents_head e.says) l) (sym contents) e.taken));
+          })
+
+      ends : (p : P) (a : Result A E) (q : Q) → post p a q → before p ≡ nested_state u n → EndsOrLacks oom takes_memory a (after q)
+      ends p a q ran there =
+          let deeper : (before p).depth ≡ u.depth + 1 = ap (λ (x : ReaderState). x.depth) there in
+          let same_levels : levels (before p).rules ≡ levels s.rules = ap (λ (x : ReaderState). levels x.rules) there ∙ ap levels rules_are in
+          complete p a q ran v (part p there) (omega (arith, deeper, same_levels, depth_is, deep))
+
+      passes : (p : P) (a : Result A E) (q : Q) → post p a q → before p ≡ nested_state u n → IsAtEnd (after q) → resumed_state (after q) u.end u.depth ≡ advanced_state u n
+      passes p a q ran there end = part_passed u (after q) n (subst (λ x. Same x (after q)) there (same p a q ran)) end.at_end (end.working ∙ sym fine)
+
+      mark_is : (b : Bool) (mark : List ℕ) → IsEndMark b mark → b ≡ true → mark ≡ 0 ∷ 0 ∷ []
+      mark_is true mark is f = is
+      mark_is false mark is f = absurd (cc)
+
+      marked : is_indefinite (sans_eoc (head_of h).length) ≡ true → e.mark ≡ 0 ∷ 0 ∷ []
+      marked f = mark_is (is_indefinite e.says.length) e.mark e.marked (ap (λ (x : Head). is_indefinite x.length) (sym (one_header passed.ahead e.ahead).0) ∙ sym (flag_stays (head_of h).length) ∙ f)
+
+      refused : (x : E) → ValueAnswers converts post before after (sans_eoc (head_of h).length) u (Err x) t → (takes_memory ≡ true) × (oom x ≡ true)
+      refused x (not_opened y f g c r) = absurd (let no : Err y ≡ Ok (u.end, u.depth) = g.answered ∙ entered_part u n sound can in cc)
+      refused x (opened p answer q _ there ran closes) = closed closes
+        where
+          z : EndsOrLacks oom takes_memory answer (after q)
+          z = ends p answer q ran there
+
+          closed : ClosesValue converts answer (after q) u.end u.depth (is_indefinite (sans_eoc (head_of h).length)) (Err x) t → (takes_memory ≡ true) × (oom x ≡ true)
+          closed (part_refused y c r) = closes_err oom takes_memory (subst (λ k. Closes converts answer (after q) u.end u.depth (Err k) t) (let same : y ≡ x = cc in same) c) z
+          closed (without_mark w c m r) = absurd (cc)
+          closed (with_mark w v c m g r) = absurd (cc)
+          closed (mark_refused w v y f c m g told r) =
+              let k = closes_ok c in
+              let end = ended oom takes_memory answer w k.0 (after q) z in
+              let there_is : v ≡ advanced_state u n = k.2 ∙ passes p answer q ran there end in
+              let front : rest v ≡ 0 ∷ 0 ∷ e.behind = ap rest there_is ∙ behind_part ∙ ap (λ l. l ++ e.behind) (marked m) in
+              absurd (no_eoc_fault v t y e.behind (ap (λ (x : ReaderState). x.failed) there_is ∙ fine) front g)
+
+      go : (r : Result A E) → ValueAnswers converts post before after (sans_eoc (head_of h).length) u r t → ReadsOrLacks oom takes_memory s m r t
+      go (Err x) answers = inr (refused x answers)
+      go (Ok w) answers =
+          let ran = value_ran answers in
+          let end = ended oom takes_memory (Ok w) w refl (after ran.last) (ends ran.part (Ok w) ran.last ran.ran ran.there) in
+          let read = element_of tag takes s u t h w sound passed tagged same (λ p q. ok p w q) ran end.working in
+          inl (refl, read.leaves ∙ ap (advanced_state s) (element_size read.ahead e))

@@ -1,0 +1,185 @@
+-- Elements of types that are read as they are written.
+use Rattle.std.proofs.Common.{◌≡◌, ℕ, ◌^◌, ◌<◌, ◌≤◌, Bool, true, false, List, [], ◌∷◌, ◌++◌, length, drop, refl, sym, ap, subst, ◌∙◌, append_assoc, append-nil, length-append, length-drop, arith}
+use Rattle.std.proofs.lemmas.List.{drop_at}
+use Rattle.der_base.specs.Length.{number, is_indefinite}
+use Rattle.der_base.specs.Tag.{label}
+use Rattle.der_base.specs.Header.{Head, HeaderAhead, header_octets}
+use Rattle.der_base.specs.declared.tag.Tag.{Tag}
+use Rattle.der_base.specs.declared.encoding_rules.EncodingRules.{EncodingRules}
+use Rattle.der_base.specs.declared.encoding_rules.EncodingRules.TheVariants.{Der}
+use Rattle.der_base.proofs.HeaderLemmas.{header_front}
+use Rattle.der_core.specs.Decode.{Whole}
+use Rattle.der_core.specs.Element.{IsEndMark, contents_head, ElementAhead}
+use Rattle.der_core.specs.Encode.{element_octets}
+use Rattle.der_core.specs.Fields.{FieldsAhead, TakesWhole}
+use Rattle.der_core.specs.Lawful.{definite_head, IsLawful, EncodingAhead, ReadsEncodings, ReadsWholeEncodings, PassesEncodings, ReadsWritten}
+use Rattle.der_core.specs.ReaderState.{rest, advanced_state}
+use Rattle.der_core.proofs.FieldLemmas.{rest_passed}
+use Rattle.der_core.proofs.DerLemmas.{header_read, header_written}
+
+no_mark : (b : Bool) (mark : List ℕ) → IsEndMark b mark → b ≡ false → mark ≡ []
+no_mark false mark is f = is
+no_mark true mark is f = absurd (cc)
+
+-- under DER an element is the header of its tag and its contents
+pub record DerElement {A : Type 0} (tag : Tag) (takes : A → EncodingRules → Head → List ℕ → Type 0) (v : A) (octets : List ℕ) (m : ℕ) : Type 0 where
+  pub contents : List ℕ
+  pub behind : List ℕ
+  pub small : length contents < 2 ^ 32
+  pub taken : takes v Der (definite_head tag (length contents)) contents
+  pub split : octets ≡ element_octets tag contents ++ behind
+  pub whole : m ≡ length (element_octets tag contents)
+
+pub der_element : {A : Type 0} {tag : Tag} {takes : A → EncodingRules → Head → List ℕ → Type 0} {octets : List ℕ} {v : A} {m : ℕ} → ElementAhead tag takes v Der octets m → DerElement tag takes v octets m
+der_element {A} {tag} {takes} {octets} {v} {m} e =
+    let h = header_read e.ahead in
+    let definite_form : is_indefinite e.says.length ≡ false = ap (λ (x : Head). is_indefinite x.length) h.says in
+    let mark : e.mark ≡ [] = no_mark (is_indefinite e.says.length) e.mark e.marked definite_form in
+    let behind : h.behind ≡ e.contents ++ e.behind = sym (drop_at (header_octets e.says.tag h.count) h.behind e.header (sym h.octets)) ∙ ap (drop e.header) (sym h.split) ∙ e.split ∙ ap (λ x. e.contents ++ (x ++ e.behind)) mark in
+    let counted : contents_head e.says ≡ definite_head e.says.tag h.count = ap contents_head h.says in
+    let count : h.count ≡ length e.contents = sym (e.sized ∙ ap (λ (x : Head). number x.length) counted) in
+    let says : contents_head e.says ≡ definite_head tag (length e.contents) = counted ∙ ap (λ x. definite_head x h.count) e.tagged ∙ ap (definite_head tag) count in
+    let same_header : header_octets e.says.tag h.count ≡ header_octets tag (length e.contents) = ap (λ x. header_octets x h.count) e.tagged ∙ ap (header_octets tag) count in
+    record {
+      contents = e.contents;
+      behind = e.behind;
+      small = subst (λ x. x < 2 ^ 32) count h.small;
+      taken = subst (λ x. takes v Der x e.contents) says e.taken;
+      split = h.split ∙ ap (λ x. x ++ h.behind) same_header ∙ ap (λ x. header_octets tag (length e.contents) ++ x) behind ∙ sym (append_assoc (header_octets tag (length e.contents)) e.contents e.behind);
+      whole = e.whole ∙ omega (arith, h.octets, ap length same_header, ap length mark, length-append (header_octets tag (length e.contents)) e.contents);
+    }
+
+-- and such octets are an element
+pub element_der : {A : Type 0} (tag : Tag) (takes : A → EncodingRules → Head → List ℕ → Type 0) (contents behind : List ℕ) (v : A) → (label tag).number < 2 ^ 32 → length contents < 2 ^ 32
+    → takes v Der (definite_head tag (length contents)) contents → ElementAhead tag takes v Der (element_octets tag contents ++ behind) (length (element_octets tag contents))
+element_der tag takes contents behind v numbered small taken =
+    let n = length contents in
+    record {
+      says = definite_head tag n;
+      header = length (header_octets tag n);
+      contents = contents;
+      mark = [];
+      behind = behind;
+      ahead = subst (λ x. HeaderAhead (definite_head tag n) Der x (length (header_octets tag n))) (sym (append_assoc (header_octets tag n) contents behind)) (header_written tag n (contents ++ behind) numbered small);
+      tagged = refl;
+      split = ap (drop (length (header_octets tag n))) (append_assoc (header_octets tag n) contents behind) ∙ drop_at (header_octets tag n) (contents ++ behind) (length (header_octets tag n)) refl;
+      sized = refl;
+      marked = refl;
+      whole = omega (arith, length-append (header_octets tag n) contents);
+      taken = taken;
+    }
+
+-- what stands ahead is within the octets
+encoding_within : {A : Type 0} {valid : A → Type 0} {encoding : A → List ℕ} {v : A} {octets : List ℕ} {m : ℕ} → EncodingAhead valid encoding v octets m → length (encoding v) ≤ length octets
+encoding_within {encoding = encoding} {v = v} e = omega (arith, ap length e.split, length-append (encoding v) e.behind)
+
+-- an element of a lawful type stands ahead exactly where its encoding does
+module _ {A : Type 0} {tag : Tag} {takes : A → EncodingRules → Head → List ℕ → Type 0} {valid : A → Type 0} {contents : A → List ℕ} {levels : EncodingRules → ℕ} (laws : IsLawful tag takes valid contents levels) where
+  pub elements_are_encodings : ReadsEncodings (ElementAhead tag takes) valid (λ v. element_octets tag (contents v))
+  elements_are_encodings = record { only = from; every = to }
+    where
+      from : (octets : List ℕ) (v : A) (m : ℕ) → ElementAhead tag takes v Der octets m → EncodingAhead valid (λ x. element_octets tag (contents x)) v octets m
+      from octets v m e =
+          let d = der_element e in
+          let lawful = (laws.exact d.contents v d.small).0 d.taken in
+          record {
+            is_valid = lawful.0;
+            behind = d.behind;
+            split = d.split ∙ ap (λ x. element_octets tag x ++ d.behind) (sym lawful.1);
+            whole = d.whole ∙ ap (λ x. length (element_octets tag x)) (sym lawful.1);
+          }
+
+      to : (octets : List ℕ) (v : A) (m : ℕ) → length octets < 2 ^ 32 → EncodingAhead valid (λ x. element_octets tag (contents x)) v octets m → ElementAhead tag takes v Der octets m
+      to octets v m short e =
+          let few : length (contents v) < 2 ^ 32 = omega (arith, encoding_within e, short, length-append (header_octets tag (length (contents v))) (contents v)) in
+          let front = element_der tag takes (contents v) e.behind v laws.numbered few ((laws.exact (contents v) v few).1 (e.is_valid, refl)) in
+          subst (λ x. ElementAhead tag takes v Der octets x) (sym e.whole) (subst (λ x. ElementAhead tag takes v Der x (length (element_octets tag (contents v)))) (sym e.split) front)
+
+  -- what was written is read, and as nothing else
+  pub written_is_read : ReadsWritten tag takes valid contents
+  written_is_read =
+      record {
+        ahead = λ v more is short. elements_are_encodings.every _ v _ short (record { is_valid = is; behind = more; split = refl; whole = refl });
+        alone = λ v w more m e. let there = elements_are_encodings.only _ w m e in one v w more there.behind m there.split there.whole;
+      }
+    where
+      same_front : (x y p q : List ℕ) → length x ≡ length y → x ++ p ≡ y ++ q → x ≡ y
+      same_front [] [] p q e f = refl
+      same_front [] (b ∷ y) p q e f = absurd (omega (arith, e))
+      same_front (a ∷ x) [] p q e f = absurd (omega (arith, e))
+      same_front (a ∷ x) (b ∷ y) p q e f =
+          let heads : a ≡ b = cc in
+          let tails : x ++ p ≡ y ++ q = cc in
+          ap (λ i. i ∷ x) heads ∙ ap (λ i. b ∷ i) (same_front x y p q (omega (arith, e)) tails)
+
+      one : (v w : A) (more behind : List ℕ) (m : ℕ) → element_octets tag (contents v) ++ more ≡ element_octets tag (contents w) ++ behind → m ≡ length (element_octets tag (contents w))
+          → (contents w ≡ contents v) × (m ≡ length (element_octets tag (contents v)))
+      one v w more behind m e whole =
+          let r = header_front tag tag (length (contents v)) (length (contents w)) (contents v ++ more) (contents w ++ behind)
+          (sym (append_assoc (header_octets tag (length (contents v))) (contents v) more) ∙ e ∙ append_assoc (header_octets tag (length (contents w))) (contents w) behind) in
+          let same : contents w ≡ contents v = sym (same_front (contents v) (contents w) more behind r.1 r.2) in
+          (same, whole ∙ ap (λ x. length (element_octets tag x)) same)
+
+-- octets are wholly a value exactly where they are its encoding
+pub whole_encodings : {A : Type 0} {Ahead : A → EncodingRules → List ℕ → ℕ → Type 0} {valid : A → Type 0} {encoding : A → List ℕ} → ReadsEncodings Ahead valid encoding → ReadsWholeEncodings Ahead valid encoding
+whole_encodings {A} {Ahead} {valid} {encoding} reads = record { only = from; every = to }
+  where
+    no_more : (l : List ℕ) → length l ≡ 0 → l ≡ []
+    no_more [] h = refl
+    no_more (x ∷ xs) h = absurd (omega arith)
+
+    from : (octets : List ℕ) (v : A) → Whole (Ahead v) Der octets → valid v × (octets ≡ encoding v)
+    from octets v h =
+        let e = reads.only octets v (length octets) h in
+        let none : e.behind ≡ [] = no_more e.behind (omega (arith, e.whole, ap length e.split, length-append (encoding v) e.behind)) in
+        (e.is_valid, e.split ∙ ap (λ x. encoding v ++ x) none ∙ append-nil (encoding v))
+
+    to : (octets : List ℕ) (v : A) → length octets < 2 ^ 32 → valid v → octets ≡ encoding v → Whole (Ahead v) Der octets
+    to octets v short is e = reads.every octets v (length octets) short (record { is_valid = is; behind = []; split = e ∙ sym (append-nil (encoding v)); whole = ap length e })
+
+-- a reader that has passed a value has passed its encoding
+pub passed_encodings : {A : Type 0} {Ahead : A → EncodingRules → List ℕ → ℕ → Type 0} {valid : A → Type 0} {encoding : A → List ℕ} → ReadsEncodings Ahead valid encoding → PassesEncodings Ahead valid encoding
+passed_encodings {Ahead = Ahead} {encoding = encoding} reads s t v der passed =
+    let e = reads.only (rest s) v passed.octets (subst (λ r. Ahead v r (rest s) passed.octets) der passed.ahead) in
+    let left : rest t ≡ e.behind = rest_passed passed ∙ ap (drop passed.octets) e.split ∙ drop_at (encoding v) e.behind passed.octets (sym e.whole) in
+    (e.is_valid, record { split = e.split ∙ ap (λ x. encoding v ++ x) (sym left); state = passed.leaves ∙ ap (advanced_state s) e.whole })
+
+-- fields whose elements are encodings are the encodings one behind the other
+pub fields_are_encodings : {A B : Type 0} {First : A → EncodingRules → List ℕ → ℕ → Type 0} {Second : B → EncodingRules → List ℕ → ℕ → Type 0} {is_first : A → Type 0} {is_second : B → Type 0}
+    {first : A → List ℕ} {second : B → List ℕ} → ReadsEncodings First is_first first → ReadsEncodings Second is_second second
+    → ReadsEncodings (FieldsAhead First Second) (λ v. is_first v.0 × is_second v.1) (λ v. first v.0 ++ second v.1)
+fields_are_encodings {A} {B} {First} {Second} {is_first} {is_second} {first} {second} one two = record { only = from; every = to }
+  where
+    from : (octets : List ℕ) (v : A × B) (m : ℕ) → FieldsAhead First Second v Der octets m → EncodingAhead (λ w. is_first w.0 × is_second w.1) (λ w. first w.0 ++ second w.1) v octets m
+    from octets v m f =
+        let p = one.only octets v.0 f.first f.ahead in
+        let left : drop f.first octets ≡ p.behind = ap (drop f.first) p.split ∙ drop_at (first v.0) p.behind f.first (sym p.whole) in
+        let q = two.only (drop f.first octets) v.1 f.second f.behind in
+        record {
+          is_valid = (p.is_valid, q.is_valid);
+          behind = q.behind;
+          split = p.split ∙ ap (λ x. first v.0 ++ x) (sym left ∙ q.split) ∙ sym (append_assoc (first v.0) (second v.1) q.behind);
+          whole = omega (arith, f.whole, p.whole, q.whole, length-append (first v.0) (second v.1));
+        }
+
+    to : (octets : List ℕ) (v : A × B) (m : ℕ) → length octets < 2 ^ 32 → EncodingAhead (λ w. is_first w.0 × is_second w.1) (λ w. first w.0 ++ second w.1) v octets m → FieldsAhead First Second v Der octets m
+    to octets v m short e =
+        let whole : octets ≡ first v.0 ++ (second v.1 ++ e.behind) = e.split ∙ append_assoc (first v.0) (second v.1) e.behind in
+        let left : drop (length (first v.0)) octets ≡ second v.1 ++ e.behind = ap (drop (length (first v.0))) whole ∙ drop_at (first v.0) (second v.1 ++ e.behind) (length (first v.0)) refl in
+        record {
+          first = length (first v.0);
+          second = length (second v.1);
+          ahead = one.every octets v.0 _ short (record { is_valid = e.is_valid.0; behind = second v.1 ++ e.behind; split = whole; whole = refl });
+          behind = two.every (drop (length (first v.0)) octets) v.1 _ (omega (arith, short, length-drop (length (first v.0)) octets)) (record { is_valid = e.is_valid.1; behind = e.behind; split = left; whole = refl });
+          whole = e.whole ∙ length-append (first v.0) (second v.1);
+        }
+
+-- a type whose contents are wholly encodings, seen as another's values, is lawful
+pub contents_lawful : {A B : Type 0} {Ahead : A → EncodingRules → List ℕ → ℕ → Type 0} {valid : A → Type 0} {encoding : A → List ℕ} (tag : Tag) (levels : EncodingRules → ℕ) (f : B → A) → ReadsEncodings Ahead valid encoding
+    → levels Der ≤ 63 → (label tag).number < 2 ^ 32 → IsLawful tag (λ b. TakesWhole Ahead (f b)) (λ b. valid (f b)) (λ b. encoding (f b)) levels
+contents_lawful {A} {B} {Ahead} {valid} {encoding} tag levels f reads shallow numbered =
+    record {
+      exact = λ octets b short. (let whole = whole_encodings reads in (λ h. (let e = whole.only octets (f b) h in (e.0, sym e.1)), λ h. whole.every octets (f b) short h.0 (sym h.1)));
+      shallow = shallow;
+      numbered = numbered;
+    }

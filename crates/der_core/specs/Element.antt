@@ -1,0 +1,68 @@
+-- Elements: a header, contents, and the end mark of an indefinite length (X.690 8.1.1).
+use Rattle.std.specs.Prelude.{◌≡◌, ◌≢◌, ℕ, ◌+◌, Bool, true, false, List, [], ◌∷◌, ◌++◌, length, drop, Result, Err}
+use Rattle.der_base.specs.Arithmetic.{sans_eoc}
+use Rattle.der_base.specs.Body.{BodyFault}
+use Rattle.der_base.specs.Error.{unexpected_tag}
+use Rattle.der_base.specs.Length.{number, is_indefinite}
+use Rattle.der_base.specs.Header.{Head, head, HeaderAhead, HeaderFault}
+use Rattle.der_base.specs.declared.tag.Tag.{Tag}
+use Rattle.der_base.specs.declared.error.Error.{Error}
+use Rattle.der_base.specs.declared.encoding_rules.EncodingRules.{EncodingRules}
+use Rattle.der_core.specs.ReaderState.{ReaderState}
+use Rattle.der_core.specs.Decode.{Passes, Decodes, grammar_levels}
+use Rattle.der_core.specs.Header.{head_of, IsHeaderAhead}
+use Rattle.der_core.specs.Nested.{ValueAnswers}
+use Rattle.der_core.specs.declared.header.Header.{Header}
+
+-- the header of the contents alone, without the end mark
+abbrev pub contents_head : Head → Head
+contents_head h = head h.tag (sans_eoc h.length) h.constructed
+
+-- two zero octets close contents of an indefinite length (8.1.5), nothing those of a definite one
+abbrev pub IsEndMark : Bool → List ℕ → Type 0
+IsEndMark false octets = octets ≡ []
+IsEndMark true octets = octets ≡ 0 ∷ 0 ∷ []
+
+-- the first m octets of a list are an element with this tag, whose contents are taken as the value
+pub record ElementAhead {A : Type 0} (tag : Tag)
+    (takes : A → EncodingRules → Head → List ℕ → Type 0) (v : A)
+    (rules : EncodingRules) (octets : List ℕ) (m : ℕ) : Type 0 where
+  pub says : Head
+  pub header : ℕ
+  pub contents : List ℕ
+  pub mark : List ℕ
+  pub behind : List ℕ
+  pub ahead : HeaderAhead says rules octets header
+  pub tagged : says.tag ≡ tag
+  pub split : drop header octets ≡ contents ++ (mark ++ behind)
+  pub sized : length contents ≡ number (sans_eoc says.length)
+  pub marked : IsEndMark (is_indefinite says.length) mark
+  pub whole : m ≡ header + (length contents + length mark)
+  pub taken : takes v rules (contents_head says) contents
+
+-- how many levels of nesting an element wants: those of its header, its own, and those of its
+-- contents
+abbrev pub element_levels : (EncodingRules → ℕ) → EncodingRules → ℕ
+element_levels levels rules = grammar_levels rules + (1 + levels rules)
+
+-- an element is read: its header, its tag, and its contents by a closure
+pub data ElementReadBy {P Q T E : Type 0} (tag : Tag) (converts : Error → E → Type 0)
+    (post : Head → P → Result T E → Q → Type 0) (before : P → ReaderState)
+    (after : Q → ReaderState) (s : ReaderState) (result : Result T E) (t : ReaderState)
+    : Type 0 where
+  no_header : (e : Error) (f : E) → Decodes IsHeaderAhead (HeaderFault BodyFault) true s (Err e) t
+      → converts e f → result ≡ Err f → ElementReadBy tag converts post before after s result t
+  other_tag : (h : Header) (f : E) → Passes (IsHeaderAhead h) s t
+      → (head_of h).tag ≢ tag → converts (unexpected_tag tag (head_of h).tag) f
+      → result ≡ Err f → ElementReadBy tag converts post before after s result t
+  in_contents : (h : Header) (u : ReaderState)
+      → Passes (IsHeaderAhead h) s u → (head_of h).tag ≡ tag
+      → ValueAnswers converts (post (contents_head (head_of h))) before after
+      (sans_eoc (head_of h).length) u result t
+      → ElementReadBy tag converts post before after s result t
+
+-- the same where the contents are read as a value, by what its type answers
+abbrev pub ElementRead : {T E : Type 0} → Tag → (Error → E → Type 0)
+    → (Head → ReaderState → Result T E → ReaderState → Type 0)
+    → ReaderState → Result T E → ReaderState → Type 0
+ElementRead tag converts answers = ElementReadBy tag converts answers (λ s. s) (λ t. t)

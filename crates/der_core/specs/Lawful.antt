@@ -1,0 +1,85 @@
+-- What it means that exactly the encodings of values are read.
+use Rattle.std.specs.Prelude.{◌≡◌, ◌↔◌, ℕ, ◌^◌, ◌<◌, ◌≤◌, List, ◌++◌, length}
+use Rattle.der_base.specs.Length.{number, definite_length}
+use Rattle.der_base.specs.Tag.{label}
+use Rattle.der_base.specs.Header.{Head, head}
+use Rattle.der_base.specs.declared.length.Length.{Length}
+use Rattle.der_base.specs.declared.tag.Tag.{Tag}
+use Rattle.der_base.specs.declared.encoding_rules.EncodingRules.{EncodingRules}
+use Rattle.der_base.specs.declared.encoding_rules.EncodingRules.TheVariants.{Der}
+use Rattle.der_core.specs.Decode.{Passes, Whole}
+use Rattle.der_core.specs.Element.{ElementAhead}
+use Rattle.der_core.specs.Encode.{element_octets}
+use Rattle.der_core.specs.Header.{head_of}
+use Rattle.der_core.specs.ReaderState.{ReaderState, Reads}
+use Rattle.der_core.specs.declared.header.Header.{Header}
+
+-- the header of a tag and of so many octets of contents (X.690 10.1)
+abbrev pub definite_head : Tag → ℕ → Head
+definite_head t n = head t (definite_length n) (label t).constructed
+
+-- a length in the definite form, of 32 bits
+abbrev pub IsDefinite : Length → Type 0
+IsDefinite l = (l ≡ definite_length (number l)) × (number l < 2 ^ 32)
+
+-- a header that is a tag's, of a definite length
+pub record IsDefiniteHeader (h : Header) : Type 0 where
+  pub says : head_of h ≡ definite_head (head_of h).tag (number (head_of h).length)
+  pub numbered : (label (head_of h).tag).number < 2 ^ 32
+  pub small : number (head_of h).length < 2 ^ 32
+
+-- a type with this tag is lawful: under DER contents are taken as a value exactly where it is valid
+-- and they are what it is written as; they want at most 63 levels of nesting, so that an element
+-- fits into a reader; and the tag's number has 32 bits
+pub record IsLawful {A : Type 0} (tag : Tag) (takes : A → EncodingRules → Head → List ℕ → Type 0)
+    (valid : A → Type 0) (contents : A → List ℕ) (levels : EncodingRules → ℕ) : Type 0 where
+  pub exact : (octets : List ℕ) (v : A) → length octets < 2 ^ 32
+      → takes v Der (definite_head tag (length octets)) octets
+      ↔ (valid v × (contents v ≡ octets))
+  pub shallow : levels Der ≤ 63
+  pub numbered : (label tag).number < 2 ^ 32
+
+-- the first m octets of a list are the encoding of a valid value
+pub record EncodingAhead {A : Type 0} (valid : A → Type 0) (encoding : A → List ℕ) (v : A)
+    (octets : List ℕ) (m : ℕ) : Type 0 where
+  pub is_valid : valid v
+  pub behind : List ℕ
+  pub split : octets ≡ encoding v ++ behind
+  pub whole : m ≡ length (encoding v)
+
+-- under DER a value stands at the front of octets only where they begin with its encoding, and
+-- wherever octets that a length can count begin with it
+pub record ReadsEncodings {A : Type 0} (Ahead : A → EncodingRules → List ℕ → ℕ → Type 0)
+    (valid : A → Type 0) (encoding : A → List ℕ) : Type 0 where
+  pub only : (octets : List ℕ) (v : A) (m : ℕ) → Ahead v Der octets m
+      → EncodingAhead valid encoding v octets m
+  pub every : (octets : List ℕ) (v : A) (m : ℕ) → length octets < 2 ^ 32
+      → EncodingAhead valid encoding v octets m → Ahead v Der octets m
+
+-- so under DER they are wholly a value only where they are its encoding, and wherever they are
+pub record ReadsWholeEncodings {A : Type 0} (Ahead : A → EncodingRules → List ℕ → ℕ → Type 0)
+    (valid : A → Type 0) (encoding : A → List ℕ) : Type 0 where
+  pub only : (octets : List ℕ) (v : A) → Whole (Ahead v) Der octets
+      → valid v × (octets ≡ encoding v)
+  pub every : (octets : List ℕ) (v : A) → length octets < 2 ^ 32 → valid v
+      → octets ≡ encoding v → Whole (Ahead v) Der octets
+
+-- and a DER reader that has passed a value has passed its encoding, and nothing else
+abbrev pub PassesEncodings : {A : Type 0} → (A → EncodingRules → List ℕ → ℕ → Type 0)
+    → (A → Type 0) → (A → List ℕ) → Type 0
+PassesEncodings {A} Ahead valid encoding =
+    (s t : ReaderState) (v : A) → s.rules ≡ Der → Passes (Ahead v) s t
+    → valid v × Reads s t (encoding v)
+
+-- and what was written is read, whatever follows: the value stands there, and each that stands
+-- there has the same contents
+pub record ReadsWritten {A : Type 0} (tag : Tag)
+    (takes : A → EncodingRules → Head → List ℕ → Type 0) (valid : A → Type 0)
+    (contents : A → List ℕ) : Type 0 where
+  pub ahead : (v : A) (more : List ℕ) → valid v
+      → length (element_octets tag (contents v) ++ more) < 2 ^ 32
+      → ElementAhead tag takes v Der (element_octets tag (contents v) ++ more)
+      (length (element_octets tag (contents v)))
+  pub alone : (v w : A) (more : List ℕ) (m : ℕ)
+      → ElementAhead tag takes w Der (element_octets tag (contents v) ++ more) m
+      → (contents w ≡ contents v) × (m ≡ length (element_octets tag (contents v)))

@@ -1,0 +1,59 @@
+//! Values in memory of their own.
+ghost use Rattle.std.specs.Prelude.{true};
+ghost use Rattle.der_core.specs.Boxed.{BoxedAnswers};
+
+use crate::decode::{DecodeValue, Lawful, ReadValue};
+use crate::header::Header;
+use crate::reader::Reader;
+use der_base::ErrorKind;
+use std::alloc::Global;
+
+impl<T: ReadValue> ReadValue for Box<T> {
+    ghost valid = { λ v. T.valid v.value };
+
+    ghost takes = { λ v. T.takes v.value };
+
+    ghost levels = { T.levels };
+
+    ghost takes_memory = { true };
+
+    ghost takes_valid = { λ v rules h octets taken. T.takes_valid v.value rules h octets taken };
+}
+
+/// The value is decoded first, and then memory is asked for.
+///
+/// # Errors
+///
+/// - Those of the value, as by its [`DecodeValue::decode_value`].
+/// - `OutOfMemory` without a position, where memory is refused; the reader stands behind the
+///   contents and has not failed.
+impl<R: Reader, T: DecodeValue<R>> DecodeValue<R> for Box<T> {
+    type Error = <T as DecodeValue<R>>::Error;
+
+    ghost value_answers = { λ h. BoxedAnswers (λ b. b.value) (T.value_answers h)
+        T.Error.from_gives };
+
+    fn decode_value(
+        alloc: Global,
+        reader: &mut R,
+        header: Header,
+    ) -> Result<Self, <T as DecodeValue<R>>::Error> {
+        let value = T::decode_value(alloc, reader, header)?;
+        match Box::new(alloc, value) {
+            Ok(boxed) => Ok(boxed),
+            Err(_) => Err(ErrorKind::OutOfMemory.to_error().into()),
+        }
+    }
+
+    fn is_value(&self) {
+        (**self).is_value()
+    }
+}
+
+impl<T: Lawful> Lawful for Box<T> {
+    ghost lawful = { record {
+      exact = λ octets v short. T.lawful.exact octets v.value short;
+      shallow = T.lawful.shallow;
+      numbered = T.lawful.numbered;
+    } };
+}

@@ -1,0 +1,64 @@
+//! Fields, one behind the other.
+ghost use Rattle.std.specs.Prelude.{◌≡◌, ◌||◌, ℕ, ◌+◌, ◌≤◌, ◌⊎◌, true, false, IfOk, IsOk, IsErrAnd};
+ghost use Rattle.der_core.specs.ReaderState.{Same, rest};
+ghost use Rattle.der_core.specs.Decode.{Passes, ReadsOrLacks};
+ghost use Rattle.der_core.specs.DecodeValue.{ContentsAhead, EndsOrLacks, TakesContents};
+ghost use Rattle.der_core.specs.Fields.{FieldsAhead, FieldsRead, TakesWhole, fields_levels};
+ghost use Rattle.der_core.specs.Header.{head_of};
+
+use crate::decode::Decode;
+use crate::header::Header;
+use crate::reader::Reader;
+use std::alloc::Global;
+
+/// A pair is decoded as its first member and, behind it, its second; so three fields are a pair of
+/// one and a pair.
+///
+/// # Errors
+///
+/// Those of the first member, and then those of the second.
+impl<R: Reader, A: Decode<R>, B: Decode<R, Error = <A as Decode<R>>::Error>> Decode<R> for (A, B) {
+    type Error = <A as Decode<R>>::Error;
+
+    ghost heads = { FieldsAhead A.heads B.heads };
+
+    ghost needs = { fields_levels A.needs B.needs };
+
+    ghost takes_memory = { A.takes_memory || B.takes_memory };
+
+    ghost answers = { FieldsRead A.answers B.answers };
+
+    #[inline(always)]
+    fn decode(alloc: Global, reader: &mut R) -> Result<(A, B), <A as Decode<R>>::Error> {
+        let first = A::decode(alloc, reader)?;
+        let second = B::decode(alloc, reader)?;
+        Ok((first, second))
+    }
+}
+
+/// Decodes a value that all the contents are, in which the reader stands; of a pair, the members
+/// one behind the other. It is [`Decode::decode`], with the contract that
+/// [`DecodeValue::decode_value`](crate::DecodeValue::decode_value) asks for: contents are taken
+/// where they are wholly a value, whatever the header.
+///
+/// # Errors
+///
+/// Those of the type, as by [`Decode::decode`].
+#[inline(always)]
+pub fn decode_contents<R: Reader, T: Decode<R>>(
+    alloc: Global,
+    reader: &mut R,
+    _header: Header,
+) -> Result<T, <T as Decode<R>>::Error>
+    ensures same { Same (R.state reader.old) (R.state reader.new) }
+    ensures sound { TakesContents (TakesWhole T.heads) (head_of _header) (R.state reader.old) result
+        (R.state reader.new) }
+    ensures complete { (v : T) → R.reliable ≡ true
+        → ContentsAhead (TakesWhole T.heads v) (head_of _header) (R.state reader.old)
+        → (R.state reader.old).depth + T.needs (R.state reader.old).rules ≤ 64
+        → EndsOrLacks T.Error.out_of_memory T.takes_memory result (R.state reader.new) }
+    ensures exact { R.reliable ≡ true → T.answers (R.state reader.old) result
+        (R.state reader.new) }
+{
+    T::decode(alloc, reader)
+}

@@ -1,0 +1,148 @@
+//! Decoding of contents.
+ghost use Rattle.std.specs.Prelude.{◌≡◌, ℕ, ◌+◌, ◌≤◌, Bool, true, false, List, IfOk, Result as AResult};
+ghost use Rattle.der_base.specs.Header.{Head};
+ghost use Rattle.der_base.specs.declared.encoding_rules.EncodingRules.{EncodingRules as Rules};
+ghost use Rattle.der_core.specs.ReaderState.{ReaderState, rest, Same};
+ghost use Rattle.der_core.specs.Decode.{Passes, ReadsOrLacks};
+ghost use Rattle.der_core.specs.DecodeValue.{ContentsAhead, EndsOrLacks, TakesContents};
+ghost use Rattle.der_core.specs.Element.{ElementAhead, ElementRead, element_levels};
+ghost use Rattle.der_core.specs.Header.{head_of};
+
+use crate::decode::{Decode, DecodeError};
+use crate::header::{Header, decode_header};
+use crate::reader::{Reader, read_value};
+use crate::tag::fixed::FixedTag;
+use std::alloc::Global;
+
+/// What a type means when its values are read: which values there are, and which octets are read
+/// as which of them. It has no functions.
+///
+/// Ghost members:
+///
+/// - `valid` says which models are values of the type.
+/// - `takes` says which value the contents behind a header are read as, under either rules; the
+///   header's length is that of the contents alone.
+/// - `levels` is how many levels of nesting the contents want under each of the rules.
+/// - `takes_memory` says whether reading takes memory.
+/// - `takes_valid` is the law that only values are read.
+pub trait ReadValue: Sized {
+    ghost valid: { Self → Type 0 };
+
+    ghost takes: { Self → Rules → Head → List ℕ → Type 0 };
+
+    ghost levels: { Rules → ℕ };
+
+    ghost takes_memory: { Bool };
+
+    // only values are read
+    ghost takes_valid: { (v : Self) (rules : Rules) (h : Head) (octets : List ℕ)
+        → takes v rules h octets → valid v };
+}
+
+/// Types whose values are decoded from contents, which stand behind a header. Such a type that
+/// also has a fixed tag is decoded by [`Decode`]: its header, and then its contents.
+///
+/// Ghost member: `value_answers` is the exact outcome on a reliable reader, refusals and their
+/// states included: of the header, the reader before, the answer, and the reader afterwards.
+pub trait DecodeValue<R: Reader>: ReadValue + Drop {
+    /// The error of decoding.
+    type Error: DecodeError;
+
+    ghost value_answers: { Head → ReaderState → AResult Self Self.Error → ReaderState → Type 0 };
+
+    /// Decodes a value from contents: the reader stands inside them, and the header has their
+    /// length. An `Ok` that leaves octets of them, or a reader that has failed, is no reading.
+    ///
+    /// A reliable reader that has not failed and stands inside a part, with `levels` of nesting
+    /// left, gives a value where the contents are taken as one, or an error that says that memory
+    /// was refused.
+    ///
+    /// # Errors
+    ///
+    /// - One that says that memory was refused, where the type takes memory.
+    /// - Those of the type: `value_answers` says which there are, at which positions, and whether
+    ///   the reader has failed then.
+    fn decode_value(alloc: Global, reader: &mut R, header: Header) -> Result<Self, Self::Error>
+        ensures same { Same (R.state reader.old) (R.state reader.new) }
+        ensures sound { TakesContents Self.takes (head_of header) (R.state reader.old) result
+            (R.state reader.new) }
+        ensures complete { (v : Self) → R.reliable ≡ true
+            → ContentsAhead (Self.takes v) (head_of header) (R.state reader.old)
+            → (R.state reader.old).depth + Self.levels (R.state reader.old).rules ≤ 64
+            → EndsOrLacks Self.Error.out_of_memory Self.takes_memory result (R.state reader.new) }
+        ensures exact { R.reliable ≡ true → value_answers (head_of header) (R.state reader.old)
+            result (R.state reader.new) };
+
+    /// A law without an answer: what is in hand is a value.
+    fn is_value(&self)
+        ensures { Self.valid self.now };
+}
+
+/// Decodes the element of a value (X.690 8.1.1): its header, which has the type's tag, then its
+/// contents, and where their length is indefinite the end mark. It is [`Decode::decode`] of every
+/// type that has [`DecodeValue`] and [`FixedTag`].
+///
+/// # Errors
+///
+/// - `Failed`, `Overflow`, `Incomplete`, `TagUnknown`, `TagNumberInvalid`, `IndefiniteLength` and
+///   `Length` of the header, as by [`Header::decode`].
+/// - `TagUnexpected` without a position, where the header has another tag; the reader stands behind
+///   the header and has not failed.
+/// - `Overflow`, `Incomplete` and `NestingDepth` of contents that cannot be entered, as by
+///   [`Reader::enter_nested`]; the reader stands behind the header.
+/// - Those of the type, as by [`DecodeValue::decode_value`].
+/// - `TrailingData` at the position, where the type leaves octets; the reader has failed then.
+/// - Those of [`read_eoc`](crate::read_eoc), where the length was read in the indefinite form.
+#[inline(always)]
+pub fn decode_tlv<R: Reader, T: DecodeValue<R> + FixedTag>(
+    alloc: Global,
+    reader: &mut R,
+) -> Result<T, <T as DecodeValue<R>>::Error>
+    ensures same { Same (R.state reader.old) (R.state reader.new) }
+    ensures ok { IfOk result (λ v. (R.state reader.new).failed ≡ false
+        → Passes (ElementAhead T.tag_is T.takes v) (R.state reader.old) (R.state reader.new)) }
+    ensures complete { (v : T) (m : ℕ) → R.reliable ≡ true
+        → (R.state reader.old).failed ≡ false
+        → ElementAhead T.tag_is T.takes v (R.state reader.old).rules (rest (R.state reader.old)) m
+        → (R.state reader.old).depth + element_levels T.levels (R.state reader.old).rules ≤ 64
+        → ReadsOrLacks T.Error.out_of_memory T.takes_memory (R.state reader.old) m result
+        (R.state reader.new) }
+    ensures exact { R.reliable ≡ true
+        → ElementRead T.tag_is T.Error.from_gives T.value_answers (R.state reader.old) result
+        (R.state reader.new) }
+{
+    let header = decode_header(reader)?;
+    header.tag().assert_eq(T::fixed_tag())?;
+    read_value(
+        reader,
+        header,
+        |reader: &mut R, header: Header| -> Result<T, <T as DecodeValue<R>>::Error>
+            ensures same { Same (R.state reader.old) (R.state reader.new) }
+            ensures sound { TakesContents T.takes (head_of header) (R.state reader.old) result
+                (R.state reader.new) }
+            ensures complete { (v : T) → R.reliable ≡ true
+                → ContentsAhead (T.takes v) (head_of header) (R.state reader.old)
+                → (R.state reader.old).depth + T.levels (R.state reader.old).rules ≤ 64
+                → EndsOrLacks T.Error.out_of_memory T.takes_memory result (R.state reader.new) }
+            ensures exact { R.reliable ≡ true → T.value_answers (head_of header)
+                (R.state reader.old) result (R.state reader.new) }
+        { T::decode_value(alloc, reader, header) },
+    )
+}
+
+impl<R: Reader, T: DecodeValue<R> + FixedTag> Decode<R> for T {
+    type Error = <T as DecodeValue<R>>::Error;
+
+    ghost heads = { ElementAhead T.tag_is T.takes };
+
+    ghost needs = { element_levels T.levels };
+
+    ghost takes_memory = { T.takes_memory };
+
+    ghost answers = { ElementRead T.tag_is T.Error.from_gives T.value_answers };
+
+    #[inline(always)]
+    fn decode(alloc: Global, reader: &mut R) -> Result<T, <T as DecodeValue<R>>::Error> {
+        decode_tlv(alloc, reader)
+    }
+}

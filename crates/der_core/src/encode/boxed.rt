@@ -1,0 +1,29 @@
+//! Values in memory of their own: they are written as the values that they hold.
+use crate::encode::{EncodeValue, WrittenValue};
+use crate::writer::Writer;
+use der_base::{Error, Length};
+
+impl<T: WrittenValue> WrittenValue for Box<T> {
+    ghost contents = { λ v. T.contents v.value };
+
+    ghost writable = { λ v. T.writable v.value };
+}
+
+/// The value's contents.
+///
+/// # Errors
+///
+/// Those of the value, with the same positions and states.
+impl<T: EncodeValue> EncodeValue for Box<T> {
+    ghost value_size = { λ v. T.value_size v.value };
+
+    ghost value_answers = { λ v. T.value_answers v.value };
+
+    fn value_len(&self) -> Result<Length, Error> {
+        (**self).value_len()
+    }
+
+    fn encode_value<W: Writer>(&self, writer: &mut W) -> Result<(), Error> {
+        (**self).encode_value(writer)
+    }
+}

@@ -1,0 +1,27 @@
+//! Nothing, of any type.
+ghost use Rattle.std.specs.Prelude.{◌≡◌, [], Ok};
+ghost use Rattle.der_base.specs.Length.{definite_length};
+
+use crate::encode::Encode;
+use crate::writer::Writer;
+use der_base::{Error, Length};
+use std::marker::PhantomData;
+
+/// It is written as no octets; writing is never refused.
+impl<T> Encode for PhantomData<T> {
+    ghost encoding = { λ _. [] };
+
+    ghost encodable = { λ _. Unit {0} };
+
+    ghost size = { λ _. Ok (definite_length 0) };
+
+    ghost answers = { λ _ s result t. (result ≡ Ok tt) × (t ≡ s) };
+
+    fn encoded_len(&self) -> Result<Length, Error> {
+        Ok(Length::ZERO)
+    }
+
+    fn encode<W: Writer>(&self, _writer: &mut W) -> Result<(), Error> {
+        Ok(())
+    }
+}

@@ -1,0 +1,47 @@
+-- Octets that are lent.
+use Rattle.std.specs.Prelude.{◌≡◌, ℕ, List, length, Result}
+use Rattle.std.proofs.Common.{arith}
+use Rattle.der_base.specs.Arithmetic.{checked_length}
+use Rattle.der_base.specs.Header.{Head}
+use Rattle.der_base.specs.declared.length.Length.{Length}
+use Rattle.der_base.specs.declared.tag.Tag.TheVariants.{OctetString}
+use Rattle.der_base.specs.Length.{number}
+use Rattle.der_base.specs.declared.error.Error.{Error}
+use Rattle.der_base.specs.declared.encoding_rules.EncodingRules.{EncodingRules}
+use Rattle.der_core.specs.ReaderState.{ReaderState}
+use Rattle.der_core.specs.Outcome.{Gives, map_ok}
+use Rattle.der_core.specs.Reader.{read_slice_outcome}
+use Rattle.der_core.specs.Encode.{WriterAnswer}
+use Rattle.der_core.specs.Lawful.{IsLawful}
+use Rattle.der_core.specs.Writer.{Writes, write_outcome}
+use Rattle.der_uses.specs.declared.lent.Lent.{Lent}
+
+abbrev pub lent_contents : Lent → List ℕ
+lent_contents lent = lent.octets.now
+
+abbrev pub IsLent : Lent → Type 0
+IsLent lent = Unit {0}
+
+-- they are taken as they stand
+abbrev pub TakesLent : Lent → EncodingRules → Head → List ℕ → Type 0
+TakesLent lent rules h octets = lent_contents lent ≡ octets
+
+abbrev pub LentAnswers : Head → ReaderState → Result Lent Error → ReaderState → Type 0
+LentAnswers h s result t =
+    Gives (read_slice_outcome (number h.length)) s (map_ok lent_contents result) t
+
+-- how many octets there are, and what writing answers
+abbrev pub lent_size : Lent → Result Length Error
+lent_size lent = checked_length (length (lent_contents lent))
+
+abbrev pub WritesLent : Lent → WriterAnswer
+WritesLent lent s result t = Writes (write_outcome (lent_contents lent) s) result t
+
+-- it is read as it is written
+pub lent_lawful : IsLawful OctetString TakesLent IsLent lent_contents (λ _. 0)
+lent_lawful =
+    record {
+      exact = λ octets lent short. (λ h. (tt, h), λ h. h.1);
+      shallow = omega arith;
+      numbered = omega arith;
+    }

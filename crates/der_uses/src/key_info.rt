@@ -1,0 +1,103 @@
+//! A SEQUENCE with another one inside it, as a key stands in a certificate.
+ghost use Rattle.std.specs.Prelude.{◌≡◌, ◌<◌, ◌^◌, false, length, IfOk, IsOk};
+ghost use Rattle.der_base.specs.declared.tag.Tag.TheVariants.{Sequence};
+ghost use Rattle.der_core.specs.Encode.{element_octets};
+ghost use Rattle.der_uses.specs.KeyInfo.{IsKeyInfo, TakesKeyInfo, KeyInfoAnswers, key_info_contents, key_info_levels, key_info_size, WritesKeyInfo, key_info_lawful};
+
+use crate::algorithm_identifier::AlgorithmIdentifier;
+use crate::lent::Lent;
+use der::{
+    DecodeBytes, DecodeValue, Encode, EncodeRef, EncodeValue, Error, FixedTag, Header, Lawful,
+    Length, ReadValue, Reader, Tag, Writer, WrittenValue, decode_contents,
+};
+use std::alloc::Global;
+
+/// A key, and what it is for.
+#[derive(Clone, Copy)]
+pub struct KeyInfo<'a> {
+    /// What it is for.
+    pub algorithm: AlgorithmIdentifier<'a>,
+    /// The key, lent by the input.
+    pub key: Lent<'a>,
+}
+
+impl<'a> FixedTag for KeyInfo<'a> {
+    ghost tag_is = { Sequence };
+
+    const TAG: Tag = Tag::Sequence;
+
+    fn fixed_tag() -> Tag
+        ensures { result ≡ Sequence }
+    {
+        Self::TAG
+    }
+}
+
+impl<'a> ReadValue for KeyInfo<'a> {
+    ghost valid = { IsKeyInfo };
+
+    ghost takes = { TakesKeyInfo };
+
+    ghost levels = { key_info_levels };
+
+    ghost takes_memory = { false };
+
+    ghost takes_valid = { λ v rules h octets taken.
+        ((tt, taken.ahead.taken.behind.taken.0), tt) };
+}
+
+impl<'a, R: Reader<Lent = &'a [u8]>> DecodeValue<R> for KeyInfo<'a> {
+    type Error = Error;
+
+    ghost value_answers = { KeyInfoAnswers };
+
+    fn decode_value(alloc: Global, reader: &mut R, header: Header) -> Result<Self, Error> {
+        let (algorithm, key) = decode_contents::<R, (AlgorithmIdentifier<'a>, Lent<'a>)>(
+            alloc, reader, header,
+        )?;
+        Ok(KeyInfo { algorithm, key })
+    }
+
+    fn is_value(&self) {}
+}
+
+impl<'a> WrittenValue for KeyInfo<'a> {
+    ghost contents = { key_info_contents };
+
+    ghost writable = { IsKeyInfo };
+}
+
+impl<'a> EncodeValue for KeyInfo<'a> {
+    ghost value_size = { key_info_size };
+
+    ghost value_answers = { WritesKeyInfo };
+
+    fn value_len(&self) -> Result<Length, Error> {
+        (EncodeRef(&self.algorithm), EncodeRef(&self.key)).encoded_len()
+    }
+
+    fn encode_value<W: Writer>(&self, writer: &mut W) -> Result<(), Error> {
+        (EncodeRef(&self.algorithm), EncodeRef(&self.key)).encode(writer)
+    }
+}
+
+impl<'a> Lawful for KeyInfo<'a> {
+    ghost lawful = { key_info_lawful };
+}
+
+/// The key that these octets are the encoding of.
+pub fn key_info_from_der<'a>(alloc: Global, octets: &'a [u8]) -> Result<KeyInfo<'a>, Error>
+    ensures ok { IfOk result (λ v. IsKeyInfo v
+        × (octets.now ≡ element_octets Sequence (key_info_contents v))) }
+    ensures complete { (v : _) → length octets.now < 2 ^ 32 → IsKeyInfo v
+        → octets.now ≡ element_octets Sequence (key_info_contents v) → IsOk result }
+{
+    KeyInfo::from_der(alloc, octets)
+}
+
+/// The encoding of a key.
+pub fn key_info_der(alloc: Global, key: &KeyInfo<'_>) -> Result<Vec<u8>, Error>
+    ensures { IfOk result (λ v. v.items ≡ element_octets Sequence (key_info_contents key.now)) }
+{
+    key.to_der(alloc)
+}

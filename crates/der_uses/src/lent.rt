@@ -1,0 +1,78 @@
+//! A type of a user's own that is lent by the input: an `OCTET STRING`.
+ghost use Rattle.std.specs.Prelude.{◌≡◌, false, length};
+ghost use Rattle.der_base.specs.declared.tag.Tag.TheVariants.{OctetString};
+ghost use Rattle.der_uses.specs.Lent.{IsLent, TakesLent, LentAnswers, WritesLent, lent_contents, lent_size, lent_lawful};
+
+use der::{
+    DecodeValue, EncodeValue, Error, FixedTag, Header, Lawful, Length, ReadValue, Reader, Tag,
+    Writer, WrittenValue,
+};
+use std::alloc::Global;
+
+/// Octets that are lent.
+#[derive(Clone, Copy)]
+pub struct Lent<'a> {
+    /// The octets.
+    pub octets: &'a [u8],
+}
+
+impl<'a> FixedTag for Lent<'a> {
+    ghost tag_is = { OctetString };
+
+    const TAG: Tag = Tag::OctetString;
+
+    fn fixed_tag() -> Tag
+        ensures { result ≡ OctetString }
+    {
+        Self::TAG
+    }
+}
+
+impl<'a> ReadValue for Lent<'a> {
+    ghost valid = { IsLent };
+
+    ghost takes = { TakesLent };
+
+    ghost levels = { λ _. 0 };
+
+    ghost takes_memory = { false };
+
+    ghost takes_valid = { λ v rules h octets taken. tt };
+}
+
+impl<'a> WrittenValue for Lent<'a> {
+    ghost contents = { lent_contents };
+
+    ghost writable = { IsLent };
+}
+
+impl<'a> Lawful for Lent<'a> {
+    ghost lawful = { lent_lawful };
+}
+
+impl<'a, R: Reader<Lent = &'a [u8]>> DecodeValue<R> for Lent<'a> {
+    type Error = Error;
+
+    ghost value_answers = { LentAnswers };
+
+    fn decode_value(_alloc: Global, reader: &mut R, header: Header) -> Result<Self, Error> {
+        let octets = reader.read_slice(header.length())?;
+        Ok(Lent { octets })
+    }
+
+    fn is_value(&self) {}
+}
+
+impl<'a> EncodeValue for Lent<'a> {
+    ghost value_size = { lent_size };
+
+    ghost value_answers = { WritesLent };
+
+    fn value_len(&self) -> Result<Length, Error> {
+        Length::new_usize(self.octets.len())
+    }
+
+    fn encode_value<W: Writer>(&self, writer: &mut W) -> Result<(), Error> {
+        writer.write(self.octets)
+    }
+}
