@@ -9,6 +9,7 @@ src/reader/slice.rt, and is a list of edits of it:
     file: src/reader/slice.rt
     old: a text of one line that stands once in the file
     new: what stands in its place
+    right: what could stand there rightly, and makes the same calls (only where `new:` adds one)
 
 A block has further files and pairs where it needs them. A file of must-fail/ is one edit, with
 `file:`, `old:` and `new:` alone.
@@ -20,7 +21,7 @@ import re
 from checker import TOP, folder_of, give_up, text_of
 
 ONE = ("file", "old", "new")
-MANY = ("fn", "weak", *ONE)
+MANY = ("fn", "weak", "right", *ONE)
 
 
 class Edit:
@@ -29,7 +30,7 @@ class Edit:
     def __init__(self, path, number, title, keys):
         self.at = f"{os.path.relpath(path, TOP)}:{number}"
         self.title, self.keys = title, keys
-        self.functions, self.weak, self.changes = [], "", []
+        self.functions, self.weak, self.changes, self.rights = [], "", [], []
         self.file = self.old = None
 
     def take(self, line):
@@ -50,6 +51,8 @@ class Edit:
             self.file = rest
         elif key == "old":
             self.old = rest
+        elif key == "right":
+            self.correct(rest)
         else:
             self.change(rest)
 
@@ -60,7 +63,14 @@ class Edit:
         if not self.old or self.old == new:
             self.refuse("has an old text that is empty or stays as it is")
         self.changes.append((self.file, self.old, new))
+        self.rights.append((self.file, self.old, self.old))
         self.old = None
+
+    def correct(self, right):
+        """Takes the text that could rightly stand in place of the last old one."""
+        if not self.rights:
+            self.refuse(f"has a right text without a new one: {right}")
+        self.rights[-1] = (*self.rights[-1][:2], right)
 
     def end(self):
         """Sees that the edit is whole."""
@@ -75,13 +85,20 @@ class Edit:
         return self
 
     def adds_call(self):
-        """Whether a function or macro is called by a new text that its old one does not call."""
-        calls = [collections.Counter(re.findall(r"[a-z]\w*(?=[(!]|::<)", "\n".join(texts)))
-                 for texts in zip(*((old, new) for _, old, new in self.changes))]
-        return bool(calls[1] - calls[0])
+        """Whether the new texts call what the right ones do not: those given, or else the old."""
+        return bool(calls_of(self.changes) - calls_of(self.rights))
+
+    def has_right(self):
+        return any(old != right for _, old, right in self.rights)
 
     def refuse(self, why):
         give_up(f"{self.at} {why}")
+
+
+def calls_of(changes):
+    """How often the texts of these changes call each function or macro. A variant is none."""
+    texts = "\n".join(text for _, _, text in changes)
+    return collections.Counter(re.findall(r"\b[a-z]\w*(?=[(!]|::<)", texts))
 
 
 def module_of(file):
@@ -155,11 +172,12 @@ def see_apart(edits):
             seen[function] = edit.at
 
 
-def changed(name, edits):
-    """The texts of the crate with all these changes."""
+def changed(name, edits, rightly=False):
+    """The texts of the crate with all these changes, or with what is right in their place."""
     texts = {}
     for edit in edits:
-        for file, old, new in edit.changes:
+        pairs = edit.rights if rightly else edit.changes
+        for file, old, new in [it for it in pairs if it[1] != it[2]]:
             if file not in texts:
                 if not os.path.isfile(f"{folder_of(name)}/{file}"):
                     edit.refuse(f"names the file {file}, which is not there")

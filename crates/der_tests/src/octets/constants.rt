@@ -1,7 +1,7 @@
 //! Whether a reader lends, by its constant and by its function.
-use super::unlent::Unlent;
 use super::*;
 use crate::checks::same;
+use der_uses::reader::CopyingReader;
 use std::process::Abort;
 
 fn lending_agrees<R: Reader>(rt: &impl Abort, lends: bool) {
@@ -12,5 +12,5 @@ fn lending_agrees<R: Reader>(rt: &impl Abort, lends: bool) {
 #[test]
 fn lending(rt: HostRuntime) {
     lending_agrees::<SliceReader>(&rt, true);
-    lending_agrees::<Unlent>(&rt, false);
+    lending_agrees::<CopyingReader>(&rt, false);
 }

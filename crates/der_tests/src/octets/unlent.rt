@@ -1,116 +1,20 @@
 //! A reader that cannot lend, through which the generic calls run a second time.
-ghost use Rattle.std.specs.Prelude.{◌≡◌, false, true};
-ghost use Rattle.der_core.specs.SliceReader.{slice_state};
 ghost use Rattle.der_core.specs.ReaderState.{Same};
 
 use super::*;
 use crate::checks::{holds, same};
-use der::EncodingRules;
-use der::{Resumption, read_eoc};
-use std::alloc::Allocator;
+use der::read_eoc;
+use der_uses::reader::CopyingReader;
 
-#[derive(Drop)]
-pub struct Unlent<'a> {
-    pub inner: SliceReader<'a>,
-}
-
-impl<'a> Reader for Unlent<'a> {
-    ghost use Rattle.std.proofs.Common.{rules};
-
-    type Lent = &'a [u8];
-
-    ghost state = { λ r. slice_state r.inner };
-
-    ghost reliable = { false };
-
-    ghost lends = { false };
-
-    const CAN_READ_SLICE: bool = false;
-
-    fn can_lend() -> bool
-        ensures { result ≡ false }
-    {
-        Self::CAN_READ_SLICE
-    }
-
-    fn encoding_rules(&self) -> EncodingRules {
-        self.inner.encoding_rules()
-    }
-
-    fn input_len(&self) -> Length {
-        self.inner.input_len()
-    }
-
-    fn position(&self) -> Length {
-        self.inner.position()
-    }
-
-    fn is_failed(&self) -> bool {
-        self.inner.is_failed()
-    }
-
-    fn read_slice(&mut self, _len: Length) -> Result<&'a [u8], Error> {
-        Err(ErrorKind::Reader.at(self.inner.position()))
-    }
-
-    fn read_into(&mut self, buf: &mut [u8]) -> Result<(), Error> {
-        self.inner.read_into(buf)
-    }
-
-    fn error(&mut self, kind: ErrorKind) -> Error {
-        self.inner.error(kind)
-    }
-
-    fn remaining(&self) -> Result<&'a [u8], Error> {
-        Err(ErrorKind::Reader.at(self.inner.position()))
-    }
-
-    fn fork(&self) -> Self {
-        Unlent {
-            inner: self.inner.fork(),
-        }
-    }
-
-    fn read_vec_in<A: Allocator>(&mut self, alloc: A, len: Length) -> Result<Vec<u8, A>, Error> {
-        self.inner.read_vec_in(alloc, len)
-    }
-
-    fn drain(&mut self, amount: Length) -> Result<(), Error> {
-        self.inner.drain(amount)
-    }
-
-    fn finish(self) -> Result<(), Error> {
-        self.inner.finish()
-    }
-
-    fn enter_nested(&mut self, len: Length) -> Result<Resumption, Error> {
-        self.inner.enter_nested(len)
-    }
-
-    fn leave_nested(&mut self, resumption: Resumption) {
-        self.inner.leave_nested(resumption);
-    }
-
-    ghost lawful = { λ r. record {
-      ordered = r.inner.ordered;
-      in_input = r.inner.in_input;
-      addressable = r.inner.addressable;
-      shallow = r.inner.shallow;
-      marked = λ failed. Prim.search rules;
-    } };
-
-    ghost lending = { λ reliable. Prim.search rules };
-}
-
-pub(super) fn make_unlent(bytes: &[u8]) -> Result<Unlent<'_>, Error> {
+pub(super) fn make_unlent(bytes: &[u8]) -> Result<CopyingReader<'_>, Error> {
     match SliceReader::new(bytes) {
-        Ok(inner) => Ok(Unlent { inner }),
+        Ok(reader) => Ok(CopyingReader::new(reader)),
         Err(error) => Err(error),
     }
 }
 
-fn read_header(reader: &mut Unlent<'_>) -> Result<Header, Error>
-    ensures { Same (slice_state reader.old.inner) (slice_state reader.new.inner) }
+fn read_header<R: Reader>(reader: &mut R) -> Result<Header, Error>
+    ensures { Same (R.state reader.old) (R.state reader.new) }
 {
     decode_header(reader)
 }

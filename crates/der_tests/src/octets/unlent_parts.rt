@@ -1,14 +1,13 @@
 //! Parts and values of a reader that cannot lend.
-ghost use Rattle.der_core.specs.SliceReader.{slice_state};
 ghost use Rattle.der_core.specs.ReaderState.{Same};
 
-use super::unlent::{Unlent, make_unlent};
+use super::unlent::make_unlent;
 use super::*;
 use crate::checks::{holds, same};
 use der::{close_value, read_value};
 
-fn read_one(reader: &mut Unlent<'_>) -> Result<u8, Error>
-    ensures { Same (slice_state reader.old.inner) (slice_state reader.new.inner) }
+fn read_one<R: Reader>(reader: &mut R) -> Result<u8, Error>
+    ensures { Same (R.state reader.old) (R.state reader.new) }
 {
     reader.read_byte()
 }
@@ -23,8 +22,8 @@ fn a_part_without_lending(rt: HostRuntime) -> Result<(), Fail> {
     Ok(())
 }
 
-fn read_contents(reader: &mut Unlent<'_>, header: Header) -> Result<(u8, Length), Error>
-    ensures { Same (slice_state reader.old.inner) (slice_state reader.new.inner) }
+fn read_contents<R: Reader>(reader: &mut R, header: Header) -> Result<(u8, Length), Error>
+    ensures { Same (R.state reader.old) (R.state reader.new) }
 {
     match reader.read_byte() {
         Ok(octet) => Ok((octet, header.length())),
