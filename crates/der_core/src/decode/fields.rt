@@ -48,13 +48,13 @@ impl<R: Reader, A: Decode<R>, B: Decode<R, Error = <A as Decode<R>>::Error>> Dec
 pub fn decode_contents<R: Reader, T: Decode<R>>(
     alloc: Global,
     reader: &mut R,
-    _header: Header,
+    header: Header,
 ) -> Result<T, <T as Decode<R>>::Error>
     ensures same { Same (R.state reader.old) (R.state reader.new) }
-    ensures sound { TakesContents (TakesWhole T.heads) (head_of _header) (R.state reader.old) result
+    ensures sound { TakesContents (TakesWhole T.heads) (head_of header) (R.state reader.old) result
         (R.state reader.new) }
     ensures complete { (v : T) → R.reliable ≡ true
-        → ContentsAhead (TakesWhole T.heads v) (head_of _header) (R.state reader.old)
+        → ContentsAhead (TakesWhole T.heads v) (head_of header) (R.state reader.old)
         → (R.state reader.old).depth + T.needs (R.state reader.old).rules ≤ 64
         → EndsOrLacks T.Error.out_of_memory T.takes_memory result (R.state reader.new) }
     ensures exact { R.reliable ≡ true → T.answers (R.state reader.old) result
