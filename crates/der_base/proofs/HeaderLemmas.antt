@@ -3,7 +3,7 @@
 use Rattle.std.proofs.Common.{◌≡◌, ℕ, ◌+◌, ◌^◌, ◌<◌, ◌≤◌, Bool, true, false, List, ◌∷◌, ◌++◌, length, refl, sym, ap, ◌∙◌, subst, append_assoc, length-append, arith}
 use Rattle.der_base.specs.Length.{is_indefinite, definite_length, indefinite_length, length_octets, number}
 use Rattle.der_base.specs.Tag.{IsIdentifier, IdentifierFault}
-use Rattle.der_base.specs.Body.{Body, BodyFault}
+use Rattle.der_base.specs.Body.{Body}
 use Rattle.der_base.specs.Error.{Refusal, refusal}
 use Rattle.der_base.specs.Header.{header_octets, IdentifierAhead, identifier, TagAhead, LengthAhead, definite, indefinite, Head, head, HeaderAhead, header, LengthFault, HeaderFault, no_identifier, no_length, primitive}
 use Rattle.der_base.specs.Laws.{IsGrammar, IsBodyFault}
@@ -175,10 +175,6 @@ tag_grammar =
       one_fault = λ rules at octets r q f g. one_identifier_fault f g refl;
       never_both = λ rules at octets v m r h f. no_tag_fault f h.1 refl;
     }
-
--- no fault of a body is told today
-pub body_fault_laws : IsBodyFault BodyFault
-body_fault_laws = record { one_fault = λ at octets r q f g. absurd f; never_both = λ at parts body rest r b f. f }
 
 -- an identifier ahead is within the octets
 pub identifier_fits : {x : Tag × Bool} {rules : EncodingRules} {s : List ℕ} {m : ℕ} → IdentifierAhead x rules s m → m ≤ length s

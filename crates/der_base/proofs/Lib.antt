@@ -7,5 +7,7 @@ pub mod HeaderLemmas
 pub mod IdentifierLemmas
 pub mod LengthLemmas
 pub mod LongNumberLemmas
+pub mod OpenLemmas
+pub mod ScanLemmas
 pub mod TagLemmas
 pub mod TextLemmas

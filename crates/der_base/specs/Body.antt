@@ -3,7 +3,6 @@
 use Rattle.std.specs.Prelude.{ℕ, suc, ◌+◌, ◌^◌, ◌<◌, ◌≤◌, Bool, true, List, [], ◌∷◌, ◌++◌, length}
 use Rattle.der_base.specs.Length.{length_octets}
 use Rattle.der_base.specs.Tag.{IsIdentifier}
-use Rattle.der_base.specs.Error.{Refusal}
 use Rattle.der_base.specs.declared.tag.Tag.{Tag}
 use Rattle.der_base.specs.declared.encoding_rules.EncodingRules.TheVariants.{Ber}
 
@@ -40,7 +39,3 @@ pub data Open : ℕ → ℕ → List ℕ → Type 0 where
   deeper : {level m n : ℕ} {p id items : List ℕ} {t : Tag} → Open level m p
       → IsIdentifier Ber id t true → Items (suc level) n items
       → Open (suc level) (m + suc n) (p ++ (id ++ 128 ∷ items))
-
--- octets at a position begin with no body, and why: none is told, since no body is read yet
-abbrev pub BodyFault : ℕ → List ℕ → Refusal → Type 0
-BodyFault at octets r = ⊥

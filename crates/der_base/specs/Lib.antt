@@ -4,6 +4,7 @@ pub mod Class
 pub mod Tag
 pub mod Body
 pub mod Header
+pub mod Scan
 pub mod Error
 pub mod Text
 pub mod Arithmetic

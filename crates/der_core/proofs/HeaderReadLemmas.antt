@@ -2,7 +2,7 @@
 use Rattle.std.proofs.Common.{◌≡◌, ℕ, ◌+◌, ◌⊎◌, Bool, true, false, List, ◌++◌, length, sym, ap, ◌∙◌, subst, inl, inr, length-append, arith}
 use Rattle.der_base.specs.Length.{is_indefinite}
 use Rattle.der_base.specs.Tag.{IsIdentifier, IdentifierFault}
-use Rattle.der_base.specs.Body.{BodyFault}
+use Rattle.der_base.specs.Scan.{BodyFault}
 use Rattle.der_base.specs.Header.{Head, head, IdentifierAhead, LengthAhead, HeaderAhead, header, LengthFault, HeaderFault, no_identifier, no_length}
 use Rattle.der_base.specs.Laws.{IsGrammar}
 use Rattle.der_base.specs.declared.length.Length.{Length}
@@ -12,7 +12,8 @@ use Rattle.der_base.specs.declared.error.ErrorKind.{ErrorKind}
 use Rattle.der_base.specs.declared.error.ErrorKind.TheVariants.{Length as IncorrectLength}
 use Rattle.der_base.specs.declared.encoding_rules.EncodingRules.{EncodingRules}
 use Rattle.der_base.specs.declared.encoding_rules.EncodingRules.TheVariants.{Der}
-use Rattle.der_base.proofs.HeaderLemmas.{IdentifierView, identifier_view_of, identifier_view, length_definite_form, header_grammar, body_fault_laws}
+use Rattle.der_base.proofs.HeaderLemmas.{IdentifierView, identifier_view_of, identifier_view, length_definite_form, header_grammar}
+use Rattle.der_base.proofs.ScanLemmas.{body_fault_laws}
 use Rattle.der_core.specs.ReaderState.{ReaderState, rest, advanced_state, Reads}
 use Rattle.der_core.specs.AfterFirstOctet.{Stops}
 use Rattle.der_core.specs.Decode.{Passes, IsRefusedBy, at_fault, has_failed}

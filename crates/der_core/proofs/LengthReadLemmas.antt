@@ -5,7 +5,7 @@ use Rattle.std.proofs.lemmas.Int.Digits.{number_push, number_lt}
 use Rattle.std.proofs.Math.Nat.{pow-le-pow_right}
 use Rattle.der_base.specs.Error.{at as error_at, Refusal, refusal, end_refusal}
 use Rattle.der_base.specs.Length.{definite_length, length_octets}
-use Rattle.der_base.specs.Body.{BodyFault}
+use Rattle.der_base.specs.Scan.{BodyFault}
 use Rattle.der_base.specs.Header.{LengthAhead, definite, LengthFault, nothing, far, indefinite_form}
 use Rattle.der_base.specs.declared.length.Length.{Length}
 use Rattle.der_base.specs.declared.error.Error.{Error}

@@ -2,7 +2,7 @@
 use Rattle.std.specs.Prelude.{◌≡◌, ℕ, ◌+◌, ◌%◌, ◌<◌, ◌≤◌, false, Option, Some, None, ◌∷◌}
 use Rattle.der_base.specs.Error.{Refusal}
 use Rattle.der_base.specs.Tag.{IdentifierFault}
-use Rattle.der_base.specs.Body.{BodyFault}
+use Rattle.der_base.specs.Scan.{BodyFault}
 use Rattle.der_base.specs.Header.{LengthFault}
 use Rattle.der_base.specs.declared.error.Error.{Error}
 use Rattle.der_base.specs.declared.error.ErrorKind.{ErrorKind}

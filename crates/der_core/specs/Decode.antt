@@ -3,7 +3,7 @@ use Rattle.std.specs.Prelude.{◌≡◌, ℕ, ◌^◌, ◌<◌, ◌≤◌, ◌�
 use Rattle.der_base.specs.Error.{at, error_of_kind, Refusal}
 use Rattle.der_base.specs.Length.{number, definite_length}
 use Rattle.der_base.specs.Tag.{label, IdentifierFault}
-use Rattle.der_base.specs.Body.{BodyFault}
+use Rattle.der_base.specs.Scan.{BodyFault}
 use Rattle.der_base.specs.Header.{TagAhead, HeaderFault}
 use Rattle.der_base.specs.declared.tag.Tag.{Tag}
 use Rattle.der_base.specs.declared.error.Error.{Error}

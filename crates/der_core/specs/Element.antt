@@ -1,7 +1,7 @@
 -- Elements: a header, contents, and the end mark of an indefinite length (X.690 8.1.1).
 use Rattle.std.specs.Prelude.{◌≡◌, ◌≢◌, ℕ, ◌+◌, Bool, true, false, List, [], ◌∷◌, ◌++◌, length, drop, Result, Err}
 use Rattle.der_base.specs.Arithmetic.{sans_eoc}
-use Rattle.der_base.specs.Body.{BodyFault}
+use Rattle.der_base.specs.Scan.{BodyFault}
 use Rattle.der_base.specs.Error.{unexpected_tag}
 use Rattle.der_base.specs.Length.{number, is_indefinite}
 use Rattle.der_base.specs.Header.{Head, head, HeaderAhead, HeaderFault}

@@ -1,6 +1,6 @@
 //! Headers.
 ghost use Rattle.std.specs.Prelude.{◌≡◌, ◌||◌, false, true, length, Ok};
-ghost use Rattle.der_base.specs.Body.{BodyFault};
+ghost use Rattle.der_base.specs.Scan.{BodyFault};
 ghost use Rattle.der_base.specs.Header.{HeaderFault, header_octets};
 ghost use Rattle.der_base.specs.Length.{number, is_indefinite, definite_length};
 ghost use Rattle.der_base.specs.Tag.{label};

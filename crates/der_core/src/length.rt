@@ -1,6 +1,6 @@
 //! Lengths.
 ghost use Rattle.std.specs.Prelude.{◌≡◌, ℕ, ◌+◌, ◌-◌, ◌^◌, ◌<◌, ◌≤◌, true, false, List, ◌∷◌, length, max, Ok, IfOk, IfErr};
-ghost use Rattle.der_base.specs.Body.{BodyFault};
+ghost use Rattle.der_base.specs.Scan.{BodyFault};
 ghost use Rattle.der_base.specs.Length.{number, definite_length, length_octets};
 ghost use Rattle.der_base.specs.Header.{LengthAhead, LengthFault};
 ghost use Rattle.der_base.specs.declared.error.ErrorKind.TheVariants.{Overlength};

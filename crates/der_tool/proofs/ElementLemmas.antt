@@ -3,7 +3,7 @@ use Rattle.std.proofs.Common.{◌≡◌, ℕ, ◌+◌, ◌^◌, ◌<◌, ◌≤�
 use Rattle.std.proofs.lemmas.Bool.{lt-ltb, le-ltb, cases_lt, lt-leb, le-leb}
 use Rattle.der_base.specs.Error.{error_of_kind, missing_refusal}
 use Rattle.der_base.specs.Length.{number}
-use Rattle.der_base.specs.Body.{BodyFault}
+use Rattle.der_base.specs.Scan.{BodyFault}
 use Rattle.der_base.specs.Header.{Head, HeaderAhead, HeaderFault}
 use Rattle.der_base.specs.declared.error.Error.{Error}
 use Rattle.der_base.specs.declared.error.ErrorKind.TheVariants.{Overflow}

@@ -1,7 +1,7 @@
 -- What is refused has a text.
 use Rattle.std.proofs.Common.{◌≡◌, ℕ, ◌+◌, ◌++◌, ◌^◌, ◌==◌, nat_lt, List, length, [], ◌∷◌, Option, Some, refl, inl, inr}
 use Rattle.std.proofs.lemmas.Bool.{cases_Bool}
-use Rattle.der_base.specs.Body.{BodyFault}
+use Rattle.der_base.specs.Scan.{BodyFault}
 use Rattle.der_base.specs.Header.{Head, LengthFault, HeaderFault}
 use Rattle.der_base.specs.Tag.{IdentifierFault}
 use Rattle.der_base.specs.Error.{kind_of, position_of, Refusal, refusal, missing_refusal}

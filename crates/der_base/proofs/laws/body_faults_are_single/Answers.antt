@@ -1,5 +1,5 @@
 use Rattle.der_base.proofs.laws.body_faults_are_single.Goals as goal
-use Rattle.der_base.proofs.HeaderLemmas.{body_fault_laws}
+use Rattle.der_base.proofs.ScanLemmas.{body_fault_laws}
 
 pub returns : goal.returns
 returns c = body_fault_laws

@@ -1,6 +1,7 @@
-use Rattle.der_base.specs.Body.{BodyFault}
+use Rattle.der_base.specs.Scan.{BodyFault}
 use Rattle.der_base.proofs.laws.lengths_are_a_grammar.Goals as goal
-use Rattle.der_base.proofs.HeaderLemmas.{length_grammar, body_fault_laws}
+use Rattle.der_base.proofs.HeaderLemmas.{length_grammar}
+use Rattle.der_base.proofs.ScanLemmas.{body_fault_laws}
 
 pub returns : goal.returns
 returns c wrong = length_grammar BodyFault body_fault_laws wrong

@@ -1,5 +1,6 @@
-use Rattle.der_base.specs.Body.{BodyFault}
-use Rattle.der_base.proofs.HeaderLemmas.{identifier_grammar, tag_grammar, length_grammar, body_fault_laws}
+use Rattle.der_base.specs.Scan.{BodyFault}
+use Rattle.der_base.proofs.HeaderLemmas.{identifier_grammar, tag_grammar, length_grammar}
+use Rattle.der_base.proofs.ScanLemmas.{body_fault_laws}
 use Rattle.der_core.proofs.DecodeLemmas.{accepts}
 use Rattle.der_core.proofs.HeaderReadLemmas.{decoded_header_grammar}
 use Rattle.der_core.proofs.laws.what_stands_ahead_is_read.Goals as goal

@@ -1,6 +1,7 @@
 use Rattle.std.proofs.lemmas.Result.{IfOk-weaker}
-use Rattle.der_base.specs.Body.{BodyFault}
-use Rattle.der_base.proofs.HeaderLemmas.{length_grammar, body_fault_laws}
+use Rattle.der_base.specs.Scan.{BodyFault}
+use Rattle.der_base.proofs.HeaderLemmas.{length_grammar}
+use Rattle.der_base.proofs.ScanLemmas.{body_fault_laws}
 use Rattle.der_core.proofs.DecodeLemmas.{decodes_reliably, reads}
 use Rattle.der_core.proofs.length.LengthDecode.TheImpl.Goals as goal
 
