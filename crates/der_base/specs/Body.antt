@@ -1,5 +1,4 @@
--- The body of an indefinite length (X.690 8.1.3.6, 8.1.5). The laws name all of this. Each contract
--- on a length names `Body` too, through `LengthAhead`; none names `Items` and `Open` yet.
+-- The body of an indefinite length (X.690 8.1.3.6, 8.1.5).
 use Rattle.std.specs.Prelude.{ℕ, suc, ◌+◌, ◌^◌, ◌<◌, ◌≤◌, Bool, true, List, [], ◌∷◌, ◌++◌, length}
 use Rattle.der_base.specs.Length.{length_octets}
 use Rattle.der_base.specs.Tag.{IsIdentifier}
