@@ -1,7 +1,8 @@
 //! The constants of types, which no clause can name, and the functions that say the same.
-use super::month::{Month, Months};
+use super::month::Months;
 use super::*;
 use crate::checks::same;
+use der::example::MyByteMonth;
 use der::{FixedTag, IsConstructed};
 use std::process::Abort;
 
@@ -14,6 +15,6 @@ fn tags_agree<T: FixedTag>(rt: &impl Abort, tag: Tag, constructed: bool) {
 
 #[test]
 fn tags(rt: HostRuntime) {
-    tags_agree::<Month>(&rt, Tag::OctetString, false);
+    tags_agree::<MyByteMonth>(&rt, Tag::OctetString, false);
     tags_agree::<Months>(&rt, Tag::Sequence, true);
 }

@@ -1,7 +1,7 @@
 //! A writer that counts its writes, through which the generic calls run a second time.
 ghost use Rattle.std.specs.Prelude.{true, false, []};
 
-use super::month::Month;
+use super::month::september;
 use super::*;
 use crate::checks::same;
 use der::{Encode, EncodeValue, Writer, encode_tlv};
@@ -69,8 +69,8 @@ fn the_writes_of_a_long_tag(rt: HostRuntime) {
 }
 
 #[test]
-fn the_writes_of_an_element(rt: HostRuntime) {
-    let month = Month { number: 9 };
+fn the_writes_of_an_element(rt: HostRuntime) -> Result<(), Fail> {
+    let month = september()?;
     let mut counter = make_counter(rt.alloc());
     same(&rt, encode_tlv(&month, &mut counter), Ok(()));
     same(
@@ -81,4 +81,5 @@ fn the_writes_of_an_element(rt: HostRuntime) {
     same(&rt, counter.writes, 3);
     same(&rt, month.encode_value(&mut counter), Ok(()));
     same(&rt, counter.writes, 4);
+    Ok(())
 }

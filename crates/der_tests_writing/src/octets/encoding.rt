@@ -1,5 +1,5 @@
 //! Headers, lengths, tags and elements as octets.
-use super::month::Month;
+use super::month::september;
 use super::*;
 use crate::checks::{holds, same, same_at};
 use der::{Encode, SliceWriter, encode_tlv, encoded_len_tlv};
@@ -131,7 +131,7 @@ fn tags_of_more_octets(rt: HostRuntime) -> Result<(), Fail> {
 fn elements_as_octets(rt: HostRuntime) -> Result<(), Fail> {
     let mut buf = [0; 4];
     let mut writer = SliceWriter::new(&mut buf);
-    let month = Month { number: 9 };
+    let month = september()?;
     same(&rt, encode_tlv(&month, &mut writer), Ok(()));
     same(&rt, encoded_len_tlv(&month), Ok(Length::new(3)));
     same(&rt, writer.finish()?, [0x04, 0x01, 0x09].as_slice());

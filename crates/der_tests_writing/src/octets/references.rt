@@ -1,12 +1,12 @@
 //! References, which are encoded as what they refer to.
-use super::month::Month;
+use super::month::september;
 use super::*;
 use crate::checks::{holds, same};
 use der::{Encode, EncodeRef, EncodeValue, EncodeValueRef, Tagged, encode_value_to_slice};
 
 #[test]
 fn references_are_encoded_as_their_values(rt: HostRuntime) -> Result<(), Fail> {
-    let month = Month { number: 9 };
+    let month = september()?;
     let reference = EncodeRef(&month);
     same(&rt, *reference.as_ref(), month);
     same(&rt, reference.encoded_len(), Ok(Length::new(3)));
@@ -21,7 +21,7 @@ fn references_are_encoded_as_their_values(rt: HostRuntime) -> Result<(), Fail> {
 
 #[test]
 fn references_have_the_contents_of_their_values(rt: HostRuntime) -> Result<(), Fail> {
-    let month = Month { number: 9 };
+    let month = september()?;
     let reference = EncodeValueRef(&month);
     same(&rt, *reference.as_ref(), month);
     same(&rt, reference.tag(), Tag::OctetString);
@@ -42,8 +42,10 @@ fn references_have_the_contents_of_their_values(rt: HostRuntime) -> Result<(), F
 }
 
 #[test]
-fn contents_for_which_there_is_no_room(rt: HostRuntime) {
-    let refused = encode_value_to_slice(&mut [], &Month { number: 9 });
+fn contents_for_which_there_is_no_room(rt: HostRuntime) -> Result<(), Fail> {
+    let month = september()?;
+    let refused = encode_value_to_slice(&mut [], &month);
     let no_room = ErrorKind::Overlength.at(Length::ONE);
     holds(&rt, matches!(refused, Err(error) if error == no_room));
+    Ok(())
 }

@@ -1,5 +1,5 @@
 //! What a writer into a slice takes, and what it refuses.
-use super::month::Month;
+use super::month::september;
 use super::*;
 use crate::checks::{holds, same};
 use der::{Encode, SliceWriter, Writer, encode_value_to_slice};
@@ -119,7 +119,7 @@ fn what_stands_behind_is_left(rt: HostRuntime) -> Result<(), Fail> {
     let mut buf = [0xEE; 3];
     same(&rt, Tag::Null.encode_to_slice(&mut buf)?, [0x05].as_slice());
     same(&rt, buf.as_slice(), [0x05, 0xEE, 0xEE].as_slice());
-    let month = Month { number: 9 };
+    let month = september()?;
     same(
         &rt,
         encode_value_to_slice(&mut buf, &month)?,
