@@ -1,5 +1,5 @@
-//! The laws of the octets of tags, lengths, headers and bodies. Each function does nothing; its contract is
-//! a law, whose statement is a word of `specs/Laws.antt`. Nothing else uses these.
+//! The laws of the octets of tags, lengths, headers and bodies. Each function does nothing; its
+//! contract is a law, whose statement is a word of `specs/Laws.antt`. Nothing else uses these.
 ghost use Rattle.der_base.specs.Scan.{BodyFault};
 ghost use Rattle.der_base.specs.Header.{IdentifierAhead, TagAhead, LengthAhead, LengthFault, HeaderAhead, HeaderFault};
 ghost use Rattle.der_base.specs.Laws.{OneTagOfALabel, NoTagBeginsAnother, NoIdentifierBeginsAnother, NoLengthBeginsAnother, NoHeaderBeginsAnother, NoBodyBeginsAnother, NoBodyOutsideLevels, NoItemOutsideLevels, NoItemsOutsideLevels, NothingOpenOutsideLevels, BodiesAtEachLevel, BodiesHaveTwoOctets, IsGrammar, IsBodyFault};

@@ -4,8 +4,8 @@ use der::{ReaderExt, SliceReader};
 use der_uses::key_info::KeyInfo;
 use std::alloc::Global;
 
-/// Decodes keys, one behind the other, until the octets end, or an error. The sum of first octets is
-/// that of the months.
+/// Decodes keys, one behind the other, until the octets end, or an error. The sum of first octets
+/// is that of the months.
 #[unsafe(no_mangle)]
 pub extern "C" fn der_bench_decode(alloc: Global, bytes: &[u8]) -> Totals {
     let mut totals = Totals {

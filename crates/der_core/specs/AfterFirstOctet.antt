@@ -23,8 +23,8 @@ RefusesNumber s e t =
     → first % 32 ≡ 31
     → (r : Refusal) × IdentifierFault s.rules at (first ∷ rest s) r × Stops s r e t
 
--- the kind that a length not spelled as it has to be is told as: with the tag that it stands behind,
--- if it does
+-- the kind that a length not spelled as it has to be is told as: with the tag that it stands
+-- behind, if it does
 abbrev pub wrong_length_kind : Option Tag → ErrorKind
 wrong_length_kind None = Overlength
 wrong_length_kind (Some t) = IncorrectLength t
