@@ -1,7 +1,8 @@
 -- What is refused has a text.
-use Rattle.std.proofs.Common.{◌≡◌, ℕ, ◌+◌, ◌++◌, ◌^◌, ◌==◌, nat_lt, List, length, [], ◌∷◌, Option, Some, refl, inl, inr}
+use Rattle.std.proofs.Common.{◌≡◌, ℕ, ◌+◌, ◌-◌, min, ◌++◌, ◌^◌, ◌==◌, nat_lt, List, length, [], ◌∷◌, Option, Some, refl, inl, inr}
 use Rattle.std.proofs.lemmas.Bool.{cases_Bool}
-use Rattle.der_base.specs.Scan.{BodyFault}
+use Rattle.der_base.specs.Length.{length_octets}
+use Rattle.der_base.specs.Scan.{NoBodyFault, passed_steps, ScanFault, BodyFault}
 use Rattle.der_base.specs.Header.{Head, LengthFault, HeaderFault}
 use Rattle.der_base.specs.Tag.{IdentifierFault}
 use Rattle.der_base.specs.Error.{kind_of, position_of, Refusal, refusal, missing_refusal}
@@ -35,18 +36,41 @@ identifier_text {at = at} (IdentifierFault.refused [] o rest c n) =
     ]
 identifier_text (IdentifierFault.refused (first ∷ s) o rest c n) = (_, refl)
 
-length_text : {wrong : ErrorKind} {rules : EncodingRules} {at : ℕ} {s : List ℕ} {r : Refusal} → HasText (kind_text wrong) → LengthFault BodyFault wrong rules at s r
+-- what is read of a body may have any fault whose error prints
+abbrev BodyText : (ℕ → List ℕ → Refusal → Type 0) → Type 0
+BodyText Fault = (at : ℕ) (s : List ℕ) (r : Refusal) → Fault at s r → HasText (error_text r.error)
+
+length_text : {Fault : ℕ → List ℕ → Refusal → Type 0} {wrong : ErrorKind} {rules : EncodingRules} {at : ℕ} {s : List ℕ} {r : Refusal} → BodyText Fault → HasText (kind_text wrong) → LengthFault Fault wrong rules at s r
     → HasText (error_text r.error)
-length_text {at = at} t LengthFault.nothing = missing_printed (at + 1) at at
-length_text {at = at} t (LengthFault.few k ds a b) = missing_printed (at + 1 + length ds + 1) (at + 1 + length ds) (at + 1 + length ds)
-length_text {wrong} {at = at} t (LengthFault.far o rest a) = error_text_of_kind (refusal wrong (at + 1)).error t
-length_text {wrong} {at = at} t (LengthFault.longer k ds rest a b c d) = error_text_of_kind (refusal wrong (at + 1 + k)).error t
-length_text t (LengthFault.indefinite_form der rest) = (_, refl)
-length_text t (LengthFault.no_body ber rest f) = absurd f
+length_text {at = at} body t LengthFault.nothing = missing_printed (at + 1) at at
+length_text {at = at} body t (LengthFault.few k ds a b) = missing_printed (at + 1 + length ds + 1) (at + 1 + length ds) (at + 1 + length ds)
+length_text {wrong = wrong} {at = at} body t (LengthFault.far o rest a) = error_text_of_kind (refusal wrong (at + 1)).error t
+length_text {wrong = wrong} {at = at} body t (LengthFault.longer k ds rest a b c d) = error_text_of_kind (refusal wrong (at + 1 + k)).error t
+length_text body t (LengthFault.indefinite_form der rest) = (_, refl)
+length_text {at = at} body t (LengthFault.no_body {r = r} ber rest f) = body (at + 1) rest r f
+
+no_body_text : BodyText NoBodyFault
+no_body_text at s r f = absurd f
+
+scan_text : {level at : ℕ} {s : List ℕ} {r : Refusal} → ScanFault level at s r → HasText (error_text r.error)
+scan_text {at = at} ScanFault.nothing = missing_printed (at + 1) at at
+scan_text {at = at} ScanFault.half_mark = missing_printed (at + 1 + 1) (at + 1) (at + 1)
+scan_text (ScanFault.no_mark o rest ne) = (_, refl)
+scan_text {at = at} (ScanFault.refused_identifier s o rest ne c n) = identifier_text {at = at} (IdentifierFault.refused s o rest c n)
+scan_text {at = at} (ScanFault.cut_identifier o s c) = identifier_text {at = at} (IdentifierFault.cut (o ∷ s) c)
+scan_text (ScanFault.primitive rest d) = (_, refl)
+scan_text (ScanFault.too_deep rest deep d) = (_, refl)
+scan_text (ScanFault.no_length d f) = length_text no_body_text (_, refl) f
+scan_text {at = at} (ScanFault.short {id = id} n rest d small less) =
+    let there = at + length id + length (length_octets n) in
+    missing_printed (there + passed_steps (length rest) + min 16 (n - passed_steps (length rest))) (there + length rest) (there + passed_steps (length rest))
+
+body_text : BodyText BodyFault
+body_text at s r f = scan_text f.stops
 
 header_text : {rules : EncodingRules} {at : ℕ} {s : List ℕ} {r : Refusal} → HeaderFault BodyFault rules at s r → HasText (error_text r.error)
 header_text (HeaderFault.no_identifier f) = identifier_text f
-header_text (HeaderFault.no_length i f) = length_text (_, refl) f
+header_text (HeaderFault.no_length i f) = length_text body_text (_, refl) f
 header_text (HeaderFault.primitive i l f) = (_, refl)
 
 -- each error that a refused input is told as prints
