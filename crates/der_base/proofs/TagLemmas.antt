@@ -38,7 +38,7 @@ octet_parts l m i j = go l.constructed m.constructed l.class m.class i j
     go false true k l m n p q e = absurd (omega arith)
 
 -- labels of equal parts are equal
-same_parts : (l m : Label) → l.class ≡ m.class → l.constructed ≡ m.constructed → l.number ≡ m.number → l ≡ m
+pub same_parts : (l m : Label) → l.class ≡ m.class → l.constructed ≡ m.constructed → l.number ≡ m.number → l ≡ m
 same_parts l m a b c = ap (λ k. label_of k l.constructed l.number) a ∙ ap (λ k. label_of m.class k l.number) b ∙ ap (label_of m.class m.constructed) c
 
 -- no label's octets begin another's

@@ -99,10 +99,6 @@ ended_fine : {marked : Bool} (t q : ReaderState) (end depth : ℕ) → Behind ma
 ended_fine t q end depth (unmarked f e) w = sym (ap (λ (x : ReaderState). x.failed) e) ∙ w
 ended_fine t q end depth (behind_mark f e) w = e.working
 
-fine_ended : {marked : Bool} (t q : ReaderState) (end depth : ℕ) → Behind marked (resumed_state q end depth) t → q.failed ≡ false → t.failed ≡ false
-fine_ended t q end depth (unmarked f e) w = ap (λ (x : ReaderState). x.failed) e ∙ w
-fine_ended t q end depth (behind_mark f e) w = ap (λ (x : ReaderState). x.failed) e.leaves ∙ w
-
 -- an element that was read stands ahead
 module _ {P Q A E : Type 0} {post : P → Result A E → Q → Type 0} {before : P → ReaderState} {after : Q → ReaderState} (tag : Tag) (takes : A → EncodingRules → Head → List ℕ → Type 0)
     (s u t : ReaderState) (h : Header) where

@@ -7,6 +7,7 @@ use Rattle.der_base.specs.Header.{Head, HeaderAhead, header_octets}
 use Rattle.der_base.specs.declared.tag.Tag.{Tag}
 use Rattle.der_base.specs.declared.encoding_rules.EncodingRules.{EncodingRules}
 use Rattle.der_base.specs.declared.encoding_rules.EncodingRules.TheVariants.{Der}
+use Rattle.der_base.proofs.DigitLemmas.{same_length_front}
 use Rattle.der_base.proofs.HeaderLemmas.{header_front}
 use Rattle.der_core.specs.Decode.{Whole}
 use Rattle.der_core.specs.Element.{IsEndMark, contents_head, ElementAhead}
@@ -103,21 +104,12 @@ module _ {A : Type 0} {tag : Tag} {takes : A → EncodingRules → Head → List
         alone = λ v w more m e. let there = elements_are_encodings.only _ w m e in one v w more there.behind m there.split there.whole;
       }
     where
-      same_front : (x y p q : List ℕ) → length x ≡ length y → x ++ p ≡ y ++ q → x ≡ y
-      same_front [] [] p q e f = refl
-      same_front [] (b ∷ y) p q e f = absurd (omega (arith, e))
-      same_front (a ∷ x) [] p q e f = absurd (omega (arith, e))
-      same_front (a ∷ x) (b ∷ y) p q e f =
-          let heads : a ≡ b = cc in
-          let tails : x ++ p ≡ y ++ q = cc in
-          ap (λ i. i ∷ x) heads ∙ ap (λ i. b ∷ i) (same_front x y p q (omega (arith, e)) tails)
-
       one : (v w : A) (more behind : List ℕ) (m : ℕ) → element_octets tag (contents v) ++ more ≡ element_octets tag (contents w) ++ behind → m ≡ length (element_octets tag (contents w))
           → (contents w ≡ contents v) × (m ≡ length (element_octets tag (contents v)))
       one v w more behind m e whole =
           let r = header_front tag tag (length (contents v)) (length (contents w)) (contents v ++ more) (contents w ++ behind)
           (sym (append_assoc (header_octets tag (length (contents v))) (contents v) more) ∙ e ∙ append_assoc (header_octets tag (length (contents w))) (contents w) behind) in
-          let same : contents w ≡ contents v = sym (same_front (contents v) (contents w) more behind r.1 r.2) in
+          let same : contents w ≡ contents v = sym (same_length_front (contents v) (contents w) more behind r.1 r.2).0 in
           (same, whole ∙ ap (λ x. length (element_octets tag x)) same)
 
 -- octets are wholly a value exactly where they are its encoding

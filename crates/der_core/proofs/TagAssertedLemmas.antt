@@ -1,16 +1,13 @@
 -- Tags that were compared with the one that was expected.
 use Rattle.std.proofs.Common.{◌≡◌, ◌≢◌, ◌⊎◌, inl, inr, ⊎_elim, Bool, true, false, Result, Ok, Err, refl, sym, ap, ◌∙◌}
 use Rattle.std.proofs.lemmas.Bool.{cases_eq}
-use Rattle.der_base.specs.Tag.{Label, label_of, label}
+use Rattle.der_base.specs.Tag.{label}
 use Rattle.der_base.specs.Error.{unexpected_tag}
-use Rattle.der_base.proofs.TagLemmas.{same_label}
+use Rattle.der_base.proofs.TagLemmas.{same_parts, same_label}
 use Rattle.der_base.specs.declared.tag.Tag.{Tag}
 use Rattle.der_base.specs.declared.error.Error.{Error}
 
 -- one tag or another
-same_parts : (k l : Label) → k.class ≡ l.class → k.constructed ≡ l.constructed → k.number ≡ l.number → k ≡ l
-same_parts k l c b n = ap (λ x. label_of x k.constructed k.number) c ∙ ap (λ x. label_of l.class x k.number) b ∙ ap (λ x. label_of l.class l.constructed x) n
-
 bool_cases : (a b : Bool) → (a ≡ b) ⊎ (a ≢ b)
 bool_cases true true = inl refl
 bool_cases false false = inl refl
