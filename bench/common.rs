@@ -1,7 +1,4 @@
 //! What both measurements have in common.
-// Neither driver uses all of it.
-#![allow(dead_code)]
-
 use std::hint::black_box;
 use std::time::Instant;
 
@@ -17,8 +14,20 @@ pub struct Totals {
     pub first_octets: u64,
 }
 
+/// The contents behind the length ahead, and the octets behind them.
+#[inline(always)]
+pub fn split_contents(bytes: &[u8]) -> Option<(&[u8], &[u8])> {
+    let (&first, rest) = bytes.split_first()?;
+    let (len, rest) = if first < 0x80 {
+        (first as usize, rest)
+    } else {
+        long_length(first, rest)?
+    };
+    rest.split_at_checked(len)
+}
+
 /// The length behind its first octet, from 128 on, and the octets behind it.
-pub fn long_length(first: u8, bytes: &[u8]) -> Option<(usize, &[u8])> {
+fn long_length(first: u8, bytes: &[u8]) -> Option<(usize, &[u8])> {
     let count = (first & 0x7F) as usize;
     if !(1..=4).contains(&count) {
         return None;
@@ -50,17 +59,6 @@ impl Numbers {
     pub fn below(&mut self, bound: u64) -> u64 {
         self.next() % bound
     }
-}
-
-/// From 1 to 18 octets of contents: with their headers the elements have 11.5 octets on average.
-pub fn short_len(numbers: &mut Numbers) -> usize {
-    1 + numbers.below(18) as usize
-}
-
-/// From 1 to 65536 octets of contents, of every size from few to many.
-pub fn any_len(numbers: &mut Numbers) -> usize {
-    let bound = 1 << numbers.below(17);
-    1 + numbers.below(bound) as usize
 }
 
 pub fn push_length(out: &mut Vec<u8>, len: usize) {

@@ -3,7 +3,7 @@
 //! STRING and a month.
 mod common;
 
-use common::{INPUT_LEN, Numbers, Totals, long_length, measure, push_length};
+use common::{INPUT_LEN, Numbers, Totals, measure, push_length, split_contents};
 
 const SEQUENCE: u8 = 0x30;
 const OCTET_STRING: u8 = 0x04;
@@ -59,13 +59,7 @@ fn split_element(tag: u8, bytes: &[u8]) -> Option<(&[u8], &[u8])> {
     if identifier != tag {
         return None;
     }
-    let (&first, rest) = rest.split_first()?;
-    let (len, rest) = if first < 0x80 {
-        (first as usize, rest)
-    } else {
-        long_length(first, rest)?
-    };
-    rest.split_at_checked(len)
+    split_contents(rest)
 }
 
 fn push_element(out: &mut Vec<u8>, tag: u8, contents: &[u8]) {
