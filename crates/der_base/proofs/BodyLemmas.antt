@@ -1,5 +1,5 @@
 -- No item and no body begins another; all stand at levels 1 to 64.
-use Rattle.std.proofs.Common.{◌≡◌, ◌≢◌, ℕ, suc, ◌+◌, ◌≤◌, Bool, List, ◌∷◌, ◌++◌, length, refl, sym, ap, ◌∙◌, append_assoc, length-append, arith, lit≤}
+use Rattle.std.proofs.Common.{◌≡◌, ◌≢◌, ℕ, suc, ◌+◌, ◌≤◌, Bool, List, ◌∷◌, ◌++◌, length, refl, sym, ap, ◌∙◌, append_assoc}
 use Rattle.der_base.specs.Length.{length_octets}
 use Rattle.der_base.specs.Tag.{IsIdentifier}
 use Rattle.der_base.specs.Body.{Item, Body, Items, Open, definite, indefinite, ends, more, none, then_item, first, deeper}
@@ -26,11 +26,6 @@ items_level (then_item all i) = item_level i
 pub open_level : {level parts : ℕ} {octets : List ℕ} → Open level parts octets → (1 ≤ level) × (level ≤ 64)
 open_level (first all) = items_level all
 open_level (deeper p id all) = items_level all
-
--- a body ends with its end mark
-pub body_size : {level parts : ℕ} {body : List ℕ} → Body level parts body → 2 ≤ length body
-body_size (ends at) = lit≤ tt
-body_size (more {item = i} {body = b} h s) = omega (arith, length-append i b, body_size s)
 
 -- an item has octets, and the first is not 0
 pub item_begins : {level n : ℕ} {item : List ℕ} → Item level n item → (o : ℕ) × (rest : List ℕ) × (item ≡ o ∷ rest) × (o ≢ 0)

@@ -55,6 +55,10 @@ pub identifier_begins : {rules : EncodingRules} {a : List ℕ} {t : Tag} {c : Bo
 identifier_begins (of_tag {t = t} h) = let b = tag_begins t in (b.0, b.1, b.2, b.3)
 identifier_begins of_segments = (36, [], refl, λ z. cc)
 
+-- an identifier has octets
+pub identifier_some : {rules : EncodingRules} {a : List ℕ} {t : Tag} {c : Bool} → IsIdentifier rules a t c → 1 ≤ length a
+identifier_some d = let b = identifier_begins d in omega (arith, ap length b.2)
+
 -- no identifier begins another, and each says one tag and one bit
 pub identifier_front : {rules : EncodingRules} {a b : List ℕ} {t u : Tag} {c d : Bool} → IsIdentifier rules a t c → IsIdentifier rules b u d → (x y : List ℕ) → a ++ x ≡ b ++ y → (a ≡ b) × (t ≡ u) × (c ≡ d) × (x ≡ y)
 identifier_front {rules} {a} {b} {t} {u} {c} {d} h k x y e = go (identifier_view h) (identifier_view k)

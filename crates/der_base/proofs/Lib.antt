@@ -3,6 +3,7 @@ pub mod CompareLemmas
 pub mod CountLemmas
 pub mod DigitLemmas
 pub mod EqualityLemmas
+pub mod GrowthLemmas
 pub mod HeaderLemmas
 pub mod IdentifierLemmas
 pub mod LengthLemmas

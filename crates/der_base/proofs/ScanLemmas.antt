@@ -1,20 +1,22 @@
 -- Octets begin with no body where they have a fault, and have one fault at most.
 use Rattle.std.proofs.Common.{◌≡◌, ◌≢◌, ℕ, ◌+◌, ◌^◌, ◌<◌, ⊎_elim, Bool, true, false, List, [], ◌∷◌, ◌++◌, length, refl, sym, ap, ◌∙◌, subst, append_assoc, length-append, arith}
 use Rattle.std.proofs.lemmas.Bool.{cases_order}
-use Rattle.der_base.specs.Length.{length_octets}
+use Rattle.der_base.specs.Length.{length_octets, indefinite_length}
 use Rattle.der_base.specs.Tag.{IsIdentifier, IsCutIdentifier, IdentifierFault, cut, refused}
 use Rattle.der_base.specs.Body.{Body, ends, more, definite, indefinite}
 use Rattle.der_base.specs.Error.{Refusal, refusal, end_refusal}
 use Rattle.der_base.specs.Header.{LengthFault, nothing as no_octet, few, far, longer, indefinite_form, no_body}
-use Rattle.der_base.specs.Laws.{IsBodyFault}
-use Rattle.der_base.specs.Scan.{NoBodyFault, short_refusal, ScanFault, nothing, half_mark, no_mark, refused_identifier, cut_identifier, primitive, too_deep, no_length, short, BodyFault}
+use Rattle.der_base.specs.Laws.{IsBodyFault, IsGrammar}
+use Rattle.der_base.specs.Scan.{NoBodyFault, short_refusal, ScanFault, nothing, half_mark, no_mark, refused_identifier, cut_identifier, primitive, too_deep, no_length, short, BodyFault, BodyAhead}
+use Rattle.der_base.specs.declared.length.Length.{Length}
 use Rattle.der_base.specs.declared.tag.Tag.{Tag}
 use Rattle.der_base.specs.declared.error.ErrorKind.{ErrorKind}
 use Rattle.der_base.specs.declared.error.ErrorKind.TheVariants.{IndefiniteLength, NestingDepth, Length as IncorrectLength}
+use Rattle.der_base.specs.declared.encoding_rules.EncodingRules.{EncodingRules}
 use Rattle.der_base.specs.declared.encoding_rules.EncodingRules.TheVariants.{Ber}
 use Rattle.der_base.proofs.LengthLemmas.{length_front, length_definite, no_definite_fault, one_length_fault}
 use Rattle.der_base.proofs.IdentifierLemmas.{identifier_begins, identifier_front, no_identifier_fault, one_identifier_fault}
-use Rattle.der_base.proofs.BodyLemmas.{body_level}
+use Rattle.der_base.proofs.BodyLemmas.{body_level, body_front}
 use Rattle.der_base.proofs.OpenLemmas.{past_open, no_marks, Step, Path, marks, counted, opened, path_open, same_steps, longer_steps}
 
 -- a scan looks for no body
@@ -196,3 +198,18 @@ body_fault_laws =
       never_both = λ at parts body rest r b f.
           (let in_it = past_open f.left rest f.reached b (sym f.split) in no_body_shape in_it.rest (shape f.stops) in_it.is in_it.split);
     }
+
+-- the grammar of bodies, as a scan answers them
+pub body_grammar : IsGrammar BodyAhead (λ rules. BodyFault)
+body_grammar =
+    record {
+      one = λ rules octets v w m n h g. one h g;
+      one_fault = λ rules at octets r q f g. body_fault_laws.one_fault at octets r q f g;
+      never_both = λ rules at octets v m r h f. body_fault_laws.never_both at h.parts h.body h.behind r h.is_body (subst (λ s. BodyFault at s r) h.split f);
+    }
+  where
+    one : {rules : EncodingRules} {octets : List ℕ} {v w : Length} {m n : ℕ} → BodyAhead v rules octets m → BodyAhead w rules octets n → (v ≡ w) × (m ≡ n)
+    one h g =
+        let same = body_front h.is_body g.is_body h.behind g.behind (sym h.split ∙ g.split) in
+        let size = h.sized ∙ ap length same.0 ∙ sym g.sized in
+        (h.counts ∙ ap indefinite_length size ∙ sym g.counts, size)

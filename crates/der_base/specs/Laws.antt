@@ -1,5 +1,5 @@
 -- Laws of the octets of tags, lengths, headers and bodies. The crate proves each of them.
-use Rattle.std.specs.Prelude.{◌≡◌, ℕ, ◌≤◌, Bool, List, [], ◌∷◌, ◌++◌, length}
+use Rattle.std.specs.Prelude.{◌≡◌, ℕ, ◌*◌, ◌≤◌, Bool, List, [], ◌∷◌, ◌++◌, length}
 use Rattle.der_base.specs.Length.{length_octets}
 use Rattle.der_base.specs.Tag.{label, tag_octets, IsIdentifier}
 use Rattle.der_base.specs.Header.{header_octets}
@@ -87,7 +87,8 @@ NothingOpenOutsideLevels =
 abbrev pub BodiesAtEachLevel : Type 0
 BodiesAtEachLevel = (level : ℕ) → 1 ≤ level → level ≤ 64 → Body level 1 (0 ∷ 0 ∷ [])
 
--- a body ends with the two octets of its end mark
-abbrev pub BodiesHaveTwoOctets : Type 0
-BodiesHaveTwoOctets =
-    (level parts : ℕ) (body : List ℕ) → Body level parts body → 2 ≤ length body
+-- a body has an end mark at least, and each of its parts has two octets at least
+abbrev pub PartsHaveTwoOctets : Type 0
+PartsHaveTwoOctets =
+    (level parts : ℕ) (body : List ℕ) → Body level parts body
+    → (1 ≤ parts) × (2 * parts ≤ length body)

@@ -1,13 +1,29 @@
--- Where octets begin with no body of an indefinite length, and why (X.690 8.1.3.6, 8.1.5).
+-- What a scan finds: a body of an indefinite length, or why there is none (X.690 8.1.3.6, 8.1.5).
 use Rattle.std.specs.Prelude.{◌≡◌, ◌≢◌, ℕ, ◌+◌, ◌-◌, ◌*◌, ◌/◌, ◌^◌, ◌<◌, min, Bool, true, false, List, [], ◌∷◌, ◌++◌, length}
-use Rattle.der_base.specs.Length.{length_octets}
+use Rattle.der_base.specs.Length.{indefinite_length, length_octets}
 use Rattle.der_base.specs.Tag.{IsIdentifier, IsCutIdentifier, identifier_kind}
-use Rattle.der_base.specs.Body.{Open}
+use Rattle.der_base.specs.Body.{Body, Open}
 use Rattle.der_base.specs.Header.{LengthFault}
 use Rattle.der_base.specs.Error.{Refusal, refusal, end_refusal, missing_refusal}
+use Rattle.der_base.specs.declared.length.Length.{Length}
 use Rattle.der_base.specs.declared.tag.Tag.{Tag}
 use Rattle.der_base.specs.declared.error.ErrorKind.TheVariants.{IndefiniteLength, NestingDepth, Length as IncorrectLength}
+use Rattle.der_base.specs.declared.encoding_rules.EncodingRules.{EncodingRules}
 use Rattle.der_base.specs.declared.encoding_rules.EncodingRules.TheVariants.{Ber}
+
+-- octets begin with a body of so many identifiers and end marks
+abbrev pub PartsAhead : ℕ → List ℕ → Type 0
+PartsAhead parts octets = (body behind : List ℕ) × Body 1 parts body × (octets ≡ body ++ behind)
+
+-- the first m octets of a list are a body, which a length counts in the indefinite form
+pub record BodyAhead (l : Length) (rules : EncodingRules) (octets : List ℕ) (m : ℕ) : Type 0 where
+  pub parts : ℕ
+  pub body : List ℕ
+  pub behind : List ℕ
+  pub is_body : Body 1 parts body
+  pub split : octets ≡ body ++ behind
+  pub sized : m ≡ length body
+  pub counts : l ≡ indefinite_length m
 
 -- a scan reads lengths by itself, and looks for no body behind octet 80
 abbrev pub NoBodyFault : ℕ → List ℕ → Refusal → Type 0

@@ -1,8 +1,8 @@
 //! The laws of the octets of tags, lengths, headers and bodies. Each function does nothing; its
 //! contract is a law, whose statement is a word of `specs/Laws.antt`. Nothing else uses these.
-ghost use Rattle.der_base.specs.Scan.{BodyFault};
+ghost use Rattle.der_base.specs.Scan.{BodyAhead, BodyFault};
 ghost use Rattle.der_base.specs.Header.{IdentifierAhead, TagAhead, LengthAhead, LengthFault, HeaderAhead, HeaderFault};
-ghost use Rattle.der_base.specs.Laws.{OneTagOfALabel, NoTagBeginsAnother, NoIdentifierBeginsAnother, NoLengthBeginsAnother, NoHeaderBeginsAnother, NoBodyBeginsAnother, NoBodyOutsideLevels, NoItemOutsideLevels, NoItemsOutsideLevels, NothingOpenOutsideLevels, BodiesAtEachLevel, BodiesHaveTwoOctets, IsGrammar, IsBodyFault};
+ghost use Rattle.der_base.specs.Laws.{OneTagOfALabel, NoTagBeginsAnother, NoIdentifierBeginsAnother, NoLengthBeginsAnother, NoHeaderBeginsAnother, NoBodyBeginsAnother, NoBodyOutsideLevels, NoItemOutsideLevels, NoItemsOutsideLevels, NothingOpenOutsideLevels, BodiesAtEachLevel, PartsHaveTwoOctets, IsGrammar, IsBodyFault};
 ghost use Rattle.der_base.specs.Tag.{IdentifierFault};
 ghost use Rattle.der_base.specs.declared.error.ErrorKind.{ErrorKind};
 
@@ -46,6 +46,10 @@ fn headers_are_a_grammar()
     ensures { IsGrammar HeaderAhead (HeaderFault BodyFault) }
 {}
 
+fn bodies_are_a_grammar()
+    ensures { IsGrammar BodyAhead (λ rules. BodyFault) }
+{}
+
 fn body_faults_are_single()
     ensures { IsBodyFault BodyFault }
 {}
@@ -70,6 +74,6 @@ fn bodies_at_each_level()
     ensures { BodiesAtEachLevel }
 {}
 
-fn bodies_have_two_octets()
-    ensures { BodiesHaveTwoOctets }
+fn parts_have_two_octets()
+    ensures { PartsHaveTwoOctets }
 {}
