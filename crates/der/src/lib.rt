@@ -14,7 +14,8 @@ pub use der_base::{
 pub use der_core::{
     Decode, DecodeBytes, DecodeError, DecodeValue, Encode, EncodeRef, EncodeValue, EncodeValueRef,
     FixedTag, Header, IsConstructed, Lawful, Octets, Position, ReadValue, Reader, ReaderExt,
-    Resumption, SliceReader, SliceWriter, TagPeek, Tagged, Writer, WrittenValue, close_value,
-    decode_contents, decode_header, decode_length, decode_tlv, encode_tlv, encode_to_vec_in,
-    encode_value_to_slice, encoded_len_tlv, read_eoc, read_value, to_der_in,
+    Resumption, SliceReader, SliceWriter, TagPeek, Tagged, Turns, Writer, WrittenValue,
+    close_value, decode_contents, decode_header, decode_indefinite_length, decode_length,
+    decode_tlv, encode_tlv, encode_to_vec_in, encode_value_to_slice, encoded_len_tlv, read_eoc,
+    read_value, to_der_in,
 };

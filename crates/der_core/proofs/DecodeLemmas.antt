@@ -6,10 +6,9 @@ use Rattle.der_base.specs.Error.{at, Refusal}
 use Rattle.der_base.specs.declared.error.Error.{Error}
 use Rattle.der_base.specs.declared.error.ErrorKind.TheVariants.{Failed}
 use Rattle.der_base.specs.declared.encoding_rules.EncodingRules.{EncodingRules}
-use Rattle.der_base.specs.declared.encoding_rules.EncodingRules.TheVariants.{Ber, Der}
 use Rattle.der_core.specs.ReaderState.{ReaderState, rest, reader_position, advanced_state, initial_state, Same}
 use Rattle.der_core.specs.Reader.{remaining_answer}
-use Rattle.der_core.specs.Decode.{Passes, Decodes, Accepts, IsRefusedBy, has_failed, at_fault, IsSupported, ReadsOrLacks, grammar_levels, PartialAnswer, decoded}
+use Rattle.der_core.specs.Decode.{Passes, Decodes, Accepts, IsRefusedBy, has_failed, at_fault, ReadsOrLacks, grammar_levels, PartialAnswer, decoded}
 use Rattle.der_core.specs.Outcome.{IsBinding}
 use Rattle.der_base.specs.Laws.{IsGrammar}
 
@@ -38,17 +37,12 @@ pub read_on : {A : Type 0} (E : Type 0) (oom : E → Bool) {takes : Bool} (s : R
 read_on E oom s m v (inl h) = h.1
 read_on E oom s m v (inr h) = absurd h.1
 
--- headers are promised under DER alone
-pub supported : (rules : EncodingRules) (depth : ℕ) → depth + grammar_levels rules ≤ 64 → IsSupported rules
-supported Ber depth h = absurd (omega arith)
-supported Der depth h = refl
-
 module _ {A : Type 0} {Ahead : A → EncodingRules → List ℕ → ℕ → Type 0} {Fault : EncodingRules → ℕ → List ℕ → Refusal → Type 0} where
   -- a value that was read, and a refusal
   pub decoded_ok : {reliable : Bool} {s t : ReaderState} {v : A} → Same s t → Passes (Ahead v) s t → Decodes Ahead Fault reliable s (Ok v) t
-  decoded_ok same read = record { same = same; ok = read; refused = λ _ _. tt }
+  decoded_ok same read = record { same = same; ok = read; refused = λ _. tt }
 
-  pub decoded_err : {reliable : Bool} {s t : ReaderState} {e : Error} → Same s t → (reliable ≡ true → IsSupported s.rules → IsRefusedBy Fault s e t) → Decodes Ahead Fault reliable s (Err e) t
+  pub decoded_err : {reliable : Bool} {s t : ReaderState} {e : Error} → Same s t → (reliable ≡ true → IsRefusedBy Fault s e t) → Decodes Ahead Fault reliable s (Err e) t
   decoded_err same refused = record { same = same; ok = tt; refused = refused }
 
   -- what a reliable reader owes
@@ -57,7 +51,7 @@ module _ {A : Type 0} {Ahead : A → EncodingRules → List ℕ → ℕ → Type
 
   -- and what any reader owes that answered
   pub decodes_bound : {s t : ReaderState} (reliable : Bool) (answer : Result A Error) → IsBinding reliable answer → Decodes Ahead Fault reliable s answer t → Decodes Ahead Fault true s answer t
-  decodes_bound reliable (Ok v) owed h = record { same = h.same; ok = h.ok; refused = λ _ _. tt }
+  decodes_bound reliable (Ok v) owed h = record { same = h.same; ok = h.ok; refused = λ _. tt }
   decodes_bound reliable (Err e) owed h = decodes_reliably owed h
 
   -- what stands ahead is not refused
@@ -67,36 +61,36 @@ module _ {A : Type 0} {Ahead : A → EncodingRules → List ℕ → ℕ → Type
 
   -- what stands ahead is read
   pub accepts : IsGrammar Ahead Fault → Accepts Ahead Fault
-  accepts laws s t (Ok w) v m h supported working ahead =
+  accepts laws s t (Ok w) v m h working ahead =
       let one = laws.one s.rules (rest s) w v h.ok.octets m h.ok.ahead ahead in
       (ap Ok one.0, h.ok.leaves ∙ ap (advanced_state s) one.1)
-  accepts laws s t (Err e) v m h supported working ahead = absurd (not_refused laws (h.refused refl supported) working ahead)
+  accepts laws s t (Err e) v m h working ahead = absurd (not_refused laws (h.refused refl) working ahead)
 
   -- so what was promised is not lost
   pub reads : IsGrammar Ahead Fault → {reliable : Bool} {s t : ReaderState} {answer : Result A Error} (oom : Error → Bool) (takes : Bool) (v : A) (m : ℕ) → Decodes Ahead Fault reliable s answer t → reliable ≡ true → s.failed ≡ false
       → Ahead v s.rules (rest s) m → s.depth + grammar_levels s.rules ≤ 64 → ReadsOrLacks oom takes s m answer t
   reads laws {s = s} {t} {answer} oom takes v m h reliable working ahead levels =
-      let read = accepts laws s t answer v m (decodes_reliably reliable h) (supported s.rules s.depth levels) working ahead in
+      let read = accepts laws s t answer v m (decodes_reliably reliable h) working ahead in
       inl (ap is_ok read.0, read.1)
 
 pub rest-beginning : (rules : EncodingRules) (octets : List ℕ) → rest (initial_state rules octets) ≡ octets
 rest-beginning rules octets = let e : length octets - 0 ≡ length octets = omega arith in ap (λ n. take n octets) e ∙ take_all (length octets) octets (omega arith)
 
 -- what is promised of a reader at the beginning
-module _ {A E : Type 0} (heads : A → EncodingRules → List ℕ → ℕ → Type 0) (needs : EncodingRules → ℕ) (oom : E → Bool) (takes : Bool) where
-  pub promised : (octets : List ℕ) (s t : ReaderState) (v : A) (m : ℕ) (result : Result A E) → s ≡ initial_state Der octets → heads v Der octets m → needs Der ≤ 64
+module _ {A E : Type 0} (rules : EncodingRules) (heads : A → EncodingRules → List ℕ → ℕ → Type 0) (needs : EncodingRules → ℕ) (oom : E → Bool) (takes : Bool) where
+  pub promised : (octets : List ℕ) (s t : ReaderState) (v : A) (m : ℕ) (result : Result A E) → s ≡ initial_state rules octets → heads v rules octets m → needs rules ≤ 64
       → (s.failed ≡ false → heads v s.rules (rest s) m → s.depth + needs s.rules ≤ 64 → ReadsOrLacks oom takes s m result t) → ReadsOrLacks oom takes s m result t
   promised octets s t v m result e ahead levels complete =
       let working : s.failed ≡ false = ap (λ (x : ReaderState). x.failed) e in
-      let rules : s.rules ≡ Der = ap (λ (x : ReaderState). x.rules) e in
+      let same_rules : s.rules ≡ rules = ap (λ (x : ReaderState). x.rules) e in
       let depth : s.depth ≡ 0 = ap (λ (x : ReaderState). x.depth) e in
-      let left : rest s ≡ octets = ap rest e ∙ rest-beginning Der octets in
-      let there : heads v s.rules (rest s) m = subst (λ r. heads v r (rest s) m) (sym rules) (subst (λ l. heads v Der l m) (sym left) ahead) in
-      let few : s.depth + needs s.rules ≤ 64 = omega (arith, depth, ap needs rules) in
+      let left : rest s ≡ octets = ap rest e ∙ rest-beginning rules octets in
+      let there : heads v s.rules (rest s) m = subst (λ r. heads v r (rest s) m) (sym same_rules) (subst (λ l. heads v rules l m) (sym left) ahead) in
+      let few : s.depth + needs s.rules ≤ 64 = omega (arith, depth, ap needs same_rules) in
       complete working there few
 
   -- a value that was promised is not lost behind it
-  pub not_lost : (octets : List ℕ) (s t : ReaderState) (v w : A) (m : ℕ) (e : Error) → s ≡ initial_state Der octets → heads v Der octets m → needs Der ≤ 64
+  pub not_lost : (octets : List ℕ) (s t : ReaderState) (v w : A) (m : ℕ) (e : Error) → s ≡ initial_state rules octets → heads v rules octets m → needs rules ≤ 64
       → (s.failed ≡ false → heads v s.rules (rest s) m → s.depth + needs s.rules ≤ 64 → ReadsOrLacks oom takes s m (Ok w) t) → Err e ≡ remaining_answer t → ⊥
   not_lost octets s t v w m e begun ahead levels complete lost =
       let there : t ≡ advanced_state s m = read_on E oom s m w (promised octets s t v m (Ok w) begun ahead levels complete) in
@@ -105,21 +99,21 @@ module _ {A E : Type 0} (heads : A → EncodingRules → List ℕ → ℕ → Ty
       (let no : false ≡ true = sym working ∙ failed.0 in cc)
 
 -- the first step that fails, or none
-module _ {A E : Type 0} (answers : ReaderState → Result A E → ReaderState → Type 0) (converts : Error → E → Type 0) (octets : List ℕ) (s t : ReaderState) where
-  at_beginning : {a : Result A E} → s ≡ initial_state Der octets → answers s a t → answers (initial_state Der octets) a t
+module _ {A E : Type 0} (rules : EncodingRules) (answers : ReaderState → Result A E → ReaderState → Type 0) (converts : Error → E → Type 0) (octets : List ℕ) (s t : ReaderState) where
+  at_beginning : {a : Result A E} → s ≡ initial_state rules octets → answers s a t → answers (initial_state rules octets) a t
   at_beginning {a} e h = subst (λ x. answers x a t) e h
 
-  pub partial_err : (e : E) → length octets < 2 ^ 32 → s ≡ initial_state Der octets → answers s (Err e) t → PartialAnswer answers converts octets (Err e)
+  pub partial_err : (e : E) → length octets < 2 ^ 32 → s ≡ initial_state rules octets → answers s (Err e) t → PartialAnswer rules answers converts octets (Err e)
   partial_err e small begun h = decoded (Err e) t small (at_beginning begun h) refl
 
-  pub partial_lost : (v : A) (e : Error) (f : E) → length octets < 2 ^ 32 → s ≡ initial_state Der octets → answers s (Ok v) t → Err e ≡ remaining_answer t → converts e f
-      → PartialAnswer answers converts octets (Err f)
+  pub partial_lost : (v : A) (e : Error) (f : E) → length octets < 2 ^ 32 → s ≡ initial_state rules octets → answers s (Ok v) t → Err e ≡ remaining_answer t → converts e f
+      → PartialAnswer rules answers converts octets (Err f)
   partial_lost v e f small begun h lost told =
       let failed = remaining_err t e lost in
       decoded (Ok v) t small (at_beginning begun h) (inr (failed.0, subst (λ x. converts x f) failed.1 told))
 
-  pub partial_ok : (v : A) (left : List ℕ) → length octets < 2 ^ 32 → s ≡ initial_state Der octets → answers s (Ok v) t → Ok left ≡ remaining_answer t
-      → PartialAnswer answers converts octets (Ok (v, left))
+  pub partial_ok : (v : A) (left : List ℕ) → length octets < 2 ^ 32 → s ≡ initial_state rules octets → answers s (Ok v) t → Ok left ≡ remaining_answer t
+      → PartialAnswer rules answers converts octets (Ok (v, left))
   partial_ok v left small begun h is =
       let there = remaining_ok t left is in
       decoded (Ok v) t small (at_beginning begun h) (inl (there.0, ap (λ l. Ok (v, l)) there.1))

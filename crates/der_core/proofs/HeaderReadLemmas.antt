@@ -1,20 +1,19 @@
 -- Headers, by their tag and their length.
 use Rattle.std.proofs.Common.{◌≡◌, ℕ, ◌+◌, ◌⊎◌, Bool, true, false, List, ◌++◌, length, sym, ap, ◌∙◌, subst, inl, inr, length-append, arith}
-use Rattle.der_base.specs.Length.{is_indefinite}
+use Rattle.der_base.specs.Error.{at as error_at, refusal}
+use Rattle.der_base.specs.Length.{definite_length, is_indefinite}
 use Rattle.der_base.specs.Tag.{IsIdentifier, IdentifierFault}
 use Rattle.der_base.specs.Scan.{BodyFault}
-use Rattle.der_base.specs.Header.{Head, head, IdentifierAhead, LengthAhead, HeaderAhead, header, LengthFault, HeaderFault, no_identifier, no_length}
+use Rattle.der_base.specs.Header.{Head, head, IdentifierAhead, LengthAhead, HeaderAhead, header, LengthFault, HeaderFault, no_identifier, no_length, primitive}
 use Rattle.der_base.specs.Laws.{IsGrammar}
 use Rattle.der_base.specs.declared.length.Length.{Length}
 use Rattle.der_base.specs.declared.tag.Tag.{Tag}
 use Rattle.der_base.specs.declared.error.Error.{Error}
 use Rattle.der_base.specs.declared.error.ErrorKind.{ErrorKind}
-use Rattle.der_base.specs.declared.error.ErrorKind.TheVariants.{Length as IncorrectLength}
-use Rattle.der_base.specs.declared.encoding_rules.EncodingRules.{EncodingRules}
-use Rattle.der_base.specs.declared.encoding_rules.EncodingRules.TheVariants.{Der}
-use Rattle.der_base.proofs.HeaderLemmas.{IdentifierView, identifier_view_of, identifier_view, length_definite_form, header_grammar}
+use Rattle.der_base.specs.declared.error.ErrorKind.TheVariants.{IndefiniteLength, Length as IncorrectLength}
+use Rattle.der_base.proofs.HeaderLemmas.{IdentifierView, identifier_view_of, identifier_view, header_grammar}
 use Rattle.der_base.proofs.ScanLemmas.{body_fault_laws}
-use Rattle.der_core.specs.ReaderState.{ReaderState, rest, advanced_state, Reads}
+use Rattle.der_core.specs.ReaderState.{ReaderState, rest, reader_position, advanced_state, stopped_state, Reads}
 use Rattle.der_core.specs.AfterFirstOctet.{Stops}
 use Rattle.der_core.specs.Decode.{Passes, IsRefusedBy, at_fault, has_failed}
 use Rattle.der_core.specs.Header.{head_of, IsHeaderAhead}
@@ -77,16 +76,19 @@ pub bit_of_flag : {b c d : Bool} → b ≡ c → ((b ≡ true) × (d ≡ true)) 
 bit_of_flag e (inl h) f = h.1
 bit_of_flag e (inr h) f = absurd (let no : false ≡ true = sym h ∙ e ∙ f in cc)
 
--- under DER no length is indefinite
-pub not_flagged : {a b t : ReaderState} {x : Tag} {bit : Bool} {l : Length} → Passes (IdentifierAhead (x, bit)) a b
-    → Passes (LengthAhead l) b t → a.rules ≡ Der → is_indefinite l ≡ true → ⊥
-not_flagged {l = l} h g der f =
+-- an indefinite length behind a primitive identifier
+pub header_primitive : {a b c t : ReaderState} {x : Tag} {bit : Bool} {l : Length} {e : Error} → Passes (IdentifierAhead (x, bit)) a b → bit ≡ false
+    → Passes (LengthAhead l) b c → is_indefinite l ≡ true → e ≡ error_at IndefiniteLength (reader_position c) → t ≡ stopped_state c c.position → IsRefusedBy (HeaderFault BodyFault) a e t
+header_primitive {a} {b} {c} {t} {x} {bit} {l} {e} h primitive_bit g flag told leaves =
     let id = identifier_read h in
-    let no : is_indefinite l ≡ false = length_definite_form (rules_on id.reads ∙ der) g.ahead in
-    (let w : true ≡ false = sym f ∙ no in cc)
-
-pub rules_after : {Ahead : EncodingRules → List ℕ → ℕ → Type 0} {a b : ReaderState} → Passes Ahead a b → b.rules ≡ a.rules
-rules_after h = ap (λ (s : ReaderState). s.rules) h.leaves
+    let m = g.octets in
+    let is : IsIdentifier a.rules id.octets x false = subst (IsIdentifier a.rules id.octets x) primitive_bit id.is_identifier in
+    let behind : LengthAhead l a.rules (rest b) m = subst (λ rules. LengthAhead l rules (rest b) m) (rules_on id.reads) g.ahead in
+    let here : c.position ≡ a.position + length id.octets + m = omega (arith, ap (λ (s : ReaderState). s.position) g.leaves, position_on id.reads) in
+    let there : c ≡ record a { position = a.position + length id.octets + m } = g.leaves ∙ ap (λ s. advanced_state s m) id.reads.state in
+    at_fault (refusal IndefiniteLength (a.position + length id.octets + m)) h.working
+    (subst (λ s. HeaderFault BodyFault a.rules a.position s (refusal IndefiniteLength (a.position + length id.octets + m))) (sym id.reads.split) (primitive is behind flag))
+    (told ∙ ap (λ n. error_at IndefiniteLength (definite_length n)) here) (leaves ∙ ap (λ s. stopped_state s s.position) there)
 
 -- two headers that say the same are the same
 header_saying : Head → Header

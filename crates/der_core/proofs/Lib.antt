@@ -4,6 +4,8 @@ pub mod LengthReadLemmas
 pub mod EncodeLemmas
 pub mod WriterLemmas
 pub mod HeaderReadLemmas
+pub mod TurnLemmas
+pub mod ScanReadLemmas
 pub mod DecodeLemmas
 pub mod WholeLemmas
 pub mod NestedLemmas

@@ -1,5 +1,5 @@
 -- Tags, octet by octet.
-use Rattle.std.proofs.Common.{◌≡◌, ℕ, ◌+◌, ◌*◌, ◌/◌, ◌%◌, ◌^◌, bit_and, ◌<◌, ◌≤◌, ◌⊎◌, Bool, false, Some, None, List, [], ◌∷◌, ◌++◌, length, refl, sym, ap, ◌∙◌, subst, ⊎_elim, inl, append-nil, length-append, arith}
+use Rattle.std.proofs.Common.{◌≡◌, ◌≢◌, ℕ, ◌+◌, ◌*◌, ◌/◌, ◌%◌, ◌^◌, bit_and, ◌<◌, ◌≤◌, ◌⊎◌, Bool, true, false, IsTrue, ◌↔◌, Result, Ok, Err, IfOk, IfErr, Some, None, List, [], ◌∷◌, ◌++◌, length, refl, sym, ap, ◌∙◌, subst, ⊎_elim, append-nil, length-append, arith}
 use Rattle.std.specs.Int.Bits.{and_zero_r}
 use Rattle.std.proofs.lemmas.Nat.{and_mask, and_block, shr_split}
 use Rattle.der_base.specs.Length.{digits}
@@ -7,16 +7,19 @@ use Rattle.der_base.specs.Error.{at as error_at, Refusal, refusal, end_refusal}
 use Rattle.der_base.specs.Tag.{universal_tag, other_tag, is_constructed, continuation_octets, IsIdentifier, IdentifierFault, identifier_kind}
 use Rattle.der_base.specs.Header.{IdentifierAhead, identifier}
 use Rattle.der_base.specs.declared.tag.Tag.{Tag}
+use Rattle.der_base.specs.declared.tag.Tag.TheVariants.{OctetString}
 use Rattle.der_base.specs.declared.error.Error.{Error}
 use Rattle.der_base.specs.declared.error.ErrorKind.TheVariants.{TagNumberInvalid}
-use Rattle.der_base.specs.declared.encoding_rules.EncodingRules.TheVariants.{Der}
+use Rattle.der_base.specs.declared.encoding_rules.EncodingRules.{EncodingRules}
+use Rattle.der_base.specs.declared.encoding_rules.EncodingRules.TheVariants.{Ber, Der}
 use Rattle.der_base.proofs.LongNumberLemmas.{SoFar, so_far_none as none_so_far, so_far_more, number_found as found, number_cut, number_refused_first, number_refused_few, number_refused_many}
-use Rattle.der_base.proofs.IdentifierLemmas.{identifier_at, universal_identifier, short_identifier, long_identifier, fault_nothing, fault_universal}
+use Rattle.der_base.proofs.IdentifierLemmas.{identifier_at, segments_identifier, universal_identifier, short_identifier, long_identifier, fault_nothing, fault_universal}
 use Rattle.der_base.proofs.TagLemmas.{universal_constructed}
-use Rattle.der_core.specs.ReaderState.{ReaderState, rest, reader_position, stopped_state, Reads}
-use Rattle.der_core.specs.Decode.{Passes, IsRefusedBy, at_fault, has_failed}
-use Rattle.der_core.specs.AfterFirstOctet.{RefusesNumber, Stops}
-use Rattle.der_core.proofs.StateLemmas.{reads_none, reads_on, position_on, rules_on, stops_on, error_stops, ByteRefused, byte_failed, byte_cut}
+use Rattle.der_core.specs.ReaderState.{ReaderState, rest, reader_position, stopped_state, Same, Reads}
+use Rattle.der_core.specs.Decode.{Passes, Decodes, IsRefusedBy, at_fault, has_failed}
+use Rattle.der_core.specs.AfterFirstOctet.{RefusesIdentifier, RefusesNumber, Stops}
+use Rattle.der_core.proofs.DecodeLemmas.{decoded_ok, decoded_err}
+use Rattle.der_core.proofs.StateLemmas.{reads_none, reads_on, position_on, failed_on, rules_on, stops_on, same_trans, error_stops, ByteRefused, byte_failed, byte_cut}
 
 pub bit_six : (o : ℕ) → bit_and o 32 ≡ o / 32 % 2 * 32
 bit_six o =
@@ -78,58 +81,76 @@ pub refused_many : {a b c t : ReaderState} {v p : ℕ} {e : Error} → NumberSoF
 refused_many {c = c} {v = v} {p = p} h g l m many told leaves at o here working low high all =
     number_refuses at o h.1 g here (number_refused_many at o v p h.0 (rest c) low high all h.2 l m many) told leaves
 
+-- which rules they are
+pub is_ber : {b : Bool} {rules : EncodingRules} → IsTrue b ↔ (rules ≡ Ber) → b ≡ true → rules ≡ Ber
+is_ber h e = h.0 e
+
+pub not_ber : {b : Bool} {rules : EncodingRules} → IsTrue b ↔ (rules ≡ Ber) → b ≡ false → rules ≡ Der
+not_ber {rules = Der} h e = refl
+not_ber {rules = Ber} h e = absurd (let no : false ≡ true = sym e ∙ h.1 refl in cc)
+
 -- a tag was read
-pub passed_tag : {a t : ReaderState} {id : List ℕ} {x : Tag} {b : Bool} → a.failed ≡ false → Reads a t id → IsIdentifier a.rules id x b
-    → Passes (IdentifierAhead (x, b)) a t
-passed_tag {a} {t} {id} {x} {b} working h is =
+passed_tag : {a t : ReaderState} {id : List ℕ} {x : Tag × Bool} → a.failed ≡ false → Reads a t id → IsIdentifier a.rules id x.0 x.1
+    → Passes (IdentifierAhead x) a t
+passed_tag {a} {t} {id} {x} working h is =
     record {
       octets = length id;
       working = working;
-      ahead = subst (λ l. IdentifierAhead (x, b) a.rules l (length id)) (sym h.split) (identifier (rest t) is);
+      ahead = subst (λ l. IdentifierAhead x a.rules l (length id)) (sym h.split) (identifier (rest t) is);
       there = omega (arith, ap length h.split, length-append id (rest t));
       leaves = h.state;
     }
 
--- the bit that was told
-with_bit : {a t : ReaderState} {x : Tag} {b c : Bool} → b ≡ c → Passes (IdentifierAhead (x, c)) a t → Passes (IdentifierAhead (x, b)) a t
-with_bit {a} {t} {x} e h = subst (λ y. Passes (IdentifierAhead (x, y)) a t) (sym e) h
+-- an identifier behind its first octet
+abbrev pub FoundBehind : ℕ → ReaderState → Tag → Bool → ReaderState → Type 0
+FoundBehind o s x b t = (l : List ℕ) × IsIdentifier s.rules (o ∷ l) x b × Reads s t l
 
-pub passed_universal : {a t : ReaderState} {o : ℕ} {x : Tag} {b : Bool} → a.failed ≡ false → Reads a t (o ∷ []) → Some x ≡ universal_tag o → b ≡ is_constructed o
-    → Passes (IdentifierAhead (x, b)) a t
-passed_universal {o = o} {x = x} working h e bit =
-    with_bit bit (passed_tag working h (identifier_at refl (universal_constructed o x (sym e)) (universal_identifier o x (sym e))))
+with_bit : {o : ℕ} {s t : ReaderState} {x : Tag} {b c : Bool} → b ≡ c → FoundBehind o s x c t → FoundBehind o s x b t
+with_bit {o} {s} {t} {x} e h = subst (λ y. FoundBehind o s x y t) (sym e) h
 
-pub passed_short : {a t : ReaderState} {o : ℕ} {x : Tag} {b : Bool} → a.failed ≡ false → Reads a t (o ∷ []) → 64 ≤ o → o < 256 → o % 32 < 31 → x ≡ other_tag o (o % 32) → b ≡ is_constructed o
-    → Passes (IdentifierAhead (x, b)) a t
-passed_short {a} {o = o} working h low high few e bit =
-    with_bit bit (passed_tag working h (subst (λ y. IsIdentifier a.rules (o ∷ []) y (is_constructed o)) (sym e) (short_identifier o low high few)))
+pub found_universal : (s : ReaderState) (o : ℕ) {x : Tag} {b : Bool} → Some x ≡ universal_tag o → b ≡ is_constructed o → FoundBehind o s x b s
+found_universal s o {x} e bit =
+    with_bit bit ([], identifier_at refl (universal_constructed o x (sym e)) (universal_identifier o x (sym e)), reads_none s)
 
-pub passed_long : {a b t : ReaderState} {o n : ℕ} {x : Tag} {c : Bool} → a.failed ≡ false → Reads a b (o ∷ []) → Reads b t (continuation_octets (digits 128 n)) → 64 ≤ o → o < 256
-    → o % 32 ≡ 31 → 31 ≤ n → n < 2 ^ 32 → x ≡ other_tag o n → c ≡ is_constructed o → Passes (IdentifierAhead (x, c)) a t
-passed_long {a} {o = o} {n = n} working h g low high all large small e bit =
-    with_bit bit
-    (passed_tag working (reads_on h g) (subst (λ y. IsIdentifier a.rules (o ∷ continuation_octets (digits 128 n)) y (is_constructed o)) (sym e) (long_identifier o n low high all large small)))
+pub found_segments : (s : ReaderState) (o : ℕ) → o ≡ 36 → s.rules ≡ Ber → FoundBehind o s OctetString true s
+found_segments s o is ber = ([], subst (λ rules. IsIdentifier rules (o ∷ []) OctetString true) (sym ber) (segments_identifier o is), reads_none s)
 
--- a tag is refused
-under_der : {a t : ReaderState} {e : Error} {r : Refusal} → a.rules ≡ Der → a.failed ≡ false → IdentifierFault Der a.position (rest a) r → Stops a r e t
-    → IsRefusedBy IdentifierFault a e t
-under_der {a} {r = r} der working fault stops = at_fault r working (subst (λ rules. IdentifierFault rules a.position (rest a) r) (sym der) fault) stops.told stops.leaves
+pub found_short : (s : ReaderState) (o : ℕ) {x : Tag} {b : Bool} → 64 ≤ o → o < 256 → o % 32 < 31 → x ≡ other_tag o (o % 32) → b ≡ is_constructed o → FoundBehind o s x b s
+found_short s o low high few e bit =
+    with_bit bit ([], subst (λ y. IsIdentifier s.rules (o ∷ []) y (is_constructed o)) (sym e) (short_identifier o low high few), reads_none s)
 
-pub tag_ends : {a t : ReaderState} {e : Error} → a.rules ≡ Der → ByteRefused a e t → IsRefusedBy IdentifierFault a e t
-tag_ends der (byte_failed f told leaves) = has_failed f told leaves
-tag_ends {a} der (byte_cut working none stops) =
-    under_der der working (subst (λ l. IdentifierFault Der a.position l (end_refusal a.position)) (sym none) (fault_nothing a.position)) stops
+pub found_long : {s t : ReaderState} (o : ℕ) {n : ℕ} {x : Tag} {b : Bool} → Reads s t (continuation_octets (digits 128 n)) → 64 ≤ o → o < 256 → o % 32 ≡ 31 → 31 ≤ n → n < 2 ^ 32
+    → x ≡ other_tag o n → b ≡ is_constructed o → FoundBehind o s x b t
+found_long {s} o {n} g low high all large small e bit =
+    with_bit bit (continuation_octets (digits 128 n), subst (λ y. IsIdentifier s.rules (o ∷ continuation_octets (digits 128 n)) y (is_constructed o)) (sym e) (long_identifier o n low high all large small), g)
 
-pub tag_unknown : {a b t : ReaderState} {o : ℕ} {e : Error} → a.rules ≡ Der → a.failed ≡ false → Reads a b (o ∷ []) → o < 64 → universal_tag o ≡ None
-    → e ≡ error_at (identifier_kind [] o) (reader_position b) → t ≡ stopped_state b b.position → IsRefusedBy IdentifierFault a e t
-tag_unknown {a} {b} {t} {o} {e} der working h low none told leaves =
-    let fault : IdentifierFault Der a.position (o ∷ rest b) (refusal (identifier_kind [] o) (a.position + 1)) = fault_universal a.position o (rest b) low none (inl refl) in
-    under_der der working (subst (λ l. IdentifierFault Der a.position l (refusal (identifier_kind [] o) (a.position + 1))) (sym h.split) fault)
-    (subst (λ n. Stops a (refusal (identifier_kind [] o) n) e t) (position_on h) (stops_on h (error_stops b t (identifier_kind [] o) e told leaves)))
+-- an octet begins no identifier
+pub refused_unknown : {s t : ReaderState} {o : ℕ} {e : Error} → o < 64 → universal_tag o ≡ None → (s.rules ≡ Der) ⊎ (o ≢ 36)
+    → e ≡ error_at (identifier_kind [] o) (reader_position s) → t ≡ stopped_state s s.position → RefusesIdentifier o s e t
+refused_unknown {s} {t} {o} {e} low none other told leaves at here working = (
+  refusal (identifier_kind [] o) (at + 1),
+  fault_universal at o (rest s) low none other,
+  subst (λ n. Stops s (refusal (identifier_kind [] o) n) e t) here (error_stops s t (identifier_kind [] o) e told leaves),
+)
 
-pub tag_number_refused : {a b t : ReaderState} {o : ℕ} {e : Error} → a.failed ≡ false → Reads a b (o ∷ []) → b.failed ≡ false → 64 ≤ o → o < 256
-    → o % 32 ≡ 31 → RefusesNumber b e t → IsRefusedBy IdentifierFault a e t
-tag_number_refused {a} {b} {t} {o} {e} working h w low high all n =
-    let r = n a.position o (position_on h) w low high all in
+-- the refusals of a tag
+tag_ends : {a t : ReaderState} {e : Error} → ByteRefused a e t → IsRefusedBy IdentifierFault a e t
+tag_ends (byte_failed f told leaves) = has_failed f told leaves
+tag_ends {a} (byte_cut working none stops) =
+    at_fault (end_refusal a.position) working (subst (λ l. IdentifierFault a.rules a.position l (end_refusal a.position)) (sym none) (fault_nothing a.position)) stops.told stops.leaves
+
+behind_refused : {a b t : ReaderState} {o : ℕ} {e : Error} → a.failed ≡ false → Reads a b (o ∷ []) → RefusesIdentifier o b e t → IsRefusedBy IdentifierFault a e t
+behind_refused {a} {b} {t} {o} {e} working h n =
+    let r = n a.position (position_on h) (failed_on h ∙ working) in
     let fault : IdentifierFault a.rules a.position (o ∷ rest b) r.0 = subst (λ rules. IdentifierFault rules a.position (o ∷ rest b) r.0) (rules_on h) r.1 in
     at_fault r.0 working (subst (λ l. IdentifierFault a.rules a.position l r.0) (sym h.split) fault) (stops_on h r.2).told (stops_on h r.2).leaves
+
+-- so a tag is decoded
+pub tag_cut : {reliable : Bool} {a t : ReaderState} {e : Error} → Same a t → (reliable ≡ true → ByteRefused a e t) → Decodes IdentifierAhead IdentifierFault reliable a (Err e) t
+tag_cut same refused = decoded_err same (λ reliable. tag_ends (refused reliable))
+
+pub tag_behind : {reliable : Bool} {a b t : ReaderState} {o : ℕ} (result : Result (Tag × Bool) Error) → a.failed ≡ false → Reads a b (o ∷ []) → Same a b → Same b t
+    → IfOk result (λ x. FoundBehind o b x.0 x.1 t) → (reliable ≡ true → IfErr result (λ e. RefusesIdentifier o b e t)) → Decodes IdentifierAhead IdentifierFault reliable a result t
+tag_behind {o = o} (Ok x) working h p q found refused =
+    decoded_ok (same_trans p q) (passed_tag working (reads_on h found.2) (subst (λ rules. IsIdentifier rules (o ∷ found.0) x.0 x.1) (rules_on h) found.1))
+tag_behind (Err e) working h p q found refused = decoded_err (same_trans p q) (λ reliable. behind_refused working h (refused reliable))

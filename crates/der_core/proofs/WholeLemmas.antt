@@ -6,7 +6,6 @@ use Rattle.der_base.specs.Length.{definite_length}
 use Rattle.der_base.specs.declared.error.Error.{Error}
 use Rattle.der_base.specs.declared.error.ErrorKind.TheVariants.{Failed, TrailingData}
 use Rattle.der_base.specs.declared.encoding_rules.EncodingRules.{EncodingRules}
-use Rattle.der_base.specs.declared.encoding_rules.EncodingRules.TheVariants.{Der}
 use Rattle.der_core.specs.ReaderState.{ReaderState, rest, reader_position, advanced_state, initial_state}
 use Rattle.der_core.specs.Reader.{finish_answer}
 use Rattle.der_core.specs.Decode.{Passes, Whole, WholeAnswer, decoded}
@@ -25,17 +24,17 @@ pub finishes : (t : ReaderState) → t.failed ≡ false → t.end ≤ t.position
 finishes t f l = rw f (rw (le-ltb t.position t.end l) refl)
 
 -- all the octets
-module _ (octets : List ℕ) (s t : ReaderState) (begun : s ≡ initial_state Der octets) where
+module _ (rules : EncodingRules) (octets : List ℕ) (s t : ReaderState) (begun : s ≡ initial_state rules octets) where
   pub wholly : {A : Type 0} (heads : A → EncodingRules → List ℕ → ℕ → Type 0) (v : A) → (s.failed ≡ false → t.failed ≡ false → Passes (heads v) s t) → finish_answer t ≡ Ok tt
-      → Whole (heads v) Der octets
+      → Whole (heads v) rules octets
   wholly {A} heads v ok finished =
       let f = finish_ok t finished in
       let passed = ok (ap (λ (x : ReaderState). x.failed) begun) f.0 in
-      let left : rest s ≡ octets = ap rest begun ∙ rest-beginning Der octets in
-      let here : heads v Der octets passed.octets = subst (λ l. heads v Der l passed.octets) left (subst (λ r. heads v r (rest s) passed.octets) (ap (λ (x : ReaderState). x.rules) begun) passed.ahead) in
+      let left : rest s ≡ octets = ap rest begun ∙ rest-beginning rules octets in
+      let here : heads v rules octets passed.octets = subst (λ l. heads v rules l passed.octets) left (subst (λ r. heads v r (rest s) passed.octets) (ap (λ (x : ReaderState). x.rules) begun) passed.ahead) in
       let all : passed.octets ≡ length octets =
       omega (arith, f.1, passed.there, ap length left, ap (λ (x : ReaderState). x.position) passed.leaves, ap (λ (x : ReaderState). x.end) passed.leaves, ap (λ (x : ReaderState). x.position) begun, ap (λ (x : ReaderState). x.end) begun) in
-      subst (heads v Der octets) all here
+      subst (heads v rules octets) all here
 
   pub whole_finishes : t ≡ advanced_state s (length octets) → finish_answer t ≡ Ok tt
   whole_finishes there =
@@ -44,14 +43,14 @@ module _ (octets : List ℕ) (s t : ReaderState) (begun : s ≡ initial_state De
 
   -- the first step that fails, or none
   module _ {A E : Type 0} (answers : ReaderState → Result A E → ReaderState → Type 0) (converts : Error → E → Type 0) where
-    from_beginning : {a : Result A E} → answers s a t → answers (initial_state Der octets) a t
+    from_beginning : {a : Result A E} → answers s a t → answers (initial_state rules octets) a t
     from_beginning {a} h = subst (λ x. answers x a t) begun h
 
-    pub whole_err : (e : E) → length octets < 2 ^ 32 → answers s (Err e) t → WholeAnswer answers converts octets (Err e)
+    pub whole_err : (e : E) → length octets < 2 ^ 32 → answers s (Err e) t → WholeAnswer rules answers converts octets (Err e)
     whole_err e small h = decoded (Err e) t small (from_beginning h) refl
 
-    pub whole_left : (v : A) (e : Error) (f : E) → length octets < 2 ^ 32 → answers s (Ok v) t → Err e ≡ finish_answer t → converts e f → WholeAnswer answers converts octets (Err f)
+    pub whole_left : (v : A) (e : Error) (f : E) → length octets < 2 ^ 32 → answers s (Ok v) t → Err e ≡ finish_answer t → converts e f → WholeAnswer rules answers converts octets (Err f)
     whole_left v e f small h left told = decoded (Ok v) t small (from_beginning h) (inr (e, sym left, told))
 
-    pub whole_ok : (v : A) → length octets < 2 ^ 32 → answers s (Ok v) t → finish_answer t ≡ Ok tt → WholeAnswer answers converts octets (Ok v)
+    pub whole_ok : (v : A) → length octets < 2 ^ 32 → answers s (Ok v) t → finish_answer t ≡ Ok tt → WholeAnswer rules answers converts octets (Ok v)
     whole_ok v small h finished = decoded (Ok v) t small (from_beginning h) (inl (finished, refl))

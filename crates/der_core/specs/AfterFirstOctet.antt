@@ -2,14 +2,15 @@
 use Rattle.std.specs.Prelude.{◌≡◌, ℕ, ◌+◌, ◌%◌, ◌<◌, ◌≤◌, false, Option, Some, None, ◌∷◌}
 use Rattle.der_base.specs.Error.{Refusal}
 use Rattle.der_base.specs.Tag.{IdentifierFault}
-use Rattle.der_base.specs.Scan.{BodyFault}
+use Rattle.der_base.specs.Scan.{NoBodyFault, BodyAhead, BodyFault}
 use Rattle.der_base.specs.Header.{LengthFault}
 use Rattle.der_base.specs.declared.error.Error.{Error}
 use Rattle.der_base.specs.declared.error.ErrorKind.{ErrorKind}
 use Rattle.der_base.specs.declared.error.ErrorKind.TheVariants.{Overlength, Length as IncorrectLength}
+use Rattle.der_base.specs.declared.encoding_rules.EncodingRules.TheVariants.{Ber}
+use Rattle.der_base.specs.declared.length.Length.{Length}
 use Rattle.der_base.specs.declared.tag.Tag.{Tag}
 use Rattle.der_core.specs.ReaderState.{ReaderState, rest, state_after}
-use Rattle.der_core.specs.Decode.{IsSupported}
 
 -- a refusal is told as its error, and leaves the reader so
 pub record Stops (s : ReaderState) (r : Refusal) (e : Error) (t : ReaderState) : Type 0 where
@@ -23,14 +24,34 @@ RefusesNumber s e t =
     → first % 32 ≡ 31
     → (r : Refusal) × IdentifierFault s.rules at (first ∷ rest s) r × Stops s r e t
 
+-- an identifier, behind this first octet
+abbrev pub RefusesIdentifier : ℕ → ReaderState → Error → ReaderState → Type 0
+RefusesIdentifier first s e t =
+    (at : ℕ) → s.position ≡ at + 1 → s.failed ≡ false
+    → (r : Refusal) × IdentifierFault s.rules at (first ∷ rest s) r × Stops s r e t
+
 -- the kind that a length not spelled as it has to be is told as: with the tag that it stands
 -- behind, if it does
 abbrev pub wrong_length_kind : Option Tag → ErrorKind
 wrong_length_kind None = Overlength
 wrong_length_kind (Some t) = IncorrectLength t
 
--- a length, behind this first octet; one that is not spelled as it has to be is told as this kind
+-- a definite length, behind this first octet; one that is not spelled as it has to be is told as
+-- this kind
 abbrev pub RefusesLongLength : ErrorKind → ℕ → ReaderState → Error → ReaderState → Type 0
 RefusesLongLength wrong first s e t =
-    (at : ℕ) → IsSupported s.rules → s.position ≡ at + 1 → s.failed ≡ false
-    → (r : Refusal) × LengthFault BodyFault wrong s.rules at (first ∷ rest s) r × Stops s r e t
+    (at : ℕ) → s.position ≡ at + 1 → s.failed ≡ false
+    → (r : Refusal) × LengthFault NoBodyFault wrong s.rules at (first ∷ rest s) r × Stops s r e t
+
+-- the indefinite form, behind its octet: a body stands ahead, and the reader stays
+pub record IsIndefiniteForm (l : Length) (s t : ReaderState) : Type 0 where
+  pub octets : ℕ
+  pub under_ber : s.rules ≡ Ber
+  pub ahead : BodyAhead l s.rules (rest s) octets
+  pub leaves : t ≡ s
+
+-- and its refusal there
+abbrev pub RefusesIndefinite : ReaderState → Error → ReaderState → Type 0
+RefusesIndefinite s e t =
+    (wrong : ErrorKind) (at : ℕ) → s.position ≡ at + 1 → s.failed ≡ false
+    → (r : Refusal) × LengthFault BodyFault wrong s.rules at (128 ∷ rest s) r × Stops s r e t

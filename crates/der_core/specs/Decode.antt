@@ -10,7 +10,6 @@ use Rattle.der_base.specs.declared.error.Error.{Error}
 use Rattle.der_base.specs.declared.error.ErrorKind.{ErrorKind}
 use Rattle.der_base.specs.declared.error.ErrorKind.TheVariants.{Failed, Overflow, OutOfMemory}
 use Rattle.der_base.specs.declared.encoding_rules.EncodingRules.{EncodingRules}
-use Rattle.der_base.specs.declared.encoding_rules.EncodingRules.TheVariants.{Ber, Der}
 use Rattle.der_core.specs.ReaderState.{ReaderState, initial_state, rest, reader_position, advanced_state, stopped_state, state_after, Same}
 use Rattle.der_core.specs.Outcome.{Gives}
 use Rattle.der_core.specs.Reader.{finish_answer, tlv_outcome}
@@ -21,10 +20,6 @@ use Rattle.der_core.specs.declared.header.Header.{Header}
 abbrev pub is_out_of_memory_kind : ErrorKind → Bool
 is_out_of_memory_kind OutOfMemory = true
 is_out_of_memory_kind _ = false
-
--- the rules that tags, lengths and headers are read by: under BER they are not read yet
-abbrev pub IsSupported : EncodingRules → Type 0
-IsSupported rules = rules ≡ Der
 
 -- the first octets of the rest are this, and the reader has passed them
 pub record Passes (Ahead : EncodingRules → List ℕ → ℕ → Type 0) (s t : ReaderState) : Type 0 where
@@ -49,7 +44,7 @@ pub record Decodes {A : Type 0} (Ahead : A → EncodingRules → List ℕ → �
     (answer : Result A Error) (t : ReaderState) : Type 0 where
   pub same : Same s t
   pub ok : IfOk answer (λ v. Passes (Ahead v) s t)
-  pub refused : reliable ≡ true → IsSupported s.rules → IfErr answer (λ e. IsRefusedBy Fault s e t)
+  pub refused : reliable ≡ true → IfErr answer (λ e. IsRefusedBy Fault s e t)
 
 -- a peek tells what decoding would answer; the reader stays
 abbrev pub Peeks : {A : Type 0} → (A → EncodingRules → List ℕ → ℕ → Type 0)
@@ -61,14 +56,18 @@ abbrev pub Accepts : {A : Type 0} → (A → EncodingRules → List ℕ → ℕ 
     → (EncodingRules → ℕ → List ℕ → Refusal → Type 0) → Type 0
 Accepts {A} Ahead Fault =
     (s t : ReaderState) (answer : Result A Error) (v : A) (m : ℕ)
-    → Decodes Ahead Fault true s answer t → IsSupported s.rules → s.failed ≡ false
+    → Decodes Ahead Fault true s answer t → s.failed ≡ false
     → Ahead v s.rules (rest s) m → (answer ≡ Ok v) × (t ≡ advanced_state s m)
 
--- how many levels of nesting a header wants: under BER more than any reader has, since octet 24 and
--- indefinite lengths are not read yet, so nothing is promised there
+-- how many levels of nesting tags, lengths and headers want: none, since a body is scanned without
+-- entering it
 abbrev pub grammar_levels : EncodingRules → ℕ
-grammar_levels Ber = 65
-grammar_levels Der = 0
+grammar_levels rules = 0
+
+-- a decoder succeeds, or it takes memory and was refused it
+abbrev pub SucceedsOrLacks : {A E : Type 0} → (E → Bool) → Bool → Result A E → Type 0
+SucceedsOrLacks out_of_memory takes_memory result =
+    IsOk result ⊎ ((takes_memory ≡ true) × IsErrAnd result (λ e. out_of_memory e ≡ true))
 
 -- a decoder succeeds and passes m octets, or it takes memory and was refused it
 abbrev pub ReadsOrLacks : {A E : Type 0}
@@ -78,15 +77,15 @@ ReadsOrLacks out_of_memory takes_memory s m result t =
     ⊎ ((takes_memory ≡ true) × IsErrAnd result (λ e. out_of_memory e ≡ true))
 
 -- a value of octets: too many of them are an overflow; else what follows the decoder's answer
-pub data BytesAnswer {A B E : Type 0}
+pub data BytesAnswer {A B E : Type 0} (rules : EncodingRules)
     (answers : ReaderState → Result A E → ReaderState → Type 0) (converts : Error → E → Type 0)
     (Follows : Result A E → ReaderState → Result B E → Type 0) (octets : List ℕ)
     (result : Result B E) : Type 0 where
   too_long : 2 ^ 32 ≤ length octets → IsErrAnd result (λ e. converts (error_of_kind Overflow) e)
-      → BytesAnswer answers converts Follows octets result
+      → BytesAnswer rules answers converts Follows octets result
   decoded : (answer : Result A E) (t : ReaderState) → length octets < 2 ^ 32
-      → answers (initial_state Der octets) answer t → Follows answer t result
-      → BytesAnswer answers converts Follows octets result
+      → answers (initial_state rules octets) answer t → Follows answer t result
+      → BytesAnswer rules answers converts Follows octets result
 
 -- what follows the answer of a decoder at the front: its error, or the value with the rest of a
 -- reader that is not failed
@@ -107,13 +106,15 @@ WholeThen converts (Ok v) t result =
     ⊎ ((e : Error) × (finish_answer t ≡ Err e) × IsErrAnd result (λ f. converts e f))
 
 -- a value at the front of octets, and one of all the octets
-abbrev pub PartialAnswer : {A E : Type 0} → (ReaderState → Result A E → ReaderState → Type 0)
+abbrev pub PartialAnswer : {A E : Type 0} → EncodingRules
+    → (ReaderState → Result A E → ReaderState → Type 0)
     → (Error → E → Type 0) → List ℕ → Result (A × List ℕ) E → Type 0
-PartialAnswer answers converts = BytesAnswer answers converts (PartialThen converts)
+PartialAnswer rules answers converts = BytesAnswer rules answers converts (PartialThen converts)
 
-abbrev pub WholeAnswer : {A E : Type 0} → (ReaderState → Result A E → ReaderState → Type 0)
+abbrev pub WholeAnswer : {A E : Type 0} → EncodingRules
+    → (ReaderState → Result A E → ReaderState → Type 0)
     → (Error → E → Type 0) → List ℕ → Result A E → Type 0
-WholeAnswer answers converts = BytesAnswer answers converts (WholeThen converts)
+WholeAnswer rules answers converts = BytesAnswer rules answers converts (WholeThen converts)
 
 -- octets are wholly what stands ahead in them
 abbrev pub Whole : (EncodingRules → List ℕ → ℕ → Type 0) → EncodingRules → List ℕ → Type 0

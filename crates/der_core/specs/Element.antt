@@ -9,7 +9,7 @@ use Rattle.der_base.specs.declared.tag.Tag.{Tag}
 use Rattle.der_base.specs.declared.error.Error.{Error}
 use Rattle.der_base.specs.declared.encoding_rules.EncodingRules.{EncodingRules}
 use Rattle.der_core.specs.ReaderState.{ReaderState}
-use Rattle.der_core.specs.Decode.{Passes, Decodes, grammar_levels}
+use Rattle.der_core.specs.Decode.{Passes, Decodes}
 use Rattle.der_core.specs.Header.{head_of, IsHeaderAhead}
 use Rattle.der_core.specs.Nested.{ValueAnswers}
 use Rattle.der_core.specs.declared.header.Header.{Header}
@@ -40,10 +40,9 @@ pub record ElementAhead {A : Type 0} (tag : Tag)
   pub whole : m ≡ header + (length contents + length mark)
   pub taken : takes v rules (contents_head says) contents
 
--- how many levels of nesting an element wants: those of its header, its own, and those of its
--- contents
+-- how many levels of nesting an element wants: its own, and those of its contents
 abbrev pub element_levels : (EncodingRules → ℕ) → EncodingRules → ℕ
-element_levels levels rules = grammar_levels rules + (1 + levels rules)
+element_levels levels rules = 1 + levels rules
 
 -- an element is read: its header, its tag, and its contents by a closure
 pub data ElementReadBy {P Q T E : Type 0} (tag : Tag) (converts : Error → E → Type 0)

@@ -10,6 +10,8 @@ pub mod Nested
 pub mod Position
 pub mod DecodeValue
 pub mod Element
+pub mod Scan
+pub mod Turn
 pub mod Boxed
 pub mod Writer
 pub mod SliceWriter

@@ -4,10 +4,10 @@ ghost use Rattle.std.proofs.Common.{ap};
 ghost use Rattle.der_base.specs.Error.{kind_of};
 ghost use Rattle.der_base.specs.declared.error.Error.{Error as AnError};
 ghost use Rattle.der_base.specs.declared.encoding_rules.EncodingRules.{EncodingRules as Rules};
-ghost use Rattle.der_base.specs.declared.encoding_rules.EncodingRules.TheVariants.{Der};
+ghost use Rattle.der_base.specs.declared.encoding_rules.EncodingRules.TheVariants.{Ber, Der};
 ghost use Rattle.der_core.specs.ReaderState.{ReaderState, rest, Same};
 ghost use Rattle.der_core.specs.Outcome.{map_ok};
-ghost use Rattle.der_core.specs.Decode.{is_out_of_memory_kind, Passes, ReadsOrLacks, PartialAnswer, Whole, WholeAnswer};
+ghost use Rattle.der_core.specs.Decode.{is_out_of_memory_kind, Passes, ReadsOrLacks, SucceedsOrLacks, PartialAnswer, Whole, WholeAnswer};
 
 mod boxed;
 mod fields;
@@ -16,7 +16,7 @@ mod phantom;
 mod value;
 
 use crate::reader::{Reader, SliceReader};
-use der_base::{Error, ErrorKind};
+use der_base::{EncodingRules, Error, ErrorKind};
 pub use fields::decode_contents;
 pub use lawful::Lawful;
 use std::alloc::Global;
@@ -115,14 +115,32 @@ pub trait DecodeBytes<'a>: Decode<SliceReader<'a>> {
         ensures ok { IfOk result (λ v. Whole (Self.heads v) Der bytes.now) }
         ensures complete { (v : Self) → length bytes.now < 2 ^ 32
             → Whole (Self.heads v) Der bytes.now → Self.needs Der ≤ 64
-            → IsOk result ⊎ ((Self.takes_memory ≡ true)
-            × IsErrAnd result (λ e. Self.Error.out_of_memory e ≡ true)) }
-        ensures exact { WholeAnswer Self.answers Self.Error.from_gives bytes.now result }
+            → SucceedsOrLacks Self.Error.out_of_memory Self.takes_memory result }
+        ensures exact { WholeAnswer Der Self.answers Self.Error.from_gives bytes.now result }
     {
-        let mut reader = SliceReader::new(bytes)?;
-        let value = Self::decode(alloc, &mut reader)?;
-        reader.finish()?;
-        Ok(value)
+        decode_whole(alloc, bytes, EncodingRules::Der)
+    }
+
+    /// The value that these octets are under the Basic Encoding Rules, all of them.
+    ///
+    /// # Errors
+    ///
+    /// - `Overflow` without a position, where there are more than 4294967295 octets.
+    /// - Those of the type, as by [`Decode::decode`] at the beginning of the octets.
+    /// - `Failed` at the reader's position, where the type answers a value and leaves its reader
+    ///   failed.
+    /// - `TrailingData` at the reader's position, where octets are left behind the value.
+    final fn from_ber(
+        alloc: Global,
+        bytes: &'a [u8],
+    ) -> Result<Self, <Self as Decode<SliceReader<'a>>>::Error>
+        ensures ok { IfOk result (λ v. Whole (Self.heads v) Ber bytes.now) }
+        ensures complete { (v : Self) → length bytes.now < 2 ^ 32
+            → Whole (Self.heads v) Ber bytes.now → Self.needs Ber ≤ 64
+            → SucceedsOrLacks Self.Error.out_of_memory Self.takes_memory result }
+        ensures exact { WholeAnswer Ber Self.answers Self.Error.from_gives bytes.now result }
+    {
+        decode_whole(alloc, bytes, EncodingRules::Ber)
     }
 
     /// The value at the front of the octets under the Distinguished Encoding Rules, and the octets
@@ -142,9 +160,8 @@ pub trait DecodeBytes<'a>: Decode<SliceReader<'a>> {
             × (m ≤ length bytes.now) × (p.1.now ≡ drop m bytes.now)) }
         ensures complete { (v : Self) (m : ℕ) → length bytes.now < 2 ^ 32
             → Self.heads v Der bytes.now m → Self.needs Der ≤ 64
-            → IsOk result ⊎ ((Self.takes_memory ≡ true)
-            × IsErrAnd result (λ e. Self.Error.out_of_memory e ≡ true)) }
-        ensures exact { PartialAnswer Self.answers Self.Error.from_gives bytes.now
+            → SucceedsOrLacks Self.Error.out_of_memory Self.takes_memory result }
+        ensures exact { PartialAnswer Der Self.answers Self.Error.from_gives bytes.now
             (map_ok (λ p. (p.0, p.1.now)) result) }
     {
         let mut reader = SliceReader::new(bytes)?;
@@ -155,3 +172,21 @@ pub trait DecodeBytes<'a>: Decode<SliceReader<'a>> {
 }
 
 impl<'a, T: Decode<SliceReader<'a>>> DecodeBytes<'a> for T {}
+
+// The value that these octets are under these rules, all of them.
+fn decode_whole<'a, T: Decode<SliceReader<'a>>>(
+    alloc: Global,
+    bytes: &'a [u8],
+    encoding_rules: EncodingRules,
+) -> Result<T, <T as Decode<SliceReader<'a>>>::Error>
+    ensures ok { IfOk result (λ v. Whole (T.heads v) encoding_rules bytes.now) }
+    ensures complete { (v : T) → length bytes.now < 2 ^ 32
+        → Whole (T.heads v) encoding_rules bytes.now → T.needs encoding_rules ≤ 64
+        → SucceedsOrLacks T.Error.out_of_memory T.takes_memory result }
+    ensures exact { WholeAnswer encoding_rules T.answers T.Error.from_gives bytes.now result }
+{
+    let mut reader = SliceReader::new_with_encoding_rules(bytes, encoding_rules)?;
+    let value = T::decode(alloc, &mut reader)?;
+    reader.finish()?;
+    Ok(value)
+}

@@ -120,12 +120,15 @@ impl<R: Reader> Decode<R> for Header {
 
     ghost answers = { Decodes IsHeaderAhead (HeaderFault BodyFault) true };
 
-    /// Decodes a header (X.690 8.1.2, 8.1.3, 10.1).
+    /// Decodes a header (X.690 8.1.2, 8.1.3, 10.1). Under the Basic Encoding Rules octet 24 is an
+    /// identifier too, and octet 80 a length behind a constructed one: it counts the octets of the
+    /// body ahead, with the end mark that closes it, and the reader stays behind octet 80 (X.690
+    /// 8.1.3.6).
     ///
     /// # Errors
     ///
-    /// After all but `Failed` and `Overflow` the reader stands at the error's position and has
-    /// failed. Under the Basic Encoding Rules nothing is promised of a refusal.
+    /// After all but `Failed`, `Overflow` and those of a scan the reader stands at the error's
+    /// position and has failed.
     ///
     /// - `Failed` at the position, where the reader had failed; it is unchanged.
     /// - `Overflow` without a position, where an octet is missing at position 4294967295; the
@@ -134,7 +137,12 @@ impl<R: Reader> Decode<R> for Header {
     /// - `TagUnknown` with the octet, behind a first octet that begins no tag.
     /// - `TagNumberInvalid` behind octet 1F where it is the first, or behind an octet with which no
     ///   tag number goes on (X.690 8.1.2.4).
-    /// - `IndefiniteLength` behind an octet 80 where the length begins.
+    /// - `IndefiniteLength` behind an octet 80 where the length begins, under the Distinguished
+    ///   Encoding Rules; under the Basic Encoding Rules where the identifier is primitive and a body
+    ///   stands ahead.
+    /// - Those of the scan behind octet 80, as by
+    ///   [`decode_indefinite_length`](crate::decode_indefinite_length), under the Basic Encoding
+    ///   Rules; the reader stands behind octet 80 and has not failed.
     /// - `Length` with the tag, behind the length's octets where fewer would do, or behind the
     ///   first of them where it announces more than four.
     #[inline(always)]

@@ -4,21 +4,25 @@ ghost use Rattle.der_base.specs.Scan.{BodyFault};
 ghost use Rattle.der_base.specs.Length.{number, definite_length, length_octets};
 ghost use Rattle.der_base.specs.Header.{LengthAhead, LengthFault};
 ghost use Rattle.der_base.specs.declared.error.ErrorKind.TheVariants.{Overlength};
-ghost use Rattle.der_core.specs.AfterFirstOctet.{RefusesLongLength, wrong_length_kind};
+ghost use Rattle.der_core.specs.AfterFirstOctet.{IsIndefiniteForm, RefusesIndefinite, RefusesLongLength, wrong_length_kind};
 ghost use Rattle.der_core.specs.Decode.{Decodes, grammar_levels};
 ghost use Rattle.der_core.specs.Encode.{length_outcome};
 ghost use Rattle.der_core.specs.ReaderState.{Same, Reads};
 ghost use Rattle.der_core.specs.Writer.{Writes};
 
+pub mod indefinite;
+pub mod turns;
+
 use crate::decode::Decode;
 use crate::encode::Encode;
+use crate::length::indefinite::scan_uncounted;
 use crate::reader::{Reader, ReaderExt};
 use crate::writer::Writer;
 use der_base::{Error, ErrorKind, Length, Tag};
 use std::alloc::Global;
 
 // the octet of the indefinite form
-const INDEFINITE: u8 = 0x80;
+pub(crate) const INDEFINITE: u8 = 0x80;
 
 /// Decodes a length (X.690 8.1.3, 10.1), as [`Length::decode`] does, without an allocator.
 ///
@@ -47,15 +51,37 @@ pub(crate) fn decode_length_behind<R: Reader>(
     if first < INDEFINITE {
         return Ok(Length::new(first as u32));
     }
+    if first == INDEFINITE {
+        return decode_indefinite_form(reader);
+    }
     let number = decode_long_length(reader, first, tag)?;
     Ok(Length::new(number))
 }
 
-// The rest of a length behind a first octet from 80 on: so many octets in base 256, the fewest
+// The length behind octet 80: under the Basic Encoding Rules it counts the body ahead, which is
+// not passed (X.690 8.1.3.6).
+#[cold]
+fn decode_indefinite_form<R: Reader>(reader: &mut R) -> Result<Length, Error>
+    ensures same { Same (R.state reader.old) (R.state reader.new) }
+    ensures ok { IfOk result (λ l. IsIndefiniteForm l (R.state reader.old) (R.state reader.new)) }
+    ensures exact { R.reliable ≡ true
+        → IfErr result (λ e. RefusesIndefinite (R.state reader.old) e (R.state reader.new)) }
+{
+    if reader.encoding_rules().is_der() {
+        return Err(reader.error(ErrorKind::IndefiniteLength));
+    }
+    scan_uncounted(reader)
+}
+
+// The rest of a length behind a first octet from 81 on: so many octets in base 256, the fewest
 // possible.
 #[inline]
-fn decode_long_length<R: Reader>(reader: &mut R, first: u8, tag: Option<Tag>) -> Result<u32, Error>
-    requires { 128 ≤ first }
+pub(crate) fn decode_long_length<R: Reader>(
+    reader: &mut R,
+    first: u8,
+    tag: Option<Tag>,
+) -> Result<u32, Error>
+    requires { 128 < first }
     ensures same { Same (R.state reader.old) (R.state reader.new) }
     ensures ok { IfOk result (λ n. (l : List ℕ) × (length_octets n ≡ first ∷ l)
         × Reads (R.state reader.old) (R.state reader.new) l × (n < 2 ^ 32)) }
@@ -63,9 +89,6 @@ fn decode_long_length<R: Reader>(reader: &mut R, first: u8, tag: Option<Tag>) ->
         → IfErr result (λ e. RefusesLongLength (wrong_length_kind tag) first
         (R.state reader.old) e (R.state reader.new)) }
 {
-    if first == INDEFINITE {
-        return Err(reader.error(ErrorKind::IndefiniteLength));
-    }
     if first > 0x84 {
         return Err(reader.error(wrong_length(tag)));
     }
@@ -116,18 +139,23 @@ impl<R: Reader> Decode<R> for Length {
 
     ghost answers = { Decodes LengthAhead (LengthFault BodyFault Overlength) true };
 
-    /// Decodes a length (X.690 8.1.3, 10.1).
+    /// Decodes a length (X.690 8.1.3, 10.1). Under the Basic Encoding Rules octet 80 is one too: it
+    /// counts the octets of the body ahead, with the end mark that closes it, and the reader stays
+    /// behind octet 80 (X.690 8.1.3.6).
     ///
     /// # Errors
     ///
-    /// After all but `Failed` and `Overflow` the reader stands at the error's position and has
-    /// failed. Under the Basic Encoding Rules nothing is promised of a refusal.
+    /// After all but `Failed`, `Overflow` and those of a scan the reader stands at the error's
+    /// position and has failed.
     ///
     /// - `Failed` at the position, where the reader had failed; it is unchanged.
     /// - `Overflow` without a position, where an octet is missing at position 4294967295; the
     ///   reader stands there and has not failed.
     /// - `Incomplete` at the end, where an octet is missing at any other position.
-    /// - `IndefiniteLength` behind octet 80 where it is the first.
+    /// - `IndefiniteLength` behind octet 80 where it is the first, under the Distinguished Encoding
+    ///   Rules.
+    /// - Those of the scan behind octet 80, as by [`decode_indefinite_length`], under the Basic
+    ///   Encoding Rules; the reader stands behind octet 80 and has not failed.
     /// - `Overlength` behind the length's octets where fewer would do, or behind the first of them
     ///   where it announces more than four.
     #[inline(always)]

@@ -26,6 +26,8 @@ pub use encode::{
 pub use encode_ref::{EncodeRef, EncodeValueRef};
 pub use header::{Header, decode_header};
 pub use length::decode_length;
+pub use length::indefinite::decode_indefinite_length;
+pub use length::turns::Turns;
 pub use reader::{
     Octets, Position, Reader, ReaderExt, Resumption, SliceReader, close_value, read_eoc, read_value,
 };

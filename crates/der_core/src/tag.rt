@@ -1,9 +1,9 @@
 //! Tags.
-ghost use Rattle.std.specs.Prelude.{◌≡◌, ◌^◌, ◌<◌, ◌≤◌, true, false, [], length, Ok, IfOk, IfErr};
+ghost use Rattle.std.specs.Prelude.{◌≡◌, ℕ, ◌^◌, ◌<◌, ◌≤◌, true, false, List, [], ◌∷◌, length, Ok, IfOk, IfErr};
 ghost use Rattle.der_base.specs.Length.{definite_length, digits};
-ghost use Rattle.der_base.specs.Tag.{label, leading_octet, tag_octets, continuation_octets, universal_tag, other_tag, is_constructed, IdentifierFault, identifier_kind};
+ghost use Rattle.der_base.specs.Tag.{label, leading_octet, tag_octets, continuation_octets, universal_tag, other_tag, is_constructed, IsIdentifier, IdentifierFault, identifier_kind};
 ghost use Rattle.der_base.specs.Header.{IdentifierAhead, TagAhead};
-ghost use Rattle.der_core.specs.AfterFirstOctet.{RefusesNumber};
+ghost use Rattle.der_core.specs.AfterFirstOctet.{RefusesIdentifier, RefusesNumber};
 ghost use Rattle.der_core.specs.Decode.{Decodes, grammar_levels};
 ghost use Rattle.der_core.specs.Encode.{single_octets, high_digits, tag_outcome};
 ghost use Rattle.der_core.specs.ReaderState.{Same, Reads};
@@ -19,6 +19,9 @@ use crate::writer::Writer;
 use der_base::{Error, ErrorKind, Length, Tag, TagNumber};
 pub use peek::TagPeek;
 use std::alloc::Global;
+
+// the octet of an OCTET STRING that is constructed of segments (X.690 8.7.1)
+const SEGMENTS: u8 = 0x24;
 
 // The universal tag whose only octet this is (X.680 8.6).
 fn universal(octet: u8) -> Option<Tag>
@@ -92,11 +95,30 @@ pub(crate) fn decode_with_constructed_bit<R: Reader>(reader: &mut R) -> Result<(
         (R.state reader.new) }
 {
     let first = reader.read_byte()?;
+    decode_identifier_behind(reader, first)
+}
+
+// The same behind its first octet.
+#[inline(always)]
+pub(crate) fn decode_identifier_behind<R: Reader>(
+    reader: &mut R,
+    first: u8,
+) -> Result<(Tag, bool), Error>
+    ensures same { Same (R.state reader.old) (R.state reader.new) }
+    ensures ok { IfOk result (λ x. (l : List ℕ)
+        × IsIdentifier (R.state reader.old).rules (first ∷ l) x.0 x.1
+        × Reads (R.state reader.old) (R.state reader.new) l) }
+    ensures exact { R.reliable ≡ true → IfErr result
+        (λ e. RefusesIdentifier first (R.state reader.old) e (R.state reader.new)) }
+{
     let constructed = has_constructed_bit(first);
     if let Some(tag) = universal(first) {
         return Ok((tag, constructed));
     }
     if first < 0x40 {
+        if first == SEGMENTS && reader.encoding_rules().is_ber() {
+            return Ok((Tag::OctetString, true));
+        }
         return Err(reader.error(unknown(first)));
     }
     let low = first % 32;
@@ -169,12 +191,13 @@ impl<R: Reader> Decode<R> for Tag {
 
     ghost answers = { Decodes TagAhead IdentifierFault true };
 
-    /// Decodes a tag (X.690 8.1.2).
+    /// Decodes a tag (X.690 8.1.2). Under the Basic Encoding Rules octet 24 is read as the tag
+    /// OCTET STRING too (X.690 8.7.1).
     ///
     /// # Errors
     ///
     /// After all but `Failed` and `Overflow` the reader stands at the error's position and has
-    /// failed. Under the Basic Encoding Rules nothing is promised of a refusal.
+    /// failed.
     ///
     /// - `Failed` at the position, where the reader had failed; it is unchanged.
     /// - `Overflow` without a position, where an octet is missing at position 4294967295; the

@@ -71,7 +71,7 @@ module _ (octets : List ℕ) where
       (cases_lt n (2 ^ 32))
 
   begun_says : (r : Result (List ℕ) Error) (t : ReaderState) → length octets < 2 ^ 32 → TlvAnswers begun r t → ElementSays octets r
-  begun_says r t small (TlvAnswers.no_header e peeked is same) = subst (ElementSays octets) (sym is) (fault_says e small (peeked.1.refused refl refl))
+  begun_says r t small (TlvAnswers.no_header e peeked is same) = subst (ElementSays octets) (sym is) (fault_says e small (peeked.1.refused refl))
   begun_says r t small (TlvAnswers.with_header h m ahead working gives) =
       whole_says r (head_of h) m small (subst (λ o. HeaderAhead (head_of h) Der o m) left ahead) gives.answered
 

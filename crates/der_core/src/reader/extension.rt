@@ -13,16 +13,21 @@ ghost use Rattle.der_core.specs.Header.{head_of, IsHeaderAhead};
 ghost use Rattle.der_core.specs.declared.header.Header.{Header as AHeader};
 ghost use Rattle.der_base.specs.Arithmetic.{sans_eoc};
 ghost use Rattle.der_base.specs.declared.tag.Tag.TheVariants.{Sequence};
+ghost use Rattle.der_base.specs.declared.encoding_rules.EncodingRules.TheVariants.{Ber};
+ghost use Rattle.der_core.specs.Scan.{ScansAhead, IsTurned};
 ghost use Rattle.der_core.specs.Nested.{CanLeave, Closes, HandsBack, NestedAnswers};
 ghost use Rattle.der_core.specs.Element.{ElementReadBy};
 
 use crate::decode::Decode;
 use crate::header::{Header, decode_header};
+use crate::length::indefinite::decode_indefinite_length;
+use crate::length::turns::Turns;
 use crate::reader::value::read_contents;
 use crate::reader::{Reader, Resumption};
 use crate::tag::decode_tag;
 use der_base::{Error, ErrorKind, Length, Tag};
 use std::alloc::Global;
+use std::sync::ledger::Ledger;
 
 /// The calls that every reader has, by those of [`Reader`] alone.
 pub trait ReaderExt: Reader {
@@ -187,6 +192,24 @@ pub trait ReaderExt: Reader {
     {
         let mut fork = self.fork();
         decode_tag(&mut fork)
+    }
+
+    /// How many octets the body of an indefinite length ahead has, with the end mark that closes it
+    /// (X.690 8.1.3.6), as [`decode_indefinite_length`] would answer; the reader stays. `turns`
+    /// counts each identifier and each end mark that was read.
+    ///
+    /// The caller sees to it that the reader reads by the Basic Encoding Rules.
+    ///
+    /// # Errors
+    ///
+    /// Those of [`decode_indefinite_length`], with their positions; the reader is unchanged.
+    final fn scan_indefinite<L: Ledger>(&self, turns: &mut Turns<L>) -> Result<Length, Error>
+        requires ber { (Self.state self.now).rules ≡ Ber }
+        ensures scans { ScansAhead Self.reliable (Self.state self.now) result }
+        ensures turned { IsTurned (rest (Self.state self.now)) result turns.old turns.new }
+    {
+        let mut fork = self.fork();
+        decode_indefinite_length(&mut fork, turns)
     }
 
     /// Lends the octets of the whole element ahead, header and contents.

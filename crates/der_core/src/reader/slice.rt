@@ -51,10 +51,26 @@ impl<'a> SliceReader<'a> {
         ensures fits { IsOk result ↔ (length bytes.now < 2 ^ 32) }
         ensures refused { IfErr result (λ e. e ≡ error_of_kind Overflow) }
     {
+        Self::new_with_encoding_rules(bytes, EncodingRules::Der)
+    }
+
+    /// A reader of these octets under the given rules, at their beginning.
+    ///
+    /// # Errors
+    ///
+    /// - `Overflow` without a position, where there are more than 4294967295 octets.
+    pub fn new_with_encoding_rules(
+        bytes: &'a [u8],
+        encoding_rules: EncodingRules,
+    ) -> Result<Self, Error>
+        ensures ok { IfOk result (λ r. slice_state r ≡ initial_state encoding_rules bytes.now) }
+        ensures fits { IsOk result ↔ (length bytes.now < 2 ^ 32) }
+        ensures refused { IfErr result (λ e. e ≡ error_of_kind Overflow) }
+    {
         let len = Length::new_usize(bytes.len())?;
         Ok(SliceReader {
             bytes,
-            encoding_rules: EncodingRules::Der,
+            encoding_rules,
             place: Position::new(len),
             failed: false,
         })

@@ -1,26 +1,26 @@
 use Rattle.std.proofs.Common.{refl, sym, ◌∙◌}
 use Rattle.std.proofs.lemmas.Result.{err_from_is_err_and}
 use Rattle.der_core.proofs.StateLemmas.{same_trans}
-use Rattle.der_core.proofs.HeaderReadLemmas.{passed_header, header_tag_refused, header_length_refused, not_flagged, bit_of_flag, rules_after}
+use Rattle.der_core.proofs.HeaderReadLemmas.{passed_header, header_tag_refused, header_length_refused, header_primitive, bit_of_flag}
 use Rattle.der_core.proofs.DecodeLemmas.{decoded_ok, decoded_err}
 use Rattle.der_core.proofs.header.decode_header.Goals as goal
 
 pub returns-in_err-tag : goal.returns-in_err-tag
 returns-in_err-tag g c =
     let p = err_from_is_err_and c.from_residual.result c.from_residual.ensures.1 in
-    rw (p.1, p.2) (decoded_err c.in_err-tag.ensures.same (λ reliable der. header_tag_refused (c.in_err-tag.ensures.refused reliable der)))
+    rw (p.1, p.2) (decoded_err c.in_err-tag.ensures.same (λ reliable. header_tag_refused (c.in_err-tag.ensures.refused reliable)))
 
 pub returns-in_err-length : goal.returns-in_err-length
 returns-in_err-length g c =
     let p = err_from_is_err_and c.from_residual-in_err-length.result c.from_residual-in_err-length.ensures.1 in
     let read = c.in_ok-tag.ensures.ok in
     rw (p.1, p.2) (decoded_err (same_trans c.in_ok-tag.ensures.same c.in_err-length.ensures.same)
-    (λ reliable der. header_length_refused read refl (c.in_err-length.ensures.refused reliable (rules_after read ∙ der))))
+    (λ reliable. header_length_refused read refl (c.in_err-length.ensures.refused reliable)))
 
 pub returns-then-not-constructed : goal.returns-then-not-constructed
 returns-then-not-constructed g c =
     decoded_err (same_trans (same_trans c.in_ok-tag.ensures.same c.in_ok-length.ensures.same) c.error.ensures.same)
-    (λ reliable der. absurd (not_flagged c.in_ok-tag.ensures.ok c.in_ok-length.ensures.ok der (sym c.is_indefinite.ensures ∙ c.if-is_indefinite.true)))
+    (λ reliable. header_primitive c.in_ok-tag.ensures.ok c.if-not-constructed.true c.in_ok-length.ensures.ok (sym c.is_indefinite.ensures ∙ c.if-is_indefinite.true) c.error.ensures.at_position c.error.ensures.failed)
 
 pub returns : goal.returns
 returns g c =

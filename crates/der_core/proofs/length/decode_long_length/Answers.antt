@@ -2,20 +2,17 @@ use Rattle.std.proofs.Common.{◌≡◌, ℕ, ◌-◌, ◌∙◌, subst, arith}
 use Rattle.std.proofs.lemmas.Result.{err_from_is_err_and}
 use Rattle.der_core.specs.ReaderState.{ReaderState}
 use Rattle.der_core.proofs.StateLemmas.{byte_read, byte_refused, cut_refused, failed_on}
-use Rattle.der_core.proofs.LengthReadLemmas.{DigitsSoFar, digits_next, digits_fit, refused_indefinite, refused_far, refused_cut, refused_longer, found_long}
+use Rattle.der_core.proofs.LengthReadLemmas.{DigitsSoFar, digits_next, digits_fit, refused_far, refused_cut, refused_longer, found_long}
 use Rattle.der_core.proofs.length.decode_long_length.Goals as goal
-
-pub returns-then-first-eq-INDEFINITE-clause-exact : goal.returns-then-first-eq-INDEFINITE-clause-exact
-returns-then-first-eq-INDEFINITE-clause-exact g c reliable = refused_indefinite c.if-first-eq-INDEFINITE.true c.error.ensures.at_position c.error.ensures.failed
 
 pub returns-then-first-gt132-clause-exact : goal.returns-then-first-gt132-clause-exact
 returns-then-first-gt132-clause-exact g c reliable =
-    refused_far (omega arith) (let told = c.error-then-first-gt132.ensures.at_position in let kind = c.wrong_length.ensures in cc) c.error-then-first-gt132.ensures.failed
+    refused_far (omega arith) (let told = c.error.ensures.at_position in let kind = c.wrong_length.ensures in cc) c.error.ensures.failed
 
 pub returns-in_err-octet-clause-exact : goal.returns-in_err-octet-clause-exact
 returns-in_err-octet-clause-exact g c =
     let p = err_from_is_err_and c.from_residual.result c.from_residual.ensures.1 in
-    rw (p.1, p.2) (λ reliable at der here working.
+    rw (p.1, p.2) (λ reliable at here working.
     let so_far = c.loop-i.invariant in
     let refused = byte_refused (g.met.R.Reader.lawful c.loop-i.reader) (c.in_err-octet.ensures.exact reliable) in
     refused_cut so_far (omega arith) (omega arith) (omega arith) (cut_refused (failed_on so_far.reads ∙ working) refused) at here)

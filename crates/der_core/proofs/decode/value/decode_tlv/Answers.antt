@@ -2,7 +2,7 @@ use Rattle.std.proofs.Common.{arith, ◌≡◌, refl, sym, ap, subst, ◌∙◌}
 use Rattle.std.proofs.lemmas.Result.{err_from_is_err_and}
 use Rattle.der_base.specs.Error.{unexpected_tag}
 use Rattle.der_core.specs.Element.{no_header, other_tag, in_contents}
-use Rattle.der_core.proofs.DecodeLemmas.{supported, decodes_reliably, not_refused}
+use Rattle.der_core.proofs.DecodeLemmas.{decodes_reliably, not_refused}
 use Rattle.der_base.specs.Scan.{BodyFault}
 use Rattle.der_base.proofs.HeaderLemmas.{header_grammar}
 use Rattle.der_base.proofs.ScanLemmas.{body_fault_laws}
@@ -17,8 +17,7 @@ returns-in_err-header-clause-exact g c =
 
 pub returns-in_err-header-clause-complete : goal.returns-in_err-header-clause-complete
 returns-in_err-header-clause-complete g c v m reliable working e deep =
-    let der = supported (g.R.Reader.state c.args.reader.now).rules (g.R.Reader.state c.args.reader.now).depth (let d = deep in omega arith) in
-    absurd (not_refused (header_grammar BodyFault body_fault_laws) (c.in_err-header.ensures.refused reliable der) working e.ahead)
+    absurd (not_refused (header_grammar BodyFault body_fault_laws) (c.in_err-header.ensures.refused reliable) working e.ahead)
 
 pub returns-in_err-assert_eq-clause-exact : goal.returns-in_err-assert_eq-clause-exact
 returns-in_err-assert_eq-clause-exact g c =

@@ -1,0 +1,90 @@
+use Rattle.std.proofs.Common.{arith}
+use Rattle.std.proofs.lemmas.Result.{err_from_is_err_and}
+use Rattle.der_core.proofs.StateLemmas.{byte_working, byte_read, byte_refused}
+use Rattle.der_core.proofs.TurnLemmas.{identifier_passed, length_passed, part_nothing, part_half, part_no_mark, part_ends, part_refused, part_no_length, part_primitive, part_too_deep, part_opens, part_wrong_length, part_short, part_passes}
+use Rattle.der_core.proofs.length.indefinite.next_part.Goals as goal
+
+pub returns-in_err-first-clause-exact : goal.returns-in_err-first-clause-exact
+returns-in_err-first-clause-exact g c reliable =
+    let p = err_from_is_err_and c.from_residual.result c.from_residual.ensures.1 in
+    rw (p.1, p.2) (part_nothing c.args.level (byte_refused (g.met.R.Reader.lawful c.args.reader.now) (c.in_err-first.ensures.exact reliable)))
+
+pub returns-in_err-second-clause-exact : goal.returns-in_err-second-clause-exact
+returns-in_err-second-clause-exact g c reliable =
+    let p = err_from_is_err_and c.from_residual-in_err-second.result c.from_residual-in_err-second.ensures.1 in
+    let first = c.in_ok-first.ensures.exact in
+    rw (p.1, p.2) (part_half c.args.level (byte_working _ _ _ first) (byte_read first) c.if-first-eq0.true (byte_refused (g.met.R.Reader.lawful c.read_byte.new.self) (c.in_err-second.ensures.exact reliable)))
+
+pub returns-then-second-ne0-clause-exact : goal.returns-then-second-ne0-clause-exact
+returns-then-second-ne0-clause-exact g c reliable =
+    let first = c.in_ok-first.ensures.exact in
+    part_no_mark c.args.level (byte_working _ _ _ first) (byte_read first) c.if-first-eq0.true (byte_read c.in_ok-second.ensures.exact) c.if-second-ne0.true c.error.ensures.at_position c.error.ensures.failed
+
+pub returns-then-first-eq0-clause-ok : goal.returns-then-first-eq0-clause-ok
+returns-then-first-eq0-clause-ok g c =
+    let first = c.in_ok-first.ensures.exact in
+    part_ends c.args.level (byte_working _ _ _ first) (byte_read first) c.if-first-eq0.true (byte_read c.in_ok-second.ensures.exact) c.if-second-ne0.false
+
+pub returns-in_err-tag-clause-exact : goal.returns-in_err-tag-clause-exact
+returns-in_err-tag-clause-exact g c reliable =
+    let p = err_from_is_err_and c.from_residual-in_err-tag.result c.from_residual-in_err-tag.ensures.1 in
+    let first = c.in_ok-first.ensures.exact in
+    rw (p.1, p.2) (part_refused c.args.level (byte_working _ _ _ first) (byte_read first) c.requires.ber c.if-first-eq0.false (c.in_err-tag.ensures.exact reliable))
+
+pub returns-in_err-octet-clause-exact : goal.returns-in_err-octet-clause-exact
+returns-in_err-octet-clause-exact g c reliable =
+    let p = err_from_is_err_and c.from_residual-in_err-octet.result c.from_residual-in_err-octet.ensures.1 in
+    let first = c.in_ok-first.ensures.exact in
+    let found = c.in_ok-tag.ensures.ok in
+    let id = identifier_passed c.requires.ber (byte_working _ _ _ first) (byte_read first) found.1 found.2 in
+    rw (p.1, p.2) (part_no_length c.args.level id (byte_refused (g.met.R.Reader.lawful c.decode_identifier_behind.new.reader) (c.in_err-octet.ensures.exact reliable)))
+
+pub returns-then-not-constructed-clause-exact : goal.returns-then-not-constructed-clause-exact
+returns-then-not-constructed-clause-exact g c reliable =
+    let first = c.in_ok-first.ensures.exact in
+    let found = c.in_ok-tag.ensures.ok in
+    let id = identifier_passed c.requires.ber (byte_working _ _ _ first) (byte_read first) found.1 found.2 in
+    part_primitive c.args.level id (byte_read c.in_ok-octet.ensures.exact) c.if-octet.true c.if-not-constructed.true c.error-then-not-constructed.ensures.at_position
+    c.error-then-not-constructed.ensures.failed
+
+pub returns-then-level-eq-MAX_LEVEL-clause-exact : goal.returns-then-level-eq-MAX_LEVEL-clause-exact
+returns-then-level-eq-MAX_LEVEL-clause-exact g c reliable =
+    let first = c.in_ok-first.ensures.exact in
+    let found = c.in_ok-tag.ensures.ok in
+    let id = identifier_passed c.requires.ber (byte_working _ _ _ first) (byte_read first) found.1 found.2 in
+    part_too_deep c.args.level id (byte_read c.in_ok-octet.ensures.exact) c.if-octet.true c.if-not-constructed.false c.if-level-eq-MAX_LEVEL.true
+    c.error-then-level-eq-MAX_LEVEL.ensures.at_position c.error-then-level-eq-MAX_LEVEL.ensures.failed
+
+pub returns-then-octet-clause-ok : goal.returns-then-octet-clause-ok
+returns-then-octet-clause-ok g c =
+    let first = c.in_ok-first.ensures.exact in
+    let found = c.in_ok-tag.ensures.ok in
+    let id = identifier_passed c.requires.ber (byte_working _ _ _ first) (byte_read first) found.1 found.2 in
+    part_opens c.args.level id (byte_read c.in_ok-octet.ensures.exact) c.if-octet.true c.if-not-constructed.false (omega (arith, c.requires.levels))
+
+pub returns-in_err-count-clause-exact : goal.returns-in_err-count-clause-exact
+returns-in_err-count-clause-exact g c reliable =
+    let p = err_from_is_err_and c.from_residual-in_err-count.result c.from_residual-in_err-count.ensures.1 in
+    let first = c.in_ok-first.ensures.exact in
+    let found = c.in_ok-tag.ensures.ok in
+    let id = identifier_passed c.requires.ber (byte_working _ _ _ first) (byte_read first) found.1 found.2 in
+    rw (p.1, p.2) (part_wrong_length c.args.level id (byte_read c.in_ok-octet.ensures.exact) (c.in_err-count.ensures.exact reliable))
+
+pub returns-in_err-drain-clause-exact : goal.returns-in_err-drain-clause-exact
+returns-in_err-drain-clause-exact g c reliable =
+    let p = err_from_is_err_and c.from_residual-in_err-drain.result c.from_residual-in_err-drain.ensures.1 in
+    let first = c.in_ok-first.ensures.exact in
+    let found = c.in_ok-tag.ensures.ok in
+    let id = identifier_passed c.requires.ber (byte_working _ _ _ first) (byte_read first) found.1 found.2 in
+    let count = c.in_ok-count.ensures.ok in
+    let behind = length_passed id (byte_read c.in_ok-octet.ensures.exact) count.1 count.2 count.3 in
+    rw (p.1, p.2) (part_short c.args.level behind c.new.ensures (g.met.R.Reader.lawful c.decode_definite.new.reader) (c.in_err-drain.ensures.exact reliable))
+
+pub returns-clause-ok : goal.returns-clause-ok
+returns-clause-ok g c =
+    let first = c.in_ok-first.ensures.exact in
+    let found = c.in_ok-tag.ensures.ok in
+    let id = identifier_passed c.requires.ber (byte_working _ _ _ first) (byte_read first) found.1 found.2 in
+    let count = c.in_ok-count.ensures.ok in
+    let behind = length_passed id (byte_read c.in_ok-octet.ensures.exact) count.1 count.2 count.3 in
+    part_passes c.args.level behind c.new.ensures c.requires.levels (g.met.R.Reader.lawful c.decode_definite.new.reader) c.in_ok-drain.ensures.exact

@@ -1,0 +1,32 @@
+-- What one turn of a scan reads.
+use Rattle.std.specs.Prelude.{◌≡◌, ℕ, ◌<◌, true, false, List, [], ◌∷◌, ◌++◌}
+use Rattle.der_base.specs.Tag.{IsIdentifier}
+use Rattle.der_base.specs.Body.{Item}
+use Rattle.der_base.specs.Scan.{ScanFault}
+use Rattle.der_base.specs.declared.tag.Tag.{Tag}
+use Rattle.der_base.specs.declared.error.Error.{Error}
+use Rattle.der_base.specs.declared.encoding_rules.EncodingRules.TheVariants.{Ber}
+use Rattle.der_core.specs.ReaderState.{ReaderState, Reads}
+use Rattle.der_core.specs.Decode.{IsRefusedBy}
+use Rattle.der_core.specs.declared.length.indefinite.Part.{Part}
+use Rattle.der_core.specs.declared.length.indefinite.Part.TheVariants.{Ends, Passes, Opens}
+
+-- the octets of a part, with so many levels open: an end mark, an item of a definite length, or an
+-- identifier and octet 80, where one more level may be open
+abbrev pub PartOctets : ℕ → Part → List ℕ → Type 0
+PartOctets level Ends octets = octets ≡ 0 ∷ 0 ∷ []
+PartOctets level Passes octets = Item level 1 octets
+PartOctets level Opens octets =
+    (id : List ℕ) × (t : Tag) × IsIdentifier Ber id t true × (octets ≡ id ++ 128 ∷ [])
+    × (level < 64)
+
+-- a part was read
+pub record PartRead (level : ℕ) (part : Part) (s t : ReaderState) : Type 0 where
+  pub octets : List ℕ
+  pub working : s.failed ≡ false
+  pub is_part : PartOctets level part octets
+  pub reads : Reads s t octets
+
+-- a scan is refused with so many levels open
+abbrev pub RefusesPart : ℕ → ReaderState → Error → ReaderState → Type 0
+RefusesPart level = IsRefusedBy (λ rules. ScanFault level)

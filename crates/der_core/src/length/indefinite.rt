@@ -1,0 +1,148 @@
+//! Indefinite lengths (X.690 8.1.3.6).
+ghost use Rattle.std.specs.Prelude.{◌≡◌, ◌≢◌, ℕ, ◌^◌, ◌<◌, ◌≤◌, true, List, ◌∷◌, IfOk, IfErr};
+ghost use Rattle.der_base.specs.Length.{length_octets};
+ghost use Rattle.der_base.specs.declared.encoding_rules.EncodingRules.TheVariants.{Ber};
+ghost use Rattle.der_base.specs.declared.error.ErrorKind.TheVariants.{Length as IncorrectLength};
+ghost use Rattle.der_core.specs.AfterFirstOctet.{RefusesLongLength};
+ghost use Rattle.der_core.specs.ReaderState.{rest, Same, Reads};
+ghost use Rattle.der_core.specs.Scan.{Scans, ScansAhead, IsTurned};
+ghost use Rattle.der_core.specs.Turn.{PartRead, RefusesPart};
+
+use crate::length::turns::Turns;
+use crate::length::{INDEFINITE, decode_long_length};
+use crate::reader::{Reader, ReaderExt};
+use crate::tag::decode_identifier_behind;
+use der_base::{Error, ErrorKind, Length, Tag};
+use std::marker::Brand;
+use std::sync::ledger::{Blank, Ledger};
+
+// how many bodies may be open at a time, inside each other
+const MAX_LEVEL: u8 = 64;
+
+// What a body goes on with.
+enum Part {
+    // an end mark
+    Ends,
+    // an item of a definite length
+    Passes,
+    // an identifier and octet 80
+    Opens,
+}
+
+/// Scans the body of an indefinite length, and tells how many octets it has, with the end mark that
+/// closes it (X.690 8.1.3.6). Contents of definite lengths are passed unread, each other octet is
+/// read once; `turns` counts each identifier and each end mark that was read.
+///
+/// The caller sees to it that the reader reads by the Basic Encoding Rules.
+///
+/// # Errors
+///
+/// After all but `Failed` and `Overflow` the reader stands at the error's position and has failed.
+///
+/// - `Failed` at the position, where the reader had failed; it is unchanged.
+/// - `Overflow` without a position, where `Incomplete` would name a length past 4294967295; the
+///   reader stands where the refused octets were to be read and has not failed.
+/// - `Incomplete` at the end, where no octet is left, or half an end mark, an identifier that is
+///   cut, or one without a whole length.
+/// - `IndefiniteLength` behind a zero octet and another octet, and behind octet 80 where the
+///   identifier before it is primitive.
+/// - `TagUnknown` and `TagNumberInvalid` of an identifier, as by [`Tag::decode`](crate::Decode).
+/// - `NestingDepth` behind octet 80, where 64 bodies are open.
+/// - `Length` with the tag, behind the length's octets where fewer would do, or behind the first of
+///   them where it announces more than four.
+/// - `Incomplete` of contents that are not all there, as by [`Reader::drain`].
+pub fn decode_indefinite_length<R: Reader, L: Ledger>(
+    reader: &mut R,
+    turns: &mut Turns<L>,
+) -> Result<Length, Error>
+    requires ber { (R.state reader.old).rules ≡ Ber }
+    ensures scans { Scans R.reliable (R.state reader.old) result (R.state reader.new) }
+    ensures turned { IsTurned (rest (R.state reader.old)) result turns.old turns.new }
+{
+    let start = reader.position();
+    let mut level = 1;
+    'turns: loop {
+        turns.tick();
+        let part = next_part(reader, level)?;
+        match part {
+            Part::Ends => {
+                level -= 1;
+                if level == 0 {
+                    let count = reader.position().saturating_sub(start);
+                    return Ok(Length::new_indefinite(u32::from(count)));
+                }
+            }
+            Part::Passes => {}
+            Part::Opens => level += 1,
+        }
+    }
+}
+
+// Reads what a body goes on with, so many of which are open.
+fn next_part<R: Reader>(reader: &mut R, level: u8) -> Result<Part, Error>
+    requires ber { (R.state reader.old).rules ≡ Ber }
+    requires levels { (1 ≤ level) × (level ≤ 64) }
+    ensures same { Same (R.state reader.old) (R.state reader.new) }
+    ensures ok { IfOk result (λ part. PartRead level part (R.state reader.old)
+        (R.state reader.new)) }
+    ensures exact { R.reliable ≡ true
+        → IfErr result (λ e. RefusesPart level (R.state reader.old) e (R.state reader.new)) }
+{
+    let first = reader.read_byte()?;
+    if first == 0 {
+        let second = reader.read_byte()?;
+        if second != 0 {
+            return Err(reader.error(ErrorKind::IndefiniteLength));
+        }
+        return Ok(Part::Ends);
+    }
+    let (tag, constructed) = decode_identifier_behind(reader, first)?;
+    let octet = reader.read_byte()?;
+    if octet == INDEFINITE {
+        if !constructed {
+            return Err(reader.error(ErrorKind::IndefiniteLength));
+        }
+        if level == MAX_LEVEL {
+            return Err(reader.error(ErrorKind::NestingDepth));
+        }
+        return Ok(Part::Opens);
+    }
+    let count = decode_definite(reader, octet, tag)?;
+    reader.drain(Length::new(count))?;
+    Ok(Part::Passes)
+}
+
+// A definite length behind its first octet.
+fn decode_definite<R: Reader>(reader: &mut R, first: u8, tag: Tag) -> Result<u32, Error>
+    requires { first ≢ 128 }
+    ensures same { Same (R.state reader.old) (R.state reader.new) }
+    ensures ok { IfOk result (λ n. (l : List ℕ) × (length_octets n ≡ first ∷ l)
+        × Reads (R.state reader.old) (R.state reader.new) l × (n < 2 ^ 32)) }
+    ensures exact { R.reliable ≡ true
+        → IfErr result (λ e. RefusesLongLength (IncorrectLength tag) first
+        (R.state reader.old) e (R.state reader.new)) }
+{
+    if first < INDEFINITE {
+        return Ok(first as u32);
+    }
+    decode_long_length(reader, first, Some(tag))
+}
+
+// Scans the body ahead where nobody counts the turns.
+pub(crate) fn scan_uncounted<R: Reader>(reader: &R) -> Result<Length, Error>
+    requires ber { (R.state reader.now).rules ≡ Ber }
+    ensures { ScansAhead R.reliable (R.state reader.now) result }
+{
+    scan_counted::<R, Brand>(reader, Blank::new(1))
+}
+
+fn scan_counted<R: Reader, L: Ledger>(reader: &R, blank: Blank) -> Result<Length, Error>
+    requires ber { (R.state reader.now).rules ≡ Ber }
+    requires name { blank.name ≡ L.name }
+    requires parts { blank.parts ≡ L.parts }
+    requires whole { blank.parts ≡ 1 }
+    ensures { ScansAhead R.reliable (R.state reader.now) result }
+{
+    let mut turns = Turns::<L>::new(blank);
+    reader.scan_indefinite(&mut turns)
+}
