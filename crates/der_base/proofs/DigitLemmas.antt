@@ -1,6 +1,6 @@
 -- Fronts of lists, and digits of numbers.
 use Rattle.std.proofs.Common.{◌≡◌, ◌≢◌, ℕ, suc, ◌+◌, ◌*◌, ◌%◌, ◌^◌, ◌<◌, ◌≤◌, ◌⊎◌, List, [], ◌∷◌, ◌++◌, length, take, drop, refl, sym, ap, ◌∙◌, ⊎_elim, inl, inr, append_assoc, append-nil, arith}
-use Rattle.std.proofs.lemmas.Bool.{ne_eqb}
+use Rattle.std.proofs.lemmas.Bool.{cases_lt, ne_eqb}
 use Rattle.std.proofs.lemmas.List.{take_at, drop_at}
 use Rattle.std.proofs.lemmas.Nat.{mul-le, div-mul-add, mod-mul-add}
 use Rattle.std.proofs.lemmas.Int.Digits.{digits_of_step, length-digits_of_step, all_below_base_digits_of, same_from_digits_of, number_lt}
@@ -55,6 +55,20 @@ digits_of_number b d ds two ne all =
 pub all_below_push : (b : ℕ) (ds : List ℕ) (d : ℕ) → AllBelowBase b ds → d < b → AllBelowBase b (ds ++ d ∷ [])
 all_below_push b [] d h l = (l, tt)
 all_below_push b (x ∷ xs) d h l = (h.0, all_below_push b xs d h.1 l)
+
+-- each digit is below the base
+pub below_among : (b : ℕ) (s : List ℕ) (d : ℕ) (t : List ℕ) → AllBelowBase b (s ++ d ∷ t) → d < b
+below_among b [] d t h = h.0
+below_among b (x ∷ s) d t h = below_among b s d t h.1
+
+-- digits are below the base, or not all are
+pub cases_below : (b : ℕ) (ds : List ℕ) → AllBelowBase b ds ⊎ (AllBelowBase b ds → ⊥)
+cases_below b [] = inl tt
+cases_below b (d ∷ ds) =
+    ⊎_elim
+    (λ l. ⊎_elim (λ h. inl (l, h)) (λ wide. inr (λ h. wide h.1)) (cases_below b ds))
+    (λ g. inr (λ h. omega (arith, h.0)))
+    (cases_lt d b)
 
 -- at most four octets are a number of 32 bits
 pub number_small : (ds : List ℕ) → length ds ≤ 4 → AllBelowBase 256 ds → number_from_digits 256 ds < 2 ^ 32

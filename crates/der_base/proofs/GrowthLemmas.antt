@@ -10,10 +10,10 @@ use Rattle.der_base.proofs.IdentifierLemmas.{identifier_some}
 use Rattle.der_base.proofs.BodyLemmas.{open_level, items_level}
 
 -- moved to an equal number of parts and equal octets
-body_at : {k m n : ℕ} {a b : List ℕ} → m ≡ n → a ≡ b → Body k m a → Body k n b
+pub body_at : {k m n : ℕ} {a b : List ℕ} → m ≡ n → a ≡ b → Body k m a → Body k n b
 body_at {k} {m} {n} {a} {b} e f h = subst (λ l. Body k n l) f (subst (λ j. Body k j a) e h)
 
-open_at : {k m n : ℕ} {a b : List ℕ} → m ≡ n → a ≡ b → Open k m a → Open k n b
+pub open_at : {k m n : ℕ} {a b : List ℕ} → m ≡ n → a ≡ b → Open k m a → Open k n b
 open_at {k} {m} {n} {a} {b} e f h = subst (λ l. Open k n l) f (subst (λ j. Open k j a) e h)
 
 -- items before a body are a body with it

@@ -1,6 +1,7 @@
 -- Identifiers at the front of octets, and where octets begin with none.
 use Rattle.std.proofs.Common.{◌≡◌, ◌≢◌, ℕ, ◌+◌, ◌%◌, ◌^◌, ◌<◌, ◌≤◌, ◌⊎◌, Bool, true, false, Some, None, List, [], ◌∷◌, ◌++◌, length, refl, sym, ap, ◌∙◌, subst, ⊎_elim, append_assoc, append-nil, length-append, arith}
 use Rattle.std.proofs.lemmas.Bool.{cases_lt, cases_eq, ne_eqb}
+use Rattle.std.specs.Int.Digits.{AllBelowBase}
 use Rattle.der_base.specs.Length.{digits}
 use Rattle.der_base.specs.Tag.{label, leading_octet, tag_octets, universal_tag, is_constructed, other_tag, continuation_octets, IsIdentifier, of_tag, of_segments, IsCutIdentifier, identifier_kind, IdentifierFault, cut, refused}
 use Rattle.der_base.specs.Error.{Refusal, refusal, end_refusal}
@@ -9,7 +10,7 @@ use Rattle.der_base.specs.declared.encoding_rules.EncodingRules.{EncodingRules}
 use Rattle.der_base.specs.declared.encoding_rules.EncodingRules.TheVariants.{Ber, Der}
 use Rattle.der_base.specs.declared.tag.Tag.{Tag}
 use Rattle.der_base.specs.declared.tag.Tag.TheVariants.{Boolean, OctetString}
-use Rattle.der_base.proofs.DigitLemmas.{two_fronts}
+use Rattle.der_base.proofs.DigitLemmas.{two_fronts, below_among}
 use Rattle.der_base.proofs.TagLemmas.{label_small, label_large, tag_begins, tag_front, no_segments, universal_found, universal_octets, universal_is_tag, other_constructed, other_number, other_octet, other_octets}
 
 -- no identifier begins so
@@ -58,6 +59,15 @@ identifier_begins of_segments = (36, [], refl, λ z. cc)
 -- an identifier has octets
 pub identifier_some : {rules : EncodingRules} {a : List ℕ} {t : Tag} {c : Bool} → IsIdentifier rules a t c → 1 ≤ length a
 identifier_some d = let b = identifier_begins d in omega (arith, ap length b.2)
+
+-- an identifier's octets are below 256
+pub identifier_below : {rules : EncodingRules} {a : List ℕ} {t : Tag} {c : Bool} → IsIdentifier rules a t c → AllBelowBase 256 a
+identifier_below (of_tag {t = t} h) = (tag_begins t).4
+identifier_below of_segments = (omega arith, tt)
+
+-- no identifier has a number from 256 on among its octets
+pub none_with : {rules : EncodingRules} (s : List ℕ) (o : ℕ) → 256 ≤ o → BeginsNoIdentifier rules (s ++ o ∷ [])
+none_with s o big more t b h = omega (arith, below_among 256 s o more (subst (AllBelowBase 256) (append_assoc s (o ∷ []) more) (identifier_below h)))
 
 -- no identifier begins another, and each says one tag and one bit
 pub identifier_front : {rules : EncodingRules} {a b : List ℕ} {t u : Tag} {c d : Bool} → IsIdentifier rules a t c → IsIdentifier rules b u d → (x y : List ℕ) → a ++ x ≡ b ++ y → (a ≡ b) × (t ≡ u) × (c ≡ d) × (x ≡ y)
@@ -108,6 +118,13 @@ fault_universal {rules} at o rest l none ok =
     let here : at + 0 + 1 ≡ at + 1 = omega arith in
     subst (λ n. IdentifierFault rules at (o ∷ rest) (refusal (identifier_kind [] o) n)) here
     (refused [] o rest (some_identifier rules) (no_universal rules o l none ok))
+
+-- a number from 256 on is refused
+pub fault_above : {rules : EncodingRules} (at o : ℕ) (rest : List ℕ) → 256 ≤ o → IdentifierFault rules at (o ∷ rest) (refusal (identifier_kind [] o) (at + 1))
+fault_above {rules} at o rest big =
+    let here : at + 0 + 1 ≡ at + 1 = omega arith in
+    subst (λ n. IdentifierFault rules at (o ∷ rest) (refusal (identifier_kind [] o) n)) here
+    (refused [] o rest (some_identifier rules) (none_with [] o big))
 
 -- octet 31 is refused as a wrong number
 pub kind_invalid : (o : ℕ) → o ≡ 31 → identifier_kind [] o ≡ TagNumberInvalid

@@ -3,6 +3,8 @@ pub mod CompareLemmas
 pub mod CountLemmas
 pub mod DigitLemmas
 pub mod EqualityLemmas
+pub mod ExampleLemmas
+pub mod FrontLemmas
 pub mod GrowthLemmas
 pub mod HeaderLemmas
 pub mod IdentifierLemmas
@@ -12,3 +14,4 @@ pub mod OpenLemmas
 pub mod ScanLemmas
 pub mod TagLemmas
 pub mod TextLemmas
+pub mod TotalLemmas

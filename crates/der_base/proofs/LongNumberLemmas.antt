@@ -10,7 +10,7 @@ use Rattle.der_base.specs.declared.encoding_rules.EncodingRules.{EncodingRules}
 use Rattle.der_base.specs.declared.error.ErrorKind.TheVariants.{TagNumberInvalid}
 use Rattle.der_base.proofs.DigitLemmas.{digits_positive, length_digits_positive, digits_of_push}
 use Rattle.der_base.proofs.TagLemmas.{label_small, label_large, octet_parts, octet_back}
-use Rattle.der_base.proofs.IdentifierLemmas.{BeginsNoIdentifier, IdentifierView, tagged, segmented, identifier_view, identifier_at, long_identifier}
+use Rattle.der_base.proofs.IdentifierLemmas.{BeginsNoIdentifier, none_with, IdentifierView, tagged, segmented, identifier_view, identifier_at, long_identifier}
 
 -- digits that more digits follow
 abbrev pub going_on : List ℕ → List ℕ
@@ -197,3 +197,7 @@ number_refused_few {rules} at o v p s rest above high set h low few = number_ref
 -- a number that goes on at 2 ^ 25 or more would pass 32 bits, and is refused
 pub number_refused_many : {rules : EncodingRules} (at o v p : ℕ) (s rest : List ℕ) → 64 ≤ o → o < 256 → o % 32 ≡ 31 → SoFar s v → 128 ≤ p → p < 256 → 2 ^ 25 ≤ v * 128 + p % 128 → IdentifierFault rules at (o ∷ (s ++ p ∷ rest)) (refusal TagNumberInvalid (at + length (o ∷ s) + 1))
 number_refused_many {rules} at o v p s rest above high set h low small many = number_refused rules o above high set at s v p rest h (none_from_many s v p h low small many)
+
+-- a number from 256 on is refused among its octets
+pub number_refused_above : {rules : EncodingRules} (at o v p : ℕ) (s rest : List ℕ) → 64 ≤ o → o < 256 → o % 32 ≡ 31 → SoFar s v → 256 ≤ p → IdentifierFault rules at (o ∷ (s ++ p ∷ rest)) (refusal TagNumberInvalid (at + length (o ∷ s) + 1))
+number_refused_above {rules} at o v p s rest above high set h big = refused (o ∷ s) p rest (cut_behind rules o above high set s (so_far_cut s v h)) (none_with (o ∷ s) p big)

@@ -1,11 +1,13 @@
 -- Laws of the octets of tags, lengths, headers and bodies. The crate proves each of them.
-use Rattle.std.specs.Prelude.{◌≡◌, ℕ, ◌*◌, ◌≤◌, Bool, List, [], ◌∷◌, ◌++◌, length}
+use Rattle.std.specs.Prelude.{◌≡◌, ℕ, zero, suc, ◌*◌, ◌≤◌, ◌⊎◌, Bool, List, [], ◌∷◌, ◌++◌, length, replicate}
 use Rattle.der_base.specs.Length.{length_octets}
 use Rattle.der_base.specs.Tag.{label, tag_octets, IsIdentifier}
 use Rattle.der_base.specs.Header.{header_octets}
 use Rattle.der_base.specs.Body.{Item, Body, Items, Open}
-use Rattle.der_base.specs.Error.{Refusal}
+use Rattle.der_base.specs.Scan.{PartsAhead, BodyFault}
+use Rattle.der_base.specs.Error.{Refusal, refusal}
 use Rattle.der_base.specs.declared.tag.Tag.{Tag}
+use Rattle.der_base.specs.declared.error.ErrorKind.TheVariants.{NestingDepth}
 use Rattle.der_base.specs.declared.encoding_rules.EncodingRules.{EncodingRules}
 
 -- class, constructed bit and number say which tag it is (X.690 8.1.2.2)
@@ -62,6 +64,13 @@ pub record IsBodyFault (BodyFault : ℕ → List ℕ → Refusal → Type 0) : T
   pub never_both : (at parts : ℕ) (body rest : List ℕ) (r : Refusal)
       → Body 1 parts body → BodyFault at (body ++ rest) r → ⊥
 
+-- all lists of numbers, octets or not, begin with a body or have a fault of one (X.690 8.1.3.6,
+-- 8.1.5)
+abbrev pub BodiesOrFaults : Type 0
+BodiesOrFaults =
+    (at : ℕ) (octets : List ℕ)
+    → ((parts : ℕ) × PartsAhead parts octets) ⊎ ((r : Refusal) × BodyFault at octets r)
+
 -- bodies, their items and their beginnings stand at levels 1 to 64 alone
 abbrev pub NoBodyOutsideLevels : Type 0
 NoBodyOutsideLevels =
@@ -92,3 +101,17 @@ abbrev pub PartsHaveTwoOctets : Type 0
 PartsHaveTwoOctets =
     (level parts : ℕ) (body : List ℕ) → Body level parts body
     → (1 ≤ parts) × (2 * parts ≤ length body)
+
+-- so many openings of a SEQUENCE in the indefinite form, and what stands behind them
+abbrev pub nested_openings : ℕ → List ℕ → List ℕ
+nested_openings zero behind = behind
+nested_openings (suc n) behind = 48 ∷ 128 ∷ nested_openings n behind
+
+-- identifiers and end marks counted by hand: 4 of an OCTET STRING with one segment, whose two zero
+-- octets are no end mark; 128 of NULL within 63 openings, the most that can be nested; and no body
+-- where there is one opening more, which is refused behind its octet 80
+abbrev pub ExamplesOfParts : Type 0
+ExamplesOfParts =
+    Body 1 4 (36 ∷ 128 ∷ 4 ∷ 2 ∷ 0 ∷ 0 ∷ 0 ∷ 0 ∷ 0 ∷ 0 ∷ [])
+    × Body 1 128 (nested_openings 63 (5 ∷ 0 ∷ replicate 128 0))
+    × BodyFault 2 (nested_openings 64 (5 ∷ 0 ∷ replicate 130 0)) (refusal NestingDepth 130)

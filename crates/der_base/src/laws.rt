@@ -2,7 +2,7 @@
 //! contract is a law, whose statement is a word of `specs/Laws.antt`. Nothing else uses these.
 ghost use Rattle.der_base.specs.Scan.{BodyAhead, BodyFault};
 ghost use Rattle.der_base.specs.Header.{IdentifierAhead, TagAhead, LengthAhead, LengthFault, HeaderAhead, HeaderFault};
-ghost use Rattle.der_base.specs.Laws.{OneTagOfALabel, NoTagBeginsAnother, NoIdentifierBeginsAnother, NoLengthBeginsAnother, NoHeaderBeginsAnother, NoBodyBeginsAnother, NoBodyOutsideLevels, NoItemOutsideLevels, NoItemsOutsideLevels, NothingOpenOutsideLevels, BodiesAtEachLevel, PartsHaveTwoOctets, IsGrammar, IsBodyFault};
+ghost use Rattle.der_base.specs.Laws.{OneTagOfALabel, NoTagBeginsAnother, NoIdentifierBeginsAnother, NoLengthBeginsAnother, NoHeaderBeginsAnother, NoBodyBeginsAnother, BodiesOrFaults, NoBodyOutsideLevels, NoItemOutsideLevels, NoItemsOutsideLevels, NothingOpenOutsideLevels, BodiesAtEachLevel, PartsHaveTwoOctets, ExamplesOfParts, IsGrammar, IsBodyFault};
 ghost use Rattle.der_base.specs.Tag.{IdentifierFault};
 ghost use Rattle.der_base.specs.declared.error.ErrorKind.{ErrorKind};
 
@@ -54,6 +54,10 @@ fn body_faults_are_single()
     ensures { IsBodyFault BodyFault }
 {}
 
+fn bodies_or_faults()
+    ensures { BodiesOrFaults }
+{}
+
 fn no_body_outside_levels()
     ensures { NoBodyOutsideLevels }
 {}
@@ -76,4 +80,8 @@ fn bodies_at_each_level()
 
 fn parts_have_two_octets()
     ensures { PartsHaveTwoOctets }
+{}
+
+fn examples_of_parts()
+    ensures { ExamplesOfParts }
 {}
