@@ -1,11 +1,46 @@
 -- The end mark of an indefinite length, octet by octet.
-use Rattle.std.proofs.Common.{◌≡◌, ℕ, zero, suc, ◌+◌, ◌==◌, Bool, true, false, List, [], ◌∷◌, Result, Ok, Err, refl, sym, ap, ◌∙◌, arith}
+use Rattle.std.proofs.Common.{◌≡◌, ◌≢◌, ℕ, zero, suc, ◌+◌, ◌==◌, Bool, true, false, List, [], ◌∷◌, Result, Ok, Err, refl, sym, ap, ◌∙◌, subst, arith}
+use Rattle.der_base.specs.Error.{refusal}
 use Rattle.der_base.specs.declared.error.Error.{Error}
 use Rattle.der_base.specs.declared.error.ErrorKind.TheVariants.{IndefiniteLength}
-use Rattle.der_core.specs.ReaderState.{ReaderState, rest, advanced_state}
-use Rattle.der_core.specs.Outcome.{Outcome, Gives, Meets, outcome_following, chained_outcome}
-use Rattle.der_core.specs.Reader.{next_octet_outcome, end_mark_outcome, read_eoc_outcome, zero_octet_outcome, read_zero_octet_outcome, kind_outcome}
-use Rattle.der_core.proofs.StateLemmas.{by_front, rest_after}
+use Rattle.der_core.specs.ReaderState.{ReaderState, rest, advanced_state, IsSound, Reads}
+use Rattle.der_core.specs.Outcome.{Outcome, Gives, Meets, outcome_of, outcome_following, chained_outcome}
+use Rattle.der_core.specs.Reader.{read_byte_outcome, next_octet_outcome, end_mark_outcome, read_eoc_outcome, zero_octet_outcome, read_zero_octet_outcome, kind_outcome}
+use Rattle.der_core.specs.AfterFirstOctet.{Stops}
+use Rattle.der_core.proofs.StateLemmas.{by_front, rest_after, byte_working, byte_read, byte_refused, error_stops, ByteRefused}
+
+not_zero : (o : ℕ) (s : ReaderState) → zero_octet_outcome (suc o) s ≡ kind_outcome (Unit {0}) IndefiniteLength s
+not_zero o s = (let no : (suc o == 0) ≡ false = grind arith in rw no refl)
+
+-- an octet was read that is zero, or reading it is refused, or it is another
+pub data ZeroOctet (s : ReaderState) : Result (Unit {0}) Error → ReaderState → Type 0 where
+  zero_read : {v : Unit {0}} {t : ReaderState} → s.failed ≡ false → Reads s t (0 ∷ []) → ZeroOctet s (Ok v) t
+  zero_cut : {e : Error} {t : ReaderState} → ByteRefused s e t → ZeroOctet s (Err e) t
+  other_read : {e : Error} {c t : ReaderState} (o : ℕ) → s.failed ≡ false → Reads s c (o ∷ []) → o ≢ 0 → Stops c (refusal IndefiniteLength c.position) e t → ZeroOctet s (Err e) t
+
+pub zero_octet : {s t : ReaderState} (r : Result (Unit {0}) Error) → IsSound s → Gives read_zero_octet_outcome s r t → ZeroOctet s r t
+zero_octet {s} {t} r sound h = go (read_byte_outcome s).answer refl
+  where
+    behind : (o : ℕ) → (read_byte_outcome s).answer ≡ Ok o → read_zero_octet_outcome s ≡ zero_octet_outcome o (read_byte_outcome s).after
+    behind o a = ap (λ x. outcome_following x (read_byte_outcome s).after zero_octet_outcome) a
+
+    octet : (o : ℕ) → (r : Result (Unit {0}) Error) → Gives read_byte_outcome s (Ok o) (read_byte_outcome s).after → Gives (zero_octet_outcome o) (read_byte_outcome s).after r t → ZeroOctet s r t
+    octet zero (Ok v) read g = zero_read (byte_working _ _ _ read) (byte_read (subst (Gives read_byte_outcome s (Ok 0)) (sym g.leaves) read))
+    octet zero (Err e) read g = absurd (let a = g.answered in cc)
+    octet (suc o) r read g = other o r read (record { answered = g.answered ∙ ap (λ x. x.answer) (not_zero o (read_byte_outcome s).after); leaves = g.leaves ∙ ap (λ x. x.after) (not_zero o (read_byte_outcome s).after) })
+      where
+        other : (o : ℕ) → (r : Result (Unit {0}) Error) → Gives read_byte_outcome s (Ok (suc o)) (read_byte_outcome s).after → Gives (kind_outcome (Unit {0}) IndefiniteLength) (read_byte_outcome s).after r t → ZeroOctet s r t
+        other o (Ok v) read g = absurd (let a = g.answered in cc)
+        other o (Err e) read g =
+            other_read (suc o) (byte_working _ _ _ read) (byte_read read) (omega arith)
+            (error_stops (read_byte_outcome s).after t IndefiniteLength e (let a = g.answered in cc) g.leaves)
+
+    go : (a : Result ℕ Error) → (read_byte_outcome s).answer ≡ a → ZeroOctet s r t
+    go (Ok o) a = octet o r (record { answered = sym a; leaves = refl }) (record { answered = h.answered ∙ ap (λ x. x.answer) (behind o a); leaves = h.leaves ∙ ap (λ x. x.after) (behind o a) })
+    go (Err e) a =
+        let table : read_zero_octet_outcome s ≡ outcome_of (Err e) (read_byte_outcome s).after = ap (λ x. outcome_following x (read_byte_outcome s).after zero_octet_outcome) a in
+        let cut : Gives read_byte_outcome s (Err e) t = record { answered = sym a; leaves = h.leaves ∙ ap (λ x. x.after) table } in
+        subst (λ x. ZeroOctet s x t) (sym (h.answered ∙ ap (λ x. x.answer) table)) (zero_cut (byte_refused sound cut))
 
 -- the two octets, one after the other
 abbrev both : ReaderState → Outcome (Unit {0})
@@ -16,9 +51,6 @@ one_front s q w e = ap (λ o. chained_outcome o zero_octet_outcome) (by_front s 
 
 two_on : (s : ReaderState) → advanced_state (advanced_state s 1) 1 ≡ advanced_state s 2
 two_on s = (let sum : s.position + 1 + 1 ≡ s.position + 2 = omega arith in ap (λ p. record s { position = p }) sum)
-
-not_zero : (o : ℕ) (s : ReaderState) → zero_octet_outcome (suc o) s ≡ kind_outcome (Unit {0}) IndefiniteLength s
-not_zero o s = (let no : (suc o == 0) ≡ false = grind arith in rw no refl)
 
 second : (s : ReaderState) (q : List ℕ) → s.failed ≡ false → rest (advanced_state s 1) ≡ q → read_zero_octet_outcome (advanced_state s 1) ≡ end_mark_outcome s (zero ∷ q)
 second s [] w e = one_front (advanced_state s 1) [] w e

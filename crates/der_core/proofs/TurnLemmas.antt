@@ -21,6 +21,7 @@ use Rattle.der_core.specs.Decode.{at_fault, has_failed}
 use Rattle.der_core.specs.AfterFirstOctet.{RefusesIdentifier, RefusesLongLength, Stops}
 use Rattle.der_core.specs.Turn.{PartRead, RefusesPart}
 use Rattle.der_core.specs.declared.length.indefinite.Part.TheVariants.{Ends, Passes, Opens}
+use Rattle.der_core.proofs.EndMarkLemmas.{ZeroOctet, zero_read, zero_cut, other_read}
 use Rattle.der_core.proofs.StateLemmas.{reads_on, reads_front, position_on, failed_on, rules_on, stops_on, error_stops, length-rest, ByteRefused, byte_failed, byte_cut, cut_refused}
 
 -- too few octets for a slice
@@ -126,21 +127,16 @@ module _ (level : ℕ) {a : ReaderState} where
 
   -- a zero octet
   module _ {b : ReaderState} {o : ℕ} (working : a.failed ≡ false) (h : Reads a b (o ∷ [])) where
-    pub part_half : {t : ReaderState} {e : Error} → o ≡ 0 → ByteRefused b e t → RefusesPart level a e t
-    part_half is cannot =
+    pub part_mark : {t : ReaderState} {v : Unit {0}} → o ≡ 0 → ZeroOctet b (Ok v) t → PartRead level Ends a t
+    part_mark {t} is (zero_read w g) = record { octets = o ∷ 0 ∷ []; working = working; is_part = ap (λ x. x ∷ 0 ∷ []) is; reads = reads_on h g }
+
+    pub part_no_mark : {t : ReaderState} {e : Error} → o ≡ 0 → ZeroOctet b (Err e) t → RefusesPart level a e t
+    part_no_mark is (zero_cut cannot) =
         let r = cut_refused (failed_on h ∙ working) cannot in
         stops_there end_refusal working h (sym (position_on h)) (h.split ∙ ap (λ l. o ∷ l) r.0 ∙ ap (λ x. x ∷ []) is) half_mark r.1
-
-    pub part_no_mark : {c t : ReaderState} {second : ℕ} {e : Error} → o ≡ 0 → Reads b c (second ∷ []) → second ≢ 0 → e ≡ error_at IndefiniteLength (reader_position c) → t ≡ stopped_state c c.position
-        → RefusesPart level a e t
-    part_no_mark {c} {t} {second} {e} is g other told leaves =
+    part_no_mark is (other_read {c = c} second w g other stops) =
         let both = reads_on h g in
-        stops_there (refusal IndefiniteLength) working both (sym (position_on both)) (both.split ∙ ap (λ x. x ∷ second ∷ rest c) is) (no_mark second (rest c) other)
-        (error_stops c t IndefiniteLength e told leaves)
-
-    pub part_ends : {c : ReaderState} {second : ℕ} → o ≡ 0 → Reads b c (second ∷ []) → second ≡ 0 → PartRead level Ends a c
-    part_ends {c} {second} is g zero_too =
-        record { octets = o ∷ second ∷ []; working = working; is_part = ap (λ x. x ∷ second ∷ []) is ∙ ap (λ x. 0 ∷ x ∷ []) zero_too; reads = reads_on h g }
+        stops_there (refusal IndefiniteLength) working both (sym (position_on both)) (both.split ∙ ap (λ x. x ∷ second ∷ rest c) is) (no_mark second (rest c) other) stops
 
     -- another octet that begins no identifier
     pub part_refused : {t : ReaderState} {e : Error} → a.rules ≡ Ber → o ≢ 0 → RefusesIdentifier o b e t → RefusesPart level a e t

@@ -10,6 +10,7 @@ ghost use Rattle.der_core.specs.Turn.{PartRead, RefusesPart};
 
 use crate::length::turns::Turns;
 use crate::length::{INDEFINITE, decode_long_length};
+use crate::reader::value::read_zero_octet;
 use crate::reader::{Reader, ReaderExt};
 use crate::tag::decode_identifier_behind;
 use der_base::{Error, ErrorKind, Length, Tag};
@@ -90,10 +91,7 @@ fn next_part<R: Reader>(reader: &mut R, level: u8) -> Result<Part, Error>
 {
     let first = reader.read_byte()?;
     if first == 0 {
-        let second = reader.read_byte()?;
-        if second != 0 {
-            return Err(reader.error(ErrorKind::IndefiniteLength));
-        }
+        read_zero_octet(reader)?;
         return Ok(Part::Ends);
     }
     let (tag, constructed) = decode_identifier_behind(reader, first)?;

@@ -33,7 +33,8 @@ pub fn read_eoc<R: Reader>(reader: &mut R) -> Result<(), Error>
     read_zero_octet(reader)
 }
 
-fn read_zero_octet<R: Reader>(reader: &mut R) -> Result<(), Error>
+// One octet of an end mark.
+pub(crate) fn read_zero_octet<R: Reader>(reader: &mut R) -> Result<(), Error>
     ensures same { Same (R.state reader.old) (R.state reader.new) }
     ensures exact { Meets R.reliable read_zero_octet_outcome (R.state reader.old) result
         (R.state reader.new) }

@@ -1,7 +1,8 @@
 use Rattle.std.proofs.Common.{arith}
 use Rattle.std.proofs.lemmas.Result.{err_from_is_err_and}
 use Rattle.der_core.proofs.StateLemmas.{byte_working, byte_read, byte_refused}
-use Rattle.der_core.proofs.TurnLemmas.{identifier_passed, length_passed, part_nothing, part_half, part_no_mark, part_ends, part_refused, part_no_length, part_primitive, part_too_deep, part_opens, part_wrong_length, part_short, part_passes}
+use Rattle.der_core.proofs.EndMarkLemmas.{zero_octet}
+use Rattle.der_core.proofs.TurnLemmas.{identifier_passed, length_passed, part_nothing, part_mark, part_no_mark, part_refused, part_no_length, part_primitive, part_too_deep, part_opens, part_wrong_length, part_short, part_passes}
 use Rattle.der_core.proofs.length.indefinite.next_part.Goals as goal
 
 pub returns-in_err-first-clause-exact : goal.returns-in_err-first-clause-exact
@@ -9,21 +10,16 @@ returns-in_err-first-clause-exact g c reliable =
     let p = err_from_is_err_and c.from_residual.result c.from_residual.ensures.1 in
     rw (p.1, p.2) (part_nothing c.args.level (byte_refused (g.met.R.Reader.lawful c.args.reader.now) (c.in_err-first.ensures.exact reliable)))
 
-pub returns-in_err-second-clause-exact : goal.returns-in_err-second-clause-exact
-returns-in_err-second-clause-exact g c reliable =
-    let p = err_from_is_err_and c.from_residual-in_err-second.result c.from_residual-in_err-second.ensures.1 in
+pub returns-in_err-read_zero_octet-clause-exact : goal.returns-in_err-read_zero_octet-clause-exact
+returns-in_err-read_zero_octet-clause-exact g c reliable =
+    let p = err_from_is_err_and c.from_residual-in_err-read_zero_octet.result c.from_residual-in_err-read_zero_octet.ensures.1 in
     let first = c.in_ok-first.ensures.exact in
-    rw (p.1, p.2) (part_half c.args.level (byte_working _ _ _ first) (byte_read first) c.if-first-eq0.true (byte_refused (g.met.R.Reader.lawful c.read_byte.new.self) (c.in_err-second.ensures.exact reliable)))
-
-pub returns-then-second-ne0-clause-exact : goal.returns-then-second-ne0-clause-exact
-returns-then-second-ne0-clause-exact g c reliable =
-    let first = c.in_ok-first.ensures.exact in
-    part_no_mark c.args.level (byte_working _ _ _ first) (byte_read first) c.if-first-eq0.true (byte_read c.in_ok-second.ensures.exact) c.if-second-ne0.true c.error.ensures.at_position c.error.ensures.failed
+    rw (p.1, p.2) (part_no_mark c.args.level (byte_working _ _ _ first) (byte_read first) c.if-first-eq0.true (zero_octet _ (g.met.R.Reader.lawful c.read_byte.new.self) (c.in_err-read_zero_octet.ensures.exact reliable)))
 
 pub returns-then-first-eq0-clause-ok : goal.returns-then-first-eq0-clause-ok
 returns-then-first-eq0-clause-ok g c =
     let first = c.in_ok-first.ensures.exact in
-    part_ends c.args.level (byte_working _ _ _ first) (byte_read first) c.if-first-eq0.true (byte_read c.in_ok-second.ensures.exact) c.if-second-ne0.false
+    part_mark c.args.level (byte_working _ _ _ first) (byte_read first) c.if-first-eq0.true (zero_octet _ (g.met.R.Reader.lawful c.read_byte.new.self) c.in_ok-read_zero_octet.ensures.exact)
 
 pub returns-in_err-tag-clause-exact : goal.returns-in_err-tag-clause-exact
 returns-in_err-tag-clause-exact g c reliable =
@@ -44,8 +40,8 @@ returns-then-not-constructed-clause-exact g c reliable =
     let first = c.in_ok-first.ensures.exact in
     let found = c.in_ok-tag.ensures.ok in
     let id = identifier_passed c.requires.ber (byte_working _ _ _ first) (byte_read first) found.1 found.2 in
-    part_primitive c.args.level id (byte_read c.in_ok-octet.ensures.exact) c.if-octet.true c.if-not-constructed.true c.error-then-not-constructed.ensures.at_position
-    c.error-then-not-constructed.ensures.failed
+    part_primitive c.args.level id (byte_read c.in_ok-octet.ensures.exact) c.if-octet.true c.if-not-constructed.true c.error.ensures.at_position
+    c.error.ensures.failed
 
 pub returns-then-level-eq-MAX_LEVEL-clause-exact : goal.returns-then-level-eq-MAX_LEVEL-clause-exact
 returns-then-level-eq-MAX_LEVEL-clause-exact g c reliable =
