@@ -6,6 +6,7 @@ pub mod contents;
 pub mod front;
 pub mod key_info;
 pub mod lent;
+pub mod message;
 pub mod nested;
 pub mod reader;
 pub mod sequence;

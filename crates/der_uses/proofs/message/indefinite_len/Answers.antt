@@ -1,0 +1,17 @@
+use Rattle.std.proofs.Common.{◌≡◌, ℕ, ◌+◌, ◌/◌, ◌≤◌, Result, Ok, Err, List, length, ap, ◌∙◌, length-append, arith}
+use Rattle.der_base.proofs.GrowthLemmas.{body_parts}
+use Rattle.der_base.specs.declared.length.Length.{Length}
+use Rattle.der_base.specs.declared.error.Error.{Error}
+use Rattle.der_base.specs.declared.encoding_rules.EncodingRules.TheVariants.{Ber}
+use Rattle.der_core.specs.ReaderState.{rest}
+use Rattle.der_core.specs.Scan.{IsTurned}
+use Rattle.der_core.proofs.DecodeLemmas.{rest-beginning}
+use Rattle.der_uses.proofs.message.indefinite_len.Goals as goal
+
+-- a turn takes two octets
+bounded : (octets all : List ℕ) (r : Result Length Error) (before after : ℕ) → octets ≡ all → IsTurned octets r before after → after ≤ before + (length all / 2 + 1)
+bounded octets all (Ok l) before after e (parts, (body, behind, is, split), counted) = omega (arith, body_parts is, ap length split, ap length e, length-append body behind, counted)
+bounded octets all (Err x) before after e h = omega (arith, h.1, ap length e)
+
+pub returns : goal.returns
+returns g c = bounded _ c.args.octets.now c.scan_indefinite.result _ _ (ap rest c.in_ok-reader.ensures.ok ∙ rest-beginning Ber c.args.octets.now) c.scan_indefinite.ensures.turned

@@ -1,0 +1,32 @@
+//! A message under the Basic Encoding Rules.
+ghost use Rattle.std.specs.Prelude.{◌≡◌, ℕ, ◌+◌, ◌/◌, ◌≤◌, length, take, drop, IfOk};
+ghost use Rattle.der_base.specs.Header.{HeaderAhead};
+ghost use Rattle.der_base.specs.Length.{number};
+ghost use Rattle.der_base.specs.declared.encoding_rules.EncodingRules.TheVariants.{Ber};
+ghost use Rattle.der_core.specs.Header.{head_of};
+
+use der::{
+    EncodingRules, Error, Header, Length, Reader, ReaderExt, SliceReader, Turns, decode_header,
+};
+use std::sync::ledger::Ledger;
+
+/// The header at the front of a message, and the octets that it announces; behind contents of an
+/// indefinite length their end mark is among them.
+pub fn first_message(octets: &[u8]) -> Result<(Header, &[u8]), Error>
+    ensures { IfOk result (λ p. (m : ℕ) × HeaderAhead (head_of p.0) Ber octets.now m
+        × (p.1.now ≡ take (number (head_of p.0).length) (drop m octets.now))) }
+{
+    let mut reader = SliceReader::new_with_encoding_rules(octets, EncodingRules::Ber)?;
+    let header = decode_header(&mut reader)?;
+    let contents = reader.read_slice(header.length())?;
+    Ok((header, contents))
+}
+
+/// How many octets the contents of an indefinite length have at the front of the octets, with the
+/// end mark. Whatever the octets are, that takes a turn for each two of them at most, and one more.
+pub fn indefinite_len<L: Ledger>(octets: &[u8], turns: &mut Turns<L>) -> Result<Length, Error>
+    ensures { turns.new ≤ turns.old + (length octets.now / 2 + 1) }
+{
+    let reader = SliceReader::new_with_encoding_rules(octets, EncodingRules::Ber)?;
+    reader.scan_indefinite(turns)
+}
