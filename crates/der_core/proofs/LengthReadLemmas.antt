@@ -155,10 +155,15 @@ refused_by_scan {s} ber (at_fault r w fault told leaves) wrong at here working =
   record { told = told; leaves = ap (λ p. record s { position = p }) here },
 )
 
-pub scanned_form : (result : Result Length Error) (reliable : Bool) (s : ReaderState) → s.rules ≡ Ber → ScansAhead reliable s result
+scanned : (result : Result Length Error) (reliable : Bool) (s : ReaderState) → s.rules ≡ Ber → ScansAhead reliable s result
     → IfOk result (λ l. IsIndefiniteForm l s s) × (reliable ≡ true → IfErr result (λ e. RefusesIndefinite s e s))
-scanned_form (Ok l) reliable s ber h = (record { octets = h.1.ok.octets; under_ber = ber; ahead = h.1.ok.ahead; leaves = refl }, λ _. tt)
-scanned_form (Err e) reliable s ber h = (tt, λ is. refused_by_scan ber (h.1.refused is))
+scanned (Ok l) reliable s ber h = (record { octets = h.1.ok.octets; under_ber = ber; ahead = h.1.ok.ahead; leaves = refl }, λ _. tt)
+scanned (Err e) reliable s ber h = (tt, λ is. refused_by_scan ber (h.1.refused is))
+
+-- the scan of a fork
+pub scanned_form : (result : Result Length Error) (reliable : Bool) (f s : ReaderState) → f ≡ s → s.rules ≡ Ber → ScansAhead reliable f result
+    → IfOk result (λ l. IsIndefiniteForm l s s) × (reliable ≡ true → IfErr result (λ e. RefusesIndefinite s e s))
+scanned_form result reliable f s same ber h = scanned result reliable s ber (subst (λ x. ScansAhead reliable x result) same h)
 
 passed_indefinite : {a b t : ReaderState} {o : ℕ} {l : Length} → o ≡ 128 → a.failed ≡ false → Reads a b (o ∷ []) → IsIndefiniteForm l b t → Passes (LengthAhead l) a t
 passed_indefinite {a} {b} {t} {o} {l} is working h form =

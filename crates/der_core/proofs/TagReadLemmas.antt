@@ -17,7 +17,7 @@ use Rattle.der_base.proofs.IdentifierLemmas.{identifier_at, segments_identifier,
 use Rattle.der_base.proofs.TagLemmas.{universal_constructed}
 use Rattle.der_core.specs.ReaderState.{ReaderState, rest, reader_position, stopped_state, Same, Reads}
 use Rattle.der_core.specs.Decode.{Passes, Decodes, IsRefusedBy, at_fault, has_failed}
-use Rattle.der_core.specs.AfterFirstOctet.{RefusesIdentifier, RefusesNumber, Stops}
+use Rattle.der_core.specs.AfterFirstOctet.{IdentifierBehind, RefusesIdentifier, RefusesNumber, Stops}
 use Rattle.der_core.proofs.DecodeLemmas.{decoded_ok, decoded_err}
 use Rattle.der_core.proofs.StateLemmas.{reads_none, reads_on, position_on, failed_on, rules_on, stops_on, same_trans, error_stops, ByteRefused, byte_failed, byte_cut}
 
@@ -101,26 +101,23 @@ passed_tag {a} {t} {id} {x} working h is =
       leaves = h.state;
     }
 
--- an identifier behind its first octet
-abbrev pub FoundBehind : ℕ → ReaderState → Tag → Bool → ReaderState → Type 0
-FoundBehind o s x b t = (l : List ℕ) × IsIdentifier s.rules (o ∷ l) x b × Reads s t l
+-- the bit that was told
+with_bit : {o : ℕ} {s t : ReaderState} {x : Tag} {b c : Bool} → b ≡ c → IdentifierBehind o x c s t → IdentifierBehind o x b s t
+with_bit {o} {s} {t} {x} e h = subst (λ y. IdentifierBehind o x y s t) (sym e) h
 
-with_bit : {o : ℕ} {s t : ReaderState} {x : Tag} {b c : Bool} → b ≡ c → FoundBehind o s x c t → FoundBehind o s x b t
-with_bit {o} {s} {t} {x} e h = subst (λ y. FoundBehind o s x y t) (sym e) h
-
-pub found_universal : (s : ReaderState) (o : ℕ) {x : Tag} {b : Bool} → Some x ≡ universal_tag o → b ≡ is_constructed o → FoundBehind o s x b s
+pub found_universal : (s : ReaderState) (o : ℕ) {x : Tag} {b : Bool} → Some x ≡ universal_tag o → b ≡ is_constructed o → IdentifierBehind o x b s s
 found_universal s o {x} e bit =
     with_bit bit ([], identifier_at refl (universal_constructed o x (sym e)) (universal_identifier o x (sym e)), reads_none s)
 
-pub found_segments : (s : ReaderState) (o : ℕ) → o ≡ 36 → s.rules ≡ Ber → FoundBehind o s OctetString true s
+pub found_segments : (s : ReaderState) (o : ℕ) → o ≡ 36 → s.rules ≡ Ber → IdentifierBehind o OctetString true s s
 found_segments s o is ber = ([], subst (λ rules. IsIdentifier rules (o ∷ []) OctetString true) (sym ber) (segments_identifier o is), reads_none s)
 
-pub found_short : (s : ReaderState) (o : ℕ) {x : Tag} {b : Bool} → 64 ≤ o → o < 256 → o % 32 < 31 → x ≡ other_tag o (o % 32) → b ≡ is_constructed o → FoundBehind o s x b s
+pub found_short : (s : ReaderState) (o : ℕ) {x : Tag} {b : Bool} → 64 ≤ o → o < 256 → o % 32 < 31 → x ≡ other_tag o (o % 32) → b ≡ is_constructed o → IdentifierBehind o x b s s
 found_short s o low high few e bit =
     with_bit bit ([], subst (λ y. IsIdentifier s.rules (o ∷ []) y (is_constructed o)) (sym e) (short_identifier o low high few), reads_none s)
 
 pub found_long : {s t : ReaderState} (o : ℕ) {n : ℕ} {x : Tag} {b : Bool} → Reads s t (continuation_octets (digits 128 n)) → 64 ≤ o → o < 256 → o % 32 ≡ 31 → 31 ≤ n → n < 2 ^ 32
-    → x ≡ other_tag o n → b ≡ is_constructed o → FoundBehind o s x b t
+    → x ≡ other_tag o n → b ≡ is_constructed o → IdentifierBehind o x b s t
 found_long {s} o {n} g low high all large small e bit =
     with_bit bit (continuation_octets (digits 128 n), subst (λ y. IsIdentifier s.rules (o ∷ continuation_octets (digits 128 n)) y (is_constructed o)) (sym e) (long_identifier o n low high all large small), g)
 
@@ -150,7 +147,7 @@ pub tag_cut : {reliable : Bool} {a t : ReaderState} {e : Error} → Same a t →
 tag_cut same refused = decoded_err same (λ reliable. tag_ends (refused reliable))
 
 pub tag_behind : {reliable : Bool} {a b t : ReaderState} {o : ℕ} (result : Result (Tag × Bool) Error) → a.failed ≡ false → Reads a b (o ∷ []) → Same a b → Same b t
-    → IfOk result (λ x. FoundBehind o b x.0 x.1 t) → (reliable ≡ true → IfErr result (λ e. RefusesIdentifier o b e t)) → Decodes IdentifierAhead IdentifierFault reliable a result t
+    → IfOk result (λ x. IdentifierBehind o x.0 x.1 b t) → (reliable ≡ true → IfErr result (λ e. RefusesIdentifier o b e t)) → Decodes IdentifierAhead IdentifierFault reliable a result t
 tag_behind {o = o} (Ok x) working h p q found refused =
     decoded_ok (same_trans p q) (passed_tag working (reads_on h found.2) (subst (λ rules. IsIdentifier rules (o ∷ found.0) x.0 x.1) (rules_on h) found.1))
 tag_behind (Err e) working h p q found refused = decoded_err (same_trans p q) (λ reliable. behind_refused working h (refused reliable))

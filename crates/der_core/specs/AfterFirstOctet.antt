@@ -1,7 +1,8 @@
--- What is refused behind a first octet, which stood at a position and was read.
-use Rattle.std.specs.Prelude.{◌≡◌, ℕ, ◌+◌, ◌%◌, ◌<◌, ◌≤◌, false, Option, Some, None, ◌∷◌}
+-- What is read and refused behind a first octet, which stood at a position and was read.
+use Rattle.std.specs.Prelude.{◌≡◌, ℕ, ◌+◌, ◌%◌, ◌^◌, ◌<◌, ◌≤◌, Bool, false, Option, Some, None, List, ◌∷◌}
 use Rattle.der_base.specs.Error.{Refusal}
-use Rattle.der_base.specs.Tag.{IdentifierFault}
+use Rattle.der_base.specs.Tag.{IsIdentifier, IdentifierFault}
+use Rattle.der_base.specs.Length.{length_octets}
 use Rattle.der_base.specs.Scan.{NoBodyFault, BodyAhead, BodyFault}
 use Rattle.der_base.specs.Header.{LengthFault}
 use Rattle.der_base.specs.declared.error.Error.{Error}
@@ -10,7 +11,7 @@ use Rattle.der_base.specs.declared.error.ErrorKind.TheVariants.{Overlength, Leng
 use Rattle.der_base.specs.declared.encoding_rules.EncodingRules.TheVariants.{Ber}
 use Rattle.der_base.specs.declared.length.Length.{Length}
 use Rattle.der_base.specs.declared.tag.Tag.{Tag}
-use Rattle.der_core.specs.ReaderState.{ReaderState, rest, state_after}
+use Rattle.der_core.specs.ReaderState.{ReaderState, rest, state_after, Reads}
 
 -- a refusal is told as its error, and leaves the reader so
 pub record Stops (s : ReaderState) (r : Refusal) (e : Error) (t : ReaderState) : Type 0 where
@@ -24,7 +25,12 @@ RefusesNumber s e t =
     → first % 32 ≡ 31
     → (r : Refusal) × IdentifierFault s.rules at (first ∷ rest s) r × Stops s r e t
 
--- an identifier, behind this first octet
+-- an identifier of a tag and a constructed bit, behind this first octet
+abbrev pub IdentifierBehind : ℕ → Tag → Bool → ReaderState → ReaderState → Type 0
+IdentifierBehind first t b s u =
+    (l : List ℕ) × IsIdentifier s.rules (first ∷ l) t b × Reads s u l
+
+-- and its refusal there
 abbrev pub RefusesIdentifier : ℕ → ReaderState → Error → ReaderState → Type 0
 RefusesIdentifier first s e t =
     (at : ℕ) → s.position ≡ at + 1 → s.failed ≡ false
@@ -36,8 +42,12 @@ abbrev pub wrong_length_kind : Option Tag → ErrorKind
 wrong_length_kind None = Overlength
 wrong_length_kind (Some t) = IncorrectLength t
 
--- a definite length, behind this first octet; one that is not spelled as it has to be is told as
--- this kind
+-- a definite length, behind this first octet
+abbrev pub DefiniteBehind : ℕ → ℕ → ReaderState → ReaderState → Type 0
+DefiniteBehind first n s t =
+    (l : List ℕ) × (length_octets n ≡ first ∷ l) × Reads s t l × (n < 2 ^ 32)
+
+-- and its refusal there; one that is not spelled as it has to be is told as this kind
 abbrev pub RefusesLongLength : ErrorKind → ℕ → ReaderState → Error → ReaderState → Type 0
 RefusesLongLength wrong first s e t =
     (at : ℕ) → s.position ≡ at + 1 → s.failed ≡ false

@@ -4,7 +4,7 @@ ghost use Rattle.der_base.specs.Scan.{BodyFault};
 ghost use Rattle.der_base.specs.Length.{number, definite_length, length_octets};
 ghost use Rattle.der_base.specs.Header.{LengthAhead, LengthFault};
 ghost use Rattle.der_base.specs.declared.error.ErrorKind.TheVariants.{Overlength};
-ghost use Rattle.der_core.specs.AfterFirstOctet.{IsIndefiniteForm, RefusesIndefinite, RefusesLongLength, wrong_length_kind};
+ghost use Rattle.der_core.specs.AfterFirstOctet.{DefiniteBehind, IsIndefiniteForm, RefusesIndefinite, RefusesLongLength, wrong_length_kind};
 ghost use Rattle.der_core.specs.Decode.{Decodes, grammar_levels};
 ghost use Rattle.der_core.specs.Encode.{length_outcome};
 ghost use Rattle.der_core.specs.ReaderState.{Same, Reads};
@@ -60,7 +60,7 @@ pub(crate) fn decode_length_behind<R: Reader>(
 
 // The length behind octet 80: under the Basic Encoding Rules it counts the body ahead, which is
 // not passed (X.690 8.1.3.6).
-#[cold]
+#[inline(always)]
 fn decode_indefinite_form<R: Reader>(reader: &mut R) -> Result<Length, Error>
     ensures same { Same (R.state reader.old) (R.state reader.new) }
     ensures ok { IfOk result (λ l. IsIndefiniteForm l (R.state reader.old) (R.state reader.new)) }
@@ -70,12 +70,12 @@ fn decode_indefinite_form<R: Reader>(reader: &mut R) -> Result<Length, Error>
     if reader.encoding_rules().is_der() {
         return Err(reader.error(ErrorKind::IndefiniteLength));
     }
-    scan_uncounted(reader)
+    scan_uncounted(reader.fork())
 }
 
 // The rest of a length behind a first octet from 81 on: so many octets in base 256, the fewest
 // possible.
-#[inline]
+#[inline(always)]
 pub(crate) fn decode_long_length<R: Reader>(
     reader: &mut R,
     first: u8,
@@ -83,8 +83,8 @@ pub(crate) fn decode_long_length<R: Reader>(
 ) -> Result<u32, Error>
     requires { 128 < first }
     ensures same { Same (R.state reader.old) (R.state reader.new) }
-    ensures ok { IfOk result (λ n. (l : List ℕ) × (length_octets n ≡ first ∷ l)
-        × Reads (R.state reader.old) (R.state reader.new) l × (n < 2 ^ 32)) }
+    ensures ok { IfOk result (λ n. DefiniteBehind first n (R.state reader.old)
+        (R.state reader.new)) }
     ensures exact { R.reliable ≡ true
         → IfErr result (λ e. RefusesLongLength (wrong_length_kind tag) first
         (R.state reader.old) e (R.state reader.new)) }

@@ -3,7 +3,7 @@ ghost use Rattle.std.specs.Prelude.{◌≡◌, ℕ, ◌^◌, ◌<◌, ◌≤◌,
 ghost use Rattle.der_base.specs.Length.{definite_length, digits};
 ghost use Rattle.der_base.specs.Tag.{label, leading_octet, tag_octets, continuation_octets, universal_tag, other_tag, is_constructed, IsIdentifier, IdentifierFault, identifier_kind};
 ghost use Rattle.der_base.specs.Header.{IdentifierAhead, TagAhead};
-ghost use Rattle.der_core.specs.AfterFirstOctet.{RefusesIdentifier, RefusesNumber};
+ghost use Rattle.der_core.specs.AfterFirstOctet.{IdentifierBehind, RefusesIdentifier, RefusesNumber};
 ghost use Rattle.der_core.specs.Decode.{Decodes, grammar_levels};
 ghost use Rattle.der_core.specs.Encode.{single_octets, high_digits, tag_outcome};
 ghost use Rattle.der_core.specs.ReaderState.{Same, Reads};
@@ -105,9 +105,8 @@ pub(crate) fn decode_identifier_behind<R: Reader>(
     first: u8,
 ) -> Result<(Tag, bool), Error>
     ensures same { Same (R.state reader.old) (R.state reader.new) }
-    ensures ok { IfOk result (λ x. (l : List ℕ)
-        × IsIdentifier (R.state reader.old).rules (first ∷ l) x.0 x.1
-        × Reads (R.state reader.old) (R.state reader.new) l) }
+    ensures ok { IfOk result (λ x. IdentifierBehind first x.0 x.1 (R.state reader.old)
+        (R.state reader.new)) }
     ensures exact { R.reliable ≡ true → IfErr result
         (λ e. RefusesIdentifier first (R.state reader.old) e (R.state reader.new)) }
 {
@@ -142,6 +141,7 @@ fn unknown(first: u8) -> ErrorKind
 }
 
 // The number behind a first octet whose five number bits are set (X.690 8.1.2.4).
+#[inline(always)]
 fn decode_long_number<R: Reader>(reader: &mut R) -> Result<u32, Error>
     ensures same { Same (R.state reader.old) (R.state reader.new) }
     ensures ok { IfOk result (λ n. Reads (R.state reader.old) (R.state reader.new)

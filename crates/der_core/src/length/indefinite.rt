@@ -3,7 +3,7 @@ ghost use Rattle.std.specs.Prelude.{◌≡◌, ◌≢◌, ℕ, ◌^◌, ◌<◌,
 ghost use Rattle.der_base.specs.Length.{length_octets};
 ghost use Rattle.der_base.specs.declared.encoding_rules.EncodingRules.TheVariants.{Ber};
 ghost use Rattle.der_base.specs.declared.error.ErrorKind.TheVariants.{Length as IncorrectLength};
-ghost use Rattle.der_core.specs.AfterFirstOctet.{RefusesLongLength};
+ghost use Rattle.der_core.specs.AfterFirstOctet.{DefiniteBehind, RefusesLongLength};
 ghost use Rattle.der_core.specs.ReaderState.{rest, Same, Reads};
 ghost use Rattle.der_core.specs.Scan.{Scans, ScansAhead, IsTurned};
 ghost use Rattle.der_core.specs.Turn.{PartRead, RefusesPart};
@@ -114,8 +114,8 @@ fn next_part<R: Reader>(reader: &mut R, level: u8) -> Result<Part, Error>
 fn decode_definite<R: Reader>(reader: &mut R, first: u8, tag: Tag) -> Result<u32, Error>
     requires { first ≢ 128 }
     ensures same { Same (R.state reader.old) (R.state reader.new) }
-    ensures ok { IfOk result (λ n. (l : List ℕ) × (length_octets n ≡ first ∷ l)
-        × Reads (R.state reader.old) (R.state reader.new) l × (n < 2 ^ 32)) }
+    ensures ok { IfOk result (λ n. DefiniteBehind first n (R.state reader.old)
+        (R.state reader.new)) }
     ensures exact { R.reliable ≡ true
         → IfErr result (λ e. RefusesLongLength (IncorrectLength tag) first
         (R.state reader.old) e (R.state reader.new)) }
@@ -126,21 +126,23 @@ fn decode_definite<R: Reader>(reader: &mut R, first: u8, tag: Tag) -> Result<u32
     decode_long_length(reader, first, Some(tag))
 }
 
-// Scans the body ahead where nobody counts the turns.
-pub(crate) fn scan_uncounted<R: Reader>(reader: &R) -> Result<Length, Error>
-    requires ber { (R.state reader.now).rules ≡ Ber }
-    ensures { ScansAhead R.reliable (R.state reader.now) result }
+// Scans the body ahead of a fork where nobody counts the turns. It takes the fork by value, since a
+// reader whose address is handed to a call is kept in no registers.
+#[cold]
+pub(crate) fn scan_uncounted<R: Reader>(fork: R) -> Result<Length, Error>
+    requires ber { (R.state fork).rules ≡ Ber }
+    ensures { ScansAhead R.reliable (R.state fork) result }
 {
-    scan_counted::<R, Brand>(reader, Blank::new(1))
+    scan_counted::<R, Brand>(fork, Blank::new(1))
 }
 
-fn scan_counted<R: Reader, L: Ledger>(reader: &R, blank: Blank) -> Result<Length, Error>
-    requires ber { (R.state reader.now).rules ≡ Ber }
+fn scan_counted<R: Reader, L: Ledger>(fork: R, blank: Blank) -> Result<Length, Error>
+    requires ber { (R.state fork).rules ≡ Ber }
     requires name { blank.name ≡ L.name }
     requires parts { blank.parts ≡ L.parts }
     requires whole { blank.parts ≡ 1 }
-    ensures { ScansAhead R.reliable (R.state reader.now) result }
+    ensures { ScansAhead R.reliable (R.state fork) result }
 {
     let mut turns = Turns::<L>::new(blank);
-    reader.scan_indefinite(&mut turns)
+    fork.scan_indefinite(&mut turns)
 }
