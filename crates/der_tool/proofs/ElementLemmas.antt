@@ -1,43 +1,36 @@
 -- What the octets of a whole element say of the input.
-use Rattle.std.proofs.Common.{◌≡◌, ℕ, ◌+◌, ◌^◌, ◌<◌, ◌≤◌, if◌then◌else◌, Bool, true, false, Result, Ok, Err, IfOk, IfErr, List, length, take, refl, sym, ap, ◌∙◌, subst, inl, inr, ⊎_elim, arith}
+use Rattle.std.proofs.Common.{◌≡◌, ℕ, ◌+◌, ◌^◌, ◌<◌, ◌≤◌, if◌then◌else◌, Bool, true, Result, Ok, Err, IfOk, IfErr, List, length, take, refl, sym, ap, ◌∙◌, subst, ⊎_elim, arith}
 use Rattle.std.proofs.lemmas.Bool.{lt-ltb, le-ltb, cases_lt, lt-leb, le-leb}
 use Rattle.der_base.specs.Error.{error_of_kind, missing_refusal}
 use Rattle.der_base.specs.Length.{number}
-use Rattle.der_base.specs.Scan.{BodyFault}
-use Rattle.der_base.specs.Header.{Head, HeaderAhead, HeaderFault}
+use Rattle.der_base.specs.Header.{Head, HeaderAhead}
 use Rattle.der_base.specs.declared.error.Error.{Error}
 use Rattle.der_base.specs.declared.error.ErrorKind.TheVariants.{Overflow}
-use Rattle.der_base.specs.declared.encoding_rules.EncodingRules.TheVariants.{Der}
+use Rattle.der_base.specs.declared.encoding_rules.EncodingRules.{EncodingRules}
 use Rattle.der_core.specs.ReaderState.{ReaderState, initial_state, rest, advanced_state}
 use Rattle.der_core.specs.Outcome.{outcome_of, map_ok, IsBinding}
 use Rattle.der_core.specs.Reader.{read_slice_outcome, short_outcome, tlv_outcome}
 use Rattle.der_core.specs.Header.{head_of}
-use Rattle.der_core.specs.Decode.{TlvAnswers, IsRefusedBy}
+use Rattle.der_core.specs.Decode.{TlvAnswers}
 use Rattle.der_core.proofs.DecodeLemmas.{rest-beginning}
 use Rattle.der_tool.specs.Answer.{IsElement, NoElement}
+use Rattle.der_tool.proofs.HeaderLemmas.{fault_refused}
 
 -- an answer told of octets: their element, or why there is none
-abbrev ElementSays : List ℕ → Result (List ℕ) Error → Type 0
-ElementSays octets (Ok element) = IsElement octets element
-ElementSays octets (Err e) = NoElement octets e
+abbrev ElementSays : EncodingRules → List ℕ → Result (List ℕ) Error → Type 0
+ElementSays rules octets (Ok element) = IsElement rules octets element
+ElementSays rules octets (Err e) = NoElement rules octets e
 
-module _ (octets : List ℕ) where
-  left : rest (initial_state Der octets) ≡ octets
-  left = rest-beginning Der octets
-
-  fault_says : (e : Error) {t : ReaderState} → length octets < 2 ^ 32 → IsRefusedBy (HeaderFault BodyFault) (initial_state Der octets) e t → NoElement octets e
-  fault_says e small (IsRefusedBy.has_failed h told same) = absurd (let no : false ≡ true = h in cc)
-  fault_says e small (IsRefusedBy.at_fault r working fault told leaves) = NoElement.no_header (inr (r, small, subst (λ o. HeaderFault BodyFault Der 0 o r) left fault, told))
-
-  pub too_long_says : (e : Error) → (length octets < 2 ^ 32 → ⊥) → e ≡ error_of_kind Overflow → NoElement octets e
-  too_long_says e long told = NoElement.no_header (inl (⊎_elim (λ small. absurd (long small)) (λ far. far) (cases_lt (length octets) (2 ^ 32)), told))
-
+module _ (rules : EncodingRules) (octets : List ℕ) where
   abbrev begun : ReaderState
-  begun = initial_state Der octets
+  begun = initial_state rules octets
+
+  left : rest begun ≡ octets
+  left = rest-beginning rules octets
 
   -- the answer of an element of n octets, and what its two tests choose from
   abbrev whole_answer : ℕ → Result (List ℕ) Error
-  whole_answer n = (tlv_outcome n (initial_state Der octets)).answer
+  whole_answer n = (tlv_outcome n begun).answer
 
   abbrev counted : ℕ → Bool → Result (List ℕ) Error
   counted n near = (if near then read_slice_outcome n begun else outcome_of (Err (error_of_kind Overflow)) begun).answer
@@ -59,32 +52,32 @@ module _ (octets : List ℕ) where
       ap (counted n) (lt-ltb n (2 ^ 32) near) ∙ ap (lent n) (lt-leb (0 + n) (length octets) (omega (arith, few)))
       ∙ ap (λ k. Err (missing_refusal k (length octets) 0).error) (from_zero n)
 
-  whole_says : (r : Result (List ℕ) Error) (h : Head) (m : ℕ) → length octets < 2 ^ 32 → HeaderAhead h Der octets m → r ≡ whole_answer (m + number h.length) → ElementSays octets r
+  whole_says : (r : Result (List ℕ) Error) (h : Head) (m : ℕ) → length octets < 2 ^ 32 → HeaderAhead h rules octets m → r ≡ whole_answer (m + number h.length) → ElementSays rules octets r
   whole_says r h m small ahead is =
       let n = m + number h.length in
       ⊎_elim
       (λ near. ⊎_elim
-      (λ few. subst (ElementSays octets) (sym (is ∙ short_answer n near few)) (NoElement.contents_missing h m ahead near few))
-      (λ there. subst (ElementSays octets) (sym (is ∙ there_answer n near there)) record { countable = small; head = h; count = m; ahead = ahead; there = there; whole = refl })
+      (λ few. subst (ElementSays rules octets) (sym (is ∙ short_answer n near few)) (NoElement.contents_missing h m ahead near few))
+      (λ there. subst (ElementSays rules octets) (sym (is ∙ there_answer n near there)) record { countable = small; head = h; count = m; ahead = ahead; there = there; whole = refl })
       (cases_lt (length octets) n))
-      (λ far. subst (ElementSays octets) (sym (is ∙ far_answer n far)) (NoElement.past_every_length h m small ahead far))
+      (λ far. subst (ElementSays rules octets) (sym (is ∙ far_answer n far)) (NoElement.past_every_length h m small ahead far))
       (cases_lt n (2 ^ 32))
 
-  begun_says : (r : Result (List ℕ) Error) (t : ReaderState) → length octets < 2 ^ 32 → TlvAnswers begun r t → ElementSays octets r
-  begun_says r t small (TlvAnswers.no_header e peeked is same) = subst (ElementSays octets) (sym is) (fault_says e small (peeked.1.refused refl))
+  begun_says : (r : Result (List ℕ) Error) (t : ReaderState) → length octets < 2 ^ 32 → TlvAnswers begun r t → ElementSays rules octets r
+  begun_says r t small (TlvAnswers.no_header e peeked is same) = subst (ElementSays rules octets) (sym is) (NoElement.no_header (fault_refused rules octets e small (peeked.1.refused refl)))
   begun_says r t small (TlvAnswers.with_header h m ahead working gives) =
-      whole_says r (head_of h) m small (subst (λ o. HeaderAhead (head_of h) Der o m) left ahead) gives.answered
+      whole_says r (head_of h) m small (subst (λ o. HeaderAhead (head_of h) rules o m) left ahead) gives.answered
 
-  element_says : (s t : ReaderState) (r : Result (List ℕ) Error) → length octets < 2 ^ 32 → s ≡ initial_state Der octets → TlvAnswers s r t → ElementSays octets r
+  element_says : (s t : ReaderState) (r : Result (List ℕ) Error) → length octets < 2 ^ 32 → s ≡ begun → TlvAnswers s r t → ElementSays rules octets r
   element_says s t r small e h = begun_says r t small (subst (λ x. TlvAnswers x r t) e h)
 
   -- what a reliable reader lends, or the error that it tells
-  pub lent_says : {B : Type 0} (now : B → List ℕ) (s t : ReaderState) (r : Result B Error) → length octets < 2 ^ 32 → s ≡ initial_state Der octets → (IsBinding true r → TlvAnswers s (map_ok now r) t)
-      → IfOk r (λ e. IsElement octets (now e))
+  pub lent_says : {B : Type 0} (now : B → List ℕ) (s t : ReaderState) (r : Result B Error) → length octets < 2 ^ 32 → s ≡ begun → (IsBinding true r → TlvAnswers s (map_ok now r) t)
+      → IfOk r (λ e. IsElement rules octets (now e))
   lent_says now s t (Ok e) small is h = element_says s t (Ok (now e)) small is (h tt)
   lent_says now s t (Err e) small is h = tt
 
-  pub told_says : {B : Type 0} (now : B → List ℕ) (s t : ReaderState) (r : Result B Error) → length octets < 2 ^ 32 → s ≡ initial_state Der octets → (IsBinding true r → TlvAnswers s (map_ok now r) t)
-      → IfErr r (NoElement octets)
+  pub told_says : {B : Type 0} (now : B → List ℕ) (s t : ReaderState) (r : Result B Error) → length octets < 2 ^ 32 → s ≡ begun → (IsBinding true r → TlvAnswers s (map_ok now r) t)
+      → IfErr r (NoElement rules octets)
   told_says now s t (Ok e) small is h = tt
   told_says now s t (Err e) small is h = element_says s t (Err e) small is (h refl)

@@ -73,29 +73,30 @@ header_text (HeaderFault.no_identifier f) = identifier_text f
 header_text (HeaderFault.no_length i f) = length_text body_text (_, refl) f
 header_text (HeaderFault.primitive i l f) = (_, refl)
 
--- each error that a refused input is told as prints
-pub refused_text : (octets : List ℕ) (e : Error) → IsRefusedFor octets e → (reason : List ℕ) × (error_text e ≡ Some reason)
-refused_text octets e (inl (long, told)) = rw told (_, refl)
-refused_text octets e (inr (r, small, fault, told)) = rw told (header_text fault)
+module _ (rules : EncodingRules) (octets : List ℕ) where
+  -- each error that a refused input is told as prints
+  refused_text : (e : Error) → IsRefusedFor rules octets e → HasText (error_text e)
+  refused_text e (inl (long, told)) = rw told (_, refl)
+  refused_text e (inr (r, small, fault, told)) = rw told (header_text fault)
 
-pub answer_told : (octets text rest : List ℕ) (h : Head) → IsHeaderRead octets h rest → text ≡ header_lines h rest → AnswersHead octets 0 text
-answer_told octets text rest h read lines = AnswersHead.told record { head = h; rest = rest; read = read; lines = lines }
+  pub answer_told : (text rest : List ℕ) (h : Head) → IsHeaderRead rules octets h rest → text ≡ header_lines h rest → AnswersHead rules octets 0 text
+  answer_told text rest h read lines = AnswersHead.told record { head = h; rest = rest; read = read; lines = lines }
 
-pub answer_refused : (octets text : List ℕ) (e : Error) → IsRefusedFor octets e → TellsError e text → AnswersHead octets 1 text
-answer_refused octets text e refused tells =
-    let printed = refused_text octets e refused in
-    AnswersHead.refused record { error = e; reason = printed.0; refused = refused; says = printed.1; line = tells printed.0 printed.1 }
+  pub answer_refused : (text : List ℕ) (e : Error) → IsRefusedFor rules octets e → TellsError e text → AnswersHead rules octets 1 text
+  answer_refused text e refused tells =
+      let printed = refused_text e refused in
+      AnswersHead.refused record { error = e; reason = printed.0; refused = refused; says = printed.1; line = tells printed.0 printed.1 }
 
--- and so does each that missing elements are told as
-pub missing_text : (octets : List ℕ) (e : Error) → NoElement octets e → (reason : List ℕ) × (error_text e ≡ Some reason)
-missing_text octets e (NoElement.no_header refused) = refused_text octets e refused
-missing_text octets e (NoElement.past_every_length h count small ahead far) = (_, refl)
-missing_text octets e (NoElement.contents_missing h count ahead near few) = missing_printed (count + number h.length) (length octets) 0
+  -- and so does each that missing elements are told as
+  missing_text : (e : Error) → NoElement rules octets e → HasText (error_text e)
+  missing_text e (NoElement.no_header refused) = refused_text e refused
+  missing_text e (NoElement.past_every_length h count small ahead far) = (_, refl)
+  missing_text e (NoElement.contents_missing h count ahead near few) = missing_printed (count + number h.length) (length octets) 0
 
-pub element_told : (octets text element : List ℕ) → IsElement octets element → text ≡ element_line element → AnswersTlv octets 0 text
-element_told octets text element read line = AnswersTlv.told record { element = element; read = read; line = line }
+  pub element_told : (text element : List ℕ) → IsElement rules octets element → text ≡ element_line element → AnswersTlv rules octets 0 text
+  element_told text element read line = AnswersTlv.told record { element = element; read = read; line = line }
 
-pub element_refused : (octets text : List ℕ) (e : Error) → NoElement octets e → TellsError e text → AnswersTlv octets 1 text
-element_refused octets text e refused tells =
-    let printed = missing_text octets e refused in
-    AnswersTlv.refused record { error = e; reason = printed.0; refused = refused; says = printed.1; line = tells printed.0 printed.1 }
+  pub element_refused : (text : List ℕ) (e : Error) → NoElement rules octets e → TellsError e text → AnswersTlv rules octets 1 text
+  element_refused text e refused tells =
+      let printed = missing_text e refused in
+      AnswersTlv.refused record { error = e; reason = printed.0; refused = refused; says = printed.1; line = tells printed.0 printed.1 }

@@ -2,26 +2,26 @@
 use Rattle.std.proofs.Common.{◌≡◌, ℕ, ◌<◌, ◌≤◌, List, [], ◌∷◌, map, length, get_or, codes, true, sym, ◌∙◌, arith}
 use Rattle.std.proofs.lemmas.Slice.Eq.{bytes_eq-Decides}
 use Rattle.std.specs.Str.{bytes_eq}
-use Rattle.der_tool.specs.Command.{head_words, tlv_words}
+use Rattle.der_base.specs.declared.encoding_rules.EncodingRules.TheVariants.{Ber, Der}
+use Rattle.der_tool.specs.Command.{words_under, IsCommand, IsName, IsHex}
 
--- a list that a pattern of two items takes
-pub map_two : {A : Type 0} (f : A → List ℕ) (xs : List A) (a b : A) → 2 ≤ length xs → length xs < 3 → a ≡ get_or xs 0 a → b ≡ get_or xs 1 b
-    → map f xs ≡ f a ∷ f b ∷ []
-map_two f [] a b l m p q = grind arith
-map_two f (x ∷ []) a b l m p q = grind arith
-map_two f (x ∷ y ∷ []) a b l m p q = grind arith
-map_two f (x ∷ y ∷ z ∷ r) a b l m p q = grind arith
+-- a list that a pattern of three items takes
+map_three : {A : Type 0} (f : A → List ℕ) (xs : List A) (a b c : A) → 3 ≤ length xs → length xs < 4 → a ≡ get_or xs 0 a → b ≡ get_or xs 1 b → c ≡ get_or xs 2 c
+    → map f xs ≡ f a ∷ f b ∷ f c ∷ []
+map_three f [] a b c l m p q r = grind arith
+map_three f (x ∷ []) a b c l m p q r = grind arith
+map_three f (x ∷ y ∷ []) a b c l m p q r = grind arith
+map_three f (x ∷ y ∷ z ∷ []) a b c l m p q r = grind arith
+map_three f (x ∷ y ∷ z ∷ w ∷ more) a b c l m p q r = grind arith
 
--- the words `head` and another
-pub words_are_head : {A : Type 0} (f : A → List ℕ) (xs : List A) (a b : A) (name hex : List ℕ) → 2 ≤ length xs → length xs < 3
-    → a ≡ get_or xs 0 a → b ≡ get_or xs 1 b → name ≡ f a → hex ≡ f b → true ≡ bytes_eq name (codes "head") → map f xs ≡ head_words hex
-words_are_head f xs a b name hex l m p q n h e =
-    let s : name ≡ codes "head" = (bytes_eq-Decides name (codes "head")).0 (sym e) in
-    map_two f xs a b l m p q ∙ cc
+-- a word, `--ber` and a word
+pub words_with_ber : {A : Type 0} (f : A → List ℕ) (xs : List A) (a b c : A) (name option hex : List ℕ) → 3 ≤ length xs → length xs < 4 → a ≡ get_or xs 0 a → b ≡ get_or xs 1 b → c ≡ get_or xs 2 c → name ≡ f a
+    → option ≡ f b → hex ≡ f c → true ≡ bytes_eq option (codes "--ber") → map f xs ≡ words_under Ber name hex
+words_with_ber f xs a b c name option hex l m p q r n o h e =
+    let s : option ≡ codes "--ber" = (bytes_eq-Decides option (codes "--ber")).0 (sym e) in
+    map_three f xs a b c l m p q r ∙ cc
 
--- the words `tlv` and another
-pub words_are_tlv : {A : Type 0} (f : A → List ℕ) (xs : List A) (a b : A) (name hex : List ℕ) → 2 ≤ length xs → length xs < 3
-    → a ≡ get_or xs 0 a → b ≡ get_or xs 1 b → name ≡ f a → hex ≡ f b → true ≡ bytes_eq name (codes "tlv") → map f xs ≡ tlv_words hex
-words_are_tlv f xs a b name hex l m p q n h e =
-    let s : name ≡ codes "tlv" = (bytes_eq-Decides name (codes "tlv")).0 (sym e) in
-    map_two f xs a b l m p q ∙ cc
+-- such words are a command only by this name and this text
+pub command_with_ber : (name hex : List ℕ) → IsCommand (words_under Ber name hex) → IsName name × IsHex hex
+command_with_ber name hex (Der, n, h, named, digits, is) = absurd (grind arith)
+command_with_ber name hex (Ber, n, h, named, digits, is) = grind arith

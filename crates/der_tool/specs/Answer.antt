@@ -9,7 +9,7 @@ use Rattle.der_base.specs.Error.{error_of_kind, Refusal, missing_refusal}
 use Rattle.der_base.specs.Text.{error_text}
 use Rattle.der_base.specs.declared.error.Error.{Error}
 use Rattle.der_base.specs.declared.error.ErrorKind.TheVariants.{Overflow}
-use Rattle.der_base.specs.declared.encoding_rules.EncodingRules.TheVariants.{Der}
+use Rattle.der_base.specs.declared.encoding_rules.EncodingRules.{EncodingRules}
 use Rattle.der_tool.specs.Command.{IsCommand, hex_of, words_of}
 use Rattle.der_tool.specs.Text.{usage_line, error_line, header_lines, element_line}
 use Rattle.der_tool.specs.declared.command.Command.{Command}
@@ -18,44 +18,45 @@ use Rattle.der_tool.specs.declared.answer.Answer.{Answer}
 use Rattle.der_tool.specs.declared.answer.Answer.TheVariants as answer
 
 -- as many octets as a length can count begin with this header, and these are left behind it
-pub record IsHeaderRead (octets : List ℕ) (h : Head) (rest : List ℕ) : Type 0 where
+pub record IsHeaderRead (rules : EncodingRules) (octets : List ℕ) (h : Head) (rest : List ℕ)
+    : Type 0 where
   pub countable : length octets < 2 ^ 32
   pub count : ℕ
-  pub ahead : HeaderAhead h Der octets count
+  pub ahead : HeaderAhead h rules octets count
   pub behind : rest ≡ drop count octets
 
 -- the octets are more than a length can count, or begin with no header; the error tells which
-abbrev pub IsRefusedFor : List ℕ → Error → Type 0
-IsRefusedFor octets e =
+abbrev pub IsRefusedFor : EncodingRules → List ℕ → Error → Type 0
+IsRefusedFor rules octets e =
     ((2 ^ 32 ≤ length octets) × (e ≡ error_of_kind Overflow))
-    ⊎ ((r : Refusal) × (length octets < 2 ^ 32) × HeaderFault BodyFault Der 0 octets r
+    ⊎ ((r : Refusal) × (length octets < 2 ^ 32) × HeaderFault BodyFault rules 0 octets r
     × (e ≡ r.error))
 
 -- as many octets as a length can count begin with this element: a header, and as many octets more
 -- as its length says
-pub record IsElement (octets element : List ℕ) : Type 0 where
+pub record IsElement (rules : EncodingRules) (octets element : List ℕ) : Type 0 where
   pub countable : length octets < 2 ^ 32
   pub head : Head
   pub count : ℕ
-  pub ahead : HeaderAhead head Der octets count
+  pub ahead : HeaderAhead head rules octets count
   pub there : count + number head.length ≤ length octets
   pub whole : element ≡ take (count + number head.length) octets
 
 -- the octets begin with no whole element; the error tells why
-pub data NoElement (octets : List ℕ) : Error → Type 0 where
-  no_header : {e : Error} → IsRefusedFor octets e → NoElement octets e
+pub data NoElement (rules : EncodingRules) (octets : List ℕ) : Error → Type 0 where
+  no_header : {e : Error} → IsRefusedFor rules octets e → NoElement rules octets e
   past_every_length : (h : Head) (count : ℕ) → length octets < 2 ^ 32
-      → HeaderAhead h Der octets count → 2 ^ 32 ≤ count + number h.length
-      → NoElement octets (error_of_kind Overflow)
-  contents_missing : (h : Head) (count : ℕ) → HeaderAhead h Der octets count
+      → HeaderAhead h rules octets count → 2 ^ 32 ≤ count + number h.length
+      → NoElement rules octets (error_of_kind Overflow)
+  contents_missing : (h : Head) (count : ℕ) → HeaderAhead h rules octets count
       → count + number h.length < 2 ^ 32 → length octets < count + number h.length
-      → NoElement octets (missing_refusal (count + number h.length) (length octets) 0).error
+      → NoElement rules octets (missing_refusal (count + number h.length) (length octets) 0).error
 
 -- the lines tell the header that the octets begin with
-pub record Tells (octets text : List ℕ) : Type 0 where
+pub record Tells (rules : EncodingRules) (octets text : List ℕ) : Type 0 where
   pub head : Head
   pub rest : List ℕ
-  pub read : IsHeaderRead octets head rest
+  pub read : IsHeaderRead rules octets head rest
   pub lines : text ≡ header_lines head rest
 
 -- the line tells the error, where its text is known
@@ -71,25 +72,26 @@ pub record Refuses (IsRefused : Error → Type 0) (text : List ℕ) : Type 0 whe
   pub line : text ≡ error_line reason
 
 -- what `head` says to octets: a status and a text
-pub data AnswersHead (octets : List ℕ) : ℕ → List ℕ → Type 0 where
-  told : {text : List ℕ} → Tells octets text → AnswersHead octets 0 text
-  refused : {text : List ℕ} → Refuses (IsRefusedFor octets) text → AnswersHead octets 1 text
+pub data AnswersHead (rules : EncodingRules) (octets : List ℕ) : ℕ → List ℕ → Type 0 where
+  told : {text : List ℕ} → Tells rules octets text → AnswersHead rules octets 0 text
+  refused : {text : List ℕ} → Refuses (IsRefusedFor rules octets) text
+      → AnswersHead rules octets 1 text
 
 -- the line tells the element that the octets begin with
-pub record TellsElement (octets text : List ℕ) : Type 0 where
+pub record TellsElement (rules : EncodingRules) (octets text : List ℕ) : Type 0 where
   pub element : List ℕ
-  pub read : IsElement octets element
+  pub read : IsElement rules octets element
   pub line : text ≡ element_line element
 
 -- what `tlv` says to octets: a status and a text
-pub data AnswersTlv (octets : List ℕ) : ℕ → List ℕ → Type 0 where
-  told : {text : List ℕ} → TellsElement octets text → AnswersTlv octets 0 text
-  refused : {text : List ℕ} → Refuses (NoElement octets) text → AnswersTlv octets 1 text
+pub data AnswersTlv (rules : EncodingRules) (octets : List ℕ) : ℕ → List ℕ → Type 0 where
+  told : {text : List ℕ} → TellsElement rules octets text → AnswersTlv rules octets 0 text
+  refused : {text : List ℕ} → Refuses (NoElement rules octets) text → AnswersTlv rules octets 1 text
 
 -- what a command says to octets: a status and a text
 abbrev pub AnswersTo : Command → List ℕ → ℕ → List ℕ → Type 0
-AnswersTo (HeadOf hex) = AnswersHead
-AnswersTo (TlvOf hex) = AnswersTlv
+AnswersTo (HeadOf rules hex) = AnswersHead rules
+AnswersTo (TlvOf rules hex) = AnswersTlv rules
 
 -- what a command is answered, memory aside
 pub record Fulfils (command : Command) (status : ℕ) (text : List ℕ) : Type 0 where

@@ -1,18 +1,20 @@
 //! Commands.
 ghost use Rattle.std.specs.Prelude.{◌≡◌, ◌↔◌, IsSome, IfSome, IsTrue};
-ghost use Rattle.der_tool.specs.Command.{IsHex, IsCommand, texts};
+ghost use Rattle.der_tool.specs.Command.{IsHex, IsName, IsCommand, texts};
+
+use der::EncodingRules;
 
 /// What the words ask for.
 #[derive(Clone, Copy)]
 pub enum Command<'a> {
-    /// `head HEX`: the header at the front of these octets.
-    Head(&'a str),
-    /// `tlv HEX`: the whole element at the front of these octets.
-    Tlv(&'a str),
+    /// `head [--ber] HEX`: the header at the front of these octets.
+    Head { rules: EncodingRules, hex: &'a str },
+    /// `tlv [--ber] HEX`: the whole element at the front of these octets.
+    Tlv { rules: EncodingRules, hex: &'a str },
 }
 
 impl<'a> Command<'a> {
-    ghost use Rattle.der_tool.specs.Command.{words_of, hex_of};
+    ghost use Rattle.der_tool.specs.Command.{words_of, words_under, hex_of};
 
     /// The command, if the words are one.
     pub fn parse(words: &'a [String]) -> Option<Self>
@@ -21,8 +23,23 @@ impl<'a> Command<'a> {
         ensures digits { IfSome result (λ c. IsHex (hex_of c)) }
     {
         match words {
-            [name, hex] if name.as_str() == "head" && is_hex(hex) => Some(Command::Head(hex)),
-            [name, hex] if name.as_str() == "tlv" && is_hex(hex) => Some(Command::Tlv(hex)),
+            [name, hex] => Command::named(name, EncodingRules::Der, hex),
+            [name, option, hex] if option.as_str() == "--ber" => {
+                Command::named(name, EncodingRules::Ber, hex)
+            }
+            _ => None,
+        }
+    }
+
+    /// The command of this name, if there is one and the text spells octets.
+    fn named(name: &str, rules: EncodingRules, hex: &'a str) -> Option<Self>
+        ensures found { IsSome result ↔ (IsName name.now × IsHex hex.now) }
+        ensures words { IfSome result (λ c. words_under rules name.now hex.now ≡ words_of c) }
+        ensures digits { IfSome result (λ c. IsHex (hex_of c)) }
+    {
+        match name {
+            "head" if is_hex(hex) => Some(Command::Head { rules, hex }),
+            "tlv" if is_hex(hex) => Some(Command::Tlv { rules, hex }),
             _ => None,
         }
     }
@@ -32,7 +49,7 @@ impl<'a> Command<'a> {
         ensures { result.now ≡ hex_of self.entry }
     {
         match self {
-            Command::Head(hex) | Command::Tlv(hex) => hex,
+            Command::Head { hex, .. } | Command::Tlv { hex, .. } => hex,
         }
     }
 }

@@ -5,30 +5,32 @@ ghost use Rattle.der_tool.specs.Text as text;
 ghost use Rattle.der_tool.specs.Answer.{AnswersHead, IsHeaderRead, IsRefusedFor, status_of, text_of};
 
 use crate::answer::{Answer, error_line};
-use der::{DecodeBytes, Error, Header};
-use std::alloc::{AllocError, Allocator, Global};
+use der::{EncodingRules, Error, Header, Reader, SliceReader, decode_header};
+use std::alloc::{AllocError, Allocator};
 
-/// What is told of the header at the front of the octets. Reading it takes no memory, but the call
-/// that reads is handed an allocator, since it reads types that own memory too.
+/// What is told of the header at the front of the octets.
 pub fn answer_head<A: Allocator + Copy>(
     alloc: A,
-    global: Global,
+    rules: EncodingRules,
     octets: &[u8],
 ) -> Result<Answer<A>, AllocError>
-    ensures { IfOk result (λ a. AnswersHead octets.now (status_of a) (text_of a)) }
+    ensures { IfOk result (λ a. AnswersHead rules octets.now (status_of a) (text_of a)) }
 {
-    match read_head(global, octets) {
+    match read_head(rules, octets) {
         Ok((header, rest)) => Ok(Answer::Told(header_lines(alloc, &header, rest)?)),
         Err(error) => Ok(Answer::Refused(error_line(alloc, error)?)),
     }
 }
 
 /// The header at the front of the octets, and the octets behind it.
-fn read_head(global: Global, octets: &[u8]) -> Result<(Header, &[u8]), Error>
-    ensures ok { IfOk result (λ p. IsHeaderRead octets.now (head_of p.0) p.1.now) }
-    ensures err { IfErr result (IsRefusedFor octets.now) }
+fn read_head(rules: EncodingRules, octets: &[u8]) -> Result<(Header, &[u8]), Error>
+    ensures ok { IfOk result (λ p. IsHeaderRead rules octets.now (head_of p.0) p.1.now) }
+    ensures err { IfErr result (IsRefusedFor rules octets.now) }
 {
-    Header::from_der_partial(global, octets)
+    let mut reader = SliceReader::new_with_encoding_rules(octets, rules)?;
+    let header = decode_header(&mut reader)?;
+    let rest = reader.remaining()?;
+    Ok((header, rest))
 }
 
 /// The four lines of a header and the octets behind it.

@@ -1,5 +1,5 @@
-//! Tells the header, or the whole element, at the front of DER octets that are given as hexadecimal
-//! text.
+//! Tells the header, or the whole element, at the front of DER or BER octets that are given as
+//! hexadecimal text.
 #![tactic(auto)]
 
 mod answer;

@@ -23,15 +23,14 @@ pub fn run<W: Output>(alloc: Global, words: &[String], out: &mut W) -> u8
     ensures exact { W.reliable ≡ true
         → WritesAnswer (texts words.now) result (W.contents out.old) (W.contents out.new) }
 {
-    respond(alloc, alloc, words, out).unwrap_or(1)
+    respond(alloc, words, out).unwrap_or(1)
 }
 
 /// Answers the words on the output, which is called only when no memory is asked for any more; an
 /// error is the output's. The octets and lines are in memory of `alloc`, so that a test can refuse
-/// it; reading a header is handed `global`, from which a decoder takes its memory.
+/// it.
 pub fn respond<A: Allocator + Copy, W: Output>(
     alloc: A,
-    global: Global,
     words: &[String],
     out: &mut W,
 ) -> io::Result<u8>
@@ -39,7 +38,7 @@ pub fn respond<A: Allocator + Copy, W: Output>(
         WritesAnswer (texts words.now) status (W.contents out.old) (W.contents out.new)) }
     ensures succeeds { W.reliable ≡ true → IsOk result }
 {
-    say(&answer(alloc, global, words), out)
+    say(&answer(alloc, words), out)
 }
 
 /// Puts the answer out, and gives its status.
@@ -54,29 +53,25 @@ pub fn say<A: Allocator, W: Output>(answer: &Answer<A>, out: &mut W) -> io::Resu
 }
 
 /// What the program says to the words.
-fn answer<A: Allocator + Copy>(alloc: A, global: Global, words: &[String]) -> Answer<A>
+fn answer<A: Allocator + Copy>(alloc: A, words: &[String]) -> Answer<A>
     ensures { Answers (texts words.now) (status_of result) (text_of result) }
 {
     match Command::parse(words) {
-        Some(command) => fulfil(alloc, global, command).unwrap_or(Answer::OutOfMemory),
+        Some(command) => fulfil(alloc, command).unwrap_or(Answer::OutOfMemory),
         None => Answer::Usage,
     }
 }
 
 /// What the command is answered. Its text is an even number of hexadecimal digits, so that only
 /// want of memory keeps the octets that it spells from being read.
-fn fulfil<A: Allocator + Copy>(
-    alloc: A,
-    global: Global,
-    command: Command<'_>,
-) -> Result<Answer<A>, AllocError>
+fn fulfil<A: Allocator + Copy>(alloc: A, command: Command<'_>) -> Result<Answer<A>, AllocError>
     requires { IsHex (hex_of command) }
     ensures { IfOk result (λ a. Fulfils command.entry (status_of a) (text_of a)) }
 {
     let octets = octets_of(alloc, command.hex())?;
     match command {
-        Command::Head(_) => answer_head(alloc, global, &octets),
-        Command::Tlv(_) => answer_tlv(alloc, &octets),
+        Command::Head { rules, .. } => answer_head(alloc, rules, &octets),
+        Command::Tlv { rules, .. } => answer_tlv(alloc, rules, &octets),
     }
 }
 

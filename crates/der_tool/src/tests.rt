@@ -1,5 +1,7 @@
 //! What the contracts do not say: that calls succeed, and what the words and texts are.
 mod arguments;
+mod ber;
+mod ber_cases;
 mod cases;
 mod memory;
 mod tlv_cases;
@@ -140,12 +142,10 @@ fn tells_the_usage_of_other_words(rt: HostRuntime) -> Result<(), Fail> {
         "Head 3000",
         "heads 3000",
         "head 3000 3000",
-        "head --ber 3000",
         "tlv",
         "tlv 0",
         "tlv 3000 3000",
         "Tlv 3000",
-        "tlv --ber 3000",
         "order 3000 3000",
     ];
     for line in lines {
@@ -160,5 +160,6 @@ fn tells_the_usage_of_other_words(rt: HostRuntime) -> Result<(), Fail> {
 #[test]
 fn answers_a_sample(rt: HostRuntime) -> Result<(), Fail> {
     replay(&rt, &cases::CASES)?;
-    replay(&rt, &tlv_cases::TLV_CASES)
+    replay(&rt, &tlv_cases::TLV_CASES)?;
+    replay(&rt, &ber_cases::BER_CASES)
 }

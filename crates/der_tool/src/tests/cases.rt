@@ -9,7 +9,11 @@ pub const CASES: [(&str, u8, &str); 100] = [
         0,
         "tag: INTEGER\nconstructed: no\nlength: 1\nrest: 2a00\n",
     ),
-    ("head --ber 308024800402000000000000", 2, USAGE),
+    (
+        "head --ber 308024800402000000000000",
+        0,
+        "tag: SEQUENCE\nconstructed: yes\nlength: 10 indefinite\nrest: 24800402000000000000\n",
+    ),
     (
         "head ",
         1,
@@ -59,7 +63,7 @@ pub const CASES: [(&str, u8, &str); 100] = [
         1,
         "error: invalid tag number at DER byte 2\n",
     ),
-    ("tlv --ber 308005000000FF", 2, USAGE),
+    ("tlv --ber 308005000000FF", 0, "308005000000\n"),
     (
         "head 24800000",
         1,

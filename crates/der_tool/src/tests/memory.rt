@@ -20,7 +20,7 @@ fn refuse_in_turn(
     for step in 1..257 {
         let heap = LocalHeap::new(rt.alloc(), step * 16)?;
         let mut out = Vec::new(rt.alloc());
-        let got = respond(&heap, rt.alloc(), &words, &mut out)?;
+        let got = respond(&heap, &words, &mut out)?;
         if out.as_slice() == text.as_bytes() {
             assert_eq!(rt; got, status, "at {step}");
         } else {
@@ -54,10 +54,24 @@ fn refuses_each_growth_for_an_element_in_turn(rt: HostRuntime) -> Result<(), Fai
     Ok(())
 }
 
+#[test]
+fn refuses_each_growth_by_ber_in_turn(rt: HostRuntime) -> Result<(), Fail> {
+    let lines = "tag: SEQUENCE\nconstructed: yes\nlength: 2 indefinite\nrest: 0000\n";
+    let told = refuse_in_turn(&rt, "head --ber 30800000", 0, lines)?;
+    assert!(rt; 0 < told && told < 256, "{told}");
+    let told = refuse_in_turn(&rt, "tlv --ber 30800000", 0, "30800000\n")?;
+    assert!(rt; 0 < told && told < 256, "{told}");
+    let line = "error: ASN.1 DER message is incomplete: expected 3, actual 2 at DER byte 2\n";
+    let refused = refuse_in_turn(&rt, "head --ber 3080", 1, line)?;
+    assert!(rt; 0 < refused && refused < 256, "{refused}");
+    Ok(())
+}
+
 // The words are looked at without memory.
 #[test]
 fn tells_the_usage_without_memory(rt: HostRuntime) -> Result<(), Fail> {
     assert_eq!(rt; refuse_in_turn(&rt, "head 0", 2, USAGE)?, 0);
     assert_eq!(rt; refuse_in_turn(&rt, "tlv 0", 2, USAGE)?, 0);
+    assert_eq!(rt; refuse_in_turn(&rt, "tlv --ber 0", 2, USAGE)?, 0);
     Ok(())
 }

@@ -215,9 +215,21 @@ pub const TLV_CASES: [(&str, u8, &str); 60] = [
         1,
         "error: incorrect length for RELATIVE OID at DER byte 2\n",
     ),
-    ("tlv --ber 308005000000FF", 2, USAGE),
-    ("tlv --ber 30800484FFFFFFFF0000", 2, USAGE),
-    ("tlv --ber 24800401AA0000", 2, USAGE),
-    ("tlv --ber 048000000000", 2, USAGE),
-    ("tlv --ber 002e00", 2, USAGE),
+    ("tlv --ber 308005000000FF", 0, "308005000000\n"),
+    (
+        "tlv --ber 30800484FFFFFFFF0000",
+        1,
+        "error: ASN.1 DER message is incomplete: expected 24, actual 10 at DER byte 8\n",
+    ),
+    ("tlv --ber 24800401AA0000", 0, "24800401aa0000\n"),
+    (
+        "tlv --ber 048000000000",
+        1,
+        "error: indefinite length disallowed/malformed at DER byte 2\n",
+    ),
+    (
+        "tlv --ber 002e00",
+        1,
+        "error: unknown/unsupported ASN.1 DER tag: 0x00 at DER byte 1\n",
+    ),
 ];

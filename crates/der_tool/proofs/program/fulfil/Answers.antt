@@ -16,10 +16,10 @@ fulfils command of octets (Err e) is spelled answered = tt
 
 pub returns-in-Head : goal.returns-in-Head
 returns-in-Head g c =
-    fulfils c.args.command (Head c.in-Head.field-0) c.deref.result.now c.answer_head.result c.in-Head.is
+    fulfils c.args.command (Head c.in-Head.rules c.in-Head.hex) c.deref.result.now c.answer_head.result c.in-Head.is
     (ap decode_of (sym c.hex.ensures) ∙ c.in_ok-octets.ensures ∙ ap Ok (sym c.deref.ensures.value)) c.answer_head.ensures
 
 pub returns : goal.returns
 returns g c =
-    fulfils c.args.command (Tlv c.in-Tlv.field-0) c.deref-in-Tlv.result.now c.answer_tlv.result c.in-Tlv.is
+    fulfils c.args.command (Tlv c.in-Tlv.rules c.in-Tlv.hex) c.deref-in-Tlv.result.now c.answer_tlv.result c.in-Tlv.is
     (ap decode_of (sym c.hex.ensures) ∙ c.in_ok-octets.ensures ∙ ap Ok (sym c.deref-in-Tlv.ensures.value)) c.answer_tlv.ensures
