@@ -1,0 +1,108 @@
+//! What is ahead of a reader under the Basic Encoding Rules; the reader stays.
+use super::unlent::ber_unlent;
+use super::*;
+use crate::checks::{holds, same};
+use der::{Class, TagNumber, TagPeek};
+use std::process::Abort;
+
+fn sees_segments<R: Reader>(rt: &impl Abort, mut reader: R) {
+    let four = TagNumber(4);
+    let universal = Class::Universal;
+    same(rt, Tag::peek(&reader), Ok(Tag::OctetString));
+    same(rt, reader.peek_tag(), Ok(Tag::OctetString));
+    same(
+        rt,
+        Tag::peek_matches(&mut reader, universal, four),
+        Ok(true),
+    );
+    let private = Class::Private;
+    same(rt, Tag::peek_matches(&mut reader, private, four), Ok(false));
+    let sixteen = TagNumber(16);
+    same(
+        rt,
+        Tag::peek_matches(&mut reader, universal, sixteen),
+        Ok(false),
+    );
+    same(rt, reader.peek_byte(), Some(0x24));
+    same(rt, place_of(&reader), (0, 4, false));
+}
+
+#[test]
+fn segments_ahead(rt: HostRuntime) -> Result<(), Fail> {
+    let octets = [0x24, 0x80, 0x00, 0x00];
+    sees_segments(&rt, ber_reader(&octets)?);
+    sees_segments(&rt, ber_unlent(&octets)?);
+    let reader = ber_reader(&octets)?;
+    let segments = Header::new(Tag::OctetString, Length::new_indefinite(2));
+    same(&rt, Header::peek(&reader), Ok(segments));
+    same(&rt, reader.remaining()?, octets.as_slice());
+    let constructed = ber_reader(&[0x24, 0x01])?.peek_header()?;
+    same(&rt, constructed.tag(), Tag::OctetString);
+    holds(&rt, constructed.is_constructed());
+    Ok(())
+}
+
+#[test]
+fn segments_ahead_under_der(rt: HostRuntime) -> Result<(), Fail> {
+    let octets = [0x24, 0x80, 0x00, 0x00];
+    let mut reader = SliceReader::new(&octets)?;
+    let refused = unknown(0x24, 1);
+    same(&rt, Tag::peek(&reader), Err(refused));
+    same(&rt, Header::peek(&reader), Err(refused));
+    let matches = Tag::peek_matches(&mut reader, Class::Universal, TagNumber(4));
+    same(&rt, matches, Err(refused));
+    same(&rt, reader.remaining()?, octets.as_slice());
+    same(&rt, place_of(&reader), (0, 4, false));
+    Ok(())
+}
+
+// The tag alone is looked at, whatever is refused behind it.
+#[test]
+fn a_tag_before_a_refused_length(rt: HostRuntime) -> Result<(), Fail> {
+    let mut reader = ber_reader(&[0x24, 0x80, 0x3F, 0x00])?;
+    same(&rt, Tag::peek(&reader), Ok(Tag::OctetString));
+    let matches = Tag::peek_matches(&mut reader, Class::Universal, TagNumber(4));
+    same(&rt, matches, Ok(true));
+    same(&rt, reader.peek_header(), Err(unknown(0x3F, 3)));
+    same(&rt, place_of(&reader), (0, 4, false));
+    Ok(())
+}
+
+#[test]
+fn refused_tags_ahead(rt: HostRuntime) -> Result<(), Fail> {
+    let mut reader = ber_reader(&[0x2C, 0x00])?;
+    let universal = Class::Universal;
+    same(&rt, Tag::peek(&reader), Err(unknown(0x2C, 1)));
+    let matches = Tag::peek_matches(&mut reader, universal, TagNumber(12));
+    same(&rt, matches, Err(unknown(0x2C, 1)));
+    same(&rt, place_of(&reader), (0, 2, false));
+    let mut nothing = ber_reader(&[])?;
+    let matches = Tag::peek_matches(&mut nothing, universal, TagNumber(4));
+    same(&rt, matches, Ok(false));
+    same(&rt, nothing.peek_tag(), Err(incomplete(1, 0, 0)));
+    Ok(())
+}
+
+#[test]
+fn a_primitive_header_ahead(rt: HostRuntime) -> Result<(), Fail> {
+    let reader = ber_reader(&[0x04, 0x80, 0x00, 0x00])?;
+    same(&rt, Header::peek(&reader), Err(indefinite(2)));
+    same(&rt, place_of(&reader), (0, 4, false));
+    Ok(())
+}
+
+// A body is lent behind its header, and what is left behind a header that was refused.
+#[test]
+fn octets_behind_a_header(rt: HostRuntime) -> Result<(), Fail> {
+    let mut reader = ber_reader(&[0x30, 0x80, 0x05, 0x00, 0x00, 0x00])?;
+    let sequence = Header::new(Tag::Sequence, Length::new_indefinite(4));
+    same(&rt, decode_header(&mut reader), Ok(sequence));
+    let body = [0x05, 0x00, 0x00, 0x00];
+    same(&rt, reader.remaining()?, body.as_slice());
+    same(&rt, reader.read_slice(sequence.length())?, body.as_slice());
+    let mut refused = ber_reader(&[0x30, 0x80, 0x3F, 0x00])?;
+    same(&rt, decode_header(&mut refused), Err(unknown(0x3F, 3)));
+    same(&rt, refused.remaining()?, [0x3F, 0x00].as_slice());
+    same(&rt, refused.peek_byte(), Some(0x3F));
+    Ok(())
+}

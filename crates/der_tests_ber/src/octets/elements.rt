@@ -1,0 +1,100 @@
+//! Whole elements whose lengths have the indefinite form.
+ghost use Rattle.std.specs.Prelude.{◌≡◌};
+ghost use Rattle.der_core.specs.ReaderState.{Same};
+ghost use Rattle.der_core.specs.SliceReader.{slice_state};
+
+use super::bodies::around_contents;
+use super::unlent::ber_unlent;
+use super::*;
+use crate::checks::{same, same_at};
+use der::TagNumber;
+
+// What a CMS message of encrypted data says of its contents: the type, how they are encrypted, and
+// the encrypted octets.
+const ENCRYPTED_CONTENT_INFO: [u8; 68] = [
+    0x30, 0x80, 0x06, 0x09, 0x2A, 0x86, 0x48, 0x86, 0xF7, 0x0D, 0x01, 0x07, 0x01, 0x30, 0x1D, 0x06,
+    0x09, 0x60, 0x86, 0x48, 0x01, 0x65, 0x03, 0x04, 0x01, 0x2A, 0x04, 0x10, 0x37, 0x34, 0x3D, 0xF1,
+    0x47, 0x0D, 0xF6, 0x25, 0xEE, 0xB6, 0xF4, 0xBF, 0xD2, 0xF1, 0xAC, 0xC3, 0xA0, 0x80, 0x04, 0x10,
+    0xCC, 0x74, 0xAD, 0xF6, 0x5D, 0x97, 0x3C, 0x8B, 0x72, 0xCD, 0x51, 0xE1, 0xB9, 0x27, 0xF0, 0xF0,
+    0x00, 0x00, 0x00, 0x00,
+];
+
+#[test]
+fn an_element_among_others(rt: HostRuntime) -> Result<(), Fail> {
+    let octets = [0x30, 0x80, 0x05, 0x00, 0x00, 0x00, 0x02, 0x01, 0x2A];
+    let mut reader = ber_reader(&octets)?;
+    let null = [0x30, 0x80, 0x05, 0x00, 0x00, 0x00];
+    same(&rt, reader.tlv_bytes()?, null.as_slice());
+    same(&rt, place_of(&reader), (6, 9, false));
+    same(&rt, reader.tlv_bytes()?, [0x02, 0x01, 0x2A].as_slice());
+    same(&rt, reader.finish(), Ok(()));
+    Ok(())
+}
+
+// An element is as long as what was read of it says, also where its number would take more octets
+// in the definite form than the one octet 80.
+#[test]
+fn elements_of_each_length(rt: HostRuntime) -> Result<(), Fail> {
+    for count in [0u8, 1, 122, 123, 124, 125, 126, 127] {
+        let octets = around_contents(rt.alloc(), count)?;
+        let end = count as u32 + 6;
+        let mut reader = ber_reader(octets.as_slice())?;
+        same_at(&rt, count, reader.tlv_bytes()?, octets.as_slice());
+        same_at(&rt, count, place_of(&reader), (end, end, false));
+    }
+    Ok(())
+}
+
+#[test]
+fn an_element_without_lending(rt: HostRuntime) -> Result<(), Fail> {
+    let mut reader = ber_unlent(&[0x30, 0x80, 0x00, 0x00])?;
+    let refused = ErrorKind::Reader.at(Length::ZERO);
+    same(&rt, reader.tlv_bytes().err(), Some(refused));
+    same(&rt, place_of(&reader), (0, 4, false));
+    Ok(())
+}
+
+#[test]
+fn a_primitive_identifier_before_octet_80(rt: HostRuntime) -> Result<(), Fail> {
+    let mut reader = ber_reader(&[0x04, 0x80, 0x00, 0x00])?;
+    same(&rt, reader.tlv_bytes().err(), Some(indefinite(2)));
+    same(&rt, place_of(&reader), (0, 4, false));
+    Ok(())
+}
+
+#[test]
+fn encrypted_contents(rt: HostRuntime) -> Result<(), Fail> {
+    let mut reader = ber_reader(&ENCRYPTED_CONTENT_INFO)?;
+    let header = decode_header(&mut reader)?;
+    let info = Header::new(Tag::Sequence, Length::new_indefinite(66));
+    same(&rt, header, info);
+    same(&rt, place_of(&reader), (2, 68, false));
+    same(&rt, reader.tlv_bytes()?.len(), 11);
+    same(&rt, reader.tlv_bytes()?.len(), 31);
+    same(&rt, place_of(&reader), (44, 68, false));
+    let header = Header::decode(rt.alloc(), &mut reader)?;
+    same(&rt, header.tag(), TagNumber(0).context_specific(true));
+    same(&rt, header.length(), Length::new_indefinite(20));
+    same(&rt, place_of(&reader), (46, 68, false));
+    Ok(())
+}
+
+// The last of three elements, and how many octets each of them has.
+fn read_three<'a>(reader: &mut SliceReader<'a>) -> Result<(&'a [u8], usize, usize), Error>
+    ensures { Same (slice_state reader.old) (slice_state reader.new) }
+{
+    let first = reader.tlv_bytes()?.len();
+    let second = reader.tlv_bytes()?.len();
+    Ok((reader.tlv_bytes()?, first, second))
+}
+
+#[test]
+fn encrypted_contents_in_their_sequence(rt: HostRuntime) -> Result<(), Fail> {
+    let mut reader = ber_reader(&ENCRYPTED_CONTENT_INFO)?;
+    let (contents, first, second) = reader.sequence(read_three)?;
+    same(&rt, (first, second), (11, 31));
+    same(&rt, contents, &ENCRYPTED_CONTENT_INFO[44..66]);
+    same(&rt, place_of(&reader), (68, 68, false));
+    same(&rt, reader.finish(), Ok(()));
+    Ok(())
+}

@@ -1,0 +1,133 @@
+//! A SEQUENCE of two fields, of which each length may have either form.
+use super::unlent::ber_unlent;
+use super::*;
+use crate::checks::{same, same_at};
+use der::Encode;
+use der::example::MyByteMonth;
+use der_uses::algorithm_identifier::AlgorithmIdentifier;
+use der_uses::lent::Lent;
+
+// How the octets are refused.
+fn refusal(alloc: Global, octets: &[u8]) -> Option<Error> {
+    AlgorithmIdentifier::from_ber(alloc, octets).err()
+}
+
+fn unexpected(expected: Tag, actual: Tag) -> Error {
+    ErrorKind::TagUnexpected {
+        expected: Some(expected),
+        actual,
+    }
+    .to_error()
+}
+
+// Four spellings of one value, of which the Distinguished Encoding Rules have the first alone.
+#[test]
+fn spellings_of_an_identifier(rt: HostRuntime) -> Result<(), Fail> {
+    let der = [0x30, 0x06, 0x04, 0x01, 0x2A, 0x04, 0x01, 0x09];
+    let spellings = [
+        der.as_slice(),
+        [0x30, 0x06, 0x24, 0x01, 0x2A, 0x24, 0x01, 0x09].as_slice(),
+        [0x30, 0x80, 0x04, 0x01, 0x2A, 0x04, 0x01, 0x09, 0x00, 0x00].as_slice(),
+        [0x30, 0x80, 0x24, 0x01, 0x2A, 0x04, 0x01, 0x09, 0x00, 0x00].as_slice(),
+    ];
+    for octets in spellings {
+        let identifier = AlgorithmIdentifier::from_ber(rt.alloc(), octets)?;
+        same(&rt, identifier.algorithm.octets, [0x2A].as_slice());
+        same(&rt, identifier.month.month(), 9);
+        let written = identifier.to_der(rt.alloc())?;
+        same(&rt, written.as_slice(), der.as_slice());
+    }
+    Ok(())
+}
+
+#[test]
+fn an_identifier_among_others(rt: HostRuntime) -> Result<(), Fail> {
+    let octets = [
+        0x30, 0x80, 0x04, 0x00, 0x04, 0x01, 0x0B, 0x00, 0x00, 0x04, 0x01, 0x02,
+    ];
+    let mut reader = ber_reader(&octets)?;
+    let identifier: AlgorithmIdentifier<'_> = reader.decode(rt.alloc())?;
+    same(&rt, identifier.algorithm.octets, [].as_slice());
+    same(&rt, identifier.month.month(), 11);
+    same(&rt, place_of(&reader), (9, 12, false));
+    let month: MyByteMonth = reader.decode(rt.alloc())?;
+    same(&rt, month.month(), 2);
+    same(&rt, reader.finish(), Ok(()));
+    Ok(())
+}
+
+// The segments of a string are lent as they stand, without the end mark behind them.
+#[test]
+fn segments_that_are_lent(rt: HostRuntime) -> Result<(), Fail> {
+    let octets = [0x24, 0x80, 0x04, 0x02, 0xAA, 0xBB, 0x04, 0x00, 0x00, 0x00];
+    let lent = Lent::from_ber(rt.alloc(), &octets)?;
+    let segments = [0x04, 0x02, 0xAA, 0xBB, 0x04, 0x00];
+    same(&rt, lent.octets, segments.as_slice());
+    let empty = Lent::from_ber(rt.alloc(), &[0x24, 0x80, 0x00, 0x00])?;
+    same(&rt, empty.octets, [].as_slice());
+    Ok(())
+}
+
+#[test]
+fn fields_that_are_refused(rt: HostRuntime) {
+    let rows = [
+        (
+            // a field is missing
+            [0x30, 0x80, 0x04, 0x01, 0x2A, 0x00, 0x00].as_slice(),
+            incomplete(6, 5, 5),
+        ),
+        (
+            // octets are left inside
+            [
+                0x30, 0x80, 0x04, 0x01, 0x2A, 0x04, 0x01, 0x09, 0x05, 0x00, 0x00, 0x00,
+            ]
+            .as_slice(),
+            trailing(8, 2),
+        ),
+        (
+            // octets are left behind
+            [
+                0x30, 0x80, 0x04, 0x01, 0x2A, 0x04, 0x01, 0x09, 0x00, 0x00, 0x00,
+            ]
+            .as_slice(),
+            trailing(10, 1),
+        ),
+        (
+            // the end mark is missing
+            [0x30, 0x80, 0x04, 0x01, 0x2A, 0x04, 0x01, 0x09].as_slice(),
+            incomplete(9, 8, 8),
+        ),
+        (
+            // a field has another tag
+            [0x30, 0x80, 0x04, 0x01, 0x2A, 0x02, 0x01, 0x09, 0x00, 0x00].as_slice(),
+            unexpected(Tag::OctetString, Tag::Integer),
+        ),
+    ];
+    for (octets, error) in rows {
+        same_at(&rt, error, refusal(rt.alloc(), octets), Some(error));
+    }
+}
+
+#[test]
+fn spellings_under_der(rt: HostRuntime) {
+    let alloc = rt.alloc();
+    let body = [0x30, 0x80, 0x04, 0x01, 0x2A, 0x04, 0x01, 0x09, 0x00, 0x00];
+    let refused = AlgorithmIdentifier::from_der(alloc, &body).err();
+    same(&rt, refused, Some(indefinite(2)));
+    let segments = [0x30, 0x06, 0x24, 0x01, 0x2A, 0x04, 0x01, 0x09];
+    let refused = AlgorithmIdentifier::from_der(alloc, &segments).err();
+    same(&rt, refused, Some(unknown(0x24, 3)));
+}
+
+#[test]
+fn a_field_without_lending(rt: HostRuntime) -> Result<(), Fail> {
+    let mut reader = ber_unlent(&[0x24, 0x80, 0x04, 0x00, 0x00, 0x00])?;
+    let refused = Lent::decode(rt.alloc(), &mut reader).err();
+    same(&rt, refused, Some(ErrorKind::Reader.at(Length::new(2))));
+    same(&rt, place_of(&reader), (2, 6, false));
+    let mut reader = ber_unlent(&[0x24, 0x01, 0x09])?;
+    let month = MyByteMonth::decode(rt.alloc(), &mut reader)?;
+    same(&rt, month.month(), 9);
+    same(&rt, place_of(&reader), (3, 3, false));
+    Ok(())
+}

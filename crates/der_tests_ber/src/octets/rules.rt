@@ -1,0 +1,146 @@
+//! What both rules answer alike, and what the Distinguished Encoding Rules refuse.
+use super::*;
+use crate::checks::{same, same_at};
+use der::TagNumber;
+
+#[test]
+fn the_rules_of_a_reader(rt: HostRuntime) -> Result<(), Fail> {
+    let reader = ber_reader(&[])?;
+    same(&rt, reader.encoding_rules(), EncodingRules::Ber);
+    same(&rt, reader.fork().encoding_rules(), EncodingRules::Ber);
+    same(&rt, place_of(&reader), (0, 0, false));
+    let der = EncodingRules::Der;
+    let reader = SliceReader::new_with_encoding_rules(&[0x05], der)?;
+    same(&rt, reader.encoding_rules(), der);
+    same(&rt, place_of(&reader), (0, 1, false));
+    same(&rt, SliceReader::new(&[])?.encoding_rules(), der);
+    Ok(())
+}
+
+#[test]
+fn the_indefinite_form_under_der(rt: HostRuntime) -> Result<(), Fail> {
+    for octets in [
+        [0x30, 0x80, 0x00, 0x00].as_slice(),
+        [0x30, 0x80].as_slice(),
+        [0x04, 0x80, 0x00, 0x00].as_slice(),
+        [0x30, 0x80, 0x30, 0x80].as_slice(),
+    ] {
+        let mut reader = SliceReader::new(octets)?;
+        same(&rt, reader.peek_header(), Err(indefinite(2)));
+        same(&rt, decode_header(&mut reader), Err(indefinite(2)));
+        same(&rt, place_of(&reader), (2, octets.len() as u32, true));
+    }
+    let refused = Length::from_der(rt.alloc(), &[0x80, 0x00, 0x00]);
+    same(&rt, refused, Err(indefinite(1)));
+    Ok(())
+}
+
+#[test]
+fn definite_lengths(rt: HostRuntime) {
+    let rows = [
+        ([0x00].as_slice(), 0),
+        ([0x7F].as_slice(), 127),
+        ([0x81, 0x80].as_slice(), 128),
+        ([0x82, 0x01, 0x00].as_slice(), 256),
+        ([0x83, 0x01, 0x00, 0x00].as_slice(), 65536),
+        ([0x84, 0xFF, 0xFF, 0xFF, 0xFF].as_slice(), 4294967295),
+    ];
+    for (octets, number) in rows {
+        let length = Length::new(number);
+        same_at(
+            &rt,
+            number,
+            Length::from_ber(rt.alloc(), octets),
+            Ok(length),
+        );
+        same_at(
+            &rt,
+            number,
+            Length::from_der(rt.alloc(), octets),
+            Ok(length),
+        );
+    }
+}
+
+// The Basic Encoding Rules allow lengths that are not the shortest; this library does not.
+#[test]
+fn lengths_that_are_not_the_shortest(rt: HostRuntime) {
+    let rows = [
+        ([0x81, 0x7F].as_slice(), 2),
+        ([0x82, 0x00, 0xFF].as_slice(), 3),
+        ([0x83, 0x00, 0xFF, 0xFF].as_slice(), 4),
+        ([0x84, 0x00, 0xFF, 0xFF, 0xFF].as_slice(), 5),
+        ([0x85, 0x00, 0x00, 0x00, 0x00, 0x01].as_slice(), 1),
+        ([0xFF].as_slice(), 1),
+    ];
+    for (octets, position) in rows {
+        let error = ErrorKind::Overlength.at(Length::new(position));
+        same_at(
+            &rt,
+            position,
+            Length::from_ber(rt.alloc(), octets),
+            Err(error),
+        );
+        same_at(
+            &rt,
+            position,
+            Length::from_der(rt.alloc(), octets),
+            Err(error),
+        );
+    }
+}
+
+#[test]
+fn headers_whose_length_is_refused(rt: HostRuntime) -> Result<(), Fail> {
+    let rows = [
+        ([0x04, 0x81, 0x7F].as_slice(), 3),
+        ([0x04, 0x82, 0x00, 0x80].as_slice(), 4),
+        ([0x04, 0x85].as_slice(), 2),
+        ([0x04, 0xFF, 0x01].as_slice(), 2),
+    ];
+    for rules in [EncodingRules::Ber, EncodingRules::Der] {
+        for (octets, position) in rows {
+            let error = incorrect(Tag::OctetString, position);
+            let mut reader = SliceReader::new_with_encoding_rules(octets, rules)?;
+            same_at(&rt, rules, decode_header(&mut reader), Err(error));
+            let end = octets.len() as u32;
+            same_at(&rt, rules, place_of(&reader), (position, end, true));
+        }
+    }
+    Ok(())
+}
+
+#[test]
+fn definite_headers(rt: HostRuntime) {
+    let longest = TagNumber(4294967295).context_specific(true);
+    let rows = [
+        ([0x05, 0x00].as_slice(), Tag::Null, 0),
+        ([0x30, 0x82, 0x01, 0x00].as_slice(), Tag::Sequence, 256),
+        (
+            [
+                0xBF, 0x8F, 0xFF, 0xFF, 0xFF, 0x7F, 0x84, 0xFF, 0xFF, 0xFF, 0xFF,
+            ]
+            .as_slice(),
+            longest,
+            4294967295,
+        ),
+    ];
+    for (octets, tag, number) in rows {
+        let header = Header::new(tag, Length::new(number));
+        same_at(&rt, tag, Header::from_ber(rt.alloc(), octets), Ok(header));
+        same_at(&rt, tag, Header::from_der(rt.alloc(), octets), Ok(header));
+    }
+}
+
+#[test]
+fn elements_of_a_definite_length(rt: HostRuntime) -> Result<(), Fail> {
+    let octets = [0x30, 0x02, 0x05, 0x00, 0xFF];
+    let mut reader = ber_reader(&octets)?;
+    let element = [0x30, 0x02, 0x05, 0x00];
+    same(&rt, reader.tlv_bytes()?, element.as_slice());
+    same(&rt, place_of(&reader), (4, 5, false));
+    let mut cut = ber_reader(&[0x24, 0x02])?;
+    same(&rt, cut.tlv_bytes().err(), Some(incomplete(4, 2, 0)));
+    same(&rt, place_of(&cut), (0, 2, true));
+    Ok(())
+}
