@@ -1,4 +1,4 @@
-//! What both measurements have in common.
+//! What all measurements have in common.
 use std::hint::black_box;
 use std::time::Instant;
 
@@ -72,18 +72,21 @@ pub fn push_length(out: &mut Vec<u8>, len: usize) {
     out.extend_from_slice(&octets[zeros..]);
 }
 
-/// The least time of a walk among the rounds, in nanoseconds an element; the rounds of the two
-/// walks alternate, so that both see the same machine.
-pub fn measure(walks: [fn(&[u8]) -> Totals; 2], bytes: &[u8], count: u64) -> (f64, f64) {
-    let mut least = [f64::INFINITY; 2];
+/// A walk, what it walks over, and how many elements that has.
+pub type Timed<'a> = (fn(&[u8]) -> Totals, &'a [u8], u64);
+
+/// The least times of the walks among the rounds, in nanoseconds an element; the rounds of the
+/// walks alternate, so that all see the same machine.
+pub fn measure<const N: usize>(walks: [Timed<'_>; N]) -> [f64; N] {
+    let mut least = [f64::INFINITY; N];
     for _ in 0..ROUNDS {
-        for (walk, least) in walks.iter().zip(&mut least) {
+        for ((walk, bytes, count), least) in walks.iter().zip(&mut least) {
             let start = Instant::now();
             let totals = walk(black_box(bytes));
-            let elapsed = start.elapsed().as_nanos() as f64 / count as f64;
-            assert_eq!(black_box(totals).elements, count);
+            let elapsed = start.elapsed().as_nanos() as f64 / *count as f64;
+            assert_eq!(black_box(totals).elements, *count);
             *least = least.min(elapsed);
         }
     }
-    (least[0], least[1])
+    least
 }

@@ -99,7 +99,8 @@ fn main() {
         let (bytes, count) = keys(bound);
         let name = format!("keys of 0 to {} octets", bound - 1);
         assert_eq!(proved_decode(&bytes), decode_by_hand(&bytes), "{name}");
-        let (proved, by_hand) = measure([proved_decode, decode_by_hand], &bytes, count);
+        let [proved, by_hand] =
+            measure([(proved_decode, &bytes, count), (decode_by_hand, &bytes, count)]);
         println!(
             "{name}: {count} keys of {:.1} octets; \
              library {proved:.2} ns, by hand {by_hand:.2} ns a key, ratio {:.2}",

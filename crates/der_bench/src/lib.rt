@@ -1,9 +1,11 @@
-//! The walk over the elements of an input, and the decoding of keys, whose speed `bench/` measures.
+//! The walk over the elements of an input, the decoding of keys, and the reading of messages in
+//! indefinite lengths, whose speed `bench/` measures.
 #![tactic(auto)]
 
 mod decode;
+mod scan;
 
-use der::{Reader, ReaderExt, SliceReader, decode_header};
+use der::{EncodingRules, Reader, ReaderExt, SliceReader, decode_header};
 
 /// What a walk has passed.
 #[repr(C)]
@@ -19,12 +21,18 @@ pub struct Totals {
 /// Walks over the elements of the octets until their end, or an error.
 #[unsafe(no_mangle)]
 pub extern "C" fn der_bench_walk(bytes: &[u8]) -> Totals {
+    walk(bytes, EncodingRules::Der)
+}
+
+// The same by any rules.
+#[inline(always)]
+fn walk(bytes: &[u8], rules: EncodingRules) -> Totals {
     let mut totals = Totals {
         elements: 0,
         contents: 0,
         first_octets: 0,
     };
-    let Ok(mut reader) = SliceReader::new(bytes) else {
+    let Ok(mut reader) = SliceReader::new_with_encoding_rules(bytes, rules) else {
         return totals;
     };
     // Each element has an octet at least.

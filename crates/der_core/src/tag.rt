@@ -54,6 +54,15 @@ fn universal(octet: u8) -> Option<Tag>
     }
 }
 
+// The same by a call of its own, which finds the tag in a table: in line it may become a jump for
+// each tag, which processors foresee badly where tags change.
+#[inline(never)]
+pub(crate) fn universal_by_table(octet: u8) -> Option<Tag>
+    ensures { result ≡ universal_tag octet }
+{
+    universal(octet)
+}
+
 // Bit 6 of an identifier's first octet (X.690 8.1.2.3).
 #[inline(always)]
 #[tactic(auto, using(crate::proofs::TagReadLemmas::bit_six))]
@@ -95,15 +104,17 @@ pub(crate) fn decode_with_constructed_bit<R: Reader>(reader: &mut R) -> Result<(
         (R.state reader.new) }
 {
     let first = reader.read_byte()?;
-    decode_identifier_behind(reader, first)
+    decode_identifier_behind(reader, first, universal(first))
 }
 
-// The same behind its first octet.
+// The same behind its first octet, which is this universal tag if it is any.
 #[inline(always)]
 pub(crate) fn decode_identifier_behind<R: Reader>(
     reader: &mut R,
     first: u8,
+    known: Option<Tag>,
 ) -> Result<(Tag, bool), Error>
+    requires universal { known ≡ universal_tag first }
     ensures same { Same (R.state reader.old) (R.state reader.new) }
     ensures ok { IfOk result (λ x. IdentifierBehind first x.0 x.1 (R.state reader.old)
         (R.state reader.new)) }
@@ -111,7 +122,7 @@ pub(crate) fn decode_identifier_behind<R: Reader>(
         (λ e. RefusesIdentifier first (R.state reader.old) e (R.state reader.new)) }
 {
     let constructed = has_constructed_bit(first);
-    if let Some(tag) = universal(first) {
+    if let Some(tag) = known {
         return Ok((tag, constructed));
     }
     if first < 0x40 {

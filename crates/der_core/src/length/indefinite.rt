@@ -12,7 +12,7 @@ use crate::length::turns::Turns;
 use crate::length::{INDEFINITE, decode_long_length};
 use crate::reader::value::read_zero_octet;
 use crate::reader::{Reader, ReaderExt};
-use crate::tag::decode_identifier_behind;
+use crate::tag::{decode_identifier_behind, universal_by_table};
 use der_base::{Error, ErrorKind, Length, Tag};
 use std::marker::Brand;
 use std::sync::ledger::{Blank, Ledger};
@@ -94,7 +94,7 @@ fn next_part<R: Reader>(reader: &mut R, level: u8) -> Result<Part, Error>
         read_zero_octet(reader)?;
         return Ok(Part::Ends);
     }
-    let (tag, constructed) = decode_identifier_behind(reader, first)?;
+    let (tag, constructed) = decode_identifier_behind(reader, first, universal_by_table(first))?;
     let octet = reader.read_byte()?;
     if octet == INDEFINITE {
         if !constructed {

@@ -5,14 +5,14 @@ use Rattle.der_core.proofs.tag.decode_identifier_behind.Goals as goal
 use Rattle.der_core.proofs.tag.decode_identifier_behind.Goals.{else-first-eq-SEGMENTS-via-then-first-eq-SEGMENTS+else-is_ber, else-first-eq-SEGMENTS-via-else-first-eq-SEGMENTS}
 
 pub returns-in-Some-clause-ok : goal.returns-in-Some-clause-ok
-returns-in-Some-clause-ok g c = found_universal _ c.args.first c.in-Some.ensures c.has_constructed_bit-constructed.ensures
+returns-in-Some-clause-ok g c = found_universal _ c.args.first (sym (sym c.requires.universal ∙ c.in-Some.is)) c.has_constructed_bit-constructed.ensures
 
 pub returns-then-is_ber-clause-ok : goal.returns-then-is_ber-clause-ok
 returns-then-is_ber-clause-ok g c = found_segments _ c.args.first c.if-first-eq-SEGMENTS.true (sym c.encoding_rules.ensures ∙ is_ber c.is_ber.ensures c.if-is_ber.true)
 
 pub returns-then-first-lt64-clause-exact : goal.returns-then-first-lt64-clause-exact
 returns-then-first-lt64-clause-exact g c reliable =
-    refused_unknown c.if-first-lt64.true (sym c.universal.ensures ∙ c.in_default.is)
+    refused_unknown c.if-first-lt64.true (sym c.requires.universal ∙ c.in_default.is)
     (elim c.else-first-eq-SEGMENTS.branch [ else-first-eq-SEGMENTS-via-then-first-eq-SEGMENTS+else-is_ber w ↦ inl (sym w.encoding_rules.ensures ∙ not_ber w.is_ber.ensures w.if-is_ber.false) | else-first-eq-SEGMENTS-via-else-first-eq-SEGMENTS w ↦ inr w.if-first-eq-SEGMENTS.false ])
     (let told = c.error.ensures.at_position in let kind = c.unknown.ensures in cc) c.error.ensures.failed
 

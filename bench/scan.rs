@@ -1,0 +1,135 @@
+//! Reads 16 MiB of messages in indefinite lengths by the proved reader and by hand, and walks over
+//! their items alone; tells how long an item takes each.
+mod common;
+mod elements;
+
+use common::{INPUT_LEN, Numbers, Totals, measure, split_contents};
+use elements::{UNIVERSAL, count_contents, proved_walk, push_element, short_len, skip_identifier};
+
+const INDEFINITE: u8 = 0x80;
+const MAX_LEVEL: usize = 64;
+// How many items a message has, as many on each level.
+const ITEMS: usize = 256;
+// Octet 24 is an identifier too.
+const BER_IDENTIFIERS: u64 = UNIVERSAL | 1 << 0x24;
+
+unsafe extern "C" {
+    // A slice is handed over as a pointer and then a length.
+    #[link_name = "der_bench_scan"]
+    fn library_scan(octets: *const u8, len: usize) -> Totals;
+}
+
+fn proved_scan(bytes: &[u8]) -> Totals {
+    // SAFETY: the pointer and the length are those of a slice, which the call only reads.
+    unsafe { library_scan(bytes.as_ptr(), bytes.len()) }
+}
+
+/// The messages as one reads them by hand, without a reader: it refuses the same octets.
+#[inline(never)]
+fn scan_by_hand(bytes: &[u8]) -> Totals {
+    count_contents(bytes, split_message)
+}
+
+/// The contents of the message ahead, with their end mark if they have one, and the octets behind.
+#[inline(always)]
+fn split_message(bytes: &[u8]) -> Option<(&[u8], &[u8])> {
+    let rest = skip_identifier(BER_IDENTIFIERS, bytes)?;
+    match rest.split_first()? {
+        (&INDEFINITE, body) if is_constructed(bytes[0]) => body.split_at_checked(body_len(body)?),
+        _ => split_contents(rest),
+    }
+}
+
+fn is_constructed(identifier: u8) -> bool {
+    identifier & 0x20 != 0
+}
+
+/// How many octets the body ahead has, with the end mark that closes it.
+#[inline(never)]
+fn body_len(bytes: &[u8]) -> Option<usize> {
+    let mut level = 1;
+    let mut rest = bytes;
+    loop {
+        let (&first, behind) = rest.split_first()?;
+        if first == 0 {
+            let (&second, behind) = behind.split_first()?;
+            if second != 0 {
+                return None;
+            }
+            rest = behind;
+            level -= 1;
+            if level == 0 {
+                return Some(bytes.len() - rest.len());
+            }
+            continue;
+        }
+        let length = skip_identifier(BER_IDENTIFIERS, rest)?;
+        let (&octet, behind) = length.split_first()?;
+        if octet == INDEFINITE {
+            if !is_constructed(first) || level == MAX_LEVEL {
+                return None;
+            }
+            rest = behind;
+            level += 1;
+        } else {
+            (_, rest) = split_contents(length)?;
+        }
+    }
+}
+
+/// Messages until the input is as long as wanted, and their items alone.
+struct Input {
+    messages: Vec<u8>,
+    message_count: u64,
+    items: Vec<u8>,
+}
+
+/// Messages with so many levels open in them.
+fn input(levels: usize) -> Input {
+    let mut numbers = Numbers(0x9E37_79B9_7F4A_7C15);
+    let mut input = Input {
+        messages: Vec::with_capacity(INPUT_LEN + (1 << 17)),
+        message_count: 0,
+        items: Vec::with_capacity(INPUT_LEN + (1 << 17)),
+    };
+    while input.messages.len() < INPUT_LEN {
+        push_message(&mut input, &mut numbers, levels);
+    }
+    input
+}
+
+fn push_message(input: &mut Input, numbers: &mut Numbers, levels: usize) {
+    for _ in 0..levels {
+        input.messages.extend_from_slice(&[0x30, INDEFINITE]);
+        let start = input.items.len();
+        for _ in 0..ITEMS / levels {
+            push_element(&mut input.items, numbers, short_len);
+        }
+        input.messages.extend_from_slice(&input.items[start..]);
+    }
+    input.messages.resize(input.messages.len() + 2 * levels, 0);
+    input.message_count += 1;
+}
+
+fn main() {
+    for levels in [1, 4, MAX_LEVEL] {
+        let input = input(levels);
+        let (messages, items) = (&input.messages, &input.items);
+        let name = format!("{levels} levels");
+        assert_eq!(proved_scan(messages), scan_by_hand(messages), "{name}");
+        let count = input.message_count;
+        let item_count = count * ITEMS as u64;
+        let [proved, by_hand, walked] = measure([
+            (proved_scan, messages, count),
+            (scan_by_hand, messages, count),
+            (proved_walk, items, item_count),
+        ]);
+        let (proved, by_hand) = (proved / ITEMS as f64, by_hand / ITEMS as f64);
+        println!(
+            "{name}: {count} messages of {:.1} octets; library {proved:.2} ns, \
+             by hand {by_hand:.2} ns an item, ratio {:.2}; a walk over the items {walked:.2} ns",
+            messages.len() as f64 / count as f64,
+            proved / by_hand,
+        );
+    }
+}
