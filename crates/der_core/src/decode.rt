@@ -1,5 +1,5 @@
 //! Decoding.
-ghost use Rattle.std.specs.Prelude.{◌≡◌, ℕ, ◌+◌, ◌^◌, ◌<◌, ◌≤◌, ◌⊎◌, Bool, true, false, List, length, drop, IfOk, IsOk, IsErrAnd, Result as AResult};
+ghost use Rattle.std.specs.Prelude.{◌≡◌, ℕ, ◌+◌, ◌^◌, ◌<◌, ◌≤◌, Bool, true, false, List, length, drop, IfOk, Result as AResult};
 ghost use Rattle.std.proofs.Common.{ap};
 ghost use Rattle.der_base.specs.Error.{kind_of};
 ghost use Rattle.der_base.specs.declared.error.Error.{Error as AnError};

@@ -1,5 +1,5 @@
 //! Lengths.
-ghost use Rattle.std.specs.Prelude.{◌≡◌, ℕ, ◌+◌, ◌-◌, ◌^◌, ◌<◌, ◌≤◌, true, false, List, ◌∷◌, length, max, Ok, IfOk, IfErr};
+ghost use Rattle.std.specs.Prelude.{◌≡◌, ◌+◌, ◌-◌, ◌^◌, ◌<◌, ◌≤◌, true, false, length, max, Ok, IfOk, IfErr};
 ghost use Rattle.der_base.specs.Scan.{BodyFault};
 ghost use Rattle.der_base.specs.Length.{number, definite_length, length_octets};
 ghost use Rattle.der_base.specs.Header.{LengthAhead, LengthFault};
@@ -7,7 +7,7 @@ ghost use Rattle.der_base.specs.declared.error.ErrorKind.TheVariants.{Overlength
 ghost use Rattle.der_core.specs.AfterFirstOctet.{DefiniteBehind, IsIndefiniteForm, RefusesIndefinite, RefusesLongLength, wrong_length_kind};
 ghost use Rattle.der_core.specs.Decode.{Decodes, grammar_levels};
 ghost use Rattle.der_core.specs.Encode.{length_outcome};
-ghost use Rattle.der_core.specs.ReaderState.{Same, Reads};
+ghost use Rattle.der_core.specs.ReaderState.{Same};
 ghost use Rattle.der_core.specs.Writer.{Writes};
 
 pub mod indefinite;

@@ -1,7 +1,7 @@
 //! Tags.
-ghost use Rattle.std.specs.Prelude.{◌≡◌, ℕ, ◌^◌, ◌<◌, ◌≤◌, true, false, List, [], ◌∷◌, length, Ok, IfOk, IfErr};
+ghost use Rattle.std.specs.Prelude.{◌≡◌, ◌^◌, ◌<◌, ◌≤◌, true, false, [], length, Ok, IfOk, IfErr};
 ghost use Rattle.der_base.specs.Length.{definite_length, digits};
-ghost use Rattle.der_base.specs.Tag.{label, leading_octet, tag_octets, continuation_octets, universal_tag, other_tag, is_constructed, IsIdentifier, IdentifierFault, identifier_kind};
+ghost use Rattle.der_base.specs.Tag.{label, leading_octet, tag_octets, continuation_octets, universal_tag, other_tag, is_constructed, IdentifierFault, identifier_kind};
 ghost use Rattle.der_base.specs.Header.{IdentifierAhead, TagAhead};
 ghost use Rattle.der_core.specs.AfterFirstOctet.{IdentifierBehind, RefusesIdentifier, RefusesNumber};
 ghost use Rattle.der_core.specs.Decode.{Decodes, grammar_levels};

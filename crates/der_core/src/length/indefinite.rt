@@ -1,10 +1,9 @@
 //! Indefinite lengths (X.690 8.1.3.6).
-ghost use Rattle.std.specs.Prelude.{◌≡◌, ◌≢◌, ℕ, ◌^◌, ◌<◌, ◌≤◌, true, List, ◌∷◌, IfOk, IfErr};
-ghost use Rattle.der_base.specs.Length.{length_octets};
+ghost use Rattle.std.specs.Prelude.{◌≡◌, ◌≢◌, ◌≤◌, true, IfOk, IfErr};
 ghost use Rattle.der_base.specs.declared.encoding_rules.EncodingRules.TheVariants.{Ber};
 ghost use Rattle.der_base.specs.declared.error.ErrorKind.TheVariants.{Length as IncorrectLength};
 ghost use Rattle.der_core.specs.AfterFirstOctet.{DefiniteBehind, RefusesLongLength};
-ghost use Rattle.der_core.specs.ReaderState.{rest, Same, Reads};
+ghost use Rattle.der_core.specs.ReaderState.{rest, Same};
 ghost use Rattle.der_core.specs.Scan.{Scans, ScansAhead, IsTurned};
 ghost use Rattle.der_core.specs.Turn.{PartRead, RefusesPart};
 
