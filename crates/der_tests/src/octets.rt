@@ -4,6 +4,7 @@ use der::{
     Decode, DecodeBytes, Error, ErrorKind, Header, Length, Octets, Reader, ReaderExt, SliceReader,
     Tag, TagNumber, decode_header, decode_length,
 };
+use der_fixtures::errors::{incomplete, trailing};
 use std::alloc::Global;
 use std::test::Fail;
 
@@ -21,14 +22,6 @@ mod unlent_parts;
 mod unlent_peeks;
 mod wrong;
 mod zeros;
-
-fn incomplete(expected: u32, actual: u32, position: u32) -> Error {
-    ErrorKind::Incomplete {
-        expected_len: Length::new(expected),
-        actual_len: Length::new(actual),
-    }
-    .at(Length::new(position))
-}
 
 // The value at the front of the octets, and how many octets are left behind it.
 fn front<'a, T: DecodeBytes<'a> + Decode<SliceReader<'a>, Error = Error>>(

@@ -5,6 +5,7 @@ use der::{
     Decode, DecodeBytes, Encode, Error, ErrorKind, Header, Length, Reader, ReaderExt, SliceReader,
     Tag, TagNumber,
 };
+use der_fixtures::errors::{incomplete, trailing, unexpected};
 use std::alloc::Global;
 use std::test::Fail;
 
@@ -24,27 +25,3 @@ mod nothing;
 mod pairs;
 mod readers;
 mod tags;
-
-fn incomplete(expected: u32, actual: u32, position: u32) -> Error {
-    ErrorKind::Incomplete {
-        expected_len: Length::new(expected),
-        actual_len: Length::new(actual),
-    }
-    .at(Length::new(position))
-}
-
-fn trailing(decoded: u32, remaining: u32) -> Error {
-    ErrorKind::TrailingData {
-        decoded: Length::new(decoded),
-        remaining: Length::new(remaining),
-    }
-    .at(Length::new(decoded))
-}
-
-fn unexpected(expected: Tag, actual: Tag) -> Error {
-    ErrorKind::TagUnexpected {
-        expected: Some(expected),
-        actual,
-    }
-    .to_error()
-}

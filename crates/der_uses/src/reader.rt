@@ -13,7 +13,9 @@ pub struct CopyingReader<'a> {
 
 impl<'a> CopyingReader<'a> {
     /// Reads on where this reader stands.
-    pub fn new(inner: SliceReader<'a>) -> Self {
+    pub fn new(inner: SliceReader<'a>) -> Self
+        ensures inner { result.inner ≡ inner.entry }
+    {
         CopyingReader { inner }
     }
 }

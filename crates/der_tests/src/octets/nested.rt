@@ -6,14 +6,6 @@ use super::*;
 use crate::checks::{holds, same};
 use der::{Position, read_eoc, read_value};
 
-fn trailing(decoded: u32, remaining: u32) -> Error {
-    ErrorKind::TrailingData {
-        decoded: Length::new(decoded),
-        remaining: Length::new(remaining),
-    }
-    .at(Length::new(decoded))
-}
-
 fn read_one(reader: &mut SliceReader<'_>) -> Result<u8, Error>
     ensures { Same (slice_state reader.old) (slice_state reader.new) }
 {

@@ -1,5 +1,4 @@
 //! What is ahead of a reader under the Basic Encoding Rules; the reader stays.
-use super::unlent::ber_unlent;
 use super::*;
 use crate::checks::{holds, same};
 use der::{Class, TagNumber, TagPeek};

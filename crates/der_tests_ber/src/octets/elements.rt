@@ -3,8 +3,6 @@ ghost use Rattle.std.specs.Prelude.{◌≡◌};
 ghost use Rattle.der_core.specs.ReaderState.{Same};
 ghost use Rattle.der_core.specs.SliceReader.{slice_state};
 
-use super::bodies::around_contents;
-use super::unlent::ber_unlent;
 use super::*;
 use crate::checks::{same, same_at};
 use der::TagNumber;

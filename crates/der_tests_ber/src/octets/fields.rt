@@ -1,5 +1,4 @@
 //! A SEQUENCE of two fields, of which each length may have either form.
-use super::unlent::ber_unlent;
 use super::*;
 use crate::checks::{same, same_at};
 use der::Encode;
@@ -10,14 +9,6 @@ use der_uses::lent::Lent;
 // How the octets are refused.
 fn refusal(alloc: Global, octets: &[u8]) -> Option<Error> {
     AlgorithmIdentifier::from_ber(alloc, octets).err()
-}
-
-fn unexpected(expected: Tag, actual: Tag) -> Error {
-    ErrorKind::TagUnexpected {
-        expected: Some(expected),
-        actual,
-    }
-    .to_error()
 }
 
 // Four spellings of one value, of which the Distinguished Encoding Rules have the first alone.

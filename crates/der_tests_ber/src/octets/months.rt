@@ -101,24 +101,20 @@ fn other_tags(rt: HostRuntime) {
             &rt,
             actual,
             month(rt.alloc(), octets),
-            Err(unexpected(actual)),
+            Err(unexpected(Tag::OctetString, actual)),
         );
     }
-}
-
-fn unexpected(actual: Tag) -> Error {
-    ErrorKind::TagUnexpected {
-        expected: Some(Tag::OctetString),
-        actual,
-    }
-    .to_error()
 }
 
 #[test]
 fn another_tag_leaves_the_reader_behind_its_header(rt: HostRuntime) -> Result<(), Fail> {
     let mut reader = ber_reader(&[0x30, 0x80, 0x00, 0x00])?;
     let refused = MyByteMonth::decode(rt.alloc(), &mut reader);
-    same(&rt, refused, Err(unexpected(Tag::Sequence)));
+    same(
+        &rt,
+        refused,
+        Err(unexpected(Tag::OctetString, Tag::Sequence)),
+    );
     same(&rt, place_of(&reader), (2, 4, false));
     Ok(())
 }

@@ -1,5 +1,4 @@
 //! Octet 24: the identifier of a string of segments, which the Basic Encoding Rules alone know.
-use super::unlent::ber_unlent;
 use super::*;
 use crate::checks::{same, same_at};
 use der::{Encode, TagPeek};

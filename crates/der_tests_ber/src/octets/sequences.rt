@@ -3,7 +3,6 @@ ghost use Rattle.std.specs.Prelude.{◌≡◌};
 ghost use Rattle.der_core.specs.ReaderState.{Same};
 ghost use Rattle.der_core.specs.SliceReader.{slice_state};
 
-use super::unlent::ber_unlent;
 use super::*;
 use crate::checks::same;
 use der::{close_value, read_value};

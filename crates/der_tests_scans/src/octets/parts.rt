@@ -2,8 +2,6 @@
 ghost use Rattle.std.specs.Prelude.{◌≡◌};
 ghost use Rattle.der_core.specs.ReaderState.{Same};
 
-use super::bodies::around_null;
-use super::unlent::ber_unlent;
 use super::*;
 use crate::checks::same;
 use der::close_value;

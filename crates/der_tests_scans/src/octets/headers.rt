@@ -1,6 +1,4 @@
 //! Headers with lengths of the indefinite form, and those that are refused before or behind a scan.
-use super::bodies::{SEGMENT_OF_ZEROS, around_contents, around_null};
-use super::unlent::ber_unlent;
 use super::*;
 use crate::checks::{same, same_at};
 use der::decode_length;

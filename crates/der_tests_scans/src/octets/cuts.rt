@@ -1,6 +1,4 @@
 //! Elements of indefinite lengths, cut behind each of their octets.
-use super::bodies::{SEGMENT_OF_ZEROS, around_contents, first_octets};
-use super::unlent::ber_unlent;
 use super::*;
 use crate::checks::{same, same_at};
 use std::process::Abort;

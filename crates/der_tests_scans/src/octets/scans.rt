@@ -3,8 +3,6 @@ ghost use Rattle.std.specs.Prelude.{◌≡◌};
 ghost use Rattle.der_base.specs.declared.encoding_rules.EncodingRules.TheVariants.{Ber};
 ghost use Rattle.der_core.specs.ReaderState.{Same};
 
-use super::bodies::{SEGMENT_OF_ZEROS, around_null};
-use super::unlent::ber_unlent;
 use super::*;
 use crate::checks::{same, same_at};
 use der::{Turns, decode_indefinite_length};

@@ -3,9 +3,7 @@
 ghost use Rattle.std.specs.Prelude.{◌≡◌};
 ghost use Rattle.der_base.specs.declared.encoding_rules.EncodingRules.TheVariants.{Ber};
 
-use super::bodies::{around_null, first_octets};
 use super::scans::{body_ahead, pass_body};
-use super::unlent::ber_unlent;
 use super::*;
 use crate::checks::same_at;
 use std::process::Abort;

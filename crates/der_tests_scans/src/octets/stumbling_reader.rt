@@ -10,32 +10,25 @@ use super::*;
 use der::Resumption;
 use std::alloc::Allocator;
 
-/// A reader over a slice that lends nothing.
+/// A reader over a slice that lends nothing, and refuses the read that is counted.
 #[derive(Drop)]
-pub struct UnlentReader<'a> {
+pub struct StumblingReader<'a> {
     inner: SliceReader<'a>,
     // how many reads are left up to the one that is refused, and with it; zero where none is
     reads: u32,
 }
 
-// A reader that lends nothing, under the Basic Encoding Rules.
-pub(super) fn ber_unlent(octets: &[u8]) -> Result<UnlentReader<'_>, Error>
-    ensures { IfOk result (λ r. (slice_state r.inner).rules ≡ Ber) }
-{
-    ber_stumbling(octets, 0)
-}
-
-// One whose read of this number is refused, the first being 1.
-pub(super) fn ber_stumbling(octets: &[u8], reads: u32) -> Result<UnlentReader<'_>, Error>
+// One under the Basic Encoding Rules whose read of this number is refused, the first being 1.
+pub(super) fn ber_stumbling(octets: &[u8], reads: u32) -> Result<StumblingReader<'_>, Error>
     ensures { IfOk result (λ r. (slice_state r.inner).rules ≡ Ber) }
 {
     match ber_reader(octets) {
-        Ok(inner) => Ok(UnlentReader { inner, reads }),
+        Ok(inner) => Ok(StumblingReader { inner, reads }),
         Err(error) => Err(error),
     }
 }
 
-impl<'a> UnlentReader<'a> {
+impl<'a> StumblingReader<'a> {
     // Counts a read, and tells whether it is refused.
     fn stumbles(&mut self) -> bool
         ensures { self.new.inner ≡ self.old.inner }
@@ -55,7 +48,7 @@ impl<'a> UnlentReader<'a> {
     }
 }
 
-impl<'a> Reader for UnlentReader<'a> {
+impl<'a> Reader for StumblingReader<'a> {
     ghost use Rattle.std.proofs.Common.{rules};
 
     type Lent = &'a [u8];
@@ -110,7 +103,7 @@ impl<'a> Reader for UnlentReader<'a> {
     }
 
     fn fork(&self) -> Self {
-        UnlentReader {
+        StumblingReader {
             inner: self.inner.fork(),
             reads: self.reads,
         }

@@ -1,7 +1,6 @@
 //! A reader that refuses one of its reads: no other answer comes of it than without that refusal.
-use super::bodies::SEGMENT_OF_ZEROS;
 use super::scans::{body_ahead, pass_body};
-use super::unlent::ber_stumbling;
+use super::stumbling_reader::ber_stumbling;
 use super::*;
 use crate::checks::same_at;
 

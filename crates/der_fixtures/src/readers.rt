@@ -1,0 +1,33 @@
+//! Readers under the Basic Encoding Rules, and what tests look at in a reader.
+ghost use Rattle.std.specs.Prelude.{◌≡◌, IfOk};
+ghost use Rattle.der_base.specs.declared.encoding_rules.EncodingRules.TheVariants.{Ber};
+ghost use Rattle.der_core.specs.SliceReader.{slice_state};
+
+use der::{EncodingRules, Error, Reader, SliceReader};
+use der_uses::reader::CopyingReader;
+
+/// A reader of these octets under the Basic Encoding Rules.
+pub fn ber_reader(octets: &[u8]) -> Result<SliceReader<'_>, Error>
+    ensures { IfOk result (λ r. (slice_state r).rules ≡ Ber) }
+{
+    SliceReader::new_with_encoding_rules(octets, EncodingRules::Ber)
+}
+
+/// Likewise, one that lends nothing.
+pub fn ber_unlent(octets: &[u8]) -> Result<CopyingReader<'_>, Error>
+    ensures { IfOk result (λ r. (slice_state r.inner).rules ≡ Ber) }
+{
+    match ber_reader(octets) {
+        Ok(inner) => Ok(CopyingReader::new(inner)),
+        Err(error) => Err(error),
+    }
+}
+
+/// Where the reader stands, how far it may read, and whether it has failed.
+pub fn place_of<R: Reader>(reader: &R) -> (u32, u32, bool) {
+    (
+        u32::from(reader.position()),
+        u32::from(reader.input_len()),
+        reader.is_failed(),
+    )
+}

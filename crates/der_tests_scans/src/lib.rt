@@ -1,0 +1,7 @@
+//! Tests of bodies of indefinite lengths, made from outside as a user makes them.
+#![tactic(auto)]
+
+#[cfg(test)]
+mod checks;
+#[cfg(test)]
+mod octets;
