@@ -1,1 +1,11 @@
+pub mod BorrowedOctets
+pub mod BytesCow
+pub mod BytesOwned
+pub mod BytesRef
+pub mod Compare
 pub mod MyByteMonth
+pub mod Octets
+pub mod OwnedText
+pub mod StringCow
+pub mod StringOwned
+pub mod StringRef

@@ -2,11 +2,17 @@
 //! (ITU-T X.690), after the crate `der`.
 //!
 //! This crate has all of `der_base` and `der_core`, whose `specs/` say what each call answers, and
-//! the module [`example`].
+//! beside them byte strings, texts, and the module [`example`].
 #![tactic(auto)]
 
+mod bytes;
+mod comparisons;
+mod constants;
 pub mod example;
+mod referenced;
+mod string;
 
+pub use bytes::{BytesCow, BytesOwned, BytesRef};
 pub use der_base::{
     CLASS_APPLICATION, CLASS_CONTEXT_SPECIFIC, CLASS_PRIVATE, CLASS_UNIVERSAL, Class,
     EncodingRules, Error, ErrorKind, Length, Result, Tag, TagMode, TagNumber,
@@ -19,3 +25,5 @@ pub use der_core::{
     decode_tlv, encode_tlv, encode_to_vec_in, encode_value_to_slice, encoded_len_tlv, read_eoc,
     read_value, to_der_in,
 };
+pub use referenced::{box_to_ref, slice_to_owned};
+pub use string::{StringCow, StringOwned, StringRef};

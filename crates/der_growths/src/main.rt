@@ -3,8 +3,12 @@
 //! the call says. `.ci/refused_memory` runs this with each growth refused in turn.
 #![tactic(auto)]
 
-use der::example::MyByteMonth;
-use der::{Decode, Encode, Error, ErrorKind, Header, Length, Reader, SliceReader, Tag};
+use der::example::{BorrowedOctets, MyByteMonth, OwnedText};
+use der::{
+    BytesOwned, BytesRef, Decode, DecodeBytes, DecodeValue, Encode, Error, ErrorKind, Header,
+    Length, Reader, SliceReader, StringOwned, StringRef, Tag, slice_to_owned,
+};
+use std::boxed::BoxedSlice;
 use std::alloc::Global;
 use std::fmt::Debug;
 use std::io;
@@ -15,7 +19,84 @@ fn main(rt: HostRuntime) -> io::Result<()> {
     tell(&rt, "encode_to_vec", append(rt.alloc(), &header))?;
     tell(&rt, "read_vec", copy(rt.alloc()))?;
     tell(&rt, "box", boxed_month(rt.alloc()))?;
+    tell(&rt, "slice_to_owned", slice_to_owned(rt.alloc(), &OCTETS))?;
+    tell(&rt, "from_slice", from_slice(rt.alloc()))?;
+    tell(&rt, "from_ref", from_ref(rt.alloc()))?;
+    tell(&rt, "ref_to_owned", ref_to_owned(rt.alloc()))?;
+    tell(&rt, "clone_in", clone_in(rt.alloc()))?;
+    tell(&rt, "from_bytes", from_bytes(rt.alloc()))?;
+    tell(&rt, "text_to_owned", text_to_owned(rt.alloc()))?;
+    tell(&rt, "clone_text", clone_text(rt.alloc()))?;
+    tell(&rt, "owned_octets", owned_octets(rt.alloc()))?;
+    tell(&rt, "owned_text", owned_text(rt.alloc()))?;
+    tell(&rt, "empty", empty(rt.alloc()))?;
+    tell(&rt, "borrowed_octets", borrowed_octets(rt.alloc()))?;
     tell(&rt, "month", month(rt.alloc()))
+}
+
+const OCTETS: [u8; 3] = [0x61, 0x62, 0x63];
+
+fn from_slice(alloc: Global) -> Result<BoxedSlice<u8>, Error> {
+    Ok(BytesOwned::from_slice(alloc, &OCTETS)?.into_box())
+}
+
+fn from_ref(alloc: Global) -> Result<BoxedSlice<u8>, Error> {
+    Ok(BytesOwned::from_ref(alloc, BytesRef::new(&OCTETS)?)?.into_box())
+}
+
+fn ref_to_owned(alloc: Global) -> Result<BoxedSlice<u8>, Error> {
+    Ok(BytesRef::new(&OCTETS)?.ref_to_owned(alloc)?.into_box())
+}
+
+fn clone_in(alloc: Global) -> Result<BoxedSlice<u8>, Error> {
+    let octets = BytesOwned::from_slice(alloc, &OCTETS)?;
+    Ok(octets.clone_in(alloc)?.into_box())
+}
+
+fn from_bytes(alloc: Global) -> Result<u32, Error> {
+    Ok(u32::from(StringOwned::from_bytes(alloc, &OCTETS)?.len()))
+}
+
+fn text_to_owned(alloc: Global) -> Result<u32, Error> {
+    let text = StringRef::new("abc")?;
+    Ok(u32::from(text.ref_to_owned(alloc)?.len()))
+}
+
+fn clone_text(alloc: Global) -> Result<u32, Error> {
+    let text = StringOwned::from_bytes(alloc, &OCTETS)?;
+    Ok(u32::from(text.clone_in(alloc)?.len()))
+}
+
+// A copy of three octets; a reader that a refusal moved is told as failed.
+fn owned_octets(alloc: Global) -> Result<BoxedSlice<u8>, Error> {
+    let mut reader = SliceReader::new(&OCTETS)?;
+    let header = Header::new(Tag::OctetString, Length::new(3));
+    let read = BytesOwned::decode_value(alloc, &mut reader, header);
+    if read.is_err() && (reader.position() > Length::ZERO || reader.is_failed()) {
+        return Err(ErrorKind::Failed.to_error());
+    }
+    Ok(read?.into_box())
+}
+
+// A text of three octets; a reader that does not stand behind it, or has failed, is told as failed.
+fn owned_text(alloc: Global) -> Result<u32, Error> {
+    let mut reader = SliceReader::new(&[0x0C, 0x03, 0x61, 0x62, 0x63])?;
+    let read = OwnedText::decode(alloc, &mut reader);
+    if reader.position() != Length::new(5) || reader.is_failed() {
+        return Err(ErrorKind::Failed.to_error());
+    }
+    Ok(u32::from(read?.text.len()))
+}
+
+// No octets, which take no memory.
+fn empty(alloc: Global) -> Result<BoxedSlice<u8>, Error> {
+    Ok(BytesOwned::empty(alloc).into_box())
+}
+
+// Octets that are borrowed, which takes no memory.
+fn borrowed_octets(alloc: Global) -> Result<u32, Error> {
+    let borrowed = BorrowedOctets::from_der(alloc, &[0x04, 0x02, 0x61, 0x62])?;
+    Ok(u32::from(borrowed.octets.prefix(Length::ONE)?.len()))
 }
 
 fn tell<T: Debug + Drop>(rt: &impl Print, call: &str, answer: Result<T, Error>) -> io::Result<()> {

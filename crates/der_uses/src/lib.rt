@@ -3,6 +3,7 @@
 
 pub mod algorithm_identifier;
 pub mod contents;
+pub mod fields;
 pub mod front;
 pub mod key_info;
 pub mod lent;

@@ -1,0 +1,14 @@
+-- Octets that are borrowed or in memory of their own.
+use Rattle.std.specs.Prelude.{ℕ, List}
+use Rattle.der.specs.BytesRef.{reference_octets}
+use Rattle.der.specs.BytesOwned.{owned_octets}
+use Rattle.der.specs.declared.bytes.cow.BytesCow.{BytesCow}
+use Rattle.der.specs.declared.bytes.cow.BytesCow.TheVariants.{Borrowed, Owned}
+
+abbrev pub cow_octets : BytesCow → List ℕ
+cow_octets (Borrowed b) = reference_octets b
+cow_octets (Owned b) = owned_octets b
+
+abbrev pub IsBorrowed : BytesCow → Type 0
+IsBorrowed (Borrowed b) = Unit {0}
+IsBorrowed (Owned b) = ⊥

@@ -1,0 +1,106 @@
+-- Values whose contents are octets, or a text of them: which there are, and how they are read and
+-- written.
+use Rattle.std.specs.Prelude.{◌≡◌, ℕ, ◌^◌, ◌<◌, ◌⊎◌, true, List, length, drop, take, nat_lt, nat_le, Result, Ok, Err, IsOk, if◌then◌else◌}
+use Rattle.std.proofs.Common.{arith}
+use Rattle.std.specs.Str.{is_utf8}
+use Rattle.std.specs.Str.Lossy.{utf8_valid_len, utf8_error_len}
+use Rattle.std.specs.declared.str.Utf8Error.{Utf8Error}
+use Rattle.der_base.specs.Error.{error_of_kind, error_at_end}
+use Rattle.der_base.specs.Header.{Head}
+use Rattle.der_base.specs.Length.{number, definite_length}
+use Rattle.der_base.specs.Tag.{label}
+use Rattle.der_base.specs.declared.tag.Tag.{Tag}
+use Rattle.der_base.specs.declared.length.Length.{Length}
+use Rattle.der_base.specs.declared.error.Error.{Error}
+use Rattle.der_base.specs.declared.error.ErrorKind.TheVariants.{Overflow, OutOfMemory, Utf8}
+use Rattle.der_base.specs.declared.encoding_rules.EncodingRules.{EncodingRules}
+use Rattle.der_core.specs.Encode.{WriterAnswer}
+use Rattle.der_core.specs.Lawful.{IsLawful}
+use Rattle.der_core.specs.Outcome.{Outcome, Gives, outcome_of, chained_outcome, map_ok}
+use Rattle.der_core.specs.Reader.{read_slice_outcome}
+use Rattle.der_core.specs.ReaderState.{ReaderState}
+use Rattle.der_core.specs.Writer.{Writes, write_outcome}
+
+-- octets that a length can count
+abbrev pub IsCounted : List ℕ → Type 0
+IsCounted octets = length octets < 2 ^ 32
+
+-- and that are UTF-8
+abbrev pub IsText : List ℕ → Type 0
+IsText octets = (is_utf8 octets ≡ true) × IsCounted octets
+
+-- octets, where a length can count them
+abbrev pub checked_octets : List ℕ → Result (List ℕ) Error
+checked_octets octets =
+    if nat_lt (length octets) (2 ^ 32) then Ok octets else Err (error_of_kind Overflow)
+
+-- where octets stop being UTF-8, and for how many octets
+abbrev pub utf8_fault : List ℕ → Utf8Error
+utf8_fault octets =
+    record {
+      valid_up_to = utf8_valid_len octets;
+      error_len = utf8_error_len (drop (utf8_valid_len octets) octets);
+    }
+
+-- octets, where they are UTF-8 and a length can count them: the text is looked at first
+abbrev pub checked_text : List ℕ → Result (List ℕ) Error
+checked_text octets =
+    if is_utf8 octets then checked_octets octets
+    else Err (error_of_kind (Utf8 (utf8_fault octets)))
+
+-- the first n octets, where there are so many
+abbrev pub prefix_of : ℕ → List ℕ → Result (List ℕ) Error
+prefix_of n octets =
+    if nat_le n (length octets) then Ok (take n octets)
+    else Err (error_at_end (definite_length (length octets)))
+
+-- an answer, or where that is no error memory for it is refused
+abbrev pub AnswersOrLacks : {A : Type 0} → Result A Error → Result A Error → Type 0
+AnswersOrLacks answer result =
+    (result ≡ answer) ⊎ (IsOk answer × (result ≡ Err (error_of_kind OutOfMemory)))
+
+-- a value is taken of the octets that it has, under both rules and whatever the header
+abbrev pub TakesOctets : {A : Type 0} → (List ℕ → Type 0) → (A → List ℕ)
+    → A → EncodingRules → Head → List ℕ → Type 0
+TakesOctets IsKind octets_of v rules h octets = IsKind (octets_of v) × (octets_of v ≡ octets)
+
+-- so many octets, as a text
+abbrev pub text_outcome : ℕ → ReaderState → Outcome (List ℕ)
+text_outcome n s =
+    chained_outcome (read_slice_outcome n s) (λ octets t. outcome_of (checked_text octets) t)
+
+-- what reading answers: octets that are lent, a text that is lent, and a text in memory of its own,
+-- which is refused behind the contents
+abbrev pub LentAnswers : {A : Type 0} → (A → List ℕ)
+    → Head → ReaderState → Result A Error → ReaderState → Type 0
+LentAnswers octets_of h s result t =
+    Gives (read_slice_outcome (number h.length)) s (map_ok octets_of result) t
+
+abbrev pub LentTextAnswers : {A : Type 0} → (A → List ℕ)
+    → Head → ReaderState → Result A Error → ReaderState → Type 0
+LentTextAnswers octets_of h s result t =
+    Gives (text_outcome (number h.length)) s (map_ok octets_of result) t
+
+abbrev pub OwnedTextAnswers : {A : Type 0} → (A → List ℕ)
+    → Head → ReaderState → Result A Error → ReaderState → Type 0
+OwnedTextAnswers octets_of h s result t =
+    AnswersOrLacks (text_outcome (number h.length) s).answer (map_ok octets_of result)
+    × (t ≡ (text_outcome (number h.length) s).after)
+
+-- a type with such a tag is read as it is written
+pub octets_lawful : {A : Type 0} (tag : Tag) (IsKind : List ℕ → Type 0) (octets_of : A → List ℕ)
+    → (label tag).number < 2 ^ 32
+    → IsLawful tag (TakesOctets IsKind octets_of) (λ v. IsKind (octets_of v)) octets_of (λ _. 0)
+octets_lawful tag IsKind octets_of numbered =
+    record {
+      exact = λ octets v short. (λ h. h, λ h. h);
+      shallow = omega arith;
+      numbered = numbered;
+    }
+
+-- how many octets there are, and what writing answers
+abbrev pub octets_size : {A : Type 0} → (A → List ℕ) → A → Result Length Error
+octets_size octets_of v = Ok (definite_length (length (octets_of v)))
+
+abbrev pub WritesOctets : {A : Type 0} → (A → List ℕ) → A → WriterAnswer
+WritesOctets octets_of v s result t = Writes (write_outcome (octets_of v) s) result t

@@ -1,0 +1,7 @@
+-- Texts in memory of their own.
+use Rattle.std.specs.Prelude.{ℕ, List}
+use Rattle.std.specs.String.{string_bytes}
+use Rattle.der.specs.declared.string.owned.StringOwned.{StringOwned}
+
+abbrev pub owned_text : StringOwned → List ℕ
+owned_text t = string_bytes t.inner

@@ -1,0 +1,6 @@
+-- Texts that are borrowed.
+use Rattle.std.specs.Prelude.{ℕ, List}
+use Rattle.der.specs.declared.string.reference.StringRef.{StringRef}
+
+abbrev pub reference_text : StringRef → List ℕ
+reference_text t = t.text.now

@@ -1,0 +1,108 @@
+//! Octets that are borrowed where a reader lends them.
+ghost use Rattle.std.specs.Prelude.{◌≡◌, ◌↔◌, ◌+◌, ◌≤◌, false, true, IfOk};
+ghost use Rattle.der_base.specs.Error.{kind_of};
+ghost use Rattle.der_core.specs.Decode.{is_out_of_memory_kind};
+ghost use Rattle.der_core.specs.DecodeValue.{ContentsAhead, EndsOrLacks, TakesContents};
+ghost use Rattle.der_core.specs.Header.{head_of};
+ghost use Rattle.der_core.specs.ReaderState.{Same};
+ghost use Rattle.der.specs.Octets.{IsCounted, TakesOctets, LentAnswers, octets_size, WritesOctets};
+ghost use Rattle.der.specs.declared.bytes.cow.BytesCow.{BytesCow as ACow};
+ghost use Rattle.der.specs.BytesCow.{cow_octets, IsBorrowed};
+
+use crate::bytes::{BytesOwned, BytesRef};
+use der_base::{Error, Length};
+use der_core::{DecodeValue, EncodeValue, Header, ReadValue, Reader, Writer, WrittenValue};
+use std::alloc::Global;
+
+/// Octets, at most 4294967295 of them, borrowed or in memory of their own.
+#[derive(Debug, Drop)]
+pub enum BytesCow<'a> {
+    /// They are borrowed.
+    Borrowed(BytesRef<'a>),
+    /// They are in memory of their own.
+    Owned(BytesOwned),
+}
+
+impl<'a> BytesCow<'a> {
+    /// The octets, borrowed with their count.
+    pub fn as_bytes_ref(&self) -> BytesRef<'_>
+        ensures { result.bytes.now ≡ cow_octets self.now }
+    {
+        match self {
+            BytesCow::Borrowed(bytes) => *bytes,
+            BytesCow::Owned(bytes) => bytes.as_bytes_ref(),
+        }
+    }
+}
+
+impl<'a> ReadValue for BytesCow<'a> {
+    ghost valid = { λ b. IsCounted (cow_octets b) };
+
+    ghost takes = { TakesOctets IsCounted cow_octets };
+
+    ghost levels = { λ _. 0 };
+
+    // a reliable reader lends, so none is taken
+    ghost takes_memory = { false };
+
+    ghost takes_valid = { λ b rules h octets taken. taken.0 };
+}
+
+/// The contents are lent where the reader can lend, and copied where it cannot, whatever the
+/// header.
+///
+/// # Errors
+///
+/// `Failed`, `Overflow` and `Incomplete`, as by [`Reader::read_slice`]; where the reader cannot
+/// lend, those of [`Reader::read_vec`].
+impl<'a, R: Reader<Lent = &'a [u8]>> DecodeValue<R> for BytesCow<'a> {
+    type Error = Error;
+
+    ghost value_answers = { LentAnswers cow_octets };
+
+    fn decode_value(alloc: Global, reader: &mut R, header: Header) -> Result<Self, Error>
+        ensures same { Same (R.state reader.old) (R.state reader.new) }
+        ensures sound { TakesContents (TakesOctets IsCounted cow_octets) (head_of header)
+            (R.state reader.old) result (R.state reader.new) }
+        ensures complete { (v : ACow) → R.reliable ≡ true
+            → ContentsAhead (TakesOctets IsCounted cow_octets v) (head_of header) (R.state reader.old)
+            → (R.state reader.old).depth + 0 ≤ 64
+            → EndsOrLacks (λ e. is_out_of_memory_kind (kind_of e)) false result
+            (R.state reader.new) }
+        ensures exact { R.reliable ≡ true → LentAnswers cow_octets (head_of header)
+            (R.state reader.old) result (R.state reader.new) }
+        ensures borrowed { IfOk result (λ b. IsBorrowed b ↔ (R.lends ≡ true)) }
+    {
+        if R::can_lend() {
+            Ok(BytesCow::Borrowed(BytesRef::decode_value(alloc, reader, header)?))
+        } else {
+            Ok(BytesCow::Owned(BytesOwned::decode_value(alloc, reader, header)?))
+        }
+    }
+
+    fn is_value(&self) {}
+}
+
+impl<'a> WrittenValue for BytesCow<'a> {
+    ghost contents = { cow_octets };
+
+    ghost writable = { λ b. IsCounted (cow_octets b) };
+}
+
+/// # Errors
+///
+/// The number of octets is never refused. Writing hands on the writer's errors, as by
+/// [`Writer::write`].
+impl<'a> EncodeValue for BytesCow<'a> {
+    ghost value_size = { octets_size cow_octets };
+
+    ghost value_answers = { WritesOctets cow_octets };
+
+    fn value_len(&self) -> Result<Length, Error> {
+        self.as_bytes_ref().value_len()
+    }
+
+    fn encode_value<W: Writer>(&self, writer: &mut W) -> Result<(), Error> {
+        self.as_bytes_ref().encode_value(writer)
+    }
+}

@@ -1,0 +1,63 @@
+//! How octets in memory of their own are read and written.
+ghost use Rattle.std.specs.Prelude.{true};
+ghost use Rattle.der.specs.Octets.{IsCounted, TakesOctets, octets_size, WritesOctets};
+ghost use Rattle.der.specs.BytesOwned.{owned_octets, OwnedAnswers};
+
+use crate::bytes::BytesOwned;
+use der_base::{Error, Length};
+use der_core::{DecodeValue, EncodeValue, Header, ReadValue, Reader, Writer, WrittenValue};
+use std::alloc::Global;
+
+impl ReadValue for BytesOwned {
+    ghost valid = { λ b. IsCounted (owned_octets b) };
+
+    ghost takes = { TakesOctets IsCounted owned_octets };
+
+    ghost levels = { λ _. 0 };
+
+    ghost takes_memory = { true };
+
+    ghost takes_valid = { λ b rules h octets taken. taken.0 };
+}
+
+/// The contents are copied, whatever the header.
+///
+/// # Errors
+///
+/// `Failed`, `Overflow`, `Incomplete` and `OutOfMemory`, as by [`Reader::read_vec`]; a
+/// [`SliceReader`](der_core::SliceReader) that was refused memory stands before the contents.
+impl<R: Reader> DecodeValue<R> for BytesOwned {
+    type Error = Error;
+
+    ghost value_answers = { OwnedAnswers owned_octets };
+
+    fn decode_value(alloc: Global, reader: &mut R, header: Header) -> Result<Self, Error> {
+        BytesOwned::from_vec(reader.read_vec(alloc, header.length())?)
+    }
+
+    fn is_value(&self) {}
+}
+
+impl WrittenValue for BytesOwned {
+    ghost contents = { owned_octets };
+
+    ghost writable = { λ b. IsCounted (owned_octets b) };
+}
+
+/// # Errors
+///
+/// The number of octets is never refused. Writing hands on the writer's errors, as by
+/// [`Writer::write`].
+impl EncodeValue for BytesOwned {
+    ghost value_size = { octets_size owned_octets };
+
+    ghost value_answers = { WritesOctets owned_octets };
+
+    fn value_len(&self) -> Result<Length, Error> {
+        Ok(self.len())
+    }
+
+    fn encode_value<W: Writer>(&self, writer: &mut W) -> Result<(), Error> {
+        writer.write(self.as_slice())
+    }
+}

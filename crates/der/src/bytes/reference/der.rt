@@ -1,0 +1,63 @@
+//! How borrowed octets are read and written.
+ghost use Rattle.std.specs.Prelude.{false};
+ghost use Rattle.der.specs.Octets.{IsCounted, TakesOctets, LentAnswers, octets_size, WritesOctets};
+ghost use Rattle.der.specs.BytesRef.{reference_octets};
+
+use crate::bytes::BytesRef;
+use der_base::{Error, Length};
+use der_core::{DecodeValue, EncodeValue, Header, ReadValue, Reader, Writer, WrittenValue};
+use std::alloc::Global;
+
+impl<'a> ReadValue for BytesRef<'a> {
+    ghost valid = { λ b. IsCounted (reference_octets b) };
+
+    ghost takes = { TakesOctets IsCounted reference_octets };
+
+    ghost levels = { λ _. 0 };
+
+    ghost takes_memory = { false };
+
+    ghost takes_valid = { λ b rules h octets taken. taken.0 };
+}
+
+/// The contents are lent, whatever the header.
+///
+/// # Errors
+///
+/// `Failed`, `Overflow` and `Incomplete`, as by [`Reader::read_slice`]; `Reader` where the reader
+/// cannot lend.
+impl<'a, R: Reader<Lent = &'a [u8]>> DecodeValue<R> for BytesRef<'a> {
+    type Error = Error;
+
+    ghost value_answers = { LentAnswers reference_octets };
+
+    fn decode_value(_alloc: Global, reader: &mut R, header: Header) -> Result<Self, Error> {
+        BytesRef::new(reader.read_slice(header.length())?)
+    }
+
+    fn is_value(&self) {}
+}
+
+impl<'a> WrittenValue for BytesRef<'a> {
+    ghost contents = { reference_octets };
+
+    ghost writable = { λ b. IsCounted (reference_octets b) };
+}
+
+/// # Errors
+///
+/// The number of octets is never refused. Writing hands on the writer's errors, as by
+/// [`Writer::write`].
+impl<'a> EncodeValue for BytesRef<'a> {
+    ghost value_size = { octets_size reference_octets };
+
+    ghost value_answers = { WritesOctets reference_octets };
+
+    fn value_len(&self) -> Result<Length, Error> {
+        Ok(self.len())
+    }
+
+    fn encode_value<W: Writer>(&self, writer: &mut W) -> Result<(), Error> {
+        writer.write(self.as_slice())
+    }
+}

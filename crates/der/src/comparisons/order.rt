@@ -1,0 +1,39 @@
+//! How the derived total orders order two values.
+ghost use Rattle.std.specs.Prelude.{◌≡◌};
+ghost use Rattle.der.specs.Compare.{octet_order, counted_order};
+ghost use Rattle.der.specs.BytesOwned.{owned_octets};
+ghost use Rattle.der.specs.BytesRef.{reference_octets};
+ghost use Rattle.der.specs.StringOwned.{owned_text};
+ghost use Rattle.der.specs.StringRef.{reference_text};
+
+use crate::bytes::{BytesOwned, BytesRef};
+use crate::string::{StringOwned, StringRef};
+use std::cmp::Ordering;
+
+/// Octet by octet.
+fn bytes_ref_ordering(a: &BytesRef<'_>, b: &BytesRef<'_>) -> Ordering
+    ensures { result ≡ octet_order (reference_octets a.now) (reference_octets b.now) }
+{
+    a.cmp(b)
+}
+
+/// Fewer octets come first, and as many are ordered octet by octet.
+fn bytes_owned_ordering(a: &BytesOwned, b: &BytesOwned) -> Ordering
+    ensures { result ≡ counted_order (owned_octets a.now) (owned_octets b.now) }
+{
+    a.cmp(b)
+}
+
+/// Octet by octet.
+fn string_ref_ordering(a: &StringRef<'_>, b: &StringRef<'_>) -> Ordering
+    ensures { result ≡ octet_order (reference_text a.now) (reference_text b.now) }
+{
+    a.cmp(b)
+}
+
+/// Octet by octet.
+fn string_owned_ordering(a: &StringOwned, b: &StringOwned) -> Ordering
+    ensures { result ≡ octet_order (owned_text a.now) (owned_text b.now) }
+{
+    a.cmp(b)
+}

@@ -1,0 +1,39 @@
+//! The derived partial orders are the total ones.
+ghost use Rattle.std.specs.Prelude.{◌≡◌, Some};
+ghost use Rattle.der.specs.Compare.{octet_order, counted_order};
+ghost use Rattle.der.specs.BytesOwned.{owned_octets};
+ghost use Rattle.der.specs.BytesRef.{reference_octets};
+ghost use Rattle.der.specs.StringOwned.{owned_text};
+ghost use Rattle.der.specs.StringRef.{reference_text};
+
+use crate::bytes::{BytesOwned, BytesRef};
+use crate::string::{StringOwned, StringRef};
+use std::cmp::Ordering;
+
+/// Octet by octet.
+fn bytes_ref_partial_ordering(a: &BytesRef<'_>, b: &BytesRef<'_>) -> Option<Ordering>
+    ensures { result ≡ Some (octet_order (reference_octets a.now) (reference_octets b.now)) }
+{
+    a.partial_cmp(b)
+}
+
+/// Fewer octets come first, and as many are ordered octet by octet.
+fn bytes_owned_partial_ordering(a: &BytesOwned, b: &BytesOwned) -> Option<Ordering>
+    ensures { result ≡ Some (counted_order (owned_octets a.now) (owned_octets b.now)) }
+{
+    a.partial_cmp(b)
+}
+
+/// Octet by octet.
+fn string_ref_partial_ordering(a: &StringRef<'_>, b: &StringRef<'_>) -> Option<Ordering>
+    ensures { result ≡ Some (octet_order (reference_text a.now) (reference_text b.now)) }
+{
+    a.partial_cmp(b)
+}
+
+/// Octet by octet.
+fn string_owned_partial_ordering(a: &StringOwned, b: &StringOwned) -> Option<Ordering>
+    ensures { result ≡ Some (octet_order (owned_text a.now) (owned_text b.now)) }
+{
+    a.partial_cmp(b)
+}

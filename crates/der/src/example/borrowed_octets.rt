@@ -1,0 +1,89 @@
+//! Octets that the input lends.
+ghost use Rattle.std.specs.Prelude.{◌≡◌, false};
+ghost use Rattle.der_base.specs.declared.tag.Tag.TheVariants.{OctetString};
+ghost use Rattle.der.specs.Octets.{IsCounted, TakesOctets, LentAnswers, octets_size, WritesOctets};
+ghost use Rattle.der.specs.BorrowedOctets.{borrowed_octets, borrowed_lawful};
+
+use crate::bytes::BytesRef;
+use der_base::{Error, Length, Tag};
+use der_core::{
+    DecodeValue, EncodeValue, FixedTag, Header, Lawful, ReadValue, Reader, Writer, WrittenValue,
+};
+use std::alloc::Global;
+
+/// An OCTET STRING whose octets are borrowed.
+#[derive(Clone, Copy, Debug)]
+pub struct BorrowedOctets<'a> {
+    /// The octets.
+    pub octets: BytesRef<'a>,
+}
+
+impl<'a> FixedTag for BorrowedOctets<'a> {
+    ghost tag_is = { OctetString };
+
+    const TAG: Tag = Tag::OctetString;
+
+    fn fixed_tag() -> Tag
+        ensures { result ≡ OctetString }
+    {
+        Self::TAG
+    }
+}
+
+impl<'a> ReadValue for BorrowedOctets<'a> {
+    ghost valid = { λ b. IsCounted (borrowed_octets b) };
+
+    ghost takes = { TakesOctets IsCounted borrowed_octets };
+
+    ghost levels = { λ _. 0 };
+
+    ghost takes_memory = { false };
+
+    ghost takes_valid = { λ b rules h octets taken. taken.0 };
+}
+
+/// The contents are lent, whatever the header.
+///
+/// # Errors
+///
+/// Those of [`BytesRef`].
+impl<'a, R: Reader<Lent = &'a [u8]>> DecodeValue<R> for BorrowedOctets<'a> {
+    type Error = Error;
+
+    ghost value_answers = { LentAnswers borrowed_octets };
+
+    fn decode_value(alloc: Global, reader: &mut R, header: Header) -> Result<Self, Error> {
+        let octets = BytesRef::decode_value(alloc, reader, header)?;
+        Ok(BorrowedOctets { octets })
+    }
+
+    fn is_value(&self) {}
+}
+
+impl<'a> WrittenValue for BorrowedOctets<'a> {
+    ghost contents = { borrowed_octets };
+
+    ghost writable = { λ b. IsCounted (borrowed_octets b) };
+}
+
+/// # Errors
+///
+/// The number of octets is never refused. Writing hands on the writer's errors, as by
+/// [`Writer::write`].
+impl<'a> EncodeValue for BorrowedOctets<'a> {
+    ghost value_size = { octets_size borrowed_octets };
+
+    ghost value_answers = { WritesOctets borrowed_octets };
+
+    fn value_len(&self) -> Result<Length, Error> {
+        self.octets.value_len()
+    }
+
+    fn encode_value<W: Writer>(&self, writer: &mut W) -> Result<(), Error> {
+        self.octets.encode_value(writer)
+    }
+}
+
+impl<'a> Lawful for BorrowedOctets<'a> {
+    ghost lawful = { borrowed_lawful };
+}

@@ -1,0 +1,87 @@
+//! A text in memory of its own.
+ghost use Rattle.std.specs.Prelude.{true};
+ghost use Rattle.der_base.specs.declared.tag.Tag.TheVariants.{Utf8String};
+ghost use Rattle.der.specs.Octets.{IsText, TakesOctets, OwnedTextAnswers, octets_size, WritesOctets};
+ghost use Rattle.der.specs.OwnedText.{owned_text_octets, owned_text_lawful};
+
+use crate::string::StringOwned;
+use der_base::{Error, Length, Tag};
+use der_core::{
+    DecodeValue, EncodeValue, FixedTag, Header, Lawful, ReadValue, Reader, Writer, WrittenValue,
+};
+use std::alloc::Global;
+
+/// A UTF8String in memory of its own.
+#[derive(Debug, Drop)]
+pub struct OwnedText {
+    /// The text.
+    pub text: StringOwned,
+}
+
+impl FixedTag for OwnedText {
+    ghost tag_is = { Utf8String };
+
+    const TAG: Tag = Tag::Utf8String;
+
+    fn fixed_tag() -> Tag {
+        Self::TAG
+    }
+}
+
+impl ReadValue for OwnedText {
+    ghost valid = { λ t. IsText (owned_text_octets t) };
+
+    ghost takes = { TakesOctets IsText owned_text_octets };
+
+    ghost levels = { λ _. 0 };
+
+    ghost takes_memory = { true };
+
+    ghost takes_valid = { λ t rules h octets taken. taken.0 };
+}
+
+/// The contents are copied, as a text, whatever the header.
+///
+/// # Errors
+///
+/// Those of [`StringOwned`].
+impl<R: Reader> DecodeValue<R> for OwnedText {
+    type Error = Error;
+
+    ghost value_answers = { OwnedTextAnswers owned_text_octets };
+
+    fn decode_value(alloc: Global, reader: &mut R, header: Header) -> Result<Self, Error> {
+        let text = StringOwned::decode_value(alloc, reader, header)?;
+        Ok(OwnedText { text })
+    }
+
+    fn is_value(&self) {}
+}
+
+impl WrittenValue for OwnedText {
+    ghost contents = { owned_text_octets };
+
+    ghost writable = { λ t. IsText (owned_text_octets t) };
+}
+
+/// # Errors
+///
+/// The number of octets is never refused. Writing hands on the writer's errors, as by
+/// [`Writer::write`].
+impl EncodeValue for OwnedText {
+    ghost value_size = { octets_size owned_text_octets };
+
+    ghost value_answers = { WritesOctets owned_text_octets };
+
+    fn value_len(&self) -> Result<Length, Error> {
+        self.text.value_len()
+    }
+
+    fn encode_value<W: Writer>(&self, writer: &mut W) -> Result<(), Error> {
+        self.text.encode_value(writer)
+    }
+}
+
+impl Lawful for OwnedText {
+    ghost lawful = { owned_text_lawful };
+}

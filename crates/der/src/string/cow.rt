@@ -1,0 +1,110 @@
+//! Texts that are borrowed where a reader lends them.
+ghost use Rattle.std.specs.Prelude.{◌≡◌, ◌↔◌, ◌+◌, ◌≤◌, false, true, IfOk};
+ghost use Rattle.der_base.specs.Error.{kind_of};
+ghost use Rattle.der_core.specs.Decode.{is_out_of_memory_kind};
+ghost use Rattle.der_core.specs.DecodeValue.{ContentsAhead, EndsOrLacks, TakesContents};
+ghost use Rattle.der_core.specs.Header.{head_of};
+ghost use Rattle.der_core.specs.ReaderState.{Same};
+ghost use Rattle.der.specs.Octets.{IsText, TakesOctets, LentTextAnswers, octets_size, WritesOctets};
+ghost use Rattle.der.specs.declared.string.cow.StringCow.{StringCow as ACow};
+ghost use Rattle.der.specs.StringCow.{cow_text, IsBorrowed};
+
+use crate::string::{StringOwned, StringRef};
+use der_base::{Error, Length};
+use der_core::{DecodeValue, EncodeValue, Header, ReadValue, Reader, Writer, WrittenValue};
+use std::alloc::Global;
+
+/// A text of at most 4294967295 octets, borrowed or in memory of its own.
+#[derive(Debug, Drop)]
+pub enum StringCow<'a> {
+    /// It is borrowed.
+    Borrowed(StringRef<'a>),
+    /// It is in memory of its own.
+    Owned(StringOwned),
+}
+
+impl<'a> StringCow<'a> {
+    /// The text, borrowed with its count.
+    pub fn as_string_ref(&self) -> StringRef<'_>
+        ensures { result.text.now ≡ cow_text self.now }
+    {
+        match self {
+            StringCow::Borrowed(text) => *text,
+            StringCow::Owned(text) => text.as_string_ref(),
+        }
+    }
+}
+
+impl<'a> ReadValue for StringCow<'a> {
+    ghost valid = { λ t. IsText (cow_text t) };
+
+    ghost takes = { TakesOctets IsText cow_text };
+
+    ghost levels = { λ _. 0 };
+
+    // a reliable reader lends, so none is taken
+    ghost takes_memory = { false };
+
+    ghost takes_valid = { λ t rules h octets taken. taken.0 };
+}
+
+/// The contents are lent, as a text, whatever the header. A reader that cannot lend refuses them,
+/// since a text in memory of its own is read from octets that are lent, too.
+///
+/// # Errors
+///
+/// - `Failed`, `Overflow` and `Incomplete`, as by [`Reader::read_slice`]; `Reader` where the reader
+///   cannot lend.
+/// - `Utf8` without a position, where they are no text; the reader stands behind them and has not
+///   failed.
+impl<'a, R: Reader<Lent = &'a [u8]>> DecodeValue<R> for StringCow<'a> {
+    type Error = Error;
+
+    ghost value_answers = { LentTextAnswers cow_text };
+
+    fn decode_value(alloc: Global, reader: &mut R, header: Header) -> Result<Self, Error>
+        ensures same { Same (R.state reader.old) (R.state reader.new) }
+        ensures sound { TakesContents (TakesOctets IsText cow_text) (head_of header)
+            (R.state reader.old) result (R.state reader.new) }
+        ensures complete { (v : ACow) → R.reliable ≡ true
+            → ContentsAhead (TakesOctets IsText cow_text v) (head_of header) (R.state reader.old)
+            → (R.state reader.old).depth + 0 ≤ 64
+            → EndsOrLacks (λ e. is_out_of_memory_kind (kind_of e)) false result
+            (R.state reader.new) }
+        ensures exact { R.reliable ≡ true → LentTextAnswers cow_text (head_of header)
+            (R.state reader.old) result (R.state reader.new) }
+        ensures borrowed { IfOk result (λ t. IsBorrowed t ↔ (R.lends ≡ true)) }
+    {
+        if R::can_lend() {
+            Ok(StringCow::Borrowed(StringRef::decode_value(alloc, reader, header)?))
+        } else {
+            Ok(StringCow::Owned(StringOwned::decode_value(alloc, reader, header)?))
+        }
+    }
+
+    fn is_value(&self) {}
+}
+
+impl<'a> WrittenValue for StringCow<'a> {
+    ghost contents = { cow_text };
+
+    ghost writable = { λ t. IsText (cow_text t) };
+}
+
+/// # Errors
+///
+/// The number of octets is never refused. Writing hands on the writer's errors, as by
+/// [`Writer::write`].
+impl<'a> EncodeValue for StringCow<'a> {
+    ghost value_size = { octets_size cow_text };
+
+    ghost value_answers = { WritesOctets cow_text };
+
+    fn value_len(&self) -> Result<Length, Error> {
+        self.as_string_ref().value_len()
+    }
+
+    fn encode_value<W: Writer>(&self, writer: &mut W) -> Result<(), Error> {
+        self.as_string_ref().encode_value(writer)
+    }
+}

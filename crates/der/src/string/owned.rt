@@ -1,0 +1,134 @@
+//! Texts in memory of their own.
+ghost use Rattle.std.specs.Prelude.{◌≡◌, ◌↔◌, ◌^◌, ◌<◌, true, Ok, [], length, IsTrue};
+ghost use Rattle.std.specs.Str.{is_utf8};
+ghost use Rattle.std.specs.String.{string_bytes};
+ghost use Rattle.der_base.specs.Length.{definite_length};
+ghost use Rattle.der_core.specs.Outcome.{map_ok};
+ghost use Rattle.der.specs.Octets.{checked_octets, checked_text, AnswersOrLacks};
+
+use crate::bytes::BytesRef;
+use crate::string::StringRef;
+use der_base::{Error, ErrorKind, Length};
+use std::alloc::Global;
+
+mod der;
+
+/// A text in memory of its own, of at most 4294967295 octets.
+///
+/// Texts are ordered octet by octet, and where one ends first it is the smaller.
+#[derive(Debug, Drop, PartialEq, Eq, PartialOrd, Ord, Hash)]
+pub struct StringOwned {
+    inner: String,
+    ghost utf8: { is_utf8 (string_bytes inner) ≡ true },
+    ghost counted: { length (string_bytes inner) < 2 ^ 32 },
+}
+
+impl StringOwned {
+    /// This text; no memory is taken.
+    ///
+    /// # Errors
+    ///
+    /// - `Overflow` without a position, where it has more than 4294967295 octets.
+    pub fn new(inner: String) -> Result<Self, Error>
+        ensures exact { map_ok (λ t. string_bytes t.inner) result
+            ≡ checked_octets (string_bytes inner) }
+    {
+        match Length::new_usize(inner.as_str().len()) {
+            Ok(_) => Ok(StringOwned { inner }),
+            Err(error) => Err(error),
+        }
+    }
+
+    /// A copy of these octets, as a text. What is refused for the octets or for their number takes
+    /// no memory.
+    ///
+    /// # Errors
+    ///
+    /// - `Utf8` without a position, where they are not UTF-8.
+    /// - `Overflow` without a position, where there are more than 4294967295.
+    /// - `OutOfMemory` without a position, where memory is refused.
+    pub fn from_bytes(alloc: Global, bytes: &[u8]) -> Result<Self, Error>
+        ensures exact { AnswersOrLacks (checked_text bytes.now)
+            (map_ok (λ t. string_bytes t.inner) result) }
+    {
+        StringRef::from_bytes(bytes)?.ref_to_owned(alloc)
+    }
+
+    /// The text.
+    pub fn as_str(&self) -> &str
+        ensures { result.now ≡ string_bytes self.now.inner }
+    {
+        self.inner.as_str()
+    }
+
+    /// The octets of the text.
+    pub fn as_bytes(&self) -> &[u8]
+        ensures { result.now ≡ string_bytes self.now.inner }
+    {
+        self.inner.as_bytes()
+    }
+
+    /// The octets, borrowed with their count.
+    pub fn as_bytes_ref(&self) -> BytesRef<'_>
+        ensures { result.bytes.now ≡ string_bytes self.now.inner }
+    {
+        BytesRef::counted(self.as_bytes())
+    }
+
+    /// The text, borrowed with its count.
+    pub fn as_string_ref(&self) -> StringRef<'_>
+        ensures { result.text.now ≡ string_bytes self.now.inner }
+    {
+        StringRef::counted(self.as_str())
+    }
+
+    /// The same as [`StringOwned::as_string_ref`].
+    pub fn owned_to_ref(&self) -> StringRef<'_>
+        ensures { result.text.now ≡ string_bytes self.now.inner }
+    {
+        self.as_string_ref()
+    }
+
+    /// How many octets the text has.
+    pub fn len(&self) -> Length
+        ensures { result ≡ definite_length (length (string_bytes self.now.inner)) }
+    {
+        self.as_bytes_ref().len()
+    }
+
+    /// Whether it has none.
+    pub fn is_empty(&self) -> bool
+        ensures { IsTrue result ↔ (string_bytes self.now.inner ≡ []) }
+    {
+        self.as_bytes_ref().is_empty()
+    }
+
+    /// A copy of the text.
+    ///
+    /// # Errors
+    ///
+    /// - `OutOfMemory` without a position, where memory is refused.
+    pub fn clone_in(&self, alloc: Global) -> Result<Self, Error>
+        ensures exact { AnswersOrLacks (Ok (string_bytes self.now.inner))
+            (map_ok (λ t. string_bytes t.inner) result) }
+    {
+        self.as_string_ref().ref_to_owned(alloc)
+    }
+}
+
+impl<'a> StringRef<'a> {
+    /// A copy of the text.
+    ///
+    /// # Errors
+    ///
+    /// - `OutOfMemory` without a position, where memory is refused.
+    pub fn ref_to_owned(&self, alloc: Global) -> Result<StringOwned, Error>
+        ensures exact { AnswersOrLacks (Ok self.now.text.now)
+            (map_ok (λ t. string_bytes t.inner) result) }
+    {
+        match String::from_str(alloc, self.as_str()) {
+            Ok(inner) => Ok(StringOwned { inner }),
+            Err(_) => Err(ErrorKind::OutOfMemory.to_error()),
+        }
+    }
+}

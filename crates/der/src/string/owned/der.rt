@@ -1,0 +1,67 @@
+//! How texts in memory of their own are read and written.
+ghost use Rattle.std.specs.Prelude.{true};
+ghost use Rattle.der.specs.Octets.{IsText, TakesOctets, OwnedTextAnswers, octets_size, WritesOctets};
+ghost use Rattle.der.specs.StringOwned.{owned_text};
+
+use crate::string::StringOwned;
+use der_base::{Error, Length};
+use der_core::{DecodeValue, EncodeValue, Header, Octets, ReadValue, Reader, Writer, WrittenValue};
+use std::alloc::Global;
+
+impl ReadValue for StringOwned {
+    ghost valid = { λ t. IsText (owned_text t) };
+
+    ghost takes = { TakesOctets IsText owned_text };
+
+    ghost levels = { λ _. 0 };
+
+    ghost takes_memory = { true };
+
+    ghost takes_valid = { λ t rules h octets taken. taken.0 };
+}
+
+/// The contents are lent and then copied, as a text, whatever the header.
+///
+/// # Errors
+///
+/// - `Failed`, `Overflow` and `Incomplete`, as by [`Reader::read_slice`]; `Reader` where the reader
+///   cannot lend.
+/// - `Utf8` without a position, where they are no text; the reader stands behind them and has not
+///   failed.
+/// - `OutOfMemory` without a position, where memory is refused; likewise.
+impl<R: Reader> DecodeValue<R> for StringOwned {
+    type Error = Error;
+
+    ghost value_answers = { OwnedTextAnswers owned_text };
+
+    fn decode_value(alloc: Global, reader: &mut R, header: Header) -> Result<Self, Error> {
+        let bytes = reader.read_slice(header.length())?;
+        StringOwned::from_bytes(alloc, bytes.as_slice())
+    }
+
+    fn is_value(&self) {}
+}
+
+impl WrittenValue for StringOwned {
+    ghost contents = { owned_text };
+
+    ghost writable = { λ t. IsText (owned_text t) };
+}
+
+/// # Errors
+///
+/// The number of octets is never refused. Writing hands on the writer's errors, as by
+/// [`Writer::write`].
+impl EncodeValue for StringOwned {
+    ghost value_size = { octets_size owned_text };
+
+    ghost value_answers = { WritesOctets owned_text };
+
+    fn value_len(&self) -> Result<Length, Error> {
+        Ok(self.len())
+    }
+
+    fn encode_value<W: Writer>(&self, writer: &mut W) -> Result<(), Error> {
+        writer.write(self.as_bytes())
+    }
+}

@@ -1,0 +1,65 @@
+//! How borrowed texts are read and written.
+ghost use Rattle.std.specs.Prelude.{false};
+ghost use Rattle.der.specs.Octets.{IsText, TakesOctets, LentTextAnswers, octets_size, WritesOctets};
+ghost use Rattle.der.specs.StringRef.{reference_text};
+
+use crate::string::StringRef;
+use der_base::{Error, Length};
+use der_core::{DecodeValue, EncodeValue, Header, ReadValue, Reader, Writer, WrittenValue};
+use std::alloc::Global;
+
+impl<'a> ReadValue for StringRef<'a> {
+    ghost valid = { λ t. IsText (reference_text t) };
+
+    ghost takes = { TakesOctets IsText reference_text };
+
+    ghost levels = { λ _. 0 };
+
+    ghost takes_memory = { false };
+
+    ghost takes_valid = { λ t rules h octets taken. taken.0 };
+}
+
+/// The contents are lent, as a text, whatever the header.
+///
+/// # Errors
+///
+/// - `Failed`, `Overflow` and `Incomplete`, as by [`Reader::read_slice`]; `Reader` where the reader
+///   cannot lend.
+/// - `Utf8` without a position, where they are no text; the reader stands behind them and has not
+///   failed.
+impl<'a, R: Reader<Lent = &'a [u8]>> DecodeValue<R> for StringRef<'a> {
+    type Error = Error;
+
+    ghost value_answers = { LentTextAnswers reference_text };
+
+    fn decode_value(_alloc: Global, reader: &mut R, header: Header) -> Result<Self, Error> {
+        StringRef::from_bytes(reader.read_slice(header.length())?)
+    }
+
+    fn is_value(&self) {}
+}
+
+impl<'a> WrittenValue for StringRef<'a> {
+    ghost contents = { reference_text };
+
+    ghost writable = { λ t. IsText (reference_text t) };
+}
+
+/// # Errors
+///
+/// The number of octets is never refused. Writing hands on the writer's errors, as by
+/// [`Writer::write`].
+impl<'a> EncodeValue for StringRef<'a> {
+    ghost value_size = { octets_size reference_text };
+
+    ghost value_answers = { WritesOctets reference_text };
+
+    fn value_len(&self) -> Result<Length, Error> {
+        Ok(self.len())
+    }
+
+    fn encode_value<W: Writer>(&self, writer: &mut W) -> Result<(), Error> {
+        writer.write(self.as_bytes())
+    }
+}

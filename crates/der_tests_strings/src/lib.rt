@@ -1,0 +1,7 @@
+//! Tests of byte strings and texts, made from outside as a user makes them.
+#![tactic(auto)]
+
+#[cfg(test)]
+mod checks;
+#[cfg(test)]
+mod octets;

@@ -1,0 +1,58 @@
+//! Octets and texts that are borrowed.
+use super::*;
+use crate::checks::{holds, same};
+
+#[test]
+fn octets_that_are_borrowed(rt: HostRuntime) -> Result<(), Fail> {
+    let bytes = BytesRef::new(&[0x01, 0x02, 0x03])?;
+    same(&rt, bytes.as_slice(), [0x01, 0x02, 0x03].as_slice());
+    same(&rt, bytes.len(), Length::new(3));
+    holds(&rt, !bytes.is_empty());
+    let empty = BytesRef::new(&[])?;
+    same(&rt, empty, BytesRef::EMPTY);
+    same(&rt, BytesRef::EMPTY.len(), Length::ZERO);
+    holds(&rt, BytesRef::EMPTY.is_empty());
+    Ok(())
+}
+
+#[test]
+fn prefixes(rt: HostRuntime) -> Result<(), Fail> {
+    let bytes = BytesRef::new(&[0x01, 0x02, 0x03])?;
+    let two = bytes.prefix(Length::new(2))?;
+    same(&rt, two.as_slice(), [0x01, 0x02].as_slice());
+    same(&rt, bytes.prefix(Length::ZERO)?, BytesRef::EMPTY);
+    same(&rt, bytes.prefix(Length::new_indefinite(3))?, bytes);
+    same(&rt, bytes.prefix(Length::new(4)), Err(incomplete(4, 3, 3)));
+    same(&rt, bytes.prefix(Length::MAX), Err(incomplete(4, 3, 3)));
+    let empty = BytesRef::EMPTY.prefix(Length::ONE);
+    same(&rt, empty, Err(incomplete(1, 0, 0)));
+    Ok(())
+}
+
+#[test]
+fn texts_that_are_borrowed(rt: HostRuntime) -> Result<(), Fail> {
+    let text = StringRef::new("grün")?;
+    same(&rt, text.as_str(), "grün");
+    let octets = [0x67, 0x72, 0xC3, 0xBC, 0x6E];
+    same(&rt, text.as_bytes(), octets.as_slice());
+    same(&rt, text.as_bytes_ref(), BytesRef::new(&octets)?);
+    same(&rt, text.len(), Length::new(5));
+    holds(&rt, !text.is_empty());
+    same(&rt, StringRef::from_bytes(&octets), Ok(text));
+    let empty = StringRef::new("")?;
+    same(&rt, empty.len(), Length::ZERO);
+    holds(&rt, empty.is_empty());
+    same(&rt, StringRef::from_bytes(&[]), Ok(empty));
+    Ok(())
+}
+
+#[test]
+fn copies_of_what_is_borrowed(rt: HostRuntime) -> Result<(), Fail> {
+    let bytes = BytesRef::new(&[0x01, 0x02])?;
+    let copy = bytes.ref_to_owned(rt.alloc())?;
+    same(&rt, copy.owned_to_ref(), bytes);
+    let text = StringRef::new("grün")?;
+    let copy = text.ref_to_owned(rt.alloc())?;
+    same(&rt, copy.owned_to_ref(), text);
+    Ok(())
+}

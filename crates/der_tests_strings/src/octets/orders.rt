@@ -1,0 +1,48 @@
+//! Equality and orders.
+use super::*;
+use crate::checks::{holds, same};
+use std::cmp::Ordering;
+
+fn borrowed_order(a: &[u8], b: &[u8]) -> Result<Ordering, Error> {
+    let a = BytesRef::new(a)?;
+    Ok(a.cmp(&BytesRef::new(b)?))
+}
+
+fn owned_order(alloc: Global, a: &[u8], b: &[u8]) -> Result<Ordering, Error> {
+    let a = BytesOwned::from_slice(alloc, a)?;
+    Ok(a.cmp(&BytesOwned::from_slice(alloc, b)?))
+}
+
+// Borrowed octets are ordered one by one; those in memory of their own first by their number.
+#[test]
+fn orders_of_octets(rt: HostRuntime) {
+    let rows = [
+        ([0xFF].as_slice(), [0x00, 0x00].as_slice(), Ordering::Greater, Ordering::Less),
+        ([].as_slice(), [0x00].as_slice(), Ordering::Less, Ordering::Less),
+        ([0x01].as_slice(), [0x01, 0x00].as_slice(), Ordering::Less, Ordering::Less),
+        ([0x01, 0xFF].as_slice(), [0x02, 0x00].as_slice(), Ordering::Less, Ordering::Less),
+        ([0x02].as_slice(), [0x01, 0xFF].as_slice(), Ordering::Greater, Ordering::Less),
+        ([0x07, 0x08].as_slice(), [0x07, 0x08].as_slice(), Ordering::Equal, Ordering::Equal),
+    ];
+    for (a, b, borrowed, owned) in rows {
+        same(&rt, borrowed_order(a, b), Ok(borrowed));
+        same(&rt, borrowed_order(b, a), Ok(borrowed.reverse()));
+        same(&rt, owned_order(rt.alloc(), a, b), Ok(owned));
+        same(&rt, owned_order(rt.alloc(), b, a), Ok(owned.reverse()));
+    }
+}
+
+#[test]
+fn orders_of_texts(rt: HostRuntime) -> Result<(), Fail> {
+    let long = StringRef::new("aa")?;
+    let short = StringRef::new("b")?;
+    same(&rt, long.cmp(&short), Ordering::Less);
+    same(&rt, long.partial_cmp(&short), Some(Ordering::Less));
+    let long = long.ref_to_owned(rt.alloc())?;
+    let short = short.ref_to_owned(rt.alloc())?;
+    same(&rt, long.cmp(&short), Ordering::Less);
+    same(&rt, short.cmp(&long), Ordering::Greater);
+    holds(&rt, long != short);
+    holds(&rt, long == long.clone_in(rt.alloc())?);
+    Ok(())
+}

@@ -1,0 +1,61 @@
+//! Contents of every form of length.
+use super::*;
+use crate::checks::{same, same_at};
+
+// The header of an element, and how many octets it has.
+fn begun(alloc: Global, tag: u8, count: usize) -> Result<Vec<u8>, Fail> {
+    let mut octets = Vec::from_slice(alloc, &[tag])?;
+    match count {
+        0..=127 => octets.push(count as u8)?,
+        128 => octets.extend_from_slice(&[0x81, 0x80])?,
+        _ => octets.extend_from_slice(&[0x83, 0x01, 0x00, 0x00])?,
+    }
+    for _ in 0..count {
+        octets.push(0x61)?;
+    }
+    Ok(octets)
+}
+
+#[test]
+fn octets_of_each_number(rt: HostRuntime) -> Result<(), Fail> {
+    let alloc = rt.alloc();
+    for count in [0usize, 1, 127, 128, 65536] {
+        let octets = begun(alloc, 0x04, count)?;
+        let borrowed = BorrowedOctets::from_der(alloc, octets.as_slice())?;
+        same_at(&rt, count, borrowed.octets.as_slice().len(), count);
+        same_at(&rt, count, borrowed.to_der(alloc)?.as_slice(), octets.as_slice());
+        let mut reader = SliceReader::new(octets.as_slice())?;
+        let header = decode_header(&mut reader)?;
+        let owned = BytesOwned::decode_value(alloc, &mut reader, header)?;
+        same_at(&rt, count, owned.as_bytes_ref(), borrowed.octets);
+        same_at(&rt, count, reader.finish(), Ok(()));
+    }
+    Ok(())
+}
+
+#[test]
+fn texts_of_each_number(rt: HostRuntime) -> Result<(), Fail> {
+    let alloc = rt.alloc();
+    for count in [0usize, 1, 127, 128, 65536] {
+        let octets = begun(alloc, 0x0C, count)?;
+        let owned = OwnedText::from_der(alloc, octets.as_slice())?;
+        same_at(&rt, count, owned.text.as_bytes().len(), count);
+        same_at(&rt, count, owned.to_der(alloc)?.as_slice(), octets.as_slice());
+    }
+    same(&rt, begun(alloc, 0x0C, 65536)?.len(), 65541);
+    Ok(())
+}
+
+// More levels of nesting make no difference.
+#[test]
+fn octets_at_the_deepest_level(rt: HostRuntime) -> Result<(), Fail> {
+    let octets = [0x01, 0x02];
+    let mut reader = ber_reader(&octets)?;
+    for _ in 0..64 {
+        reader.enter_nested(Length::new(2))?;
+    }
+    let bytes = BytesRef::decode_value(rt.alloc(), &mut reader, header_of(2))?;
+    same(&rt, bytes.as_slice(), octets.as_slice());
+    same(&rt, place_of(&reader), (2, 2, false));
+    Ok(())
+}

@@ -1,0 +1,63 @@
+//! Octets that are texts, and those that are not.
+use super::*;
+use crate::checks::{holds_at, same_at};
+
+#[test]
+fn octets_that_are_texts(rt: HostRuntime) -> Result<(), Fail> {
+    for octets in [
+        [0x00].as_slice(),
+        [0x7F].as_slice(),
+        [0xC2, 0x80].as_slice(),
+        [0xDF, 0xBF].as_slice(),
+        [0xE0, 0xA0, 0x80].as_slice(),
+        [0xED, 0x9F, 0xBF].as_slice(),
+        [0xEE, 0x80, 0x80].as_slice(),
+        [0xF0, 0x90, 0x80, 0x80].as_slice(),
+        [0xF4, 0x8F, 0xBF, 0xBF].as_slice(),
+    ] {
+        let text = StringRef::from_bytes(octets)?;
+        same_at(&rt, text.len(), text.as_bytes(), octets);
+        let copy = StringOwned::from_bytes(rt.alloc(), octets)?;
+        same_at(&rt, text.len(), copy.as_bytes(), octets);
+        let mut reader = SliceReader::new(octets)?;
+        let header = header_of(octets.len() as u32);
+        let read = StringRef::decode_value(rt.alloc(), &mut reader, header)?;
+        same_at(&rt, text.len(), read, text);
+    }
+    Ok(())
+}
+
+// Longer spellings, surrogates, what is past the last character, a lone octet of the middle, and
+// characters that are cut.
+#[test]
+fn octets_that_are_no_texts(rt: HostRuntime) -> Result<(), Fail> {
+    for octets in [
+        [0xFF].as_slice(),
+        [0x80].as_slice(),
+        [0xC0, 0x80].as_slice(),
+        [0xC1, 0xBF].as_slice(),
+        [0xE0, 0x9F, 0xBF].as_slice(),
+        [0xED, 0xA0, 0x80].as_slice(),
+        [0xED, 0xBF, 0xBF].as_slice(),
+        [0xF0, 0x8F, 0xBF, 0xBF].as_slice(),
+        [0xF4, 0x90, 0x80, 0x80].as_slice(),
+        [0xC3].as_slice(),
+        [0xE2, 0x82].as_slice(),
+        [0xF0, 0x9F, 0x98].as_slice(),
+        [0x61, 0xC3, 0x28].as_slice(),
+    ] {
+        let end = octets.len() as u32;
+        let alloc = rt.alloc();
+        holds_at(&rt, end, is_no_text(StringRef::from_bytes(octets).err()));
+        holds_at(&rt, end, is_no_text(StringOwned::from_bytes(alloc, octets).err()));
+        let mut reader = SliceReader::new(octets)?;
+        let refused = StringRef::decode_value(alloc, &mut reader, header_of(end));
+        holds_at(&rt, end, is_no_text(refused.err()));
+        same_at(&rt, end, place_of(&reader), (end, end, false));
+        let mut reader = SliceReader::new(octets)?;
+        let refused = StringOwned::decode_value(alloc, &mut reader, header_of(end));
+        holds_at(&rt, end, is_no_text(refused.err()));
+        same_at(&rt, end, place_of(&reader), (end, end, false));
+    }
+    Ok(())
+}

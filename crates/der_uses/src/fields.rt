@@ -1,0 +1,26 @@
+//! Fields that are borrowed from the input, and fields in memory of their own.
+ghost use Rattle.std.specs.Prelude.{◌≡◌, IfOk};
+ghost use Rattle.der_base.specs.declared.tag.Tag.TheVariants.{OctetString, Utf8String};
+ghost use Rattle.der_core.specs.Encode.{element_octets};
+ghost use Rattle.der.specs.BytesRef.{reference_octets};
+ghost use Rattle.der.specs.StringOwned.{owned_text};
+
+use der::example::{BorrowedOctets, OwnedText};
+use der::{BytesRef, DecodeBytes, Error, StringOwned};
+use std::alloc::Global;
+
+/// The octets of an OCTET STRING, which live as long as the input does.
+pub fn lent_octets(alloc: Global, octets: &[u8]) -> Result<BytesRef<'_>, Error>
+    ensures { IfOk result (λ b. octets.now ≡ element_octets OctetString (reference_octets b)) }
+{
+    let field = BorrowedOctets::from_der(alloc, octets)?;
+    Ok(field.octets)
+}
+
+/// The text of a UTF8String, which outlives the input.
+pub fn kept_text(alloc: Global, octets: &[u8]) -> Result<StringOwned, Error>
+    ensures { IfOk result (λ t. octets.now ≡ element_octets Utf8String (owned_text t)) }
+{
+    let field = OwnedText::from_der(alloc, octets)?;
+    Ok(field.text)
+}
