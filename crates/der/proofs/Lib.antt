@@ -1,1 +1,3 @@
-mod OctetLemmas
+pub mod JoinedLemmas
+pub mod JoiningLemmas
+pub mod OctetLemmas

@@ -3,9 +3,13 @@ pub mod BytesCow
 pub mod BytesOwned
 pub mod BytesRef
 pub mod Compare
+pub mod Joined
+pub mod JoinedOctets
+pub mod Joining
 pub mod MyByteMonth
 pub mod Octets
 pub mod OwnedText
+pub mod Parts
 pub mod StringCow
 pub mod StringOwned
 pub mod StringRef

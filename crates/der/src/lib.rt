@@ -9,6 +9,8 @@ mod bytes;
 mod comparisons;
 mod constants;
 pub mod example;
+mod laws;
+mod length;
 mod referenced;
 mod string;
 
@@ -25,5 +27,6 @@ pub use der_core::{
     decode_tlv, encode_tlv, encode_to_vec_in, encode_value_to_slice, encoded_len_tlv, read_eoc,
     read_value, to_der_in,
 };
+pub use length::indefinite::read_constructed_vec;
 pub use referenced::{box_to_ref, slice_to_owned};
 pub use string::{StringCow, StringOwned, StringRef};

@@ -12,6 +12,7 @@ use std::alloc::Global;
 use std::boxed::BoxedSlice;
 
 mod der;
+mod parts;
 
 /// Octets in memory of their own, at most 4294967295 of them.
 ///

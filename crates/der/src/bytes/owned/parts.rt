@@ -1,0 +1,56 @@
+//! Octets in memory of their own that may stand in segments.
+ghost use Rattle.std.specs.Prelude.{◌≡◌, ◌⊎◌, ℕ, List, true, false, IfOk, IfErr, IsOk, IsErrAnd};
+ghost use Rattle.der_base.specs.Error.{error_of_kind};
+ghost use Rattle.der_base.specs.declared.error.ErrorKind.TheVariants.{OutOfMemory as NoMemory};
+ghost use Rattle.der_core.specs.Header.{head_of};
+ghost use Rattle.der_core.specs.ReaderState.{rest, Same};
+ghost use Rattle.der.specs.BytesOwned.{owned_octets};
+ghost use Rattle.der.specs.Joined.{Joined};
+ghost use Rattle.der.specs.Parts.{HasSegments, ReadsParts, RefusesParts};
+
+use crate::bytes::BytesOwned;
+use crate::length::indefinite::read_constructed_vec;
+use der_base::{Error, Length, Tag};
+use der_core::{DecodeValue, Header, Reader};
+use std::alloc::Global;
+
+impl BytesOwned {
+    /// Decodes contents. Those of a primitive header are taken as they stand; behind a constructed
+    /// header of indefinite length, under the Basic Encoding Rules, stand segments with the inner
+    /// tag, which are joined (X.690 8.7.3).
+    ///
+    /// # Errors
+    ///
+    /// - Those of [`Reader::read_vec`] and of [`read_constructed_vec`].
+    /// - `Noncanonical` with the header's tag, at the last octet of the header, where it is
+    ///   constructed and its length is definite, or the rules are the Distinguished Encoding Rules;
+    ///   the reader is unchanged.
+    pub fn decode_value_parts<R: Reader>(
+        alloc: Global,
+        reader: &mut R,
+        header: Header,
+        inner_tag: Tag,
+    ) -> Result<Self, Error>
+        ensures same { Same (R.state reader.old) (R.state reader.new) }
+        ensures ok { IfOk result (λ b. ReadsParts inner_tag (head_of header) (R.state reader.old)
+            (owned_octets b) (R.state reader.new)) }
+        ensures complete { (out : List ℕ) → R.reliable ≡ true
+            → (R.state reader.old).failed ≡ false
+            → HasSegments (head_of header) (R.state reader.old).rules
+            → Joined inner_tag (rest (R.state reader.old)) out
+            → IsOk result ⊎ IsErrAnd result (λ e. e ≡ error_of_kind NoMemory) }
+        ensures exact { R.reliable ≡ true
+            → IfErr result (λ e. RefusesParts inner_tag (head_of header) (R.state reader.old) e
+            (R.state reader.new)) }
+    {
+        if !header.is_constructed() {
+            return BytesOwned::decode_value(alloc, reader, header);
+        }
+        if header.length().is_indefinite() && reader.encoding_rules().is_ber() {
+            let octets = read_constructed_vec(alloc, reader, header.length(), inner_tag)?;
+            return BytesOwned::from_vec(octets);
+        }
+        let at = reader.position().saturating_sub(Length::ONE);
+        Err(header.tag().non_canonical_error().at(at))
+    }
+}

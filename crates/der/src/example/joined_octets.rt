@@ -1,0 +1,87 @@
+//! Octets that may stand in segments.
+ghost use Rattle.std.specs.Prelude.{true};
+ghost use Rattle.der_base.specs.declared.tag.Tag.TheVariants.{OctetString};
+ghost use Rattle.der.specs.Octets.{IsCounted, octets_size, WritesOctets};
+ghost use Rattle.der.specs.JoinedOctets.{joined_octets, TakesJoined, JoinedAnswers, joined_lawful};
+
+use crate::bytes::BytesOwned;
+use der_base::{Error, Length, Tag};
+use der_core::{
+    DecodeValue, EncodeValue, FixedTag, Header, Lawful, ReadValue, Reader, Writer, WrittenValue,
+};
+use std::alloc::Global;
+
+/// An OCTET STRING, of which segments are joined.
+#[derive(Debug, Drop)]
+pub struct JoinedOctets {
+    /// The octets.
+    pub octets: BytesOwned,
+}
+
+impl FixedTag for JoinedOctets {
+    ghost tag_is = { OctetString };
+
+    const TAG: Tag = Tag::OctetString;
+
+    fn fixed_tag() -> Tag {
+        Self::TAG
+    }
+}
+
+impl ReadValue for JoinedOctets {
+    ghost valid = { λ v. IsCounted (joined_octets v) };
+
+    ghost takes = { TakesJoined };
+
+    ghost levels = { λ _. 0 };
+
+    ghost takes_memory = { true };
+
+    ghost takes_valid = { λ v rules h octets taken. taken.0 };
+}
+
+/// The contents are copied as they stand, and segments are joined.
+///
+/// # Errors
+///
+/// Those of [`BytesOwned::decode_value_parts`], with the inner tag OCTET STRING.
+impl<R: Reader> DecodeValue<R> for JoinedOctets {
+    type Error = Error;
+
+    ghost value_answers = { JoinedAnswers };
+
+    fn decode_value(alloc: Global, reader: &mut R, header: Header) -> Result<Self, Error> {
+        let octets = BytesOwned::decode_value_parts(alloc, reader, header, Tag::OctetString)?;
+        Ok(JoinedOctets { octets })
+    }
+
+    fn is_value(&self) {}
+}
+
+impl WrittenValue for JoinedOctets {
+    ghost contents = { joined_octets };
+
+    ghost writable = { λ v. IsCounted (joined_octets v) };
+}
+
+/// # Errors
+///
+/// The number of octets is never refused. Writing hands on the writer's errors, as by
+/// [`Writer::write`].
+impl EncodeValue for JoinedOctets {
+    ghost value_size = { octets_size joined_octets };
+
+    ghost value_answers = { WritesOctets joined_octets };
+
+    fn value_len(&self) -> Result<Length, Error> {
+        self.octets.value_len()
+    }
+
+    fn encode_value<W: Writer>(&self, writer: &mut W) -> Result<(), Error> {
+        self.octets.encode_value(writer)
+    }
+}
+
+impl Lawful for JoinedOctets {
+    ghost lawful = { joined_lawful };
+}

@@ -1,0 +1,3 @@
+//! Contents of an indefinite length.
+
+pub mod indefinite;

@@ -1,0 +1,157 @@
+//! Contents of an indefinite length (X.690 8.1.3.6) that are given in segments (X.690 8.7.3).
+ghost use Rattle.std.specs.Prelude.{◌≡◌, ◌+◌, ◌^◌, ◌<◌, ◌⊎◌, ℕ, List, true, false, IfOk, IfErr, IsOk, OnOk, IsErrAnd};
+ghost use Rattle.der_base.specs.Error.{error_of_kind, missing_refusal};
+ghost use Rattle.der_base.specs.Length.{number, is_indefinite};
+ghost use Rattle.der_base.specs.Tag.{label};
+ghost use Rattle.der_base.specs.declared.error.ErrorKind.TheVariants.{OutOfMemory as NoMemory};
+ghost use Rattle.der_core.specs.AfterFirstOctet.{Stops};
+ghost use Rattle.der_core.specs.Reader.{VecRefused};
+ghost use Rattle.der_core.specs.ReaderState.{rest, Same};
+ghost use Rattle.der.specs.Joined.{Joined};
+ghost use Rattle.der.specs.Joining.{AppendsJoined, AppendsOctets, JoinsAll, RefusesJoining, RefusesSegment, RefusesSegments};
+
+use der_base::{Error, ErrorKind, Length, Tag};
+use der_core::{Reader, ReaderExt, decode_header};
+use std::alloc::Global;
+
+/// Joins the segments up to the end (X.690 8.7.3): primitive elements with this tag and a definite
+/// length, whose contents are read one behind the other into memory of their own. `length` is that
+/// of the segments' element, read in the indefinite form; the end mark is not read.
+///
+/// # Errors
+///
+/// - `IndefiniteLength` at the position, where `length` was not read in the indefinite form; the
+///   reader has failed then.
+/// - `OutOfMemory` without a position, where memory for as many octets as `length` says is refused;
+///   the reader is unchanged.
+/// - `Failed`, `Overflow`, `Incomplete`, `TagUnknown`, `TagNumberInvalid`, `IndefiniteLength` and
+///   `Length` of a segment's header, as by [`Header::decode`](der_core::Header).
+/// - `TagUnexpected` without a position, where a segment has another tag; the reader stands behind
+///   its header and has not failed.
+/// - `IndefiniteLength` at the position behind the header of a segment of indefinite length; the
+///   reader stands there and has failed.
+/// - `Noncanonical` with the tag, one before the position behind the header of a segment that is
+///   constructed and of definite length; the reader stands behind the header and has not failed.
+/// - `Overflow` without a position, where fewer octets are left than a segment has, and its end
+///   would pass 4294967295; the reader stands behind its header and has not failed.
+/// - `Incomplete` at the position, where fewer octets are left than a segment has; the reader
+///   stands behind its header and has failed.
+/// - `OutOfMemory` without a position, where memory for a segment's octets is refused; the reader
+///   stands behind its header and has not failed.
+pub fn read_constructed_vec<R: Reader>(
+    alloc: Global,
+    reader: &mut R,
+    length: Length,
+    inner_tag: Tag,
+) -> Result<Vec<u8>, Error>
+    ensures same { Same (R.state reader.old) (R.state reader.new) }
+    ensures ok { IfOk result (λ v. JoinsAll length inner_tag (R.state reader.old) v.items
+        (R.state reader.new)) }
+    ensures complete { (out : List ℕ) → R.reliable ≡ true → (R.state reader.old).failed ≡ false
+        → is_indefinite length ≡ true → Joined inner_tag (rest (R.state reader.old)) out
+        → IsOk result ⊎ IsErrAnd result (λ e. e ≡ error_of_kind NoMemory) }
+    ensures exact { R.reliable ≡ true
+        → IfErr result (λ e. RefusesJoining length inner_tag (R.state reader.old) e
+        (R.state reader.new)) }
+{
+    number_fits(inner_tag);
+    if !length.is_indefinite() {
+        return Err(reader.error(ErrorKind::IndefiniteLength));
+    }
+    let mut out = match Vec::with_capacity(alloc, u32::from(length) as usize) {
+        Ok(out) => out,
+        Err(_) => return Err(ErrorKind::OutOfMemory.to_error()),
+    };
+    append_segments(reader, inner_tag, &mut out)?;
+    Ok(out)
+}
+
+// Nothing is done; a caller's proof learns that a tag's number has 32 bits.
+fn number_fits(tag: Tag)
+    ensures { (label tag).number < 2 ^ 32 }
+{
+    let _ = tag.number().value();
+}
+
+// Appends the contents of the segments up to the end.
+fn append_segments<R: Reader>(
+    reader: &mut R,
+    inner_tag: Tag,
+    out: &mut Vec<u8>,
+) -> Result<(), Error>
+    ensures same { Same (R.state reader.old) (R.state reader.new) }
+    ensures ok { OnOk result (AppendsJoined inner_tag (R.state reader.old) out.old.items
+        out.new.items (R.state reader.new)) }
+    ensures to_the_end { OnOk result ((R.state reader.new).end ≡ (R.state reader.new).position) }
+    ensures exact { R.reliable ≡ true
+        → IfErr result (λ e. RefusesSegments inner_tag (R.state reader.old) e
+        (R.state reader.new)) }
+{
+    'segments: while !reader.is_finished() {
+        append_segment(reader, inner_tag, out)?;
+    }
+    Ok(())
+}
+
+// Appends the contents of the next segment.
+fn append_segment<R: Reader>(reader: &mut R, inner_tag: Tag, out: &mut Vec<u8>) -> Result<(), Error>
+    ensures same { Same (R.state reader.old) (R.state reader.new) }
+    ensures ok { OnOk result (AppendsJoined inner_tag (R.state reader.old) out.old.items
+        out.new.items (R.state reader.new)) }
+    ensures forward { OnOk result ((R.state reader.old).position < (R.state reader.new).position) }
+    ensures exact { R.reliable ≡ true
+        → IfErr result (λ e. RefusesSegment inner_tag (R.state reader.old) e
+        (R.state reader.new)) }
+{
+    let header = decode_header(reader)?;
+    header.tag().assert_eq(inner_tag)?;
+    if header.length().is_indefinite() {
+        return Err(reader.error(ErrorKind::IndefiniteLength));
+    }
+    if header.is_constructed() {
+        let at = reader.position().saturating_sub(Length::ONE);
+        return Err(inner_tag.non_canonical_error().at(at));
+    }
+    append_octets(reader, header.length(), out)
+}
+
+// Appends so many octets. Memory is asked for once they are known to be there.
+fn append_octets<R: Reader>(reader: &mut R, len: Length, out: &mut Vec<u8>) -> Result<(), Error>
+    ensures same { Same (R.state reader.old) (R.state reader.new) }
+    ensures ok { OnOk result (AppendsOctets (number len) (R.state reader.old) out.old.items
+        out.new.items (R.state reader.new)) }
+    ensures exact { R.reliable ≡ true → (R.state reader.old).failed ≡ false
+        → IfErr result (λ e. VecRefused (number len) (R.state reader.old) e
+        (R.state reader.new)) }
+{
+    let count = u32::from(len);
+    if u32::from(reader.remaining_len()) < count {
+        return Err(missing(reader, len));
+    }
+    let before = out.len();
+    let end = before + count as usize;
+    match out.resize(end, 0) {
+        Ok(()) => {}
+        Err(_) => return Err(ErrorKind::OutOfMemory.to_error()),
+    }
+    reader.read_into(&mut out[before..])
+}
+
+// So many octets are not there.
+fn missing<R: Reader>(reader: &mut R, len: Length) -> Error
+    ensures same { Same (R.state reader.old) (R.state reader.new) }
+    ensures exact { Stops (R.state reader.old)
+        (missing_refusal ((R.state reader.old).position + number len) (R.state reader.old).end
+        (R.state reader.old).position) result (R.state reader.new) }
+{
+    match reader.position() + len {
+        Ok(expected_len) => {
+            let kind = ErrorKind::Incomplete {
+                expected_len,
+                actual_len: reader.input_len(),
+            };
+            reader.error(kind)
+        }
+        Err(error) => error,
+    }
+}
