@@ -99,3 +99,15 @@ pub record FirstSegment (tag : Tag) (s : List ℕ) : Type 0 where
 pub first_segment : {tag : Tag} {s out : List ℕ} → Joined tag s out → s ≢ [] → FirstSegment tag s
 first_segment none some = absurd (some refl)
 first_segment (segment {more = more} c primitive small h) some = record { contents = c; behind = more; primitive = primitive; small = small; split = refl }
+
+-- no more octets are joined than there are
+pub joined_short : {tag : Tag} {s x : List ℕ} → Joined tag s x → length x ≤ length s
+joined_short none = omega arith
+joined_short {tag} (segment {more = m} {out = o} c bit small j) =
+    omega (
+      arith,
+      joined_short j,
+      length-append c o,
+      length-append (element_octets tag c) m,
+      length-append (header_octets tag (length c)) c,
+    )

@@ -1,3 +1,4 @@
 pub mod JoinedLemmas
 pub mod JoiningLemmas
 pub mod OctetLemmas
+pub mod PartsLemmas

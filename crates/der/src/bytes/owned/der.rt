@@ -1,5 +1,9 @@
 //! How octets in memory of their own are read and written.
 ghost use Rattle.std.specs.Prelude.{true};
+ghost use Rattle.der_base.specs.Length.{number};
+ghost use Rattle.der_core.specs.Outcome.{map_ok};
+ghost use Rattle.der_core.specs.Reader.{VecMeets};
+ghost use Rattle.der_core.specs.ReaderState.{Same};
 ghost use Rattle.der.specs.Octets.{IsCounted, TakesOctets, octets_size, WritesOctets};
 ghost use Rattle.der.specs.BytesOwned.{owned_octets, OwnedAnswers};
 
@@ -32,10 +36,24 @@ impl<R: Reader> DecodeValue<R> for BytesOwned {
     ghost value_answers = { OwnedAnswers owned_octets };
 
     fn decode_value(alloc: Global, reader: &mut R, header: Header) -> Result<Self, Error> {
-        BytesOwned::from_vec(reader.read_vec(alloc, header.length())?)
+        read_owned(alloc, reader, header.length())
     }
 
     fn is_value(&self) {}
+}
+
+// A copy of so many octets.
+#[inline(always)]
+pub(super) fn read_owned<R: Reader>(
+    alloc: Global,
+    reader: &mut R,
+    len: Length,
+) -> Result<BytesOwned, Error>
+    ensures same { Same (R.state reader.old) (R.state reader.new) }
+    ensures exact { VecMeets R.reliable (number len) (R.state reader.old)
+        (map_ok owned_octets result) (R.state reader.new) }
+{
+    BytesOwned::from_vec(reader.read_vec(alloc, len)?)
 }
 
 impl WrittenValue for BytesOwned {

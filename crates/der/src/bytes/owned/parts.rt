@@ -8,10 +8,11 @@ ghost use Rattle.der.specs.BytesOwned.{owned_octets};
 ghost use Rattle.der.specs.Joined.{Joined};
 ghost use Rattle.der.specs.Parts.{HasSegments, ReadsParts, RefusesParts};
 
+use super::der::read_owned;
 use crate::bytes::BytesOwned;
 use crate::length::indefinite::read_constructed_vec;
 use der_base::{Error, Length, Tag};
-use der_core::{DecodeValue, Header, Reader};
+use der_core::{Header, Reader};
 use std::alloc::Global;
 
 impl BytesOwned {
@@ -44,7 +45,7 @@ impl BytesOwned {
             (R.state reader.new)) }
     {
         if !header.is_constructed() {
-            return BytesOwned::decode_value(alloc, reader, header);
+            return read_owned(alloc, reader, header.length());
         }
         if header.length().is_indefinite() && reader.encoding_rules().is_ber() {
             let octets = read_constructed_vec(alloc, reader, header.length(), inner_tag)?;
