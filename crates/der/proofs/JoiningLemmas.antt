@@ -1,17 +1,16 @@
 -- Segments, read one after another.
-use Rattle.std.proofs.Common.{◌≡◌, ◌≢◌, ℕ, ◌+◌, ◌-◌, ◌^◌, ◌<◌, ◌≤◌, Bool, true, false, Result, Ok, Err, OnOk, IfErr, List, [], ◌++◌, length, take, drop, refl, sym, ap, ◌∙◌, subst, inl, inr, append_assoc, append-nil, length-append, length-take-le, arith}
+use Rattle.std.proofs.Common.{◌≡◌, ◌≢◌, ℕ, ◌+◌, ◌^◌, ◌<◌, ◌≤◌, Bool, true, false, Result, Ok, Err, OnOk, IfErr, List, [], ◌++◌, length, take, drop, refl, sym, ap, ◌∙◌, subst, inl, inr, append_assoc, append-nil, length-append, length-take-le, arith}
 use Rattle.std.proofs.lemmas.Bool.{le-leb}
 use Rattle.std.proofs.lemmas.List.{take-append-drop}
-use Rattle.der_base.specs.Error.{at as error_at, error_of_kind, unexpected_tag}
-use Rattle.der_base.specs.Length.{number, is_indefinite, definite_length, length_octets}
+use Rattle.der_base.specs.Error.{error_of_kind, unexpected_tag}
+use Rattle.der_base.specs.Length.{number, is_indefinite, length_octets}
 use Rattle.der_base.specs.Tag.{label, tag_octets, IsIdentifier, of_tag, of_segments}
 use Rattle.der_base.specs.Scan.{BodyFault}
 use Rattle.der_base.specs.Header.{Head, header_octets, HeaderAhead}
 use Rattle.der_base.specs.declared.length.Length.{Length}
 use Rattle.der_base.specs.declared.tag.Tag.{Tag}
 use Rattle.der_base.specs.declared.error.Error.{Error}
-use Rattle.der_base.specs.declared.error.ErrorKind.{ErrorKind}
-use Rattle.der_base.specs.declared.error.ErrorKind.TheVariants.{Noncanonical, OutOfMemory}
+use Rattle.der_base.specs.declared.error.ErrorKind.TheVariants.{OutOfMemory}
 use Rattle.der_base.specs.declared.encoding_rules.EncodingRules.{EncodingRules}
 use Rattle.der_base.proofs.HeaderLemmas.{LengthView, view_definite, view_indefinite, length_view, HeaderView, header_view_of, header_view, one_header, header_grammar}
 use Rattle.der_base.proofs.ScanLemmas.{body_fault_laws}
@@ -27,7 +26,7 @@ use Rattle.der_core.proofs.StateLemmas.{reads_none, reads_on, reads_front, rest_
 use Rattle.der_core.proofs.DecodeLemmas.{not_refused}
 use Rattle.der_core.proofs.TagAssertedLemmas.{tag_asserted}
 use Rattle.der.specs.Joined.{Joined, none}
-use Rattle.der.specs.Joining.{AppendsOctets, AppendsJoined, PassesTagged, RefusesSegment, no_header, other_tag, indefinite_segment, constructed_segment, no_octets, RefusesSegments, behind_segments}
+use Rattle.der.specs.Joining.{AppendsOctets, AppendsJoined, PassesTagged, RefusesSegment, no_header, other_tag, RefusesConstructed, of_indefinite_length, of_definite_length, constructed_segment, no_octets, RefusesSegments, behind_segments}
 use Rattle.der.proofs.JoinedLemmas.{element_some, element_header, joined_one, joined_more, joined_behind, FirstSegment, first_segment}
 
 reads_there : (s u : ReaderState) (x more : List ℕ) (m : ℕ) → rest s ≡ x ++ more → u ≡ advanced_state s m → m ≡ length x → Reads s u x
@@ -89,14 +88,10 @@ appends_more {old = old} h g =
       appended = g.appended ∙ ap (λ l. l ++ g.out) h.appended ∙ append_assoc old h.out g.out;
     }
 
--- a header whose tag was compared with the expected one
-pub passes_tagged : {tag t w : Tag} {h : Header} {s u : ReaderState} (r : Result Tag Error) → Passes (IsHeaderAhead h) s u → t ≡ (head_of h).tag → r ≡ Ok w → (t ≢ tag → r ≡ Err (unexpected_tag tag t)) → PassesTagged tag h s u
-passes_tagged {tag} {t} {w} r passes is ok other = record { passes = passes; tagged = sym is ∙ tag_asserted t tag w r ok other }
-
--- the error of a constructed segment
-pub constructed_told : {tag : Tag} {e : Error} {k : ErrorKind} {p q : Length} {n : ℕ} → e ≡ error_at k q → k ≡ Noncanonical tag → q ≡ definite_length (number p - 1) → p ≡ definite_length n → e ≡ error_at (Noncanonical tag) (definite_length (n - 1))
-constructed_told {tag} {k = k} {q = q} told kind less here =
-    told ∙ ap (λ x. error_at x q) kind ∙ ap (error_at (Noncanonical tag)) (less ∙ ap (λ (x : Length). definite_length (number x - 1)) here)
+-- a header whose tag was compared with the expected one, on a reader that did not move since
+pub passes_tagged : {tag t w : Tag} {h : Header} {s u v : ReaderState} (r : Result Tag Error) → Passes (IsHeaderAhead h) s u → t ≡ (head_of h).tag → r ≡ Ok w → (t ≢ tag → r ≡ Err (unexpected_tag tag t)) → v ≡ u
+    → PassesTagged tag h s v
+passes_tagged {tag} {t} {w} {h} {s} r passes is ok other unmoved = record { passes = subst (Passes (IsHeaderAhead h) s) (sym unmoved) passes; tagged = sym is ∙ tag_asserted t tag w r ok other }
 
 -- behind the header of a primitive segment of this length
 module _ (tag : Tag) (s u t : ReaderState) (h : Header) (l : Length) (p : PassesTagged tag h s u) (primitive : (head_of h).constructed ≡ false) (is : l ≡ (head_of h).length) where
@@ -147,6 +142,11 @@ slice_there n s t e working there g =
     let no : Err e ≡ Ok (take n (rest s)) = g.answered ∙ table in
     absurd (cc)
 
+-- a header that is not constructed is not refused so
+not_constructed : {s t : ReaderState} {e : Error} (h : Header) → RefusesConstructed h s e t → is_indefinite (head_of h).length ≡ false → (head_of h).constructed ≡ false → ⊥
+not_constructed h (of_indefinite_length marked told leaves) definite primitive = (let no : true ≡ false = sym marked ∙ definite in cc)
+not_constructed h (of_definite_length definite bit told leaves) is primitive = (let no : true ≡ false = sym bit ∙ primitive in cc)
+
 -- of a segment that is there nothing is refused but memory
 segment_refused : {tag : Tag} {s t : ReaderState} {e : Error} → IsSound s → s.failed ≡ false → (label tag).number < 2 ^ 32 → FirstSegment tag (rest s) → RefusesSegment tag s e t → e ≡ error_of_kind OutOfMemory
 segment_refused {tag} {s} {t} {e} sound working numbered f r = go r
@@ -173,8 +173,7 @@ segment_refused {tag} {s} {t} {e} sound working numbered f r = go r
     go : RefusesSegment tag s e t → e ≡ error_of_kind OutOfMemory
     go (no_header r) = absurd (not_refused (header_grammar BodyFault body_fault_laws) r working ahead)
     go (other_tag h p not told) = absurd (not (ap (λ (x : Head). x.tag) (says t h p)))
-    go (indefinite_segment h u p marked told leaves) = absurd (let no : true ≡ false = sym marked ∙ ap (λ (x : Head). is_indefinite x.length) (says u h p.passes) in cc)
-    go (constructed_segment h p definite bit told) = absurd (let no : true ≡ false = sym bit ∙ ap (λ (x : Head). x.constructed) (says t h p.passes) ∙ f.primitive in cc)
+    go (constructed_segment h u p r) = absurd (not_constructed h r (ap (λ (x : Head). is_indefinite x.length) (says u h p.passes)) (ap (λ (x : Head). x.constructed) (says u h p.passes) ∙ f.primitive))
     go (no_octets h u p primitive (inl g)) =
         absurd (slice_there (number (head_of h).length) u t e (ap (λ (x : ReaderState). x.failed) p.passes.leaves ∙ working) (contents_there u h p.passes) g)
     go (no_octets h u p primitive (inr m)) = m.0

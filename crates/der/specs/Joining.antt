@@ -43,24 +43,31 @@ pub record PassesTagged (tag : Tag) (h : Header) (s u : ReaderState) : Type 0 wh
   pub passes : Passes (IsHeaderAhead h) s u
   pub tagged : (head_of h).tag ≡ tag
 
--- a segment is refused: it has no header; another tag; an indefinite length; it is constructed,
--- which is told at the last octet of its header, and no reader fails by it; or its octets are
--- refused
+-- behind a constructed header, which one of an indefinite length is (8.1.3.2): that is refused at
+-- the position, and the reader has failed then; one of a definite length at the octet before, and
+-- the reader is left as it is
+pub data RefusesConstructed (h : Header) (s : ReaderState) (e : Error) (t : ReaderState)
+    : Type 0 where
+  of_indefinite_length : is_indefinite (head_of h).length ≡ true
+      → e ≡ at IndefiniteLength (reader_position s) → t ≡ stopped_state s s.position
+      → RefusesConstructed h s e t
+  of_definite_length : is_indefinite (head_of h).length ≡ false → (head_of h).constructed ≡ true
+      → e ≡ at (Noncanonical (head_of h).tag) (definite_length (s.position - 1)) → t ≡ s
+      → RefusesConstructed h s e t
+
+-- a segment is refused: it has no header; it has another tag, and the reader stands behind its
+-- header; it is constructed; or its octets are refused
 pub data RefusesSegment (tag : Tag) (s : ReaderState) (e : Error) (t : ReaderState) : Type 0 where
   no_header : IsRefusedBy (HeaderFault BodyFault) s e t → RefusesSegment tag s e t
   other_tag : (h : Header) → Passes (IsHeaderAhead h) s t → (head_of h).tag ≢ tag
       → e ≡ unexpected_tag tag (head_of h).tag → RefusesSegment tag s e t
-  indefinite_segment : (h : Header) (u : ReaderState) → PassesTagged tag h s u
-      → is_indefinite (head_of h).length ≡ true → e ≡ at IndefiniteLength (reader_position u)
-      → t ≡ stopped_state u u.position → RefusesSegment tag s e t
-  constructed_segment : (h : Header) → PassesTagged tag h s t
-      → is_indefinite (head_of h).length ≡ false → (head_of h).constructed ≡ true
-      → e ≡ at (Noncanonical tag) (definite_length (t.position - 1)) → RefusesSegment tag s e t
+  constructed_segment : (h : Header) (u : ReaderState) → PassesTagged tag h s u
+      → RefusesConstructed h u e t → RefusesSegment tag s e t
   no_octets : (h : Header) (u : ReaderState) → PassesTagged tag h s u
       → (head_of h).constructed ≡ false → VecRefused (number (head_of h).length) u e t
       → RefusesSegment tag s e t
 
--- behind segments that were read and joined there are octets left, and a segment is refused
+-- behind segments that were read and joined octets are left, and a segment is refused
 pub data RefusesSegments (tag : Tag) (s : ReaderState) (e : Error) (t : ReaderState) : Type 0 where
   behind_segments : (u : ReaderState) (octets out : List ℕ) → Reads s u octets
       → Joined tag octets out → u.position < u.end → RefusesSegment tag u e t

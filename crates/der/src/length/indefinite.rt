@@ -5,13 +5,14 @@ ghost use Rattle.der_base.specs.Length.{number, is_indefinite};
 ghost use Rattle.der_base.specs.Tag.{label};
 ghost use Rattle.der_base.specs.declared.error.ErrorKind.TheVariants.{OutOfMemory as NoMemory};
 ghost use Rattle.der_core.specs.AfterFirstOctet.{Stops};
+ghost use Rattle.der_core.specs.Header.{head_of};
 ghost use Rattle.der_core.specs.Reader.{VecRefused};
 ghost use Rattle.der_core.specs.ReaderState.{rest, Same};
 ghost use Rattle.der.specs.Joined.{Joined};
-ghost use Rattle.der.specs.Joining.{AppendsJoined, AppendsOctets, JoinsAll, RefusesJoining, RefusesSegment, RefusesSegments};
+ghost use Rattle.der.specs.Joining.{AppendsJoined, AppendsOctets, JoinsAll, RefusesConstructed, RefusesJoining, RefusesSegment, RefusesSegments};
 
 use der_base::{Error, ErrorKind, Length, Tag};
-use der_core::{Reader, ReaderExt, decode_header};
+use der_core::{Header, Reader, ReaderExt, decode_header};
 use std::alloc::Global;
 
 /// Joins the segments up to the end (X.690 8.7.3): primitive elements with this tag and a definite
@@ -105,14 +106,26 @@ fn append_segment<R: Reader>(reader: &mut R, inner_tag: Tag, out: &mut Vec<u8>) 
 {
     let header = decode_header(reader)?;
     header.tag().assert_eq(inner_tag)?;
+    expect_primitive(reader, header)?;
+    append_octets(reader, header.length(), out)
+}
+
+// A header that was read is not constructed.
+fn expect_primitive<R: Reader>(reader: &mut R, header: Header) -> Result<(), Error>
+    ensures same { Same (R.state reader.old) (R.state reader.new) }
+    ensures unmoved { OnOk result (R.state reader.new ≡ R.state reader.old) }
+    ensures primitive { OnOk result ((head_of header).constructed ≡ false) }
+    ensures exact { IfErr result (λ e. RefusesConstructed header (R.state reader.old) e
+        (R.state reader.new)) }
+{
     if header.length().is_indefinite() {
         return Err(reader.error(ErrorKind::IndefiniteLength));
     }
     if header.is_constructed() {
         let at = reader.position().saturating_sub(Length::ONE);
-        return Err(inner_tag.non_canonical_error().at(at));
+        return Err(header.tag().non_canonical_error().at(at));
     }
-    append_octets(reader, header.length(), out)
+    Ok(())
 }
 
 // Appends so many octets. Memory is asked for once they are known to be there.
