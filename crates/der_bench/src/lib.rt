@@ -1,9 +1,10 @@
-//! The walk over the elements of an input, the decoding of keys, and the reading of messages in
-//! indefinite lengths, whose speed `bench/` measures.
+//! The walk over the elements of an input, the decoding of keys, of byte strings and of texts, and
+//! the reading of messages in indefinite lengths, whose speed `bench/` measures.
 #![tactic(auto)]
 
 mod decode;
 mod scan;
+mod strings;
 
 use der::{EncodingRules, Reader, ReaderExt, SliceReader, decode_header};
 

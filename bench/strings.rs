@@ -1,0 +1,168 @@
+//! Decodes 16 MiB of OCTET STRINGs and UTF8Strings by the proved reader and by hand, and tells how
+//! long one takes each: borrowed, copied as a text, and joined of segments.
+mod common;
+
+use common::{INPUT_LEN, Numbers, Totals, measure, push_length, split_contents};
+use std::hint::black_box;
+
+const OCTET_STRING: u8 = 0x04;
+const UTF8_STRING: u8 = 0x0C;
+const SEGMENTS: [u8; 2] = [0x24, 0x80];
+const END_MARK: [u8; 2] = [0x00, 0x00];
+
+unsafe extern "C" {
+    // A slice is handed over as a pointer and then a length; the allocator has no octets.
+    fn der_bench_borrowed(octets: *const u8, len: usize) -> Totals;
+    fn der_bench_texts(octets: *const u8, len: usize) -> Totals;
+    fn der_bench_joined(octets: *const u8, len: usize) -> Totals;
+}
+
+fn proved_borrowed(bytes: &[u8]) -> Totals {
+    // SAFETY: the pointer and the length are those of a slice, which the call only reads.
+    unsafe { der_bench_borrowed(bytes.as_ptr(), bytes.len()) }
+}
+
+fn proved_texts(bytes: &[u8]) -> Totals {
+    // SAFETY: as above.
+    unsafe { der_bench_texts(bytes.as_ptr(), bytes.len()) }
+}
+
+fn proved_joined(bytes: &[u8]) -> Totals {
+    // SAFETY: as above.
+    unsafe { der_bench_joined(bytes.as_ptr(), bytes.len()) }
+}
+
+#[inline(always)]
+fn count(totals: &mut Totals, contents: &[u8]) {
+    totals.elements = totals.elements.wrapping_add(1);
+    totals.contents = totals.contents.wrapping_add(contents.len() as u64);
+    let first = contents.first().copied().unwrap_or(0);
+    totals.first_octets = totals.first_octets.wrapping_add(first as u64);
+}
+
+/// The contents of the element ahead, which has to have this tag, and the octets behind it.
+#[inline(always)]
+fn split_element(tag: u8, bytes: &[u8]) -> Option<(&[u8], &[u8])> {
+    let (&identifier, rest) = bytes.split_first()?;
+    if identifier != tag {
+        return None;
+    }
+    split_contents(rest)
+}
+
+#[inline(never)]
+fn borrow_by_hand(bytes: &[u8]) -> Totals {
+    let mut totals = Totals::default();
+    let mut rest = bytes;
+    while let Some((contents, behind)) = split_element(OCTET_STRING, rest) {
+        count(&mut totals, contents);
+        rest = behind;
+    }
+    totals
+}
+
+#[inline(never)]
+fn copy_by_hand(bytes: &[u8]) -> Totals {
+    let mut totals = Totals::default();
+    let mut rest = bytes;
+    while let Some((contents, behind)) = split_element(UTF8_STRING, rest) {
+        let Ok(text) = std::str::from_utf8(contents) else {
+            return totals;
+        };
+        count(&mut totals, black_box(text.to_owned()).as_bytes());
+        rest = behind;
+    }
+    totals
+}
+
+#[inline(never)]
+fn join_by_hand(bytes: &[u8]) -> Totals {
+    let mut totals = Totals::default();
+    let mut rest = bytes;
+    while let Some(segments) = rest.strip_prefix(&SEGMENTS) {
+        let Some((joined, behind)) = join_segments(segments) else {
+            return totals;
+        };
+        count(&mut totals, &black_box(joined));
+        rest = behind;
+    }
+    totals
+}
+
+/// What the segments up to the end mark are joined to, and the octets behind the mark.
+#[inline(always)]
+fn join_segments(bytes: &[u8]) -> Option<(Vec<u8>, &[u8])> {
+    let mut joined = Vec::new();
+    let mut rest = bytes;
+    loop {
+        if let Some(behind) = rest.strip_prefix(&END_MARK) {
+            return Some((joined, behind));
+        }
+        let (contents, behind) = split_element(OCTET_STRING, rest)?;
+        joined.extend_from_slice(contents);
+        rest = behind;
+    }
+}
+
+fn push_element(out: &mut Vec<u8>, numbers: &mut Numbers, tag: u8, len: usize) {
+    out.push(tag);
+    push_length(out, len);
+    out.extend((0..len).map(|_| b'a' + numbers.below(26) as u8));
+}
+
+/// Elements until the input is as long as wanted; their number stands beside them.
+fn elements(tag: u8, bound: u64) -> (Vec<u8>, u64) {
+    let mut numbers = Numbers(0x9E37_79B9_7F4A_7C15);
+    let mut out = Vec::with_capacity(INPUT_LEN + (1 << 12));
+    let mut count = 0;
+    while out.len() < INPUT_LEN {
+        let len = numbers.below(bound) as usize;
+        push_element(&mut out, &mut numbers, tag, len);
+        count += 1;
+    }
+    (out, count)
+}
+
+/// Strings of 16 segments each, likewise.
+fn segmented(bound: u64) -> (Vec<u8>, u64) {
+    let mut numbers = Numbers(0x9E37_79B9_7F4A_7C15);
+    let mut out = Vec::with_capacity(INPUT_LEN + (1 << 16));
+    let mut count = 0;
+    while out.len() < INPUT_LEN {
+        out.extend_from_slice(&SEGMENTS);
+        for _ in 0..16 {
+            let len = numbers.below(bound) as usize;
+            push_element(&mut out, &mut numbers, OCTET_STRING, len);
+        }
+        out.extend_from_slice(&END_MARK);
+        count += 1;
+    }
+    (out, count)
+}
+
+fn tell(
+    name: &str,
+    (bytes, count): &(Vec<u8>, u64),
+    proved: fn(&[u8]) -> Totals,
+    by_hand: fn(&[u8]) -> Totals,
+) {
+    assert_eq!(proved(bytes), by_hand(bytes), "{name}");
+    let [library, hand] = measure([(proved, bytes, *count), (by_hand, bytes, *count)]);
+    println!(
+        "{name}: {count} strings of {:.1} octets; \
+         library {library:.2} ns, by hand {hand:.2} ns a string, ratio {:.2}",
+        bytes.len() as f64 / *count as f64,
+        library / hand,
+    );
+}
+
+fn main() {
+    let borrowed = elements(OCTET_STRING, 33);
+    tell("borrowed octets", &borrowed, proved_borrowed, borrow_by_hand);
+    let texts = elements(UTF8_STRING, 33);
+    tell("copied texts", &texts, proved_texts, copy_by_hand);
+    for bound in [33, 2049] {
+        let name = format!("16 segments of 0 to {} octets", bound - 1);
+        tell(&name, &segmented(bound), proved_joined, join_by_hand);
+    }
+}
