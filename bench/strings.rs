@@ -158,7 +158,12 @@ fn tell(
 
 fn main() {
     let borrowed = elements(OCTET_STRING, 33);
-    tell("borrowed octets", &borrowed, proved_borrowed, borrow_by_hand);
+    tell(
+        "borrowed octets",
+        &borrowed,
+        proved_borrowed,
+        borrow_by_hand,
+    );
     let texts = elements(UTF8_STRING, 33);
     tell("copied texts", &texts, proved_texts, copy_by_hand);
     for bound in [33, 2049] {
