@@ -31,7 +31,8 @@ impl Contents for JoinedOctets {
     }
 }
 
-/// Decodes OCTET STRINGs that are borrowed, one behind the other, until the octets end, or an error.
+/// Decodes OCTET STRINGs that are borrowed, one behind the other, until the octets end, or an
+/// error.
 #[unsafe(no_mangle)]
 pub extern "C" fn der_bench_borrowed(alloc: Global, bytes: &[u8]) -> Totals {
     decode_each::<BorrowedOctets<'_>>(alloc, bytes, EncodingRules::Der)

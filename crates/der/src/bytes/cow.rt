@@ -65,7 +65,8 @@ impl<'a, R: Reader<Lent = &'a [u8]>> DecodeValue<R> for BytesCow<'a> {
         ensures sound { TakesContents (TakesOctets IsCounted cow_octets) (head_of header)
             (R.state reader.old) result (R.state reader.new) }
         ensures complete { (v : ACow) → R.reliable ≡ true
-            → ContentsAhead (TakesOctets IsCounted cow_octets v) (head_of header) (R.state reader.old)
+            → ContentsAhead (TakesOctets IsCounted cow_octets v) (head_of header)
+            (R.state reader.old)
             → (R.state reader.old).depth + 0 ≤ 64
             → EndsOrLacks (λ e. is_out_of_memory_kind (kind_of e)) false result
             (R.state reader.new) }

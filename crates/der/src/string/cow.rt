@@ -67,7 +67,8 @@ impl<'a, R: Reader<Lent = &'a [u8]>> DecodeValue<R> for StringCow<'a> {
         ensures sound { TakesContents (TakesOctets IsText cow_text) (head_of header)
             (R.state reader.old) result (R.state reader.new) }
         ensures complete { (v : ACow) → R.reliable ≡ true
-            → ContentsAhead (TakesOctets IsText cow_text v) (head_of header) (R.state reader.old)
+            → ContentsAhead (TakesOctets IsText cow_text v) (head_of header)
+            (R.state reader.old)
             → (R.state reader.old).depth + 0 ≤ 64
             → EndsOrLacks (λ e. is_out_of_memory_kind (kind_of e)) false result
             (R.state reader.new) }
