@@ -3,13 +3,13 @@
 //! the call says. `.ci/refused_memory` runs this with each growth refused in turn.
 #![tactic(auto)]
 
-use der::example::{BorrowedOctets, MyByteMonth, OwnedText};
+use der::example::{BorrowedOctets, JoinedOctets, MyByteMonth, OwnedText};
 use der::{
     BytesOwned, BytesRef, Decode, DecodeBytes, DecodeValue, Encode, Error, ErrorKind, Header,
-    Length, Reader, SliceReader, StringOwned, StringRef, Tag, slice_to_owned,
+    Length, Reader, SliceReader, StringOwned, StringRef, Tag, read_constructed_vec, slice_to_owned,
 };
-use std::boxed::BoxedSlice;
 use std::alloc::Global;
+use std::boxed::BoxedSlice;
 use std::fmt::Debug;
 use std::io;
 
@@ -29,6 +29,9 @@ fn main(rt: HostRuntime) -> io::Result<()> {
     tell(&rt, "clone_text", clone_text(rt.alloc()))?;
     tell(&rt, "owned_octets", owned_octets(rt.alloc()))?;
     tell(&rt, "owned_text", owned_text(rt.alloc()))?;
+    tell(&rt, "segments_at_once", segments_at_once(rt.alloc()))?;
+    tell(&rt, "segment_by_segment", segment_by_segment(rt.alloc()))?;
+    tell(&rt, "joined_octets", joined_octets(rt.alloc()))?;
     tell(&rt, "empty", empty(rt.alloc()))?;
     tell(&rt, "borrowed_octets", borrowed_octets(rt.alloc()))?;
     tell(&rt, "month", month(rt.alloc()))
@@ -86,6 +89,37 @@ fn owned_text(alloc: Global) -> Result<u32, Error> {
         return Err(ErrorKind::Failed.to_error());
     }
     Ok(u32::from(read?.text.len()))
+}
+
+const SEGMENT: [u8; 5] = [0x04, 0x03, 0x61, 0x62, 0x63];
+
+// A segment of which the length tells enough; a reader that a refusal moved is told as failed.
+fn segments_at_once(alloc: Global) -> Result<Vec<u8>, Error> {
+    let mut reader = SliceReader::new(&SEGMENT)?;
+    let length = Length::new_indefinite(5);
+    let joined = read_constructed_vec(alloc, &mut reader, length, Tag::OctetString);
+    if joined.is_err() && (reader.position() > Length::ZERO || reader.is_failed()) {
+        return Err(ErrorKind::Failed.to_error());
+    }
+    joined
+}
+
+// A segment of which the length tells nothing; a reader that a refusal leaves elsewhere than behind
+// its header is told as failed.
+fn segment_by_segment(alloc: Global) -> Result<Vec<u8>, Error> {
+    let mut reader = SliceReader::new(&SEGMENT)?;
+    let length = Length::new_indefinite(0);
+    let joined = read_constructed_vec(alloc, &mut reader, length, Tag::OctetString);
+    if joined.is_err() && (reader.position() != Length::new(2) || reader.is_failed()) {
+        return Err(ErrorKind::Failed.to_error());
+    }
+    joined
+}
+
+fn joined_octets(alloc: Global) -> Result<BoxedSlice<u8>, Error> {
+    let segments = [0x24, 0x80, 0x04, 0x03, 0x61, 0x62, 0x63, 0x00, 0x00];
+    let joined = JoinedOctets::from_ber(alloc, &segments)?;
+    Ok(joined.octets.into_box())
 }
 
 // No octets, which take no memory.

@@ -1,6 +1,8 @@
 //! Octets and texts that are borrowed where the reader lends.
 use super::*;
 use crate::checks::{holds, same};
+use der::encode_value_to_slice;
+use std::process::Abort;
 
 #[test]
 fn octets_from_a_reader_that_lends(rt: HostRuntime) -> Result<(), Fail> {
@@ -21,7 +23,12 @@ fn octets_from_a_reader_that_does_not(rt: HostRuntime) -> Result<(), Fail> {
     holds(&rt, matches!(bytes, BytesCow::Owned(_)));
     same(&rt, bytes.as_bytes_ref().as_slice(), octets.as_slice());
     same(&rt, place_of(&reader), (3, 3, false));
-    let mut reader = copying(&octets)?;
+    Ok(())
+}
+
+#[test]
+fn octets_that_are_refused(rt: HostRuntime) -> Result<(), Fail> {
+    let mut reader = copying(&[0x01, 0x02, 0x03])?;
     let refused = BytesCow::decode_value(rt.alloc(), &mut reader, header_of(4)).err();
     same(&rt, refused, Some(incomplete(4, 3, 0)));
     same(&rt, place_of(&reader), (0, 3, true));
@@ -29,14 +36,18 @@ fn octets_from_a_reader_that_does_not(rt: HostRuntime) -> Result<(), Fail> {
 }
 
 #[test]
-fn texts_from_readers(rt: HostRuntime) -> Result<(), Fail> {
-    let octets = [0xC3, 0xBC];
-    let mut reader = SliceReader::new(&octets)?;
+fn texts_from_a_reader_that_lends(rt: HostRuntime) -> Result<(), Fail> {
+    let mut reader = SliceReader::new(&[0xC3, 0xBC])?;
     let text = StringCow::decode_value(rt.alloc(), &mut reader, header_of(2))?;
     holds(&rt, matches!(text, StringCow::Borrowed(_)));
     same(&rt, text.as_string_ref().as_str(), "ü");
     same(&rt, place_of(&reader), (2, 2, false));
-    let mut reader = copying(&octets)?;
+    Ok(())
+}
+
+#[test]
+fn texts_from_a_reader_that_does_not(rt: HostRuntime) -> Result<(), Fail> {
+    let mut reader = copying(&[0xC3, 0xBC])?;
     let refused = StringCow::decode_value(rt.alloc(), &mut reader, header_of(2)).err();
     same(&rt, refused, Some(unlendable(0)));
     same(&rt, place_of(&reader), (0, 2, false));
@@ -52,26 +63,29 @@ fn texts_that_are_refused(rt: HostRuntime) -> Result<(), Fail> {
     Ok(())
 }
 
+const TEXT: [u8; 3] = [0x67, 0xC3, 0xBC];
+
 // What is written is that of the view, whichever it is.
+fn written<T: EncodeValue>(rt: &impl Abort, value: &T) -> Result<(), Error> {
+    same(rt, value.value_len(), Ok(Length::new(3)));
+    let mut buffer = [0u8; 4];
+    let written = encode_value_to_slice(&mut buffer, value)?;
+    same(rt, written, TEXT.as_slice());
+    Ok(())
+}
+
 #[test]
-fn what_is_written(rt: HostRuntime) -> Result<(), Fail> {
-    let alloc = rt.alloc();
-    let octets = [0x67, 0xC3, 0xBC];
-    let borrowed = BytesCow::Borrowed(BytesRef::new(&octets)?);
-    let owned = BytesCow::Owned(BytesOwned::from_slice(alloc, &octets)?);
-    for bytes in [&borrowed, &owned] {
-        same(&rt, bytes.value_len(), Ok(Length::new(3)));
-        let mut buffer = [0u8; 4];
-        let written = der::encode_value_to_slice(&mut buffer, bytes)?;
-        same(&rt, written, octets.as_slice());
-    }
-    let borrowed = StringCow::Borrowed(StringRef::from_bytes(&octets)?);
-    let owned = StringCow::Owned(StringOwned::from_bytes(alloc, &octets)?);
-    for text in [&borrowed, &owned] {
-        same(&rt, text.value_len(), Ok(Length::new(3)));
-        let mut buffer = [0u8; 4];
-        let written = der::encode_value_to_slice(&mut buffer, text)?;
-        same(&rt, written, octets.as_slice());
-    }
+fn octets_that_are_written(rt: HostRuntime) -> Result<(), Fail> {
+    written(&rt, &BytesCow::Borrowed(BytesRef::new(&TEXT)?))?;
+    let owned = BytesOwned::from_slice(rt.alloc(), &TEXT)?;
+    written(&rt, &BytesCow::Owned(owned))?;
+    Ok(())
+}
+
+#[test]
+fn texts_that_are_written(rt: HostRuntime) -> Result<(), Fail> {
+    written(&rt, &StringCow::Borrowed(StringRef::from_bytes(&TEXT)?))?;
+    let owned = StringOwned::from_bytes(rt.alloc(), &TEXT)?;
+    written(&rt, &StringCow::Owned(owned))?;
     Ok(())
 }

@@ -17,12 +17,42 @@ fn owned_order(alloc: Global, a: &[u8], b: &[u8]) -> Result<Ordering, Error> {
 #[test]
 fn orders_of_octets(rt: HostRuntime) {
     let rows = [
-        ([0xFF].as_slice(), [0x00, 0x00].as_slice(), Ordering::Greater, Ordering::Less),
-        ([].as_slice(), [0x00].as_slice(), Ordering::Less, Ordering::Less),
-        ([0x01].as_slice(), [0x01, 0x00].as_slice(), Ordering::Less, Ordering::Less),
-        ([0x01, 0xFF].as_slice(), [0x02, 0x00].as_slice(), Ordering::Less, Ordering::Less),
-        ([0x02].as_slice(), [0x01, 0xFF].as_slice(), Ordering::Greater, Ordering::Less),
-        ([0x07, 0x08].as_slice(), [0x07, 0x08].as_slice(), Ordering::Equal, Ordering::Equal),
+        (
+            [0xFF].as_slice(),
+            [0x00, 0x00].as_slice(),
+            Ordering::Greater,
+            Ordering::Less,
+        ),
+        (
+            [].as_slice(),
+            [0x00].as_slice(),
+            Ordering::Less,
+            Ordering::Less,
+        ),
+        (
+            [0x01].as_slice(),
+            [0x01, 0x00].as_slice(),
+            Ordering::Less,
+            Ordering::Less,
+        ),
+        (
+            [0x01, 0xFF].as_slice(),
+            [0x02, 0x00].as_slice(),
+            Ordering::Less,
+            Ordering::Less,
+        ),
+        (
+            [0x02].as_slice(),
+            [0x01, 0xFF].as_slice(),
+            Ordering::Greater,
+            Ordering::Less,
+        ),
+        (
+            [0x07, 0x08].as_slice(),
+            [0x07, 0x08].as_slice(),
+            Ordering::Equal,
+            Ordering::Equal,
+        ),
     ];
     for (a, b, borrowed, owned) in rows {
         same(&rt, borrowed_order(a, b), Ok(borrowed));

@@ -2,21 +2,32 @@
 use super::*;
 use crate::checks::{holds, same};
 use der::{box_to_ref, slice_to_owned};
+use std::process::Abort;
 
 fn three(alloc: Global) -> Result<BytesOwned, Error> {
     BytesOwned::from_slice(alloc, &[0x01, 0x02, 0x03])
+}
+
+// Octets of whichever origin are these.
+fn are_three(rt: &impl Abort, bytes: BytesOwned) {
+    same(rt, bytes.as_slice(), [0x01, 0x02, 0x03].as_slice());
 }
 
 #[test]
 fn octets_of_each_origin(rt: HostRuntime) -> Result<(), Fail> {
     let alloc = rt.alloc();
     let octets = [0x01, 0x02, 0x03];
-    let bytes = three(alloc)?;
-    same(&rt, bytes.as_slice(), octets.as_slice());
-    same(&rt, BytesOwned::new(slice_to_owned(alloc, &octets)?)?, three(alloc)?);
-    same(&rt, BytesOwned::from_vec(Vec::from_slice(alloc, &octets)?)?, three(alloc)?);
-    same(&rt, BytesOwned::from_ref(alloc, BytesRef::new(&octets)?)?, three(alloc)?);
-    same(&rt, bytes.clone_in(alloc)?, bytes);
+    are_three(&rt, three(alloc)?);
+    are_three(&rt, BytesOwned::new(slice_to_owned(alloc, &octets)?)?);
+    are_three(&rt, BytesOwned::from_vec(Vec::from_slice(alloc, &octets)?)?);
+    are_three(&rt, BytesOwned::from_ref(alloc, BytesRef::new(&octets)?)?);
+    Ok(())
+}
+
+#[test]
+fn octets_that_are_cloned(rt: HostRuntime) -> Result<(), Fail> {
+    let bytes = three(rt.alloc())?;
+    same(&rt, bytes.clone_in(rt.alloc())?, bytes);
     Ok(())
 }
 
@@ -42,20 +53,33 @@ fn no_octets(rt: HostRuntime) -> Result<(), Fail> {
     Ok(())
 }
 
+const TEXT: [u8; 5] = [0x67, 0x72, 0xC3, 0xBC, 0x6E];
+
 #[test]
 fn texts_of_each_origin(rt: HostRuntime) -> Result<(), Fail> {
     let alloc = rt.alloc();
-    let octets = [0x67, 0x72, 0xC3, 0xBC, 0x6E];
-    let text = StringOwned::from_bytes(alloc, &octets)?;
+    let text = StringOwned::from_bytes(alloc, &TEXT)?;
     same(&rt, text.as_str(), "grün");
-    same(&rt, StringOwned::new(String::from_str(alloc, "grün")?)?, text.clone_in(alloc)?);
-    same(&rt, text.as_bytes(), octets.as_slice());
-    same(&rt, text.as_bytes_ref(), BytesRef::new(&octets)?);
+    same(&rt, text.clone_in(alloc)?, text);
+    let text = StringOwned::new(String::from_str(alloc, "grün")?)?;
+    same(&rt, text.as_bytes(), TEXT.as_slice());
+    Ok(())
+}
+
+#[test]
+fn texts_and_their_views(rt: HostRuntime) -> Result<(), Fail> {
+    let text = StringOwned::from_bytes(rt.alloc(), &TEXT)?;
+    same(&rt, text.as_bytes_ref(), BytesRef::new(&TEXT)?);
     same(&rt, text.as_string_ref(), StringRef::new("grün")?);
     same(&rt, text.owned_to_ref(), StringRef::new("grün")?);
     same(&rt, text.len(), Length::new(5));
     holds(&rt, !text.is_empty());
-    let empty = StringOwned::from_bytes(alloc, &[])?;
+    Ok(())
+}
+
+#[test]
+fn no_text(rt: HostRuntime) -> Result<(), Fail> {
+    let empty = StringOwned::from_bytes(rt.alloc(), &[])?;
     same(&rt, empty.len(), Length::ZERO);
     holds(&rt, empty.is_empty());
     Ok(())

@@ -49,7 +49,11 @@ fn octets_that_are_no_texts(rt: HostRuntime) -> Result<(), Fail> {
         let end = octets.len() as u32;
         let alloc = rt.alloc();
         holds_at(&rt, end, is_no_text(StringRef::from_bytes(octets).err()));
-        holds_at(&rt, end, is_no_text(StringOwned::from_bytes(alloc, octets).err()));
+        holds_at(
+            &rt,
+            end,
+            is_no_text(StringOwned::from_bytes(alloc, octets).err()),
+        );
         let mut reader = SliceReader::new(octets)?;
         let refused = StringRef::decode_value(alloc, &mut reader, header_of(end));
         holds_at(&rt, end, is_no_text(refused.err()));
