@@ -1,13 +1,15 @@
-//! Calls that take memory of the global allocator, one behind the other, and one that takes none. A
+//! Calls that take memory of the global allocator, one behind the other, and some that take none. A
 //! line tells what each of them answered: the value, or that memory was refused and all else is as
 //! the call says. `.ci/refused_memory` runs this with each growth refused in turn.
 #![tactic(auto)]
 
 use der::example::{BorrowedOctets, JoinedOctets, MyByteMonth, OwnedText};
 use der::{
-    BytesOwned, BytesRef, Decode, DecodeBytes, DecodeValue, Encode, Error, ErrorKind, Header,
-    Length, Reader, SliceReader, StringOwned, StringRef, Tag, read_constructed_vec, slice_to_owned,
+    BytesCow, BytesOwned, BytesRef, Decode, DecodeBytes, DecodeValue, Encode, Error, ErrorKind,
+    Header, Length, Reader, SliceReader, StringOwned, StringRef, Tag, read_constructed_vec,
+    slice_to_owned,
 };
+use der_uses::reader::CopyingReader;
 use std::alloc::Global;
 use std::boxed::BoxedSlice;
 use std::fmt::Debug;
@@ -28,6 +30,7 @@ fn main(rt: HostRuntime) -> io::Result<()> {
     tell(&rt, "text_to_owned", text_to_owned(rt.alloc()))?;
     tell(&rt, "clone_text", clone_text(rt.alloc()))?;
     tell(&rt, "owned_octets", owned_octets(rt.alloc()))?;
+    tell(&rt, "owned_cow", owned_cow(rt.alloc()))?;
     tell(&rt, "owned_text", owned_text(rt.alloc()))?;
     tell(&rt, "segments_at_once", segments_at_once(rt.alloc()))?;
     tell(&rt, "segment_by_segment", segment_by_segment(rt.alloc()))?;
@@ -79,6 +82,17 @@ fn owned_octets(alloc: Global) -> Result<BoxedSlice<u8>, Error> {
         return Err(ErrorKind::Failed.to_error());
     }
     Ok(read?.into_box())
+}
+
+// Three octets of a reader that lends nothing; likewise.
+fn owned_cow(alloc: Global) -> Result<u32, Error> {
+    let mut reader = CopyingReader::new(SliceReader::new(&OCTETS)?);
+    let header = Header::new(Tag::OctetString, Length::new(3));
+    let read = BytesCow::decode_value(alloc, &mut reader, header);
+    if read.is_err() && (reader.position() > Length::ZERO || reader.is_failed()) {
+        return Err(ErrorKind::Failed.to_error());
+    }
+    Ok(u32::from(read?.as_bytes_ref().len()))
 }
 
 // A text of three octets; a reader that does not stand behind it, or has failed, is told as failed.
