@@ -1,6 +1,7 @@
 //! Contents that stand as they are or in segments.
 use super::*;
-use crate::checks::same_at;
+use crate::checks::{same, same_at};
+use der::read_eoc;
 use std::process::Abort;
 
 // What contents behind this header give, and where the reader stands then.
@@ -70,15 +71,42 @@ fn primitive_headers(rt: HostRuntime) -> Result<(), Fail> {
 }
 
 // The header's tag is not looked at, but in what a refusal says.
+fn segments_behind(rt: &impl Abort, alloc: Global, tag: Tag) -> Result<(), Error> {
+    let header = Header::new(tag, Length::new_indefinite(3));
+    let joined = Ok([0x2A].as_slice());
+    under_ber(rt, alloc, &SEGMENT, header, joined, (3, false))?;
+    let refused = Err(tag.non_canonical_error().at(Length::ZERO));
+    under_der(rt, alloc, &SEGMENT, header, refused, (0, false))
+}
+
 #[test]
 fn headers_of_segments(rt: HostRuntime) -> Result<(), Fail> {
-    let joined = Ok([0x2A].as_slice());
     for tag in [Tag::OctetString, context_specific(true), Tag::Sequence] {
-        let header = Header::new(tag, Length::new_indefinite(3));
-        under_ber(&rt, rt.alloc(), &SEGMENT, header, joined, (3, false))?;
-        let refused = Err(tag.non_canonical_error().at(Length::ZERO));
-        under_der(&rt, rt.alloc(), &SEGMENT, header, refused, (0, false))?;
+        segments_behind(&rt, rt.alloc(), tag)?;
     }
+    Ok(())
+}
+
+// The encrypted octets of a CMS message, whose tag stands in the place of OCTET STRING.
+#[test]
+fn an_implicit_tag(rt: HostRuntime) -> Result<(), Fail> {
+    let octets = [
+        0xA0, 0x80, 0x04, 0x10, 0xCC, 0x74, 0xAD, 0xF6, 0x5D, 0x97, 0x3C, 0x8B, 0x72, 0xCD, 0x51,
+        0xE1, 0xB9, 0x27, 0xF0, 0xF0, 0x00, 0x00,
+    ];
+    let mut reader = ber_reader(&octets)?;
+    let header = decode_header(&mut reader)?;
+    let outer = reader.enter_nested(header.length().sans_eoc())?;
+    let alloc = rt.alloc();
+    let read = BytesOwned::decode_value_parts(alloc, &mut reader, header, Tag::OctetString);
+    let joined = reader.close_nested(outer, read)?;
+    read_eoc(&mut reader)?;
+    let contents = [
+        0xCC, 0x74, 0xAD, 0xF6, 0x5D, 0x97, 0x3C, 0x8B, 0x72, 0xCD, 0x51, 0xE1, 0xB9, 0x27, 0xF0,
+        0xF0,
+    ];
+    same(&rt, joined.as_slice(), contents.as_slice());
+    same(&rt, place_of(&reader), (22, 22, false));
     Ok(())
 }
 
