@@ -15,6 +15,7 @@ fn octets_both_ways(rt: HostRuntime) -> Result<(), Fail> {
     Ok(())
 }
 
+// This element is refused so.
 fn refused(rt: &impl Abort, alloc: Global, octets: &[u8], error: Error) {
     let refused = BorrowedOctets::from_der(alloc, octets).err();
     same(rt, refused, Some(error));

@@ -1,6 +1,20 @@
 //! Octets that are texts, and those that are not.
 use super::*;
 use crate::checks::{holds_at, same_at};
+use std::process::Abort;
+
+// These octets are a text, borrowed, copied, or read.
+fn is_text(rt: &impl Abort, alloc: Global, octets: &[u8]) -> Result<(), Error> {
+    let text = StringRef::from_bytes(octets)?;
+    same_at(rt, text.len(), text.as_bytes(), octets);
+    let copy = StringOwned::from_bytes(alloc, octets)?;
+    same_at(rt, text.len(), copy.as_bytes(), octets);
+    let mut reader = SliceReader::new(octets)?;
+    let header = Header::new(Tag::Utf8String, text.len());
+    let read = StringRef::decode_value(alloc, &mut reader, header)?;
+    same_at(rt, text.len(), read, text);
+    Ok(())
+}
 
 #[test]
 fn octets_that_are_texts(rt: HostRuntime) -> Result<(), Fail> {
@@ -15,15 +29,28 @@ fn octets_that_are_texts(rt: HostRuntime) -> Result<(), Fail> {
         [0xF0, 0x90, 0x80, 0x80].as_slice(),
         [0xF4, 0x8F, 0xBF, 0xBF].as_slice(),
     ] {
-        let text = StringRef::from_bytes(octets)?;
-        same_at(&rt, text.len(), text.as_bytes(), octets);
-        let copy = StringOwned::from_bytes(rt.alloc(), octets)?;
-        same_at(&rt, text.len(), copy.as_bytes(), octets);
-        let mut reader = SliceReader::new(octets)?;
-        let header = header_of(octets.len() as u32);
-        let read = StringRef::decode_value(rt.alloc(), &mut reader, header)?;
-        same_at(&rt, text.len(), read, text);
+        is_text(&rt, rt.alloc(), octets)?;
     }
+    Ok(())
+}
+
+// These octets are none; a reader stands behind them then.
+fn is_refused(rt: &impl Abort, alloc: Global, octets: &[u8]) -> Result<(), Error> {
+    let mut reader = SliceReader::new(octets)?;
+    let end = u32::from(reader.input_len());
+    holds_at(rt, end, is_no_text(StringRef::from_bytes(octets).err()));
+    holds_at(
+        rt,
+        end,
+        is_no_text(StringOwned::from_bytes(alloc, octets).err()),
+    );
+    let refused = StringRef::decode_value(alloc, &mut reader, header_of(end));
+    holds_at(rt, end, is_no_text(refused.err()));
+    same_at(rt, end, place_of(&reader), (end, end, false));
+    let mut reader = SliceReader::new(octets)?;
+    let refused = StringOwned::decode_value(alloc, &mut reader, header_of(end));
+    holds_at(rt, end, is_no_text(refused.err()));
+    same_at(rt, end, place_of(&reader), (end, end, false));
     Ok(())
 }
 
@@ -46,22 +73,7 @@ fn octets_that_are_no_texts(rt: HostRuntime) -> Result<(), Fail> {
         [0xF0, 0x9F, 0x98].as_slice(),
         [0x61, 0xC3, 0x28].as_slice(),
     ] {
-        let end = octets.len() as u32;
-        let alloc = rt.alloc();
-        holds_at(&rt, end, is_no_text(StringRef::from_bytes(octets).err()));
-        holds_at(
-            &rt,
-            end,
-            is_no_text(StringOwned::from_bytes(alloc, octets).err()),
-        );
-        let mut reader = SliceReader::new(octets)?;
-        let refused = StringRef::decode_value(alloc, &mut reader, header_of(end));
-        holds_at(&rt, end, is_no_text(refused.err()));
-        same_at(&rt, end, place_of(&reader), (end, end, false));
-        let mut reader = SliceReader::new(octets)?;
-        let refused = StringOwned::decode_value(alloc, &mut reader, header_of(end));
-        holds_at(&rt, end, is_no_text(refused.err()));
-        same_at(&rt, end, place_of(&reader), (end, end, false));
+        is_refused(&rt, rt.alloc(), octets)?;
     }
     Ok(())
 }
