@@ -17,7 +17,7 @@ use Rattle.der_base.specs.declared.encoding_rules.EncodingRules.{EncodingRules}
 use Rattle.der_core.specs.Encode.{WriterAnswer}
 use Rattle.der_core.specs.Lawful.{IsLawful}
 use Rattle.der_core.specs.Outcome.{Outcome, Gives, outcome_of, chained_outcome, map_ok}
-use Rattle.der_core.specs.Reader.{read_slice_outcome}
+use Rattle.der_core.specs.Reader.{read_slice_outcome, VecMeets}
 use Rattle.der_core.specs.ReaderState.{ReaderState}
 use Rattle.der_core.specs.Writer.{Writes, write_outcome}
 
@@ -69,12 +69,16 @@ abbrev pub text_outcome : ℕ → ReaderState → Outcome (List ℕ)
 text_outcome n s =
     chained_outcome (read_slice_outcome n s) (λ octets t. outcome_of (checked_text octets) t)
 
--- what reading answers: octets that are lent, a text that is lent, and a text in memory of its own,
--- which is refused behind the contents
+-- what reading answers: octets that are lent, and octets that are copied; a text that is lent, and
+-- one that is copied, for which memory is refused behind the contents
 abbrev pub LentAnswers : {A : Type 0} → (A → List ℕ)
     → Head → ReaderState → Result A Error → ReaderState → Type 0
 LentAnswers octets_of h s result t =
     Gives (read_slice_outcome (number h.length)) s (map_ok octets_of result) t
+
+abbrev pub OwnedAnswers : {A : Type 0} → (A → List ℕ)
+    → Head → ReaderState → Result A Error → ReaderState → Type 0
+OwnedAnswers octets_of h s result t = VecMeets true (number h.length) s (map_ok octets_of result) t
 
 abbrev pub LentTextAnswers : {A : Type 0} → (A → List ℕ)
     → Head → ReaderState → Result A Error → ReaderState → Type 0

@@ -1,35 +1,65 @@
-//! Decoding of a SEQUENCE type with another one inside it.
+//! Decoding of values, one behind the other: of a SEQUENCE type with another one inside it, and of
+//! whatever type can be counted.
 use crate::Totals;
-use der::{ReaderExt, SliceReader};
+use der::{Decode, EncodingRules, Error, ReaderExt, SliceReader};
 use der_uses::key_info::KeyInfo;
 use std::alloc::Global;
+
+// A value that is counted.
+pub(crate) trait Counted: Drop {
+    // How many octets of contents it has.
+    fn contents(&self) -> u64;
+
+    // The first of them, or what stands in its place.
+    fn first_octet(&self) -> u8;
+}
+
+impl<'a> Counted for KeyInfo<'a> {
+    #[inline(always)]
+    fn contents(&self) -> u64 {
+        let algorithm = self.algorithm.algorithm.octets.len() as u64;
+        algorithm.wrapping_add(self.key.octets.len() as u64)
+    }
+
+    #[inline(always)]
+    fn first_octet(&self) -> u8 {
+        self.algorithm.month.month()
+    }
+}
 
 /// Decodes keys, one behind the other, until the octets end, or an error. The sum of first octets
 /// is that of the months.
 #[unsafe(no_mangle)]
 pub extern "C" fn der_bench_decode(alloc: Global, bytes: &[u8]) -> Totals {
+    decode_each::<KeyInfo<'_>>(alloc, bytes, EncodingRules::Der)
+}
+
+// Decodes values, one behind the other, until the octets end, or an error.
+#[inline(always)]
+pub(crate) fn decode_each<'a, T: Decode<SliceReader<'a>, Error = Error> + Counted>(
+    alloc: Global,
+    bytes: &'a [u8],
+    rules: EncodingRules,
+) -> Totals {
     let mut totals = Totals {
         elements: 0,
         contents: 0,
         first_octets: 0,
     };
-    let Ok(mut reader) = SliceReader::new(bytes) else {
+    let Ok(mut reader) = SliceReader::new_with_encoding_rules(bytes, rules) else {
         return totals;
     };
-    // Each key has an octet at least.
+    // Each value has an octet at least.
     for _ in 0..bytes.len() {
         if reader.is_finished() {
             break;
         }
-        let Ok(key) = reader.decode::<KeyInfo<'_>>(alloc) else {
+        let Ok(value) = reader.decode::<T>(alloc) else {
             return totals;
         };
-        let contents = key.algorithm.algorithm.octets.len() as u64;
         totals.elements = totals.elements.wrapping_add(1);
-        totals.contents = totals.contents.wrapping_add(contents);
-        totals.contents = totals.contents.wrapping_add(key.key.octets.len() as u64);
-        let month = key.algorithm.month.month() as u64;
-        totals.first_octets = totals.first_octets.wrapping_add(month);
+        totals.contents = totals.contents.wrapping_add(value.contents());
+        totals.first_octets = totals.first_octets.wrapping_add(value.first_octet() as u64);
     }
     totals
 }

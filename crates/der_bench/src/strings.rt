@@ -1,34 +1,50 @@
 //! Decoding of byte strings and texts, borrowed, copied and joined of segments.
 use crate::Totals;
+use crate::decode::{Counted, decode_each};
+use der::EncodingRules;
 use der::example::{BorrowedOctets, JoinedOctets, OwnedText};
-use der::{Decode, EncodingRules, Error, ReaderExt, SliceReader};
 use std::alloc::Global;
 
-// A value with octets.
-trait Contents: Drop {
-    // The octets.
-    fn contents(&self) -> &[u8];
-}
-
-impl<'a> Contents for BorrowedOctets<'a> {
+impl<'a> Counted for BorrowedOctets<'a> {
     #[inline(always)]
-    fn contents(&self) -> &[u8] {
-        self.octets.as_slice()
+    fn contents(&self) -> u64 {
+        self.octets.as_slice().len() as u64
+    }
+
+    #[inline(always)]
+    fn first_octet(&self) -> u8 {
+        first_of(self.octets.as_slice())
     }
 }
 
-impl Contents for OwnedText {
+impl Counted for OwnedText {
     #[inline(always)]
-    fn contents(&self) -> &[u8] {
-        self.text.as_bytes()
+    fn contents(&self) -> u64 {
+        self.text.as_bytes().len() as u64
+    }
+
+    #[inline(always)]
+    fn first_octet(&self) -> u8 {
+        first_of(self.text.as_bytes())
     }
 }
 
-impl Contents for JoinedOctets {
+impl Counted for JoinedOctets {
     #[inline(always)]
-    fn contents(&self) -> &[u8] {
-        self.octets.as_slice()
+    fn contents(&self) -> u64 {
+        self.octets.as_slice().len() as u64
     }
+
+    #[inline(always)]
+    fn first_octet(&self) -> u8 {
+        first_of(self.octets.as_slice())
+    }
+}
+
+// The first octet, or zero.
+#[inline(always)]
+fn first_of(octets: &[u8]) -> u8 {
+    octets.first().copied().unwrap_or(0)
 }
 
 /// Decodes OCTET STRINGs that are borrowed, one behind the other, until the octets end, or an
@@ -48,35 +64,4 @@ pub extern "C" fn der_bench_texts(alloc: Global, bytes: &[u8]) -> Totals {
 #[unsafe(no_mangle)]
 pub extern "C" fn der_bench_joined(alloc: Global, bytes: &[u8]) -> Totals {
     decode_each::<JoinedOctets>(alloc, bytes, EncodingRules::Ber)
-}
-
-#[inline(always)]
-fn decode_each<'a, T: Decode<SliceReader<'a>, Error = Error> + Contents>(
-    alloc: Global,
-    bytes: &'a [u8],
-    rules: EncodingRules,
-) -> Totals {
-    let mut totals = Totals {
-        elements: 0,
-        contents: 0,
-        first_octets: 0,
-    };
-    let Ok(mut reader) = SliceReader::new_with_encoding_rules(bytes, rules) else {
-        return totals;
-    };
-    // Each element has an octet at least.
-    for _ in 0..bytes.len() {
-        if reader.is_finished() {
-            break;
-        }
-        let Ok(value) = reader.decode::<T>(alloc) else {
-            return totals;
-        };
-        let contents = value.contents();
-        totals.elements = totals.elements.wrapping_add(1);
-        totals.contents = totals.contents.wrapping_add(contents.len() as u64);
-        let first = contents.first().copied().unwrap_or(0);
-        totals.first_octets = totals.first_octets.wrapping_add(first as u64);
-    }
-    totals
 }

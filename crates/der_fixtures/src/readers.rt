@@ -1,4 +1,4 @@
-//! Readers under the Basic Encoding Rules, and what tests look at in a reader.
+//! Readers that tests read by, and what they look at in a reader.
 ghost use Rattle.std.specs.Prelude.{◌≡◌, IfOk};
 ghost use Rattle.der_base.specs.declared.encoding_rules.EncodingRules.TheVariants.{Ber};
 ghost use Rattle.der_core.specs.SliceReader.{slice_state};
@@ -13,7 +13,15 @@ pub fn ber_reader(octets: &[u8]) -> Result<SliceReader<'_>, Error>
     SliceReader::new_with_encoding_rules(octets, EncodingRules::Ber)
 }
 
-/// Likewise, one that lends nothing.
+/// A reader that lends nothing, under the Distinguished Encoding Rules.
+pub fn der_unlent(octets: &[u8]) -> Result<CopyingReader<'_>, Error> {
+    match SliceReader::new(octets) {
+        Ok(inner) => Ok(CopyingReader::new(inner)),
+        Err(error) => Err(error),
+    }
+}
+
+/// Likewise, under the Basic Encoding Rules.
 pub fn ber_unlent(octets: &[u8]) -> Result<CopyingReader<'_>, Error>
     ensures { IfOk result (λ r. (slice_state r.inner).rules ≡ Ber) }
 {

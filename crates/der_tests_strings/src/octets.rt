@@ -9,7 +9,7 @@ use der::{
 use der_fixtures::errors::{
     incomplete, incorrect, indefinite, invalid_number, trailing, unexpected, unknown,
 };
-use der_fixtures::readers::{ber_reader, ber_unlent, place_of};
+use der_fixtures::readers::{ber_reader, ber_unlent, der_unlent, place_of};
 use der_uses::reader::CopyingReader;
 use std::alloc::Global;
 use std::test::Fail;
@@ -26,14 +26,6 @@ mod segments;
 mod sizes;
 mod tagged;
 mod texts;
-
-// A reader that lends nothing.
-fn copying(octets: &[u8]) -> Result<CopyingReader<'_>, Error> {
-    match SliceReader::new(octets) {
-        Ok(reader) => Ok(CopyingReader::new(reader)),
-        Err(error) => Err(error),
-    }
-}
 
 // That a reader cannot lend.
 fn unlendable(position: u32) -> Error {

@@ -1,5 +1,4 @@
 //! Memory that is refused.
-use super::unlent::make_unlent;
 use super::*;
 use crate::checks::{holds, holds_at, same, same_at};
 use der::{encode_to_vec_in, to_der_in};
@@ -87,7 +86,7 @@ fn a_refused_copy_leaves_the_reader(rt: HostRuntime) -> Result<(), Fail> {
     for size in SIZES {
         let heap = LocalHeap::new(rt.alloc(), size)?;
         lent[copy_sixty(&rt, &heap, SliceReader::new(&octets)?, size) as usize] = true;
-        filled[copy_sixty(&rt, &heap, make_unlent(&octets)?, size) as usize] = true;
+        filled[copy_sixty(&rt, &heap, der_unlent(&octets)?, size) as usize] = true;
         same_at(&rt, size, heap.used(), 0);
     }
     // each was refused once and copied once

@@ -4,14 +4,6 @@ ghost use Rattle.der_core.specs.ReaderState.{Same};
 use super::*;
 use crate::checks::{holds, same};
 use der::read_eoc;
-use der_uses::reader::CopyingReader;
-
-pub(super) fn make_unlent(bytes: &[u8]) -> Result<CopyingReader<'_>, Error> {
-    match SliceReader::new(bytes) {
-        Ok(reader) => Ok(CopyingReader::new(reader)),
-        Err(error) => Err(error),
-    }
-}
 
 fn read_header<R: Reader>(reader: &mut R) -> Result<Header, Error>
     ensures { Same (R.state reader.old) (R.state reader.new) }
@@ -22,7 +14,7 @@ fn read_header<R: Reader>(reader: &mut R) -> Result<Header, Error>
 #[test]
 fn headers_without_lending(rt: HostRuntime) -> Result<(), Fail> {
     let octets = [0x30, 0x02, 0x05, 0x00, 0x04, 0x81, 0x7F];
-    let mut reader = make_unlent(&octets)?;
+    let mut reader = der_unlent(&octets)?;
     let null = Header::new(Tag::Null, Length::ZERO);
     same(&rt, reader.sequence(read_header), Ok(null));
     let incorrect = ErrorKind::Length {
@@ -40,7 +32,7 @@ fn headers_without_lending(rt: HostRuntime) -> Result<(), Fail> {
 #[test]
 fn nothing_is_lent(rt: HostRuntime) -> Result<(), Fail> {
     let octets = [0x05, 0x00];
-    let mut reader = make_unlent(&octets)?;
+    let mut reader = der_unlent(&octets)?;
     let refused = ErrorKind::Reader.at(Length::ZERO);
     same(&rt, reader.tlv_bytes().err(), Some(refused));
     same(&rt, reader.read_slice(Length::ONE).err(), Some(refused));
@@ -52,7 +44,7 @@ fn nothing_is_lent(rt: HostRuntime) -> Result<(), Fail> {
 #[test]
 fn octets_without_lending(rt: HostRuntime) -> Result<(), Fail> {
     let octets = [0x05, 0x00];
-    let mut reader = make_unlent(&octets)?;
+    let mut reader = der_unlent(&octets)?;
     same(&rt, decode_length(&mut reader), Ok(Length::new(5)));
     same(&rt, reader.peek_byte(), Some(0x00));
     let copy = reader.read_vec(rt.alloc(), Length::ONE)?;
@@ -64,7 +56,7 @@ fn octets_without_lending(rt: HostRuntime) -> Result<(), Fail> {
 #[test]
 fn values_without_lending(rt: HostRuntime) -> Result<(), Fail> {
     let octets = [0x05, 0x30];
-    let mut reader = make_unlent(&octets)?;
+    let mut reader = der_unlent(&octets)?;
     same(&rt, reader.peek_tag(), Ok(Tag::Null));
     let tag: Result<Tag, Error> = reader.decode(rt.alloc());
     same(&rt, tag, Ok(Tag::Null));

@@ -1,7 +1,6 @@
 //! Parts and values of a reader that cannot lend.
 ghost use Rattle.der_core.specs.ReaderState.{Same};
 
-use super::unlent::make_unlent;
 use super::*;
 use crate::checks::{holds, same};
 use der::{close_value, read_value};
@@ -15,7 +14,7 @@ fn read_one<R: Reader>(reader: &mut R) -> Result<u8, Error>
 #[test]
 fn a_part_without_lending(rt: HostRuntime) -> Result<(), Fail> {
     let octets = [0x07, 0x05];
-    let mut reader = make_unlent(&octets)?;
+    let mut reader = der_unlent(&octets)?;
     same(&rt, reader.read_nested(Length::ONE, read_one), Ok(0x07));
     same(&rt, reader.offset(), Length::ONE);
     same(&rt, reader.remaining_len(), Length::ONE);
@@ -34,7 +33,7 @@ fn read_contents<R: Reader>(reader: &mut R, header: Header) -> Result<(u8, Lengt
 #[test]
 fn a_value_without_lending(rt: HostRuntime) -> Result<(), Fail> {
     let octets = [0x07, 0x00, 0x00];
-    let mut reader = make_unlent(&octets)?;
+    let mut reader = der_unlent(&octets)?;
     let header = Header::new(Tag::OctetString, Length::new_indefinite(3));
     let read = read_value(&mut reader, header, read_contents);
     same(&rt, read, Ok((0x07, Length::new_indefinite(1))));
@@ -45,7 +44,7 @@ fn a_value_without_lending(rt: HostRuntime) -> Result<(), Fail> {
 #[test]
 fn contents_closed_without_lending(rt: HostRuntime) -> Result<(), Fail> {
     let octets = [0x07, 0x05];
-    let mut reader = make_unlent(&octets)?;
+    let mut reader = der_unlent(&octets)?;
     let outer = reader.enter_nested(Length::new(2))?;
     let answer = reader.read_byte();
     let left = ErrorKind::TrailingData {

@@ -1,5 +1,4 @@
 //! What is ahead of a reader that cannot lend, and what it decodes.
-use super::unlent::make_unlent;
 use super::*;
 use crate::checks::{holds, same};
 use der::{Class, TagPeek};
@@ -7,7 +6,7 @@ use der::{Class, TagPeek};
 #[test]
 fn a_header_ahead_without_lending(rt: HostRuntime) -> Result<(), Fail> {
     let octets = [0x30, 0x00];
-    let reader = make_unlent(&octets)?;
+    let reader = der_unlent(&octets)?;
     let sequence = Header::new(Tag::Sequence, Length::ZERO);
     same(&rt, Header::peek(&reader), Ok(sequence));
     same(&rt, reader.peek_header(), Ok(sequence));
@@ -18,7 +17,7 @@ fn a_header_ahead_without_lending(rt: HostRuntime) -> Result<(), Fail> {
 #[test]
 fn octets_ahead_without_lending(rt: HostRuntime) -> Result<(), Fail> {
     let octets = [0x30, 0x00];
-    let reader = make_unlent(&octets)?;
+    let reader = der_unlent(&octets)?;
     let mut buffer = [0u8; 2];
     same(&rt, reader.peek_into(&mut buffer), Ok(()));
     same(&rt, buffer, [0x30, 0x00]);
@@ -29,7 +28,7 @@ fn octets_ahead_without_lending(rt: HostRuntime) -> Result<(), Fail> {
 #[test]
 fn a_tag_ahead_without_lending(rt: HostRuntime) -> Result<(), Fail> {
     let octets = [0xA1, 0x00];
-    let mut reader = make_unlent(&octets)?;
+    let mut reader = der_unlent(&octets)?;
     let one = TagNumber(1);
     same(&rt, Tag::peek(&reader), Ok(one.context_specific(true)));
     same(
@@ -44,7 +43,7 @@ fn a_tag_ahead_without_lending(rt: HostRuntime) -> Result<(), Fail> {
 #[test]
 fn a_tag_and_its_bit_without_lending(rt: HostRuntime) -> Result<(), Fail> {
     let octets = [0x30];
-    let mut reader = make_unlent(&octets)?;
+    let mut reader = der_unlent(&octets)?;
     same(
         &rt,
         Tag::decode_with_constructed_bit(&mut reader),
@@ -57,7 +56,7 @@ fn a_tag_and_its_bit_without_lending(rt: HostRuntime) -> Result<(), Fail> {
 #[test]
 fn a_header_decoded_without_lending(rt: HostRuntime) -> Result<(), Fail> {
     let octets = [0x04, 0x01];
-    let mut reader = make_unlent(&octets)?;
+    let mut reader = der_unlent(&octets)?;
     let header = Header::new(Tag::OctetString, Length::ONE);
     same(&rt, Header::decode(rt.alloc(), &mut reader), Ok(header));
     holds(&rt, reader.is_finished());
@@ -67,7 +66,7 @@ fn a_header_decoded_without_lending(rt: HostRuntime) -> Result<(), Fail> {
 #[test]
 fn a_length_decoded_without_lending(rt: HostRuntime) -> Result<(), Fail> {
     let octets = [0x81, 0x80];
-    let mut reader = make_unlent(&octets)?;
+    let mut reader = der_unlent(&octets)?;
     same(
         &rt,
         Length::decode(rt.alloc(), &mut reader),
@@ -80,7 +79,7 @@ fn a_length_decoded_without_lending(rt: HostRuntime) -> Result<(), Fail> {
 #[test]
 fn a_value_refused_without_lending(rt: HostRuntime) -> Result<(), Fail> {
     let octets = [0x3F, 0x05];
-    let mut reader = make_unlent(&octets)?;
+    let mut reader = der_unlent(&octets)?;
     let tag: Result<Tag, Error> = reader.decode(rt.alloc());
     let unknown = ErrorKind::TagUnknown { byte: 0x3F };
     same(&rt, tag, Err(unknown.at(Length::ONE)));

@@ -18,7 +18,7 @@ fn octets_from_a_reader_that_lends(rt: HostRuntime) -> Result<(), Fail> {
 #[test]
 fn octets_from_a_reader_that_does_not(rt: HostRuntime) -> Result<(), Fail> {
     let octets = [0x01, 0x02, 0x03];
-    let mut reader = copying(&octets)?;
+    let mut reader = der_unlent(&octets)?;
     let bytes = BytesCow::decode_value(rt.alloc(), &mut reader, header_of(3))?;
     holds(&rt, matches!(bytes, BytesCow::Owned(_)));
     same(&rt, bytes.as_bytes_ref().as_slice(), octets.as_slice());
@@ -28,7 +28,7 @@ fn octets_from_a_reader_that_does_not(rt: HostRuntime) -> Result<(), Fail> {
 
 #[test]
 fn octets_that_are_refused(rt: HostRuntime) -> Result<(), Fail> {
-    let mut reader = copying(&[0x01, 0x02, 0x03])?;
+    let mut reader = der_unlent(&[0x01, 0x02, 0x03])?;
     let refused = BytesCow::decode_value(rt.alloc(), &mut reader, header_of(4)).err();
     same(&rt, refused, Some(incomplete(4, 3, 0)));
     same(&rt, place_of(&reader), (0, 3, true));
@@ -47,7 +47,7 @@ fn texts_from_a_reader_that_lends(rt: HostRuntime) -> Result<(), Fail> {
 
 #[test]
 fn texts_from_a_reader_that_does_not(rt: HostRuntime) -> Result<(), Fail> {
-    let mut reader = copying(&[0xC3, 0xBC])?;
+    let mut reader = der_unlent(&[0xC3, 0xBC])?;
     let refused = StringCow::decode_value(rt.alloc(), &mut reader, header_of(2)).err();
     same(&rt, refused, Some(unlendable(0)));
     same(&rt, place_of(&reader), (0, 2, false));

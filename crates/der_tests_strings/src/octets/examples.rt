@@ -77,7 +77,7 @@ fn unlent<T: Decode<CopyingReader<'static>, Error = Error> + Drop>(
     alloc: Global,
     octets: &'static [u8; 3],
 ) -> Result<(), Error> {
-    let mut reader = copying(octets)?;
+    let mut reader = der_unlent(octets)?;
     same(rt, T::decode(alloc, &mut reader).err(), Some(unlendable(2)));
     same(rt, place_of(&reader), (2, 3, false));
     Ok(())
@@ -92,7 +92,7 @@ fn elements_that_want_lending(rt: HostRuntime) -> Result<(), Fail> {
 
 #[test]
 fn octets_that_are_copied(rt: HostRuntime) -> Result<(), Fail> {
-    let mut reader = copying(&[0x01, 0x02])?;
+    let mut reader = der_unlent(&[0x01, 0x02])?;
     let bytes = BytesOwned::decode_value(rt.alloc(), &mut reader, header_of(2))?;
     same(&rt, bytes.as_slice(), [0x01, 0x02].as_slice());
     same(&rt, place_of(&reader), (2, 2, false));
@@ -102,7 +102,7 @@ fn octets_that_are_copied(rt: HostRuntime) -> Result<(), Fail> {
 #[test]
 fn contents_that_want_lending(rt: HostRuntime) -> Result<(), Fail> {
     let alloc = rt.alloc();
-    let mut reader = copying(&[0x61])?;
+    let mut reader = der_unlent(&[0x61])?;
     let refused = StringRef::decode_value(alloc, &mut reader, header_of(1)).err();
     same(&rt, refused, Some(unlendable(0)));
     let refused = StringOwned::decode_value(alloc, &mut reader, header_of(1)).err();

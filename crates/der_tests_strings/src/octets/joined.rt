@@ -50,7 +50,7 @@ fn under_der(
     place: (u32, bool),
 ) -> Result<(), Error> {
     decoding(rt, alloc, SliceReader::new(octets)?, answer, place);
-    decoding(rt, alloc, copying(octets)?, answer, place);
+    decoding(rt, alloc, der_unlent(octets)?, answer, place);
     let whole = JoinedOctets::from_der(alloc, octets);
     same_at(rt, octets.len(), octets_of(&whole), answer);
     Ok(())

@@ -17,7 +17,7 @@ fn indefinite_lengths(rt: HostRuntime) -> Result<(), Fail> {
     let octets = [0x04, 0x01, 0xAA, 0x04, 0x01, 0xBB];
     for number in [0, 1, 2, 3, 6, 8, 4096] {
         behind_indefinite(&rt, rt.alloc(), ber_reader(&octets)?, number);
-        behind_indefinite(&rt, rt.alloc(), copying(&octets)?, number);
+        behind_indefinite(&rt, rt.alloc(), der_unlent(&octets)?, number);
     }
     Ok(())
 }
@@ -36,7 +36,7 @@ fn definite_lengths(rt: HostRuntime) -> Result<(), Fail> {
     let octets = [0x04, 0x05, 0xAA];
     for number in [0, 1, 3, 4294967295] {
         behind_definite(&rt, rt.alloc(), ber_reader(&octets)?, number);
-        behind_definite(&rt, rt.alloc(), copying(&octets)?, number);
+        behind_definite(&rt, rt.alloc(), der_unlent(&octets)?, number);
     }
     let mut reader = SliceReader::new(&octets)?;
     reader.drain(Length::new(2))?;
@@ -73,7 +73,13 @@ fn tags_of_the_context(rt: HostRuntime) -> Result<(), Fail> {
         primitive,
         joined,
     );
-    tagged(&rt, alloc, copying(&[0x80, 0x01, 0x2A])?, primitive, joined);
+    tagged(
+        &rt,
+        alloc,
+        der_unlent(&[0x80, 0x01, 0x2A])?,
+        primitive,
+        joined,
+    );
     let other = Err(unexpected(primitive, constructed));
     tagged(
         &rt,
@@ -82,7 +88,13 @@ fn tags_of_the_context(rt: HostRuntime) -> Result<(), Fail> {
         primitive,
         other,
     );
-    tagged(&rt, alloc, copying(&[0xA0, 0x01, 0x2A])?, primitive, other);
+    tagged(
+        &rt,
+        alloc,
+        der_unlent(&[0xA0, 0x01, 0x2A])?,
+        primitive,
+        other,
+    );
     Ok(())
 }
 
@@ -133,10 +145,10 @@ fn parts(rt: HostRuntime) -> Result<(), Fail> {
     let octets = [0x04, 0x01, 0x2A, 0x04, 0x01, 0x2B];
     let first = Ok([0x2A].as_slice());
     part(&rt, rt.alloc(), ber_reader(&octets)?, 3, first)?;
-    part(&rt, rt.alloc(), copying(&octets)?, 3, first)?;
+    part(&rt, rt.alloc(), der_unlent(&octets)?, 3, first)?;
     let cut = Err(incomplete(3, 2, 2));
     part(&rt, rt.alloc(), ber_reader(&octets)?, 2, cut)?;
-    part(&rt, rt.alloc(), copying(&octets)?, 2, cut)?;
+    part(&rt, rt.alloc(), der_unlent(&octets)?, 2, cut)?;
     Ok(())
 }
 

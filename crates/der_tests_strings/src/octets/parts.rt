@@ -48,7 +48,7 @@ fn under_der(
     place: (u32, bool),
 ) -> Result<(), Error> {
     decoding(rt, alloc, SliceReader::new(octets)?, header, answer, place);
-    decoding(rt, alloc, copying(octets)?, header, answer, place);
+    decoding(rt, alloc, der_unlent(octets)?, header, answer, place);
     Ok(())
 }
 
@@ -130,7 +130,7 @@ fn constructed_headers_of_definite_lengths(rt: HostRuntime) -> Result<(), Fail> 
     for (before, at) in [(0, 0), (1, 0), (2, 1), (3, 2)] {
         refused_behind(&rt, rt.alloc(), ber_reader(&SEGMENT)?, before, at)?;
         refused_behind(&rt, rt.alloc(), ber_unlent(&SEGMENT)?, before, at)?;
-        refused_behind(&rt, rt.alloc(), copying(&SEGMENT)?, before, at)?;
+        refused_behind(&rt, rt.alloc(), der_unlent(&SEGMENT)?, before, at)?;
     }
     Ok(())
 }

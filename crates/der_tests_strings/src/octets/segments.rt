@@ -43,7 +43,7 @@ fn joining_primitive(
 ) -> Result<(), Error> {
     joining_each(rt, alloc, octets, answer, place)?;
     joining(rt, alloc, SliceReader::new(octets)?, answer, place);
-    joining(rt, alloc, copying(octets)?, answer, place);
+    joining(rt, alloc, der_unlent(octets)?, answer, place);
     Ok(())
 }
 
@@ -225,7 +225,7 @@ fn segments_of_segments_under_der(rt: HostRuntime) -> Result<(), Fail> {
             Err(error),
             place,
         );
-        joining(&rt, rt.alloc(), copying(octets)?, Err(error), place);
+        joining(&rt, rt.alloc(), der_unlent(octets)?, Err(error), place);
     }
     Ok(())
 }

@@ -87,7 +87,7 @@ fn elements_that_are_borrowed(rt: HostRuntime) -> Result<(), Fail> {
 
 #[test]
 fn elements_that_are_copied(rt: HostRuntime) -> Result<(), Fail> {
-    let mut reader = copying(&ELEMENT)?;
+    let mut reader = der_unlent(&ELEMENT)?;
     let read = CowOctets::decode(rt.alloc(), &mut reader)?;
     holds(&rt, matches!(read.octets, BytesCow::Owned(_)));
     same(&rt, place_of(&reader), (4, 4, false));

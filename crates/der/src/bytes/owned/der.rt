@@ -4,8 +4,8 @@ ghost use Rattle.der_base.specs.Length.{number};
 ghost use Rattle.der_core.specs.Outcome.{map_ok};
 ghost use Rattle.der_core.specs.Reader.{VecMeets};
 ghost use Rattle.der_core.specs.ReaderState.{Same};
-ghost use Rattle.der.specs.Octets.{IsCounted, TakesOctets, octets_size, WritesOctets};
-ghost use Rattle.der.specs.BytesOwned.{owned_octets, OwnedAnswers};
+ghost use Rattle.der.specs.Octets.{IsCounted, TakesOctets, OwnedAnswers, octets_size, WritesOctets};
+ghost use Rattle.der.specs.BytesOwned.{owned_octets};
 
 use crate::bytes::BytesOwned;
 use der_base::{Error, Length};
