@@ -1,6 +1,7 @@
 pub mod BodyLemmas
 pub mod CompareLemmas
 pub mod CountLemmas
+pub mod DelimitedLemmas
 pub mod DigitLemmas
 pub mod EqualityLemmas
 pub mod ExampleLemmas
@@ -11,6 +12,7 @@ pub mod IdentifierLemmas
 pub mod LengthLemmas
 pub mod LongNumberLemmas
 pub mod OpenLemmas
+pub mod OrderLemmas
 pub mod ScanLemmas
 pub mod TagLemmas
 pub mod TextLemmas

@@ -11,3 +11,4 @@ pub mod Arithmetic
 pub mod Names
 pub mod Compare
 pub mod Laws
+pub mod OrderLaws

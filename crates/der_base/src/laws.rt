@@ -1,7 +1,10 @@
 //! The laws of the octets of tags, lengths, headers and bodies. Each function does nothing; its
-//! contract is a law, whose statement is a word of `specs/Laws.antt`. Nothing else uses these.
+//! contract is a law, whose statement is a word of `specs/Laws.antt` or
+//! `specs/OrderLaws.antt`. Nothing else uses these.
 ghost use Rattle.der_base.specs.Scan.{BodyAhead, BodyFault};
 ghost use Rattle.der_base.specs.Header.{IdentifierAhead, TagAhead, LengthAhead, LengthFault, HeaderAhead, HeaderFault};
+ghost use Rattle.der_base.specs.Order.{byte_order};
+ghost use Rattle.der_base.specs.OrderLaws.{IsByteOrder, FrontsDecide, LengthsStandAsNumbers, HeadersStandByTags, TagsDoNotStandAsNumbers};
 ghost use Rattle.der_base.specs.Laws.{OneTagOfALabel, NoTagBeginsAnother, NoIdentifierBeginsAnother, NoLengthBeginsAnother, NoHeaderBeginsAnother, NoBodyBeginsAnother, BodiesOrFaults, NoBodyOutsideLevels, NoItemOutsideLevels, NoItemsOutsideLevels, NothingOpenOutsideLevels, BodiesAtEachLevel, PartsHaveTwoOctets, ExamplesOfParts, IsGrammar, IsBodyFault};
 ghost use Rattle.der_base.specs.Tag.{IdentifierFault};
 ghost use Rattle.der_base.specs.declared.error.ErrorKind.{ErrorKind};
@@ -84,4 +87,24 @@ fn parts_have_two_octets()
 
 fn examples_of_parts()
     ensures { ExamplesOfParts }
+{}
+
+fn byte_order_is_total()
+    ensures { IsByteOrder byte_order }
+{}
+
+fn fronts_decide()
+    ensures { FrontsDecide }
+{}
+
+fn lengths_stand_as_numbers()
+    ensures { LengthsStandAsNumbers }
+{}
+
+fn headers_stand_by_tags()
+    ensures { HeadersStandByTags }
+{}
+
+fn tags_do_not_stand_as_numbers()
+    ensures { TagsDoNotStandAsNumbers }
 {}

@@ -18,3 +18,6 @@ pub mod ElementLemmas
 pub mod DerLemmas
 pub mod LawfulLemmas
 pub mod FieldLemmas
+pub mod OrdLemmas
+pub mod TagOrderLemmas
+pub mod ItemLemmas

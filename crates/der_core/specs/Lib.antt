@@ -19,3 +19,5 @@ pub mod Encode
 pub mod WrittenSequence
 pub mod Lawful
 pub mod Fields
+pub mod DerOrd
+pub mod Items

@@ -12,6 +12,7 @@ pub mod encode_ref;
 pub mod header;
 mod laws;
 mod length;
+mod ord;
 pub mod reader;
 mod tag;
 pub mod writer;
@@ -28,6 +29,7 @@ pub use header::{Header, decode_header};
 pub use length::decode_length;
 pub use length::indefinite::decode_indefinite_length;
 pub use length::turns::Turns;
+pub use ord::{DerOrd, OrdIsValueOrd, Orderly, ValueOrd, der_cmp_tlv, iter_cmp, iter_cmp_owned};
 pub use reader::{
     Octets, Position, Reader, ReaderExt, Resumption, SliceReader, close_value, read_eoc, read_value,
 };

@@ -257,7 +257,7 @@ impl Encode for Tag {
 }
 
 // The first octet of a tag, with these five low bits.
-fn first_octet_of(tag: Tag, low: u8) -> u8
+pub(crate) fn first_octet_of(tag: Tag, low: u8) -> u8
     requires { low < 32 }
     ensures { result ≡ leading_octet (label tag) low }
 {

@@ -1,0 +1,49 @@
+-- What comparisons of values by their encodings answer (X.690 11.6).
+use Rattle.std.specs.Prelude.{◌≡◌, ℕ, ◌-◌, List, ◌++◌, length, replicate, Result, Ok, Err}
+use Rattle.std.specs.declared.cmp.Ordering.{Ordering}
+use Rattle.std.specs.declared.cmp.Ordering.TheVariants.{Less, Equal, Greater}
+use Rattle.der_base.specs.Header.{header_octets}
+use Rattle.der_base.specs.Length.{number}
+use Rattle.der_base.specs.Order.{byte_order}
+use Rattle.der_base.specs.declared.error.Error.{Error}
+use Rattle.der_base.specs.declared.length.Length.{Length}
+use Rattle.der_base.specs.declared.tag.Tag.{Tag}
+
+-- octets of a tag and zeros behind them, six in all, as many as a tag has at most
+abbrev pub six_octets : List ℕ → List ℕ
+six_octets octets = octets ++ replicate (6 - length octets) 0
+
+-- what a comparison answers
+abbrev pub Compared : Type 0
+Compared = Result Ordering Error
+
+-- an ordering, and where it is equal another answer
+abbrev pub then_compared : Ordering → Compared → Compared
+then_compared Less more = Ok Less
+then_compared Equal more = more
+then_compared Greater more = Ok Greater
+
+-- the comparison of two elements, by their tags, the numbers of octets of their contents, of which
+-- each may be refused, the first before the second, and what a comparison of the contents answers:
+-- the headers in byte order decide, and then the contents
+abbrev pub element_order : Tag → Tag → Result Length Error → Result Length Error → Compared
+    → Compared
+element_order t u (Ok m) (Ok n) contents =
+    then_compared (byte_order (header_octets t (number m)) (header_octets u (number n))) contents
+element_order t u (Ok m) (Err e) contents = Err e
+element_order t u (Err e) n contents = Err e
+
+-- two contents are compared in byte order, where their tags are equal and they are as long
+abbrev pub AreOrderly : Tag → Tag → List ℕ → List ℕ → Compared → Type 0
+AreOrderly t u c d answer = t ≡ u → length c ≡ length d → answer ≡ Ok (byte_order c d)
+
+-- and so are those of any two values of a type
+abbrev pub IsOrderly : {A : Type 0} → (A → Tag) → (A → List ℕ) → (A → A → Compared) → Type 0
+IsOrderly {A} tag_of contents order =
+    (v w : A) → AreOrderly (tag_of v) (tag_of w) (contents v) (contents w) (order v w)
+
+-- values stand as their contents do in byte order, where these are as long
+abbrev pub OrdersContents : {A : Type 0} → (A → List ℕ) → (A → A → Ordering) → Type 0
+OrdersContents {A} contents order =
+    (v w : A) → length (contents v) ≡ length (contents w)
+    → order v w ≡ byte_order (contents v) (contents w)

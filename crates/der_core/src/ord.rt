@@ -1,0 +1,87 @@
+//! Orders of values by their encodings (X.690 11.6).
+ghost use Rattle.std.specs.Prelude.{◌≡◌, ℕ, List, Ok, IsOk, IfOk};
+ghost use Rattle.der_base.specs.Order.{byte_order, AreDelimited};
+ghost use Rattle.der_base.proofs.DelimitedLemmas.{elements_delimited};
+ghost use Rattle.der_core.specs.DerOrd.{Compared, element_order, AreOrderly};
+ghost use Rattle.der_core.specs.Encode.{element_octets};
+
+mod boxed;
+mod element;
+mod header;
+mod items;
+mod length;
+mod phantom;
+mod reference;
+mod tag;
+mod value;
+
+use crate::encode::EncodeValue;
+use crate::tag::fixed::Tagged;
+use der_base::Error;
+pub use element::der_cmp_tlv;
+pub use items::{iter_cmp, iter_cmp_owned};
+use std::cmp::Ordering;
+pub use value::{OrdIsValueOrd, Orderly, ValueOrd};
+
+/// Types whose values are compared by octets, as the elements of a SET OF are sorted (X.690 11.6).
+///
+/// Ghost members:
+///
+/// - `order` is the exact answer of [`DerOrd::der_cmp`], refusals included.
+/// - `octets` is the octets by which values stand.
+/// - `by_octets` says of two values that they are compared by these wherever there is an answer.
+/// - `has_header` says of a value that what its octets begin with can be computed: there is an
+///   answer where it can of both.
+/// - `delimits` says whether the octets of values can be told apart where they are joined, and
+///   `delimited` that they can then.
+pub trait DerOrd {
+    ghost order: { Self → Self → Compared };
+
+    ghost octets: { Self → List ℕ };
+
+    ghost by_octets: { Self → Self → Type 0 };
+
+    ghost has_header: { Self → Type 0 };
+
+    ghost delimits: { Type 0 };
+
+    ghost delimited: { delimits → AreDelimited octets };
+
+    /// Compares two values. Takes no memory.
+    ///
+    /// # Errors
+    ///
+    /// - Those of the type, which `order` says.
+    fn der_cmp(&self, other: &Self) -> Result<Ordering, Error>
+        ensures ok { by_octets self.now other.now
+            → IfOk result (λ o. o ≡ byte_order (octets self.now) (octets other.now)) }
+        ensures complete { by_octets self.now other.now → has_header self.now
+            → has_header other.now
+            → result ≡ Ok (byte_order (octets self.now) (octets other.now)) }
+        ensures exact { result ≡ order self.now other.now };
+}
+
+/// The elements are compared: their headers, and then their contents.
+///
+/// # Errors
+///
+/// Those of [`der_cmp_tlv`].
+impl<T: EncodeValue + ValueOrd + Tagged> DerOrd for T {
+    ghost order = { λ v w. element_order (T.tag_of v) (T.tag_of w) (T.value_size v)
+        (T.value_size w) (T.value_order v w) };
+
+    ghost octets = { λ v. element_octets (T.tag_of v) (T.contents v) };
+
+    ghost by_octets = { λ v w. AreOrderly (T.tag_of v) (T.tag_of w) (T.contents v) (T.contents w)
+        (T.value_order v w) };
+
+    ghost has_header = { λ v. IsOk (T.value_size v) };
+
+    ghost delimits = { Unit {0} };
+
+    ghost delimited = { λ _. elements_delimited T.tag_of T.contents };
+
+    fn der_cmp(&self, other: &Self) -> Result<Ordering, Error> {
+        der_cmp_tlv(self, other)
+    }
+}
