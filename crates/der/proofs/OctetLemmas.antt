@@ -9,7 +9,8 @@ use Rattle.std.specs.declared.cmp.Ordering.{Ordering}
 use Rattle.std.specs.declared.cmp.Ordering.TheVariants.{Less, Equal, Greater}
 use Rattle.std.proofs.lemmas.Str.{IsUtf8-from_is_utf8}
 use Rattle.der.specs.Octets.{utf8_fault}
-use Rattle.der.specs.Compare.{octet_order, counted_order}
+use Rattle.der_base.specs.Order.{byte_order}
+use Rattle.der.specs.Compare.{counted_order}
 
 -- the test fails on octets that are no UTF-8
 pub is_utf8_false : (octets : List ℕ) → (IsUtf8 octets → ⊥) → is_utf8 octets ≡ false
@@ -21,7 +22,7 @@ is_utf8_false octets isnt = go (is_utf8 octets) refl
 
 -- the partial order of octets is their order
 pub slice_partial_cmp_octets : (a b : List ℕ)
-    → slice_partial_cmp (λ x y. Some (nat_cmp x y)) a b ≡ Some (octet_order a b)
+    → slice_partial_cmp (λ x y. Some (nat_cmp x y)) a b ≡ Some (byte_order a b)
 slice_partial_cmp_octets a b = lists_agrees (λ x y. refl) a b
 
 partial_ordering_then_equal : (r s : Ordering)
@@ -39,7 +40,7 @@ pub partial_ordering_then_counted : (a b : List ℕ)
 partial_ordering_then_counted a b =
     ap (partial_ordering_then (partial_ordering_then (Some (nat_cmp (length a) (length b)))
     (Some Equal))) (slice_partial_cmp_octets a b)
-    ∙ partial_ordering_then_equal (nat_cmp (length a) (length b)) (octet_order a b)
+    ∙ partial_ordering_then_equal (nat_cmp (length a) (length b)) (byte_order a b)
 
 abbrev utf8_error : ℕ → Option ℕ → Utf8Error
 utf8_error n l = record { valid_up_to = n; error_len = l }

@@ -1,18 +1,19 @@
 -- How values of octets are ordered and hashed.
-use Rattle.std.specs.Prelude.{ℕ, false, List, length, ◌++◌}
-use Rattle.std.specs.Cmp.Lexicographic.{slice_cmp}
+use Rattle.std.specs.Prelude.{ℕ, false, List, length, ◌++◌, Ok}
 use Rattle.std.specs.Hash as fed
 use Rattle.std.specs.Hash.{HashWrites}
 use Rattle.std.specs.Ordering.{ordering_then, nat_cmp}
 use Rattle.std.specs.declared.cmp.Ordering.{Ordering}
-
--- octet by octet, and where one ends first it is the smaller
-abbrev pub octet_order : List ℕ → List ℕ → Ordering
-octet_order a b = slice_cmp nat_cmp a b
+use Rattle.der_base.specs.Order.{byte_order}
+use Rattle.der_core.specs.DerOrd.{Compared}
 
 -- by how many there are, and as many octet by octet
 abbrev pub counted_order : List ℕ → List ℕ → Ordering
-counted_order a b = ordering_then (nat_cmp (length a) (length b)) (octet_order a b)
+counted_order a b = ordering_then (nat_cmp (length a) (length b)) (byte_order a b)
+
+-- what is answered to two values of which the octets alone are compared; it is never refused
+abbrev pub octets_order : {A : Type 0} → (A → List ℕ) → A → A → Compared
+octets_order octets_of v w = Ok (byte_order (octets_of v) (octets_of w))
 
 -- how many there are, in the definite form, and then all
 abbrev pub counted_writes : List ℕ → HashWrites

@@ -1,6 +1,7 @@
 //! How the derived total orders order two values.
 ghost use Rattle.std.specs.Prelude.{◌≡◌};
-ghost use Rattle.der.specs.Compare.{octet_order, counted_order};
+ghost use Rattle.der_base.specs.Order.{byte_order};
+ghost use Rattle.der.specs.Compare.{counted_order};
 ghost use Rattle.der.specs.BytesOwned.{owned_octets};
 ghost use Rattle.der.specs.BytesRef.{reference_octets};
 ghost use Rattle.der.specs.StringOwned.{owned_text};
@@ -12,7 +13,7 @@ use std::cmp::Ordering;
 
 /// Octet by octet.
 fn bytes_ref_ordering(a: &BytesRef<'_>, b: &BytesRef<'_>) -> Ordering
-    ensures { result ≡ octet_order (reference_octets a.now) (reference_octets b.now) }
+    ensures { result ≡ byte_order (reference_octets a.now) (reference_octets b.now) }
 {
     a.cmp(b)
 }
@@ -26,14 +27,14 @@ fn bytes_owned_ordering(a: &BytesOwned, b: &BytesOwned) -> Ordering
 
 /// Octet by octet.
 fn string_ref_ordering(a: &StringRef<'_>, b: &StringRef<'_>) -> Ordering
-    ensures { result ≡ octet_order (reference_text a.now) (reference_text b.now) }
+    ensures { result ≡ byte_order (reference_text a.now) (reference_text b.now) }
 {
     a.cmp(b)
 }
 
 /// Octet by octet.
 fn string_owned_ordering(a: &StringOwned, b: &StringOwned) -> Ordering
-    ensures { result ≡ octet_order (owned_text a.now) (owned_text b.now) }
+    ensures { result ≡ byte_order (owned_text a.now) (owned_text b.now) }
 {
     a.cmp(b)
 }

@@ -1,6 +1,7 @@
 //! The derived partial orders are the total ones.
 ghost use Rattle.std.specs.Prelude.{◌≡◌, Some};
-ghost use Rattle.der.specs.Compare.{octet_order, counted_order};
+ghost use Rattle.der_base.specs.Order.{byte_order};
+ghost use Rattle.der.specs.Compare.{counted_order};
 ghost use Rattle.der.specs.BytesOwned.{owned_octets};
 ghost use Rattle.der.specs.BytesRef.{reference_octets};
 ghost use Rattle.der.specs.StringOwned.{owned_text};
@@ -12,7 +13,7 @@ use std::cmp::Ordering;
 
 /// Octet by octet.
 fn bytes_ref_partial_ordering(a: &BytesRef<'_>, b: &BytesRef<'_>) -> Option<Ordering>
-    ensures { result ≡ Some (octet_order (reference_octets a.now) (reference_octets b.now)) }
+    ensures { result ≡ Some (byte_order (reference_octets a.now) (reference_octets b.now)) }
 {
     a.partial_cmp(b)
 }
@@ -26,14 +27,14 @@ fn bytes_owned_partial_ordering(a: &BytesOwned, b: &BytesOwned) -> Option<Orderi
 
 /// Octet by octet.
 fn string_ref_partial_ordering(a: &StringRef<'_>, b: &StringRef<'_>) -> Option<Ordering>
-    ensures { result ≡ Some (octet_order (reference_text a.now) (reference_text b.now)) }
+    ensures { result ≡ Some (byte_order (reference_text a.now) (reference_text b.now)) }
 {
     a.partial_cmp(b)
 }
 
 /// Octet by octet.
 fn string_owned_partial_ordering(a: &StringOwned, b: &StringOwned) -> Option<Ordering>
-    ensures { result ≡ Some (octet_order (owned_text a.now) (owned_text b.now)) }
+    ensures { result ≡ Some (byte_order (owned_text a.now) (owned_text b.now)) }
 {
     a.partial_cmp(b)
 }

@@ -1,15 +1,19 @@
 //! Octets that the input lends.
 ghost use Rattle.std.specs.Prelude.{◌≡◌, false};
 ghost use Rattle.der_base.specs.declared.tag.Tag.TheVariants.{OctetString};
+ghost use Rattle.std.proofs.Common.{refl};
+ghost use Rattle.der.specs.Compare.{octets_order};
 ghost use Rattle.der.specs.Octets.{IsCounted, TakesOctets, LentAnswers, octets_size, WritesOctets};
 ghost use Rattle.der.specs.BorrowedOctets.{borrowed_octets, borrowed_lawful};
 
 use crate::bytes::BytesRef;
 use der_base::{Error, Length, Tag};
 use der_core::{
-    DecodeValue, EncodeValue, FixedTag, Header, Lawful, ReadValue, Reader, Writer, WrittenValue,
+    DecodeValue, DerOrd, EncodeValue, FixedTag, Header, Lawful, Orderly, ReadValue, Reader,
+    ValueOrd, Writer, WrittenValue,
 };
 use std::alloc::Global;
+use std::cmp::Ordering;
 
 /// An OCTET STRING whose octets are borrowed.
 #[derive(Clone, Copy, Debug)]
@@ -86,4 +90,17 @@ impl<'a> EncodeValue for BorrowedOctets<'a> {
 
 impl<'a> Lawful for BorrowedOctets<'a> {
     ghost lawful = { borrowed_lawful };
+}
+
+/// The octets are compared. It is never refused.
+impl<'a> ValueOrd for BorrowedOctets<'a> {
+    ghost value_order = { octets_order borrowed_octets };
+
+    fn value_cmp(&self, other: &Self) -> Result<Ordering, Error> {
+        self.octets.der_cmp(&other.octets)
+    }
+}
+
+impl<'a> Orderly for BorrowedOctets<'a> {
+    ghost orderly = { λ _ _ _ _. refl };
 }

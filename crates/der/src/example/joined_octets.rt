@@ -1,15 +1,19 @@
 //! Octets that may stand in segments.
 ghost use Rattle.std.specs.Prelude.{true};
 ghost use Rattle.der_base.specs.declared.tag.Tag.TheVariants.{OctetString};
+ghost use Rattle.std.proofs.Common.{refl};
+ghost use Rattle.der.specs.Compare.{octets_order};
 ghost use Rattle.der.specs.Octets.{IsCounted, octets_size, WritesOctets};
 ghost use Rattle.der.specs.JoinedOctets.{joined_octets, TakesJoined, JoinedAnswers, joined_lawful};
 
 use crate::bytes::BytesOwned;
 use der_base::{Error, Length, Tag};
 use der_core::{
-    DecodeValue, EncodeValue, FixedTag, Header, Lawful, ReadValue, Reader, Writer, WrittenValue,
+    DecodeValue, DerOrd, EncodeValue, FixedTag, Header, Lawful, Orderly, ReadValue, Reader,
+    ValueOrd, Writer, WrittenValue,
 };
 use std::alloc::Global;
+use std::cmp::Ordering;
 
 /// An OCTET STRING, of which segments are joined.
 #[derive(Debug, Drop)]
@@ -84,4 +88,17 @@ impl EncodeValue for JoinedOctets {
 
 impl Lawful for JoinedOctets {
     ghost lawful = { joined_lawful };
+}
+
+/// The octets are compared. It is never refused.
+impl ValueOrd for JoinedOctets {
+    ghost value_order = { octets_order joined_octets };
+
+    fn value_cmp(&self, other: &Self) -> Result<Ordering, Error> {
+        self.octets.der_cmp(&other.octets)
+    }
+}
+
+impl Orderly for JoinedOctets {
+    ghost orderly = { λ _ _ _ _. refl };
 }

@@ -1,15 +1,19 @@
 //! A text in memory of its own.
 ghost use Rattle.std.specs.Prelude.{true};
 ghost use Rattle.der_base.specs.declared.tag.Tag.TheVariants.{Utf8String};
+ghost use Rattle.std.proofs.Common.{refl};
+ghost use Rattle.der.specs.Compare.{octets_order};
 ghost use Rattle.der.specs.Octets.{IsText, TakesOctets, OwnedTextAnswers, octets_size, WritesOctets};
 ghost use Rattle.der.specs.OwnedText.{owned_text_octets, owned_text_lawful};
 
 use crate::string::StringOwned;
 use der_base::{Error, Length, Tag};
 use der_core::{
-    DecodeValue, EncodeValue, FixedTag, Header, Lawful, ReadValue, Reader, Writer, WrittenValue,
+    DecodeValue, EncodeValue, FixedTag, Header, Lawful, Orderly, ReadValue, Reader, ValueOrd,
+    Writer, WrittenValue,
 };
 use std::alloc::Global;
+use std::cmp::Ordering;
 
 /// A UTF8String in memory of its own.
 #[derive(Debug, Drop)]
@@ -84,4 +88,17 @@ impl EncodeValue for OwnedText {
 
 impl Lawful for OwnedText {
     ghost lawful = { owned_text_lawful };
+}
+
+/// The octets are compared. It is never refused.
+impl ValueOrd for OwnedText {
+    ghost value_order = { octets_order owned_text_octets };
+
+    fn value_cmp(&self, other: &Self) -> Result<Ordering, Error> {
+        Ok(self.text.as_bytes().cmp(other.text.as_bytes()))
+    }
+}
+
+impl Orderly for OwnedText {
+    ghost orderly = { λ _ _ _ _. refl };
 }

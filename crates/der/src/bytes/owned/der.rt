@@ -4,13 +4,15 @@ ghost use Rattle.der_base.specs.Length.{number};
 ghost use Rattle.der_core.specs.Outcome.{map_ok};
 ghost use Rattle.der_core.specs.Reader.{VecMeets};
 ghost use Rattle.der_core.specs.ReaderState.{Same};
+ghost use Rattle.der.specs.Compare.{octets_order};
 ghost use Rattle.der.specs.Octets.{IsCounted, TakesOctets, OwnedAnswers, octets_size, WritesOctets};
 ghost use Rattle.der.specs.BytesOwned.{owned_octets};
 
 use crate::bytes::BytesOwned;
 use der_base::{Error, Length};
-use der_core::{DecodeValue, EncodeValue, Header, ReadValue, Reader, Writer, WrittenValue};
+use der_core::{DecodeValue, DerOrd, EncodeValue, Header, ReadValue, Reader, Writer, WrittenValue};
 use std::alloc::Global;
+use std::cmp::Ordering;
 
 impl ReadValue for BytesOwned {
     ghost valid = { λ b. IsCounted (owned_octets b) };
@@ -77,5 +79,24 @@ impl EncodeValue for BytesOwned {
 
     fn encode_value<W: Writer>(&self, writer: &mut W) -> Result<(), Error> {
         writer.write(self.as_slice())
+    }
+}
+
+/// The octets alone are compared, without a header. It is never refused.
+impl DerOrd for BytesOwned {
+    ghost order = { octets_order owned_octets };
+
+    ghost octets = { owned_octets };
+
+    ghost by_octets = { λ _ _. Unit {0} };
+
+    ghost has_header = { λ _. Unit {0} };
+
+    ghost delimits = { ⊥ };
+
+    ghost delimited = { λ none. absurd none };
+
+    fn der_cmp(&self, other: &Self) -> Result<Ordering, Error> {
+        Ok(self.as_slice().cmp(other.as_slice()))
     }
 }

@@ -1,12 +1,14 @@
 //! How borrowed octets are read and written.
 ghost use Rattle.std.specs.Prelude.{false};
+ghost use Rattle.der.specs.Compare.{octets_order};
 ghost use Rattle.der.specs.Octets.{IsCounted, TakesOctets, LentAnswers, octets_size, WritesOctets};
 ghost use Rattle.der.specs.BytesRef.{reference_octets};
 
 use crate::bytes::BytesRef;
 use der_base::{Error, Length};
-use der_core::{DecodeValue, EncodeValue, Header, ReadValue, Reader, Writer, WrittenValue};
+use der_core::{DecodeValue, DerOrd, EncodeValue, Header, ReadValue, Reader, Writer, WrittenValue};
 use std::alloc::Global;
+use std::cmp::Ordering;
 
 impl<'a> ReadValue for BytesRef<'a> {
     ghost valid = { λ b. IsCounted (reference_octets b) };
@@ -59,5 +61,24 @@ impl<'a> EncodeValue for BytesRef<'a> {
 
     fn encode_value<W: Writer>(&self, writer: &mut W) -> Result<(), Error> {
         writer.write(self.as_slice())
+    }
+}
+
+/// The octets alone are compared, without a header. It is never refused.
+impl<'a> DerOrd for BytesRef<'a> {
+    ghost order = { octets_order reference_octets };
+
+    ghost octets = { reference_octets };
+
+    ghost by_octets = { λ _ _. Unit {0} };
+
+    ghost has_header = { λ _. Unit {0} };
+
+    ghost delimits = { ⊥ };
+
+    ghost delimited = { λ none. absurd none };
+
+    fn der_cmp(&self, other: &Self) -> Result<Ordering, Error> {
+        Ok(self.as_slice().cmp(other.as_slice()))
     }
 }

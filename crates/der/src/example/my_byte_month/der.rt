@@ -1,15 +1,18 @@
 //! How a month is read and written.
 ghost use Rattle.std.specs.Prelude.{◌≡◌, false};
 ghost use Rattle.der_base.specs.declared.tag.Tag.TheVariants.{OctetString};
+ghost use Rattle.std.proofs.Common.{refl};
+ghost use Rattle.der.specs.Compare.{octets_order};
 ghost use Rattle.der.specs.MyByteMonth.{IsMonth, TakesMonth, MonthAnswers, WritesMonth, month_contents, month_size, month_lawful};
 
 use crate::example::MyByteMonth;
 use der_base::{Error, ErrorKind, Length, Tag};
 use der_core::{
-    DecodeValue, EncodeValue, FixedTag, Header, Lawful, ReadValue, Reader, ReaderExt, Writer,
-    WrittenValue,
+    DecodeValue, EncodeValue, FixedTag, Header, Lawful, Orderly, ReadValue, Reader, ReaderExt,
+    ValueOrd, Writer, WrittenValue,
 };
 use std::alloc::Global;
+use std::cmp::Ordering;
 
 impl FixedTag for MyByteMonth {
     ghost tag_is = { OctetString };
@@ -81,4 +84,17 @@ impl EncodeValue for MyByteMonth {
 
 impl Lawful for MyByteMonth {
     ghost lawful = { month_lawful };
+}
+
+/// The octets are compared. It is never refused.
+impl ValueOrd for MyByteMonth {
+    ghost value_order = { octets_order month_contents };
+
+    fn value_cmp(&self, other: &Self) -> Result<Ordering, Error> {
+        Ok(self.number.cmp(&other.number))
+    }
+}
+
+impl Orderly for MyByteMonth {
+    ghost orderly = { λ _ _ _ _. refl };
 }
