@@ -1,7 +1,7 @@
 -- Two iterators whose items are compared, place by place.
 use Rattle.std.proofs.Common.{◌≡◌, ◌≢◌, ℕ, List, [], ◌∷◌, ◌++◌, Option, Some, None, Ok, Err, IfOk, IsErrAnd, refl, sym, ap, ◌∙◌, subst}
 use Rattle.std.specs.Iterator.{Yields, AlwaysYields}
-use Rattle.std.specs.List.{AllZip, flat_map}
+use Rattle.std.specs.List.{AllZip, AllByRecursion, flat_map}
 use Rattle.std.specs.Ordering.{ordering_then}
 use Rattle.std.specs.declared.cmp.Ordering.{Ordering}
 use Rattle.std.specs.declared.cmp.Ordering.TheVariants.{Less, Equal, Greater}
@@ -206,3 +206,10 @@ pub each_place : {A : Type 0} (stands : A → A → Type 0) → ((x y : A) → s
 each_place stands h [] ys = tt
 each_place stands h (x ∷ xs) [] = tt
 each_place stands h (x ∷ xs) (y ∷ ys) = (h x y, each_place stands h xs ys)
+
+-- and with it what holds of all items of both lists
+pub each_place_all : {A : Type 0} (stands : A → A → Type 0) (holds : A → Type 0) → ((x y : A) → stands x y) → (xs ys : List A) → AllByRecursion holds xs → AllByRecursion holds ys
+    → EachPlace (λ x y. stands x y × holds x × holds y) xs ys
+each_place_all stands holds h [] ys p q = tt
+each_place_all stands holds h (x ∷ xs) [] p q = tt
+each_place_all stands holds h (x ∷ xs) (y ∷ ys) p q = ((h x y, p.0, q.0), each_place_all stands holds h xs ys p.1 q.1)

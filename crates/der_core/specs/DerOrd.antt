@@ -1,5 +1,5 @@
 -- What comparisons of values by their encodings answer (X.690 11.6).
-use Rattle.std.specs.Prelude.{◌≡◌, ℕ, ◌-◌, List, ◌++◌, length, replicate, Result, Ok, Err}
+use Rattle.std.specs.Prelude.{◌≡◌, ◌≢◌, ℕ, ◌-◌, List, ◌++◌, length, replicate, Result, Ok, Err}
 use Rattle.std.specs.declared.cmp.Ordering.{Ordering}
 use Rattle.std.specs.declared.cmp.Ordering.TheVariants.{Less, Equal, Greater}
 use Rattle.der_base.specs.Header.{header_octets}
@@ -8,6 +8,7 @@ use Rattle.der_base.specs.Order.{byte_order}
 use Rattle.der_base.specs.declared.error.Error.{Error}
 use Rattle.der_base.specs.declared.length.Length.{Length}
 use Rattle.der_base.specs.declared.tag.Tag.{Tag}
+use Rattle.der_core.specs.Encode.{element_octets}
 
 -- octets of a tag and zeros behind them, six in all, as many as a tag has at most
 abbrev pub six_octets : List ℕ → List ℕ
@@ -47,3 +48,16 @@ abbrev pub OrdersContents : {A : Type 0} → (A → List ℕ) → (A → A → O
 OrdersContents {A} contents order =
     (v w : A) → length (contents v) ≡ length (contents w)
     → order v w ≡ byte_order (contents v) (contents w)
+
+-- no whole element begins a different one
+abbrev pub NoElementBeginsAnother : Type 0
+NoElementBeginsAnother =
+    (t u : Tag) (c d x y : List ℕ) → element_octets t c ++ x ≡ element_octets u d ++ y
+    → (t ≡ u) × (c ≡ d) × (x ≡ y)
+
+-- what stands behind two different elements does not decide which is the smaller (X.690 11.6)
+abbrev pub PaddingNeverDecides : Type 0
+PaddingNeverDecides =
+    (t u : Tag) (c d x y : List ℕ) → element_octets t c ≢ element_octets u d
+    → byte_order (element_octets t c ++ x) (element_octets u d ++ y)
+    ≡ byte_order (element_octets t c) (element_octets u d)

@@ -4,7 +4,9 @@ use Rattle.std.specs.Iterator.{YieldsThen, AlwaysYields}
 use Rattle.std.specs.List.{AllZip, flat_map}
 use Rattle.std.specs.declared.cmp.Ordering.TheVariants.{Less, Equal, Greater}
 use Rattle.der_base.specs.Order.{byte_order}
+use Rattle.der_base.specs.declared.tag.Tag.{Tag}
 use Rattle.der_core.specs.DerOrd.{Compared, then_compared}
+use Rattle.der_core.specs.Encode.{element_octets}
 
 -- an answer, and where it is Equal another
 abbrev pub and_compared : Compared → Compared → Compared
@@ -47,6 +49,10 @@ abbrev pub OfItems : {S T A B : Type 0} → (S → Option A → S → Type 0)
     → (T → Option A → T → Type 0) → (A → B) → S → T → (List B → List B → Type 0) → Type 0
 OfItems {B = B} steps others value s t P =
     (xs ys : List B) → AlwaysYields steps value s xs → AlwaysYields others value t ys → P xs ys
+
+-- the encodings of values, joined
+abbrev pub joined_elements : {A : Type 0} → (A → Tag) → (A → List ℕ) → List A → List ℕ
+joined_elements tag_of contents = flat_map (λ v. element_octets (tag_of v) (contents v))
 
 -- the items at each place of both lists stand so
 abbrev pub EachPlace : {A : Type 0} → (A → A → Type 0) → List A → List A → Type 0

@@ -1,12 +1,19 @@
-//! What derived comparisons and clones answer. Each function calls one of them, and its contract is
-//! the law; nothing else uses these.
-ghost use Rattle.std.specs.Prelude.{◌≡◌, ◌↔◌, IsTrue, Ok, IsOkAnd};
+//! What derived comparisons and clones answer, and comparisons of types that are orderly. Each
+//! function calls one of them, and its contract is the law; nothing else uses these.
+ghost use Rattle.std.specs.Prelude.{◌≡◌, ◌↔◌, IsTrue, Ok, IsOk, IsOkAnd, IfOk};
+ghost use Rattle.std.specs.List.{AllByRecursion};
+ghost use Rattle.der_base.specs.Order.{byte_order};
+ghost use Rattle.der_core.specs.Encode.{element_octets};
 ghost use Rattle.der_core.specs.Header.{head_of};
+ghost use Rattle.der_core.specs.Items.{joined_elements};
 ghost use Rattle.der_core.specs.Position.{position_place};
 
 use crate::header::Header;
+use crate::ord::{DerOrd, Orderly, iter_cmp};
 use crate::reader::Position;
+use der_base::Error;
 use std::alloc::AllocError;
+use std::cmp::Ordering;
 
 /// Two headers are equal where tag, length and constructed bit are.
 fn header_equality(a: Header, b: Header) -> bool
@@ -27,4 +34,29 @@ fn position_clone(position: &Position) -> Result<Position, AllocError>
     ensures { IsOkAnd result (λ p. position_place p ≡ position_place position.now) }
 {
     position.clone()
+}
+
+/// Two values of an orderly type stand as their whole encodings do in byte order, where both
+/// headers can be computed, and wherever there is an answer (X.690 11.6).
+fn encodings_are_compared<T: Orderly>(value: &T, other: &T) -> Result<Ordering, Error>
+    ensures ok { IfOk result (λ o. o
+        ≡ byte_order (element_octets (T.tag_of value.now) (T.contents value.now))
+        (element_octets (T.tag_of other.now) (T.contents other.now))) }
+    ensures complete { IsOk (T.value_size value.now) → IsOk (T.value_size other.now) → result
+        ≡ Ok (byte_order (element_octets (T.tag_of value.now) (T.contents value.now))
+        (element_octets (T.tag_of other.now) (T.contents other.now))) }
+{
+    value.der_cmp(other)
+}
+
+/// Likewise of many values: they stand as their encodings do, joined.
+fn joined_encodings_are_compared<T: Orderly>(these: &[T], those: &[T]) -> Result<Ordering, Error>
+    ensures ok { IfOk result (λ o. o ≡ byte_order (joined_elements T.tag_of T.contents these.now)
+        (joined_elements T.tag_of T.contents those.now)) }
+    ensures complete { AllByRecursion (λ v. IsOk (T.value_size v)) these.now
+        → AllByRecursion (λ v. IsOk (T.value_size v)) those.now → result
+        ≡ Ok (byte_order (joined_elements T.tag_of T.contents these.now)
+        (joined_elements T.tag_of T.contents those.now)) }
+{
+    iter_cmp(these.iter(), those.iter())
 }

@@ -8,6 +8,7 @@ ghost use Rattle.der_base.specs.Tag.{label, tag_octets, IdentifierFault};
 ghost use Rattle.der_base.specs.declared.error.ErrorKind.{ErrorKind};
 ghost use Rattle.der_core.specs.Decode.{Accepts};
 ghost use Rattle.der_core.specs.Element.{ElementAhead};
+ghost use Rattle.der_core.specs.DerOrd.{NoElementBeginsAnother, PaddingNeverDecides};
 ghost use Rattle.der_core.specs.Encode.{element_octets};
 ghost use Rattle.der_core.specs.Header.{head_of, IsHeaderAhead};
 ghost use Rattle.der_core.specs.Lawful.{IsDefinite, IsDefiniteHeader, PassesEncodings, ReadsEncodings, ReadsWholeEncodings, ReadsWritten};
@@ -47,4 +48,11 @@ fn lawful_types_read_encodings<T: Lawful>()
     ensures passed { PassesEncodings (ElementAhead T.tag_is T.takes) T.valid
         (λ v. element_octets T.tag_is (T.contents v)) }
     ensures written { ReadsWritten T.tag_is T.takes T.valid T.contents }
+{}
+
+/// No whole element begins a different one, so what is padded behind two of them for their
+/// comparison never decides (X.690 11.6).
+fn padding_never_decides()
+    ensures apart { NoElementBeginsAnother }
+    ensures padded { PaddingNeverDecides }
 {}

@@ -1,5 +1,5 @@
 //! What a hasher gets of a value.
-ghost use Rattle.std.specs.Prelude.{◌≡◌, ◌++◌, fold};
+ghost use Rattle.std.specs.Prelude.{◌≡◌, ◌++◌, fold, IsTrue};
 ghost use Rattle.std.specs.Hash as fed;
 ghost use Rattle.der_base.specs.Compare.{tag_writes};
 ghost use Rattle.der_base.specs.Length.{number, is_indefinite};
@@ -14,6 +14,15 @@ fn length_hash<H: Hasher>(length: Length, state: &mut H)
         ≡ fold H.write state.old (fed.u32 (number length) ++ fed.bool (is_indefinite length)) }
 {
     length.hash(state);
+}
+
+/// Equal lengths are hashed equally: number and flag count for both.
+fn equal_lengths_hash_equally<H: Hasher>(a: Length, b: Length, state: &mut H, other: &mut H) -> bool
+    ensures { IsTrue result → state.old ≡ other.old → state.new ≡ other.new }
+{
+    a.hash(state);
+    b.hash(other);
+    a == b
 }
 
 /// The number.
