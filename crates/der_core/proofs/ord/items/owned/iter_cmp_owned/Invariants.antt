@@ -1,6 +1,6 @@
 use Rattle.std.specs.Iterator.{IsFinite}
 use Rattle.der_core.proofs.ItemLemmas.{Matched}
-use Rattle.der_core.proofs.ord.items.iter_cmp_owned.Given as goal
+use Rattle.der_core.proofs.ord.items.owned.iter_cmp_owned.Given as goal
 
 abbrev pub invariant-loop-x : goal.invariant-loop-x
 invariant-loop-x g l =

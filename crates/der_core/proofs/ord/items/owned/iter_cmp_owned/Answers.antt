@@ -1,7 +1,7 @@
 use Rattle.std.proofs.Common.{Ok, Some, None, refl}
 use Rattle.std.specs.declared.cmp.Ordering.TheVariants.{Less, Equal, Greater}
 use Rattle.der_core.proofs.ItemLemmas.{matched_none, matched_more, told, answered_equal, answered_error}
-use Rattle.der_core.proofs.ord.items.iter_cmp_owned.Goals as goal
+use Rattle.der_core.proofs.ord.items.owned.iter_cmp_owned.Goals as goal
 
 pub loop-x-init : goal.loop-x-init
 loop-x-init g c = record {

@@ -1,0 +1,47 @@
+//! Comparisons of items, one by one.
+ghost use Rattle.std.specs.Prelude.{◌≡◌};
+ghost use Rattle.std.specs.Iterator.{IsFinite};
+ghost use Rattle.der_core.specs.Items.{ComparesItems, OfItems, ComparesJoined, SortsJoined, lists_order};
+
+use crate::ord::DerOrd;
+use der_base::Error;
+use std::cmp::Ordering;
+
+/// Compares the values that two iterators give, as [`iter_cmp`](crate::iter_cmp) does those that are
+/// referred to.
+///
+/// # Errors
+///
+/// - Those of [`DerOrd::der_cmp`], of the first two values that are refused.
+pub fn iter_cmp_owned<A, B, T>(mut a: A, mut b: B) -> Result<Ordering, Error>
+where
+    A: Iterator<Item = T>,
+    B: Iterator<Item = T>,
+    T: DerOrd + Drop,
+    requires can_a { A.can_next a }
+    requires can_b { B.can_next b }
+    requires ends_a { IsFinite (A.remaining a) }
+    requires ends_b { IsFinite (B.remaining b) }
+    ensures ran { ComparesItems A.next_gives B.next_gives a b T.order result }
+    ensures ok { T.delimits → OfItems A.next_gives B.next_gives (λ x. x) a b
+        (SortsJoined T.by_octets T.octets result) }
+    ensures complete { T.delimits → OfItems A.next_gives B.next_gives (λ x. x) a b
+        (ComparesJoined (λ x y. T.by_octets x y × T.has_header x × T.has_header y)
+        T.octets result) }
+    ensures exact { OfItems A.next_gives B.next_gives (λ x. x) a b
+        (λ xs ys. result ≡ lists_order T.order xs ys) }
+{
+    while let Some(x) = a.next() {
+        match b.next() {
+            Some(y) => match x.der_cmp(&y)? {
+                Ordering::Equal => {}
+                ordering => return Ok(ordering),
+            },
+            None => return Ok(Ordering::Greater),
+        }
+    }
+    match b.next() {
+        Some(_) => Ok(Ordering::Less),
+        None => Ok(Ordering::Equal),
+    }
+}
