@@ -1,8 +1,10 @@
-//! The walk over the elements of an input, the decoding of keys, of byte strings and of texts, and
-//! the reading of messages in indefinite lengths, whose speed `bench/` measures.
+//! The walk over the elements of an input, the decoding of keys, of byte strings and of texts, the
+//! comparison of elements, and the reading of messages in indefinite lengths, whose speed `bench/`
+//! measures.
 #![tactic(auto)]
 
 mod decode;
+mod orders;
 mod scan;
 mod strings;
 

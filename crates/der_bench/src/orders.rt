@@ -1,0 +1,42 @@
+//! Comparison of OCTET STRINGs, each with the one ahead of it, as those of a SET OF are.
+use crate::Totals;
+use der::example::BorrowedOctets;
+use der::{DerOrd, ReaderExt, SliceReader};
+use std::alloc::Global;
+use std::cmp::Ordering;
+
+/// Decodes OCTET STRINGs, one behind the other, and compares each with the one ahead, until the
+/// octets end, or an error. The sum of first octets is the number of those that are less.
+#[unsafe(no_mangle)]
+pub extern "C" fn der_bench_orders(alloc: Global, bytes: &[u8]) -> Totals {
+    let mut totals = Totals {
+        elements: 0,
+        contents: 0,
+        first_octets: 0,
+    };
+    let Ok(mut reader) = SliceReader::new(bytes) else {
+        return totals;
+    };
+    let Ok(mut ahead) = reader.decode::<BorrowedOctets<'_>>(alloc) else {
+        return totals;
+    };
+    // Each value has an octet at least.
+    for _ in 0..bytes.len() {
+        if reader.is_finished() {
+            break;
+        }
+        let Ok(value) = reader.decode::<BorrowedOctets<'_>>(alloc) else {
+            return totals;
+        };
+        let Ok(ordering) = value.der_cmp(&ahead) else {
+            return totals;
+        };
+        let contents = value.octets.as_slice().len() as u64;
+        totals.elements = totals.elements.wrapping_add(1);
+        totals.contents = totals.contents.wrapping_add(contents);
+        let less = (ordering == Ordering::Less) as u64;
+        totals.first_octets = totals.first_octets.wrapping_add(less);
+        ahead = value;
+    }
+    totals
+}
