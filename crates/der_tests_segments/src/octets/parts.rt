@@ -63,7 +63,7 @@ fn primitive_headers(rt: HostRuntime) -> Result<(), Fail> {
         (4, Err(incomplete(4, 3, 0)), (0, true)),
     ];
     for (count, answer, place) in rows {
-        let header = header_of(count);
+        let header = Header::new(Tag::OctetString, Length::new(count));
         under_ber(&rt, rt.alloc(), &SEGMENT, header, answer, place)?;
         under_der(&rt, rt.alloc(), &SEGMENT, header, answer, place)?;
     }
