@@ -2,3 +2,4 @@ pub mod WordLemmas
 pub mod TextLemmas
 pub mod HeaderLemmas
 pub mod ElementLemmas
+pub mod WholeElementLemmas

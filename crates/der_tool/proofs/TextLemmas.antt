@@ -5,14 +5,16 @@ use Rattle.der_base.specs.Length.{length_octets}
 use Rattle.der_base.specs.Scan.{NoBodyFault, passed_steps, ScanFault, BodyFault}
 use Rattle.der_base.specs.Header.{Head, LengthFault, HeaderFault}
 use Rattle.der_base.specs.Tag.{IdentifierFault}
+use Rattle.der_base.specs.Order.{byte_order}
 use Rattle.der_base.specs.Error.{kind_of, position_of, Refusal, refusal, missing_refusal}
 use Rattle.der_base.specs.Length.{number}
 use Rattle.der_base.specs.Text.{kind_text, position_text, error_text}
 use Rattle.der_base.specs.declared.error.Error.{Error}
 use Rattle.der_base.specs.declared.error.ErrorKind.{ErrorKind}
 use Rattle.der_base.specs.declared.encoding_rules.EncodingRules.{EncodingRules}
-use Rattle.der_tool.specs.Text.{header_lines, element_line}
-use Rattle.der_tool.specs.Answer.{IsHeaderRead, IsRefusedFor, TellsError, AnswersHead, IsElement, NoElement, AnswersTlv}
+use Rattle.der_base.specs.declared.encoding_rules.EncodingRules.TheVariants.{Der}
+use Rattle.der_tool.specs.Text.{header_lines, element_line, order_line}
+use Rattle.der_tool.specs.Answer.{IsHeaderRead, IsRefusedFor, TellsError, AnswersHead, IsElement, NoElement, AnswersTlv, IsWholeElement, NoWholeElement, NoPair, AnswersOrder}
 
 abbrev HasText : Option (List ℕ) → Type 0
 HasText printed = (text : List ℕ) × (printed ≡ Some text)
@@ -100,3 +102,22 @@ module _ (rules : EncodingRules) (octets : List ℕ) where
   element_refused text e refused tells =
       let printed = missing_text e refused in
       AnswersTlv.refused record { error = e; reason = printed.0; refused = refused; says = printed.1; line = tells printed.0 printed.1 }
+
+-- and so does each of octets that are not wholly an element, alone or as one of two
+whole_text : (octets : List ℕ) (e : Error) → NoWholeElement octets e → HasText (error_text e)
+whole_text octets e (NoWholeElement.no_header refused) = refused_text Der octets e refused
+whole_text octets e (NoWholeElement.past_every_length h count small ahead far) = (_, refl)
+whole_text octets e (NoWholeElement.contents_missing h count ahead near few) = missing_printed (length octets + 1) (length octets) (length octets)
+whole_text octets e (NoWholeElement.left_behind h count small ahead less) = (_, refl)
+
+pair_text : (first second : List ℕ) (e : Error) → NoPair first second e → HasText (error_text e)
+pair_text first second e (NoPair.first_refused refused) = whole_text first e refused
+pair_text first second e (NoPair.second_refused is refused) = whole_text second e refused
+
+pub order_told : (text first second : List ℕ) → IsWholeElement first × IsWholeElement second → text ≡ order_line (byte_order first second) → AnswersOrder first second 0 text
+order_told text first second are line = AnswersOrder.told record { first_whole = are.0; second_whole = are.1; line = line }
+
+pub order_refused : (text first second : List ℕ) (e : Error) → NoPair first second e → TellsError e text → AnswersOrder first second 1 text
+order_refused text first second e refused tells =
+    let printed = pair_text first second e refused in
+    AnswersOrder.refused record { error = e; reason = printed.0; refused = refused; says = printed.1; line = tells printed.0 printed.1 }

@@ -1,19 +1,21 @@
 -- What the program may say to its words.
-use Rattle.std.specs.Prelude.{◌≡◌, ℕ, ◌+◌, ◌^◌, ◌<◌, ◌≤◌, ◌⊎◌, List, length, take, drop, codes, Option, Some, Ok, string_bytes}
+use Rattle.std.specs.Prelude.{◌≡◌, ℕ, ◌+◌, ◌-◌, ◌^◌, ◌<◌, ◌≤◌, ◌⊎◌, List, length, take, drop, codes, Option, Some, Ok, string_bytes}
 use Rattle.std.specs.Io.KnownBytes.{Appends}
 use Rattle.hex.specs.Hex.{decode_of}
 use Rattle.der_base.specs.Scan.{BodyFault}
 use Rattle.der_base.specs.Header.{Head, HeaderAhead, HeaderFault}
-use Rattle.der_base.specs.Length.{number}
-use Rattle.der_base.specs.Error.{error_of_kind, Refusal, missing_refusal}
+use Rattle.der_base.specs.Length.{number, definite_length}
+use Rattle.der_base.specs.Order.{byte_order}
+use Rattle.der_base.specs.Error.{at, error_of_kind, Refusal, missing_refusal, end_refusal}
 use Rattle.der_base.specs.Text.{error_text}
 use Rattle.der_base.specs.declared.error.Error.{Error}
-use Rattle.der_base.specs.declared.error.ErrorKind.TheVariants.{Overflow}
+use Rattle.der_base.specs.declared.error.ErrorKind.TheVariants.{Overflow, TrailingData}
 use Rattle.der_base.specs.declared.encoding_rules.EncodingRules.{EncodingRules}
-use Rattle.der_tool.specs.Command.{IsCommand, hex_of, words_of}
-use Rattle.der_tool.specs.Text.{usage_line, error_line, header_lines, element_line}
+use Rattle.der_base.specs.declared.encoding_rules.EncodingRules.TheVariants.{Der}
+use Rattle.der_tool.specs.Command.{IsCommand, words_of}
+use Rattle.der_tool.specs.Text.{usage_line, error_line, header_lines, element_line, order_line}
 use Rattle.der_tool.specs.declared.command.Command.{Command}
-use Rattle.der_tool.specs.declared.command.Command.TheVariants.{Head as HeadOf, Tlv as TlvOf}
+use Rattle.der_tool.specs.declared.command.Command.TheVariants.{Head as HeadOf, Tlv as TlvOf, Order as OrderOf}
 use Rattle.der_tool.specs.declared.answer.Answer.{Answer}
 use Rattle.der_tool.specs.declared.answer.Answer.TheVariants as answer
 
@@ -31,6 +33,12 @@ IsRefusedFor rules octets e =
     ((2 ^ 32 ≤ length octets) × (e ≡ error_of_kind Overflow))
     ⊎ ((r : Refusal) × (length octets < 2 ^ 32) × HeaderFault BodyFault rules 0 octets r
     × (e ≡ r.error))
+
+-- so many octets were read, and others are left behind them, up to an end
+abbrev pub trailing_error : ℕ → ℕ → Error
+trailing_error passed end =
+    at (TrailingData (definite_length passed) (definite_length (end - passed)))
+    (definite_length passed)
 
 -- as many octets as a length can count begin with this element: a header, and as many octets more
 -- as its length says
@@ -51,6 +59,33 @@ pub data NoElement (rules : EncodingRules) (octets : List ℕ) : Error → Type 
   contents_missing : (h : Head) (count : ℕ) → HeaderAhead h rules octets count
       → count + number h.length < 2 ^ 32 → length octets < count + number h.length
       → NoElement rules octets (missing_refusal (count + number h.length) (length octets) 0).error
+
+-- as many octets as a length can count are wholly one element under DER: a header, and as many
+-- octets more as its length says (X.690 8.1.1)
+pub record IsWholeElement (octets : List ℕ) : Type 0 where
+  pub countable : length octets < 2 ^ 32
+  pub head : Head
+  pub count : ℕ
+  pub ahead : HeaderAhead head Der octets count
+  pub whole : count + number head.length ≡ length octets
+
+-- the octets are not wholly one element; the error tells why
+pub data NoWholeElement (octets : List ℕ) : Error → Type 0 where
+  no_header : {e : Error} → IsRefusedFor Der octets e → NoWholeElement octets e
+  past_every_length : (h : Head) (count : ℕ) → length octets < 2 ^ 32
+      → HeaderAhead h Der octets count → 2 ^ 32 ≤ count + number h.length
+      → NoWholeElement octets (error_of_kind Overflow)
+  contents_missing : (h : Head) (count : ℕ) → HeaderAhead h Der octets count
+      → count + number h.length < 2 ^ 32 → length octets < count + number h.length
+      → NoWholeElement octets (end_refusal (length octets)).error
+  left_behind : (h : Head) (count : ℕ) → length octets < 2 ^ 32
+      → HeaderAhead h Der octets count → count + number h.length < length octets
+      → NoWholeElement octets (trailing_error (count + number h.length) (length octets))
+
+-- one of the two is not wholly an element, the second where the first is one; the error tells why
+pub data NoPair (first second : List ℕ) (e : Error) : Type 0 where
+  first_refused : NoWholeElement first e → NoPair first second e
+  second_refused : IsWholeElement first → NoWholeElement second e → NoPair first second e
 
 -- the lines tell the header that the octets begin with
 pub record Tells (rules : EncodingRules) (octets text : List ℕ) : Type 0 where
@@ -88,16 +123,31 @@ pub data AnswersTlv (rules : EncodingRules) (octets : List ℕ) : ℕ → List �
   told : {text : List ℕ} → TellsElement rules octets text → AnswersTlv rules octets 0 text
   refused : {text : List ℕ} → Refuses (NoElement rules octets) text → AnswersTlv rules octets 1 text
 
--- what a command says to octets: a status and a text
-abbrev pub AnswersTo : Command → List ℕ → ℕ → List ℕ → Type 0
-AnswersTo (HeadOf rules hex) = AnswersHead rules
-AnswersTo (TlvOf rules hex) = AnswersTlv rules
+-- the line tells the byte order of two whole elements (X.690 11.6)
+pub record TellsOrder (first second text : List ℕ) : Type 0 where
+  pub first_whole : IsWholeElement first
+  pub second_whole : IsWholeElement second
+  pub line : text ≡ order_line (byte_order first second)
+
+-- what `order` says to octets of two: a status and a text
+pub data AnswersOrder (first second : List ℕ) : ℕ → List ℕ → Type 0 where
+  told : {text : List ℕ} → TellsOrder first second text → AnswersOrder first second 0 text
+  refused : {text : List ℕ} → Refuses (NoPair first second) text → AnswersOrder first second 1 text
+
+-- this is answered to the octets that a text spells
+pub record ToSpelled (hex : List ℕ) (AnswersTo : List ℕ → Type 0) : Type 0 where
+  pub octets : List ℕ
+  pub spelled : decode_of hex ≡ Ok octets
+  pub answered : AnswersTo octets
 
 -- what a command is answered, memory aside
-pub record Fulfils (command : Command) (status : ℕ) (text : List ℕ) : Type 0 where
-  pub octets : List ℕ
-  pub spelled : decode_of (hex_of command) ≡ Ok octets
-  pub answered : AnswersTo command octets status text
+abbrev pub Fulfils : Command → ℕ → List ℕ → Type 0
+Fulfils (HeadOf rules hex) status text =
+    ToSpelled hex.now (λ octets. AnswersHead rules octets status text)
+Fulfils (TlvOf rules hex) status text =
+    ToSpelled hex.now (λ octets. AnswersTlv rules octets status text)
+Fulfils (OrderOf first second) status text =
+    ToSpelled first.now (λ one. ToSpelled second.now (λ other. AnswersOrder one other status text))
 
 -- what the program may say to its words
 pub data Answers (words : List (List ℕ)) : ℕ → List ℕ → Type 0 where

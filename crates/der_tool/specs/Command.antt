@@ -5,7 +5,7 @@ use Rattle.hex.specs.Hex.{is_hex_digit}
 use Rattle.der_base.specs.declared.encoding_rules.EncodingRules.{EncodingRules}
 use Rattle.der_base.specs.declared.encoding_rules.EncodingRules.TheVariants.{Ber, Der}
 use Rattle.der_tool.specs.declared.command.Command.{Command}
-use Rattle.der_tool.specs.declared.command.Command.TheVariants.{Head, Tlv}
+use Rattle.der_tool.specs.declared.command.Command.TheVariants.{Head, Tlv, Order}
 
 -- the octets of each word
 abbrev pub texts : {A : Type 0} → List (String A) → List (List ℕ)
@@ -15,7 +15,7 @@ texts words = map string_bytes words
 abbrev pub IsHex : List ℕ → Type 0
 IsHex text = (length text % 2 ≡ 0) × AllPass is_hex_digit text
 
--- what a command is called
+-- what a command that reads one text is called
 abbrev pub IsName : List ℕ → Type 0
 IsName name = (name ≡ codes "head") ⊎ (name ≡ codes "tlv")
 
@@ -24,25 +24,24 @@ abbrev pub words_under : EncodingRules → List ℕ → List ℕ → List (List 
 words_under Der name hex = name ∷ hex ∷ []
 words_under Ber name hex = name ∷ codes "--ber" ∷ hex ∷ []
 
-abbrev pub name_of : Command → List ℕ
-name_of (Head rules hex) = codes "head"
-name_of (Tlv rules hex) = codes "tlv"
-
--- the rules that a command reads by
-abbrev pub rules_of : Command → EncodingRules
-rules_of (Head rules hex) = rules
-rules_of (Tlv rules hex) = rules
-
--- the text that spells a command's octets
-abbrev pub hex_of : Command → List ℕ
-hex_of (Head rules hex) = hex.now
-hex_of (Tlv rules hex) = hex.now
+-- the command that compares what two texts spell
+abbrev pub order_words : List ℕ → List ℕ → List (List ℕ)
+order_words first second = codes "order" ∷ first ∷ second ∷ []
 
 abbrev pub words_of : Command → List (List ℕ)
-words_of c = words_under (rules_of c) (name_of c) (hex_of c)
+words_of (Head rules hex) = words_under rules (codes "head") hex.now
+words_of (Tlv rules hex) = words_under rules (codes "tlv") hex.now
+words_of (Order first second) = order_words first.now second.now
+
+-- each text of a command spells octets
+abbrev pub SpellsOctets : Command → Type 0
+SpellsOctets (Head rules hex) = IsHex hex.now
+SpellsOctets (Tlv rules hex) = IsHex hex.now
+SpellsOctets (Order first second) = IsHex first.now × IsHex second.now
 
 -- the words are a command
 abbrev pub IsCommand : List (List ℕ) → Type 0
 IsCommand words =
-    (rules : EncodingRules) × (name hex : List ℕ) × IsName name × IsHex hex
-    × (words ≡ words_under rules name hex)
+    ((rules : EncodingRules) × (name hex : List ℕ) × IsName name × IsHex hex
+    × (words ≡ words_under rules name hex))
+    ⊎ ((first second : List ℕ) × IsHex first × IsHex second × (words ≡ order_words first second))

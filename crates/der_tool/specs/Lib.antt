@@ -2,3 +2,4 @@ pub mod Command
 pub mod Text
 pub mod Answer
 pub mod Arguments
+pub mod Element

@@ -1,5 +1,7 @@
 -- What the program writes, in the octets of the text.
 use Rattle.std.specs.Prelude.{ℕ, Bool, List, [], ◌∷◌, ◌++◌, codes, if◌then◌else◌}
+use Rattle.std.specs.declared.cmp.Ordering.{Ordering}
+use Rattle.std.specs.declared.cmp.Ordering.TheVariants.{Less, Equal, Greater}
 use Rattle.hex.specs.Hex.{encode_lower}
 use Rattle.der_base.specs.Header.{Head}
 use Rattle.der_base.specs.Length.{is_indefinite}
@@ -26,6 +28,12 @@ octets_text (o ∷ os) = encode_lower (o ∷ os)
 -- an element in lower case hexadecimal
 abbrev pub element_line : List ℕ → List ℕ
 element_line element = encode_lower element ++ codes "\n"
+
+-- how one of two stands to the other
+abbrev pub order_line : Ordering → List ℕ
+order_line Less = codes "less\n"
+order_line Equal = codes "equal\n"
+order_line Greater = codes "greater\n"
 
 -- the four lines of a header and the octets behind it
 abbrev pub header_lines : Head → List ℕ → List ℕ

@@ -8,7 +8,7 @@ use std::alloc::{AllocError, Allocator};
 /// What the program says, and how it ends.
 #[derive(Drop)]
 pub enum Answer<A: Allocator> {
-    /// What the octets begin with, as these lines.
+    /// What the octets begin with, or how they stand to others, as these lines.
     Told(String<A>),
     /// The octets are refused, for the reason that this line gives.
     Refused(String<A>),

@@ -11,31 +11,34 @@ pub enum Command<'a> {
     Head { rules: EncodingRules, hex: &'a str },
     /// `tlv [--ber] HEX`: the whole element at the front of these octets.
     Tlv { rules: EncodingRules, hex: &'a str },
+    /// `order HEX HEX`: how two whole elements stand to each other.
+    Order { first: &'a str, second: &'a str },
 }
 
 impl<'a> Command<'a> {
-    ghost use Rattle.der_tool.specs.Command.{words_of, words_under, hex_of};
+    ghost use Rattle.der_tool.specs.Command.{words_of, words_under, order_words, SpellsOctets};
 
     /// The command, if the words are one.
     pub fn parse(words: &'a [String]) -> Option<Self>
         ensures found { IsSome result ↔ IsCommand (texts words.now) }
         ensures words { IfSome result (λ c. texts words.now ≡ words_of c) }
-        ensures digits { IfSome result (λ c. IsHex (hex_of c)) }
+        ensures digits { IfSome result SpellsOctets }
     {
         match words {
             [name, hex] => Command::named(name, EncodingRules::Der, hex),
             [name, option, hex] if option.as_str() == "--ber" => {
                 Command::named(name, EncodingRules::Ber, hex)
             }
+            [name, first, second] if name.as_str() == "order" => Command::ordering(first, second),
             _ => None,
         }
     }
 
-    /// The command of this name, if there is one and the text spells octets.
+    /// The command of this name that reads one text, if there is one and the text spells octets.
     fn named(name: &str, rules: EncodingRules, hex: &'a str) -> Option<Self>
         ensures found { IsSome result ↔ (IsName name.now × IsHex hex.now) }
         ensures words { IfSome result (λ c. words_under rules name.now hex.now ≡ words_of c) }
-        ensures digits { IfSome result (λ c. IsHex (hex_of c)) }
+        ensures digits { IfSome result SpellsOctets }
     {
         match name {
             "head" if is_hex(hex) => Some(Command::Head { rules, hex }),
@@ -44,12 +47,16 @@ impl<'a> Command<'a> {
         }
     }
 
-    /// The text that spells its octets.
-    pub fn hex(self) -> &'a str
-        ensures { result.now ≡ hex_of self.entry }
+    /// The command `order` of these texts, if both spell octets.
+    fn ordering(first: &'a str, second: &'a str) -> Option<Self>
+        ensures found { IsSome result ↔ (IsHex first.now × IsHex second.now) }
+        ensures words { IfSome result (λ c. order_words first.now second.now ≡ words_of c) }
+        ensures digits { IfSome result SpellsOctets }
     {
-        match self {
-            Command::Head { hex, .. } | Command::Tlv { hex, .. } => hex,
+        if is_hex(first) && is_hex(second) {
+            Some(Command::Order { first, second })
+        } else {
+            None
         }
     }
 }

@@ -1,11 +1,13 @@
 //! Tells the header, or the whole element, at the front of DER or BER octets that are given as
-//! hexadecimal text.
+//! hexadecimal text, or the order of two elements.
 #![tactic(auto)]
 
 mod answer;
 mod arguments;
 mod command;
+mod element;
 mod head;
+mod order;
 mod output;
 mod program;
 mod tlv;

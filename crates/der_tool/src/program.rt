@@ -2,12 +2,13 @@
 ghost use Rattle.std.specs.Prelude.{◌≡◌, ◌⊎◌, true, Ok, IfOk, OnOk, IsOk};
 ghost use Rattle.std.specs.Io.KnownBytes.{Appends};
 ghost use Rattle.hex.specs.Hex.{decode_of};
-ghost use Rattle.der_tool.specs.Command.{texts, hex_of, IsHex};
+ghost use Rattle.der_tool.specs.Command.{texts, IsHex, SpellsOctets};
 ghost use Rattle.der_tool.specs.Answer.{Answers, Fulfils, WritesAnswer, status_of, text_of};
 
 use crate::answer::Answer;
 use crate::command::Command;
 use crate::head::answer_head;
+use crate::order::answer_order;
 use crate::output::Output;
 use crate::tlv::answer_tlv;
 use hex::FromHexError;
@@ -62,16 +63,20 @@ fn answer<A: Allocator + Copy>(alloc: A, words: &[String]) -> Answer<A>
     }
 }
 
-/// What the command is answered. Its text is an even number of hexadecimal digits, so that only
-/// want of memory keeps the octets that it spells from being read.
+/// What the command is answered. Each of its texts is an even number of hexadecimal digits, so that
+/// only want of memory keeps the octets that it spells from being read.
 fn fulfil<A: Allocator + Copy>(alloc: A, command: Command<'_>) -> Result<Answer<A>, AllocError>
-    requires { IsHex (hex_of command) }
+    requires { SpellsOctets command }
     ensures { IfOk result (λ a. Fulfils command.entry (status_of a) (text_of a)) }
 {
-    let octets = octets_of(alloc, command.hex())?;
     match command {
-        Command::Head { rules, .. } => answer_head(alloc, rules, &octets),
-        Command::Tlv { rules, .. } => answer_tlv(alloc, rules, &octets),
+        Command::Head { rules, hex } => answer_head(alloc, rules, &octets_of(alloc, hex)?),
+        Command::Tlv { rules, hex } => answer_tlv(alloc, rules, &octets_of(alloc, hex)?),
+        Command::Order { first, second } => {
+            let first = octets_of(alloc, first)?;
+            let second = octets_of(alloc, second)?;
+            answer_order(alloc, &first, &second)
+        }
     }
 }
 

@@ -4,6 +4,8 @@ mod ber;
 mod ber_cases;
 mod cases;
 mod memory;
+mod order;
+mod order_cases;
 mod tlv_cases;
 mod writers;
 
@@ -146,7 +148,9 @@ fn tells_the_usage_of_other_words(rt: HostRuntime) -> Result<(), Fail> {
         "tlv 0",
         "tlv 3000 3000",
         "Tlv 3000",
-        "order 3000 3000",
+        "order",
+        "Order 3000 3000",
+        "orders 3000 3000",
     ];
     for line in lines {
         replay(&rt, &[(line, 2, USAGE)])?;
@@ -161,5 +165,6 @@ fn tells_the_usage_of_other_words(rt: HostRuntime) -> Result<(), Fail> {
 fn answers_a_sample(rt: HostRuntime) -> Result<(), Fail> {
     replay(&rt, &cases::CASES)?;
     replay(&rt, &tlv_cases::TLV_CASES)?;
-    replay(&rt, &ber_cases::BER_CASES)
+    replay(&rt, &ber_cases::BER_CASES)?;
+    replay(&rt, &order_cases::ORDER_CASES)
 }

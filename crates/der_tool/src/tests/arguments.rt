@@ -38,10 +38,11 @@ const REFUSED: &str = "error: out of memory\n";
 #[test]
 fn takes_arguments_as_words(rt: HostRuntime) {
     let lines = "tag: SEQUENCE\nconstructed: yes\nlength: 0\nrest: -\n";
-    let rows: [(&[&[u8]], u8, &str); 9] = [
+    let rows: [(&[&[u8]], u8, &str); 10] = [
         (&[b"der_tool", b"head", b"3000"], 0, lines),
         (&[b"head", b"head", b"3000"], 0, lines),
         (&[b"der_tool", b"tlv", b"--ber", b"240109"], 0, "240109\n"),
+        (&[b"der_tool", b"order", b"3000", b"1600"], 0, "greater\n"),
         (&[b"der_tool", b"head", b"3000", b"3000"], 2, USAGE),
         (&[b"der_tool", b"head", b"3000", b""], 2, USAGE),
         (&[b"der_tool", b"head"], 2, USAGE),

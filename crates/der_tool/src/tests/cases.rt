@@ -25,7 +25,7 @@ pub const CASES: [(&str, u8, &str); 100] = [
         "error: unknown/unsupported ASN.1 DER tag: 0x3f at DER byte 1\n",
     ),
     ("tlv 0184FFFFFFFF", 1, "error: integer overflow\n"),
-    ("order 3000 1600", 2, USAGE),
+    ("order 3000 1600", 0, "greater\n"),
     ("head 0", 2, USAGE),
     (
         "head 3000",

@@ -67,11 +67,22 @@ fn refuses_each_growth_by_ber_in_turn(rt: HostRuntime) -> Result<(), Fail> {
     Ok(())
 }
 
+#[test]
+fn refuses_each_growth_for_two_elements_in_turn(rt: HostRuntime) -> Result<(), Fail> {
+    let told = refuse_in_turn(&rt, "order 02012A 3000", 0, "less\n")?;
+    assert!(rt; 0 < told && told < 256, "{told}");
+    let line = "error: ASN.1 DER message is incomplete: expected 3, actual 2 at DER byte 2\n";
+    let refused = refuse_in_turn(&rt, "order 3000 0405", 1, line)?;
+    assert!(rt; 0 < refused && refused < 256, "{refused}");
+    Ok(())
+}
+
 // The words are looked at without memory.
 #[test]
 fn tells_the_usage_without_memory(rt: HostRuntime) -> Result<(), Fail> {
     assert_eq!(rt; refuse_in_turn(&rt, "head 0", 2, USAGE)?, 0);
     assert_eq!(rt; refuse_in_turn(&rt, "tlv 0", 2, USAGE)?, 0);
     assert_eq!(rt; refuse_in_turn(&rt, "tlv --ber 0", 2, USAGE)?, 0);
+    assert_eq!(rt; refuse_in_turn(&rt, "order 3000 0", 2, USAGE)?, 0);
     Ok(())
 }

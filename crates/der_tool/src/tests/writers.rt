@@ -9,9 +9,10 @@ use std::test::Fail;
 
 const LINES: &str = "tag: INTEGER\nconstructed: no\nlength: 1\nrest: 2a00\n";
 
-const ROWS: [(&str, u8, &str); 3] = [
+const ROWS: [(&str, u8, &str); 4] = [
     ("head 02012A00", 0, LINES),
     ("tlv 02012A00", 0, "02012a\n"),
+    ("order 3000 1600", 0, "greater\n"),
     ("head 0", 2, USAGE),
 ];
 
@@ -80,7 +81,7 @@ fn a_failed_write_is_status_1(rt: HostRuntime) -> Result<(), Fail> {
 
 #[test]
 fn a_writer_that_takes_nothing_is_status_1(rt: HostRuntime) -> Result<(), Fail> {
-    for line in ["head 02012A00", "tlv 02012A00"] {
+    for line in ["head 02012A00", "tlv 02012A00", "order 3000 1600"] {
         let words = words_of(rt.alloc(), line)?;
         for takes in [false, true] {
             let mut out = Broken { takes };
