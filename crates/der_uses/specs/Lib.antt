@@ -1,3 +1,4 @@
 pub mod Lent
 pub mod AlgorithmIdentifier
 pub mod KeyInfo
+pub mod SetOf

@@ -11,4 +11,5 @@ pub mod message;
 pub mod nested;
 pub mod reader;
 pub mod sequence;
+pub mod set_of;
 pub mod writer;

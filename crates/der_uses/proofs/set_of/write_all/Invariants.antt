@@ -1,0 +1,6 @@
+use Rattle.std.proofs.Common.{◌≡◌, ◌++◌, take}
+use Rattle.der_uses.specs.SetOf.{octets_of, joined_strings}
+use Rattle.der_uses.proofs.set_of.write_all.Given as goal
+
+abbrev pub invariant-loop-element : goal.invariant-loop-element
+invariant-loop-element l = l.out.items ≡ l.fn.out.items ++ joined_strings (octets_of (take l.element-index l.elements))
