@@ -1,1 +1,2 @@
 pub mod SetOfLemmas
+pub mod SetReadLemmas

@@ -1,9 +1,15 @@
 -- A SET OF OCTET STRING, whose elements stand in the order of their encodings (X.690 8.12, 11.6).
-use Rattle.std.specs.Prelude.{ℕ, List, [], ◌∷◌, map}
+use Rattle.std.specs.Prelude.{◌≡◌, ℕ, ◌+◌, ◌≤◌, false, List, [], ◌∷◌, ◌++◌, length, map, Result, Ok, Err, OnOk}
 use Rattle.std.specs.List.{flat_map}
+use Rattle.der_base.specs.Error.{at}
+use Rattle.der_base.specs.Length.{definite_length}
 use Rattle.der_base.specs.Order.{IsBefore}
+use Rattle.der_base.specs.declared.encoding_rules.EncodingRules.TheVariants.{Der}
+use Rattle.der_base.specs.declared.error.Error.{Error}
+use Rattle.der_base.specs.declared.error.ErrorKind.TheVariants.{SetOrdering}
 use Rattle.der_base.specs.declared.tag.Tag.TheVariants.{OctetString, Set}
 use Rattle.der_core.specs.Encode.{element_octets}
+use Rattle.der_core.specs.ReaderState.{ReaderState, Reads, rest}
 use Rattle.der.specs.BorrowedOctets.{borrowed_octets}
 use Rattle.der.specs.declared.example.borrowed_octets.BorrowedOctets.{BorrowedOctets}
 
@@ -32,3 +38,35 @@ abbrev pub Ascend : List (List ℕ) → Type 0
 Ascend [] = Unit {0}
 Ascend (x ∷ []) = Unit {0}
 Ascend (x ∷ y ∷ more) = MayFollow x y × Ascend (y ∷ more)
+
+-- what is answered to OCTET STRINGs whose encodings begin at a position: this, where they ascend;
+-- else the position of the first that may not stand behind the one ahead of it
+pub data OrderAnswer {A : Type 0} (begins : ℕ) (strings : List (List ℕ)) (answer : A)
+    (result : Result A Error) : Type 0 where
+  ascending : Ascend strings → result ≡ Ok answer → OrderAnswer begins strings answer result
+  falling : (front behind : List (List ℕ)) (x y : List ℕ) → strings ≡ front ++ x ∷ y ∷ behind
+      → Ascend (front ++ x ∷ []) → IsBefore (string_octets y) (string_octets x)
+      → result ≡ Err (at SetOrdering
+      (definite_length (begins + length (joined_strings (front ++ x ∷ [])))))
+      → OrderAnswer begins strings answer result
+
+-- a reader of the Distinguished Encoding Rules that has not failed, with so many levels of nesting
+-- left
+pub record IsReady (levels : ℕ) (s : ReaderState) : Type 0 where
+  pub der : s.rules ≡ Der
+  pub working : s.failed ≡ false
+  pub shallow : s.depth + levels ≤ 64
+
+-- from one state to another the encodings of OCTET STRINGs were read, and these ascend
+pub record ReadsAscending (s t : ReaderState) : Type 0 where
+  pub strings : List (List ℕ)
+  pub ascend : Ascend strings
+  pub reads : Reads s t (joined_strings strings)
+
+-- a reader passes the encodings of OCTET STRINGs up to its end: only such that ascend are passed,
+-- and those that stand there are answered by their order
+pub record PassesStrings (s : ReaderState) (result : Result (Unit {0}) Error) (t : ReaderState)
+    : Type 0 where
+  pub ok : OnOk result (ReadsAscending s t × (t.end ≡ t.position))
+  pub exact : (strings : List (List ℕ)) → rest s ≡ joined_strings strings
+      → OrderAnswer s.position strings tt result

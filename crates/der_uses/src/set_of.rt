@@ -1,14 +1,23 @@
 //! A SET OF OCTET STRING: its elements stand in the order of their encodings (X.690 11.6).
-ghost use Rattle.std.specs.Prelude.{◌≡◌, ◌++◌, ◌^◌, ◌<◌, ◌≤◌, ◌⊎◌, length, Err, IfOk, IsOk, IsErrAnd, OnOk, IsPermutation};
+ghost use Rattle.std.specs.Prelude.{◌≡◌, ◌+◌, ◌++◌, ◌^◌, ◌<◌, ◌≤◌, ◌⊎◌, ℕ, List, length, Err, IfOk, IsOk, IsErrAnd, OnOk, IsPermutation};
 ghost use Rattle.der_base.specs.Arithmetic.{checked_length};
-ghost use Rattle.der_base.specs.Error.{error_of_kind};
-ghost use Rattle.der_base.specs.Order.{byte_order};
-ghost use Rattle.der_base.specs.declared.error.ErrorKind.TheVariants.{Overflow, OutOfMemory};
+ghost use Rattle.der_base.specs.Error.{at, error_of_kind};
+ghost use Rattle.der_base.specs.Header.{header_octets};
+ghost use Rattle.der_base.specs.Length.{number};
+ghost use Rattle.der_base.specs.Order.{IsBefore, byte_order};
+ghost use Rattle.der_base.specs.declared.error.ErrorKind.TheVariants.{Overflow, OutOfMemory, SetOrdering};
+ghost use Rattle.der_base.specs.declared.tag.Tag.TheVariants.{Set};
+ghost use Rattle.der_core.specs.Outcome.{map_ok};
+ghost use Rattle.der_core.specs.ReaderState.{Reads, Same, reader_position, rest};
+ghost use Rattle.der_core.specs.SliceReader.{slice_state};
 ghost use Rattle.der.specs.BorrowedOctets.{borrowed_octets};
-ghost use Rattle.der_uses.specs.SetOf.{string_octets, octets_of, joined_strings, set_octets, Ascend};
+ghost use Rattle.der_uses.specs.SetOf.{string_octets, octets_of, joined_strings, set_octets, Ascend, IsReady, MayFollow, OrderAnswer, PassesStrings, ReadsAscending};
 
 use der::example::BorrowedOctets;
-use der::{DerOrd, Encode, Error, Header, Length, Tag};
+use der::{
+    DerOrd, Encode, Error, ErrorKind, Header, Length, Reader, ReaderExt, SliceReader, Tag,
+    decode_header,
+};
 use std::alloc::Global;
 use std::cmp::Ordering;
 
@@ -80,4 +89,122 @@ fn write_all(elements: &[BorrowedOctets<'_>], out: &mut Vec<u8>) -> Result<(), E
         element.encode_to_vec(out)?;
     }
     Ok(())
+}
+
+/// The contents of the SET OF OCTET STRING whose encoding the octets are, all of them. Takes no
+/// memory.
+///
+/// # Errors
+///
+/// - `Overflow` without a position, where there are more than 4294967295 octets.
+/// - Those of the header, as by [`Header::decode`](der::Decode::decode), and `TagUnexpected` without
+///   a position, where it is not that of a SET.
+/// - `Overflow` and `Incomplete` of contents that are not all there, as by
+///   [`Reader::enter_nested`].
+/// - Those of an element, as by [`ReaderExt::decode`].
+/// - `SetOrdering` at the position where the first element begins that comes before the one ahead
+///   of it (X.690 11.6); equal ones may follow each other.
+/// - `TrailingData` at the position behind the SET, where octets are left.
+pub fn set_of_contents(alloc: Global, octets: &[u8]) -> Result<&[u8], Error>
+    ensures ok { IfOk result (λ r. (strings : List (List ℕ)) × Ascend strings
+        × (octets.now ≡ set_octets strings) × (r.now ≡ joined_strings strings)) }
+    ensures exact { (strings : List (List ℕ)) → length octets.now < 2 ^ 32
+        → octets.now ≡ set_octets strings
+        → OrderAnswer (length (header_octets Set (length (joined_strings strings)))) strings
+        (joined_strings strings) (map_ok (λ r. r.now) result) }
+{
+    let mut reader = SliceReader::new(octets)?;
+    let len = set_header(&mut reader)?;
+    let contents = reader.remaining()?;
+    pass_contents(alloc, &mut reader, len)?;
+    reader.finish()?;
+    Ok(contents)
+}
+
+// The length of the contents of the SET ahead; its header is passed.
+fn set_header(reader: &mut SliceReader<'_>) -> Result<Length, Error>
+    requires { IsReady 0 (slice_state reader.old) }
+    ensures same { Same (slice_state reader.old) (slice_state reader.new) }
+    ensures ok { IfOk result (λ l. Reads (slice_state reader.old) (slice_state reader.new)
+        (header_octets Set (number l))) }
+    ensures complete { (n : ℕ) (more : List ℕ) → n < 2 ^ 32
+        → rest (slice_state reader.old) ≡ header_octets Set n ++ more → IsOk result }
+{
+    let header = decode_header(reader)?;
+    header.tag().assert_eq(Tag::Set)?;
+    Ok(header.length())
+}
+
+// Passes contents of so many octets, which are elements of which none comes before the one ahead of
+// it.
+fn pass_contents(alloc: Global, reader: &mut SliceReader<'_>, len: Length) -> Result<(), Error>
+    requires { IsReady 2 (slice_state reader.old) }
+    ensures same { Same (slice_state reader.old) (slice_state reader.new) }
+    ensures ok { OnOk result (ReadsAscending (slice_state reader.old) (slice_state reader.new)
+        × ((slice_state reader.new).position
+        ≡ (slice_state reader.old).position + number len)) }
+    ensures exact { (strings : List (List ℕ)) (more : List ℕ)
+        → rest (slice_state reader.old) ≡ joined_strings strings ++ more
+        → number len ≡ length (joined_strings strings)
+        → OrderAnswer (slice_state reader.old).position strings tt result }
+{
+    reader.read_nested(len, |reader: &mut SliceReader<'_>| -> Result<(), Error> {
+        pass_elements(alloc, reader)
+    })
+}
+
+// Passes the elements up to the end, of which none may come before the one ahead of it.
+fn pass_elements(alloc: Global, reader: &mut SliceReader<'_>) -> Result<(), Error>
+    requires { IsReady 1 (slice_state reader.old) }
+    ensures same { Same (slice_state reader.old) (slice_state reader.new) }
+    ensures passes { PassesStrings (slice_state reader.old) result (slice_state reader.new) }
+{
+    if reader.is_finished() {
+        return Ok(());
+    }
+    let mut ahead = next_element(alloc, reader)?;
+    while !reader.is_finished() {
+        ahead = next_behind(alloc, reader, &ahead)?;
+    }
+    Ok(())
+}
+
+// The next element, which may not come before the one ahead of it.
+fn next_behind<'a>(
+    alloc: Global,
+    reader: &mut SliceReader<'a>,
+    ahead: &BorrowedOctets<'a>,
+) -> Result<BorrowedOctets<'a>, Error>
+    requires { IsReady 1 (slice_state reader.old) }
+    ensures same { Same (slice_state reader.old) (slice_state reader.new) }
+    ensures ok { IfOk result (λ v. Reads (slice_state reader.old) (slice_state reader.new)
+        (string_octets (borrowed_octets v))
+        × MayFollow (borrowed_octets ahead.now) (borrowed_octets v)) }
+    ensures exact { (x more : List ℕ)
+        → rest (slice_state reader.old) ≡ string_octets x ++ more
+        → IsOk result
+        ⊎ (IsBefore (string_octets x) (string_octets (borrowed_octets ahead.now))
+        × (result ≡ Err (at SetOrdering (reader_position (slice_state reader.old))))) }
+{
+    let begins = reader.position();
+    let element = next_element(alloc, reader)?;
+    match encoding_order(&element, ahead) {
+        Ordering::Less => Err(ErrorKind::SetOrdering.at(begins)),
+        _ => Ok(element),
+    }
+}
+
+// The next element.
+fn next_element<'a>(
+    alloc: Global,
+    reader: &mut SliceReader<'a>,
+) -> Result<BorrowedOctets<'a>, Error>
+    requires { IsReady 1 (slice_state reader.old) }
+    ensures same { Same (slice_state reader.old) (slice_state reader.new) }
+    ensures ok { IfOk result (λ v. Reads (slice_state reader.old) (slice_state reader.new)
+        (string_octets (borrowed_octets v))) }
+    ensures complete { (x more : List ℕ)
+        → rest (slice_state reader.old) ≡ string_octets x ++ more → IsOk result }
+{
+    reader.decode(alloc)
 }

@@ -1,0 +1,313 @@
+-- SETs OF OCTET STRINGs that are read.
+use Rattle.std.proofs.Common.{◌≡◌, ◌≢◌, ℕ, ◌+◌, ◌-◌, ◌^◌, ◌<◌, ◌≤◌, Bool, true, false, Result, Ok, Err, IfOk, OnOk, IsOk, IsTrue, List, [], ◌∷◌, ◌++◌, length, Bor, take, drop, take_at, refl, sym, ap, subst, ◌∙◌, append-nil, append_assoc, length-append, ◌⊎◌, ⊎_elim, arith}
+use Rattle.der_base.specs.Error.{at}
+use Rattle.der_base.specs.Length.{number, definite_length}
+use Rattle.der_base.specs.Tag.{label}
+use Rattle.der_base.specs.Order.{IsBefore}
+use Rattle.der_base.specs.declared.error.Error.{Error}
+use Rattle.der_base.specs.declared.error.ErrorKind.TheVariants.{SetOrdering}
+use Rattle.der_base.specs.declared.tag.Tag.TheVariants.{OctetString, Set}
+use Rattle.std.proofs.lemmas.List.{take-append-drop}
+use Rattle.std.proofs.lemmas.List.Concat.{flat_map-append}
+use Rattle.der_base.proofs.DelimitedLemmas.{element_front}
+use Rattle.der_base.proofs.HeaderLemmas.{header_front}
+use Rattle.der_base.specs.Header.{header_octets}
+use Rattle.der_base.specs.declared.encoding_rules.EncodingRules.TheVariants.{Der}
+use Rattle.der_core.specs.Decode.{Passes, ReadsOrLacks, ReaderDecodes, had_failed, decodes, refuses}
+use Rattle.der_core.specs.Element.{ElementAhead, ElementRead, no_header, other_tag, in_contents}
+use Rattle.der_core.specs.Header.{head_of, IsHeaderAhead}
+use Rattle.der_core.specs.Nested.{CanNest, Closes, handed_on, left_over, whole, NestedAnswers, not_entered, entered}
+use Rattle.der_core.specs.Outcome.{Gives, IsBinding}
+use Rattle.der_core.specs.declared.header.Header.{Header}
+use Rattle.der_core.proofs.DecodeLemmas.{remaining_ok, rest-beginning}
+use Rattle.der_core.proofs.WholeLemmas.{finish_ok, finishes}
+use Rattle.der_core.proofs.DerLemmas.{headers_are_encodings}
+use Rattle.der_core.specs.Reader.{read_slice_outcome, remaining_answer, finish_answer}
+use Rattle.der_core.specs.ReaderState.{ReaderState, rest, reader_position, IsSound, Reads, initial_state, nested_state, resumed_state}
+use Rattle.der_core.specs.SliceReader.{slice_state}
+use Rattle.der_core.specs.declared.reader.slice.SliceReader.{SliceReader}
+use Rattle.der_core.proofs.ContentsLemmas.{Behind, unmarked, behind_mark, value_ran, rest_inside, closes_ok}
+use Rattle.der_core.proofs.ElementLemmas.{entered_part}
+use Rattle.der_core.proofs.LawfulLemmas.{elements_are_encodings, passed_encodings}
+use Rattle.der_core.proofs.StateLemmas.{length-rest, position_on, reads_none, reads_on, reads_front, rules_on, failed_on}
+use Rattle.der.specs.BorrowedOctets.{borrowed_octets, borrowed_lawful}
+use Rattle.der.specs.Octets.{IsCounted, TakesOctets, LentAnswers}
+use Rattle.der.specs.declared.example.borrowed_octets.BorrowedOctets.{BorrowedOctets}
+use Rattle.der_uses.specs.SetOf.{string_octets, joined_strings, MayFollow, set_octets, Ascend, IsReady, PassesStrings, ReadsAscending, OrderAnswer, ascending, falling}
+
+-- the facts of every reader
+pub slice_sound : (r : SliceReader) → IsSound (slice_state r)
+slice_sound r = record { ordered = r.ordered; in_input = r.in_input; addressable = r.addressable; shallow = r.shallow; marked = λ failed. refl }
+
+-- these octets, lent at the place of others
+abbrev pub lent_string : Bor (List ℕ) → (octets : List ℕ) → length octets < 2 ^ 32 → BorrowedOctets
+lent_string place octets counted = record { octets = record { bytes = record place { now = octets }; counted = counted } }
+
+lent_working : (n : ℕ) (s t : ReaderState) (octets : List ℕ) → Gives (read_slice_outcome n) s (Ok octets) t → t.failed ≡ false
+lent_working n s t octets h = grind arith
+
+closed_working : {marked : Bool} (q t : ReaderState) (end depth : ℕ) → Behind marked (resumed_state q end depth) t → q.failed ≡ false → t.failed ≡ false
+closed_working q t end depth (unmarked m e) w = ap (λ (x : ReaderState). x.failed) e ∙ w
+closed_working q t end depth (behind_mark m e) w = ap (λ (x : ReaderState). x.failed) e.leaves ∙ w
+
+element_working : {converts : Error → Error → Type 0} {s t : ReaderState} {v : BorrowedOctets} → ElementRead OctetString converts (LentAnswers borrowed_octets) s (Ok v) t → t.failed ≡ false
+element_working (no_header e f d told r) = absurd (cc)
+element_working (other_tag h f passed tagged told r) = absurd (cc)
+element_working {t = t} {v = v} (in_contents h u passed tagged answers) =
+    let ran = value_ran answers in
+    closed_working ran.last t u.end u.depth ran.behind (lent_working _ ran.part ran.last (borrowed_octets v) ran.ran)
+
+-- a reader that has answered an OCTET STRING has not failed
+pub decoded_working : {converts : Error → Error → Type 0} {s t : ReaderState} {v : BorrowedOctets} → ReaderDecodes true (ElementRead OctetString converts (LentAnswers borrowed_octets)) converts s (Ok v) t → t.failed ≡ false
+decoded_working (had_failed f refused leaves) = absurd refused
+decoded_working (decodes w ok answers) = element_working (answers refl)
+decoded_working (refuses u w refused answers leaves) = absurd (let no : false ≡ true = refused in cc)
+
+-- and has read its encoding
+pub string_read : {converts : Error → Error → Type 0} {s t : ReaderState} (result : Result BorrowedOctets Error) → s.rules ≡ Der
+    → IfOk result (λ v. t.failed ≡ false → Passes (ElementAhead OctetString (TakesOctets IsCounted borrowed_octets) v) s t)
+    → ReaderDecodes true (ElementRead OctetString converts (LentAnswers borrowed_octets)) converts s result t → IfOk result (λ v. Reads s t (string_octets (borrowed_octets v)))
+string_read (Err e) der ok exact = tt
+string_read {s = s} {t = t} (Ok v) der ok exact = (passed_encodings (elements_are_encodings borrowed_lawful) s t v der (ok (decoded_working exact))).1
+
+-- an OCTET STRING that stands ahead can be counted
+pub string_counted : (s : ReaderState) (x more : List ℕ) → IsSound s → rest s ≡ string_octets x ++ more → length x < 2 ^ 32
+string_counted s x more sound ahead = omega (arith, length-rest s sound, sound.in_input, sound.addressable, ap length ahead, length-append (string_octets x) more, length-append (header_octets OctetString (length x)) x)
+
+-- and is an element
+pub string_ahead : (s : ReaderState) (v : BorrowedOctets) (more : List ℕ) → IsSound s → s.rules ≡ Der → rest s ≡ string_octets (borrowed_octets v) ++ more
+    → ElementAhead OctetString (TakesOctets IsCounted borrowed_octets) v s.rules (rest s) (length (string_octets (borrowed_octets v)))
+string_ahead s v more sound der ahead =
+    let m = length (string_octets (borrowed_octets v)) in
+    subst (λ r. ElementAhead OctetString (TakesOctets IsCounted borrowed_octets) v r (rest s) m) (sym der)
+    ((elements_are_encodings borrowed_lawful).every (rest s) v m (omega (arith, length-rest s sound, sound.in_input, sound.addressable)) (record { is_valid = v.octets.counted; behind = more; split = ahead; whole = refl }))
+
+-- reading that takes no memory is not refused it
+pub not_lacking : {A E : Type 0} (oom : E → Bool) (s t : ReaderState) (m : ℕ) (result : Result A E) → ReadsOrLacks oom false s m result t → IsOk result
+not_lacking oom s t m result read = ⊎_elim (λ h. h.0) (λ h. absurd (let no = h.0 in cc)) read
+
+-- OCTET STRINGs that were read up to here and ascend, the last of which is told
+pub record PassedTo (s t : ReaderState) (last : List ℕ) : Type 0 where
+  pub front : List (List ℕ)
+  pub ascend : Ascend (front ++ last ∷ [])
+  pub reads : Reads s t (joined_strings (front ++ last ∷ []))
+
+one_behind : (front : List (List ℕ)) (x y : List ℕ) → Ascend (front ++ x ∷ []) → MayFollow x y → Ascend ((front ++ x ∷ []) ++ y ∷ [])
+one_behind [] x y up may = (may, tt)
+one_behind (z ∷ []) x y up may = (up.0, (may, tt))
+one_behind (z ∷ w ∷ more) x y up may = (up.0, one_behind (w ∷ more) x y up.1 may)
+
+pub passed_first : {s t : ReaderState} (x : List ℕ) → Reads s t (string_octets x) → PassedTo s t x
+passed_first {s} {t} x reads = record { front = []; ascend = tt; reads = subst (Reads s t) (sym (append-nil (string_octets x))) reads }
+
+joined_more : (front : List (List ℕ)) (x : List ℕ) → joined_strings (front ++ x ∷ []) ≡ joined_strings front ++ string_octets x
+joined_more front x = flat_map-append string_octets front (x ∷ []) ∙ ap (λ l. joined_strings front ++ l) (append-nil (string_octets x))
+
+pub passed_next : {s t u : ReaderState} (x y : List ℕ) → PassedTo s t x → Reads t u (string_octets y) → MayFollow x y → PassedTo s u y
+passed_next {s} {t} {u} x y p reads may =
+    record {
+      front = p.front ++ x ∷ [];
+      ascend = one_behind p.front x y p.ascend may;
+      reads = subst (Reads s u) (sym (joined_more (p.front ++ x ∷ []) y)) (reads_on p.reads reads);
+    }
+
+pub passed_ready : {levels : ℕ} {s t : ReaderState} {x : List ℕ} → IsReady levels s → PassedTo s t x → IsReady levels t
+passed_ready ready p =
+    record {
+      der = rules_on p.reads ∙ ready.der;
+      working = failed_on p.reads ∙ ready.working;
+      shallow = omega (arith, ready.shallow, ap (λ (r : ReaderState). r.depth) p.reads.state);
+    }
+
+-- joined encodings are those of these OCTET STRINGs alone
+pub record Split (front strings : List (List ℕ)) (behind : List ℕ) : Type 0 where
+  pub more : List (List ℕ)
+  pub split : strings ≡ front ++ more
+  pub left : behind ≡ joined_strings more
+
+pub one_split : (front strings : List (List ℕ)) (behind : List ℕ) → joined_strings front ++ behind ≡ joined_strings strings → Split front strings behind
+one_split [] strings behind e = record { more = strings; split = refl; left = e }
+one_split (x ∷ front) [] behind e = absurd (cc)
+one_split (x ∷ front) (y ∷ strings) behind e =
+    let same = element_front OctetString OctetString x y (joined_strings front ++ behind) (joined_strings strings) (sym (append_assoc (string_octets x) (joined_strings front) behind) ∙ e) in
+    let further = one_split front strings behind same.2 in
+    record { more = further.more; split = ap (λ z. z ∷ strings) (sym same.1) ∙ ap (λ l. x ∷ l) further.split; left = further.left }
+
+nothing_left : (s : ReaderState) → s.end ≤ s.position → rest s ≡ []
+nothing_left s end = let none : s.end - s.position ≡ 0 = omega (arith, end) in ap (λ n. take n (drop s.position s.input)) none
+
+empty : (strings : List (List ℕ)) → joined_strings strings ≡ [] → strings ≡ []
+empty [] e = refl
+empty (y ∷ more) e = absurd (cc)
+
+-- at the end there are none
+pub passed_none : (s : ReaderState) → s.end ≡ s.position → PassesStrings s (Ok tt) s
+passed_none s end =
+    record {
+      ok = (record { strings = []; ascend = tt; reads = reads_none s }, end);
+      exact = λ strings are. ascending (subst Ascend (sym (empty strings (sym are ∙ nothing_left s (omega (arith, end))))) tt) refl;
+    }
+
+-- at the end those are all
+pub passed_all : {s t : ReaderState} (x : List ℕ) → PassedTo s t x → t.end ≡ t.position → PassesStrings s (Ok tt) t
+passed_all {s} {t} x p end = record { ok = (record { strings = p.front ++ x ∷ []; ascend = p.ascend; reads = p.reads }, end); exact = alone }
+  where
+    alone : (strings : List (List ℕ)) → rest s ≡ joined_strings strings → OrderAnswer {A = Unit {0}} s.position strings tt (Ok tt)
+    alone strings are =
+        let split = one_split (p.front ++ x ∷ []) strings (rest t) (sym p.reads.split ∙ are) in
+        let none = empty split.more (sym split.left ∙ nothing_left t (omega (arith, end))) in
+        ascending (subst Ascend (sym (split.split ∙ ap (λ l. (p.front ++ x ∷ []) ++ l) none ∙ append-nil _)) p.ascend) refl
+
+-- the OCTET STRING that was read is the one that stood ahead
+pub string_is : {s t : ReaderState} (x y more : List ℕ) → Reads s t (string_octets y) → rest s ≡ string_octets x ++ more → x ≡ y
+string_is {t = t} x y more reads ahead = (element_front OctetString OctetString x y more (rest t) (sym ahead ∙ reads.split)).1
+
+not_both : {A : Type 0} (result : Result A Error) (e : Error) → result ≡ Err e → IsOk result → ⊥
+not_both result e was ok = cc
+
+same_error : {A : Type 0} (result : Result A Error) (e f : Error) → result ≡ Err e → result ≡ Err f → e ≡ f
+same_error result e f was is = cc
+
+something_left : (s : ReaderState) → IsSound s → s.end ≢ s.position → rest s ≢ []
+something_left s sound unfinished none = unfinished (omega (arith, length-rest s sound, ap length none, sound.ordered))
+
+-- a reader that says that it is not finished is not at its end
+pub unfinished_at : {b : Bool} (s : ReaderState) → b ≡ false → (s.end ≡ s.position → IsTrue b) → s.end ≢ s.position
+unfinished_at s said told end = let no = told end in cc
+
+-- the first is not refused
+pub first_refused : (s : ReaderState) (strings : List (List ℕ)) (result : Result BorrowedOctets Error) (e : Error) → result ≡ Err e → IsSound s → s.end ≢ s.position → rest s ≡ joined_strings strings
+    → ((x more : List ℕ) → rest s ≡ string_octets x ++ more → IsOk result) → ⊥
+first_refused s [] result e was sound unfinished are complete = something_left s sound unfinished are
+first_refused s (x ∷ more) result e was sound unfinished are complete = not_both result e was (complete x (joined_strings more) are)
+
+-- another is refused where it comes before the one ahead of it
+pub next_refused : {s t : ReaderState} (x : List ℕ) (strings : List (List ℕ)) (result : Result BorrowedOctets Error) (e : Error) → result ≡ Err e → IsSound t → t.end ≢ t.position → PassedTo s t x → rest s ≡ joined_strings strings
+    → ((y more : List ℕ) → rest t ≡ string_octets y ++ more
+    → IsOk result ⊎ (IsBefore (string_octets y) (string_octets x) × (result ≡ Err (at SetOrdering (reader_position t)))))
+    → OrderAnswer {A = Unit {0}} s.position strings tt (Err e)
+next_refused {s} {t} x strings result e was sound unfinished p are exact =
+    let split = one_split (p.front ++ x ∷ []) strings (rest t) (sym p.reads.split ∙ are) in
+    go split.more split.split split.left
+  where
+    go : (more : List (List ℕ)) → strings ≡ (p.front ++ x ∷ []) ++ more → rest t ≡ joined_strings more → OrderAnswer {A = Unit {0}} s.position strings tt (Err e)
+    go [] split left = absurd (something_left t sound unfinished left)
+    go (y ∷ more) split left =
+        ⊎_elim
+        (λ ok. absurd (not_both result e was ok))
+        (λ h. falling p.front more x y (split ∙ append_assoc p.front (x ∷ []) (y ∷ more)) p.ascend h.0
+        (let told : e ≡ at SetOrdering (reader_position t) = same_error result e _ was h.1 in ap Err (told ∙ ap (λ n. at SetOrdering (definite_length n)) (position_on p.reads))))
+        (exact y (joined_strings more) left)
+
+-- the header of a SET that was read
+pub set_read : {s t : ReaderState} (h : Header) → s.rules ≡ Der → Passes (IsHeaderAhead h) s t → (head_of h).tag ≡ Set → Reads s t (header_octets Set (number (head_of h).length))
+set_read {s} {t} h der passed tagged = subst (λ tag. Reads s t (header_octets tag (number (head_of h).length))) tagged (passed_encodings headers_are_encodings s t h der passed).1
+
+-- the header of a SET that stands ahead
+abbrev pub header_of_set : ℕ → Header
+header_of_set n = record { tag = Set; length = definite_length n; constructed = (label Set).constructed }
+
+pub set_ahead : (s : ReaderState) (n : ℕ) (more : List ℕ) → IsSound s → s.rules ≡ Der → n < 2 ^ 32 → rest s ≡ header_octets Set n ++ more
+    → IsHeaderAhead (header_of_set n) s.rules (rest s) (length (header_octets Set n))
+set_ahead s n more sound der small ahead =
+    subst (λ r. IsHeaderAhead (header_of_set n) r (rest s) (length (header_octets Set n))) (sym der)
+    (headers_are_encodings.every (rest s) (header_of_set n) _ (omega (arith, length-rest s sound, sound.in_input, sound.addressable))
+    (record { is_valid = record { says = refl; numbered = omega arith; small = small }; behind = more; split = ahead; whole = refl }))
+
+-- and nothing else is read then
+pub set_alone : {s t : ReaderState} (h : Header) (n : ℕ) (more : List ℕ) → s.rules ≡ Der → Passes (IsHeaderAhead h) s t → rest s ≡ header_octets Set n ++ more → (head_of h).tag ≡ Set
+set_alone {s} {t} h n more der passed ahead =
+    let reads = (passed_encodings headers_are_encodings s t h der passed).1 in
+    (header_front (head_of h).tag Set (number (head_of h).length) n (rest t) more (sym reads.split ∙ ahead)).0
+
+-- contents that are elements and nothing else
+behind_part : (n : ℕ) (s t q : ReaderState) → s.position + n ≤ s.end → ReadsAscending (nested_state s n) q → q.end ≡ q.position → t ≡ resumed_state q s.end s.depth → ReadsAscending s t × (t.position ≡ s.position + n)
+behind_part n s t q within r at_end leaves =
+    let all = joined_strings r.strings in
+    let count : n ≡ length all = omega (arith, at_end, ap (λ (x : ReaderState). x.end) r.reads.state, ap (λ (x : ReaderState). x.position) r.reads.state) in
+    let inside = sym (rest_inside s n within) ∙ r.reads.split ∙ ap (λ l. all ++ l) (nothing_left q (omega (arith, at_end))) ∙ append-nil all in
+    let there = leaves ∙ ap (λ x. resumed_state x s.end s.depth) r.reads.state in (
+      record { strings = r.strings; ascend = r.ascend; reads = subst (λ x. Reads s x all) (sym there) (reads_front s all (drop n (rest s)) (sym (take-append-drop n (rest s)) ∙ ap (λ l. l ++ drop n (rest s)) inside)) },
+      omega (arith, count, ap (λ (x : ReaderState). x.position) there),
+    )
+
+-- a part that was read by a closure
+module _ {P Q : Type 0} {converts : Error → Error → Type 0} {post : P → Result (Unit {0}) Error → Q → Type 0} (before : P → ReaderState) (after : Q → ReaderState) (n : ℕ) (s t : ReaderState)
+    (result : Result (Unit {0}) Error) (ran : (p : P) (a : Result (Unit {0}) Error) (q : Q) → before p ≡ nested_state s n → post p a q → PassesStrings (before p) a (after q)) where
+  passed_part : (v : Unit {0}) → result ≡ Ok v → NestedAnswers converts post before after n s result t → ReadsAscending s t × (t.position ≡ s.position + n)
+  passed_part v is (not_entered e f h c r) = absurd (cc)
+  passed_part v is (entered p answer q can there h closes) =
+      let k = closes_ok (subst (λ x. Closes converts answer (after q) s.end s.depth x t) is closes) in
+      let r = subst (λ a. OnOk a (ReadsAscending (before p) (after q) × ((after q).end ≡ (after q).position))) k.0 (ran p answer q there h).ok in
+      behind_part n s t (after q) can.0 (subst (λ x. ReadsAscending x (after q)) there r.0) r.1 k.2
+
+  pub part_read : (IsBinding true result → NestedAnswers converts post before after n s result t) → OnOk result (ReadsAscending s t × (t.position ≡ s.position + n))
+  part_read answers = go result refl
+    where
+      go : (x : Result (Unit {0}) Error) → result ≡ x → OnOk x (ReadsAscending s t × (t.position ≡ s.position + n))
+      go (Ok v) is = passed_part v is (answers (subst (IsBinding true) (sym is) tt))
+      go (Err e) is = tt
+
+  -- the elements in it are judged
+  pub part_judged : (strings : List (List ℕ)) (more : List ℕ) → IsSound s → s.depth < 64 → rest s ≡ joined_strings strings ++ more → n ≡ length (joined_strings strings)
+      → NestedAnswers converts post before after n s result t → OrderAnswer {A = Unit {0}} s.position strings tt result
+  part_judged strings more sound shallow are count answers = go answers
+    where
+      can : CanNest s n
+      can = (omega (arith, length-rest s sound, ap length are, length-append (joined_strings strings) more, count, sound.ordered), shallow)
+
+      inside : rest (nested_state s n) ≡ joined_strings strings
+      inside = rest_inside s n can.0 ∙ ap (take n) are ∙ take_at (joined_strings strings) more n (sym count)
+
+      closed : {p : P} {answer : Result (Unit {0}) Error} {q : Q} → before p ≡ nested_state s n → post p answer q → OrderAnswer {A = Unit {0}} s.position strings tt answer
+          → Closes converts answer (after q) s.end s.depth result t → OrderAnswer {A = Unit {0}} s.position strings tt result
+      closed there h order (handed_on e a r l) = subst (OrderAnswer s.position strings tt) (a ∙ sym r) order
+      closed {p} {answer} {q} there h order (left_over v e a less c r l) =
+          absurd (let w = subst (λ x. OnOk x (ReadsAscending (before p) (after q) × ((after q).end ≡ (after q).position))) a (ran p answer q there h).ok in omega (arith, less, w.1))
+      closed there h order (whole v a at r l) = subst (OrderAnswer s.position strings tt) (a ∙ sym r) order
+
+      go : NestedAnswers converts post before after n s result t → OrderAnswer {A = Unit {0}} s.position strings tt result
+      go (not_entered e f h c r) = absurd (let no = h.answered ∙ entered_part s n sound can in cc)
+      go (entered p answer q it there h closes) =
+          closed there h (subst (λ (x : ReaderState). OrderAnswer {A = Unit {0}} x.position strings tt answer) there ((ran p answer q there h).exact strings (ap rest there ∙ inside))) closes
+
+-- a SET that is all of some octets, behind its header
+module _ (octets : List ℕ) (s t : ReaderState) (n : ℕ) (begun : s ≡ initial_state Der octets) (reads : Reads s t (header_octets Set n)) where
+  whole_octets : octets ≡ header_octets Set n ++ rest t
+  whole_octets = sym (ap rest begun ∙ rest-beginning Der octets) ∙ reads.split
+
+  pub header_count : (strings : List (List ℕ)) → octets ≡ set_octets strings → (n ≡ length (joined_strings strings)) × (rest t ≡ joined_strings strings)
+  header_count strings e =
+      let one = header_front Set Set n (length (joined_strings strings)) (rest t) (joined_strings strings) (sym whole_octets ∙ e) in
+      (one.1, one.2)
+
+  pub header_position : (strings : List (List ℕ)) → octets ≡ set_octets strings → t.position ≡ length (header_octets Set (length (joined_strings strings)))
+  header_position strings e = omega (arith, position_on reads, ap (λ (x : ReaderState). x.position) begun, ap (λ k. length (header_octets Set k)) (header_count strings e).0)
+
+  -- its elements ascend
+  pub whole_set : (u : ReaderState) (contents : List ℕ) → Ok contents ≡ remaining_answer t → ReadsAscending t u → u.position ≡ t.position + n → finish_answer u ≡ Ok tt
+      → (strings : List (List ℕ)) × Ascend strings × (octets ≡ set_octets strings) × (contents ≡ joined_strings strings)
+  whole_set u contents lent r passed finished =
+      let all = joined_strings r.strings in
+      let left = r.reads.split ∙ ap (λ l. all ++ l) (nothing_left u (finish_ok u finished).1) ∙ append-nil all in
+      let count : n ≡ length all = omega (arith, passed, position_on r.reads) in
+      (r.strings, r.ascend, whole_octets ∙ ap (λ l. header_octets Set n ++ l) left ∙ ap (λ k. header_octets Set k ++ all) count, (remaining_ok t contents lent).1 ∙ left)
+
+  -- and it is finished
+  pub set_finished : (u : ReaderState) (strings : List (List ℕ)) → IsSound t → octets ≡ set_octets strings → ReadsAscending t u → u.position ≡ t.position + n → finish_answer u ≡ Ok tt
+  set_finished u strings sound e r passed =
+      let counted = header_count strings e in
+      finishes u (failed_on r.reads ∙ failed_on reads ∙ ap (λ (x : ReaderState). x.failed) begun)
+      (omega (arith, passed, counted.0, ap length counted.1, length-rest t sound, ap (λ (x : ReaderState). x.end) r.reads.state))
+
+-- an answer to elements is one to the octets, at the position where these begin
+pub order_refused : {begins : ℕ} (at_position : ℕ) (strings : List (List ℕ)) (octets : List ℕ) (result : Result (Unit {0}) Error) (e : Error) → result ≡ Err e → begins ≡ at_position
+    → OrderAnswer begins strings tt result → OrderAnswer at_position strings octets (Err e)
+order_refused at_position strings octets result e is begins (ascending up r) = absurd (cc)
+order_refused at_position strings octets result e is begins (falling front behind x y split up before r) =
+    falling front behind x y split up before (ap Err (same_error result e _ is r ∙ ap (λ b. at SetOrdering (definite_length (b + length (joined_strings (front ++ x ∷ []))))) begins))
+
+pub order_lent : {begins : ℕ} (at_position : ℕ) (strings : List (List ℕ)) (octets contents : List ℕ) (result : Result (Unit {0}) Error) (v : Unit {0}) → result ≡ Ok v → contents ≡ octets
+    → OrderAnswer begins strings tt result → OrderAnswer at_position strings octets (Ok contents)
+order_lent at_position strings octets contents result v is e (ascending up r) = ascending up (ap Ok e)
+order_lent at_position strings octets contents result v is e (falling front behind x y split up before r) = absurd (cc)

@@ -1,0 +1,12 @@
+use Rattle.std.proofs.Common.{◌-◌}
+use Rattle.der_core.specs.ReaderState.{Same}
+use Rattle.der_core.specs.SliceReader.{slice_state}
+use Rattle.der.specs.BorrowedOctets.{borrowed_octets}
+use Rattle.der_uses.proofs.SetReadLemmas.{PassedTo}
+use Rattle.der_uses.proofs.set_of.pass_elements.Given as goal
+
+abbrev pub invariant-loop-ahead : goal.invariant-loop-ahead
+invariant-loop-ahead l = Same (slice_state l.fn.reader) (slice_state l.reader) × PassedTo (slice_state l.fn.reader) (slice_state l.reader) (borrowed_octets l.ahead)
+
+abbrev pub decreases-loop-ahead : goal.decreases-loop-ahead
+decreases-loop-ahead l = l.reader.place.end - l.reader.place.position
