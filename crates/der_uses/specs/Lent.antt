@@ -1,8 +1,9 @@
 -- Octets that are lent.
-use Rattle.std.specs.Prelude.{◌≡◌, ℕ, List, length, Result}
+use Rattle.std.specs.Prelude.{◌≡◌, ℕ, List, length, Result, Ok}
 use Rattle.std.proofs.Common.{arith}
 use Rattle.der_base.specs.Arithmetic.{checked_length}
 use Rattle.der_base.specs.Header.{Head}
+use Rattle.der_base.specs.Order.{byte_order}
 use Rattle.der_base.specs.declared.length.Length.{Length}
 use Rattle.der_base.specs.declared.tag.Tag.TheVariants.{OctetString}
 use Rattle.der_base.specs.Length.{number}
@@ -11,6 +12,7 @@ use Rattle.der_base.specs.declared.encoding_rules.EncodingRules.{EncodingRules}
 use Rattle.der_core.specs.ReaderState.{ReaderState}
 use Rattle.der_core.specs.Outcome.{Gives, map_ok}
 use Rattle.der_core.specs.Reader.{read_slice_outcome}
+use Rattle.der_core.specs.DerOrd.{Compared}
 use Rattle.der_core.specs.Encode.{WriterAnswer}
 use Rattle.der_core.specs.Lawful.{IsLawful}
 use Rattle.der_core.specs.Writer.{Writes, write_outcome}
@@ -36,6 +38,10 @@ lent_size lent = checked_length (length (lent_contents lent))
 
 abbrev pub WritesLent : Lent → WriterAnswer
 WritesLent lent s result t = Writes (write_outcome (lent_contents lent) s) result t
+
+-- they are compared octet by octet, which is never refused
+abbrev pub lent_order : Lent → Lent → Compared
+lent_order v w = Ok (byte_order (lent_contents v) (lent_contents w))
 
 -- it is read as it is written
 pub lent_lawful : IsLawful OctetString TakesLent IsLent lent_contents (λ _. 0)

@@ -1,13 +1,15 @@
 //! A type of a user's own that is lent by the input: an `OCTET STRING`.
 ghost use Rattle.std.specs.Prelude.{◌≡◌, false, length};
+ghost use Rattle.std.proofs.Common.{refl};
 ghost use Rattle.der_base.specs.declared.tag.Tag.TheVariants.{OctetString};
-ghost use Rattle.der_uses.specs.Lent.{IsLent, TakesLent, LentAnswers, WritesLent, lent_contents, lent_size, lent_lawful};
+ghost use Rattle.der_uses.specs.Lent.{IsLent, TakesLent, LentAnswers, WritesLent, lent_contents, lent_size, lent_lawful, lent_order};
 
 use der::{
-    DecodeValue, EncodeValue, Error, FixedTag, Header, Lawful, Length, ReadValue, Reader, Tag,
-    Writer, WrittenValue,
+    DecodeValue, EncodeValue, Error, FixedTag, Header, Lawful, Length, Orderly, ReadValue, Reader,
+    Tag, ValueOrd, Writer, WrittenValue,
 };
 use std::alloc::Global;
+use std::cmp::Ordering;
 
 /// Octets that are lent.
 #[derive(Clone, Copy)]
@@ -75,4 +77,16 @@ impl<'a> EncodeValue for Lent<'a> {
     fn encode_value<W: Writer>(&self, writer: &mut W) -> Result<(), Error> {
         writer.write(self.octets)
     }
+}
+
+impl<'a> ValueOrd for Lent<'a> {
+    ghost value_order = { lent_order };
+
+    fn value_cmp(&self, other: &Self) -> Result<Ordering, Error> {
+        Ok(self.octets.cmp(other.octets))
+    }
+}
+
+impl<'a> Orderly for Lent<'a> {
+    ghost orderly = { λ v w same_tag as_long. refl };
 }
