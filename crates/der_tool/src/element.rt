@@ -32,10 +32,11 @@ impl<'a> Element<'a> {
     /// # Errors
     ///
     /// - `Overflow` without a position, where there are more than 4294967295 octets.
-    /// - Those of [`decode_header`].
-    /// - `Overflow` without a position, where the contents would pass 4294967295, and `Incomplete`
-    ///   at the end, where they pass the end.
-    /// - `TrailingData` at the position behind the contents, where octets are left.
+    /// - `Incomplete`, `Overflow`, `TagUnknown`, `TagNumberInvalid`, `IndefiniteLength` and `Length`
+    ///   of the header, as by [`decode_header`].
+    /// - `Overflow` without a position, where the contents would pass 4294967295.
+    /// - `Incomplete` at the end, where the contents pass it.
+    /// - `TrailingData` behind the contents, where octets are left.
     pub fn from_octets(octets: &'a [u8]) -> Result<Self, Error>
         ensures whole { IfOk result (λ e. IsWholeElement octets.now) }
         ensures ok { IfOk result (λ e. element_octets e.tag (contents_of e) ≡ octets.now) }

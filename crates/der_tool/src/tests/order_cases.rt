@@ -1,11 +1,12 @@
-//! A sample of the words of `order` with their answers. An independent model of the definitions made
-//! it, and that model was compared with the Rust crate `der` 0.8.3 on 131 million inputs.
+//! A sample of the words of `order` with their answers. An independent model of the definitions
+//! made it, and that model was compared with the Rust crate `der` 0.8.3 on 131 million inputs.
 use super::USAGE;
 
 /// The words with a blank between them, the status, and the text.
 pub const ORDER_CASES: [(&str, u8, &str); 39] = [
     (
-        "order 021c5c0a71282393631c12c28846d09d496fc530cb91ca102169c1e96153 021C5C0A71282393631C12C28846D09D496FC530CB91CA102169C1E96153",
+        "order 021c5c0a71282393631c12c28846d09d496fc530cb91ca102169c1e96153 \
+        021C5C0A71282393631C12C28846D09D496FC530CB91CA102169C1E96153",
         0,
         "equal\n",
     ),
@@ -27,7 +28,8 @@ pub const ORDER_CASES: [(&str, u8, &str); 39] = [
     ("order 81015F 81025f00", 0, "less\n"),
     ("order c0050b1ff344de C0060B1FF344DE00", 0, "less\n"),
     (
-        "order 17196e9d334a1cF1d68cdfD8d96fbE1e83EE9d10343b1030a0Dd8B 17196e9d334b1cf1d68cdfd8d96fbe1e83ee9d10343b1030a0dd8b",
+        "order 17196e9d334a1cF1d68cdfD8d96fbE1e83EE9d10343b1030a0Dd8B \
+        17196e9d334b1cf1d68cdfd8d96fbe1e83ee9d10343b1030a0dd8b",
         0,
         "less\n",
     ),
@@ -113,12 +115,14 @@ pub const ORDER_CASES: [(&str, u8, &str); 39] = [
     (
         "order 5f8201019f9f24 7f888080800000",
         1,
-        "error: trailing data at end of DER message: decoded 5 bytes, 2 bytes remaining at DER byte 5\n",
+        "error: trailing data at end of DER message: decoded 5 bytes, 2 bytes remaining at DER \
+        byte 5\n",
     ),
     (
         "order bfffff7f0382bf1f bffFFf7F030482801f",
         1,
-        "error: trailing data at end of DER message: decoded 8 bytes, 1 bytes remaining at DER byte 8\n",
+        "error: trailing data at end of DER message: decoded 8 bytes, 1 bytes remaining at DER \
+        byte 8\n",
     ),
     (
         "order ff8fffffff7f162b978e54ddd2b7e030e261fa551685c028cf0bcb83dc 9f1e9083",
