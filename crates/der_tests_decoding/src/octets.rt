@@ -24,4 +24,5 @@ mod months;
 mod nothing;
 mod pairs;
 mod readers;
+mod sets;
 mod tags;

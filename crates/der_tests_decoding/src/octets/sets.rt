@@ -1,0 +1,143 @@
+//! A SET OF OCTET STRING: sorted and written, and read in order.
+use super::*;
+use crate::checks::same;
+use der::BytesRef;
+use der::example::BorrowedOctets;
+use der_uses::set_of::{set_of_contents, set_of_der};
+
+// An OCTET STRING of these octets.
+fn string(octets: &[u8]) -> Result<BorrowedOctets<'_>, Error> {
+    let octets = BytesRef::new(octets)?;
+    Ok(BorrowedOctets { octets })
+}
+
+// How the octets are refused.
+fn refusal(alloc: Global, octets: &[u8]) -> Option<Error> {
+    set_of_contents(alloc, octets).err()
+}
+
+fn falls_at(position: u32) -> Option<Error> {
+    Some(ErrorKind::SetOrdering.at(Length::new(position)))
+}
+
+#[test]
+fn elements_in_any_order(rt: HostRuntime) -> Result<(), Fail> {
+    let mut elements = [
+        string(&[0xFF])?,
+        string(&[0x00, 0x00])?,
+        string(&[])?,
+        string(&[0xFF])?,
+    ];
+    let want = [
+        0x31, 0x0C, 0x04, 0x00, 0x04, 0x01, 0xFF, 0x04, 0x01, 0xFF, 0x04, 0x02, 0x00, 0x00,
+    ];
+    let der = set_of_der(rt.alloc(), &mut elements)?;
+    same(&rt, der.as_slice(), want.as_slice());
+    let sorted = [
+        [].as_slice(),
+        [0xFF].as_slice(),
+        [0xFF].as_slice(),
+        [0x00, 0x00].as_slice(),
+    ];
+    for (element, octets) in elements.iter().zip(sorted.iter()) {
+        same(&rt, element.octets.as_slice(), *octets);
+    }
+    let contents = set_of_contents(rt.alloc(), der.as_slice())?;
+    same(&rt, contents, &want[2..]);
+    Ok(())
+}
+
+#[test]
+fn no_elements(rt: HostRuntime) -> Result<(), Fail> {
+    let der = set_of_der(rt.alloc(), &mut [])?;
+    same(&rt, der.as_slice(), [0x31, 0x00].as_slice());
+    let contents = set_of_contents(rt.alloc(), &[0x31, 0x00])?;
+    same(&rt, contents, [].as_slice());
+    Ok(())
+}
+
+// 127 octets, `04 7F ..`, stand before 128, `04 81 80 ..`.
+#[test]
+fn lengths_of_two_forms(rt: HostRuntime) -> Result<(), Fail> {
+    let zeros = [0x00; 128];
+    let ones = [0xFF; 127];
+    let mut elements = [string(&zeros)?, string(&ones)?];
+    let mut want = Vec::from_slice(rt.alloc(), &[0x31, 0x82, 0x01, 0x04, 0x04, 0x7F])?;
+    want.extend_from_slice(&ones)?;
+    want.extend_from_slice(&[0x04, 0x81, 0x80])?;
+    want.extend_from_slice(&zeros)?;
+    let der = set_of_der(rt.alloc(), &mut elements)?;
+    same(&rt, der.as_slice(), want.as_slice());
+    let contents = set_of_contents(rt.alloc(), der.as_slice())?;
+    same(&rt, contents, &want.as_slice()[4..]);
+    Ok(())
+}
+
+// 257 elements of about 2^24 octets, which are lent again and again.
+#[test]
+fn more_contents_than_a_length_counts(rt: HostRuntime) -> Result<(), Fail> {
+    let octets = vec![in rt.alloc(); 0u8; 16777216]?;
+    let mut elements = Vec::new(rt.alloc());
+    for fewer in 0..257 {
+        elements.push(string(&octets.as_slice()[fewer..])?)?;
+    }
+    let refused = set_of_der(rt.alloc(), elements.as_mut_slice()).err();
+    same(&rt, refused, Some(ErrorKind::Overflow.to_error()));
+    Ok(())
+}
+
+#[test]
+fn equal_elements(rt: HostRuntime) -> Result<(), Fail> {
+    let octets = [0x31, 0x06, 0x04, 0x01, 0xFF, 0x04, 0x01, 0xFF];
+    let contents = set_of_contents(rt.alloc(), &octets)?;
+    same(&rt, contents, &octets[2..]);
+    Ok(())
+}
+
+#[test]
+fn elements_that_fall(rt: HostRuntime) {
+    let alloc = rt.alloc();
+    let second = [0x31, 0x07, 0x04, 0x02, 0x00, 0x00, 0x04, 0x01, 0xFF];
+    same(&rt, refusal(alloc, &second), falls_at(6));
+    let third = [
+        0x31, 0x09, 0x04, 0x00, 0x04, 0x02, 0x00, 0x00, 0x04, 0x01, 0xFF,
+    ];
+    same(&rt, refusal(alloc, &third), falls_at(8));
+    let as_long = [0x31, 0x06, 0x04, 0x01, 0x02, 0x04, 0x01, 0x01];
+    same(&rt, refusal(alloc, &as_long), falls_at(5));
+    let twice = [
+        0x31, 0x09, 0x04, 0x02, 0x00, 0x00, 0x04, 0x01, 0xFF, 0x04, 0x00,
+    ];
+    same(&rt, refusal(alloc, &twice), falls_at(6));
+    let before_another_tag = [0x31, 0x07, 0x04, 0x01, 0xFF, 0x04, 0x00, 0x05, 0x00];
+    same(&rt, refusal(alloc, &before_another_tag), falls_at(5));
+}
+
+#[test]
+fn octets_that_are_no_set(rt: HostRuntime) {
+    let alloc = rt.alloc();
+    let sequence = unexpected(Tag::Set, Tag::Sequence);
+    same(&rt, refusal(alloc, &[0x30, 0x00]), Some(sequence));
+    let integer = unexpected(Tag::OctetString, Tag::Integer);
+    same(
+        &rt,
+        refusal(alloc, &[0x31, 0x03, 0x02, 0x01, 0x00]),
+        Some(integer),
+    );
+    same(
+        &rt,
+        refusal(alloc, &[0x31, 0x02, 0x04, 0x00, 0x05]),
+        Some(trailing(4, 1)),
+    );
+    same(
+        &rt,
+        refusal(alloc, &[0x31, 0x03, 0x04, 0x01]),
+        Some(incomplete(5, 4, 4)),
+    );
+    same(
+        &rt,
+        refusal(alloc, &[0x31, 0x02, 0x04, 0x01, 0xFF]),
+        Some(incomplete(5, 4, 4)),
+    );
+    same(&rt, refusal(alloc, &[]), Some(incomplete(1, 0, 0)));
+}
