@@ -1,26 +1,40 @@
-//! Compares the OCTET STRINGs of 16 MiB, each with the one ahead, by the proved reader and by hand,
-//! and tells how long one takes.
+//! Compares the OCTET STRINGs of 16 MiB, each with the one ahead, reads them as a SET OF, and sorts
+//! some for one, by the proved library and by hand, and tells how long an element takes.
 mod common;
 
 use common::{INPUT_LEN, Numbers, Totals, measure, push_length, split_contents};
+use std::hint::black_box;
 
 const OCTET_STRING: u8 = 0x04;
+const SET: u8 = 0x31;
 
 unsafe extern "C" {
     // A slice is handed over as a pointer and then a length; the allocator has no octets.
     fn der_bench_orders(octets: *const u8, len: usize) -> Totals;
+    fn der_bench_set(octets: *const u8, len: usize) -> Totals;
+    fn der_bench_sorted(octets: *const u8, len: usize) -> Totals;
 }
 
-fn proved(bytes: &[u8]) -> Totals {
+fn compare_proved(bytes: &[u8]) -> Totals {
     // SAFETY: the pointer and the length are those of a slice, which the call only reads.
     unsafe { der_bench_orders(bytes.as_ptr(), bytes.len()) }
 }
 
-/// The whole element ahead, its contents, and the octets behind it.
+fn read_proved(bytes: &[u8]) -> Totals {
+    // SAFETY: as above.
+    unsafe { der_bench_set(bytes.as_ptr(), bytes.len()) }
+}
+
+fn sort_proved(bytes: &[u8]) -> Totals {
+    // SAFETY: as above.
+    unsafe { der_bench_sorted(bytes.as_ptr(), bytes.len()) }
+}
+
+/// The whole element ahead, which has to have this tag, its contents, and the octets behind it.
 #[inline(always)]
-fn split_element(bytes: &[u8]) -> Option<(&[u8], &[u8], &[u8])> {
+fn split_element(tag: u8, bytes: &[u8]) -> Option<(&[u8], &[u8], &[u8])> {
     let (&identifier, rest) = bytes.split_first()?;
-    if identifier != OCTET_STRING {
+    if identifier != tag {
         return None;
     }
     let (contents, behind) = split_contents(rest)?;
@@ -29,12 +43,12 @@ fn split_element(bytes: &[u8]) -> Option<(&[u8], &[u8], &[u8])> {
 }
 
 #[inline(never)]
-fn by_hand(bytes: &[u8]) -> Totals {
+fn compare_by_hand(bytes: &[u8]) -> Totals {
     let mut totals = Totals::default();
-    let Some((mut ahead, _, mut rest)) = split_element(bytes) else {
+    let Some((mut ahead, _, mut rest)) = split_element(OCTET_STRING, bytes) else {
         return totals;
     };
-    while let Some((element, contents, behind)) = split_element(rest) {
+    while let Some((element, contents, behind)) = split_element(OCTET_STRING, rest) {
         totals.elements = totals.elements.wrapping_add(1);
         totals.contents = totals.contents.wrapping_add(contents.len() as u64);
         let less = (element < ahead) as u64;
@@ -44,32 +58,109 @@ fn by_hand(bytes: &[u8]) -> Totals {
     totals
 }
 
-/// Elements of up to so many octets of contents until the input is as long as wanted, and how many
-/// have one ahead. Of as many octets most begin alike.
-fn elements(bound: u64) -> (Vec<u8>, u64) {
+fn told(elements: u64, octets: &[u8]) -> Totals {
+    Totals {
+        elements,
+        contents: octets.len() as u64,
+        first_octets: octets.last().copied().unwrap_or(0) as u64,
+    }
+}
+
+#[inline(never)]
+fn read_by_hand(bytes: &[u8]) -> Totals {
+    match ordered_contents(bytes) {
+        Some(contents) => told(1, contents),
+        None => told(0, &[]),
+    }
+}
+
+/// The contents of a SET OF OCTET STRING whose elements stand in order.
+fn ordered_contents(bytes: &[u8]) -> Option<&[u8]> {
+    let (_, contents, behind) = split_element(SET, bytes)?;
+    let (mut ahead, mut rest): (&[u8], _) = (&[], contents);
+    while !rest.is_empty() {
+        let (element, _, more) = split_element(OCTET_STRING, rest)?;
+        if element < ahead {
+            return None;
+        }
+        (ahead, rest) = (element, more);
+    }
+    behind.is_empty().then_some(contents)
+}
+
+#[inline(never)]
+fn sort_by_hand(bytes: &[u8]) -> Totals {
+    let mut elements = Vec::new();
+    let mut rest = bytes;
+    while let Some((element, _, behind)) = split_element(OCTET_STRING, rest) {
+        elements.push(element);
+        rest = behind;
+    }
+    elements.sort_unstable();
+    told(elements.len() as u64, &black_box(set_of(&elements)))
+}
+
+/// A SET of these elements.
+fn set_of(elements: &[&[u8]]) -> Vec<u8> {
+    let mut out = vec![SET];
+    push_length(&mut out, elements.iter().map(|it| it.len()).sum());
+    elements.iter().for_each(|it| out.extend_from_slice(it));
+    out
+}
+
+/// Elements of up to so many octets of contents until there are so many octets, and how many
+/// elements. Most of as many octets differ in the last one alone.
+fn elements(bound: u64, wanted: usize) -> (Vec<u8>, u64) {
     let mut numbers = Numbers(0x9E37_79B9_7F4A_7C15);
-    let mut out = Vec::with_capacity(INPUT_LEN + (1 << 12));
+    let mut out = Vec::with_capacity(wanted + (1 << 12));
     let mut count = 0;
-    while out.len() < INPUT_LEN {
+    while out.len() < wanted {
         let len = numbers.below(bound) as usize;
         out.push(OCTET_STRING);
         push_length(&mut out, len);
-        out.extend((0..len).map(|at| if at + 1 < len { 0x2A } else { numbers.below(256) as u8 }));
+        let mut octet = |at| if at + 1 < len { 0x2A } else { numbers.below(256) as u8 };
+        out.extend((0..len).map(&mut octet));
         count += 1;
     }
-    (out, count - 1)
+    (out, count)
+}
+
+fn tell(
+    name: &str,
+    (bytes, counted): (&[u8], u64),
+    count: u64,
+    proved: fn(&[u8]) -> Totals,
+    by_hand: fn(&[u8]) -> Totals,
+) {
+    assert_eq!(proved(bytes), by_hand(bytes), "{name}");
+    let [library, hand] = measure([(proved, bytes, counted), (by_hand, bytes, counted)])
+        .map(|it| it * counted as f64 / count as f64);
+    println!(
+        "{name}: {count} elements of {:.1} octets; \
+         library {library:.2} ns, by hand {hand:.2} ns an element, ratio {:.2}",
+        bytes.len() as f64 / count as f64,
+        library / hand,
+    );
 }
 
 fn main() {
     for bound in [5, 33, 513] {
-        let (bytes, count) = elements(bound);
-        assert_eq!(proved(&bytes), by_hand(&bytes), "below {bound}");
-        let [library, hand] = measure([(proved, &bytes, count), (by_hand, &bytes, count)]);
-        println!(
-            "orders of 0 to {} octets: {count} elements; \
-             library {library:.2} ns, by hand {hand:.2} ns an element, ratio {:.2}",
-            bound - 1,
-            library / hand,
-        );
+        let (bytes, count) = elements(bound, INPUT_LEN);
+        let behind = count - 1;
+        let name = format!("compared, 0 to {} octets", bound - 1);
+        tell(&name, (&bytes, behind), behind, compare_proved, compare_by_hand);
+    }
+    let (bytes, count) = elements(33, INPUT_LEN);
+    let mut parts = Vec::new();
+    let mut rest = &bytes[..];
+    while let Some((element, _, behind)) = split_element(OCTET_STRING, rest) {
+        parts.push(element);
+        rest = behind;
+    }
+    parts.sort_unstable();
+    tell("read in order", (&set_of(&parts), 1), count, read_proved, read_by_hand);
+    for wanted in [1 << 8, 1 << 16] {
+        let (bytes, count) = elements(33, wanted);
+        tell("sorted and written", (&bytes, count), count, sort_proved, sort_by_hand);
     }
 }

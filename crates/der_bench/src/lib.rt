@@ -6,6 +6,7 @@
 mod decode;
 mod orders;
 mod scan;
+mod sets;
 mod strings;
 
 use der::{EncodingRules, Reader, ReaderExt, SliceReader, decode_header};

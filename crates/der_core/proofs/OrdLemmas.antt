@@ -1,4 +1,4 @@
--- What comparisons of elements and of tags answer.
+-- What comparisons of elements answer.
 use Rattle.std.proofs.Common.{◌≡◌, ◌≢◌, ℕ, List, [], ◌++◌, length, Result, Ok, Err, IsOk, IfOk, refl, sym, ap, ◌∙◌, subst}
 use Rattle.std.specs.Ordering.{ordering_then}
 use Rattle.std.specs.declared.cmp.Ordering.{Ordering}

@@ -1,5 +1,5 @@
-//! Readers and writers of the Distinguished Encoding Rules, and tags, lengths and headers read and
-//! written by them, after the crate `der`.
+//! Readers and writers of the Distinguished Encoding Rules, tags, lengths and headers read and
+//! written by them, and orders of values by their encodings, after the crate `der`.
 //!
 //! What a reader and a writer are, and what each of their calls answers, stands in `specs/`; the
 //! grammar of ITU-T X.690 stands in the crate `der_base`.

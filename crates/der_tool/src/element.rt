@@ -32,8 +32,8 @@ impl<'a> Element<'a> {
     /// # Errors
     ///
     /// - `Overflow` without a position, where there are more than 4294967295 octets.
-    /// - `Incomplete`, `Overflow`, `TagUnknown`, `TagNumberInvalid`, `IndefiniteLength` and `Length`
-    ///   of the header, as by [`decode_header`].
+    /// - `Incomplete`, `Overflow`, `TagUnknown`, `TagNumberInvalid`, `IndefiniteLength` and
+    ///   `Length` of the header, as by [`decode_header`].
     /// - `Overflow` without a position, where the contents would pass 4294967295.
     /// - `Incomplete` at the end, where the contents pass it.
     /// - `TrailingData` behind the contents, where octets are left.

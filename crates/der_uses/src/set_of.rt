@@ -97,8 +97,8 @@ fn write_all(elements: &[BorrowedOctets<'_>], out: &mut Vec<u8>) -> Result<(), E
 /// # Errors
 ///
 /// - `Overflow` without a position, where there are more than 4294967295 octets.
-/// - Those of the header, as by [`Header::decode`](der::Decode::decode), and `TagUnexpected` without
-///   a position, where it is not that of a SET.
+/// - Those of the header, as by [`Header::decode`](der::Decode::decode), and `TagUnexpected`
+///   without a position, where it is not that of a SET.
 /// - `Overflow` and `Incomplete` of contents that are not all there, as by
 ///   [`Reader::enter_nested`].
 /// - Those of an element, as by [`ReaderExt::decode`].

@@ -7,8 +7,8 @@ use crate::ord::DerOrd;
 use der_base::Error;
 use std::cmp::Ordering;
 
-/// Compares the values that two iterators give, as [`iter_cmp`](crate::iter_cmp) does those that are
-/// referred to.
+/// Compares the values that two iterators give, as [`iter_cmp`](crate::iter_cmp) does those that
+/// they refer to.
 ///
 /// # Errors
 ///

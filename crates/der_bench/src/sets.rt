@@ -1,0 +1,54 @@
+//! A SET OF OCTET STRING that is sorted and written, and one that is read.
+use crate::Totals;
+use der::example::BorrowedOctets;
+use der::{ReaderExt, SliceReader};
+use der_uses::set_of::{set_of_contents, set_of_der};
+use std::alloc::Global;
+
+/// Decodes OCTET STRINGs, one behind the other, and writes them as a SET OF: how many, its octets,
+/// and the last of these. Nothing is told where there is an error.
+#[unsafe(no_mangle)]
+pub extern "C" fn der_bench_sorted(alloc: Global, bytes: &[u8]) -> Totals {
+    let mut elements = Vec::new(alloc);
+    if push_elements(alloc, bytes, &mut elements).is_none() {
+        return told(0, &[]);
+    }
+    match set_of_der(alloc, elements.as_mut_slice()) {
+        Ok(octets) => told(elements.len() as u64, octets.as_slice()),
+        Err(_) => told(0, &[]),
+    }
+}
+
+/// Reads a SET OF OCTET STRING: its contents, and the last of these octets.
+#[unsafe(no_mangle)]
+pub extern "C" fn der_bench_set(alloc: Global, bytes: &[u8]) -> Totals {
+    match set_of_contents(alloc, bytes) {
+        Ok(contents) => told(1, contents),
+        Err(_) => told(0, &[]),
+    }
+}
+
+// Decodes OCTET STRINGs, one behind the other, until the octets end.
+fn push_elements<'a>(
+    alloc: Global,
+    bytes: &'a [u8],
+    elements: &mut Vec<BorrowedOctets<'a>>,
+) -> Option<()> {
+    let mut reader = SliceReader::new(bytes).ok()?;
+    // Each value has an octet at least.
+    for _ in 0..bytes.len() {
+        if reader.is_finished() {
+            break;
+        }
+        elements.push(reader.decode(alloc).ok()?).ok()?;
+    }
+    Some(())
+}
+
+fn told(elements: u64, octets: &[u8]) -> Totals {
+    Totals {
+        elements,
+        contents: octets.len() as u64,
+        first_octets: octets.last().copied().unwrap_or(0) as u64,
+    }
+}
