@@ -5,13 +5,15 @@
 
 use der::example::{BorrowedOctets, JoinedOctets, MyByteMonth, OwnedText};
 use der::{
-    BytesCow, BytesOwned, BytesRef, Decode, DecodeBytes, DecodeValue, Encode, Error, ErrorKind,
-    Header, Length, Reader, SliceReader, StringOwned, StringRef, Tag, read_constructed_vec,
-    slice_to_owned,
+    BytesCow, BytesOwned, BytesRef, Decode, DecodeBytes, DecodeValue, DerOrd, Encode, Error,
+    ErrorKind, Header, Length, Reader, SliceReader, StringOwned, StringRef, Tag,
+    read_constructed_vec, slice_to_owned,
 };
 use der_uses::reader::CopyingReader;
+use der_uses::set_of::{set_of_contents, set_of_der};
 use std::alloc::Global;
 use std::boxed::BoxedSlice;
+use std::cmp::Ordering;
 use std::fmt::Debug;
 use std::io;
 
@@ -35,6 +37,9 @@ fn main(rt: HostRuntime) -> io::Result<()> {
     tell(&rt, "segments_at_once", segments_at_once(rt.alloc()))?;
     tell(&rt, "segment_by_segment", segment_by_segment(rt.alloc()))?;
     tell(&rt, "joined_octets", joined_octets(rt.alloc()))?;
+    tell(&rt, "set_of_der", sorted_set(rt.alloc()))?;
+    tell(&rt, "set_of_contents", set_in_order(rt.alloc()))?;
+    tell(&rt, "der_cmp", compared())?;
     tell(&rt, "empty", empty(rt.alloc()))?;
     tell(&rt, "borrowed_octets", borrowed_octets(rt.alloc()))?;
     tell(&rt, "month", month(rt.alloc()))
@@ -145,6 +150,28 @@ fn empty(alloc: Global) -> Result<BoxedSlice<u8>, Error> {
 fn borrowed_octets(alloc: Global) -> Result<u32, Error> {
     let borrowed = BorrowedOctets::from_der(alloc, &[0x04, 0x02, 0x61, 0x62])?;
     Ok(u32::from(borrowed.octets.prefix(Length::ONE)?.len()))
+}
+
+fn borrowed(octets: &[u8]) -> Result<BorrowedOctets<'_>, Error> {
+    let octets = BytesRef::new(octets)?;
+    Ok(BorrowedOctets { octets })
+}
+
+// A SET OF two elements, which are sorted for it.
+fn sorted_set(alloc: Global) -> Result<Vec<u8>, Error> {
+    let mut elements = [borrowed(&[0x00, 0x00])?, borrowed(&[0xFF])?];
+    set_of_der(alloc, &mut elements)
+}
+
+// How many octets of contents such a SET has, which takes no memory to tell.
+fn set_in_order(alloc: Global) -> Result<usize, Error> {
+    let octets = [0x31, 0x07, 0x04, 0x01, 0xFF, 0x04, 0x02, 0x00, 0x00];
+    Ok(set_of_contents(alloc, &octets)?.len())
+}
+
+// How two elements stand, which takes no memory.
+fn compared() -> Result<Ordering, Error> {
+    borrowed(&[0xFF])?.der_cmp(&borrowed(&[0x00, 0x00])?)
 }
 
 fn tell<T: Debug + Drop>(rt: &impl Print, call: &str, answer: Result<T, Error>) -> io::Result<()> {
