@@ -27,6 +27,7 @@ impl DerOrd for Tag {
 
     ghost delimited = { λ _. tags_delimited };
 
+    #[inline]
     fn der_cmp(&self, other: &Self) -> Result<Ordering, Error> {
         Ok(left_aligned(*self).cmp(&left_aligned(*other)))
     }

@@ -242,7 +242,7 @@ pub trait ReaderExt: Reader {
     /// - `Failed` at the position, where the reader had failed; it is unchanged.
     /// - Those of the type, as by [`Decode::decode`]; the reader stands where that leaves it and
     ///   has failed, whatever the error.
-    #[inline]
+    #[inline(always)]
     final fn decode<T: Decode<Self>>(
         &mut self,
         alloc: Global,
