@@ -52,6 +52,10 @@ digits_fit h l =
     let few : 256 ^ length h.digits ≤ 256 ^ 3 = (let q : length h.digits ≤ 3 = omega (arith, h.count) in pow-le-pow_right (omega arith) q) in
     omega (arith, number_lt 256 h.digits h.below, few, h.is)
 
+-- all octets that the first announces
+pub digits_whole : {a b : ReaderState} {n : ℕ} (i o : ℕ) → i ≡ o - 128 → DigitsSoFar a b i n → DigitsSoFar a b (o - 128) n
+digits_whole {a} {b} {n} i o e h = subst (λ k. DigitsSoFar a b k n) e h
+
 -- refusals behind the first octet
 pub refused_far : {wrong : ErrorKind} {a t : ReaderState} {o : ℕ} {e : Error} → 133 ≤ o → e ≡ error_at wrong (reader_position a) → t ≡ stopped_state a a.position → RefusesLongLength wrong o a e t
 refused_far {wrong} {a} {t} {o} {e} high told leaves at here working = (
@@ -155,15 +159,11 @@ refused_by_scan {s} ber (at_fault r w fault told leaves) wrong at here working =
   record { told = told; leaves = ap (λ p. record s { position = p }) here },
 )
 
-scanned : (result : Result Length Error) (reliable : Bool) (s : ReaderState) → s.rules ≡ Ber → ScansAhead reliable s result
+-- the scan ahead of a reader
+pub scanned : (result : Result Length Error) (reliable : Bool) (s : ReaderState) → s.rules ≡ Ber → ScansAhead reliable s result
     → IfOk result (λ l. IsIndefiniteForm l s s) × (reliable ≡ true → IfErr result (λ e. RefusesIndefinite s e s))
 scanned (Ok l) reliable s ber h = (record { octets = h.1.ok.octets; under_ber = ber; ahead = h.1.ok.ahead; leaves = refl }, λ _. tt)
 scanned (Err e) reliable s ber h = (tt, λ is. refused_by_scan ber (h.1.refused is))
-
--- the scan of a fork
-pub scanned_form : (result : Result Length Error) (reliable : Bool) (f s : ReaderState) → f ≡ s → s.rules ≡ Ber → ScansAhead reliable f result
-    → IfOk result (λ l. IsIndefiniteForm l s s) × (reliable ≡ true → IfErr result (λ e. RefusesIndefinite s e s))
-scanned_form result reliable f s same ber h = scanned result reliable s ber (subst (λ x. ScansAhead reliable x result) same h)
 
 passed_indefinite : {a b t : ReaderState} {o : ℕ} {l : Length} → o ≡ 128 → a.failed ≡ false → Reads a b (o ∷ []) → IsIndefiniteForm l b t → Passes (LengthAhead l) a t
 passed_indefinite {a} {b} {t} {o} {l} is working h form =

@@ -5,6 +5,7 @@ pub mod EncodeLemmas
 pub mod WriterLemmas
 pub mod HeaderReadLemmas
 pub mod TurnLemmas
+pub mod WalkLemmas
 pub mod ScanReadLemmas
 pub mod DecodeLemmas
 pub mod WholeLemmas

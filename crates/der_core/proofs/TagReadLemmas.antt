@@ -1,5 +1,5 @@
 -- Tags, octet by octet.
-use Rattle.std.proofs.Common.{◌≡◌, ◌≢◌, ℕ, ◌+◌, ◌*◌, ◌/◌, ◌%◌, ◌^◌, bit_and, ◌<◌, ◌≤◌, ◌⊎◌, Bool, true, false, IsTrue, ◌↔◌, Result, Ok, Err, IfOk, IfErr, Some, None, List, [], ◌∷◌, ◌++◌, length, refl, sym, ap, ◌∙◌, subst, ⊎_elim, append-nil, length-append, arith}
+use Rattle.std.proofs.Common.{◌≡◌, ◌≢◌, ℕ, ◌+◌, ◌*◌, ◌/◌, ◌%◌, ◌^◌, bit_and, ◌<◌, ◌≤◌, ◌⊎◌, inl, inr, Bool, true, false, IsTrue, ◌↔◌, Result, Ok, Err, IfOk, IfErr, Option, Some, None, nat_lt, List, [], ◌∷◌, ◌++◌, length, refl, sym, ap, ◌∙◌, subst, ⊎_elim, append-nil, length-append, arith}
 use Rattle.std.specs.Int.Bits.{and_zero_r}
 use Rattle.std.proofs.lemmas.Nat.{and_mask, and_block, shr_split}
 use Rattle.der_base.specs.Length.{digits}
@@ -17,7 +17,7 @@ use Rattle.der_base.proofs.IdentifierLemmas.{identifier_at, segments_identifier,
 use Rattle.der_base.proofs.TagLemmas.{universal_constructed}
 use Rattle.der_core.specs.ReaderState.{ReaderState, rest, reader_position, stopped_state, Same, Reads}
 use Rattle.der_core.specs.Decode.{Passes, Decodes, IsRefusedBy, at_fault, has_failed}
-use Rattle.der_core.specs.AfterFirstOctet.{IdentifierBehind, RefusesIdentifier, RefusesNumber, Stops}
+use Rattle.der_core.specs.AfterFirstOctet.{IdentifierBehind, RefusesIdentifier, RefusesNumber, Stops, tag_or_segments, identifier_tag}
 use Rattle.der_core.proofs.DecodeLemmas.{decoded_ok, decoded_err}
 use Rattle.der_core.proofs.StateLemmas.{reads_none, reads_on, position_on, failed_on, rules_on, stops_on, same_trans, error_stops, ByteRefused, byte_failed, byte_cut}
 
@@ -121,6 +121,31 @@ pub found_long : {s t : ReaderState} (o : ℕ) {n : ℕ} {x : Tag} {b : Bool} �
 found_long {s} o {n} g low high all large small e bit =
     with_bit bit (continuation_octets (digits 128 n), subst (λ y. IsIdentifier s.rules (o ∷ continuation_octets (digits 128 n)) y (is_constructed o)) (sym e) (long_identifier o n low high all large small), g)
 
+-- an identifier whose tag is told by its first octet and number
+above : (o n : ℕ) → 64 ≤ o → identifier_tag o n ≡ other_tag o n
+above o n high = (let no : nat_lt o 64 ≡ false = grind arith in rw no refl)
+
+below : (o n : ℕ) → o < 64 → identifier_tag o n ≡ tag_or_segments (universal_tag o)
+below o n low = (let yes : nat_lt o 64 ≡ true = grind arith in rw yes refl)
+
+behind_as : {o : ℕ} {s t : ReaderState} {x y : Tag} {b : Bool} → x ≡ y → IdentifierBehind o y b s t → IdentifierBehind o x b s t
+behind_as {o} {s} {t} {b = b} e h = subst (λ z. IdentifierBehind o z b s t) (sym e) h
+
+pub found_low : (s : ReaderState) (o n : ℕ) → s.rules ≡ Ber → o < 64 → (o ≡ 36) ⊎ (universal_tag o ≢ None) → IdentifierBehind o (identifier_tag o n) (is_constructed o) s s
+found_low s o n ber low known = behind_as (below o n low) (go (universal_tag o) refl known)
+  where
+    go : (known : Option Tag) → universal_tag o ≡ known → (o ≡ 36) ⊎ (universal_tag o ≢ None) → IdentifierBehind o (tag_or_segments known) (is_constructed o) s s
+    go (Some x) e h = found_universal s o (sym e) refl
+    go None e h = ⊎_elim (λ is. with_bit (ap is_constructed is) (found_segments s o is ber)) (λ some. absurd (some e)) h
+
+pub found_high : (s : ReaderState) (o : ℕ) → 64 ≤ o → o < 256 → o % 32 < 31 → IdentifierBehind o (identifier_tag o (o % 32)) (is_constructed o) s s
+found_high s o high octet few = found_short s o high octet few (above o (o % 32) high) refl
+
+pub found_longer : (s t : ReaderState) (o : ℕ) (r : Result ℕ Error) → 64 ≤ o → o < 256 → o % 32 ≡ 31 → IfOk r (λ n. Reads s t (continuation_octets (digits 128 n)) × (31 ≤ n) × (n < 2 ^ 32))
+    → IfOk r (λ n. IdentifierBehind o (identifier_tag o n) (is_constructed o) s t)
+found_longer s t o (Ok n) high octet all h = found_long o h.0 high octet all h.1 h.2 (above o n high) refl
+found_longer s t o (Err e) high octet all h = tt
+
 -- an octet begins no identifier
 pub refused_unknown : {s t : ReaderState} {o : ℕ} {e : Error} → o < 64 → universal_tag o ≡ None → (s.rules ≡ Der) ⊎ (o ≢ 36)
     → e ≡ error_at (identifier_kind [] o) (reader_position s) → t ≡ stopped_state s s.position → RefusesIdentifier o s e t
@@ -129,6 +154,14 @@ refused_unknown {s} {t} {o} {e} low none other told leaves at here working = (
   fault_universal at o (rest s) low none other,
   subst (λ n. Stops s (refusal (identifier_kind [] o) n) e t) here (error_stops s t (identifier_kind [] o) e told leaves),
 )
+
+pub refused_low : {s t : ReaderState} {o : ℕ} {e : Error} → o < 64 → ((o ≡ 36) ⊎ (universal_tag o ≢ None) → ⊥)
+    → e ≡ error_at (identifier_kind [] o) (reader_position s) → t ≡ stopped_state s s.position → RefusesIdentifier o s e t
+refused_low {s} {t} {o} {e} low unknown told leaves = refused_unknown low (none (universal_tag o) refl) (inr (λ is. unknown (inl is))) told leaves
+  where
+    none : (known : Option Tag) → universal_tag o ≡ known → universal_tag o ≡ None
+    none None e = e
+    none (Some x) e = absurd (unknown (inr (λ n. (let no : Some x ≡ None = sym e ∙ n in cc))))
 
 -- the refusals of a tag
 tag_ends : {a t : ReaderState} {e : Error} → ByteRefused a e t → IsRefusedBy IdentifierFault a e t

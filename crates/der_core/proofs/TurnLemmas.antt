@@ -61,7 +61,7 @@ drain_short s n sound working some l =
     ∙ ap (λ m. refused_outcome (Unit {0}) s (short_refusal n m s.position)) (sym (length-rest s sound))
 
 module _ (s : ReaderState) (n : ℕ) (sound : IsSound s) (working : s.failed ≡ false) where
-  drain_refused : {t : ReaderState} {e : Error} → Gives (drain_outcome (definite_length n)) s (Err e) t → (length (rest s) < n) × Stops s (short_refusal n (length (rest s)) s.position) e t
+  pub drain_refused : {t : ReaderState} {e : Error} → Gives (drain_outcome (definite_length n)) s (Err e) t → (length (rest s) < n) × Stops s (short_refusal n (length (rest s)) s.position) e t
   drain_refused {t} {e} h =
       ⊎_elim (λ none. absurd (let a = h.answered ∙ ap (λ o. o.answer) (drain_none s n none) in cc)) (λ some. ⊎_elim
       (λ few. let table = drain_short s n sound working some few in

@@ -1,7 +1,7 @@
 -- What is read and refused behind a first octet, which stood at a position and was read.
-use Rattle.std.specs.Prelude.{◌≡◌, ℕ, ◌+◌, ◌%◌, ◌^◌, ◌<◌, ◌≤◌, Bool, false, Option, Some, None, List, ◌∷◌}
+use Rattle.std.specs.Prelude.{◌≡◌, ℕ, ◌+◌, ◌%◌, ◌^◌, ◌<◌, ◌≤◌, Bool, false, Option, Some, None, List, ◌∷◌, nat_lt, if◌then◌else◌}
 use Rattle.der_base.specs.Error.{Refusal}
-use Rattle.der_base.specs.Tag.{IsIdentifier, IdentifierFault}
+use Rattle.der_base.specs.Tag.{IsIdentifier, IdentifierFault, universal_tag, other_tag}
 use Rattle.der_base.specs.Length.{length_octets}
 use Rattle.der_base.specs.Scan.{NoBodyFault, BodyAhead, BodyFault}
 use Rattle.der_base.specs.Header.{LengthFault}
@@ -11,12 +11,26 @@ use Rattle.der_base.specs.declared.error.ErrorKind.TheVariants.{Overlength, Leng
 use Rattle.der_base.specs.declared.encoding_rules.EncodingRules.TheVariants.{Ber}
 use Rattle.der_base.specs.declared.length.Length.{Length}
 use Rattle.der_base.specs.declared.tag.Tag.{Tag}
-use Rattle.der_core.specs.ReaderState.{ReaderState, rest, state_after, Reads}
+use Rattle.der_base.specs.declared.tag.Tag.TheVariants.{OctetString}
+use Rattle.der_core.specs.ReaderState.{ReaderState, rest, state_after, Reads, Same}
 
 -- a refusal is told as its error, and leaves the reader so
 pub record Stops (s : ReaderState) (r : Refusal) (e : Error) (t : ReaderState) : Type 0 where
   pub told : e ≡ r.error
   pub leaves : t ≡ state_after s r
+
+-- it is refused as by a reader that is handed back
+abbrev pub IsToldBy : (ReaderState → Error → ReaderState → Type 0) → ReaderState → Error → Type 0
+IsToldBy refuses s e = (t : ReaderState) × Same s t × refuses s e t
+
+-- a tag that is known, or else that of octet 24
+abbrev pub tag_or_segments : Option Tag → Tag
+tag_or_segments (Some t) = t
+tag_or_segments None = OctetString
+
+-- the tag that a first octet under BER says, from octet 40 on with a number
+abbrev pub identifier_tag : ℕ → ℕ → Tag
+identifier_tag o n = if nat_lt o 64 then tag_or_segments (universal_tag o) else other_tag o n
 
 -- a long tag number, behind any first octet that one follows
 abbrev pub RefusesNumber : ReaderState → Error → ReaderState → Type 0

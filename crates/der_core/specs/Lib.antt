@@ -12,6 +12,7 @@ pub mod DecodeValue
 pub mod Element
 pub mod Scan
 pub mod Turn
+pub mod Walk
 pub mod Boxed
 pub mod Writer
 pub mod SliceWriter

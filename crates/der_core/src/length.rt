@@ -70,7 +70,7 @@ fn decode_indefinite_form<R: Reader>(reader: &mut R) -> Result<Length, Error>
     if reader.encoding_rules().is_der() {
         return Err(reader.error(ErrorKind::IndefiniteLength));
     }
-    scan_uncounted(reader.fork())
+    scan_uncounted(reader)
 }
 
 // The rest of a length behind a first octet from 81 on: so many octets in base 256, the fewest

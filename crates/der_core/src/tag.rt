@@ -1,9 +1,9 @@
 //! Tags.
-ghost use Rattle.std.specs.Prelude.{◌≡◌, ◌^◌, ◌<◌, ◌≤◌, true, false, [], length, Ok, IfOk, IfErr};
+ghost use Rattle.std.specs.Prelude.{◌≡◌, ◌≢◌, ◌^◌, ◌<◌, ◌≤◌, ◌⊎◌, ◌↔◌, true, false, IsTrue, None, [], length, Ok, IfOk, IfErr};
 ghost use Rattle.der_base.specs.Length.{definite_length, digits};
 ghost use Rattle.der_base.specs.Tag.{label, leading_octet, tag_octets, continuation_octets, universal_tag, other_tag, is_constructed, IdentifierFault, identifier_kind};
 ghost use Rattle.der_base.specs.Header.{IdentifierAhead, TagAhead};
-ghost use Rattle.der_core.specs.AfterFirstOctet.{IdentifierBehind, RefusesIdentifier, RefusesNumber};
+ghost use Rattle.der_core.specs.AfterFirstOctet.{IdentifierBehind, RefusesIdentifier, RefusesNumber, identifier_tag};
 ghost use Rattle.der_core.specs.Decode.{Decodes, grammar_levels};
 ghost use Rattle.der_core.specs.Encode.{single_octets, high_digits, tag_outcome};
 ghost use Rattle.der_core.specs.ReaderState.{Same, Reads};
@@ -63,10 +63,18 @@ pub(crate) fn universal_by_table(octet: u8) -> Option<Tag>
     universal(octet)
 }
 
+// Whether this octet below 40 is an identifier under the Basic Encoding Rules.
+#[inline(always)]
+pub(crate) fn is_ber_identifier(octet: u8) -> bool
+    ensures { IsTrue result ↔ ((octet ≡ 36) ⊎ (universal_tag octet ≢ None)) }
+{
+    octet == SEGMENTS || universal(octet).is_some()
+}
+
 // Bit 6 of an identifier's first octet (X.690 8.1.2.3).
 #[inline(always)]
 #[tactic(auto, using(crate::proofs::TagReadLemmas::bit_six))]
-fn has_constructed_bit(first: u8) -> bool
+pub(crate) fn has_constructed_bit(first: u8) -> bool
     ensures { result ≡ is_constructed first }
 {
     first & 0x20 != 0
@@ -94,6 +102,21 @@ fn other(first: u8, number: u32) -> Tag
             constructed,
             number,
         }
+    }
+}
+
+// The tag of an identifier under the Basic Encoding Rules, by its first octet, and by its number
+// where that is 40 or more.
+#[cold]
+pub(crate) fn tag_of_identifier(first: u8, number: u32) -> Tag
+    ensures { result ≡ identifier_tag first number }
+{
+    if first >= 0x40 {
+        return other(first, number);
+    }
+    match universal(first) {
+        Some(tag) => tag,
+        None => Tag::OctetString,
     }
 }
 
@@ -141,7 +164,7 @@ pub(crate) fn decode_identifier_behind<R: Reader>(
 
 // What is said of a first octet below 40 that no universal tag has.
 #[cold]
-fn unknown(first: u8) -> ErrorKind
+pub(crate) fn unknown(first: u8) -> ErrorKind
     ensures { result ≡ identifier_kind [] first }
 {
     if first == 0x1F {

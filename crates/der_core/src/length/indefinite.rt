@@ -1,16 +1,21 @@
 //! Indefinite lengths (X.690 8.1.3.6).
-ghost use Rattle.std.specs.Prelude.{◌≡◌, ◌≢◌, ◌≤◌, true, IfOk, IfErr};
+ghost use Rattle.std.specs.Prelude.{◌≡◌, ◌≢◌, ◌+◌, ◌^◌, ◌<◌, ◌≤◌, true, length, IfOk, IfErr};
 ghost use Rattle.der_base.specs.declared.encoding_rules.EncodingRules.TheVariants.{Ber};
 ghost use Rattle.der_base.specs.declared.error.ErrorKind.TheVariants.{Length as IncorrectLength};
+ghost use Rattle.der_base.specs.Length.{number};
 ghost use Rattle.der_core.specs.AfterFirstOctet.{DefiniteBehind, RefusesLongLength};
 ghost use Rattle.der_core.specs.ReaderState.{rest, Same};
 ghost use Rattle.der_core.specs.Scan.{Scans, ScansAhead, IsTurned};
 ghost use Rattle.der_core.specs.Turn.{PartRead, RefusesPart};
+ghost use Rattle.der_core.specs.Walk.{walked_state};
 
+mod walk;
+
+use crate::length::indefinite::walk::Walk;
 use crate::length::turns::Turns;
 use crate::length::{INDEFINITE, decode_long_length};
 use crate::reader::value::read_zero_octet;
-use crate::reader::{Reader, ReaderExt};
+use crate::reader::{Octets, Reader, ReaderExt};
 use crate::tag::{decode_identifier_behind, universal_by_table};
 use der_base::{Error, ErrorKind, Length, Tag};
 use std::marker::Brand;
@@ -125,23 +130,80 @@ fn decode_definite<R: Reader>(reader: &mut R, first: u8, tag: Tag) -> Result<u32
     decode_long_length(reader, first, Some(tag))
 }
 
-// Scans the body ahead of a fork where nobody counts the turns. It takes the fork by value, since a
-// reader whose address is handed to a call is kept in no registers.
-#[cold]
-pub(crate) fn scan_uncounted<R: Reader>(fork: R) -> Result<Length, Error>
-    requires ber { (R.state fork).rules ≡ Ber }
-    ensures { ScansAhead R.reliable (R.state fork) result }
+// Scans the body ahead of a reader, which stays: by an index where it lends octets, else by a fork.
+#[inline(always)]
+pub(crate) fn scan_ahead<R: Reader, L: Ledger>(
+    reader: &R,
+    turns: &mut Turns<L>,
+) -> Result<Length, Error>
+    requires ber { (R.state reader.now).rules ≡ Ber }
+    ensures scans { ScansAhead R.reliable (R.state reader.now) result }
+    ensures turned { IsTurned (rest (R.state reader.now)) result turns.old turns.new }
 {
-    scan_counted::<R, Brand>(fork, Blank::new(1))
+    match reader.remaining() {
+        Ok(lent) => scan_slice(lent.as_slice(), reader.position(), turns),
+        Err(_) => scan_fork(reader.fork(), turns),
+    }
 }
 
-fn scan_counted<R: Reader, L: Ledger>(fork: R, blank: Blank) -> Result<Length, Error>
+// Scans the body at the front of octets that stand from a position on.
+fn scan_slice<L: Ledger>(
+    octets: &[u8],
+    start: Length,
+    turns: &mut Turns<L>,
+) -> Result<Length, Error>
+    requires { number start + length octets.now < 2 ^ 32 }
+    ensures scans { ScansAhead true (walked_state octets.now (number start) 0) result }
+    ensures turned { IsTurned octets.now result turns.old turns.new }
+{
+    let start = u32::from(start) as usize;
+    let mut walk = Walk::new(octets, start);
+    let mut level = 1;
+    'turns: loop {
+        turns.tick();
+        let part = walk.next_part(level)?;
+        match part {
+            Part::Ends => {
+                level -= 1;
+                if level == 0 {
+                    return Ok(Length::new_indefinite((walk.position() - start) as u32));
+                }
+            }
+            Part::Passes => {}
+            Part::Opens => level += 1,
+        }
+    }
+}
+
+// Scans the body ahead of a fork, octet by octet. It takes the fork by value, since a reader whose
+// address is handed to a call is kept in no registers.
+#[cold]
+fn scan_fork<R: Reader, L: Ledger>(fork: R, turns: &mut Turns<L>) -> Result<Length, Error>
     requires ber { (R.state fork).rules ≡ Ber }
+    ensures scans { ScansAhead R.reliable (R.state fork) result }
+    ensures turned { IsTurned (rest (R.state fork)) result turns.old turns.new }
+{
+    let mut fork = fork;
+    decode_indefinite_length(&mut fork, turns)
+}
+
+// Scans the body ahead of a reader, which stays, where nobody counts the turns.
+#[inline(always)]
+pub(crate) fn scan_uncounted<R: Reader>(reader: &R) -> Result<Length, Error>
+    requires ber { (R.state reader.now).rules ≡ Ber }
+    ensures { ScansAhead R.reliable (R.state reader.now) result }
+{
+    scan_counted::<R, Brand>(reader, Blank::new(1))
+}
+
+#[inline(always)]
+fn scan_counted<R: Reader, L: Ledger>(reader: &R, blank: Blank) -> Result<Length, Error>
+    requires ber { (R.state reader.now).rules ≡ Ber }
     requires name { blank.name ≡ L.name }
     requires parts { blank.parts ≡ L.parts }
     requires whole { blank.parts ≡ 1 }
-    ensures { ScansAhead R.reliable (R.state fork) result }
+    ensures { ScansAhead R.reliable (R.state reader.now) result }
 {
     let mut turns = Turns::<L>::new(blank);
-    fork.scan_indefinite(&mut turns)
+    scan_ahead(reader, &mut turns)
 }

@@ -20,7 +20,7 @@ ghost use Rattle.der_core.specs.Element.{ElementReadBy};
 
 use crate::decode::Decode;
 use crate::header::{Header, decode_header};
-use crate::length::indefinite::decode_indefinite_length;
+use crate::length::indefinite::scan_ahead;
 use crate::length::turns::Turns;
 use crate::reader::value::read_contents;
 use crate::reader::{Reader, Resumption};
@@ -208,8 +208,7 @@ pub trait ReaderExt: Reader {
         ensures scans { ScansAhead Self.reliable (Self.state self.now) result }
         ensures turned { IsTurned (rest (Self.state self.now)) result turns.old turns.new }
     {
-        let mut fork = self.fork();
-        decode_indefinite_length(&mut fork, turns)
+        scan_ahead(self, turns)
     }
 
     /// Lends the octets of the whole element ahead, header and contents.

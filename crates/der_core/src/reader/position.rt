@@ -1,5 +1,6 @@
 //! Positions in an input, and parts of it.
-ghost use Rattle.std.specs.Prelude.{◌≡◌, ◌^◌, ◌<◌};
+ghost use Rattle.std.specs.Prelude.{◌≡◌, ◌+◌, ◌^◌, ◌<◌};
+ghost use Rattle.der_base.specs.Error.{missing_refusal};
 
 use der_base::{Error, ErrorKind, Length};
 use std::alloc::AllocError;
@@ -35,8 +36,8 @@ impl Clone for Position {
 }
 
 impl Position {
-    ghost use Rattle.std.specs.Prelude.{◌+◌, ◌-◌};
-    ghost use Rattle.der_base.specs.Error.{at, missing_refusal};
+    ghost use Rattle.std.specs.Prelude.{◌-◌};
+    ghost use Rattle.der_base.specs.Error.{at};
     ghost use Rattle.der_base.specs.Length.{number, definite_length};
     ghost use Rattle.der_core.specs.Outcome.{map_ok};
     ghost use Rattle.der_core.specs.Position.{position_place, place_at, Moves, advance_outcome, part_end, nested_place, split_nested_outcome};
@@ -111,19 +112,11 @@ impl Position {
     }
 
     // The error where so many octets are not there.
-    #[cold]
     pub(super) fn missing(&self, count: u32) -> Error
         ensures { result ≡ (missing_refusal (self.now.position + count) self.now.end
             self.now.position).error }
     {
-        let behind = self.position + count as usize;
-        if behind > u32::MAX as usize {
-            return ErrorKind::Overflow.to_error();
-        }
-        self.error(ErrorKind::Incomplete {
-            expected_len: Length::new(behind as u32),
-            actual_len: self.input_len(),
-        })
+        missing_octets(self.position, count, self.end)
     }
 
     /// Enters a part of `len` octets and gives what to go back to.
@@ -184,6 +177,23 @@ impl Position {
         self.end = u32::from(resumption.input_len());
         self.depth = resumption.depth();
     }
+}
+
+// The error where so many octets are not there at a position, in an input that ends so.
+#[cold]
+pub(crate) fn missing_octets(position: usize, count: u32, end: u32) -> Error
+    requires { position < 2 ^ 32 }
+    ensures { result ≡ (missing_refusal (position + count) end position).error }
+{
+    let behind = position + count as usize;
+    if behind > u32::MAX as usize {
+        return ErrorKind::Overflow.to_error();
+    }
+    let kind = ErrorKind::Incomplete {
+        expected_len: Length::new(behind as u32),
+        actual_len: Length::new(end),
+    };
+    kind.at(Length::new(position as u32))
 }
 
 /// What a part that is left goes back to: the end and the depth around it.

@@ -7,7 +7,7 @@ use der_base::{EncodingRules, Error, ErrorKind, Length};
 use std::alloc::Allocator;
 
 // how many octets `drain` passes in one step
-const STEP: u32 = 16;
+pub(crate) const STEP: u32 = 16;
 
 /// A reader of the octets of a slice, which it lends.
 #[derive(Debug)]

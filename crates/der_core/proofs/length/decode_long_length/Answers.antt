@@ -1,8 +1,7 @@
-use Rattle.std.proofs.Common.{◌≡◌, ℕ, ◌-◌, ◌∙◌, subst, arith}
+use Rattle.std.proofs.Common.{◌∙◌, arith}
 use Rattle.std.proofs.lemmas.Result.{err_from_is_err_and}
-use Rattle.der_core.specs.ReaderState.{ReaderState}
 use Rattle.der_core.proofs.StateLemmas.{byte_read, byte_refused, cut_refused, failed_on}
-use Rattle.der_core.proofs.LengthReadLemmas.{DigitsSoFar, digits_next, digits_fit, refused_far, refused_cut, refused_longer, found_long}
+use Rattle.der_core.proofs.LengthReadLemmas.{digits_next, digits_fit, digits_whole, refused_far, refused_cut, refused_longer, found_long}
 use Rattle.der_core.proofs.length.decode_long_length.Goals as goal
 
 pub returns-then-first-gt132-clause-exact : goal.returns-then-first-gt132-clause-exact
@@ -26,15 +25,11 @@ overflow_add-number g c = omega (arith, digits_fit c.loop-i.invariant (omega ari
 pub loop-i-preserved : goal.loop-i-preserved
 loop-i-preserved g c = digits_next c.loop-i.invariant (byte_read c.in_ok-octet.ensures.exact) (omega arith)
 
--- all octets that the first announces
-whole : (i o : ℕ) → i ≡ o - 128 → (a b : ReaderState) (n : ℕ) → DigitsSoFar a b i n → DigitsSoFar a b (o - 128) n
-whole i o e a b n h = subst (λ k. DigitsSoFar a b k n) e h
-
 pub returns-then-number-least_of-clause-exact : goal.returns-then-number-least_of-clause-exact
 returns-then-number-least_of-clause-exact g c reliable =
-    refused_longer (whole c.loop-i.i c.args.first (omega arith) _ _ _ c.loop-i.invariant) (omega (arith, c.requires)) (omega arith) c.least_of.ensures c.if-number-least_of.true
+    refused_longer (digits_whole c.loop-i.i c.args.first (omega arith) c.loop-i.invariant) (omega (arith, c.requires)) (omega arith) c.least_of.ensures c.if-number-least_of.true
     (let told = c.error-then-number-least_of.ensures.at_position in let kind = c.wrong_length-then-number-least_of.ensures in cc) c.error-then-number-least_of.ensures.failed
 
 pub returns-clause-ok : goal.returns-clause-ok
 returns-clause-ok g c =
-    found_long (whole c.loop-i.i c.args.first (omega arith) _ _ _ c.loop-i.invariant) (omega (arith, c.requires)) c.least_of.ensures c.if-number-least_of.false (omega arith)
+    found_long (digits_whole c.loop-i.i c.args.first (omega arith) c.loop-i.invariant) (omega (arith, c.requires)) c.least_of.ensures c.if-number-least_of.false (omega arith)

@@ -1,0 +1,117 @@
+-- A walk over octets by an index, as a reader that stands there.
+use Rattle.std.proofs.Common.{◌≡◌, ℕ, ◌+◌, ◌-◌, ◌^◌, ◌<◌, ◌≤◌, Bool, true, false, IsTrue, List, [], ◌++◌, length, take, drop, replicate, Result, Ok, Err, refl, sym, ap, ◌∙◌, subst, length-append, length-drop, if◌then◌else◌, arith}
+use Rattle.std.proofs.Math.Seq.{drop-append-add}
+use Rattle.std.proofs.lemmas.List.{take_all, length-replicate}
+use Rattle.der_base.specs.Length.{definite_length}
+use Rattle.der_base.specs.Error.{Refusal, end_refusal}
+use Rattle.der_base.specs.Scan.{BodyAhead, BodyFault, short_refusal}
+use Rattle.der_base.specs.declared.error.Error.{Error}
+use Rattle.der_base.specs.declared.length.Length.{Length}
+use Rattle.der_base.specs.declared.encoding_rules.EncodingRules.TheVariants.{Ber}
+use Rattle.der_core.specs.ReaderState.{ReaderState, rest, stopped_state, state_after, advanced_state, IsSound, Same, Reads}
+use Rattle.der_core.specs.Outcome.{Gives}
+use Rattle.der_core.specs.Reader.{drain_outcome}
+use Rattle.der_core.specs.Decode.{Passes, IsRefusedBy, has_failed, at_fault}
+use Rattle.der_core.specs.Scan.{ScansAhead}
+use Rattle.der_core.specs.AfterFirstOctet.{IsToldBy}
+use Rattle.der_core.specs.Walk.{walked_state, walk_state}
+use Rattle.der_core.specs.declared.length.indefinite.walk.Walk.{Walk}
+use Rattle.der_core.proofs.StateLemmas.{ByteRefused, byte_cut, position_on, failed_on, same_trans, length-rest}
+use Rattle.der_core.proofs.DecodeLemmas.{decoded_ok, decoded_err}
+use Rattle.der_core.proofs.TurnLemmas.{drain_refused}
+
+-- what is left of the octets
+pub walked_rest : (octets : List ℕ) (start index : ℕ) → rest (walked_state octets start index) ≡ drop index octets
+walked_rest octets start index =
+    let behind : drop (start + index) (replicate start 0 ++ octets) ≡ drop index octets =
+    ap (λ n. drop (n + index) (replicate start 0 ++ octets)) (sym (length-replicate start 0)) ∙ drop-append-add (replicate start 0) octets index in
+    ap (take (start + length octets - (start + index))) behind ∙ take_all (start + length octets - (start + index)) (drop index octets) (omega (arith, length-drop index octets))
+
+pub walked_sound : (octets : List ℕ) (start index : ℕ) → index ≤ length octets → start + length octets < 2 ^ 32 → IsSound (walked_state octets start index)
+walked_sound octets start index within small =
+    let long : length (replicate start 0 ++ octets) ≡ start + length octets = length-append (replicate start 0) octets ∙ ap (λ n. n + length octets) (length-replicate start 0) in
+    record { ordered = omega (arith, within); in_input = omega (arith, long); addressable = omega (arith, long, small); shallow = omega arith; marked = λ failed. refl }
+
+pub walk_sound : (w : Walk) → IsSound (walk_state w)
+walk_sound w = walked_sound w.octets.now w.start w.index w.within w.addressable
+
+-- the same reader is handed back, where octets were read
+pub reads_same : {a b : ReaderState} {x : List ℕ} → IsSound b → Reads a b x → Same a b
+reads_same {a} {b} sound h =
+    record {
+      input = ap (λ (s : ReaderState). s.input) h.state;
+      rules = ap (λ (s : ReaderState). s.rules) h.state;
+      end = ap (λ (s : ReaderState). s.end) h.state;
+      depth = ap (λ (s : ReaderState). s.depth) h.state;
+      marks = ap (λ (s : ReaderState). s.marks) h.state;
+      forward = omega (arith, position_on h);
+      within = sound.ordered;
+      failed = λ f. subst IsTrue (sym (failed_on h)) f;
+    }
+
+-- and where it was refused, no further than its end
+pub after_same : (s : ReaderState) → IsSound s → (r : Refusal) → s.position ≤ r.position → r.position ≤ s.end → Same s (state_after s r)
+after_same s sound r forward within = record { input = refl; rules = refl; end = refl; depth = refl; marks = refl; forward = forward; within = within; failed = kept r.fails }
+  where
+    kept : (fails : Bool) → IsTrue s.failed → IsTrue (if fails then s.marks else s.failed)
+    kept true f = sound.marked f
+    kept false f = f
+
+-- no octet is left
+pub cut_told : (w : Walk) {e : Error} → rest (walk_state w) ≡ [] → e ≡ (end_refusal (walk_state w).position).error → IsToldBy ByteRefused (walk_state w) e
+cut_told w none told =
+    let s = walk_state w in
+    let sound = walk_sound w in
+    (state_after s (end_refusal s.position), after_same s sound (end_refusal s.position) (omega arith) sound.ordered, byte_cut refl none (record { told = told; leaves = refl }))
+
+-- what is refused behind octets that were read, by the walk there or where it stands
+pub told_behind : (Q R : ReaderState → Error → ReaderState → Type 0) {a : ReaderState} {x : List ℕ} {e : Error} (w : Walk) → Reads a (walk_state w) x → IsToldBy Q (walk_state w) e
+    → ((t : ReaderState) → Q (walk_state w) e t → R a e t) → IsToldBy R a e
+told_behind Q R w h told f = (told.0, same_trans (reads_same (walk_sound w) h) told.1, f told.0 told.2)
+
+pub told_there : (R : ReaderState → Error → ReaderState → Type 0) {a : ReaderState} {x : List ℕ} {e : Error} (w : Walk) → Reads a (walk_state w) x
+    → R a e (stopped_state (walk_state w) (walk_state w).position) → IsToldBy R a e
+told_there R w h refused =
+    let s = walk_state w in
+    let sound = walk_sound w in
+    (stopped_state s s.position, same_trans (reads_same sound h) (record { input = refl; rules = refl; end = refl; depth = refl; marks = refl; forward = omega arith; within = sound.ordered; failed = sound.marked }), refused)
+
+-- too few octets are left for contents
+pub short_told : (w : Walk) (n : ℕ) {e : Error} → Err e ≡ (drain_outcome (definite_length n) (walk_state w)).answer → IsToldBy (λ s e t. Gives (drain_outcome (definite_length n)) s (Err e) t) (walk_state w) e
+short_told w n {e} told =
+    let s = walk_state w in
+    let sound = walk_sound w in
+    let gives : Gives (drain_outcome (definite_length n)) s (Err e) (drain_outcome (definite_length n) s).after = record { answered = told; leaves = refl } in
+    let r = drain_refused s n sound refl gives in
+    let left = length-rest s sound in
+    let same : Same s (state_after s (short_refusal n (length (rest s)) s.position)) =
+    after_same s sound (short_refusal n (length (rest s)) s.position) (omega arith) (omega (arith, left, sound.ordered)) in
+    ((drain_outcome (definite_length n) s).after, subst (Same s) (sym r.1.leaves) same, gives)
+
+-- a scan of the octets ahead of a reader is a scan ahead of it
+pub scans_rest : (s : ReaderState) (reliable : Bool) (result : Result Length Error) → IsSound s → s.failed ≡ false → s.rules ≡ Ber
+    → ScansAhead true (walked_state (rest s) s.position 0) result → ScansAhead reliable s result
+scans_rest s reliable (Ok l) sound working ber (t, h) =
+    let w = walked_state (rest s) s.position 0 in
+    let all : rest w ≡ rest s = walked_rest (rest s) s.position 0 in
+    let m = h.ok.octets in
+    let there : m ≤ length (rest s) = omega (arith, h.ok.there, ap length all) in
+    let ahead : BodyAhead l s.rules (rest s) m = subst (λ q. BodyAhead l s.rules q m) all (subst (λ rules. BodyAhead l rules (rest w) m) (sym ber) h.ok.ahead) in
+    let passes : Passes (BodyAhead l) s (advanced_state s m) = record { octets = m; working = working; ahead = ahead; there = there; leaves = refl } in
+    let same : Same s (advanced_state s m) = record { input = refl; rules = refl; end = refl; depth = refl; marks = refl; forward = omega arith; within = omega (arith, there, length-rest s sound, sound.ordered); failed = λ f. f } in
+    (advanced_state s m, decoded_ok same passes)
+scans_rest s reliable (Err e) sound working ber (t, h) = refused_so (h.refused refl)
+  where
+    w : ReaderState
+    w = walked_state (rest s) s.position 0
+
+    refused_so : IsRefusedBy (λ rules. BodyFault) w e t → ScansAhead reliable s (Err e)
+    refused_so (has_failed f told leaves) = absurd (let no : false ≡ true = f in cc)
+    refused_so (at_fault r w' fault told leaves) =
+        let all : rest w ≡ rest s = walked_rest (rest s) s.position 0 in
+        let here : w.position ≡ s.position = omega arith in
+        let there : t.position ≡ r.position = ap (λ (x : ReaderState). x.position) leaves in
+        let end : t.end ≡ s.position + length (rest s) = h.same.end in
+        let same : Same s (state_after s r) = after_same s sound r (omega (arith, h.same.forward, there)) (omega (arith, h.same.within, there, end, length-rest s sound, sound.ordered)) in
+        let stands : BodyFault s.position (rest s) r = subst (λ q. BodyFault s.position q r) all (subst (λ n. BodyFault n (rest w) r) here fault) in
+        (state_after s r, decoded_err same (λ reliable. at_fault r working stands told refl))

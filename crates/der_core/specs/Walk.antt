@@ -1,0 +1,21 @@
+-- What a walk over octets by an index means: a reader under BER that stands at the index.
+use Rattle.std.specs.Prelude.{ℕ, ◌+◌, true, false, List, ◌++◌, length, replicate}
+use Rattle.der_base.specs.declared.encoding_rules.EncodingRules.TheVariants.{Ber}
+use Rattle.der_core.specs.ReaderState.{ReaderState}
+use Rattle.der_core.specs.declared.length.indefinite.walk.Walk.{Walk}
+
+-- octets stand from a position on, whatever stands before them, and so many of them are passed
+abbrev pub walked_state : List ℕ → ℕ → ℕ → ReaderState
+walked_state octets start index =
+    record {
+      input = replicate start 0 ++ octets;
+      rules = Ber;
+      end = start + length octets;
+      position = start + index;
+      depth = 0;
+      failed = false;
+      marks = true;
+    }
+
+abbrev pub walk_state : Walk → ReaderState
+walk_state w = walked_state w.octets.now w.start w.index
