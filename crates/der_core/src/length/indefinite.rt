@@ -1,13 +1,11 @@
 //! Indefinite lengths (X.690 8.1.3.6).
-ghost use Rattle.std.specs.Prelude.{◌≡◌, ◌≢◌, ◌+◌, ◌^◌, ◌<◌, ◌≤◌, true, length, IfOk, IfErr};
+ghost use Rattle.std.specs.Prelude.{◌≡◌, ◌≢◌, ◌≤◌, true, IfOk, IfErr};
 ghost use Rattle.der_base.specs.declared.encoding_rules.EncodingRules.TheVariants.{Ber};
 ghost use Rattle.der_base.specs.declared.error.ErrorKind.TheVariants.{Length as IncorrectLength};
-ghost use Rattle.der_base.specs.Length.{number};
 ghost use Rattle.der_core.specs.AfterFirstOctet.{DefiniteBehind, RefusesLongLength};
 ghost use Rattle.der_core.specs.ReaderState.{rest, Same};
 ghost use Rattle.der_core.specs.Scan.{Scans, ScansAhead, IsTurned};
 ghost use Rattle.der_core.specs.Turn.{PartRead, RefusesPart};
-ghost use Rattle.der_core.specs.Walk.{walked_state};
 
 mod walk;
 
@@ -141,37 +139,8 @@ pub(crate) fn scan_ahead<R: Reader, L: Ledger>(
     ensures turned { IsTurned (rest (R.state reader.now)) result turns.old turns.new }
 {
     match reader.remaining() {
-        Ok(lent) => scan_slice(lent.as_slice(), reader.position(), turns),
+        Ok(lent) => Walk::scan(lent.as_slice(), reader.position(), turns),
         Err(_) => scan_fork(reader.fork(), turns),
-    }
-}
-
-// Scans the body at the front of octets that stand from a position on.
-fn scan_slice<L: Ledger>(
-    octets: &[u8],
-    start: Length,
-    turns: &mut Turns<L>,
-) -> Result<Length, Error>
-    requires { number start + length octets.now < 2 ^ 32 }
-    ensures scans { ScansAhead true (walked_state octets.now (number start) 0) result }
-    ensures turned { IsTurned octets.now result turns.old turns.new }
-{
-    let start = u32::from(start) as usize;
-    let mut walk = Walk::new(octets, start);
-    let mut level = 1;
-    'turns: loop {
-        turns.tick();
-        let part = walk.next_part(level)?;
-        match part {
-            Part::Ends => {
-                level -= 1;
-                if level == 0 {
-                    return Ok(Length::new_indefinite((walk.position() - start) as u32));
-                }
-            }
-            Part::Passes => {}
-            Part::Opens => level += 1,
-        }
     }
 }
 

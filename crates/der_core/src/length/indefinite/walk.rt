@@ -2,13 +2,16 @@
 ghost use Rattle.std.specs.Prelude.{◌≡◌, ◌≢◌, ◌+◌, ◌^◌, ◌<◌, ◌≤◌, true, [], ◌∷◌, length, Err, IfOk, IfErr, OnOk};
 
 use crate::length::indefinite::{MAX_LEVEL, Part};
+use crate::length::turns::Turns;
 use crate::length::{INDEFINITE, least_of};
 use crate::reader::position::missing_octets;
 use crate::reader::slice::STEP;
 use crate::tag::{has_constructed_bit, is_ber_identifier, tag_of_identifier, unknown};
 use der_base::{Error, ErrorKind, Length};
+use std::sync::ledger::Ledger;
 
 // Octets that stand from a position on, and how many of them are passed.
+#[derive(Drop)]
 pub(super) struct Walk<'a> {
     octets: &'a [u8],
     start: usize,
@@ -17,31 +20,52 @@ pub(super) struct Walk<'a> {
     ghost addressable: { start + length octets.now < 2 ^ 32 },
 }
 
-impl Drop for Walk<'_> {
-    fn drop(self) {
-        let Walk {
-            octets: _,
-            start: _,
-            index: _,
-        } = self;
-    }
-}
-
 impl<'a> Walk<'a> {
     ghost use Rattle.der_base.specs.Error.{at, end_refusal, missing_refusal};
-    ghost use Rattle.der_base.specs.Length.{definite_length, digits};
+    ghost use Rattle.der_base.specs.Length.{definite_length, digits, number};
     ghost use Rattle.der_base.specs.Tag.{continuation_octets, is_constructed};
     ghost use Rattle.der_base.specs.declared.error.ErrorKind.TheVariants.{Length as IncorrectLength};
     ghost use Rattle.der_core.specs.AfterFirstOctet.{DefiniteBehind, IdentifierBehind, IsToldBy, RefusesIdentifier, RefusesLongLength, RefusesNumber, identifier_tag};
     ghost use Rattle.der_core.specs.Outcome.{Gives};
     ghost use Rattle.der_core.specs.Reader.{drain_outcome};
     ghost use Rattle.der_core.specs.ReaderState.{rest, reader_position, Reads};
+    ghost use Rattle.der_core.specs.Scan.{ScansAhead, IsTurned};
     ghost use Rattle.der_core.specs.Turn.{PartRead, RefusesPart};
     ghost use Rattle.der_core.specs.Walk.{walked_state, walk_state};
 
+    // Scans the body at the front of octets that stand from a position on.
+    pub(super) fn scan<L: Ledger>(
+        octets: &'a [u8],
+        start: Length,
+        turns: &mut Turns<L>,
+    ) -> Result<Length, Error>
+        requires { number start + length octets.now < 2 ^ 32 }
+        ensures scans { ScansAhead true (walked_state octets.now (number start) 0) result }
+        ensures turned { IsTurned octets.now result turns.old turns.new }
+    {
+        let start = u32::from(start) as usize;
+        let mut walk = Walk::new(octets, start);
+        let mut level = 1;
+        'turns: loop {
+            turns.tick();
+            let part = walk.next_part(level)?;
+            match part {
+                Part::Ends => {
+                    level -= 1;
+                    if level == 0 {
+                        let count = walk.position() - start;
+                        return Ok(Length::new_indefinite(count as u32));
+                    }
+                }
+                Part::Passes => {}
+                Part::Opens => level += 1,
+            }
+        }
+    }
+
     // At the first of octets that stand from a position on.
     #[inline(always)]
-    pub(super) fn new(octets: &'a [u8], start: usize) -> Self
+    fn new(octets: &'a [u8], start: usize) -> Self
         requires { start + length octets.now < 2 ^ 32 }
         ensures { walk_state result ≡ walked_state octets.now start 0 }
     {
@@ -54,7 +78,7 @@ impl<'a> Walk<'a> {
 
     // The position, in octets from the beginning of the input.
     #[inline(always)]
-    pub(super) fn position(&self) -> usize
+    fn position(&self) -> usize
         ensures { result ≡ (walk_state self.now).position }
     {
         self.start + self.index
@@ -88,7 +112,7 @@ impl<'a> Walk<'a> {
 
     // Reads what a body goes on with, so many of which are open.
     #[inline(always)]
-    pub(super) fn next_part(&mut self, level: u8) -> Result<Part, Error>
+    fn next_part(&mut self, level: u8) -> Result<Part, Error>
         requires levels { (1 ≤ level) × (level ≤ 64) }
         ensures ok { IfOk result (λ part. PartRead level part (walk_state self.old)
             (walk_state self.new)) }
@@ -169,21 +193,23 @@ impl<'a> Walk<'a> {
         }
     }
 
-    // A definite length behind its first octet, and behind an identifier that began with `tag_octet`.
+    // A definite length behind its first octet, and behind the identifier of this first octet and
+    // number.
     #[inline(always)]
-    fn read_definite(&mut self, first: u8, tag_octet: u8, number: u32) -> Result<u32, Error>
+    fn read_definite(&mut self, first: u8, leading: u8, number: u32) -> Result<u32, Error>
         requires { first ≢ 128 }
         ensures ok { IfOk result (λ n. DefiniteBehind first n (walk_state self.old)
             (walk_state self.new)) }
         ensures exact { IfErr result
-            (λ e. IsToldBy (RefusesLongLength (IncorrectLength (identifier_tag tag_octet number)) first)
+            (λ e. IsToldBy
+            (RefusesLongLength (IncorrectLength (identifier_tag leading number)) first)
             (walk_state self.old) e) }
     {
         if first < INDEFINITE {
             return Ok(first as u32);
         }
         if first > 0x84 {
-            return Err(self.error(tag_of_identifier(tag_octet, number).length_error()));
+            return Err(self.error(tag_of_identifier(leading, number).length_error()));
         }
         let count = first - INDEFINITE;
         let mut value = 0u32;
@@ -192,7 +218,7 @@ impl<'a> Walk<'a> {
             value = value * 256 + octet as u32;
         }
         if value < least_of(count) {
-            return Err(self.error(tag_of_identifier(tag_octet, number).length_error()));
+            return Err(self.error(tag_of_identifier(leading, number).length_error()));
         }
         Ok(value)
     }

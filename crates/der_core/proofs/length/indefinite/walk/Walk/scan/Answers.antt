@@ -7,7 +7,7 @@ use Rattle.der_core.proofs.ScanReadLemmas.{Reached, reached_none, reached_passes
 use Rattle.der_core.proofs.StateLemmas.{same_trans}
 use Rattle.der_core.proofs.DecodeLemmas.{decoded_ok, decoded_err}
 use Rattle.der_core.proofs.WalkLemmas.{walk_sound, walked_sound, walked_rest, reads_same}
-use Rattle.der_core.proofs.length.indefinite.scan_slice.Goals as goal
+use Rattle.der_core.proofs.length.indefinite.walk.Walk.scan.Goals as goal
 
 pub turns-init : goal.turns-init
 turns-init g c =

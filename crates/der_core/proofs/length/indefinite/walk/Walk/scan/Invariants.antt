@@ -2,7 +2,7 @@ use Rattle.std.proofs.Common.{◌≡◌, ℕ, ◌+◌, ◌-◌, ◌≤◌}
 use Rattle.der_base.specs.Length.{number}
 use Rattle.der_core.specs.Walk.{walked_state, walk_state}
 use Rattle.der_core.proofs.ScanReadLemmas.{Reached}
-use Rattle.der_core.proofs.length.indefinite.scan_slice.Given as goal
+use Rattle.der_core.proofs.length.indefinite.walk.Walk.scan.Given as goal
 
 abbrev pub invariant-turns : goal.invariant-turns
 invariant-turns g l =
