@@ -1,0 +1,110 @@
+//! Bodies behind the two octets of a header, and each beginning of them.
+use super::scans::{Answer, answer_between};
+use super::*;
+use crate::checks::same;
+use std::process::Abort;
+
+// A body of so many octets, with its end mark.
+fn body_of(count: u32) -> Answer {
+    Ok(Length::new_indefinite(count))
+}
+
+// Behind the first two octets both scans answer so, and answer the same of each beginning. Where a
+// part ends before it, an end mark follows.
+fn scans_each_cut(
+    rt: &impl Abort,
+    alloc: Global,
+    octets: &[u8],
+    expected: Answer,
+) -> Result<(), Fail> {
+    let count = u32::from(Length::new_usize(octets.len())?);
+    let mut longer = Vec::from_slice(alloc, octets)?;
+    longer.extend_from_slice(&[0x00, 0x00])?;
+    for end in 2..count {
+        let _ = answer_between(rt, longer.as_slice(), 2, end)?;
+    }
+    same(
+        rt,
+        answer_between(rt, longer.as_slice(), 2, count)?,
+        expected,
+    );
+    Ok(())
+}
+
+#[test]
+fn short_bodies(rt: HostRuntime) -> Result<(), Fail> {
+    let rows = [
+        (SEGMENT_OF_ZEROS.as_slice(), 10),
+        ([0x04, 0x80, 0x00, 0x00].as_slice(), 2),
+        ([0x30, 0x80, 0x05, 0x00, 0x00, 0x00].as_slice(), 4),
+        (
+            [0x30, 0x80, 0xBF, 0x21, 0x80, 0x00, 0x00, 0x00, 0x00].as_slice(),
+            7,
+        ),
+    ];
+    for (octets, count) in rows {
+        scans_each_cut(&rt, rt.alloc(), octets, body_of(count))?;
+    }
+    Ok(())
+}
+
+#[test]
+fn a_body_of_eight_steps(rt: HostRuntime) -> Result<(), Fail> {
+    let octets = around_contents(rt.alloc(), 126)?;
+    scans_each_cut(&rt, rt.alloc(), octets.as_slice(), body_of(130))
+}
+
+#[test]
+fn as_many_bodies_as_may_be_open(rt: HostRuntime) -> Result<(), Fail> {
+    let octets = around_null(rt.alloc(), 64)?;
+    scans_each_cut(&rt, rt.alloc(), octets.as_slice(), body_of(256))
+}
+
+#[test]
+fn more_bodies_than_may_be_open(rt: HostRuntime) -> Result<(), Fail> {
+    let octets = around_null(rt.alloc(), 65)?;
+    scans_each_cut(&rt, rt.alloc(), octets.as_slice(), Err(too_deep(130)))
+}
+
+#[test]
+fn what_is_no_item(rt: HostRuntime) -> Result<(), Fail> {
+    let rows = [
+        ([0x30, 0x80].as_slice(), incomplete(3, 2, 2)),
+        ([0x30, 0x80, 0x00].as_slice(), incomplete(4, 3, 3)),
+        ([0x30, 0x80, 0x00, 0x01].as_slice(), indefinite(4)),
+        ([0x30, 0x80, 0x3F, 0x00].as_slice(), unknown(0x3F, 3)),
+        ([0x30, 0x80, 0x1F].as_slice(), invalid_number(3)),
+        ([0x30, 0x80, 0x5F, 0x9E].as_slice(), incomplete(5, 4, 4)),
+        ([0x30, 0x80, 0x5F, 0x80].as_slice(), invalid_number(4)),
+        ([0x30, 0x80, 0x04, 0x80].as_slice(), indefinite(4)),
+        ([0x04, 0x80].as_slice(), incomplete(3, 2, 2)),
+    ];
+    for (octets, error) in rows {
+        scans_each_cut(&rt, rt.alloc(), octets, Err(error))?;
+    }
+    Ok(())
+}
+
+#[test]
+fn lengths_and_contents_that_are_refused(rt: HostRuntime) -> Result<(), Fail> {
+    let short = [0x30, 0x80, 0x04, 0x81, 0x7F];
+    let many = [0x30, 0x80, 0x04, 0x85];
+    let long = [0x30, 0x80, 0x04, 0x84, 0xFF, 0xFF, 0xFF, 0xFF];
+    let rows = [
+        (short.as_slice(), incorrect(Tag::OctetString, 5)),
+        (many.as_slice(), incorrect(Tag::OctetString, 4)),
+        (
+            [0x30, 0x80, 0x04, 0x82, 0x00].as_slice(),
+            incomplete(6, 5, 5),
+        ),
+        (
+            [0x30, 0x80, 0x04, 0x14, 0x2A, 0x2A, 0x2A].as_slice(),
+            incomplete(20, 7, 4),
+        ),
+        (long.as_slice(), incomplete(24, 8, 8)),
+    ];
+    for (octets, error) in rows {
+        scans_each_cut(&rt, rt.alloc(), octets, Err(error))?;
+    }
+    Ok(())
+}

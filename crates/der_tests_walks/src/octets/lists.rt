@@ -1,0 +1,30 @@
+//! All lists of at most three octets out of six.
+use super::scans::answer_between;
+use super::*;
+use std::process::Abort;
+
+// half an end mark, a BOOLEAN, an OCTET STRING and one of segments, a SEQUENCE, an indefinite form
+const OCTETS: [u8; 6] = [0x00, 0x01, 0x04, 0x24, 0x30, 0x80];
+
+// Of so many octets, the first so many lists by the six as digits.
+fn scan_lists(rt: &impl Abort, count: u32, lists: usize) -> Result<(), Error> {
+    for list in 0..lists {
+        let octets = [
+            OCTETS[list % 6],
+            OCTETS[list / 6 % 6],
+            OCTETS[list / 36 % 6],
+            0x00,
+            0x00,
+        ];
+        let _ = answer_between(rt, &octets, 0, count)?;
+    }
+    Ok(())
+}
+
+#[test]
+fn lists_of_at_most_three_octets(rt: HostRuntime) -> Result<(), Fail> {
+    for (count, lists) in [(0, 1), (1, 6), (2, 36), (3, 216)] {
+        scan_lists(&rt, count, lists)?;
+    }
+    Ok(())
+}
