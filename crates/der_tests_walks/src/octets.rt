@@ -1,5 +1,5 @@
 //! Scans of slices, compared with those that read octet by octet.
-use der::{Error, Length, Reader, ReaderExt, Tag, Turns};
+use der::{EncodingRules, Error, Length, Reader, ReaderExt, SliceReader, Tag, Turns};
 use der_fixtures::bodies::{SEGMENT_OF_ZEROS, around_contents, around_null, first_octets};
 use der_fixtures::errors::{incomplete, incorrect, indefinite, invalid_number, too_deep, unknown};
 use der_fixtures::readers::ber_reader;
@@ -9,3 +9,4 @@ use std::test::Fail;
 mod cuts;
 mod lists;
 mod scans;
+mod turns;

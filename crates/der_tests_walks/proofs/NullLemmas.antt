@@ -1,0 +1,40 @@
+-- Three NULLs and an end mark, scanned from the beginning of an input.
+use Rattle.std.proofs.Common.{◌≡◌, ℕ, ◌+◌, true, Result, Ok, Err, List, [], ◌∷◌, refl, sym, ap, ◌∙◌, arith}
+use Rattle.der_base.specs.Body.{Item, Body, definite, ends, more}
+use Rattle.der_base.specs.Length.{indefinite_length}
+use Rattle.der_base.specs.Scan.{BodyAhead}
+use Rattle.der_base.specs.Tag.{of_tag}
+use Rattle.der_base.specs.declared.length.Length.{Length}
+use Rattle.der_base.specs.declared.error.Error.{Error}
+use Rattle.der_base.specs.declared.tag.Tag.TheVariants.{Null}
+use Rattle.der_base.specs.declared.encoding_rules.EncodingRules.TheVariants.{Ber}
+use Rattle.der_base.proofs.BodyLemmas.{body_front}
+use Rattle.der_base.proofs.ScanLemmas.{body_grammar}
+use Rattle.der_core.specs.ReaderState.{ReaderState, initial_state, rest}
+use Rattle.der_core.specs.Scan.{ScansAhead, IsTurned}
+use Rattle.der_core.proofs.DecodeLemmas.{accepts, rest-beginning}
+
+abbrev pub nulls : List ℕ
+nulls = 5 ∷ 0 ∷ 5 ∷ 0 ∷ 5 ∷ 0 ∷ 0 ∷ 0 ∷ []
+
+null : Item 1 1 (5 ∷ 0 ∷ [])
+null = definite (omega arith, omega arith) (of_tag {t = Null} (omega arith)) [] (omega arith)
+
+nulls_body : Body 1 4 nulls
+nulls_body = more null (more null (more null (ends (omega arith, omega arith))))
+
+nulls_left : (s : ReaderState) → s ≡ initial_state Ber nulls → rest s ≡ nulls
+nulls_left s e = ap rest e ∙ rest-beginning Ber nulls
+
+-- a scan answers all eight octets
+pub nulls_scanned : (s : ReaderState) (r : Result Length Error) → s ≡ initial_state Ber nulls → ScansAhead true s r → r ≡ Ok (indefinite_length 8)
+nulls_scanned s r e (t, h) =
+    let ahead : BodyAhead (indefinite_length 8) s.rules (rest s) 8 = record { parts = 4; body = nulls; behind = []; is_body = nulls_body; split = nulls_left s e; sized = refl; counts = refl } in
+    (accepts body_grammar s t r (indefinite_length 8) 8 h (ap (λ (x : ReaderState). x.failed) e) ahead).0
+
+-- and takes a turn for each of their four parts
+pub nulls_turned : (s : ReaderState) (r : Result Length Error) (before after : ℕ) → s ≡ initial_state Ber nulls → ScansAhead true s r → IsTurned (rest s) r before after → after ≡ before + 4
+nulls_turned s (Ok l) before after e scans (parts, (body, behind, is, split), counted) =
+    let one = body_front is nulls_body behind [] (sym split ∙ nulls_left s e) in
+    counted ∙ ap (λ n. before + n) one.1
+nulls_turned s (Err x) before after e scans turned = absurd (let no : Err x ≡ Ok (indefinite_length 8) = nulls_scanned s (Err x) e scans in cc)
