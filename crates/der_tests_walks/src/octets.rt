@@ -1,12 +1,14 @@
-//! Scans of slices, compared with those that read octet by octet.
-use der::{EncodingRules, Error, Length, Reader, ReaderExt, SliceReader, Tag, Turns};
+//! Scans and drains of slices, compared with those that read octet by octet.
+use der::{EncodingRules, Error, ErrorKind, Length, Reader, ReaderExt, SliceReader, Tag, Turns};
 use der_fixtures::bodies::{SEGMENT_OF_ZEROS, around_contents, around_null, first_octets};
 use der_fixtures::errors::{incomplete, incorrect, indefinite, invalid_number, too_deep, unknown};
-use der_fixtures::readers::ber_reader;
+use der_fixtures::readers::{ber_reader, place_of};
 use std::alloc::Global;
 use std::test::Fail;
 
 mod cuts;
+mod drains;
 mod lists;
 mod scans;
+mod stepping_reader;
 mod turns;

@@ -1,0 +1,56 @@
+//! Octets that a slice drains at once, and a reader that lends nothing in steps.
+use super::stepping_reader::ber_stepping;
+use super::*;
+use crate::checks::{same, same_at};
+use std::process::Abort;
+
+// Both readers answer the same, and stand at the same place.
+fn drain_both<R: Reader, S: Reader>(rt: &impl Abort, mut reader: R, mut steps: S, amount: Length) {
+    same_at(rt, amount, reader.drain(amount), steps.drain(amount));
+    same_at(rt, amount, place_of(&reader), place_of(&steps));
+}
+
+// The same where the first octets are read, and where both have failed behind them.
+fn drain_behind(rt: &impl Abort, octets: &[u8], passed: u32, amount: Length) -> Result<(), Error> {
+    let mut reader = ber_reader(octets)?;
+    let mut steps = ber_stepping(octets)?;
+    let _ = reader.read_slice(Length::new(passed))?;
+    steps.drain(Length::new(passed))?;
+    drain_both(rt, reader.fork(), steps.fork(), amount);
+    let _ = reader.error(ErrorKind::DateTime);
+    let _ = steps.error(ErrorKind::DateTime);
+    drain_both(rt, reader, steps, amount);
+    Ok(())
+}
+
+// Up to forty octets, flagged and not.
+fn drain_each(rt: &impl Abort, octets: &[u8], passed: u32) -> Result<(), Error> {
+    for amount in 0..=40u32 {
+        drain_behind(rt, octets, passed, Length::new(amount))?;
+        drain_behind(rt, octets, passed, Length::new_indefinite(amount))?;
+    }
+    Ok(())
+}
+
+#[test]
+fn at_most_forty_octets(rt: HostRuntime) -> Result<(), Fail> {
+    let octets = [0x2A; 41];
+    for count in 0..=40usize {
+        drain_each(&rt, first_octets(&octets, count), 0)?;
+        drain_each(&rt, first_octets(&octets, count + 1), 1)?;
+    }
+    Ok(())
+}
+
+#[test]
+fn a_reader_that_has_failed(rt: HostRuntime) -> Result<(), Fail> {
+    let mut reader = ber_reader(&[0x2A; 4])?;
+    reader.drain(Length::new(2))?;
+    let _ = reader.error(ErrorKind::DateTime);
+    let failed = ErrorKind::Failed.at(Length::new(2));
+    same(&rt, reader.drain(Length::ZERO), Ok(()));
+    same(&rt, reader.drain(Length::new_indefinite(0)), Err(failed));
+    same(&rt, reader.drain(Length::ONE), Err(failed));
+    same(&rt, place_of(&reader), (2, 4, true));
+    Ok(())
+}
