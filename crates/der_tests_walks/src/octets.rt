@@ -8,6 +8,8 @@ use std::test::Fail;
 
 mod cuts;
 mod drains;
+mod lending;
+mod lending_reader;
 mod lists;
 mod scans;
 mod stepping_reader;

@@ -14,7 +14,7 @@ use std::sync::ledger::{Blank, Ledger};
 pub(super) type Answer = Result<Length, Error>;
 
 // What a scan ahead of the reader answers, and what a fork does that passes the body.
-fn scans<R: Reader>(reader: &R) -> (Answer, Answer)
+pub(super) fn scans<R: Reader>(reader: &R) -> (Answer, Answer)
     requires ber { (R.state reader.now).rules ≡ Ber }
 {
     scans_counted::<R, Brand>(reader, Blank::new(1))

@@ -1,0 +1,18 @@
+//! A reader that lends what is left, and refuses each read.
+use super::lending_reader::ber_lending;
+use super::scans::scans;
+use super::*;
+use crate::checks::same;
+
+// The scan ahead walks what is lent. One that passes the body has to read it.
+#[test]
+fn a_body_that_is_lent_and_not_read(rt: HostRuntime) -> Result<(), Fail> {
+    let mut reader = ber_lending(&SEGMENT_OF_ZEROS)?;
+    reader.drain(Length::new(2))?;
+    let (ahead, passed) = scans(&reader);
+    same(&rt, ahead, Ok(Length::new_indefinite(10)));
+    let unsupported = ErrorKind::Reader.at(Length::new(2));
+    same(&rt, passed, Err(unsupported));
+    same(&rt, place_of(&reader), (2, 12, false));
+    Ok(())
+}
