@@ -8,8 +8,15 @@ use elements::{UNIVERSAL, count_contents, proved_walk, push_element, short_len, 
 
 const INDEFINITE: u8 = 0x80;
 const MAX_LEVEL: usize = 64;
-// How many items a message has, as many on each level.
-const ITEMS: usize = 256;
+// How many levels are open, and how many items a message has, as many on each level.
+const MESSAGES: [(usize, usize); 6] = [
+    (1, 256),
+    (4, 256),
+    (MAX_LEVEL, 256),
+    (1, 16),
+    (1, 1 << 14),
+    (1, 1 << 20),
+];
 // Octet 24 is an identifier too.
 const BER_IDENTIFIERS: u64 = UNIVERSAL | 1 << 0x24;
 
@@ -17,11 +24,18 @@ unsafe extern "C" {
     // A slice is handed over as a pointer and then a length.
     #[link_name = "der_bench_scan"]
     fn library_scan(octets: *const u8, len: usize) -> Totals;
+    #[link_name = "der_bench_scan_by_octets"]
+    fn library_scan_by_octets(octets: *const u8, len: usize) -> Totals;
 }
 
 fn proved_scan(bytes: &[u8]) -> Totals {
     // SAFETY: the pointer and the length are those of a slice, which the call only reads.
     unsafe { library_scan(bytes.as_ptr(), bytes.len()) }
+}
+
+fn scan_by_octets(bytes: &[u8]) -> Totals {
+    // SAFETY: as above.
+    unsafe { library_scan_by_octets(bytes.as_ptr(), bytes.len()) }
 }
 
 /// The messages as one reads them by hand, without a reader: it refuses the same octets.
@@ -84,8 +98,8 @@ struct Input {
     items: Vec<u8>,
 }
 
-/// Messages with so many levels open in them.
-fn input(levels: usize) -> Input {
+/// Messages of so many items, with so many levels open in them.
+fn input(levels: usize, items: usize) -> Input {
     let mut numbers = Numbers(0x9E37_79B9_7F4A_7C15);
     let mut input = Input {
         messages: Vec::with_capacity(INPUT_LEN + (1 << 17)),
@@ -93,16 +107,16 @@ fn input(levels: usize) -> Input {
         items: Vec::with_capacity(INPUT_LEN + (1 << 17)),
     };
     while input.messages.len() < INPUT_LEN {
-        push_message(&mut input, &mut numbers, levels);
+        push_message(&mut input, &mut numbers, levels, items);
     }
     input
 }
 
-fn push_message(input: &mut Input, numbers: &mut Numbers, levels: usize) {
+fn push_message(input: &mut Input, numbers: &mut Numbers, levels: usize, items: usize) {
     for _ in 0..levels {
         input.messages.extend_from_slice(&[0x30, INDEFINITE]);
         let start = input.items.len();
-        for _ in 0..ITEMS / levels {
+        for _ in 0..items / levels {
             push_element(&mut input.items, numbers, short_len);
         }
         input.messages.extend_from_slice(&input.items[start..]);
@@ -112,22 +126,25 @@ fn push_message(input: &mut Input, numbers: &mut Numbers, levels: usize) {
 }
 
 fn main() {
-    for levels in [1, 4, MAX_LEVEL] {
-        let input = input(levels);
+    for (levels, item_count) in MESSAGES {
+        let input = input(levels, item_count);
         let (messages, items) = (&input.messages, &input.items);
-        let name = format!("{levels} levels");
-        assert_eq!(proved_scan(messages), scan_by_hand(messages), "{name}");
+        let name = format!("{levels} levels, {item_count} items");
+        let totals = scan_by_hand(messages);
+        assert_eq!(proved_scan(messages), totals, "{name}");
+        assert_eq!(scan_by_octets(messages), totals, "{name}");
         let count = input.message_count;
-        let item_count = count * ITEMS as u64;
-        let [proved, by_hand, walked] = measure([
+        let [proved, by_octets, by_hand, walked] = measure([
             (proved_scan, messages, count),
+            (scan_by_octets, messages, count),
             (scan_by_hand, messages, count),
-            (proved_walk, items, item_count),
+            (proved_walk, items, count * item_count as u64),
         ]);
-        let (proved, by_hand) = (proved / ITEMS as f64, by_hand / ITEMS as f64);
+        let [proved, by_octets, by_hand] = [proved, by_octets, by_hand].map(|it| it / item_count as f64);
         println!(
-            "{name}: {count} messages of {:.1} octets; library {proved:.2} ns, \
-             by hand {by_hand:.2} ns an item, ratio {:.2}; a walk over the items {walked:.2} ns",
+            "{name}: {count} messages of {:.1} octets; library {proved:.2} ns, by hand {by_hand:.2} ns \
+             an item, ratio {:.2}; octet by octet {by_octets:.2} ns; a walk over the items \
+             {walked:.2} ns",
             messages.len() as f64 / count as f64,
             proved / by_hand,
         );

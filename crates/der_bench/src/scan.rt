@@ -1,10 +1,59 @@
 //! Reading of messages whose lengths are indefinite.
+ghost use Rattle.std.specs.Prelude.{◌≡◌};
+
 use crate::{Totals, walk};
-use der::EncodingRules;
+use der::{EncodingRules, SliceReader, Turns, decode_indefinite_length};
+use std::marker::Brand;
+use std::sync::ledger::{Blank, Ledger};
 
 /// Reads messages, one behind the other, by the Basic Encoding Rules until the octets end, or an
 /// error. A length in the indefinite form is that of the body, which a scan has counted.
 #[unsafe(no_mangle)]
 pub extern "C" fn der_bench_scan(bytes: &[u8]) -> Totals {
     walk(bytes, EncodingRules::Ber)
+}
+
+/// Passes the two octets of each message's header, and counts its body by a scan octet by octet, as
+/// one goes over readers that lend nothing.
+#[unsafe(no_mangle)]
+pub extern "C" fn der_bench_scan_by_octets(bytes: &[u8]) -> Totals {
+    let mut totals = Totals {
+        elements: 0,
+        contents: 0,
+        first_octets: 0,
+    };
+    let mut rest = bytes;
+    for _ in 0..bytes.len() {
+        let Some(body) = rest.get(2..) else {
+            return totals;
+        };
+        let Some(len) = body_len::<Brand>(body, Blank::new(1)) else {
+            return totals;
+        };
+        let Some(behind) = body.get(len..) else {
+            return totals;
+        };
+        totals.elements = totals.elements.wrapping_add(1);
+        totals.contents = totals.contents.wrapping_add(len as u64);
+        let first = body.first().copied().unwrap_or(0);
+        totals.first_octets = totals.first_octets.wrapping_add(first as u64);
+        rest = behind;
+    }
+    totals
+}
+
+// How many octets the body ahead has, with the end mark that closes it.
+fn body_len<L: Ledger>(octets: &[u8], blank: Blank) -> Option<usize>
+    requires name { blank.name ≡ L.name }
+    requires parts { blank.parts ≡ L.parts }
+    requires whole { blank.parts ≡ 1 }
+{
+    let Ok(mut reader) = SliceReader::new_with_encoding_rules(octets, EncodingRules::Ber) else {
+        return None;
+    };
+    let mut turns = Turns::<L>::new(blank);
+    match decode_indefinite_length(&mut reader, &mut turns) {
+        Ok(len) => Some(u32::from(len) as usize),
+        Err(_) => None,
+    }
 }

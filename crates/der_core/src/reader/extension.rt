@@ -195,14 +195,16 @@ pub trait ReaderExt: Reader {
     }
 
     /// How many octets the body of an indefinite length ahead has, with the end mark that closes it
-    /// (X.690 8.1.3.6), as [`decode_indefinite_length`] would answer; the reader stays. `turns`
-    /// counts each identifier and each end mark that was read.
+    /// (X.690 8.1.3.6), as [`decode_indefinite_length`](crate::decode_indefinite_length) would answer;
+    /// the reader stays. `turns` counts each identifier and each end mark that was looked at. Where
+    /// [`Reader::remaining`] lends the octets ahead, they are scanned by an index, and none is read.
     ///
     /// The caller sees to it that the reader reads by the Basic Encoding Rules.
     ///
     /// # Errors
     ///
-    /// Those of [`decode_indefinite_length`], with their positions; the reader is unchanged.
+    /// Those of [`decode_indefinite_length`](crate::decode_indefinite_length), with their positions;
+    /// the reader is unchanged.
     final fn scan_indefinite<L: Ledger>(&self, turns: &mut Turns<L>) -> Result<Length, Error>
         requires ber { (Self.state self.now).rules ≡ Ber }
         ensures scans { ScansAhead Self.reliable (Self.state self.now) result }
