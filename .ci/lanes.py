@@ -1,0 +1,82 @@
+"""Checks side by side: so many at a time, and none goes on once something has failed."""
+import contextlib
+import os
+import signal
+import subprocess
+import threading
+
+
+class Stopped(Exception):
+    """A check that is not to begin, or was ended, since something failed."""
+
+
+class Lanes:
+    """Lanes for checks, and the processes of those that run."""
+
+    def __init__(self, number):
+        self.free, self.running, self.why = number, set(), None
+        self.before, self.state = [], threading.Condition()
+
+    def add(self, number):
+        """Has so many more checks run at a time."""
+        with self.state:
+            self.free += number
+            self.state.notify_all()
+
+    def wait_for(self, is_so):
+        """Waits until that is so, as long as nothing fails."""
+        with self.state:
+            self.state.wait_for(lambda: self.why or is_so())
+            self.see_going()
+
+    def see_going(self):
+        if self.why:
+            raise Stopped
+
+    @contextlib.contextmanager
+    def one(self):
+        """A lane, once one is free."""
+        with self.state:
+            self.wait_for(lambda: self.free > 0)
+            self.free -= 1
+        try:
+            yield
+        finally:
+            self.add(1)
+
+    def run(self, words, folder):
+        """Runs a check in the folder, and returns its status and the lines that it says."""
+        how = {"stdin": subprocess.DEVNULL, "stdout": subprocess.PIPE, "stderr": subprocess.STDOUT}
+        with self.state:
+            self.see_going()
+            # A session of its own, so that the processes that it forks can be ended with it.
+            check = subprocess.Popen(
+                [*self.before, *words], cwd=folder, start_new_session=True, **how
+            )
+            self.running.add(check)
+        said = check.communicate()[0].decode(errors="replace")
+        with self.state:
+            self.running.remove(check)
+            self.see_going()
+        return check.returncode, said.splitlines()
+
+    def stop(self, why):
+        """Ends the checks that run, and lets none begin any more."""
+        with self.state:
+            self.why = self.why or why
+            for it in self.running:
+                with contextlib.suppress(ProcessLookupError):
+                    os.killpg(it.pid, signal.SIGKILL)
+            self.state.notify_all()
+
+    def guard(self, call):
+        """The same call, with which all checks end where it fails."""
+
+        def guarded(*given):
+            try:
+                return call(*given)
+            except BaseException as why:
+                self.stop(why)
+                raise
+
+        return guarded

@@ -1,0 +1,85 @@
+"""A run of `rt ci`, beside which checks of the crates go on that it has proved."""
+import os
+import re
+import shutil
+import signal
+import subprocess
+import sys
+import threading
+
+import checker
+from checker import give_up
+
+PROVED = re.compile(rb"rt: (\w+) proved\n")
+REFUSED = re.compile(rb"rt: (\w+)(?:: its tests are)? NOT PROVED")
+
+
+class RtCi:
+    """The run, whose lines are shown as they come. Until it ends there are fewer lanes, and what runs
+    in them gets the processors that it leaves idle. Of these libraries it keeps copies."""
+
+    def __init__(self, lanes, room, libraries):
+        self.lanes, self.room, self.libraries = lanes, f"{room}/rlibs", libraries
+        self.proved, self.is_refusing = set(), False
+        self.lent = checker.processors() - max(1, checker.processors() // 2)
+
+    def __enter__(self):
+        self.lanes.add(-self.lent)
+        self.lanes.before = ["nice", "-n", "10"]
+        how = {"stdin": subprocess.DEVNULL, "stdout": subprocess.PIPE}
+        # A session of its own, so that all of it can be ended at once.
+        self.run = subprocess.Popen(["rt", "ci"], cwd=checker.TOP, start_new_session=True, **how)
+        self.thread = threading.Thread(target=self.lanes.guard(self.follow))
+        self.thread.start()
+        return self
+
+    def __exit__(self, failed, *_):
+        """Waits for the end of the run, which is ended where something else fails."""
+        try:
+            if failed and not self.is_refusing:
+                self.kill()
+            self.thread.join()
+        finally:
+            self.kill()
+        if self.lanes.why:
+            raise self.lanes.why from None
+
+    def kill(self):
+        if self.run.poll() is None:
+            os.killpg(self.run.pid, signal.SIGKILL)
+
+    def follow(self):
+        """Shows what the run says, and sees what it proves."""
+        for line in self.run.stdout:
+            sys.stdout.buffer.write(line)
+            sys.stdout.flush()
+            proved, refused = PROVED.fullmatch(line), REFUSED.match(line)
+            if proved:
+                self.take(proved[1].decode())
+            elif refused and not self.is_refusing:
+                # The run goes on, to say what else it refuses.
+                self.is_refusing = True
+                why = f"must_fail_together: rt ci refuses {refused[1].decode()}"
+                self.lanes.stop(SystemExit(why))
+        status, lacking = self.run.wait(), set(checker.crates()) - self.proved
+        if status:
+            give_up(f"rt ci ended with status {status}")
+        if lacking:
+            give_up(f"rt ci did not say that {' '.join(lacking)} is proved")
+        self.lanes.before = []
+        self.lanes.add(self.lent)
+
+    def take(self, name):
+        """Takes a crate as proved, with a copy of its library: in its place the run may put an older
+        one at its end, and it does not end before the crates above are proved."""
+        if name in self.libraries:
+            rlib = f"{checker.folder_of(name)}/out/rlib/{name}.rlib"
+            checker.BUILT[name] = shutil.copytree(rlib, f"{self.room}/{name}.rlib")
+        with self.lanes.state:
+            self.proved.add(name)
+            self.lanes.state.notify_all()
+
+    def wait_for(self, names):
+        """Waits until the run has proved those of these libraries that are crates."""
+        wanted = set(names) & self.libraries
+        self.lanes.wait_for(lambda: wanted <= self.proved)
