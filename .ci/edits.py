@@ -81,7 +81,7 @@ class Edit:
         if "fn" in self.keys and not self.functions:
             self.refuse("names no function")
         if "fn" in self.keys and not all(it.startswith("src/") for it, _, _ in self.changes):
-            self.refuse("changes more than bodies: it is to be tried by itself, in must-fail/")
+            self.refuse("changes more than sources: it is to be tried by itself, in must-fail/")
         return self
 
     def adds_call(self):

@@ -15,8 +15,8 @@ REFUSED = re.compile(rb"rt: (\w+)(?:: its tests are)? NOT PROVED")
 
 
 class RtCi:
-    """The run, whose lines are shown as they come. Until it ends there are fewer lanes, and what runs
-    in them gets the processors that it leaves idle. Of these libraries it keeps copies."""
+    """The run, whose lines are shown as they come. Until it ends there are fewer lanes, and the
+    processors that it leaves idle are theirs. Copies of these libraries are kept."""
 
     def __init__(self, lanes, room, libraries):
         self.lanes, self.room, self.libraries = lanes, f"{room}/rlibs", libraries
@@ -70,8 +70,8 @@ class RtCi:
         self.lanes.add(self.lent)
 
     def take(self, name):
-        """Takes a crate as proved, with a copy of its library: in its place the run may put an older
-        one at its end, and it does not end before the crates above are proved."""
+        """Takes a crate as proved, and copies its library: at its end, which is not before it has
+        tried to prove the crates above, the run may put an older one in its place."""
         if name in self.libraries:
             rlib = f"{checker.folder_of(name)}/out/rlib/{name}.rlib"
             checker.BUILT[name] = shutil.copytree(rlib, f"{self.room}/{name}.rlib")

@@ -19,14 +19,17 @@ IsHex text = (length text % 2 ≡ 0) × AllPass is_hex_digit text
 abbrev pub IsName : List ℕ → Type 0
 IsName name = (name ≡ codes "head") ⊎ (name ≡ codes "tlv")
 
+abbrev pub three : List ℕ → List ℕ → List ℕ → List (List ℕ)
+three first second third = first ∷ second ∷ third ∷ []
+
 -- a name, behind it `--ber` exactly where octets are read by these rules, and the octets' text
 abbrev pub words_under : EncodingRules → List ℕ → List ℕ → List (List ℕ)
 words_under Der name hex = name ∷ hex ∷ []
-words_under Ber name hex = name ∷ codes "--ber" ∷ hex ∷ []
+words_under Ber name hex = three name (codes "--ber") hex
 
 -- the command that compares what two texts spell
 abbrev pub order_words : List ℕ → List ℕ → List (List ℕ)
-order_words first second = codes "order" ∷ first ∷ second ∷ []
+order_words first second = three (codes "order") first second
 
 abbrev pub words_of : Command → List (List ℕ)
 words_of (Head rules hex) = words_under rules (codes "head") hex.now

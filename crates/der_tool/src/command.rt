@@ -16,7 +16,7 @@ pub enum Command<'a> {
 }
 
 impl<'a> Command<'a> {
-    ghost use Rattle.der_tool.specs.Command.{words_of, words_under, order_words, SpellsOctets};
+    ghost use Rattle.der_tool.specs.Command.{words_of, words_under, order_words, three, SpellsOctets};
 
     /// The command, if the words are one.
     pub fn parse(words: &'a [String]) -> Option<Self>
@@ -26,11 +26,23 @@ impl<'a> Command<'a> {
     {
         match words {
             [name, hex] => Command::named(name, EncodingRules::Der, hex),
-            [name, option, hex] if option.as_str() == "--ber" => {
-                Command::named(name, EncodingRules::Ber, hex)
-            }
-            [name, first, second] if name.as_str() == "order" => Command::ordering(first, second),
+            [first, second, third] => Command::of_three(first, second, third),
             _ => None,
+        }
+    }
+
+    /// The command of these three words, if they are one.
+    fn of_three(first: &'a str, second: &'a str, third: &'a str) -> Option<Self>
+        ensures found { IsSome result ↔ IsCommand (three first.now second.now third.now) }
+        ensures words { IfSome result (λ c. three first.now second.now third.now ≡ words_of c) }
+        ensures digits { IfSome result SpellsOctets }
+    {
+        if second == "--ber" {
+            Command::named(first, EncodingRules::Ber, third)
+        } else if first == "order" {
+            Command::ordering(second, third)
+        } else {
+            None
         }
     }
 

@@ -36,9 +36,19 @@ fn under_ber(
 ) -> Result<(), Error> {
     decoding(rt, alloc, ber_reader(octets)?, answer, place);
     decoding(rt, alloc, ber_unlent(octets)?, answer, place);
+    wholly_under_ber(rt, alloc, octets, answer);
+    Ok(())
+}
+
+// All of the octets, as one element under those rules.
+fn wholly_under_ber(
+    rt: &impl Abort,
+    alloc: Global,
+    octets: &[u8],
+    answer: Result<&[u8], Error>,
+) {
     let whole = JoinedOctets::from_ber(alloc, octets);
     same_at(rt, octets.len(), octets_of(&whole), answer);
-    Ok(())
 }
 
 // Likewise under the Distinguished Encoding Rules.
@@ -51,9 +61,19 @@ fn under_der(
 ) -> Result<(), Error> {
     decoding(rt, alloc, SliceReader::new(octets)?, answer, place);
     decoding(rt, alloc, der_unlent(octets)?, answer, place);
+    wholly_under_der(rt, alloc, octets, answer);
+    Ok(())
+}
+
+// All of the octets, as one element under those rules.
+fn wholly_under_der(
+    rt: &impl Abort,
+    alloc: Global,
+    octets: &[u8],
+    answer: Result<&[u8], Error>,
+) {
     let whole = JoinedOctets::from_der(alloc, octets);
     same_at(rt, octets.len(), octets_of(&whole), answer);
-    Ok(())
 }
 
 #[test]
