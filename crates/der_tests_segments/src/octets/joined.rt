@@ -41,12 +41,7 @@ fn under_ber(
 }
 
 // All of the octets, as one element under those rules.
-fn wholly_under_ber(
-    rt: &impl Abort,
-    alloc: Global,
-    octets: &[u8],
-    answer: Result<&[u8], Error>,
-) {
+fn wholly_under_ber(rt: &impl Abort, alloc: Global, octets: &[u8], answer: Result<&[u8], Error>) {
     let whole = JoinedOctets::from_ber(alloc, octets);
     same_at(rt, octets.len(), octets_of(&whole), answer);
 }
@@ -66,12 +61,7 @@ fn under_der(
 }
 
 // All of the octets, as one element under those rules.
-fn wholly_under_der(
-    rt: &impl Abort,
-    alloc: Global,
-    octets: &[u8],
-    answer: Result<&[u8], Error>,
-) {
+fn wholly_under_der(rt: &impl Abort, alloc: Global, octets: &[u8], answer: Result<&[u8], Error>) {
     let whole = JoinedOctets::from_der(alloc, octets);
     same_at(rt, octets.len(), octets_of(&whole), answer);
 }
