@@ -15,13 +15,13 @@ REFUSED = re.compile(rb"rt: (\w+)(?:: its tests are)? NOT PROVED")
 
 
 class RtCi:
-    """The run, whose lines are shown as they come. Until it ends there are fewer lanes, and the
+    """The run, whose lines are shown as they come. Until it ends there is a lane fewer, and the
     processors that it leaves idle are theirs. Copies of these libraries are kept."""
 
     def __init__(self, lanes, room, libraries):
         self.lanes, self.room, self.libraries = lanes, f"{room}/rlibs", libraries
         self.proved, self.is_refusing = set(), False
-        self.lent = checker.processors() - max(1, checker.processors() // 2)
+        self.lent = min(1, checker.processors() - 1)
 
     def __enter__(self):
         self.lanes.add(-self.lent)
