@@ -1,13 +1,17 @@
-//! The walk over the elements of an input, the decoding of keys, of byte strings and of texts, the
-//! comparison of elements, and the reading of messages in indefinite lengths, whose speed `bench/`
-//! measures.
+//! What `bench/` measures the speed of: walks over the elements of an input, the decoding of keys,
+//! of byte strings and of texts, the comparison of elements, the reading of messages in indefinite
+//! lengths, and writing.
 #![tactic(auto)]
 
 mod decode;
+mod headers;
+mod nested;
 mod orders;
 mod scan;
 mod sets;
 mod strings;
+mod tags;
+mod writing;
 
 use der::{EncodingRules, Reader, ReaderExt, SliceReader, decode_header};
 
@@ -20,6 +24,24 @@ pub struct Totals {
     pub contents: u64,
     /// The sum of the first octets of contents.
     pub first_octets: u64,
+}
+
+impl Totals {
+    fn none() -> Totals {
+        Totals {
+            elements: 0,
+            contents: 0,
+            first_octets: 0,
+        }
+    }
+
+    // Counts an element with so many octets of contents.
+    #[inline(always)]
+    fn pass(&mut self, contents: usize, first: u64) {
+        self.elements = self.elements.wrapping_add(1);
+        self.contents = self.contents.wrapping_add(contents as u64);
+        self.first_octets = self.first_octets.wrapping_add(first);
+    }
 }
 
 /// Walks over the elements of the octets until their end, or an error.

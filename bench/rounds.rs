@@ -1,0 +1,96 @@
+//! Ways to do the same work, measured in turn over inputs that grow.
+use crate::common::Totals;
+use std::hint::black_box;
+use std::time::Instant;
+
+/// How many octets an input has.
+pub const SIZES: [usize; 3] = [16 << 10, 1 << 20, 16 << 20];
+/// How many octets the rounds of one row pass together, about.
+const PASSED: usize = 256 << 20;
+
+/// Who does the work of a way.
+#[derive(Clone, Copy, PartialEq, Eq)]
+pub enum By {
+    Library,
+    Hand,
+    /// The crate `der` 0.8.3.
+    #[allow(dead_code, reason = "only the build beside the crate has it")]
+    Crate,
+}
+
+/// A way to do the work; `S` is what it works on beside its input, as octets to write to.
+pub struct Way<'a, S> {
+    by: By,
+    run: Box<dyn Fn(&mut S) -> Totals + 'a>,
+}
+
+pub fn way<'a, S>(by: By, run: impl Fn(&mut S) -> Totals + 'a) -> Way<'a, S> {
+    Way {
+        by,
+        run: Box::new(run),
+    }
+}
+
+/// A row of a table: what it is called, and how much there is of it.
+pub struct Row {
+    pub name: String,
+    /// About how many octets are read or written.
+    pub size: usize,
+    /// How many they are.
+    pub octets: usize,
+    /// How many elements, or whatever times are told for.
+    pub count: u64,
+}
+
+/// Measures the ways, of which all have to tell and to write the same, and tells their times and
+/// ratios. Of several ways by hand the fastest counts.
+pub fn tell<S: Clone + PartialEq>(row: &Row, ways: &[Way<'_, S>], scratch: &mut S) {
+    let clean = scratch.clone();
+    let told = (ways[0].run)(scratch);
+    assert_ne!(told.elements, 0, "{}", row.name);
+    for way in ways {
+        let mut again = clean.clone();
+        assert_eq!((way.run)(&mut again), told, "{}", row.name);
+        assert!(again == *scratch, "{}", row.name);
+    }
+    let [library, by_hand, by_crate] = least_times(row, ways, scratch);
+    print!(
+        "{}, {}: {} of {:.1} octets; library {library:.2} ns, by hand {by_hand:.2} ns, ratio {:.2}",
+        row.name,
+        size(row.size),
+        row.count,
+        row.octets as f64 / row.count as f64,
+        library / by_hand,
+    );
+    if by_crate.is_finite() {
+        print!(
+            "; the crate {by_crate:.2} ns, ratio {:.2}",
+            library / by_crate
+        );
+    }
+    println!();
+}
+
+/// The least times by the library, by hand and by the crate, in nanoseconds; without a way they
+/// are infinite. The rounds alternate, so that all see the same machine.
+fn least_times<S>(row: &Row, ways: &[Way<'_, S>], scratch: &mut S) -> [f64; 3] {
+    let mut least = [f64::INFINITY; 3];
+    for _ in 0..(PASSED / row.size).clamp(15, 1000) {
+        for way in ways {
+            let start = Instant::now();
+            black_box((way.run)(black_box(scratch)));
+            let elapsed = start.elapsed().as_nanos() as f64 / row.count as f64;
+            let place = &mut least[way.by as usize];
+            *place = place.min(elapsed);
+        }
+    }
+    least
+}
+
+fn size(octets: usize) -> String {
+    if octets < 1 << 20 {
+        format!("{} KiB", octets >> 10)
+    } else {
+        format!("{} MiB", octets >> 20)
+    }
+}

@@ -1,0 +1,67 @@
+//! What the proved library writes.
+use crate::common::Totals;
+
+/// A header that is wanted, as the library lays it out.
+#[repr(C)]
+#[derive(Clone, Copy)]
+pub struct Wanted {
+    pub number: u32,
+    pub length: u32,
+    pub class: u8,
+    pub constructed: u8,
+}
+
+impl Wanted {
+    /// The header with this first octet, whose tag is short, and so many octets of contents.
+    pub fn new(first: u8, len: usize) -> Wanted {
+        Wanted {
+            number: (first & 0x1F) as u32,
+            length: len as u32,
+            class: first >> 6,
+            constructed: first >> 5 & 1,
+        }
+    }
+}
+
+mod library {
+    use super::{Totals, Wanted};
+
+    // Slices are handed over as pointers and then lengths; the allocator has no octets.
+    unsafe extern "C" {
+        pub fn der_bench_put_headers(_: *const Wanted, _: usize, _: *mut u8, _: usize) -> Totals;
+        pub fn der_bench_put_known(_: *const u32, _: usize, _: *mut u8, _: usize) -> Totals;
+        pub fn der_bench_put_elements(_: *const u64, _: usize, _: *mut u8, _: usize) -> Totals;
+        pub fn der_bench_put_sequences(_: *const u64, _: usize, _: *mut u8, _: usize) -> Totals;
+        pub fn der_bench_call_sequences(_: *const u64, _: usize, _: *mut u8, _: usize) -> Totals;
+        pub fn der_bench_to_slice(_: *const u64, _: usize) -> Totals;
+        pub fn der_bench_to_der(_: *const u64, _: usize) -> Totals;
+        pub fn der_bench_to_vec(_: *const u64, _: usize) -> Totals;
+    }
+}
+
+/// A function that hands these slices to the library.
+macro_rules! handed {
+    ($name:ident, $library:ident, $input:ty) => {
+        pub fn $name(input: &[$input], out: &mut [u8]) -> Totals {
+            let (at, len) = (out.as_mut_ptr(), out.len());
+            // SAFETY: pointers and lengths are those of slices: the call reads the first, and
+            // writes to the second.
+            unsafe { library::$library(input.as_ptr(), input.len(), at, len) }
+        }
+    };
+    ($name:ident, $library:ident) => {
+        pub fn $name(input: &[u64]) -> Totals {
+            // SAFETY: the pointer and the length are those of a slice, which the call only reads.
+            unsafe { library::$library(input.as_ptr(), input.len()) }
+        }
+    };
+}
+
+handed!(headers, der_bench_put_headers, Wanted);
+handed!(known, der_bench_put_known, u32);
+handed!(elements, der_bench_put_elements, u64);
+handed!(sequences, der_bench_put_sequences, u64);
+handed!(called, der_bench_call_sequences, u64);
+handed!(to_slice, der_bench_to_slice);
+handed!(to_der, der_bench_to_der);
+handed!(to_vec, der_bench_to_vec);

@@ -1,0 +1,91 @@
+//! Headers that are written.
+use crate::Totals;
+use der::{Header, Length, SliceWriter, Tag, TagNumber};
+
+/// A header that is wanted.
+#[repr(C)]
+pub struct Wanted {
+    /// The number of its tag.
+    pub number: u32,
+    /// The length of the contents.
+    pub length: u32,
+    /// The class: 0 universal, 1 application, 2 context-specific, 3 private.
+    pub class: u8,
+    /// Whether the contents are constructed: not 0.
+    pub constructed: u8,
+}
+
+/// Writes the headers, one behind the other, until all are written, or an error: how many, and
+/// how many octets they have.
+#[unsafe(no_mangle)]
+pub extern "C" fn der_bench_put_headers(wanted: &[Wanted], out: &mut [u8]) -> Totals {
+    let mut totals = Totals::none();
+    let mut writer = SliceWriter::new(out);
+    for one in wanted {
+        let header = Header::new(tag_of(one), Length::new(one.length));
+        if writer.encode(&header).is_err() {
+            return totals;
+        }
+        totals.pass(0, 0);
+    }
+    if let Ok(octets) = writer.finish() {
+        totals.contents = octets.len() as u64;
+    }
+    totals
+}
+
+/// The same of four headers for each length, whose tags are known beforehand: SEQUENCE, INTEGER,
+/// OBJECT IDENTIFIER and the number 3 of the context.
+#[unsafe(no_mangle)]
+pub extern "C" fn der_bench_put_known(lengths: &[u32], out: &mut [u8]) -> Totals {
+    let mut totals = Totals::none();
+    let mut writer = SliceWriter::new(out);
+    for length in lengths {
+        let len = Length::new(*length);
+        let extensions = TagNumber(3).context_specific(true);
+        if writer.encode(&Header::new(Tag::Sequence, len)).is_err()
+            || writer.encode(&Header::new(Tag::Integer, len)).is_err()
+            || writer
+                .encode(&Header::new(Tag::ObjectIdentifier, len))
+                .is_err()
+            || writer.encode(&Header::new(extensions, len)).is_err()
+        {
+            return totals;
+        }
+        totals.pass(0, 0);
+    }
+    if let Ok(octets) = writer.finish() {
+        totals.contents = octets.len() as u64;
+    }
+    totals
+}
+
+#[inline(always)]
+fn tag_of(wanted: &Wanted) -> Tag {
+    let constructed = wanted.constructed != 0;
+    let number = TagNumber(wanted.number);
+    match wanted.class {
+        0 => universal_of(wanted.number),
+        1 => number.application(constructed),
+        2 => number.context_specific(constructed),
+        _ => number.private(constructed),
+    }
+}
+
+// The universal tags that certificates have.
+#[inline(always)]
+fn universal_of(number: u32) -> Tag {
+    match number {
+        1 => Tag::Boolean,
+        2 => Tag::Integer,
+        3 => Tag::BitString,
+        4 => Tag::OctetString,
+        6 => Tag::ObjectIdentifier,
+        12 => Tag::Utf8String,
+        16 => Tag::Sequence,
+        17 => Tag::Set,
+        19 => Tag::PrintableString,
+        23 => Tag::UtcTime,
+        _ => Tag::Null,
+    }
+}

@@ -1,0 +1,64 @@
+//! Walks over elements whose tags are used.
+use crate::Totals;
+use der::{Reader, ReaderExt, SliceReader, decode_header};
+
+/// Walks over the elements of the octets until their end, or an error. The sum of first octets is
+/// that of the tags' numbers.
+#[unsafe(no_mangle)]
+pub extern "C" fn der_bench_numbers(bytes: &[u8]) -> Totals {
+    let mut totals = Totals::none();
+    let Ok(mut reader) = SliceReader::new(bytes) else {
+        return totals;
+    };
+    // Each element has an octet at least.
+    for _ in 0..bytes.len() {
+        if reader.is_finished() {
+            break;
+        }
+        let Ok(header) = decode_header(&mut reader) else {
+            return totals;
+        };
+        let Ok(contents) = reader.read_slice(header.length()) else {
+            return totals;
+        };
+        totals.pass(contents.len(), header.tag().number().0 as u64);
+    }
+    totals
+}
+
+/// The same with the tags counted in a table, by the low octet of their numbers. The sum of first
+/// octets is made of the counts.
+#[unsafe(no_mangle)]
+pub extern "C" fn der_bench_counts(bytes: &[u8]) -> Totals {
+    let mut counts = [0u64; 256];
+    let mut totals = Totals::none();
+    let Ok(mut reader) = SliceReader::new(bytes) else {
+        return totals;
+    };
+    // Each element has an octet at least.
+    for _ in 0..bytes.len() {
+        if reader.is_finished() {
+            break;
+        }
+        let Ok(header) = decode_header(&mut reader) else {
+            return totals;
+        };
+        let Ok(contents) = reader.read_slice(header.length()) else {
+            return totals;
+        };
+        totals.pass(contents.len(), 0);
+        let low = (header.tag().number().0 % 256) as usize;
+        counts[low] = counts[low].wrapping_add(1);
+    }
+    totals.first_octets = mixed(&counts);
+    totals
+}
+
+// A number that each of the counts changes, by its place.
+fn mixed(counts: &[u64; 256]) -> u64 {
+    let mut sum = 0u64;
+    for count in counts {
+        sum = sum.wrapping_mul(31).wrapping_add(*count);
+    }
+    sum
+}

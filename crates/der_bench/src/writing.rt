@@ -1,0 +1,179 @@
+//! OCTET STRINGs of eight octets that are written, and SEQUENCEs of four of them.
+ghost use Rattle.std.specs.Prelude.{Ok};
+ghost use Rattle.der_base.specs.Length.{definite_length};
+ghost use Rattle.der_base.specs.declared.tag.Tag.TheVariants.{OctetString};
+ghost use Rattle.der_core.specs.SliceWriter.{slice_writer_state};
+ghost use Rattle.der_core.specs.Writer.{Keeps, Writes, write_outcome};
+
+use crate::Totals;
+use der::{Encode, EncodeValue, Error, FixedTag, Length, SliceWriter, Tag, Writer, WrittenValue};
+use std::alloc::Global;
+
+// The octets of a number, the most significant first.
+#[derive(Clone, Copy)]
+struct Eight {
+    octets: [u8; 8],
+}
+
+impl FixedTag for Eight {
+    ghost tag_is = { OctetString };
+
+    const TAG: Tag = Tag::OctetString;
+
+    fn fixed_tag() -> Tag {
+        Self::TAG
+    }
+}
+
+impl WrittenValue for Eight {
+    ghost contents = { λ v. v.octets };
+
+    ghost writable = { λ _. Unit {0} };
+}
+
+impl EncodeValue for Eight {
+    ghost value_size = { λ _. Ok (definite_length 8) };
+
+    ghost value_answers = { λ v s r t. Writes (write_outcome v.octets s) r t };
+
+    fn value_len(&self) -> Result<Length, Error> {
+        Ok(Length::new(8))
+    }
+
+    fn encode_value<W: Writer>(&self, writer: &mut W) -> Result<(), Error> {
+        writer.write(&self.octets)
+    }
+}
+
+impl Eight {
+    #[inline(always)]
+    fn new(number: u64) -> Eight {
+        Eight {
+            octets: number.to_be_bytes(),
+        }
+    }
+}
+
+/// Writes an element for each number, one behind the other, until all are written, or an error:
+/// how many, and how many octets they have.
+#[unsafe(no_mangle)]
+pub extern "C" fn der_bench_put_elements(numbers: &[u64], out: &mut [u8]) -> Totals {
+    let mut totals = Totals::none();
+    let mut writer = SliceWriter::new(out);
+    for number in numbers {
+        if writer.encode(&Eight::new(*number)).is_err() {
+            return totals;
+        }
+        totals.pass(0, 0);
+    }
+    if let Ok(octets) = writer.finish() {
+        totals.contents = octets.len() as u64;
+    }
+    totals
+}
+
+/// Writes each element into octets of its own. The sum of first octets is that of their last ones.
+#[unsafe(no_mangle)]
+pub extern "C" fn der_bench_to_slice(numbers: &[u64]) -> Totals {
+    let mut totals = Totals::none();
+    for number in numbers {
+        let mut buf = [0u8; 16];
+        let Ok(octets) = Eight::new(*number).encode_to_slice(&mut buf) else {
+            return totals;
+        };
+        totals.pass(octets.len(), octets.last().copied().unwrap_or(0) as u64);
+    }
+    totals
+}
+
+/// The same into a vector of its own.
+#[unsafe(no_mangle)]
+pub extern "C" fn der_bench_to_der(alloc: Global, numbers: &[u64]) -> Totals {
+    let mut totals = Totals::none();
+    for number in numbers {
+        let Ok(octets) = Eight::new(*number).to_der(alloc) else {
+            return totals;
+        };
+        let octets = octets.as_slice();
+        totals.pass(octets.len(), octets.last().copied().unwrap_or(0) as u64);
+    }
+    totals
+}
+
+/// Writes the elements to one vector, which grows; the sum of first octets is its last octet.
+#[unsafe(no_mangle)]
+pub extern "C" fn der_bench_to_vec(alloc: Global, numbers: &[u64]) -> Totals {
+    let mut totals = Totals::none();
+    let mut out = Vec::new(alloc);
+    for number in numbers {
+        if Eight::new(*number).encode_to_vec(&mut out).is_err() {
+            return totals;
+        }
+        totals.pass(0, 0);
+    }
+    totals.contents = out.len() as u64;
+    totals.first_octets = out.as_slice().last().copied().unwrap_or(0) as u64;
+    totals
+}
+
+/// Writes a SEQUENCE of four such elements for each number, by `sequence` with a closure that is
+/// part of the loop.
+#[unsafe(no_mangle)]
+pub extern "C" fn der_bench_put_sequences(numbers: &[u64], out: &mut [u8]) -> Totals {
+    let mut totals = Totals::none();
+    let mut writer = SliceWriter::new(out);
+    for number in numbers {
+        let value = Eight::new(*number);
+        let answer = writer.sequence(Length::new(40), |inside| put_four(inside, &value));
+        if answer.is_err() {
+            return totals;
+        }
+        totals.pass(0, 0);
+    }
+    if let Ok(octets) = writer.finish() {
+        totals.contents = octets.len() as u64;
+    }
+    totals
+}
+
+/// The same with a closure that is called.
+#[unsafe(no_mangle)]
+pub extern "C" fn der_bench_call_sequences(numbers: &[u64], out: &mut [u8]) -> Totals {
+    let mut totals = Totals::none();
+    let mut writer = SliceWriter::new(out);
+    for number in numbers {
+        let value = Eight::new(*number);
+        let answer = writer.sequence(Length::new(40), |inside| call_four(inside, &value));
+        if answer.is_err() {
+            return totals;
+        }
+        totals.pass(0, 0);
+    }
+    if let Ok(octets) = writer.finish() {
+        totals.contents = octets.len() as u64;
+    }
+    totals
+}
+
+#[inline(always)]
+fn put_four(writer: &mut SliceWriter<'_>, value: &Eight) -> Result<(), Error>
+    ensures { Keeps (slice_writer_state writer.old) (slice_writer_state writer.new) }
+{
+    put_two(writer, value)?;
+    put_two(writer, value)
+}
+
+#[inline(always)]
+fn put_two(writer: &mut SliceWriter<'_>, value: &Eight) -> Result<(), Error>
+    ensures { Keeps (slice_writer_state writer.old) (slice_writer_state writer.new) }
+{
+    writer.encode(value)?;
+    writer.encode(value)
+}
+
+#[inline(never)]
+fn call_four(writer: &mut SliceWriter<'_>, value: &Eight) -> Result<(), Error>
+    ensures { Keeps (slice_writer_state writer.old) (slice_writer_state writer.new) }
+{
+    put_four(writer, value)
+}
