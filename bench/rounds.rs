@@ -1,12 +1,14 @@
 //! Ways to do the same work, measured in turn over inputs that grow.
 use crate::common::Totals;
 use std::hint::black_box;
-use std::time::Instant;
+use std::time::{Duration, Instant};
 
 /// How many octets an input has.
 pub const SIZES: [usize; 3] = [16 << 10, 1 << 20, 16 << 20];
-/// How many octets the rounds of one row pass together, about.
-const PASSED: usize = 256 << 20;
+/// How many rounds a row has at least.
+const ROUNDS: usize = 7;
+/// How long they go on at least, as others may use the machine for a while.
+const WHILE: Duration = Duration::from_secs(2);
 
 /// Who does the work of a way.
 #[derive(Clone, Copy, PartialEq, Eq)]
@@ -75,7 +77,9 @@ pub fn tell<S: Clone + PartialEq>(row: &Row, ways: &[Way<'_, S>], scratch: &mut 
 /// are infinite. The rounds alternate, so that all see the same machine.
 fn least_times<S>(row: &Row, ways: &[Way<'_, S>], scratch: &mut S) -> [f64; 3] {
     let mut least = [f64::INFINITY; 3];
-    for _ in 0..(PASSED / row.size).clamp(15, 1000) {
+    let begun = Instant::now();
+    let mut rounds = 0;
+    while rounds < ROUNDS || begun.elapsed() < WHILE {
         for way in ways {
             let start = Instant::now();
             black_box((way.run)(black_box(scratch)));
@@ -83,6 +87,7 @@ fn least_times<S>(row: &Row, ways: &[Way<'_, S>], scratch: &mut S) -> [f64; 3] {
             let place = &mut least[way.by as usize];
             *place = place.min(elapsed);
         }
+        rounds += 1;
     }
     least
 }
