@@ -49,10 +49,9 @@ class Lanes:
         how = {"stdin": subprocess.DEVNULL, "stdout": subprocess.PIPE, "stderr": subprocess.STDOUT}
         with self.state:
             self.see_going()
-            # A session of its own, so that the processes that it forks can be ended with it.
-            check = subprocess.Popen(
-                [*self.before, *words], cwd=folder, start_new_session=True, **how
-            )
+            # A group of its own, so that the processes that it forks can be ended with it. In a
+            # session of its own its `nice` would say nothing: sessions share processors evenly.
+            check = subprocess.Popen([*self.before, *words], cwd=folder, process_group=0, **how)
             self.running.add(check)
         said = check.communicate()[0].decode(errors="replace")
         with self.state:

@@ -27,8 +27,8 @@ class RtCi:
         self.lanes.add(-self.lent)
         self.lanes.before = ["nice", "-n", "10"]
         how = {"stdin": subprocess.DEVNULL, "stdout": subprocess.PIPE}
-        # A session of its own, so that all of it can be ended at once.
-        self.run = subprocess.Popen(["rt", "ci"], cwd=checker.TOP, start_new_session=True, **how)
+        # A group of its own, so that all of it can be ended at once.
+        self.run = subprocess.Popen(["rt", "ci"], cwd=checker.TOP, process_group=0, **how)
         self.thread = threading.Thread(target=self.lanes.guard(self.follow))
         self.thread.start()
         return self
