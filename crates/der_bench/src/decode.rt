@@ -8,7 +8,7 @@ use std::alloc::Global;
 // A value that is counted.
 pub(crate) trait Counted: Drop {
     // How many octets of contents it has.
-    fn contents(&self) -> u64;
+    fn contents(&self) -> usize;
 
     // The first of them, or what stands in its place.
     fn first_octet(&self) -> u8;
@@ -16,9 +16,9 @@ pub(crate) trait Counted: Drop {
 
 impl<'a> Counted for KeyInfo<'a> {
     #[inline(always)]
-    fn contents(&self) -> u64 {
-        let algorithm = self.algorithm.algorithm.octets.len() as u64;
-        algorithm.wrapping_add(self.key.octets.len() as u64)
+    fn contents(&self) -> usize {
+        let algorithm = self.algorithm.algorithm.octets.len();
+        algorithm.wrapping_add(self.key.octets.len())
     }
 
     #[inline(always)]
@@ -41,11 +41,7 @@ pub(crate) fn decode_each<'a, T: Decode<SliceReader<'a>, Error = Error> + Counte
     bytes: &'a [u8],
     rules: EncodingRules,
 ) -> Totals {
-    let mut totals = Totals {
-        elements: 0,
-        contents: 0,
-        first_octets: 0,
-    };
+    let mut totals = Totals::none();
     let Ok(mut reader) = SliceReader::new_with_encoding_rules(bytes, rules) else {
         return totals;
     };
@@ -57,9 +53,7 @@ pub(crate) fn decode_each<'a, T: Decode<SliceReader<'a>, Error = Error> + Counte
         let Ok(value) = reader.decode::<T>(alloc) else {
             return totals;
         };
-        totals.elements = totals.elements.wrapping_add(1);
-        totals.contents = totals.contents.wrapping_add(value.contents());
-        totals.first_octets = totals.first_octets.wrapping_add(value.first_octet() as u64);
+        totals.pass(value.contents(), value.first_octet() as u64);
     }
     totals
 }

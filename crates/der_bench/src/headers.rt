@@ -28,10 +28,7 @@ pub extern "C" fn der_bench_put_headers(wanted: &[Wanted], out: &mut [u8]) -> To
         }
         totals.pass(0, 0);
     }
-    if let Ok(octets) = writer.finish() {
-        totals.contents = octets.len() as u64;
-    }
-    totals
+    totals.written(writer)
 }
 
 /// The same of four headers for each length, whose tags are known beforehand: SEQUENCE, INTEGER,
@@ -54,10 +51,7 @@ pub extern "C" fn der_bench_put_known(lengths: &[u32], out: &mut [u8]) -> Totals
         }
         totals.pass(0, 0);
     }
-    if let Ok(octets) = writer.finish() {
-        totals.contents = octets.len() as u64;
-    }
-    totals
+    totals.written(writer)
 }
 
 #[inline(always)]

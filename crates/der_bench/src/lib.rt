@@ -13,7 +13,7 @@ mod strings;
 mod tags;
 mod writing;
 
-use der::{EncodingRules, Reader, ReaderExt, SliceReader, decode_header};
+use der::{EncodingRules, Reader, ReaderExt, SliceReader, SliceWriter, decode_header};
 
 /// What a walk has passed.
 #[repr(C)]
@@ -42,6 +42,15 @@ impl Totals {
         self.contents = self.contents.wrapping_add(contents as u64);
         self.first_octets = self.first_octets.wrapping_add(first);
     }
+
+    // Has as contents the octets that the writer has written.
+    #[inline(always)]
+    fn written(mut self, writer: SliceWriter<'_>) -> Totals {
+        if let Ok(octets) = writer.finish() {
+            self.contents = octets.len() as u64;
+        }
+        self
+    }
 }
 
 /// Walks over the elements of the octets until their end, or an error.
@@ -53,11 +62,7 @@ pub extern "C" fn der_bench_walk(bytes: &[u8]) -> Totals {
 // The same by any rules.
 #[inline(always)]
 fn walk(bytes: &[u8], rules: EncodingRules) -> Totals {
-    let mut totals = Totals {
-        elements: 0,
-        contents: 0,
-        first_octets: 0,
-    };
+    let mut totals = Totals::none();
     let Ok(mut reader) = SliceReader::new_with_encoding_rules(bytes, rules) else {
         return totals;
     };
@@ -72,10 +77,8 @@ fn walk(bytes: &[u8], rules: EncodingRules) -> Totals {
         let Ok(contents) = reader.read_slice(header.length()) else {
             return totals;
         };
-        totals.elements = totals.elements.wrapping_add(1);
-        totals.contents = totals.contents.wrapping_add(contents.len() as u64);
         let first = contents.first().copied().unwrap_or(0);
-        totals.first_octets = totals.first_octets.wrapping_add(first as u64);
+        totals.pass(contents.len(), first as u64);
     }
     totals
 }

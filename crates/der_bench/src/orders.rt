@@ -9,11 +9,7 @@ use std::cmp::Ordering;
 /// octets end, or an error. The sum of first octets is the number of those that are less.
 #[unsafe(no_mangle)]
 pub extern "C" fn der_bench_orders(alloc: Global, bytes: &[u8]) -> Totals {
-    let mut totals = Totals {
-        elements: 0,
-        contents: 0,
-        first_octets: 0,
-    };
+    let mut totals = Totals::none();
     let Ok(mut reader) = SliceReader::new(bytes) else {
         return totals;
     };
@@ -31,11 +27,8 @@ pub extern "C" fn der_bench_orders(alloc: Global, bytes: &[u8]) -> Totals {
         let Ok(ordering) = value.der_cmp(&ahead) else {
             return totals;
         };
-        let contents = value.octets.as_slice().len() as u64;
-        totals.elements = totals.elements.wrapping_add(1);
-        totals.contents = totals.contents.wrapping_add(contents);
         let less = (ordering == Ordering::Less) as u64;
-        totals.first_octets = totals.first_octets.wrapping_add(less);
+        totals.pass(value.octets.as_slice().len(), less);
         ahead = value;
     }
     totals

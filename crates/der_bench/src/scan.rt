@@ -17,11 +17,7 @@ pub extern "C" fn der_bench_scan(bytes: &[u8]) -> Totals {
 /// one goes over readers that lend nothing.
 #[unsafe(no_mangle)]
 pub extern "C" fn der_bench_scan_by_octets(bytes: &[u8]) -> Totals {
-    let mut totals = Totals {
-        elements: 0,
-        contents: 0,
-        first_octets: 0,
-    };
+    let mut totals = Totals::none();
     let mut rest = bytes;
     for _ in 0..bytes.len() {
         let Some(body) = rest.get(2..) else {
@@ -33,10 +29,8 @@ pub extern "C" fn der_bench_scan_by_octets(bytes: &[u8]) -> Totals {
         let Some(behind) = body.get(len..) else {
             return totals;
         };
-        totals.elements = totals.elements.wrapping_add(1);
-        totals.contents = totals.contents.wrapping_add(len as u64);
         let first = body.first().copied().unwrap_or(0);
-        totals.first_octets = totals.first_octets.wrapping_add(first as u64);
+        totals.pass(len, first as u64);
         rest = behind;
     }
     totals

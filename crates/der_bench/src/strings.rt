@@ -7,8 +7,8 @@ use std::alloc::Global;
 
 impl<'a> Counted for BorrowedOctets<'a> {
     #[inline(always)]
-    fn contents(&self) -> u64 {
-        self.octets.as_slice().len() as u64
+    fn contents(&self) -> usize {
+        self.octets.as_slice().len()
     }
 
     #[inline(always)]
@@ -19,8 +19,8 @@ impl<'a> Counted for BorrowedOctets<'a> {
 
 impl Counted for OwnedText {
     #[inline(always)]
-    fn contents(&self) -> u64 {
-        self.text.as_bytes().len() as u64
+    fn contents(&self) -> usize {
+        self.text.as_bytes().len()
     }
 
     #[inline(always)]
@@ -31,8 +31,8 @@ impl Counted for OwnedText {
 
 impl Counted for JoinedOctets {
     #[inline(always)]
-    fn contents(&self) -> u64 {
-        self.octets.as_slice().len() as u64
+    fn contents(&self) -> usize {
+        self.octets.as_slice().len()
     }
 
     #[inline(always)]

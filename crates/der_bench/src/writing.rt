@@ -66,10 +66,7 @@ pub extern "C" fn der_bench_put_elements(numbers: &[u64], out: &mut [u8]) -> Tot
         }
         totals.pass(0, 0);
     }
-    if let Ok(octets) = writer.finish() {
-        totals.contents = octets.len() as u64;
-    }
-    totals
+    totals.written(writer)
 }
 
 /// Writes each element into octets of its own. The sum of first octets is that of their last ones.
@@ -130,10 +127,7 @@ pub extern "C" fn der_bench_put_sequences(numbers: &[u64], out: &mut [u8]) -> To
         }
         totals.pass(0, 0);
     }
-    if let Ok(octets) = writer.finish() {
-        totals.contents = octets.len() as u64;
-    }
-    totals
+    totals.written(writer)
 }
 
 /// The same with a closure that is called.
@@ -149,10 +143,7 @@ pub extern "C" fn der_bench_call_sequences(numbers: &[u64], out: &mut [u8]) -> T
         }
         totals.pass(0, 0);
     }
-    if let Ok(octets) = writer.finish() {
-        totals.contents = octets.len() as u64;
-    }
-    totals
+    totals.written(writer)
 }
 
 #[inline(always)]

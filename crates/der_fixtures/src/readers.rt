@@ -6,8 +6,19 @@ ghost use Rattle.der_core.specs.SliceReader.{slice_state};
 use der::{EncodingRules, Error, Reader, SliceReader};
 use der_uses::reader::CopyingReader;
 
-/// A reader of these octets under the Basic Encoding Rules.
-pub fn ber_reader(octets: &[u8]) -> Result<SliceReader<'_>, Error>
+/// A reader of these octets under the Distinguished Encoding Rules. What a contract says of a reader
+/// costs the checker seconds at each call, and few tests need it: so nothing is said here.
+pub fn der_reader(octets: &[u8]) -> Result<SliceReader<'_>, Error> {
+    SliceReader::new(octets)
+}
+
+/// Likewise, under the Basic Encoding Rules.
+pub fn ber_reader(octets: &[u8]) -> Result<SliceReader<'_>, Error> {
+    ruled_reader(octets)
+}
+
+/// A reader that is known to be under the Basic Encoding Rules.
+pub fn ruled_reader(octets: &[u8]) -> Result<SliceReader<'_>, Error>
     ensures { IfOk result (λ r. (slice_state r).rules ≡ Ber) }
 {
     SliceReader::new_with_encoding_rules(octets, EncodingRules::Ber)
@@ -25,7 +36,7 @@ pub fn der_unlent(octets: &[u8]) -> Result<CopyingReader<'_>, Error> {
 pub fn ber_unlent(octets: &[u8]) -> Result<CopyingReader<'_>, Error>
     ensures { IfOk result (λ r. (slice_state r.inner).rules ≡ Ber) }
 {
-    match ber_reader(octets) {
+    match ruled_reader(octets) {
         Ok(inner) => Ok(CopyingReader::new(inner)),
         Err(error) => Err(error),
     }
@@ -38,4 +49,22 @@ pub fn place_of<R: Reader>(reader: &R) -> (u32, u32, bool) {
         u32::from(reader.input_len()),
         reader.is_failed(),
     )
+}
+
+/// Readers whose place is asked for without saying all that they are.
+pub trait Placed {
+    /// Where the reader stands, how far it may read, and whether it has failed.
+    fn place(&self) -> (u32, u32, bool);
+}
+
+impl<'a> Placed for SliceReader<'a> {
+    fn place(&self) -> (u32, u32, bool) {
+        place_of(self)
+    }
+}
+
+impl<'a> Placed for CopyingReader<'a> {
+    fn place(&self) -> (u32, u32, bool) {
+        place_of(self)
+    }
 }

@@ -5,7 +5,7 @@ use der::{
     Tag, TagNumber, decode_header, decode_length,
 };
 use der_fixtures::errors::{incomplete, trailing};
-use der_fixtures::readers::der_unlent;
+use der_fixtures::readers::{der_reader, der_unlent};
 use std::alloc::Global;
 use std::test::Fail;
 

@@ -8,7 +8,7 @@ use der_fixtures::bodies::around_contents;
 use der_fixtures::errors::{
     incomplete, incorrect, indefinite, invalid_number, trailing, unexpected, unknown,
 };
-use der_fixtures::readers::{ber_reader, ber_unlent, place_of};
+use der_fixtures::readers::{Placed, ber_reader, ber_unlent, der_reader, place_of};
 use std::alloc::Global;
 use std::test::Fail;
 

@@ -6,6 +6,7 @@ use der::{
     Tag, TagNumber,
 };
 use der_fixtures::errors::{incomplete, trailing, unexpected};
+use der_fixtures::readers::{der_reader, der_unlent};
 use std::alloc::Global;
 use std::test::Fail;
 

@@ -1,7 +1,9 @@
-//! Tests of byte strings and texts, made from outside as a user makes them.
+//! Tests of byte strings, texts and segments that are joined, made from outside as a user makes them.
 #![tactic(auto)]
 
 #[cfg(test)]
 mod checks;
 #[cfg(test)]
-mod octets;
+mod segments;
+#[cfg(test)]
+mod strings;

@@ -1,7 +1,9 @@
-//! Tests of the values of `der_base`, made from outside as a user makes them.
+//! Tests of the values of `der_base`, and of orders by encodings, made from outside as a user makes them.
 #![tactic(auto)]
 
 #[cfg(test)]
 mod checks;
+#[cfg(test)]
+mod orders;
 #[cfg(test)]
 mod values;

@@ -6,7 +6,7 @@ use der::{Class, TagPeek};
 #[test]
 fn what_is_ahead(rt: HostRuntime) -> Result<(), Fail> {
     let octets = [0x02, 0x01, 0x2A, 0x00];
-    let reader = SliceReader::new(&octets)?;
+    let reader = der_reader(&octets)?;
     let integer = Header::new(Tag::Integer, Length::ONE);
     same(&rt, Header::peek(&reader), Ok(integer));
     same(&rt, reader.position(), Length::ZERO);
@@ -18,7 +18,7 @@ fn what_is_ahead(rt: HostRuntime) -> Result<(), Fail> {
 #[test]
 fn a_tag_alone_ahead(rt: HostRuntime) -> Result<(), Fail> {
     let octets = [0x02];
-    let reader = SliceReader::new(&octets)?;
+    let reader = der_reader(&octets)?;
     same(&rt, Tag::peek(&reader), Ok(Tag::Integer));
     same(&rt, reader.position(), Length::ZERO);
     Ok(())
@@ -27,7 +27,7 @@ fn a_tag_alone_ahead(rt: HostRuntime) -> Result<(), Fail> {
 #[test]
 fn tags_ahead(rt: HostRuntime) -> Result<(), Fail> {
     let octets = [0x02, 0x01, 0x2A, 0x00];
-    let mut reader = SliceReader::new(&octets)?;
+    let mut reader = der_reader(&octets)?;
     same(&rt, Tag::peek(&reader), Ok(Tag::Integer));
     same(&rt, reader.peek_tag(), Ok(Tag::Integer));
     let tag_and_bit = Tag::decode_with_constructed_bit(&mut reader);
@@ -37,7 +37,7 @@ fn tags_ahead(rt: HostRuntime) -> Result<(), Fail> {
 
 #[test]
 fn octets_ahead(rt: HostRuntime) -> Result<(), Fail> {
-    let reader = SliceReader::new(&[0x02, 0x01, 0x2A, 0x00])?;
+    let reader = der_reader(&[0x02, 0x01, 0x2A, 0x00])?;
     same(&rt, reader.peek_byte(), Some(0x02));
     let mut buffer = [0u8; 2];
     same(&rt, reader.peek_into(&mut buffer), Ok(()));
@@ -50,7 +50,7 @@ fn octets_ahead(rt: HostRuntime) -> Result<(), Fail> {
 #[test]
 fn what_is_ahead_and_refused(rt: HostRuntime) -> Result<(), Fail> {
     let cut = [0x5F, 0x9E];
-    let reader = SliceReader::new(&cut)?;
+    let reader = der_reader(&cut)?;
     same(&rt, Tag::peek(&reader), Err(incomplete(3, 2, 2)));
     same(&rt, reader.position(), Length::ZERO);
     holds(&rt, !reader.is_failed());
@@ -60,7 +60,7 @@ fn what_is_ahead_and_refused(rt: HostRuntime) -> Result<(), Fail> {
 #[test]
 fn a_long_tag_ahead(rt: HostRuntime) -> Result<(), Fail> {
     let long = [0xDF, 0x8F, 0xFF, 0xFF, 0xFF, 0xFF];
-    let reader = SliceReader::new(&long)?;
+    let reader = der_reader(&long)?;
     let invalid = ErrorKind::TagNumberInvalid.at(Length::new(6));
     same(&rt, Tag::peek(&reader), Err(invalid));
     same(&rt, reader.position(), Length::ZERO);
@@ -73,7 +73,7 @@ fn the_longest_header_ahead(rt: HostRuntime) -> Result<(), Fail> {
     let longest = [
         0xBF, 0x8F, 0xFF, 0xFF, 0xFF, 0x7F, 0x84, 0xFF, 0xFF, 0xFF, 0xFF,
     ];
-    let reader = SliceReader::new(&longest)?;
+    let reader = der_reader(&longest)?;
     let header = Header::new(TagNumber(4294967295).context_specific(true), Length::MAX);
     same(&rt, Header::peek(&reader), Ok(header));
     same(&rt, reader.position(), Length::ZERO);
@@ -85,7 +85,7 @@ fn an_element_that_no_length_counts(rt: HostRuntime) -> Result<(), Fail> {
     let octets = [
         0xBF, 0x8F, 0xFF, 0xFF, 0xFF, 0x7F, 0x84, 0xFF, 0xFF, 0xFF, 0xFF,
     ];
-    let mut reader = SliceReader::new(&octets)?;
+    let mut reader = der_reader(&octets)?;
     let overflow = ErrorKind::Overflow.to_error();
     same(&rt, reader.tlv_bytes().err(), Some(overflow));
     same(&rt, reader.position(), Length::ZERO);
@@ -96,7 +96,7 @@ fn an_element_that_no_length_counts(rt: HostRuntime) -> Result<(), Fail> {
 #[test]
 fn a_tag_that_matches(rt: HostRuntime) -> Result<(), Fail> {
     let octets = [0xA0, 0x00];
-    let mut reader = SliceReader::new(&octets)?;
+    let mut reader = der_reader(&octets)?;
     let zero = TagNumber(0);
     same(
         &rt,
@@ -119,7 +119,7 @@ fn a_tag_that_matches(rt: HostRuntime) -> Result<(), Fail> {
 
 #[test]
 fn no_tag_that_matches(rt: HostRuntime) -> Result<(), Fail> {
-    let mut reader = SliceReader::new(&[])?;
+    let mut reader = der_reader(&[])?;
     same(
         &rt,
         Tag::peek_matches(&mut reader, Class::ContextSpecific, TagNumber(0)),
@@ -132,7 +132,7 @@ fn no_tag_that_matches(rt: HostRuntime) -> Result<(), Fail> {
 #[test]
 fn whole_elements(rt: HostRuntime) -> Result<(), Fail> {
     let octets = [0x30, 0x02, 0x05, 0x00, 0xFF];
-    let mut reader = SliceReader::new(&octets)?;
+    let mut reader = der_reader(&octets)?;
     same(
         &rt,
         reader.tlv_bytes()?,
@@ -144,7 +144,7 @@ fn whole_elements(rt: HostRuntime) -> Result<(), Fail> {
 
 #[test]
 fn an_element_that_is_cut(rt: HostRuntime) -> Result<(), Fail> {
-    let mut reader = SliceReader::new(&[0x30, 0x02])?;
+    let mut reader = der_reader(&[0x30, 0x02])?;
     same(&rt, reader.tlv_bytes().err(), Some(incomplete(4, 2, 0)));
     holds(&rt, reader.is_failed());
     Ok(())
@@ -153,7 +153,7 @@ fn an_element_that_is_cut(rt: HostRuntime) -> Result<(), Fail> {
 #[test]
 fn values_decoded_by_a_reader(rt: HostRuntime) -> Result<(), Fail> {
     let octets = [0x30, 0x00, 0x3F];
-    let mut reader = SliceReader::new(&octets)?;
+    let mut reader = der_reader(&octets)?;
     let sequence = Header::new(Tag::Sequence, Length::ZERO);
     let header: Result<Header, Error> = reader.decode(rt.alloc());
     same(&rt, header, Ok(sequence));
@@ -169,7 +169,7 @@ fn values_decoded_by_a_reader(rt: HostRuntime) -> Result<(), Fail> {
 #[test]
 fn octets_passed(rt: HostRuntime) -> Result<(), Fail> {
     let octets = [0x07; 18];
-    let mut reader = SliceReader::new(&octets)?;
+    let mut reader = der_reader(&octets)?;
     same(
         &rt,
         reader.drain(Length::new(40)),
@@ -186,7 +186,7 @@ fn octets_passed(rt: HostRuntime) -> Result<(), Fail> {
 #[test]
 fn octets_passed_that_are_not_there(rt: HostRuntime) -> Result<(), Fail> {
     let octets = [0x07; 18];
-    let mut reader = SliceReader::new(&octets)?;
+    let mut reader = der_reader(&octets)?;
     same(
         &rt,
         reader.drain(Length::new(20)),
@@ -200,7 +200,7 @@ fn octets_passed_that_are_not_there(rt: HostRuntime) -> Result<(), Fail> {
 #[test]
 fn octets_passed_to_the_end(rt: HostRuntime) -> Result<(), Fail> {
     let octets = [0x07; 18];
-    let mut reader = SliceReader::new(&octets)?;
+    let mut reader = der_reader(&octets)?;
     same(&rt, reader.drain(Length::new(18)), Ok(()));
     holds(&rt, reader.is_finished());
     same(&rt, reader.finish(), Ok(()));
@@ -210,7 +210,7 @@ fn octets_passed_to_the_end(rt: HostRuntime) -> Result<(), Fail> {
 #[test]
 fn ends(rt: HostRuntime) -> Result<(), Fail> {
     let octets = [0x01, 0x02];
-    let mut reader = SliceReader::new(&octets)?;
+    let mut reader = der_reader(&octets)?;
     same(&rt, reader.read_byte(), Ok(0x01));
     let left = ErrorKind::TrailingData {
         decoded: Length::ONE,
@@ -222,7 +222,7 @@ fn ends(rt: HostRuntime) -> Result<(), Fail> {
 
 #[test]
 fn copies(rt: HostRuntime) -> Result<(), Fail> {
-    let mut reader = SliceReader::new(&[0x01, 0x02])?;
+    let mut reader = der_reader(&[0x01, 0x02])?;
     same(&rt, reader.read_byte(), Ok(0x01));
     let copy = reader.read_vec(rt.alloc(), Length::ONE)?;
     same(&rt, copy.as_slice(), [0x02].as_slice());
@@ -231,7 +231,7 @@ fn copies(rt: HostRuntime) -> Result<(), Fail> {
 
 #[test]
 fn a_copy_that_is_refused(rt: HostRuntime) -> Result<(), Fail> {
-    let mut reader = SliceReader::new(&[0x01, 0x02])?;
+    let mut reader = der_reader(&[0x01, 0x02])?;
     same(&rt, reader.read_byte(), Ok(0x01));
     let refused = reader.read_vec(rt.alloc(), Length::new(2)).err();
     same(&rt, refused, Some(incomplete(3, 2, 1)));

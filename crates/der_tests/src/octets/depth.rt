@@ -23,7 +23,7 @@ fn nest(reader: &mut SliceReader<'_>, levels: u8) -> Result<(), Error>
 
 #[test]
 fn as_many_parts_as_may_stand_inside_each_other(rt: HostRuntime) -> Result<(), Fail> {
-    let mut reader = SliceReader::new(&[])?;
+    let mut reader = der_reader(&[])?;
     same(&rt, nest(&mut reader, 64), Ok(()));
     holds(&rt, !reader.is_failed());
     same(&rt, reader.position(), Length::ZERO);
@@ -33,7 +33,7 @@ fn as_many_parts_as_may_stand_inside_each_other(rt: HostRuntime) -> Result<(), F
 
 #[test]
 fn one_part_more_than_may_stand_inside_each_other(rt: HostRuntime) -> Result<(), Fail> {
-    let mut reader = SliceReader::new(&[])?;
+    let mut reader = der_reader(&[])?;
     let too_deep = ErrorKind::NestingDepth.at(Length::ZERO);
     same(&rt, nest(&mut reader, 65), Err(too_deep));
     same(&rt, reader.input_len(), Length::ZERO);
@@ -56,7 +56,7 @@ fn read_inner(reader: &mut SliceReader<'_>) -> Result<u8, Error>
 #[test]
 fn a_part_in_a_part(rt: HostRuntime) -> Result<(), Fail> {
     let octets = [0x01, 0x02];
-    let mut reader = SliceReader::new(&octets)?;
+    let mut reader = der_reader(&octets)?;
     same(&rt, reader.read_nested(Length::ONE, read_inner), Ok(0x01));
     same(&rt, reader.position(), Length::ONE);
     same(&rt, reader.input_len(), Length::new(2));
@@ -66,7 +66,7 @@ fn a_part_in_a_part(rt: HostRuntime) -> Result<(), Fail> {
 #[test]
 fn a_part_that_is_closed(rt: HostRuntime) -> Result<(), Fail> {
     let octets = [0x01, 0x02];
-    let mut reader = SliceReader::new(&octets)?;
+    let mut reader = der_reader(&octets)?;
     let outer = reader.enter_nested(Length::ONE)?;
     same(&rt, reader.input_len(), Length::ONE);
     let answer = reader.read_byte();
@@ -78,7 +78,7 @@ fn a_part_that_is_closed(rt: HostRuntime) -> Result<(), Fail> {
 #[test]
 fn a_part_that_is_left(rt: HostRuntime) -> Result<(), Fail> {
     let octets = [0x01, 0x02];
-    let mut reader = SliceReader::new(&octets)?;
+    let mut reader = der_reader(&octets)?;
     let outer = reader.enter_nested(Length::ONE)?;
     same(&rt, outer.input_len(), Length::new(2));
     same(&rt, outer.depth(), 0);
@@ -98,7 +98,7 @@ fn what_a_part_goes_back_to(rt: HostRuntime) {
 #[test]
 fn contents_that_are_closed(rt: HostRuntime) -> Result<(), Fail> {
     let octets = [0x07, 0x00, 0x00];
-    let mut reader = SliceReader::new(&octets)?;
+    let mut reader = der_reader(&octets)?;
     let outer = reader.enter_nested(Length::ONE)?;
     let answer = reader.read_byte();
     let closed = close_value(&mut reader, Length::new_indefinite(3), outer, answer);

@@ -74,7 +74,7 @@ fn headers_that_are_refused(rt: HostRuntime) {
 #[test]
 fn a_refused_header_leaves_the_reader_failed(rt: HostRuntime) -> Result<(), Fail> {
     let octets = [0x04, 0x81, 0x7F, 0x05];
-    let mut reader = SliceReader::new(&octets)?;
+    let mut reader = der_reader(&octets)?;
     let incorrect = ErrorKind::Length {
         tag: Tag::OctetString,
     };

@@ -85,7 +85,7 @@ fn a_refused_copy_leaves_the_reader(rt: HostRuntime) -> Result<(), Fail> {
     let (mut lent, mut filled) = ([false, false], [false, false]);
     for size in SIZES {
         let heap = LocalHeap::new(rt.alloc(), size)?;
-        lent[copy_sixty(&rt, &heap, SliceReader::new(&octets)?, size) as usize] = true;
+        lent[copy_sixty(&rt, &heap, der_reader(&octets)?, size) as usize] = true;
         filled[copy_sixty(&rt, &heap, der_unlent(&octets)?, size) as usize] = true;
         same_at(&rt, size, heap.used(), 0);
     }

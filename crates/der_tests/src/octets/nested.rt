@@ -28,7 +28,7 @@ fn read_none(reader: &mut SliceReader<'_>) -> Result<(), Error>
 #[test]
 fn a_part_is_read_to_its_end(rt: HostRuntime) -> Result<(), Fail> {
     let octets = [0x01, 0x02];
-    let mut reader = SliceReader::new(&octets)?;
+    let mut reader = der_reader(&octets)?;
     same(&rt, reader.read_nested(Length::ONE, read_one), Ok(0x01));
     same(&rt, reader.position(), Length::ONE);
     same(&rt, reader.input_len(), Length::new(2));
@@ -38,7 +38,7 @@ fn a_part_is_read_to_its_end(rt: HostRuntime) -> Result<(), Fail> {
 #[test]
 fn a_part_with_octets_left(rt: HostRuntime) -> Result<(), Fail> {
     let octets = [0x01, 0x02];
-    let mut reader = SliceReader::new(&octets)?;
+    let mut reader = der_reader(&octets)?;
     same(
         &rt,
         reader.read_nested(Length::new(2), read_one),
@@ -51,7 +51,7 @@ fn a_part_with_octets_left(rt: HostRuntime) -> Result<(), Fail> {
 #[test]
 fn a_part_past_the_end(rt: HostRuntime) -> Result<(), Fail> {
     let octets = [0x01, 0x02, 0x03];
-    let mut reader = SliceReader::new(&octets)?;
+    let mut reader = der_reader(&octets)?;
     same(&rt, reader.read_byte(), Ok(0x01));
     let past = Err(incomplete(4, 3, 3));
     same(&rt, reader.read_nested(Length::new(3), read_one), past);
@@ -65,7 +65,7 @@ fn a_part_past_the_end(rt: HostRuntime) -> Result<(), Fail> {
 #[test]
 fn a_sequence_that_is_not_read_whole(rt: HostRuntime) -> Result<(), Fail> {
     let octets = [0x30, 0x03, 0x05, 0x00, 0x00];
-    let mut reader = SliceReader::new(&octets)?;
+    let mut reader = der_reader(&octets)?;
     same(&rt, reader.sequence(read_header), Err(trailing(4, 1)));
     holds(&rt, reader.is_failed());
     Ok(())
@@ -74,7 +74,7 @@ fn a_sequence_that_is_not_read_whole(rt: HostRuntime) -> Result<(), Fail> {
 #[test]
 fn a_sequence(rt: HostRuntime) -> Result<(), Fail> {
     let octets = [0x30, 0x02, 0x05, 0x00, 0x01];
-    let mut reader = SliceReader::new(&octets)?;
+    let mut reader = der_reader(&octets)?;
     let null = Header::new(Tag::Null, Length::ZERO);
     same(&rt, reader.sequence(read_header), Ok(null));
     same(&rt, reader.position(), Length::new(4));
@@ -85,7 +85,7 @@ fn a_sequence(rt: HostRuntime) -> Result<(), Fail> {
 #[test]
 fn no_sequence(rt: HostRuntime) -> Result<(), Fail> {
     let set = [0x31, 0x00];
-    let mut reader = SliceReader::new(&set)?;
+    let mut reader = der_reader(&set)?;
     let unexpected = ErrorKind::TagUnexpected {
         expected: Some(Tag::Sequence),
         actual: Tag::Set,
@@ -99,7 +99,7 @@ fn no_sequence(rt: HostRuntime) -> Result<(), Fail> {
 #[test]
 fn a_sequence_that_is_cut(rt: HostRuntime) -> Result<(), Fail> {
     let cut = [0x30, 0x04, 0x05, 0x00];
-    let mut reader = SliceReader::new(&cut)?;
+    let mut reader = der_reader(&cut)?;
     same(&rt, reader.sequence(read_none), Err(incomplete(5, 4, 4)));
     same(&rt, reader.position(), Length::new(2));
     holds(&rt, !reader.is_failed());
@@ -166,7 +166,7 @@ fn a_part_past_the_end_of_a_position(rt: HostRuntime) -> Result<(), Fail> {
 #[test]
 fn a_value_and_its_end_marks(rt: HostRuntime) -> Result<(), Fail> {
     let octets = [0x07, 0x00, 0x00, 0x05];
-    let mut reader = SliceReader::new(&octets)?;
+    let mut reader = der_reader(&octets)?;
     let header = Header::new(Tag::OctetString, Length::new_indefinite(3));
     let read = read_value(&mut reader, header, read_contents);
     same(&rt, read, Ok((0x07, Length::new_indefinite(1))));
@@ -177,7 +177,7 @@ fn a_value_and_its_end_marks(rt: HostRuntime) -> Result<(), Fail> {
 #[test]
 fn a_value_without_end_marks(rt: HostRuntime) -> Result<(), Fail> {
     let octets = [0x07, 0x00, 0x00, 0x05];
-    let mut reader = SliceReader::new(&octets)?;
+    let mut reader = der_reader(&octets)?;
     let plain = Header::new(Tag::OctetString, Length::ONE);
     same(
         &rt,
@@ -190,7 +190,7 @@ fn a_value_without_end_marks(rt: HostRuntime) -> Result<(), Fail> {
 #[test]
 fn end_marks(rt: HostRuntime) -> Result<(), Fail> {
     let octets = [0x00, 0x00, 0x05];
-    let mut reader = SliceReader::new(&octets)?;
+    let mut reader = der_reader(&octets)?;
     same(&rt, read_eoc(&mut reader), Ok(()));
     same(&rt, reader.position(), Length::new(2));
     let wrong = ErrorKind::IndefiniteLength.at(Length::new(3));

@@ -5,7 +5,7 @@ use der::DecodeError;
 
 #[test]
 fn a_new_reader(rt: HostRuntime) -> Result<(), Fail> {
-    let reader = SliceReader::new(&[0x01, 0x02])?;
+    let reader = der_reader(&[0x01, 0x02])?;
     holds(&rt, reader.encoding_rules().is_der());
     same(&rt, reader.input_len(), Length::new(2));
     same(&rt, reader.position(), Length::ZERO);
@@ -16,7 +16,7 @@ fn a_new_reader(rt: HostRuntime) -> Result<(), Fail> {
 #[test]
 fn octets_in_turn(rt: HostRuntime) -> Result<(), Fail> {
     let octets = [0x01, 0x02, 0x03, 0x04];
-    let mut reader = SliceReader::new(&octets)?;
+    let mut reader = der_reader(&octets)?;
     same(&rt, reader.read_byte(), Ok(0x01));
     let lent = reader.read_slice(Length::new(2))?;
     same(&rt, lent, [0x02, 0x03].as_slice());
@@ -28,7 +28,7 @@ fn octets_in_turn(rt: HostRuntime) -> Result<(), Fail> {
 
 #[test]
 fn octets_to_the_end(rt: HostRuntime) -> Result<(), Fail> {
-    let mut reader = SliceReader::new(&[0x03, 0x04])?;
+    let mut reader = der_reader(&[0x03, 0x04])?;
     let mut octets = [0u8; 2];
     same(&rt, reader.read_into(&mut octets), Ok(()));
     same(&rt, octets, [0x03, 0x04]);
@@ -41,7 +41,7 @@ fn octets_to_the_end(rt: HostRuntime) -> Result<(), Fail> {
 #[test]
 fn octets_that_are_not_there(rt: HostRuntime) -> Result<(), Fail> {
     let octets = [0x01, 0x02];
-    let mut reader = SliceReader::new(&octets)?;
+    let mut reader = der_reader(&octets)?;
     same(
         &rt,
         reader.read_slice(Length::MAX).err(),
@@ -60,7 +60,7 @@ fn octets_that_are_not_there(rt: HostRuntime) -> Result<(), Fail> {
 #[test]
 fn more_octets_than_a_length_counts(rt: HostRuntime) -> Result<(), Fail> {
     let octets = [0x01, 0x02];
-    let mut reader = SliceReader::new(&octets)?;
+    let mut reader = der_reader(&octets)?;
     same(&rt, reader.read_byte(), Ok(0x01));
     let overflow = ErrorKind::Overflow.to_error();
     same(&rt, reader.read_slice(Length::MAX).err(), Some(overflow));
@@ -72,7 +72,7 @@ fn more_octets_than_a_length_counts(rt: HostRuntime) -> Result<(), Fail> {
 #[test]
 fn an_error_of_the_caller(rt: HostRuntime) -> Result<(), Fail> {
     let octets = [0x01, 0x02];
-    let mut reader = SliceReader::new(&octets)?;
+    let mut reader = der_reader(&octets)?;
     same(&rt, reader.read_byte(), Ok(0x01));
     let error = reader.error(ErrorKind::DateTime);
     same(&rt, error, ErrorKind::DateTime.at(Length::ONE));

@@ -44,14 +44,14 @@ fn segments_ahead(rt: HostRuntime) -> Result<(), Fail> {
 #[test]
 fn segments_ahead_under_der(rt: HostRuntime) -> Result<(), Fail> {
     let octets = [0x24, 0x80, 0x00, 0x00];
-    let mut reader = SliceReader::new(&octets)?;
+    let mut reader = der_reader(&octets)?;
     let refused = unknown(0x24, 1);
     same(&rt, Tag::peek(&reader), Err(refused));
     same(&rt, Header::peek(&reader), Err(refused));
     let matches = Tag::peek_matches(&mut reader, Class::Universal, TagNumber(4));
     same(&rt, matches, Err(refused));
     same(&rt, reader.remaining()?, octets.as_slice());
-    same(&rt, place_of(&reader), (0, 4, false));
+    same(&rt, reader.place(), (0, 4, false));
     Ok(())
 }
 
@@ -63,7 +63,7 @@ fn a_tag_before_a_refused_length(rt: HostRuntime) -> Result<(), Fail> {
     let matches = Tag::peek_matches(&mut reader, Class::Universal, TagNumber(4));
     same(&rt, matches, Ok(true));
     same(&rt, reader.peek_header(), Err(unknown(0x3F, 3)));
-    same(&rt, place_of(&reader), (0, 4, false));
+    same(&rt, reader.place(), (0, 4, false));
     Ok(())
 }
 
@@ -74,7 +74,7 @@ fn refused_tags_ahead(rt: HostRuntime) -> Result<(), Fail> {
     same(&rt, Tag::peek(&reader), Err(unknown(0x2C, 1)));
     let matches = Tag::peek_matches(&mut reader, universal, TagNumber(12));
     same(&rt, matches, Err(unknown(0x2C, 1)));
-    same(&rt, place_of(&reader), (0, 2, false));
+    same(&rt, reader.place(), (0, 2, false));
     let mut nothing = ber_reader(&[])?;
     let matches = Tag::peek_matches(&mut nothing, universal, TagNumber(4));
     same(&rt, matches, Ok(false));
@@ -86,7 +86,7 @@ fn refused_tags_ahead(rt: HostRuntime) -> Result<(), Fail> {
 fn a_primitive_header_ahead(rt: HostRuntime) -> Result<(), Fail> {
     let reader = ber_reader(&[0x04, 0x80, 0x00, 0x00])?;
     same(&rt, Header::peek(&reader), Err(indefinite(2)));
-    same(&rt, place_of(&reader), (0, 4, false));
+    same(&rt, reader.place(), (0, 4, false));
     Ok(())
 }
 

@@ -23,7 +23,7 @@ fn an_element_among_others(rt: HostRuntime) -> Result<(), Fail> {
     let mut reader = ber_reader(&octets)?;
     let null = [0x30, 0x80, 0x05, 0x00, 0x00, 0x00];
     same(&rt, reader.tlv_bytes()?, null.as_slice());
-    same(&rt, place_of(&reader), (6, 9, false));
+    same(&rt, reader.place(), (6, 9, false));
     same(&rt, reader.tlv_bytes()?, [0x02, 0x01, 0x2A].as_slice());
     same(&rt, reader.finish(), Ok(()));
     Ok(())
@@ -38,7 +38,7 @@ fn elements_of_each_length(rt: HostRuntime) -> Result<(), Fail> {
         let end = count as u32 + 6;
         let mut reader = ber_reader(octets.as_slice())?;
         same_at(&rt, count, reader.tlv_bytes()?, octets.as_slice());
-        same_at(&rt, count, place_of(&reader), (end, end, false));
+        same_at(&rt, count, reader.place(), (end, end, false));
     }
     Ok(())
 }
@@ -48,7 +48,7 @@ fn an_element_without_lending(rt: HostRuntime) -> Result<(), Fail> {
     let mut reader = ber_unlent(&[0x30, 0x80, 0x00, 0x00])?;
     let refused = ErrorKind::Reader.at(Length::ZERO);
     same(&rt, reader.tlv_bytes().err(), Some(refused));
-    same(&rt, place_of(&reader), (0, 4, false));
+    same(&rt, reader.place(), (0, 4, false));
     Ok(())
 }
 
@@ -56,7 +56,7 @@ fn an_element_without_lending(rt: HostRuntime) -> Result<(), Fail> {
 fn a_primitive_identifier_before_octet_80(rt: HostRuntime) -> Result<(), Fail> {
     let mut reader = ber_reader(&[0x04, 0x80, 0x00, 0x00])?;
     same(&rt, reader.tlv_bytes().err(), Some(indefinite(2)));
-    same(&rt, place_of(&reader), (0, 4, false));
+    same(&rt, reader.place(), (0, 4, false));
     Ok(())
 }
 
@@ -66,14 +66,14 @@ fn encrypted_contents(rt: HostRuntime) -> Result<(), Fail> {
     let header = decode_header(&mut reader)?;
     let info = Header::new(Tag::Sequence, Length::new_indefinite(66));
     same(&rt, header, info);
-    same(&rt, place_of(&reader), (2, 68, false));
+    same(&rt, reader.place(), (2, 68, false));
     same(&rt, reader.tlv_bytes()?.len(), 11);
     same(&rt, reader.tlv_bytes()?.len(), 31);
-    same(&rt, place_of(&reader), (44, 68, false));
+    same(&rt, reader.place(), (44, 68, false));
     let header = Header::decode(rt.alloc(), &mut reader)?;
     same(&rt, header.tag(), TagNumber(0).context_specific(true));
     same(&rt, header.length(), Length::new_indefinite(20));
-    same(&rt, place_of(&reader), (46, 68, false));
+    same(&rt, reader.place(), (46, 68, false));
     Ok(())
 }
 
@@ -92,7 +92,7 @@ fn encrypted_contents_in_their_sequence(rt: HostRuntime) -> Result<(), Fail> {
     let (contents, first, second) = reader.sequence(read_three)?;
     same(&rt, (first, second), (11, 31));
     same(&rt, contents, &ENCRYPTED_CONTENT_INFO[44..66]);
-    same(&rt, place_of(&reader), (68, 68, false));
+    same(&rt, reader.place(), (68, 68, false));
     same(&rt, reader.finish(), Ok(()));
     Ok(())
 }

@@ -40,7 +40,7 @@ fn an_identifier_among_others(rt: HostRuntime) -> Result<(), Fail> {
     let identifier: AlgorithmIdentifier<'_> = reader.decode(rt.alloc())?;
     same(&rt, identifier.algorithm.octets, [].as_slice());
     same(&rt, identifier.month.month(), 11);
-    same(&rt, place_of(&reader), (9, 12, false));
+    same(&rt, reader.place(), (9, 12, false));
     let month: MyByteMonth = reader.decode(rt.alloc())?;
     same(&rt, month.month(), 2);
     same(&rt, reader.finish(), Ok(()));
@@ -115,10 +115,10 @@ fn a_field_without_lending(rt: HostRuntime) -> Result<(), Fail> {
     let mut reader = ber_unlent(&[0x24, 0x80, 0x04, 0x00, 0x00, 0x00])?;
     let refused = Lent::decode(rt.alloc(), &mut reader).err();
     same(&rt, refused, Some(ErrorKind::Reader.at(Length::new(2))));
-    same(&rt, place_of(&reader), (2, 6, false));
+    same(&rt, reader.place(), (2, 6, false));
     let mut reader = ber_unlent(&[0x24, 0x01, 0x09])?;
     let month = MyByteMonth::decode(rt.alloc(), &mut reader)?;
     same(&rt, month.month(), 9);
-    same(&rt, place_of(&reader), (3, 3, false));
+    same(&rt, reader.place(), (3, 3, false));
     Ok(())
 }

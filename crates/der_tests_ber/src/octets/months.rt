@@ -16,7 +16,7 @@ fn months_of_a_definite_length(rt: HostRuntime) -> Result<(), Fail> {
     let mut reader = ber_reader(&[0x24, 0x01, 0x0B, 0x05, 0x00])?;
     let read: MyByteMonth = reader.decode(rt.alloc())?;
     same(&rt, read.month(), 11);
-    same(&rt, place_of(&reader), (3, 5, false));
+    same(&rt, reader.place(), (3, 5, false));
     Ok(())
 }
 
@@ -115,7 +115,7 @@ fn another_tag_leaves_the_reader_behind_its_header(rt: HostRuntime) -> Result<()
         refused,
         Err(unexpected(Tag::OctetString, Tag::Sequence)),
     );
-    same(&rt, place_of(&reader), (2, 4, false));
+    same(&rt, reader.place(), (2, 4, false));
     Ok(())
 }
 

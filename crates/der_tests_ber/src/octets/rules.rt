@@ -8,11 +8,11 @@ fn the_rules_of_a_reader(rt: HostRuntime) -> Result<(), Fail> {
     let reader = ber_reader(&[])?;
     same(&rt, reader.encoding_rules(), EncodingRules::Ber);
     same(&rt, reader.fork().encoding_rules(), EncodingRules::Ber);
-    same(&rt, place_of(&reader), (0, 0, false));
+    same(&rt, reader.place(), (0, 0, false));
     let der = EncodingRules::Der;
     let reader = SliceReader::new_with_encoding_rules(&[0x05], der)?;
     same(&rt, reader.encoding_rules(), der);
-    same(&rt, place_of(&reader), (0, 1, false));
+    same(&rt, reader.place(), (0, 1, false));
     same(&rt, SliceReader::new(&[])?.encoding_rules(), der);
     Ok(())
 }
@@ -28,7 +28,7 @@ fn the_indefinite_form_under_der(rt: HostRuntime) -> Result<(), Fail> {
         let mut reader = SliceReader::new(octets)?;
         same(&rt, reader.peek_header(), Err(indefinite(2)));
         same(&rt, decode_header(&mut reader), Err(indefinite(2)));
-        same(&rt, place_of(&reader), (2, octets.len() as u32, true));
+        same(&rt, reader.place(), (2, octets.len() as u32, true));
     }
     let refused = Length::from_der(rt.alloc(), &[0x80, 0x00, 0x00]);
     same(&rt, refused, Err(indefinite(1)));
@@ -104,7 +104,7 @@ fn headers_whose_length_is_refused(rt: HostRuntime) -> Result<(), Fail> {
             let mut reader = SliceReader::new_with_encoding_rules(octets, rules)?;
             same_at(&rt, rules, decode_header(&mut reader), Err(error));
             let end = octets.len() as u32;
-            same_at(&rt, rules, place_of(&reader), (position, end, true));
+            same_at(&rt, rules, reader.place(), (position, end, true));
         }
     }
     Ok(())
@@ -138,9 +138,9 @@ fn elements_of_a_definite_length(rt: HostRuntime) -> Result<(), Fail> {
     let mut reader = ber_reader(&octets)?;
     let element = [0x30, 0x02, 0x05, 0x00];
     same(&rt, reader.tlv_bytes()?, element.as_slice());
-    same(&rt, place_of(&reader), (4, 5, false));
+    same(&rt, reader.place(), (4, 5, false));
     let mut cut = ber_reader(&[0x24, 0x02])?;
     same(&rt, cut.tlv_bytes().err(), Some(incomplete(4, 2, 0)));
-    same(&rt, place_of(&cut), (0, 2, true));
+    same(&rt, cut.place(), (0, 2, true));
     Ok(())
 }

@@ -10,10 +10,10 @@ fn a_constructed_string(rt: HostRuntime) -> Result<(), Fail> {
     same(&rt, header.tag(), Tag::OctetString);
     same(&rt, header.is_constructed(), true);
     same(&rt, header.length(), Length::ONE);
-    same(&rt, place_of(&reader), (2, 3, false));
+    same(&rt, reader.place(), (2, 3, false));
     let mut unlent = ber_unlent(&[0x24, 0x01, 0x09])?;
     same(&rt, decode_header(&mut unlent), Ok(header));
-    same(&rt, place_of(&unlent), (2, 3, false));
+    same(&rt, unlent.place(), (2, 3, false));
     Ok(())
 }
 
@@ -34,7 +34,7 @@ fn a_string_of_segments(rt: HostRuntime) -> Result<(), Fail> {
     let mut reader = ber_reader(&octets)?;
     let segments = Header::new(Tag::OctetString, Length::new_indefinite(7));
     same(&rt, decode_header(&mut reader), Ok(segments));
-    same(&rt, place_of(&reader), (2, 9, false));
+    same(&rt, reader.place(), (2, 9, false));
     Ok(())
 }
 
@@ -97,8 +97,8 @@ fn octets_that_both_rules_read_alike(rt: HostRuntime) {
 
 #[test]
 fn a_constructed_string_under_der(rt: HostRuntime) -> Result<(), Fail> {
-    let mut reader = SliceReader::new(&[0x24, 0x01, 0x09])?;
+    let mut reader = der_reader(&[0x24, 0x01, 0x09])?;
     same(&rt, decode_header(&mut reader), Err(unknown(0x24, 1)));
-    same(&rt, place_of(&reader), (1, 3, true));
+    same(&rt, reader.place(), (1, 3, true));
     Ok(())
 }

@@ -45,10 +45,10 @@ fn a_sequence_and_its_end_mark(rt: HostRuntime) -> Result<(), Fail> {
     let octets = [0x30, 0x80, 0x05, 0x00, 0x00, 0x00, 0x02];
     let mut reader = ber_reader(&octets)?;
     same(&rt, reader.sequence(read_header), Ok(null()));
-    same(&rt, place_of(&reader), (6, 7, false));
+    same(&rt, reader.place(), (6, 7, false));
     let mut unlent = ber_unlent(&octets)?;
     same(&rt, unlent.sequence(read_header), Ok(null()));
-    same(&rt, place_of(&unlent), (6, 7, false));
+    same(&rt, unlent.place(), (6, 7, false));
     Ok(())
 }
 
@@ -57,10 +57,10 @@ fn a_sequence_of_nothing(rt: HostRuntime) -> Result<(), Fail> {
     let octets = [0x30, 0x80, 0x00, 0x00];
     let mut reader = ber_reader(&octets)?;
     same(&rt, reader.sequence(read_none), Ok(()));
-    same(&rt, place_of(&reader), (4, 4, false));
+    same(&rt, reader.place(), (4, 4, false));
     let mut reader = ber_reader(&octets)?;
     same(&rt, reader.sequence(read_header), Err(incomplete(3, 2, 2)));
-    same(&rt, place_of(&reader), (2, 4, true));
+    same(&rt, reader.place(), (2, 4, true));
     Ok(())
 }
 
@@ -68,7 +68,7 @@ fn a_sequence_of_nothing(rt: HostRuntime) -> Result<(), Fail> {
 fn a_sequence_of_a_definite_length(rt: HostRuntime) -> Result<(), Fail> {
     let mut reader = ber_reader(&[0x30, 0x02, 0x05, 0x00, 0x00, 0x00])?;
     same(&rt, reader.sequence(read_header), Ok(null()));
-    same(&rt, place_of(&reader), (4, 6, false));
+    same(&rt, reader.place(), (4, 6, false));
     Ok(())
 }
 
@@ -77,15 +77,15 @@ fn a_sequence_in_a_sequence(rt: HostRuntime) -> Result<(), Fail> {
     let octets = [0x30, 0x80, 0x30, 0x80, 0x05, 0x00, 0x00, 0x00, 0x00, 0x00];
     let mut reader = ber_reader(&octets)?;
     same(&rt, reader.sequence(read_inner), Ok(null()));
-    same(&rt, place_of(&reader), (10, 10, false));
+    same(&rt, reader.place(), (10, 10, false));
     let definite = [0x30, 0x06, 0x30, 0x80, 0x05, 0x00, 0x00, 0x00];
     let mut reader = ber_reader(&definite)?;
     same(&rt, reader.sequence(read_inner), Ok(null()));
-    same(&rt, place_of(&reader), (8, 8, false));
+    same(&rt, reader.place(), (8, 8, false));
     let inner_definite = [0x30, 0x80, 0x30, 0x02, 0x05, 0x00, 0x00, 0x00];
     let mut reader = ber_reader(&inner_definite)?;
     same(&rt, reader.sequence(read_inner), Ok(null()));
-    same(&rt, place_of(&reader), (8, 8, false));
+    same(&rt, reader.place(), (8, 8, false));
     Ok(())
 }
 
@@ -95,7 +95,7 @@ fn a_body_that_its_part_cuts(rt: HostRuntime) -> Result<(), Fail> {
     let octets = [0x30, 0x05, 0x30, 0x80, 0x05, 0x00, 0x00, 0x00];
     let mut reader = ber_reader(&octets)?;
     same(&rt, reader.sequence(read_inner), Err(incomplete(8, 7, 7)));
-    same(&rt, place_of(&reader), (4, 8, false));
+    same(&rt, reader.place(), (4, 8, false));
     Ok(())
 }
 
@@ -104,10 +104,10 @@ fn what_is_left_of_a_sequence(rt: HostRuntime) -> Result<(), Fail> {
     let octets = [0x30, 0x80, 0x05, 0x00, 0x02, 0x01, 0x2A, 0x00, 0x00];
     let mut reader = ber_reader(&octets)?;
     same(&rt, reader.sequence(read_header), Err(trailing(4, 3)));
-    same(&rt, place_of(&reader), (4, 9, true));
+    same(&rt, reader.place(), (4, 9, true));
     let mut unlent = ber_unlent(&octets)?;
     same(&rt, unlent.sequence(read_none), Err(trailing(2, 5)));
-    same(&rt, place_of(&unlent), (2, 9, true));
+    same(&rt, unlent.place(), (2, 9, true));
     Ok(())
 }
 
@@ -119,13 +119,13 @@ fn no_sequence(rt: HostRuntime) -> Result<(), Fail> {
     };
     let mut reader = ber_reader(&[0x31, 0x80, 0x00, 0x00])?;
     same(&rt, reader.sequence(read_none), Err(unexpected.to_error()));
-    same(&rt, place_of(&reader), (2, 4, false));
+    same(&rt, reader.place(), (2, 4, false));
     let mut reader = ber_reader(&[0x04, 0x80, 0x00, 0x00])?;
     same(&rt, reader.sequence(read_none), Err(indefinite(2)));
-    same(&rt, place_of(&reader), (2, 4, true));
+    same(&rt, reader.place(), (2, 4, true));
     let mut reader = ber_reader(&[0x30, 0x80, 0x05, 0x00])?;
     same(&rt, reader.sequence(read_none), Err(incomplete(5, 4, 4)));
-    same(&rt, place_of(&reader), (2, 4, false));
+    same(&rt, reader.place(), (2, 4, false));
     Ok(())
 }
 
@@ -140,7 +140,7 @@ fn contents_and_their_header(rt: HostRuntime) -> Result<(), Fail> {
     let (inner, contents) = read_value(&mut reader, header, read_octets)?;
     same(&rt, inner, string.with_length(Length::new_indefinite(3)));
     same(&rt, contents, [0x04, 0x01, 0x09].as_slice());
-    same(&rt, place_of(&reader), (7, 8, false));
+    same(&rt, reader.place(), (7, 8, false));
     Ok(())
 }
 
@@ -152,7 +152,7 @@ fn contents_without_an_end_mark(rt: HostRuntime) -> Result<(), Fail> {
     let (inner, contents) = read_value(&mut reader, header, read_octets)?;
     same(&rt, inner, header);
     same(&rt, contents, [0x04, 0x00].as_slice());
-    same(&rt, place_of(&reader), (4, 6, false));
+    same(&rt, reader.place(), (4, 6, false));
     Ok(())
 }
 
@@ -163,11 +163,11 @@ fn contents_before_another_octet(rt: HostRuntime) -> Result<(), Fail> {
     let header = Header::new(Tag::OctetString, Length::new_indefinite(4));
     let refused = read_value(&mut reader, header, read_octets).err();
     same(&rt, refused, Some(indefinite(4)));
-    same(&rt, place_of(&reader), (4, 4, true));
+    same(&rt, reader.place(), (4, 4, true));
     let mut reader = ber_reader(&[0x05, 0x00, 0x00])?;
     let refused = read_value(&mut reader, header, read_octets).err();
     same(&rt, refused, Some(incomplete(4, 3, 3)));
-    same(&rt, place_of(&reader), (3, 3, true));
+    same(&rt, reader.place(), (3, 3, true));
     Ok(())
 }
 
@@ -178,9 +178,9 @@ fn contents_that_are_closed(rt: HostRuntime) -> Result<(), Fail> {
     let length = header.length().sans_eoc();
     let outer = reader.enter_nested(length)?;
     let answer = decode_header(&mut reader);
-    same(&rt, place_of(&reader), (4, 4, false));
+    same(&rt, reader.place(), (4, 4, false));
     let closed = close_value(&mut reader, length, outer, answer);
     same(&rt, closed, Ok(null()));
-    same(&rt, place_of(&reader), (6, 6, false));
+    same(&rt, reader.place(), (6, 6, false));
     Ok(())
 }

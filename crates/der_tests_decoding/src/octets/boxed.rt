@@ -19,7 +19,7 @@ fn a_boxed_month_both_ways(rt: HostRuntime) -> Result<(), Fail> {
 #[test]
 fn a_boxed_month_at_the_front(rt: HostRuntime) -> Result<(), Fail> {
     let octets = [0x04, 0x01, 0x09, 0x05, 0x00];
-    let mut reader = SliceReader::new(&octets)?;
+    let mut reader = der_reader(&octets)?;
     let boxed = Box::<MyByteMonth>::decode(rt.alloc(), &mut reader)?;
     same(&rt, boxed.month(), 9);
     same(&rt, reader.position(), Length::new(3));

@@ -65,7 +65,7 @@ fn a_refusal_that_is_ignored(rt: HostRuntime) -> Result<(), Fail> {
         Hasty::from_der_partial(rt.alloc(), &octets).err(),
         Some(failed),
     );
-    let mut reader = SliceReader::new(&octets)?;
+    let mut reader = der_reader(&octets)?;
     let hasty = Hasty::decode(rt.alloc(), &mut reader)?;
     same(&rt, hasty.octet, 0x09);
     holds(&rt, reader.is_failed());

@@ -8,7 +8,7 @@ use der_uses::reader::CopyingReader;
 #[test]
 fn a_month_without_lending(rt: HostRuntime) -> Result<(), Fail> {
     let octets = [0x04, 0x01, 0x09, 0x05, 0x00];
-    let mut reader = CopyingReader::new(SliceReader::new(&octets)?);
+    let mut reader = der_unlent(&octets)?;
     let month = MyByteMonth::decode(rt.alloc(), &mut reader)?;
     same(&rt, month.month(), 9);
     same(&rt, reader.position(), Length::new(3));
@@ -20,7 +20,7 @@ fn a_month_without_lending(rt: HostRuntime) -> Result<(), Fail> {
 #[test]
 fn a_boxed_month_without_lending(rt: HostRuntime) -> Result<(), Fail> {
     let octets = [0x04, 0x01, 0x09];
-    let mut reader = CopyingReader::new(SliceReader::new(&octets)?);
+    let mut reader = der_unlent(&octets)?;
     let boxed = Box::<MyByteMonth>::decode(rt.alloc(), &mut reader)?;
     same(&rt, boxed.month(), 9);
     holds(&rt, reader.is_finished());
@@ -30,7 +30,7 @@ fn a_boxed_month_without_lending(rt: HostRuntime) -> Result<(), Fail> {
 #[test]
 fn months_refused_without_lending(rt: HostRuntime) -> Result<(), Fail> {
     let octets = [0x04, 0x01, 0x0C];
-    let mut reader = CopyingReader::new(SliceReader::new(&octets)?);
+    let mut reader = der_unlent(&octets)?;
     let month: Result<MyByteMonth, Error> = reader.decode(rt.alloc());
     same(&rt, month, Err(ErrorKind::DateTime.at(Length::new(3))));
     holds(&rt, reader.is_failed());
@@ -42,7 +42,7 @@ fn months_refused_without_lending(rt: HostRuntime) -> Result<(), Fail> {
 #[test]
 fn contents_that_want_lending(rt: HostRuntime) -> Result<(), Fail> {
     let octets = [0x04, 0x01, 0x2A];
-    let mut reader = CopyingReader::new(SliceReader::new(&octets)?);
+    let mut reader = der_unlent(&octets)?;
     let refused = Lent::decode(rt.alloc(), &mut reader).err();
     same(&rt, refused, Some(ErrorKind::Reader.at(Length::new(2))));
     same(&rt, reader.position(), Length::new(2));
@@ -54,7 +54,7 @@ fn contents_that_want_lending(rt: HostRuntime) -> Result<(), Fail> {
 #[test]
 fn a_field_that_wants_lending(rt: HostRuntime) -> Result<(), Fail> {
     let octets = [0x30, 0x06, 0x04, 0x01, 0x2A, 0x04, 0x01, 0x09];
-    let mut reader = CopyingReader::new(SliceReader::new(&octets)?);
+    let mut reader = der_unlent(&octets)?;
     let refused = AlgorithmIdentifier::decode(rt.alloc(), &mut reader).err();
     same(&rt, refused, Some(ErrorKind::Reader.at(Length::new(4))));
     same(&rt, reader.position(), Length::new(4));
@@ -65,7 +65,7 @@ fn a_field_that_wants_lending(rt: HostRuntime) -> Result<(), Fail> {
 #[test]
 fn pairs_without_lending(rt: HostRuntime) -> Result<(), Fail> {
     let octets = [0x04, 0x01, 0x09, 0x04, 0x01, 0x02];
-    let mut reader = CopyingReader::new(SliceReader::new(&octets)?);
+    let mut reader = der_unlent(&octets)?;
     let (first, second) = <(MyByteMonth, MyByteMonth)>::decode(rt.alloc(), &mut reader)?;
     same(&rt, first.month(), 9);
     same(&rt, second.month(), 2);

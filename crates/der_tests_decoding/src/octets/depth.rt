@@ -4,7 +4,7 @@ use crate::checks::{holds, same};
 
 // A reader of three octets inside so many parts, each of them all.
 fn reader_inside(octets: &[u8; 3], parts: u8) -> Result<SliceReader<'_>, Error> {
-    let mut reader = SliceReader::new(octets)?;
+    let mut reader = der_reader(octets)?;
     for _ in 0..parts {
         reader.enter_nested(Length::new(3))?;
     }

@@ -104,7 +104,7 @@ fn errors_that_are_converted(rt: HostRuntime) {
 #[test]
 fn a_reader_that_has_failed(rt: HostRuntime) -> Result<(), Fail> {
     let octets = [0x05, 0x00];
-    let mut reader = SliceReader::new(&octets)?;
+    let mut reader = der_reader(&octets)?;
     let octet: Result<Octet, OctetError> = reader.decode(rt.alloc());
     holds(&rt, octet.is_err());
     let again: Result<Octet, OctetError> = reader.decode(rt.alloc());

@@ -30,7 +30,7 @@ fn a_key_that_a_reader_decodes(rt: HostRuntime) -> Result<(), Fail> {
     let octets = [
         0x30, 0x0B, 0x30, 0x06, 0x04, 0x01, 0x2A, 0x04, 0x01, 0x09, 0x04, 0x01, 0xFF, 0x05,
     ];
-    let mut reader = SliceReader::new(&octets)?;
+    let mut reader = der_reader(&octets)?;
     let info: KeyInfo = reader.decode(rt.alloc())?;
     same(&rt, info.key.octets, [0xFF].as_slice());
     same(&rt, reader.position(), Length::new(13));
@@ -110,7 +110,7 @@ fn an_inner_sequence_past_the_end_leaves_the_reader(rt: HostRuntime) -> Result<(
     let octets = [
         0x30, 0x07, 0x30, 0x06, 0x04, 0x01, 0x2A, 0x04, 0x01, 0x09, 0x04, 0x01, 0xFF,
     ];
-    let mut reader = SliceReader::new(&octets)?;
+    let mut reader = der_reader(&octets)?;
     let refused = KeyInfo::decode(rt.alloc(), &mut reader).err();
     same(&rt, refused, Some(incomplete(10, 9, 9)));
     same(&rt, reader.position(), Length::new(4));

@@ -20,7 +20,7 @@ fn octets_behind_nothing(rt: HostRuntime) -> Result<(), Fail> {
 #[test]
 fn nothing_leaves_the_reader(rt: HostRuntime) -> Result<(), Fail> {
     let octets = [0x04, 0x01];
-    let mut reader = SliceReader::new(&octets)?;
+    let mut reader = der_reader(&octets)?;
     same(&rt, reader.read_byte(), Ok(0x04));
     holds(
         &rt,

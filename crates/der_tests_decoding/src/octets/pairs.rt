@@ -92,7 +92,7 @@ fn octets_behind_two_months(rt: HostRuntime) {
 #[test]
 fn where_the_second_month_leaves_the_reader(rt: HostRuntime) -> Result<(), Fail> {
     let octets = [0x04, 0x01, 0x09, 0x05, 0x00];
-    let mut reader = SliceReader::new(&octets)?;
+    let mut reader = der_reader(&octets)?;
     let refused = <(MyByteMonth, MyByteMonth)>::decode(rt.alloc(), &mut reader).err();
     same(&rt, refused, Some(unexpected(Tag::OctetString, Tag::Null)));
     same(&rt, reader.position(), Length::new(5));

@@ -6,7 +6,7 @@ use der::{DecodeValue, decode_contents, decode_tlv};
 #[test]
 fn a_type_leaves_the_reader_behind_another_tag(rt: HostRuntime) -> Result<(), Fail> {
     let octets = [0x30, 0x01, 0x09];
-    let mut reader = SliceReader::new(&octets)?;
+    let mut reader = der_reader(&octets)?;
     let refused = unexpected(Tag::OctetString, Tag::Sequence);
     same(
         &rt,
@@ -21,7 +21,7 @@ fn a_type_leaves_the_reader_behind_another_tag(rt: HostRuntime) -> Result<(), Fa
 #[test]
 fn a_reader_fails_behind_another_tag(rt: HostRuntime) -> Result<(), Fail> {
     let octets = [0x30, 0x01, 0x09];
-    let mut reader = SliceReader::new(&octets)?;
+    let mut reader = der_reader(&octets)?;
     let month: Result<MyByteMonth, Error> = reader.decode(rt.alloc());
     same(&rt, month, Err(unexpected(Tag::OctetString, Tag::Sequence)));
     same(&rt, reader.position(), Length::new(2));
@@ -35,7 +35,7 @@ fn a_reader_fails_behind_another_tag(rt: HostRuntime) -> Result<(), Fail> {
 #[test]
 fn a_reader_has_failed_behind_a_number_of_no_month(rt: HostRuntime) -> Result<(), Fail> {
     let octets = [0x04, 0x01, 0x0C, 0x05];
-    let mut reader = SliceReader::new(&octets)?;
+    let mut reader = der_reader(&octets)?;
     let no_month = ErrorKind::DateTime.at(Length::new(3));
     same(
         &rt,
@@ -51,7 +51,7 @@ fn a_reader_has_failed_behind_a_number_of_no_month(rt: HostRuntime) -> Result<()
 #[test]
 fn months_in_turn(rt: HostRuntime) -> Result<(), Fail> {
     let octets = [0x04, 0x01, 0x09, 0x04, 0x01, 0x02, 0x05, 0x00];
-    let mut reader = SliceReader::new(&octets)?;
+    let mut reader = der_reader(&octets)?;
     let first: MyByteMonth = reader.decode(rt.alloc())?;
     same(&rt, first.month(), 9);
     same(&rt, reader.position(), Length::new(3));
@@ -66,7 +66,7 @@ fn months_in_turn(rt: HostRuntime) -> Result<(), Fail> {
 #[test]
 fn contents_without_their_header(rt: HostRuntime) -> Result<(), Fail> {
     let octets = [0x09, 0x05];
-    let mut reader = SliceReader::new(&octets)?;
+    let mut reader = der_reader(&octets)?;
     let header = Header::new(Tag::OctetString, Length::ONE);
     let month = MyByteMonth::decode_value(rt.alloc(), &mut reader, header)?;
     same(&rt, month.month(), 9);
@@ -78,7 +78,7 @@ fn contents_without_their_header(rt: HostRuntime) -> Result<(), Fail> {
 #[test]
 fn contents_that_are_fields(rt: HostRuntime) -> Result<(), Fail> {
     let octets = [0x04, 0x01, 0x09];
-    let mut reader = SliceReader::new(&octets)?;
+    let mut reader = der_reader(&octets)?;
     let header = Header::new(Tag::Sequence, Length::new(3));
     let month = decode_contents::<SliceReader, MyByteMonth>(rt.alloc(), &mut reader, header)?;
     same(&rt, month.month(), 9);

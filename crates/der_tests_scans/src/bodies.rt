@@ -1,0 +1,21 @@
+//! Worked cases of bodies of indefinite lengths, scanned by themselves and behind headers; what is
+//! expected is worked out by hand from X.690 and from the rules of refusals.
+use der::{
+    Decode, DecodeBytes, EncodingRules, Error, ErrorKind, Header, Length, Reader, ReaderExt,
+    SliceReader, Tag, decode_header,
+};
+use der_fixtures::bodies::{SEGMENT_OF_ZEROS, around_contents, around_null, first_octets};
+use der_fixtures::errors::{
+    incomplete, incorrect, indefinite, invalid_number, too_deep, trailing, unknown,
+};
+use der_fixtures::readers::{Placed, ber_reader, ber_unlent, place_of, ruled_reader};
+use std::alloc::Global;
+use std::test::Fail;
+
+mod cuts;
+mod headers;
+mod parts;
+mod refusals;
+mod scans;
+mod stumbling;
+mod stumbling_reader;

@@ -1,0 +1,180 @@
+//! Headers with lengths of the indefinite form, and those that are refused before or behind a scan.
+use super::*;
+use crate::checks::{same, same_at};
+use der::decode_length;
+use std::process::Abort;
+
+// A SEQUENCE whose body has so many octets, with its end mark.
+fn sequence_of(count: u32) -> Header {
+    Header::new(Tag::Sequence, Length::new_indefinite(count))
+}
+
+// The header of a SEQUENCE of indefinite length is read, and its octets alone are passed.
+fn reads<R: Reader>(rt: &impl Abort, mut reader: R, count: u32) {
+    let end = u32::from(reader.input_len());
+    same_at(rt, count, Header::peek(&reader), Ok(sequence_of(count)));
+    same_at(rt, count, place_of(&reader), (0, end, false));
+    same_at(
+        rt,
+        count,
+        decode_header(&mut reader),
+        Ok(sequence_of(count)),
+    );
+    same_at(rt, count, place_of(&reader), (2, end, false));
+}
+
+fn reads_on_both(rt: &impl Abort, octets: &[u8], count: u32) -> Result<(), Error> {
+    reads(rt, ber_reader(octets)?, count);
+    reads(rt, ber_unlent(octets)?, count);
+    Ok(())
+}
+
+#[test]
+fn a_body_in_a_body(rt: HostRuntime) -> Result<(), Fail> {
+    reads_on_both(&rt, &SEGMENT_OF_ZEROS, 10)?;
+    let mut reader = ber_reader(&SEGMENT_OF_ZEROS)?;
+    let header = Header::decode(rt.alloc(), &mut reader)?;
+    same(&rt, header.tag(), Tag::Sequence);
+    same(&rt, u32::from(header.length()), 10);
+    same(&rt, header.length().is_indefinite(), true);
+    same(&rt, header.is_constructed(), true);
+    Ok(())
+}
+
+#[test]
+fn bodies_of_each_kind(rt: HostRuntime) -> Result<(), Fail> {
+    reads_on_both(&rt, &[0x30, 0x80, 0x00, 0x00], 2)?;
+    reads_on_both(&rt, &[0x30, 0x80, 0x00, 0x00, 0x05, 0x00], 2)?;
+    reads_on_both(&rt, &[0x30, 0x80, 0x05, 0x00, 0x00, 0x00], 4)?;
+    let zeros = [0x30, 0x80, 0x04, 0x02, 0x00, 0x00, 0x00, 0x00, 0x00];
+    reads_on_both(&rt, &zeros, 6)?;
+    let inner = [0x30, 0x80, 0x30, 0x80, 0x00, 0x00, 0x00, 0x00];
+    reads_on_both(&rt, &inner, 6)?;
+    let long_tag = [0x30, 0x80, 0xBF, 0x21, 0x80, 0x00, 0x00, 0x00, 0x00];
+    reads_on_both(&rt, &long_tag, 7)?;
+    Ok(())
+}
+
+// Contents of a definite length are passed unread, whatever they are.
+#[test]
+fn contents_that_are_no_elements(rt: HostRuntime) -> Result<(), Fail> {
+    let octets = [0x30, 0x80, 0x30, 0x03, 0x3F, 0x80, 0x00, 0x00, 0x00];
+    reads_on_both(&rt, &octets, 7)?;
+    Ok(())
+}
+
+#[test]
+fn long_bodies(rt: HostRuntime) -> Result<(), Fail> {
+    for count in [0, 15, 16, 17, 123, 127] {
+        let octets = around_contents(rt.alloc(), count)?;
+        reads_on_both(&rt, octets.as_slice(), count as u32 + 4)?;
+    }
+    Ok(())
+}
+
+#[test]
+fn as_many_bodies_as_may_be_open(rt: HostRuntime) -> Result<(), Fail> {
+    let octets = around_null(rt.alloc(), 64)?;
+    same(&rt, octets.len(), 258);
+    reads_on_both(&rt, octets.as_slice(), 256)?;
+    let fewer = around_null(rt.alloc(), 63)?;
+    reads_on_both(&rt, fewer.as_slice(), 252)?;
+    Ok(())
+}
+
+// At the top the body is scanned first; inside a scan the identifier is refused at once.
+#[test]
+fn a_primitive_identifier_before_octet_80(rt: HostRuntime) -> Result<(), Fail> {
+    for octets in [
+        [0x04, 0x80, 0x00, 0x00].as_slice(),
+        [0x04, 0x80, 0x04, 0x01, 0x09, 0x00, 0x00].as_slice(),
+        [0x80, 0x80, 0x00, 0x00, 0x05].as_slice(),
+    ] {
+        refused_behind(&rt, ber_reader(octets)?, indefinite(2), true);
+        refused_behind(&rt, ber_unlent(octets)?, indefinite(2), true);
+    }
+    for (octets, error) in [
+        ([0x04, 0x80].as_slice(), incomplete(3, 2, 2)),
+        ([0x04, 0x80, 0x00].as_slice(), incomplete(4, 3, 3)),
+        ([0x04, 0x80, 0x04, 0x80].as_slice(), indefinite(4)),
+    ] {
+        refused_behind(&rt, ber_reader(octets)?, error, false);
+        refused_behind(&rt, ber_unlent(octets)?, error, false);
+    }
+    Ok(())
+}
+
+// The header is refused, and the reader stands behind two octets.
+fn refused_behind<R: Reader>(rt: &impl Abort, mut reader: R, error: Error, failed: bool) {
+    let end = u32::from(reader.input_len());
+    same_at(rt, error, Header::peek(&reader), Err(error));
+    same_at(rt, error, decode_header(&mut reader), Err(error));
+    same_at(rt, error, place_of(&reader), (2, end, failed));
+}
+
+#[test]
+fn lengths_without_a_tag(rt: HostRuntime) -> Result<(), Fail> {
+    let alloc = rt.alloc();
+    same(
+        &rt,
+        Length::from_ber(alloc, &[0x80, 0x00, 0x00]),
+        Err(trailing(1, 2)),
+    );
+    same(
+        &rt,
+        Length::from_ber(alloc, &[0x80]),
+        Err(incomplete(2, 1, 1)),
+    );
+    let mut reader = ber_reader(&[0x80, 0x05, 0x00, 0x00, 0x00])?;
+    let length = Length::decode(alloc, &mut reader)?;
+    same(&rt, length, Length::new_indefinite(4));
+    same(&rt, reader.place(), (1, 5, false));
+    Ok(())
+}
+
+// A header is not the octets of its body.
+#[test]
+fn headers_that_are_all_the_octets(rt: HostRuntime) {
+    let alloc = rt.alloc();
+    let empty = [0x30, 0x80, 0x00, 0x00];
+    same(&rt, Header::from_ber(alloc, &empty), Err(trailing(2, 2)));
+    let begun = [0x30, 0x80];
+    same(
+        &rt,
+        Header::from_ber(alloc, &begun),
+        Err(incomplete(3, 2, 2)),
+    );
+}
+
+// A body is refused with the tags in it, also behind a length that has none.
+#[test]
+fn a_length_whose_body_is_refused(rt: HostRuntime) -> Result<(), Fail> {
+    let mut reader = ber_reader(&[0x80, 0x04, 0x81, 0x7F])?;
+    let refused = incorrect(Tag::OctetString, 4);
+    same(&rt, decode_length(&mut reader), Err(refused));
+    same(&rt, reader.place(), (1, 4, false));
+    Ok(())
+}
+
+#[test]
+fn a_header_behind_a_refused_one(rt: HostRuntime) -> Result<(), Fail> {
+    let mut reader = ber_reader(&[0x30, 0x80, 0x05, 0x00])?;
+    same(&rt, decode_header(&mut reader), Err(incomplete(5, 4, 4)));
+    let null = Header::new(Tag::Null, Length::ZERO);
+    same(&rt, decode_header(&mut reader), Ok(null));
+    same(&rt, reader.place(), (4, 4, false));
+    Ok(())
+}
+
+// A reader that decodes marks every refusal.
+#[test]
+fn headers_decoded_by_a_reader(rt: HostRuntime) -> Result<(), Fail> {
+    let mut reader = ber_reader(&[0x30, 0x80])?;
+    let header: Result<Header, Error> = reader.decode(rt.alloc());
+    same(&rt, header, Err(incomplete(3, 2, 2)));
+    same(&rt, reader.place(), (2, 2, true));
+    let failed = ErrorKind::Failed.at(Length::new(2));
+    same(&rt, decode_header(&mut reader), Err(failed));
+    same(&rt, decode_length(&mut reader), Err(failed));
+    Ok(())
+}

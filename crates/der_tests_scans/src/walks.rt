@@ -1,0 +1,16 @@
+//! Scans and drains of slices, compared with those that read octet by octet.
+use der::{EncodingRules, Error, ErrorKind, Length, Reader, ReaderExt, SliceReader, Tag, Turns};
+use der_fixtures::bodies::{SEGMENT_OF_ZEROS, around_contents, around_null, first_octets};
+use der_fixtures::errors::{incomplete, incorrect, indefinite, invalid_number, too_deep, unknown};
+use der_fixtures::readers::{ber_reader, place_of, ruled_reader};
+use std::alloc::Global;
+use std::test::Fail;
+
+mod cuts;
+mod drains;
+mod lending;
+mod lending_reader;
+mod lists;
+mod scans;
+mod stepping_reader;
+mod turns;

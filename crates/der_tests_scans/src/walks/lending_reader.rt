@@ -1,0 +1,113 @@
+//! A reader that lends all that is left, and reads nothing.
+ghost use Rattle.std.specs.Prelude.{◌≡◌, false, true, IfOk};
+ghost use Rattle.der_base.specs.declared.encoding_rules.EncodingRules.TheVariants.{Ber};
+ghost use Rattle.der_core.specs.SliceReader.{slice_state};
+
+use super::*;
+use der::Resumption;
+use std::alloc::Allocator;
+
+/// A reader over a slice that lends what is left of it, and refuses to read any of it.
+#[derive(Drop)]
+pub struct LendingReader<'a> {
+    inner: SliceReader<'a>,
+}
+
+// One under the Basic Encoding Rules.
+pub(super) fn ber_lending(octets: &[u8]) -> Result<LendingReader<'_>, Error>
+    ensures { IfOk result (λ r. (slice_state r.inner).rules ≡ Ber) }
+{
+    match ruled_reader(octets) {
+        Ok(inner) => Ok(LendingReader { inner }),
+        Err(error) => Err(error),
+    }
+}
+
+impl<'a> Reader for LendingReader<'a> {
+    ghost use Rattle.std.proofs.Common.{rules};
+
+    type Lent = &'a [u8];
+
+    ghost state = { λ r. slice_state r.inner };
+
+    // it refuses where no table says so
+    ghost reliable = { false };
+
+    ghost lends = { true };
+
+    const CAN_READ_SLICE: bool = true;
+
+    fn can_lend() -> bool
+        ensures { result ≡ true }
+    {
+        Self::CAN_READ_SLICE
+    }
+
+    fn encoding_rules(&self) -> EncodingRules {
+        self.inner.encoding_rules()
+    }
+
+    fn input_len(&self) -> Length {
+        self.inner.input_len()
+    }
+
+    fn position(&self) -> Length {
+        self.inner.position()
+    }
+
+    fn is_failed(&self) -> bool {
+        self.inner.is_failed()
+    }
+
+    fn read_slice(&mut self, _len: Length) -> Result<&'a [u8], Error> {
+        Err(ErrorKind::Reader.at(self.inner.position()))
+    }
+
+    fn read_into(&mut self, _buf: &mut [u8]) -> Result<(), Error> {
+        Err(ErrorKind::Reader.at(self.inner.position()))
+    }
+
+    fn error(&mut self, kind: ErrorKind) -> Error {
+        self.inner.error(kind)
+    }
+
+    fn remaining(&self) -> Result<&'a [u8], Error> {
+        self.inner.remaining()
+    }
+
+    fn fork(&self) -> Self {
+        LendingReader {
+            inner: self.inner.fork(),
+        }
+    }
+
+    fn read_vec_in<A: Allocator>(&mut self, alloc: A, len: Length) -> Result<Vec<u8, A>, Error> {
+        self.inner.read_vec_in(alloc, len)
+    }
+
+    fn drain(&mut self, amount: Length) -> Result<(), Error> {
+        self.inner.drain(amount)
+    }
+
+    fn finish(self) -> Result<(), Error> {
+        self.inner.finish()
+    }
+
+    fn enter_nested(&mut self, len: Length) -> Result<Resumption, Error> {
+        self.inner.enter_nested(len)
+    }
+
+    fn leave_nested(&mut self, resumption: Resumption) {
+        self.inner.leave_nested(resumption);
+    }
+
+    ghost lawful = { λ r. record {
+      ordered = r.inner.ordered;
+      in_input = r.inner.in_input;
+      addressable = r.inner.addressable;
+      shallow = r.inner.shallow;
+      marked = λ failed. Prim.search rules;
+    } };
+
+    ghost lending = { λ reliable. Prim.search rules };
+}

@@ -1,0 +1,208 @@
+//! Elements whose octets may stand in segments.
+use super::*;
+use crate::checks::{same, same_at};
+use der::example::JoinedOctets;
+use std::process::Abort;
+
+// What an element gives, and where the reader stands then.
+fn decoding<R: Reader>(
+    rt: &impl Abort,
+    alloc: Global,
+    mut reader: R,
+    answer: Result<&[u8], Error>,
+    place: (u32, bool),
+) {
+    let (position, failed) = place;
+    let end = u32::from(reader.input_len());
+    let read = JoinedOctets::decode(alloc, &mut reader);
+    same_at(rt, end, octets_of(&read), answer);
+    same_at(rt, end, place_of(&reader), (position, end, failed));
+}
+
+fn octets_of(read: &Result<JoinedOctets, Error>) -> Result<&[u8], Error> {
+    match read {
+        Ok(joined) => Ok(joined.octets.as_slice()),
+        Err(error) => Err(*error),
+    }
+}
+
+// Under the Basic Encoding Rules, by every call that decodes.
+fn under_ber(
+    rt: &impl Abort,
+    alloc: Global,
+    octets: &[u8],
+    answer: Result<&[u8], Error>,
+    place: (u32, bool),
+) -> Result<(), Error> {
+    decoding(rt, alloc, ber_reader(octets)?, answer, place);
+    decoding(rt, alloc, ber_unlent(octets)?, answer, place);
+    wholly_under_ber(rt, alloc, octets, answer);
+    Ok(())
+}
+
+// All of the octets, as one element under those rules.
+fn wholly_under_ber(rt: &impl Abort, alloc: Global, octets: &[u8], answer: Result<&[u8], Error>) {
+    let whole = JoinedOctets::from_ber(alloc, octets);
+    same_at(rt, octets.len(), octets_of(&whole), answer);
+}
+
+// Likewise under the Distinguished Encoding Rules.
+fn under_der(
+    rt: &impl Abort,
+    alloc: Global,
+    octets: &[u8],
+    answer: Result<&[u8], Error>,
+    place: (u32, bool),
+) -> Result<(), Error> {
+    decoding(rt, alloc, der_reader(octets)?, answer, place);
+    decoding(rt, alloc, der_unlent(octets)?, answer, place);
+    wholly_under_der(rt, alloc, octets, answer);
+    Ok(())
+}
+
+// All of the octets, as one element under those rules.
+fn wholly_under_der(rt: &impl Abort, alloc: Global, octets: &[u8], answer: Result<&[u8], Error>) {
+    let whole = JoinedOctets::from_der(alloc, octets);
+    same_at(rt, octets.len(), octets_of(&whole), answer);
+}
+
+#[test]
+fn octets_as_they_stand(rt: HostRuntime) -> Result<(), Fail> {
+    let rows = [
+        ([0x04, 0x00].as_slice(), [].as_slice(), 2u32),
+        (
+            [0x04, 0x02, 0xAA, 0xBB].as_slice(),
+            [0xAA, 0xBB].as_slice(),
+            4,
+        ),
+        (
+            [0x04, 0x02, 0x04, 0x00].as_slice(),
+            [0x04, 0x00].as_slice(),
+            4,
+        ),
+    ];
+    for (octets, read, end) in rows {
+        under_ber(&rt, rt.alloc(), octets, Ok(read), (end, false))?;
+        under_der(&rt, rt.alloc(), octets, Ok(read), (end, false))?;
+    }
+    Ok(())
+}
+
+#[test]
+fn octets_of_segments(rt: HostRuntime) -> Result<(), Fail> {
+    let none = [0x24, 0x80, 0x00, 0x00];
+    under_ber(&rt, rt.alloc(), &none, Ok(&[]), (4, false))?;
+    let two = [
+        0x24, 0x80, 0x04, 0x02, 0xAA, 0xBB, 0x04, 0x01, 0xCC, 0x00, 0x00,
+    ];
+    under_ber(&rt, rt.alloc(), &two, Ok(&[0xAA, 0xBB, 0xCC]), (11, false))?;
+    let three = [
+        0x24, 0x80, 0x04, 0x02, 0xAA, 0xBB, 0x04, 0x00, 0x04, 0x01, 0xCC, 0x00, 0x00,
+    ];
+    under_ber(
+        &rt,
+        rt.alloc(),
+        &three,
+        Ok(&[0xAA, 0xBB, 0xCC]),
+        (13, false),
+    )?;
+    let zeros = [0x24, 0x80, 0x04, 0x02, 0x00, 0x00, 0x00, 0x00];
+    under_ber(&rt, rt.alloc(), &zeros, Ok(&[0x00, 0x00]), (8, false))?;
+    Ok(())
+}
+
+#[test]
+fn segments_that_are_refused(rt: HostRuntime) -> Result<(), Fail> {
+    let rows = [
+        (
+            [0x24, 0x80, 0x05, 0x00, 0x00, 0x00].as_slice(),
+            unexpected(Tag::OctetString, Tag::Null),
+            (4, false),
+        ),
+        (
+            [0x24, 0x80, 0x24, 0x80, 0x00, 0x00, 0x00, 0x00].as_slice(),
+            indefinite(4),
+            (4, true),
+        ),
+        (
+            [0x24, 0x80, 0x24, 0x04, 0x04, 0x02, 0xAA, 0xBB, 0x00, 0x00].as_slice(),
+            noncanonical(3),
+            (4, false),
+        ),
+        (
+            [0x24, 0x80, 0x04, 0x05, 0xAA, 0x00, 0x00].as_slice(),
+            incomplete(9, 7, 4),
+            (2, false),
+        ),
+        (
+            [0x24, 0x80, 0x04, 0x01, 0xAA].as_slice(),
+            incomplete(6, 5, 5),
+            (2, false),
+        ),
+    ];
+    for (octets, error, place) in rows {
+        under_ber(&rt, rt.alloc(), octets, Err(error), place)?;
+    }
+    Ok(())
+}
+
+#[test]
+fn constructed_elements_of_definite_lengths(rt: HostRuntime) -> Result<(), Fail> {
+    let segments = [0x24, 0x04, 0x04, 0x02, 0xAA, 0xBB];
+    under_ber(&rt, rt.alloc(), &segments, Err(noncanonical(1)), (2, false))?;
+    let octets = [0x24, 0x02, 0xAA, 0xBB];
+    under_ber(&rt, rt.alloc(), &octets, Err(noncanonical(1)), (2, false))?;
+    let none = [0x24, 0x00];
+    under_ber(&rt, rt.alloc(), &none, Err(noncanonical(1)), (2, false))?;
+    Ok(())
+}
+
+#[test]
+fn what_der_refuses(rt: HostRuntime) -> Result<(), Fail> {
+    let rows = [
+        (
+            [0x24, 0x80, 0x00, 0x00].as_slice(),
+            unknown(0x24, 1),
+            (1, true),
+        ),
+        (
+            [0x24, 0x02, 0xAA, 0xBB].as_slice(),
+            unknown(0x24, 1),
+            (1, true),
+        ),
+        (
+            [0x04, 0x80, 0x00, 0x00].as_slice(),
+            indefinite(2),
+            (2, true),
+        ),
+        (
+            [0x04, 0x02, 0xAA].as_slice(),
+            incomplete(4, 3, 3),
+            (2, false),
+        ),
+        (
+            [0x0C, 0x00].as_slice(),
+            unexpected(Tag::OctetString, Tag::Utf8String),
+            (2, false),
+        ),
+    ];
+    for (octets, error, place) in rows {
+        under_der(&rt, rt.alloc(), octets, Err(error), place)?;
+    }
+    Ok(())
+}
+
+// What was joined is written as one element.
+#[test]
+fn what_is_written(rt: HostRuntime) -> Result<(), Fail> {
+    let segments = [
+        0x24, 0x80, 0x04, 0x02, 0xAA, 0xBB, 0x04, 0x01, 0xCC, 0x00, 0x00,
+    ];
+    let joined = JoinedOctets::from_ber(rt.alloc(), &segments)?;
+    let written = joined.to_der(rt.alloc())?;
+    let whole = [0x04, 0x03, 0xAA, 0xBB, 0xCC];
+    same(&rt, written.as_slice(), whole.as_slice());
+    let again = JoinedOctets::from_der(rt.alloc(), written.as_slice())?;
+    same(&rt, again.octets, joined.octets);
+    Ok(())
+}

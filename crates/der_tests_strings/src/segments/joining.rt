@@ -1,0 +1,164 @@
+//! Segments behind lengths of each form, with other tags, inside parts, and of a failed reader.
+use super::*;
+use crate::checks::{same, same_at};
+use der::read_constructed_vec;
+use std::process::Abort;
+
+// Two segments behind a length of the indefinite form, whatever its number.
+fn behind_indefinite<R: Reader>(rt: &impl Abort, alloc: Global, mut reader: R, number: u32) {
+    let length = Length::new_indefinite(number);
+    let joined = read_constructed_vec(alloc, &mut reader, length, Tag::OctetString);
+    same_at(rt, number, view(&joined), Ok([0xAA, 0xBB].as_slice()));
+    same_at(rt, number, place_of(&reader), (6, 6, false));
+}
+
+#[test]
+fn indefinite_lengths(rt: HostRuntime) -> Result<(), Fail> {
+    let octets = [0x04, 0x01, 0xAA, 0x04, 0x01, 0xBB];
+    for number in [0, 1, 2, 3, 6, 8, 4096] {
+        behind_indefinite(&rt, rt.alloc(), ber_reader(&octets)?, number);
+        behind_indefinite(&rt, rt.alloc(), der_unlent(&octets)?, number);
+    }
+    Ok(())
+}
+
+// A length of the definite form is refused at once.
+fn behind_definite<R: Reader>(rt: &impl Abort, alloc: Global, mut reader: R, number: u32) {
+    let (position, end, _) = place_of(&reader);
+    let length = Length::new(number);
+    let joined = read_constructed_vec(alloc, &mut reader, length, Tag::OctetString);
+    same_at(rt, number, view(&joined), Err(indefinite(position)));
+    same_at(rt, number, place_of(&reader), (position, end, true));
+}
+
+#[test]
+fn definite_lengths(rt: HostRuntime) -> Result<(), Fail> {
+    let octets = [0x04, 0x05, 0xAA];
+    for number in [0, 1, 3, 4294967295] {
+        behind_definite(&rt, rt.alloc(), ber_reader(&octets)?, number);
+        behind_definite(&rt, rt.alloc(), der_unlent(&octets)?, number);
+    }
+    let mut reader = der_reader(&octets)?;
+    reader.drain(Length::new(2))?;
+    behind_definite(&rt, rt.alloc(), reader, 1);
+    behind_definite(&rt, rt.alloc(), der_reader(&[])?, 0);
+    Ok(())
+}
+
+// Segments with this tag, of the context.
+fn tagged<R: Reader>(
+    rt: &impl Abort,
+    alloc: Global,
+    mut reader: R,
+    inner_tag: Tag,
+    answer: Result<&[u8], Error>,
+) {
+    let length = Length::new_indefinite(3);
+    let joined = read_constructed_vec(alloc, &mut reader, length, inner_tag);
+    same(rt, view(&joined), answer);
+    let position = if answer.is_ok() { 3 } else { 2 };
+    same(rt, place_of(&reader), (position, 3, false));
+}
+
+#[test]
+fn tags_of_the_context(rt: HostRuntime) -> Result<(), Fail> {
+    let alloc = rt.alloc();
+    let primitive = context_specific(false);
+    let constructed = context_specific(true);
+    let joined = Ok([0x2A].as_slice());
+    tagged(
+        &rt,
+        alloc,
+        der_reader(&[0x80, 0x01, 0x2A])?,
+        primitive,
+        joined,
+    );
+    tagged(
+        &rt,
+        alloc,
+        der_unlent(&[0x80, 0x01, 0x2A])?,
+        primitive,
+        joined,
+    );
+    let other = Err(unexpected(primitive, constructed));
+    tagged(
+        &rt,
+        alloc,
+        der_reader(&[0xA0, 0x01, 0x2A])?,
+        primitive,
+        other,
+    );
+    tagged(
+        &rt,
+        alloc,
+        der_unlent(&[0xA0, 0x01, 0x2A])?,
+        primitive,
+        other,
+    );
+    Ok(())
+}
+
+// Segments are primitive, also where the tag that is asked for is not.
+#[test]
+fn constructed_tags(rt: HostRuntime) -> Result<(), Fail> {
+    let alloc = rt.alloc();
+    let constructed = context_specific(true);
+    let refused = Err(constructed.non_canonical_error().at(Length::ONE));
+    tagged(
+        &rt,
+        alloc,
+        der_reader(&[0xA0, 0x01, 0x2A])?,
+        constructed,
+        refused,
+    );
+    tagged(
+        &rt,
+        alloc,
+        ber_unlent(&[0xA0, 0x01, 0x2A])?,
+        constructed,
+        refused,
+    );
+    Ok(())
+}
+
+// Segments end where the part does.
+fn part<R: Reader>(
+    rt: &impl Abort,
+    alloc: Global,
+    mut reader: R,
+    end: u32,
+    answer: Result<&[u8], Error>,
+) -> Result<(), Error> {
+    let outer = reader.enter_nested(Length::new(end))?;
+    let length = Length::new_indefinite(0);
+    let joined = read_constructed_vec(alloc, &mut reader, length, Tag::OctetString);
+    same_at(rt, end, view(&joined), answer);
+    let position = if answer.is_ok() { end } else { 2 };
+    same_at(rt, end, place_of(&reader), (position, end, answer.is_err()));
+    reader.leave_nested(outer);
+    same_at(rt, end, reader.input_len(), Length::new(6));
+    Ok(())
+}
+
+#[test]
+fn parts(rt: HostRuntime) -> Result<(), Fail> {
+    let octets = [0x04, 0x01, 0x2A, 0x04, 0x01, 0x2B];
+    let first = Ok([0x2A].as_slice());
+    part(&rt, rt.alloc(), ber_reader(&octets)?, 3, first)?;
+    part(&rt, rt.alloc(), der_unlent(&octets)?, 3, first)?;
+    let cut = Err(incomplete(3, 2, 2));
+    part(&rt, rt.alloc(), ber_reader(&octets)?, 2, cut)?;
+    part(&rt, rt.alloc(), der_unlent(&octets)?, 2, cut)?;
+    Ok(())
+}
+
+#[test]
+fn a_failed_reader(rt: HostRuntime) -> Result<(), Fail> {
+    let mut reader = der_reader(&[0x04, 0x00])?;
+    let failed = reader.error(ErrorKind::Failed);
+    let length = Length::new_indefinite(0);
+    let joined = read_constructed_vec(rt.alloc(), &mut reader, length, Tag::OctetString);
+    same(&rt, view(&joined), Err(failed));
+    same(&rt, reader.place(), (0, 2, true));
+    Ok(())
+}

@@ -1,0 +1,148 @@
+//! Contents that stand as they are or in segments.
+use super::*;
+use crate::checks::{same, same_at};
+use der::read_eoc;
+use std::process::Abort;
+
+// What contents behind this header give, and where the reader stands then.
+fn decoding<R: Reader>(
+    rt: &impl Abort,
+    alloc: Global,
+    mut reader: R,
+    header: Header,
+    answer: Result<&[u8], Error>,
+    place: (u32, bool),
+) {
+    let (position, failed) = place;
+    let end = u32::from(reader.input_len());
+    let read = BytesOwned::decode_value_parts(alloc, &mut reader, header, Tag::OctetString);
+    let octets = match &read {
+        Ok(bytes) => Ok(bytes.as_slice()),
+        Err(error) => Err(*error),
+    };
+    same_at(rt, end, octets, answer);
+    same_at(rt, end, place_of(&reader), (position, end, failed));
+}
+
+// Likewise under the Basic Encoding Rules, whether the reader lends or not.
+fn under_ber(
+    rt: &impl Abort,
+    alloc: Global,
+    octets: &[u8],
+    header: Header,
+    answer: Result<&[u8], Error>,
+    place: (u32, bool),
+) -> Result<(), Error> {
+    decoding(rt, alloc, ber_reader(octets)?, header, answer, place);
+    decoding(rt, alloc, ber_unlent(octets)?, header, answer, place);
+    Ok(())
+}
+
+// Likewise under the Distinguished Encoding Rules.
+fn under_der(
+    rt: &impl Abort,
+    alloc: Global,
+    octets: &[u8],
+    header: Header,
+    answer: Result<&[u8], Error>,
+    place: (u32, bool),
+) -> Result<(), Error> {
+    decoding(rt, alloc, der_reader(octets)?, header, answer, place);
+    decoding(rt, alloc, der_unlent(octets)?, header, answer, place);
+    Ok(())
+}
+
+const SEGMENT: [u8; 3] = [0x04, 0x01, 0x2A];
+
+#[test]
+fn primitive_headers(rt: HostRuntime) -> Result<(), Fail> {
+    let rows = [
+        (0, Ok([].as_slice()), (0, false)),
+        (2, Ok([0x04, 0x01].as_slice()), (2, false)),
+        (3, Ok(SEGMENT.as_slice()), (3, false)),
+        (4, Err(incomplete(4, 3, 0)), (0, true)),
+    ];
+    for (count, answer, place) in rows {
+        let header = Header::new(Tag::OctetString, Length::new(count));
+        under_ber(&rt, rt.alloc(), &SEGMENT, header, answer, place)?;
+        under_der(&rt, rt.alloc(), &SEGMENT, header, answer, place)?;
+    }
+    Ok(())
+}
+
+// The header's tag is not looked at, but in what a refusal says.
+fn segments_behind(rt: &impl Abort, alloc: Global, tag: Tag) -> Result<(), Error> {
+    let header = Header::new(tag, Length::new_indefinite(3));
+    let joined = Ok([0x2A].as_slice());
+    under_ber(rt, alloc, &SEGMENT, header, joined, (3, false))?;
+    let refused = Err(tag.non_canonical_error().at(Length::ZERO));
+    under_der(rt, alloc, &SEGMENT, header, refused, (0, false))
+}
+
+#[test]
+fn headers_of_segments(rt: HostRuntime) -> Result<(), Fail> {
+    for tag in [Tag::OctetString, context_specific(true), Tag::Sequence] {
+        segments_behind(&rt, rt.alloc(), tag)?;
+    }
+    Ok(())
+}
+
+// The encrypted octets of a CMS message, whose tag stands in the place of OCTET STRING.
+#[test]
+fn an_implicit_tag(rt: HostRuntime) -> Result<(), Fail> {
+    let octets = [
+        0xA0, 0x80, 0x04, 0x10, 0xCC, 0x74, 0xAD, 0xF6, 0x5D, 0x97, 0x3C, 0x8B, 0x72, 0xCD, 0x51,
+        0xE1, 0xB9, 0x27, 0xF0, 0xF0, 0x00, 0x00,
+    ];
+    let mut reader = ber_reader(&octets)?;
+    let header = decode_header(&mut reader)?;
+    let outer = reader.enter_nested(header.length().sans_eoc())?;
+    let alloc = rt.alloc();
+    let read = BytesOwned::decode_value_parts(alloc, &mut reader, header, Tag::OctetString);
+    let joined = reader.close_nested(outer, read)?;
+    read_eoc(&mut reader)?;
+    let contents = [
+        0xCC, 0x74, 0xAD, 0xF6, 0x5D, 0x97, 0x3C, 0x8B, 0x72, 0xCD, 0x51, 0xE1, 0xB9, 0x27, 0xF0,
+        0xF0,
+    ];
+    same(&rt, joined.as_slice(), contents.as_slice());
+    same(&rt, reader.place(), (22, 22, false));
+    Ok(())
+}
+
+// What is refused at the front is told there, and else at the octet before.
+fn refused_behind<R: Reader>(
+    rt: &impl Abort,
+    alloc: Global,
+    mut reader: R,
+    before: u32,
+    at: u32,
+) -> Result<(), Error> {
+    reader.drain(Length::new(before))?;
+    let header = Header::new(Tag::Sequence, Length::new(3));
+    let refused = Tag::Sequence.non_canonical_error().at(Length::new(at));
+    decoding(rt, alloc, reader, header, Err(refused), (before, false));
+    Ok(())
+}
+
+#[test]
+fn constructed_headers_of_definite_lengths(rt: HostRuntime) -> Result<(), Fail> {
+    for (before, at) in [(0, 0), (1, 0), (2, 1), (3, 2)] {
+        refused_behind(&rt, rt.alloc(), ber_reader(&SEGMENT)?, before, at)?;
+        refused_behind(&rt, rt.alloc(), ber_unlent(&SEGMENT)?, before, at)?;
+        refused_behind(&rt, rt.alloc(), der_unlent(&SEGMENT)?, before, at)?;
+    }
+    Ok(())
+}
+
+// Segments that are refused are so as where they are joined.
+#[test]
+fn segments_that_are_refused(rt: HostRuntime) -> Result<(), Fail> {
+    let header = Header::new(Tag::OctetString, Length::new_indefinite(3));
+    let alloc = rt.alloc();
+    let cut = Err(incomplete(7, 3, 2));
+    under_ber(&rt, alloc, &[0x04, 0x05, 0xAA], header, cut, (2, true))?;
+    let other = Err(unexpected(Tag::OctetString, Tag::Null));
+    under_ber(&rt, alloc, &[0x05, 0x00], header, other, (2, false))?;
+    Ok(())
+}

@@ -1,0 +1,225 @@
+//! Segments up to the end.
+use super::*;
+use crate::checks::same_at;
+use der::read_constructed_vec;
+use std::process::Abort;
+
+// What segments are joined to, or why they are refused, and where the reader stands then.
+fn joining<R: Reader>(
+    rt: &impl Abort,
+    alloc: Global,
+    mut reader: R,
+    answer: Result<&[u8], Error>,
+    place: (u32, bool),
+) {
+    let (position, failed) = place;
+    let end = u32::from(reader.input_len());
+    let length = Length::new_indefinite(5);
+    let joined = read_constructed_vec(alloc, &mut reader, length, Tag::OctetString);
+    same_at(rt, end, view(&joined), answer);
+    same_at(rt, end, place_of(&reader), (position, end, failed));
+}
+
+// Likewise, whether the reader lends or not.
+fn joining_each(
+    rt: &impl Abort,
+    alloc: Global,
+    octets: &[u8],
+    answer: Result<&[u8], Error>,
+    place: (u32, bool),
+) -> Result<(), Error> {
+    joining(rt, alloc, ber_reader(octets)?, answer, place);
+    joining(rt, alloc, ber_unlent(octets)?, answer, place);
+    Ok(())
+}
+
+// Primitive segments are alike under both rules.
+fn joining_primitive(
+    rt: &impl Abort,
+    alloc: Global,
+    octets: &[u8],
+    answer: Result<&[u8], Error>,
+    place: (u32, bool),
+) -> Result<(), Error> {
+    joining_each(rt, alloc, octets, answer, place)?;
+    joining(rt, alloc, der_reader(octets)?, answer, place);
+    joining(rt, alloc, der_unlent(octets)?, answer, place);
+    Ok(())
+}
+
+#[test]
+fn segments_that_are_joined(rt: HostRuntime) -> Result<(), Fail> {
+    // the segments, what they are joined to, and how many octets they have
+    let rows = [
+        ([].as_slice(), [].as_slice(), 0u32),
+        ([0x04, 0x00].as_slice(), [].as_slice(), 2),
+        ([0x04, 0x01, 0x2A].as_slice(), [0x2A].as_slice(), 3),
+        (
+            [0x04, 0x01, 0x2A, 0x04, 0x00].as_slice(),
+            [0x2A].as_slice(),
+            5,
+        ),
+        (
+            [0x04, 0x00, 0x04, 0x01, 0x2A].as_slice(),
+            [0x2A].as_slice(),
+            5,
+        ),
+        (
+            [0x04, 0x02, 0x02, 0x01, 0x04, 0x01, 0x00, 0x04, 0x01, 0x02].as_slice(),
+            [0x02, 0x01, 0x00, 0x02].as_slice(),
+            10,
+        ),
+    ];
+    for (octets, joined, end) in rows {
+        joining_primitive(&rt, rt.alloc(), octets, Ok(joined), (end, false))?;
+    }
+    Ok(())
+}
+
+#[test]
+fn segments_that_are_cut(rt: HostRuntime) -> Result<(), Fail> {
+    let rows = [
+        ([0x04].as_slice(), incomplete(2, 1, 1), (1, true)),
+        (
+            [0x04, 0x00, 0x04].as_slice(),
+            incomplete(4, 3, 3),
+            (3, true),
+        ),
+        ([0x04, 0x01].as_slice(), incomplete(3, 2, 2), (2, true)),
+        (
+            [0x04, 0x05, 0xAA].as_slice(),
+            incomplete(7, 3, 2),
+            (2, true),
+        ),
+        (
+            [0x04, 0x82, 0x01].as_slice(),
+            incomplete(4, 3, 3),
+            (3, true),
+        ),
+        (
+            [0x04, 0x01, 0xAA, 0x04, 0x02, 0xBB].as_slice(),
+            incomplete(7, 6, 5),
+            (5, true),
+        ),
+        (
+            [0x04, 0x84, 0xFF, 0xFF, 0xFF, 0xF9, 0xAA].as_slice(),
+            incomplete(4294967295, 7, 6),
+            (6, true),
+        ),
+        (
+            [0x04, 0x84, 0xFF, 0xFF, 0xFF, 0xFA, 0xAA].as_slice(),
+            ErrorKind::Overflow.to_error(),
+            (6, false),
+        ),
+    ];
+    for (octets, error, place) in rows {
+        joining_primitive(&rt, rt.alloc(), octets, Err(error), place)?;
+    }
+    Ok(())
+}
+
+#[test]
+fn segments_with_wrong_headers(rt: HostRuntime) -> Result<(), Fail> {
+    let string = Tag::OctetString;
+    let rows = [
+        ([0x3F, 0x00].as_slice(), unknown(0x3F, 1), (1, true)),
+        ([0x1F, 0x00].as_slice(), invalid_number(1), (1, true)),
+        ([0x00, 0x00].as_slice(), unknown(0x00, 1), (1, true)),
+        (
+            [0x04, 0x81, 0x7F].as_slice(),
+            incorrect(string, 3),
+            (3, true),
+        ),
+        ([0x04, 0x85].as_slice(), incorrect(string, 2), (2, true)),
+    ];
+    for (octets, error, place) in rows {
+        joining_primitive(&rt, rt.alloc(), octets, Err(error), place)?;
+    }
+    Ok(())
+}
+
+#[test]
+fn segments_with_other_tags(rt: HostRuntime) -> Result<(), Fail> {
+    let string = Tag::OctetString;
+    let rows = [
+        (
+            [0x05, 0x00].as_slice(),
+            unexpected(string, Tag::Null),
+            (2, false),
+        ),
+        (
+            [0x04, 0x01, 0x2A, 0x30, 0x00].as_slice(),
+            unexpected(string, Tag::Sequence),
+            (5, false),
+        ),
+        (
+            [0x80, 0x01, 0x2A].as_slice(),
+            unexpected(string, context_specific(false)),
+            (2, false),
+        ),
+    ];
+    for (octets, error, place) in rows {
+        joining_primitive(&rt, rt.alloc(), octets, Err(error), place)?;
+    }
+    let sequence = unexpected(string, Tag::Sequence);
+    joining_each(
+        &rt,
+        rt.alloc(),
+        &[0x30, 0x80, 0x00, 0x00],
+        Err(sequence),
+        (2, false),
+    )?;
+    Ok(())
+}
+
+// A segment of indefinite length, or one that has segments itself.
+#[test]
+fn segments_of_segments(rt: HostRuntime) -> Result<(), Fail> {
+    let rows = [
+        ([0x24, 0x01, 0x2A].as_slice(), noncanonical(1), (2, false)),
+        ([0x24, 0x00].as_slice(), noncanonical(1), (2, false)),
+        (
+            [0x04, 0x00, 0x24, 0x01, 0x2A].as_slice(),
+            noncanonical(3),
+            (4, false),
+        ),
+        (
+            [0x24, 0x80, 0x00, 0x00].as_slice(),
+            indefinite(2),
+            (2, true),
+        ),
+        (
+            [0x04, 0x80, 0x00, 0x00].as_slice(),
+            indefinite(2),
+            (2, true),
+        ),
+        ([0x24, 0x80].as_slice(), incomplete(3, 2, 2), (2, false)),
+        ([0x04, 0x80].as_slice(), incomplete(3, 2, 2), (2, false)),
+    ];
+    for (octets, error, place) in rows {
+        joining_each(&rt, rt.alloc(), octets, Err(error), place)?;
+    }
+    Ok(())
+}
+
+#[test]
+fn segments_of_segments_under_der(rt: HostRuntime) -> Result<(), Fail> {
+    let rows = [
+        ([0x24, 0x01, 0x2A].as_slice(), unknown(0x24, 1), (1, true)),
+        (
+            [0x04, 0x00, 0x24, 0x00].as_slice(),
+            unknown(0x24, 3),
+            (3, true),
+        ),
+        (
+            [0x04, 0x80, 0x00, 0x00].as_slice(),
+            indefinite(2),
+            (2, true),
+        ),
+    ];
+    for (octets, error, place) in rows {
+        joining(&rt, rt.alloc(), der_reader(octets)?, Err(error), place);
+        joining(&rt, rt.alloc(), der_unlent(octets)?, Err(error), place);
+    }
+    Ok(())
+}

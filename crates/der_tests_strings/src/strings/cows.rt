@@ -1,0 +1,91 @@
+//! Octets and texts that are borrowed where the reader lends.
+use super::*;
+use crate::checks::{holds, same};
+use der::encode_value_to_slice;
+use std::process::Abort;
+
+#[test]
+fn octets_from_a_reader_that_lends(rt: HostRuntime) -> Result<(), Fail> {
+    let octets = [0x01, 0x02, 0x03];
+    let mut reader = der_reader(&octets)?;
+    let bytes = BytesCow::decode_value(rt.alloc(), &mut reader, header_of(3))?;
+    holds(&rt, matches!(bytes, BytesCow::Borrowed(_)));
+    same(&rt, bytes.as_bytes_ref().as_slice(), octets.as_slice());
+    same(&rt, reader.place(), (3, 3, false));
+    Ok(())
+}
+
+#[test]
+fn octets_from_a_reader_that_does_not(rt: HostRuntime) -> Result<(), Fail> {
+    let octets = [0x01, 0x02, 0x03];
+    let mut reader = der_unlent(&octets)?;
+    let bytes = BytesCow::decode_value(rt.alloc(), &mut reader, header_of(3))?;
+    holds(&rt, matches!(bytes, BytesCow::Owned(_)));
+    same(&rt, bytes.as_bytes_ref().as_slice(), octets.as_slice());
+    same(&rt, reader.place(), (3, 3, false));
+    Ok(())
+}
+
+#[test]
+fn octets_that_are_refused(rt: HostRuntime) -> Result<(), Fail> {
+    let mut reader = der_unlent(&[0x01, 0x02, 0x03])?;
+    let refused = BytesCow::decode_value(rt.alloc(), &mut reader, header_of(4)).err();
+    same(&rt, refused, Some(incomplete(4, 3, 0)));
+    same(&rt, reader.place(), (0, 3, true));
+    Ok(())
+}
+
+#[test]
+fn texts_from_a_reader_that_lends(rt: HostRuntime) -> Result<(), Fail> {
+    let mut reader = der_reader(&[0xC3, 0xBC])?;
+    let text = StringCow::decode_value(rt.alloc(), &mut reader, header_of(2))?;
+    holds(&rt, matches!(text, StringCow::Borrowed(_)));
+    same(&rt, text.as_string_ref().as_str(), "ü");
+    same(&rt, reader.place(), (2, 2, false));
+    Ok(())
+}
+
+#[test]
+fn texts_from_a_reader_that_does_not(rt: HostRuntime) -> Result<(), Fail> {
+    let mut reader = der_unlent(&[0xC3, 0xBC])?;
+    let refused = StringCow::decode_value(rt.alloc(), &mut reader, header_of(2)).err();
+    same(&rt, refused, Some(unlendable(0)));
+    same(&rt, reader.place(), (0, 2, false));
+    Ok(())
+}
+
+#[test]
+fn texts_that_are_refused(rt: HostRuntime) -> Result<(), Fail> {
+    let mut reader = der_reader(&[0xC3])?;
+    let refused = StringCow::decode_value(rt.alloc(), &mut reader, header_of(1));
+    holds(&rt, is_no_text(refused.err()));
+    same(&rt, reader.place(), (1, 1, false));
+    Ok(())
+}
+
+const TEXT: [u8; 3] = [0x67, 0xC3, 0xBC];
+
+// What is written is that of the view, whichever it is.
+fn written<T: EncodeValue>(rt: &impl Abort, value: &T) -> Result<(), Error> {
+    same(rt, value.value_len(), Ok(Length::new(3)));
+    let mut buffer = [0u8; 4];
+    let written = encode_value_to_slice(&mut buffer, value)?;
+    same(rt, written, TEXT.as_slice());
+    Ok(())
+}
+
+#[test]
+fn octets_that_are_written(rt: HostRuntime) -> Result<(), Fail> {
+    written(&rt, &BytesCow::Borrowed(BytesRef::new(&TEXT)?))?;
+    let owned = BytesOwned::from_slice(rt.alloc(), &TEXT)?;
+    written(&rt, &BytesCow::Owned(owned))?;
+    Ok(())
+}
+
+#[test]
+fn texts_that_are_written(rt: HostRuntime) -> Result<(), Fail> {
+    written(&rt, &StringCow::Borrowed(StringRef::from_bytes(&TEXT)?))?;
+    let owned = StringOwned::from_bytes(rt.alloc(), &TEXT)?;
+    written(&rt, &StringCow::Owned(owned))?;
+    Ok(())
+}

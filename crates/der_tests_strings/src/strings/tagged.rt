@@ -1,0 +1,96 @@
+//! A type with a tag of its own over octets that are borrowed where the reader lends: it is lawful.
+ghost use Rattle.std.specs.Prelude.{◌≡◌, false};
+ghost use Rattle.std.proofs.Common.{arith};
+ghost use Rattle.der_base.specs.declared.tag.Tag.TheVariants.{OctetString};
+ghost use Rattle.der.specs.BytesCow.{cow_octets};
+ghost use Rattle.der.specs.Octets.{IsCounted, TakesOctets, LentAnswers, octets_lawful, octets_size, WritesOctets};
+
+use super::*;
+use crate::checks::{holds, same};
+use der::{FixedTag, Lawful, ReadValue, Writer, WrittenValue};
+
+#[derive(Drop)]
+struct CowOctets<'a> {
+    octets: BytesCow<'a>,
+}
+
+impl<'a> FixedTag for CowOctets<'a> {
+    ghost tag_is = { OctetString };
+
+    const TAG: Tag = Tag::OctetString;
+
+    fn fixed_tag() -> Tag
+        ensures { result ≡ OctetString }
+    {
+        Self::TAG
+    }
+}
+
+impl<'a> ReadValue for CowOctets<'a> {
+    ghost valid = { λ v. IsCounted (cow_octets v.octets) };
+
+    ghost takes = { TakesOctets IsCounted (λ v. cow_octets v.octets) };
+
+    ghost levels = { λ _. 0 };
+
+    ghost takes_memory = { false };
+
+    ghost takes_valid = { λ v rules h octets taken. taken.0 };
+}
+
+impl<'a, R: Reader<Lent = &'a [u8]>> DecodeValue<R> for CowOctets<'a> {
+    type Error = Error;
+
+    ghost value_answers = { LentAnswers (λ v. cow_octets v.octets) };
+
+    fn decode_value(alloc: Global, reader: &mut R, header: Header) -> Result<Self, Error> {
+        let octets = BytesCow::decode_value(alloc, reader, header)?;
+        Ok(CowOctets { octets })
+    }
+
+    fn is_value(&self) {}
+}
+
+impl<'a> WrittenValue for CowOctets<'a> {
+    ghost contents = { λ v. cow_octets v.octets };
+
+    ghost writable = { λ v. IsCounted (cow_octets v.octets) };
+}
+
+impl<'a> EncodeValue for CowOctets<'a> {
+    ghost value_size = { octets_size (λ v. cow_octets v.octets) };
+
+    ghost value_answers = { WritesOctets (λ v. cow_octets v.octets) };
+
+    fn value_len(&self) -> Result<Length, Error> {
+        self.octets.value_len()
+    }
+
+    fn encode_value<W: Writer>(&self, writer: &mut W) -> Result<(), Error> {
+        self.octets.encode_value(writer)
+    }
+}
+
+impl<'a> Lawful for CowOctets<'a> {
+    ghost lawful = { octets_lawful OctetString IsCounted (λ v. cow_octets v.octets) (omega arith) };
+}
+
+const ELEMENT: [u8; 4] = [0x04, 0x02, 0x01, 0x02];
+
+#[test]
+fn elements_that_are_borrowed(rt: HostRuntime) -> Result<(), Fail> {
+    let read = CowOctets::from_der(rt.alloc(), &ELEMENT)?;
+    holds(&rt, matches!(read.octets, BytesCow::Borrowed(_)));
+    same(&rt, read.to_der(rt.alloc())?.as_slice(), ELEMENT.as_slice());
+    Ok(())
+}
+
+#[test]
+fn elements_that_are_copied(rt: HostRuntime) -> Result<(), Fail> {
+    let mut reader = der_unlent(&ELEMENT)?;
+    let read = CowOctets::decode(rt.alloc(), &mut reader)?;
+    holds(&rt, matches!(read.octets, BytesCow::Owned(_)));
+    same(&rt, reader.place(), (4, 4, false));
+    same(&rt, read.to_der(rt.alloc())?.as_slice(), ELEMENT.as_slice());
+    Ok(())
+}

@@ -1,0 +1,79 @@
+//! Octets that are texts, and those that are not.
+use super::*;
+use crate::checks::{holds_at, same_at};
+use std::process::Abort;
+
+// These octets are a text, borrowed, copied, or read.
+fn is_text(rt: &impl Abort, alloc: Global, octets: &[u8]) -> Result<(), Error> {
+    let text = StringRef::from_bytes(octets)?;
+    same_at(rt, text.len(), text.as_bytes(), octets);
+    let copy = StringOwned::from_bytes(alloc, octets)?;
+    same_at(rt, text.len(), copy.as_bytes(), octets);
+    let mut reader = der_reader(octets)?;
+    let header = Header::new(Tag::Utf8String, text.len());
+    let read = StringRef::decode_value(alloc, &mut reader, header)?;
+    same_at(rt, text.len(), read, text);
+    Ok(())
+}
+
+#[test]
+fn octets_that_are_texts(rt: HostRuntime) -> Result<(), Fail> {
+    for octets in [
+        [0x00].as_slice(),
+        [0x7F].as_slice(),
+        [0xC2, 0x80].as_slice(),
+        [0xDF, 0xBF].as_slice(),
+        [0xE0, 0xA0, 0x80].as_slice(),
+        [0xED, 0x9F, 0xBF].as_slice(),
+        [0xEE, 0x80, 0x80].as_slice(),
+        [0xF0, 0x90, 0x80, 0x80].as_slice(),
+        [0xF4, 0x8F, 0xBF, 0xBF].as_slice(),
+    ] {
+        is_text(&rt, rt.alloc(), octets)?;
+    }
+    Ok(())
+}
+
+// These octets are none; a reader stands behind them then.
+fn is_refused(rt: &impl Abort, alloc: Global, octets: &[u8]) -> Result<(), Error> {
+    let mut reader = der_reader(octets)?;
+    let end = u32::from(reader.input_len());
+    holds_at(rt, end, is_no_text(StringRef::from_bytes(octets).err()));
+    holds_at(
+        rt,
+        end,
+        is_no_text(StringOwned::from_bytes(alloc, octets).err()),
+    );
+    let refused = StringRef::decode_value(alloc, &mut reader, header_of(end));
+    holds_at(rt, end, is_no_text(refused.err()));
+    same_at(rt, end, reader.place(), (end, end, false));
+    let mut reader = der_reader(octets)?;
+    let refused = StringOwned::decode_value(alloc, &mut reader, header_of(end));
+    holds_at(rt, end, is_no_text(refused.err()));
+    same_at(rt, end, reader.place(), (end, end, false));
+    Ok(())
+}
+
+// Longer spellings, surrogates, what is past the last character, a lone octet of the middle, and
+// characters that are cut.
+#[test]
+fn octets_that_are_no_texts(rt: HostRuntime) -> Result<(), Fail> {
+    for octets in [
+        [0xFF].as_slice(),
+        [0x80].as_slice(),
+        [0xC0, 0x80].as_slice(),
+        [0xC1, 0xBF].as_slice(),
+        [0xE0, 0x9F, 0xBF].as_slice(),
+        [0xED, 0xA0, 0x80].as_slice(),
+        [0xED, 0xBF, 0xBF].as_slice(),
+        [0xF0, 0x8F, 0xBF, 0xBF].as_slice(),
+        [0xF4, 0x90, 0x80, 0x80].as_slice(),
+        [0xC3].as_slice(),
+        [0xE2, 0x82].as_slice(),
+        [0xF0, 0x9F, 0x98].as_slice(),
+        [0x61, 0xC3, 0x28].as_slice(),
+    ] {
+        is_refused(&rt, rt.alloc(), octets)?;
+    }
+    Ok(())
+}
