@@ -74,6 +74,7 @@ pub trait Encode {
     /// - Those of the type, as by [`Encode::encode`].
     /// - `Overflow` at the number of octets written, where the next write would pass 4294967295.
     /// - `Overlength` at the end that was wished by the first write for which there is no room.
+    #[inline(always)]
     final fn encode_to_slice<'b>(&self, buf: &'b mut [u8]) -> Result<&'b [u8], Error>
         ensures ok { IfOk result (λ r. r.now ≡ Self.encoding self.now) }
         ensures succeeds { Self.encodable self.now
@@ -97,6 +98,7 @@ pub trait Encode {
     /// - `Overflow` without a position, where the vector would pass the greatest `usize`.
     /// - `OutOfMemory` without a position, where memory is refused.
     /// - Those of [`Encode::encode`], with positions counted from the beginning of the encoding.
+    #[inline(always)]
     final fn encode_to_vec(&self, out: &mut Vec<u8>) -> Result<Length, Error>
         ensures ok { OnOk result (out.new.items ≡ out.old.items ++ Self.encoding self.now) }
         ensures count { IfOk result (λ l. l ≡ definite_length (length (Self.encoding self.now))) }
@@ -119,6 +121,7 @@ pub trait Encode {
     ///   among them.
     /// - `OutOfMemory` without a position, where memory is refused.
     /// - Those of [`Encode::encode`].
+    #[inline(always)]
     final fn to_der(&self, alloc: Global) -> Result<Vec<u8>, Error>
         ensures ok { IfOk result (λ v. v.items ≡ Self.encoding self.now) }
         ensures succeeds { Self.encodable self.now → GrowsBy (Self.encoding self.now) 0 result }
@@ -147,6 +150,7 @@ impl<T: EncodeValue + Tagged> Encode for T {
         encoded_len_tlv(self)
     }
 
+    #[inline(always)]
     fn encode<W: Writer>(&self, writer: &mut W) -> Result<(), Error> {
         encode_tlv(self, writer)
     }
@@ -175,6 +179,7 @@ pub fn encoded_len_tlv<T: EncodeValue + Tagged>(value: &T) -> Result<Length, Err
 /// - `Failed`, `Overflow` and `Overlength` of the writer at the header, as by [`Writer::write`];
 ///   the octets of earlier writes stand.
 /// - Those of [`EncodeValue::encode_value`]; what was written before stands.
+#[inline(always)]
 pub fn encode_tlv<T: EncodeValue + Tagged, W: Writer>(
     value: &T,
     writer: &mut W,

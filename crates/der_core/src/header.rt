@@ -193,6 +193,7 @@ impl Encode for Header {
         Ok(Length::new(count))
     }
 
+    #[inline(always)]
     fn encode<W: Writer>(&self, writer: &mut W) -> Result<(), Error> {
         self.tag().encode(writer)?;
         self.length().encode(writer)

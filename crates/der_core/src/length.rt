@@ -187,6 +187,7 @@ impl Encode for Length {
         Ok(Length::new(self.octet_count()))
     }
 
+    #[inline(always)]
     fn encode<W: Writer>(&self, writer: &mut W) -> Result<(), Error> {
         let number = u32::from(*self);
         let digits = self.octet_count() - 1;

@@ -268,6 +268,7 @@ impl Encode for Tag {
         Ok(Length::new(self.octet_count()))
     }
 
+    #[inline(always)]
     fn encode<W: Writer>(&self, writer: &mut W) -> Result<(), Error> {
         let number = self.number().0;
         if number < 31 {
@@ -280,6 +281,7 @@ impl Encode for Tag {
 }
 
 // The first octet of a tag, with these five low bits.
+#[inline(always)]
 pub(crate) fn first_octet_of(tag: Tag, low: u8) -> u8
     requires { low < 32 }
     ensures { result ≡ leading_octet (label tag) low }

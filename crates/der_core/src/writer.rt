@@ -48,6 +48,7 @@ pub trait Writer {
     /// # Errors
     ///
     /// `Failed`, `Overflow` and `Overlength`, as by [`Writer::write`] of one octet.
+    #[inline(always)]
     final fn write_byte(&mut self, octet: u8) -> Result<(), Error>
         ensures kept { Keeps (Self.state self.old) (Self.state self.new) }
         ensures ok { Appends (Self.state self.old) (octet ∷ []) result (Self.state self.new) }

@@ -95,6 +95,7 @@ pub trait EncodeValue: WrittenValue {
     /// # Errors
     ///
     /// - Those of [`EncodeValue::value_len`].
+    #[inline(always)]
     fn header(&self) -> Result<Header, Error>
     where
         Self: Tagged,

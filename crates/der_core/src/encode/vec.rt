@@ -16,6 +16,7 @@ use std::alloc::Allocator;
 ///
 /// Those of [`Encode::encoded_len`], `OutOfMemory` without a position, and those of
 /// [`Encode::encode`], as by [`Encode::to_der`].
+#[inline(always)]
 pub fn to_der_in<T: Encode, A: Allocator>(alloc: A, value: &T) -> Result<Vec<u8, A>, Error>
     ensures ok { IfOk result (λ v. v.items ≡ T.encoding value.now) }
     ensures succeeds { T.encodable value.now → GrowsBy (T.encoding value.now) 0 result }
@@ -33,6 +34,7 @@ pub fn to_der_in<T: Encode, A: Allocator>(alloc: A, value: &T) -> Result<Vec<u8,
 ///
 /// Those of [`Encode::encoded_len`], `Overflow` and `OutOfMemory` without a position, and those of
 /// [`Encode::encode`], as by [`Encode::encode_to_vec`]; the vector's contents are as before.
+#[inline(always)]
 pub fn encode_to_vec_in<T: Encode, A: Allocator>(
     value: &T,
     out: &mut Vec<u8, A>,
@@ -64,6 +66,7 @@ pub fn encode_to_vec_in<T: Encode, A: Allocator>(
 }
 
 // Writes the encoding to the beginning of the buffer.
+#[inline(always)]
 fn fill<T: Encode>(value: &T, buf: &mut [u8]) -> Result<(), Error>
     ensures ok { Begins (T.encoding value.now) result buf.new }
     ensures succeeds { T.encodable value.now

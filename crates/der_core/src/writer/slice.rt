@@ -98,6 +98,7 @@ impl<'a> SliceWriter<'a> {
     /// - `Failed` at the position, where the writer had failed; it is unchanged.
     /// - Those of the value's [`Encode::encode`], with the error's position, or the writer's where
     ///   it has none; what was written before stands, and the writer has failed.
+    #[inline(always)]
     pub fn encode<T: Encode>(&mut self, value: &T) -> Result<(), Error>
         ensures kept { Keeps (slice_writer_state self.old) (slice_writer_state self.new) }
         ensures ok { Appends (slice_writer_state self.old) (T.encoding value.now) result
@@ -242,6 +243,7 @@ impl<'a> SliceWriter<'a> {
     }
 
     // Refuses so many octets where there is no room for them; answers where the next one goes.
+    #[inline(always)]
     fn admit(&mut self, count: usize) -> Result<usize, Error>
         ensures kept { Keeps (slice_writer_state self.old) (slice_writer_state self.new) }
         ensures ok { IfOk result (λ from. from ≡ self.old.start + self.old.position) }
@@ -272,6 +274,7 @@ impl<'a> Writer for SliceWriter<'a> {
 
     ghost reliable = { true };
 
+    #[inline(always)]
     fn write(&mut self, octets: &[u8]) -> Result<(), Error> {
         let from = self.admit(octets.len())?;
         self.bytes[from..from + octets.len()].copy_from_slice(octets);
