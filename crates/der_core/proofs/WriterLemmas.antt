@@ -7,10 +7,9 @@ use Rattle.std.proofs.lemmas.Bool.Decides.{nat_tests}
 use Rattle.der_base.specs.Error.{at}
 use Rattle.der_base.specs.Length.{definite_length}
 use Rattle.der_base.specs.declared.error.Error.{Error}
-use Rattle.der_base.specs.declared.error.ErrorKind.{ErrorKind}
 use Rattle.der_base.specs.declared.error.ErrorKind.TheVariants.{Failed, Length as IncorrectLength}
 use Rattle.der_base.specs.declared.tag.Tag.TheVariants.{Sequence}
-use Rattle.der_core.specs.Writer.{WriterState, Keeps, Writes, room_outcome, written_count, writer_position, appended_state, failed_state}
+use Rattle.der_core.specs.Writer.{WriterState, Keeps, Writes, room_outcome, written_count, writer_position, appended_state}
 use Rattle.der_core.specs.SliceWriter.{slice_writer_state}
 use Rattle.der_core.specs.Encode.{header_outcome}
 use Rattle.der_core.specs.WrittenSequence.{Condition, Run, part_state, outer_state, headed_state, HandsBackPart, Abandons, ClosesPart, handed_on, failed, unfilled, filled, IsFilledBy, Runs, PartAnswer, WritesSequence, with_header}
@@ -87,14 +86,14 @@ module _ (v : SliceWriter) (start stop : ℕ) (before : start ≤ v.start) (behi
       subst (λ a. ClosesPart outer size inner (behind_part v start stop v.failed) a (Err e)) (sym is)
       (subst (λ x. ClosesPart outer size inner (behind_part v start stop v.failed) (Ok tt) (Err x)) (sym told_here) (failed failing gone))
 
-  pub closed_unfilled : (answer r : Result (Unit {0}) Error) (kind : ErrorKind) (t : WriterState) → answer ≡ Ok tt → v.failed ≡ false → v.position < v.stop - v.start
-      → kind ≡ IncorrectLength Sequence → r ≡ Err (at kind (writer_position (behind_part v start stop v.failed))) → t ≡ failed_state (behind_part v start stop v.failed) → ClosesPart outer size inner t answer r
-  closed_unfilled answer r kind t is alive short wrong told fell =
+  pub closed_unfilled : (answer : Result (Unit {0}) Error) (e : Error) → answer ≡ Ok tt → v.failed ≡ false → v.position < v.stop - v.start
+      → e ≡ at (IncorrectLength Sequence) (definite_length (v.stop - start)) → ClosesPart outer size inner (behind_part v start stop true) answer (Err e)
+  closed_unfilled answer e is alive short told =
       let few : length inner.octets < length outer.octets + size = omega (arith, stands_at v, begins, short) in
-      let place : length (behind_part v start stop v.failed).octets - start ≡ length outer.octets - start + size = omega (arith, ends v.failed, begins, before, v.ordered) in
-      let told_behind : r ≡ Err (at (IncorrectLength Sequence) (definite_length (written_count outer + size))) =
-      told ∙ ap (λ k. Err (at k (writer_position (behind_part v start stop v.failed)))) wrong ∙ ap (λ k. Err (at (IncorrectLength Sequence) (definite_length k))) place in
-      subst (λ a. ClosesPart outer size inner t a r) (sym is) (subst (λ x. ClosesPart outer size inner t (Ok tt) x) (sym told_behind) (unfilled alive few (abandoned t fell)))
+      let place : v.stop - start ≡ length outer.octets - start + size = omega (arith, begins, before, v.ordered) in
+      let told_behind : e ≡ at (IncorrectLength Sequence) (definite_length (written_count outer + size)) = told ∙ ap (λ k. at (IncorrectLength Sequence) (definite_length k)) place in
+      subst (λ a. ClosesPart outer size inner (behind_part v start stop true) a (Err e)) (sym is)
+      (subst (λ x. ClosesPart outer size inner (behind_part v start stop true) (Ok tt) (Err x)) (sym told_behind) (unfilled alive few (abandoned _ refl)))
 
   pub closed_filled : (answer : Result (Unit {0}) Error) → answer ≡ Ok tt → v.failed ≡ false → v.stop - v.start ≤ v.position
       → ClosesPart outer size inner (behind_part v start stop v.failed) answer (Ok tt)

@@ -139,10 +139,14 @@ pub data VecAnswer (size : Result Length Error) (answers : WriterAnswer) (before
       → answers (fresh_state buffer reference) r t
       → result ≡ map_ok (λ _. definite_length (number l)) r → VecAnswer size answers before result
 
+-- an error's position, or this one where it has none
+abbrev pub placed_error : Option Length → Length → Error → Error
+placed_error None p e = at (kind_of e) p
+placed_error (Some _) p e = e
+
 -- an error's position, or the writer's where it has none
 abbrev pub positioned_error : Option Length → WriterState → Error → Error
-positioned_error None t e = at (kind_of e) (writer_position t)
-positioned_error (Some p) t e = e
+positioned_error known t = placed_error known (writer_position t)
 
 abbrev pub positioned_answer : WriterState → Result (Unit {0}) Error → Result (Unit {0}) Error
 positioned_answer t (Ok u) = Ok u

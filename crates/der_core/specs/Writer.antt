@@ -97,6 +97,13 @@ room_outcome n s granted =
     else success_outcome granted)
     else refusal_outcome (at Overflow (writer_position s)) (failed_state s)
 
+-- what n octets are refused by where the writer stands at a position, by whether it has failed
+abbrev pub room_error : Bool → ℕ → ℕ → Error
+room_error failed position n =
+    if failed then at Failed (definite_length position)
+    else if nat_lt (position + n) (2 ^ 32) then at Overlength (definite_length (position + n))
+    else at Overflow (definite_length position)
+
 abbrev pub write_outcome : List ℕ → WriterState → WriterOutcome
 write_outcome octets s = room_outcome (length octets) s (appended_state s octets)
 

@@ -1,5 +1,11 @@
 //! Writers into a slice.
 ghost use Rattle.std.specs.Prelude.{◌≡◌, ◌+◌, ◌-◌, ◌^◌, ◌<◌, ◌≤◌, true, length, Err, IfOk, OnErr};
+ghost use Rattle.der_base.specs.Error.{at, position_of};
+ghost use Rattle.der_base.specs.Length.{definite_length};
+ghost use Rattle.der_base.specs.declared.error.ErrorKind.TheVariants.{Failed, Length as IncorrectLength};
+ghost use Rattle.der_base.specs.declared.tag.Tag.TheVariants.{Sequence};
+ghost use Rattle.der_core.specs.Encode.{placed_error};
+ghost use Rattle.der_core.specs.Writer.{room_error};
 
 use crate::encode::Encode;
 use crate::header::Header;
@@ -25,7 +31,6 @@ pub struct SliceWriter<'a> {
 }
 
 impl<'a> SliceWriter<'a> {
-    ghost use Rattle.der_base.specs.Error.{at};
     ghost use Rattle.der_base.specs.Length.{number};
     ghost use Rattle.der_core.specs.Outcome.{map_ok};
     ghost use Rattle.der_core.specs.Writer.{Keeps, Appends, Writes, fresh_state, writer_position, failed_state, room_outcome};
@@ -111,16 +116,13 @@ impl<'a> SliceWriter<'a> {
             (slice_writer_state self.new) }
     {
         if self.failed {
-            return Err(ErrorKind::Failed.at(self.position()));
+            return Err(failed_at(self.position));
         }
         match value.encode(self) {
             Ok(()) => Ok(()),
             Err(error) => {
                 self.failed = true;
-                match error.position() {
-                    Some(_) => Err(error),
-                    None => Err(error.kind().at(self.position())),
-                }
+                Err(placed(error, self.position))
             }
         }
     }
@@ -148,6 +150,7 @@ impl<'a> SliceWriter<'a> {
     ///   failed.
     /// - `Length` with the tag SEQUENCE at the position behind the part, where `f` does not fill
     ///   it.
+    #[inline(always)]
     pub fn sequence<F: FnOnce(&mut SliceWriter<'a>) -> Result<(), Error>>(
         &mut self,
         len: Length,
@@ -170,6 +173,7 @@ impl<'a> SliceWriter<'a> {
     }
 
     // Sets so many octets apart and has them written by `f`.
+    #[inline(always)]
     fn fill_part<F: FnOnce(&mut SliceWriter<'a>) -> Result<(), Error>>(
         &mut self,
         len: Length,
@@ -192,6 +196,7 @@ impl<'a> SliceWriter<'a> {
     }
 
     // Over the next octets alone, where there is room for so many.
+    #[inline(always)]
     fn set_apart(&mut self, len: Length) -> Result<(), Error>
         ensures refused { OnErr result
             (Keeps (slice_writer_state self.old) (slice_writer_state self.new)) }
@@ -207,6 +212,7 @@ impl<'a> SliceWriter<'a> {
     }
 
     // Over its own part again, behind the one that was set apart, with what was made of that.
+    #[inline(always)]
     fn close_part(
         &mut self,
         start: usize,
@@ -228,10 +234,11 @@ impl<'a> SliceWriter<'a> {
         match answer {
             Ok(()) => {
                 if self.failed {
-                    return Err(ErrorKind::Failed.at(Length::new(filled)));
+                    return Err(failed_at(filled));
                 }
                 if filled < count {
-                    return self.error(Tag::Sequence.length_error());
+                    self.failed = true;
+                    return Err(unfilled_at(self.position));
                 }
                 Ok(())
             }
@@ -251,16 +258,11 @@ impl<'a> SliceWriter<'a> {
             (room_outcome count (slice_writer_state self.old) (slice_writer_state self.old))
             (map_ok (λ _. tt) result) (slice_writer_state self.new) }
     {
-        if self.failed {
-            return Err(ErrorKind::Failed.at(self.position()));
-        }
-        if count > (u32::MAX - self.position) as usize {
-            return self.error(ErrorKind::Overflow);
-        }
         let from = self.start + self.position as usize;
-        if count > self.stop - from {
+        if self.failed || count > self.stop - from {
+            let error = refusal(self.failed, self.position, count);
             self.failed = true;
-            return Err(ErrorKind::Overlength.at(Length::new(self.position + count as u32)));
+            return Err(error);
         }
         Ok(from)
     }
@@ -280,5 +282,51 @@ impl<'a> Writer for SliceWriter<'a> {
         self.bytes[from..from + octets.len()].copy_from_slice(octets);
         self.position += octets.len() as u32;
         Ok(())
+    }
+}
+
+// What so many octets are refused by, at a position from which on there is no room for them, or
+// where the writer had failed.
+#[cold]
+#[inline(never)]
+fn refusal(failed: bool, position: u32, count: usize) -> Error
+    ensures { result ≡ room_error failed position count }
+{
+    if failed {
+        return failed_at(position);
+    }
+    if count > (u32::MAX - position) as usize {
+        return ErrorKind::Overflow.at(Length::new(position));
+    }
+    ErrorKind::Overlength.at(Length::new(position + count as u32))
+}
+
+// The error of a writer that had failed.
+#[cold]
+#[inline(never)]
+fn failed_at(position: u32) -> Error
+    ensures { result ≡ at Failed (definite_length position) }
+{
+    ErrorKind::Failed.at(Length::new(position))
+}
+
+// The error of a part of a SEQUENCE that is not filled, and ends at this position.
+#[cold]
+#[inline(never)]
+fn unfilled_at(position: u32) -> Error
+    ensures { result ≡ at (IncorrectLength Sequence) (definite_length position) }
+{
+    Tag::Sequence.length_error().at(Length::new(position))
+}
+
+// An error with its position, or with this one where it has none.
+#[cold]
+#[inline(never)]
+fn placed(error: Error, position: u32) -> Error
+    ensures { result ≡ placed_error (position_of error) (definite_length position) error }
+{
+    match error.position() {
+        Some(_) => error,
+        None => error.kind().at(Length::new(position)),
     }
 }

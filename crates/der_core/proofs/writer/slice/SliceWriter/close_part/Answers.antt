@@ -1,6 +1,4 @@
-use Rattle.std.proofs.Common.{arith, ap, ◌∙◌}
-use Rattle.der_base.specs.Error.{at}
-use Rattle.der_base.specs.declared.error.ErrorKind.TheVariants.{Failed}
+use Rattle.std.proofs.Common.{arith}
 use Rattle.der_core.proofs.WriterLemmas.{closed_refused, closed_failed, closed_unfilled, closed_filled}
 use Rattle.der_core.proofs.writer.slice.SliceWriter.close_part.Goals as goal
 
@@ -12,13 +10,13 @@ returns-in-Err c =
 pub returns-then-self : goal.returns-then-self
 returns-then-self c =
     let r = c.requires in
-    closed_failed c.args.self.now c.args.start c.args.stop r.before r.behind r.within c.args.answer c.at.result c.in-Ok.is c.if-self.true (c.at.ensures ∙ ap (at Failed) c.new.ensures)
+    closed_failed c.args.self.now c.args.start c.args.stop r.before r.behind r.within c.args.answer c.failed_at.result c.in-Ok.is c.if-self.true c.failed_at.ensures
 
 pub returns-then-filled-count : goal.returns-then-filled-count
 returns-then-filled-count c =
     let r = c.requires in
-    closed_unfilled c.args.self.now c.args.start c.args.stop r.before r.behind r.within c.args.answer c.error.result c.length_error.result _ c.in-Ok.is c.if-self.false
-    (omega (arith, c.if-filled-count.true)) c.length_error.ensures c.error.ensures.at_position c.error.ensures.failed
+    closed_unfilled c.args.self.now c.args.start c.args.stop r.before r.behind r.within c.args.answer c.unfilled_at.result c.in-Ok.is c.if-self.false
+    (omega (arith, c.if-filled-count.true)) c.unfilled_at.ensures
 
 pub returns-else-filled-count : goal.returns-else-filled-count
 returns-else-filled-count c =
