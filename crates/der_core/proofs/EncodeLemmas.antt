@@ -1,7 +1,8 @@
 -- The pieces in which tags and lengths are written.
-use Rattle.std.proofs.Common.{◌≡◌, ◌≢◌, ℕ, zero, suc, ◌+◌, ◌-◌, ◌/◌, ◌%◌, ◌^◌, ◌<◌, ◌≤◌, List, [], ◌∷◌, ◌++◌, length, drop, map, refl, sym, ap, ◌∙◌, subst, length-append, arith, w32, Result, Ok, Err, OnOk, false, ⊎_elim, append_assoc}
-use Rattle.std.proofs.lemmas.List.{drop-drop}
-use Rattle.std.proofs.lemmas.Bool.{cases_lt}
+use Rattle.std.proofs.Common.{rules, ◌≡◌, ◌≢◌, ℕ, zero, suc, ◌+◌, ◌-◌, ◌/◌, ◌%◌, ◌^◌, ◌<◌, ◌≤◌, List, [], ◌∷◌, ◌++◌, length, drop, map, refl, sym, ap, ◌∙◌, subst, length-append, arith, w32, Result, Ok, Err, OnOk, false, ⊎_elim, append_assoc}
+use Rattle.std.proofs.lemmas.List.{drop-drop, append-nil}
+use Rattle.std.proofs.lemmas.Bool.{cases_lt, lt-ltb, le-ltb}
+use Rattle.std.proofs.lemmas.Bool.Decides.{nat_tests}
 use Rattle.std.specs.Int.{to_be_bytes}
 use Rattle.std.specs.Int.Digits.{digits_of}
 use Rattle.std.proofs.lemmas.Int.Digits.{digits_of_step, length-digits_of_step}
@@ -11,9 +12,10 @@ use Rattle.der_base.proofs.LengthLemmas.{length_small, length_large}
 use Rattle.der_base.specs.Tag.{label, leading_octet, tag_octets, continuation_octets}
 use Rattle.der_base.specs.declared.tag.Tag.{Tag}
 use Rattle.der_base.specs.declared.error.Error.{Error}
-use Rattle.der_base.proofs.TagLemmas.{label_large}
-use Rattle.der_core.specs.Writer.{WriterState, WriterOutcome, Writes, write_outcome, write_pieces, chained_write, success_outcome, appended_state}
-use Rattle.der_core.specs.Encode.{single_octets, high_digits, first_and_others, length_outcome}
+use Rattle.der_base.proofs.TagLemmas.{label_small, label_large}
+use Rattle.der_base.specs.Header.{header_octets}
+use Rattle.der_core.specs.Writer.{WriterState, WriterOutcome, Writes, write_outcome, write_pieces, chained_write, success_outcome, appended_state, room_outcome, written_count, HasRoom}
+use Rattle.der_core.specs.Encode.{single_octets, high_digits, first_and_others, length_outcome, header_outcome}
 
 -- the k lowest digits in base 256
 abbrev low_digits : ℕ → ℕ → List ℕ
@@ -137,6 +139,10 @@ appended_both s xs ys =
     let behind : drop (length ys) (drop (length xs) s.behind) ≡ drop (length (xs ++ ys)) s.behind = drop-drop (length ys) (length xs) s.behind ∙ ap (λ k. drop k s.behind) (sym (length-append xs ys)) in
     cc
 
+-- appending nothing
+appended_none : (s : WriterState) → appended_state s [] ≡ s
+appended_none s = ap (λ l. record s { octets = l; behind = s.behind }) (append-nil s.octets)
+
 -- it is appended by two writes
 pub length_appended : (k n : ℕ) (q : List ℕ) (s t u : WriterState) (r : Result (Unit {0}) Error) → 1 ≤ k → k ≤ 4 → length (length_octets n) ≡ k + 1 → q ≡ drop (4 - k) (to_be_bytes w32 n)
     → t ≡ appended_state s ((128 + k) ∷ []) → OnOk r (u ≡ appended_state t q) → OnOk r (u ≡ appended_state s (length_octets n))
@@ -190,3 +196,71 @@ room_then xs k s t first alive room =
 pub tag_spelled : (t : Tag) (x n : ℕ) → x ≡ leading_octet (label t) 31 → n ≡ (label t).number → 31 ≤ n → tag_octets t ≡ x ∷ (high_digits (n / 128) ++ n % 128 ∷ [])
 tag_spelled t x n e f large =
     tag_parts t (omega (arith, f, large)) ∙ ap (λ m. leading_octet (label t) 31 ∷ (high_digits (m / 128) ++ m % 128 ∷ [])) (sym f) ∙ ap (λ o. o ∷ (high_digits (n / 128) ++ n % 128 ∷ [])) (sym e)
+
+-- where n octets are granted, the writer has not failed, and what it may have and can count suffices
+pub has_room : (n : ℕ) (s : WriterState) → HasRoom s n → (s.failed ≡ false) × (length s.octets + n ≤ s.stop) × (written_count s + n < 2 ^ 32)
+has_room n s a = (grind (rules, nat_tests), grind (arith, nat_tests), grind (arith, nat_tests))
+
+-- so it is granted whatever comes of it
+in_room : (n : ℕ) (s g : WriterState) → s.failed ≡ false → length s.octets + n ≤ s.stop → written_count s + n < 2 ^ 32 → room_outcome n s g ≡ success_outcome g
+in_room n s g alive room few = rw (alive, lt-ltb (written_count s + n) (2 ^ 32) few, le-ltb s.stop (length s.octets + n) room)
+
+-- a piece for which there is room, and what follows it
+piece_in_room : (p : List ℕ) (s : WriterState) (next : WriterState → WriterOutcome) → s.failed ≡ false → length s.octets + length p ≤ s.stop → written_count s + length p < 2 ^ 32
+    → chained_write (write_outcome p s).answer (write_outcome p s).after next ≡ next (appended_state s p)
+piece_in_room p s next alive room few = ap (λ (o : WriterOutcome). chained_write o.answer o.after next) (in_room (length p) s (appended_state s p) alive room few)
+
+-- octets that go out one by one where there is room for all
+singles_in_room : (l : List ℕ) (s : WriterState) → s.failed ≡ false → length s.octets + length l ≤ s.stop → written_count s + length l < 2 ^ 32 → write_pieces (single_octets l) s ≡ success_outcome (appended_state s l)
+singles_in_room [] s alive room few = ap success_outcome (sym (appended_none s))
+singles_in_room (o ∷ l) s alive room few =
+    let more : length (s.octets ++ o ∷ []) ≡ length s.octets + 1 = length-append s.octets (o ∷ []) in
+    piece_in_room (o ∷ []) s (write_pieces (single_octets l)) alive (omega (arith, room)) (omega (arith, few))
+    ∙ singles_in_room l (appended_state s (o ∷ [])) alive (omega (arith, more, room)) (omega (arith, more, few)) ∙ ap success_outcome (appended_both s (o ∷ []) l)
+
+-- and an octet and then others
+others_in_room : (l : List ℕ) (s : WriterState) → s.failed ≡ false → length s.octets + length l ≤ s.stop → written_count s + length l < 2 ^ 32 → write_pieces (first_and_others l) s ≡ success_outcome (appended_state s l)
+others_in_room [] s alive room few = ap success_outcome (sym (appended_none s))
+others_in_room (o ∷ []) s alive room few = piece_in_room (o ∷ []) s success_outcome alive room few
+others_in_room (o ∷ p ∷ l) s alive room few =
+    let more : length (s.octets ++ o ∷ []) ≡ length s.octets + 1 = length-append s.octets (o ∷ []) in
+    piece_in_room (o ∷ []) s (write_pieces ((p ∷ l) ∷ [])) alive (omega (arith, room)) (omega (arith, few))
+    ∙ piece_in_room (p ∷ l) (appended_state s (o ∷ [])) success_outcome alive (omega (arith, more, room)) (omega (arith, more, few)) ∙ ap success_outcome (appended_both s (o ∷ []) (p ∷ l))
+
+-- a header for which there is room is written as by one write
+header_in_room : (t : Tag) (n : ℕ) (s : WriterState) → HasRoom s (length (header_octets t n)) → header_outcome t n s ≡ success_outcome (appended_state s (header_octets t n))
+header_in_room t n s has =
+    let facts = has_room (length (header_octets t n)) s has in
+    let sum : length (header_octets t n) ≡ length (tag_octets t) + length (length_octets n) = length-append (tag_octets t) (length_octets n) in
+    let more : length (s.octets ++ tag_octets t) ≡ length s.octets + length (tag_octets t) = length-append s.octets (tag_octets t) in
+    ap (λ (o : WriterOutcome). chained_write o.answer o.after (length_outcome n)) (singles_in_room (tag_octets t) s facts.0 (omega (arith, facts.1, sum)) (omega (arith, facts.2, sum)))
+    ∙ others_in_room (length_octets n) (appended_state s (tag_octets t)) facts.0 (omega (arith, facts.1, sum, more)) (omega (arith, facts.2, sum, more)) ∙ ap success_outcome (appended_both s (tag_octets t) (length_octets n))
+
+-- so one write of its octets is what writing the header is
+pub header_at_once : (t : Tag) (n : ℕ) (octets : List ℕ) (s u : WriterState) (r : Result (Unit {0}) Error) → octets ≡ header_octets t n → HasRoom s (length octets)
+    → Writes (write_outcome octets s) r u → Writes (header_outcome t n s) r u
+header_at_once t n octets s u r same has wrote =
+    let facts = has_room (length octets) s has in
+    let outcome : write_outcome octets s ≡ header_outcome t n s =
+        in_room (length octets) s (appended_state s octets) facts.0 facts.1 facts.2 ∙ ap (λ l. success_outcome (appended_state s l)) same ∙ sym (header_in_room t n s (subst (λ l. HasRoom s (length l)) same has)) in
+    subst (λ (o : WriterOutcome). Writes o r u) outcome wrote
+
+-- the octets of a header whose tag has one, and whose length takes one to three
+pub header_of_two : (t : Tag) (n f x : ℕ) → (label t).number < 31 → f ≡ leading_octet (label t) (label t).number → length (length_octets n) ≡ 1 → x ≡ n % 256 → f ∷ x ∷ [] ≡ header_octets t n
+header_of_two t n f x small first one low =
+    let octets : length_octets n ≡ n ∷ [] = one_octet n n refl one in
+    let few : n < 128 = ⊎_elim (λ a. a) (λ a. absurd (omega (arith, ap length (length_large n a), ap length (digits_positive 256 n (omega arith)), length-digits_of_step 256 n (omega arith) (omega arith), one))) (cases_lt n 128) in
+    let same : x ≡ n = omega (arith, low, few) in
+    rw (label_small (label t) small, octets, first, same)
+
+pub header_of_three : (t : Tag) (n f x : ℕ) → (label t).number < 31 → f ≡ leading_octet (label t) (label t).number → length (length_octets n) ≡ 2 → x ≡ n % 256 → f ∷ 129 ∷ x ∷ [] ≡ header_octets t n
+header_of_three t n f x small first two low =
+    let octets : length_octets n ≡ 129 ∷ n % 256 ∷ [] = length_parts 1 n (omega arith) (omega arith) two in
+    rw (label_small (label t) small, octets, first, low)
+
+pub header_of_four : (t : Tag) (n f y x : ℕ) → (label t).number < 31 → f ≡ leading_octet (label t) (label t).number → length (length_octets n) ≡ 3 → y ≡ n / 256 % 256 → x ≡ n % 256
+    → f ∷ 130 ∷ y ∷ x ∷ [] ≡ header_octets t n
+header_of_four t n f y x small first three high low =
+    let digit : n / 256 % 256 ≡ n / 256 ^ 1 % 256 = omega arith in
+    let octets : length_octets n ≡ 130 ∷ n / 256 ^ 1 % 256 ∷ n % 256 ∷ [] = length_parts 2 n (omega arith) (omega arith) three in
+    rw (label_small (label t) small, octets, first, high, low, digit)

@@ -97,6 +97,10 @@ room_outcome n s granted =
     else success_outcome granted)
     else refusal_outcome (at Overflow (writer_position s)) (failed_state s)
 
+-- n octets more are granted
+abbrev pub HasRoom : WriterState → ℕ → Type 0
+HasRoom s n = (room_outcome n s s).answer ≡ Ok tt
+
 -- what n octets are refused by where the writer stands at a position, by whether it has failed
 abbrev pub room_error : Bool → ℕ → ℕ → Error
 room_error failed position n =

@@ -5,15 +5,15 @@ ghost use Rattle.der_base.specs.Header.{HeaderFault, header_octets};
 ghost use Rattle.der_base.specs.Length.{number, is_indefinite, definite_length};
 ghost use Rattle.der_base.specs.Tag.{label};
 ghost use Rattle.der_core.specs.Decode.{Decodes, Peeks, grammar_levels};
-ghost use Rattle.der_core.specs.Encode.{header_outcome};
+ghost use Rattle.der_core.specs.Encode.{TakesCounted, header_outcome};
 ghost use Rattle.der_core.specs.Header.{head_of, IsHeaderAhead};
-ghost use Rattle.der_core.specs.Writer.{Writes};
+ghost use Rattle.der_core.specs.Writer.{Keeps, Appends, Writes};
 
 use crate::decode::Decode;
 use crate::encode::Encode;
 use crate::length::decode_length_behind;
 use crate::reader::{Reader, ReaderExt};
-use crate::tag::decode_with_constructed_bit;
+use crate::tag::{decode_with_constructed_bit, first_octet_of};
 use crate::writer::Writer;
 use der_base::{Error, ErrorKind, Length, Tag};
 use std::alloc::Global;
@@ -170,6 +170,25 @@ impl Header {
     }
 }
 
+impl Header {
+    // Writes the tag octet by octet, and then the length.
+    #[inline(always)]
+    fn encode_in_pieces<W: Writer>(&self, writer: &mut W) -> Result<(), Error>
+        ensures kept { Keeps (W.state writer.old) (W.state writer.new) }
+        ensures ok { Appends (W.state writer.old)
+            (header_octets (head_of self.now).tag (number (head_of self.now).length)) result
+            (W.state writer.new) }
+        ensures succeeds { TakesCounted (W.state writer.old)
+            (header_octets (head_of self.now).tag (number (head_of self.now).length)) result }
+        ensures exact { W.reliable ≡ true → Writes
+            (header_outcome (head_of self.now).tag (number (head_of self.now).length)
+            (W.state writer.old)) result (W.state writer.new) }
+    {
+        self.tag().encode(writer)?;
+        self.length().encode(writer)
+    }
+}
+
 /// The tag is written and then the length, of which the number alone counts; the constructed bit is
 /// that of the tag.
 ///
@@ -195,7 +214,22 @@ impl Encode for Header {
 
     #[inline(always)]
     fn encode<W: Writer>(&self, writer: &mut W) -> Result<(), Error> {
-        self.tag().encode(writer)?;
-        self.length().encode(writer)
+        let number = self.tag.number().0;
+        if number < 31 {
+            let first = first_octet_of(self.tag, number as u8);
+            let length = u32::from(self.length);
+            let (high, low) = ((length / 256 % 256) as u8, (length % 256) as u8);
+            let count = self.length.octet_count();
+            if count == 1 && writer.has_room(2) {
+                return writer.write(&[first, low]);
+            }
+            if count == 2 && writer.has_room(3) {
+                return writer.write(&[first, 0x81, low]);
+            }
+            if count == 3 && writer.has_room(4) {
+                return writer.write(&[first, 0x82, high, low]);
+            }
+        }
+        self.encode_in_pieces(writer)
     }
 }

@@ -1,6 +1,6 @@
 //! Writers of octets.
-ghost use Rattle.std.specs.Prelude.{◌≡◌, Bool, true, [], ◌∷◌};
-ghost use Rattle.der_core.specs.Writer.{WriterState, Keeps, Appends, Takes, Writes, write_outcome};
+ghost use Rattle.std.specs.Prelude.{◌≡◌, Bool, true, false, [], ◌∷◌};
+ghost use Rattle.der_core.specs.Writer.{WriterState, Keeps, Appends, Takes, Writes, HasRoom, write_outcome};
 
 pub mod slice;
 
@@ -42,6 +42,14 @@ pub trait Writer {
         ensures succeeds { Takes (state self.old) octets.now result }
         ensures exact { reliable ≡ true
             → Writes (write_outcome octets.now (state self.old)) result (state self.new) };
+
+    /// Whether a write of so many octets is known to succeed. Where a writer answers so, a header is
+    /// written at once, and otherwise piece by piece; one that does not say answers `false`.
+    fn has_room(&self, _count: usize) -> bool
+        ensures { result ≡ true → HasRoom (state self.now) _count }
+    {
+        false
+    }
 
     /// Appends one octet, as [`Writer::write`] does.
     ///

@@ -283,6 +283,11 @@ impl<'a> Writer for SliceWriter<'a> {
         self.position += octets.len() as u32;
         Ok(())
     }
+
+    #[inline(always)]
+    fn has_room(&self, count: usize) -> bool {
+        !self.failed && count <= self.stop - (self.start + self.position as usize)
+    }
 }
 
 // What so many octets are refused by, at a position from which on there is no room for them, or
