@@ -242,7 +242,7 @@ pub header_at_once : (t : Tag) (n : ℕ) (octets : List ℕ) (s u : WriterState)
 header_at_once t n octets s u r same has wrote =
     let facts = has_room (length octets) s has in
     let outcome : write_outcome octets s ≡ header_outcome t n s =
-        in_room (length octets) s (appended_state s octets) facts.0 facts.1 facts.2 ∙ ap (λ l. success_outcome (appended_state s l)) same ∙ sym (header_in_room t n s (subst (λ l. HasRoom s (length l)) same has)) in
+    in_room (length octets) s (appended_state s octets) facts.0 facts.1 facts.2 ∙ ap (λ l. success_outcome (appended_state s l)) same ∙ sym (header_in_room t n s (subst (λ l. HasRoom s (length l)) same has)) in
     subst (λ (o : WriterOutcome). Writes o r u) outcome wrote
 
 -- the octets of a header whose tag has one, and whose length takes one to three

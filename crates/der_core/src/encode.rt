@@ -192,6 +192,12 @@ pub fn encode_tlv<T: EncodeValue + Tagged, W: Writer>(
     ensures exact { W.reliable ≡ true → ElementAnswers (T.tag_of value.now) (T.value_size value.now)
         (T.value_answers value.now) (W.state writer.old) result (W.state writer.new) }
 {
-    value.header()?.encode(writer)?;
-    value.encode_value(writer)
+    let header = value.header()?;
+    if let Err(error) = header.encode(writer) {
+        return Err(error);
+    }
+    if let Err(error) = value.encode_value(writer) {
+        return Err(error);
+    }
+    Ok(())
 }

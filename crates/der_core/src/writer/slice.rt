@@ -118,13 +118,11 @@ impl<'a> SliceWriter<'a> {
         if self.failed {
             return Err(failed_at(self.position));
         }
-        match value.encode(self) {
-            Ok(()) => Ok(()),
-            Err(error) => {
-                self.failed = true;
-                Err(placed(error, self.position))
-            }
+        if let Err(error) = value.encode(self) {
+            self.failed = true;
+            return Err(placed(error, self.position));
         }
+        Ok(())
     }
 
     /// Writes the header of a SEQUENCE (X.690 8.9), and has its contents written by `f`, which is
@@ -205,8 +203,12 @@ impl<'a> SliceWriter<'a> {
             (slice_writer_state self.new) }
     {
         let count = u32::from(len) as usize;
-        self.start = self.admit(count)?;
-        self.stop = self.start + count;
+        let from = self.start + self.position as usize;
+        if self.failed || count > self.stop - from {
+            return Err(self.refuse(count));
+        }
+        self.start = from;
+        self.stop = from + count;
         self.position = 0;
         Ok(())
     }
@@ -249,22 +251,15 @@ impl<'a> SliceWriter<'a> {
         }
     }
 
-    // Refuses so many octets where there is no room for them; answers where the next one goes.
+    // What so many octets are refused by; the writer has failed then.
     #[inline(always)]
-    fn admit(&mut self, count: usize) -> Result<usize, Error>
-        ensures kept { Keeps (slice_writer_state self.old) (slice_writer_state self.new) }
-        ensures ok { IfOk result (λ from. from ≡ self.old.start + self.old.position) }
-        ensures exact { Writes
-            (room_outcome count (slice_writer_state self.old) (slice_writer_state self.old))
-            (map_ok (λ _. tt) result) (slice_writer_state self.new) }
+    fn refuse(&mut self, count: usize) -> Error
+        ensures told { result ≡ room_error self.old.failed self.old.position count }
+        ensures failed { slice_writer_state self.new ≡ failed_state (slice_writer_state self.old) }
     {
-        let from = self.start + self.position as usize;
-        if self.failed || count > self.stop - from {
-            let error = refusal(self.failed, self.position, count);
-            self.failed = true;
-            return Err(error);
-        }
-        Ok(from)
+        let failed = self.failed;
+        self.failed = true;
+        refusal(failed, self.position, count)
     }
 }
 
@@ -278,7 +273,10 @@ impl<'a> Writer for SliceWriter<'a> {
 
     #[inline(always)]
     fn write(&mut self, octets: &[u8]) -> Result<(), Error> {
-        let from = self.admit(octets.len())?;
+        let from = self.start + self.position as usize;
+        if self.failed || octets.len() > self.stop - from {
+            return Err(self.refuse(octets.len()));
+        }
         self.bytes[from..from + octets.len()].copy_from_slice(octets);
         self.position += octets.len() as u32;
         Ok(())
