@@ -102,35 +102,49 @@ impl Tag {
     }
 
     /// The number.
+    #[inline(always)]
     pub const fn number(self) -> TagNumber
         ensures { result.0 ≡ (label self).number }
     {
         match self {
-            Tag::Boolean => TagNumber(1),
-            Tag::Integer => TagNumber(2),
-            Tag::BitString => TagNumber(3),
-            Tag::OctetString => TagNumber(4),
-            Tag::Null => TagNumber(5),
-            Tag::ObjectIdentifier => TagNumber(6),
-            Tag::Real => TagNumber(9),
-            Tag::Enumerated => TagNumber(10),
-            Tag::Utf8String => TagNumber(12),
-            Tag::RelativeOid => TagNumber(13),
-            Tag::Sequence => TagNumber(16),
-            Tag::Set => TagNumber(17),
-            Tag::NumericString => TagNumber(18),
-            Tag::PrintableString => TagNumber(19),
-            Tag::TeletexString => TagNumber(20),
-            Tag::VideotexString => TagNumber(21),
-            Tag::Ia5String => TagNumber(22),
-            Tag::UtcTime => TagNumber(23),
-            Tag::GeneralizedTime => TagNumber(24),
-            Tag::VisibleString => TagNumber(26),
-            Tag::GeneralString => TagNumber(27),
-            Tag::BmpString => TagNumber(30),
             Tag::Application { number, .. }
             | Tag::ContextSpecific { number, .. }
             | Tag::Private { number, .. } => number,
+            _ => TagNumber(self.universal_number()),
+        }
+    }
+
+    // The number of a universal tag. It stands apart from the numbers that tags hold, so that all its
+    // answers are constants, which a table holds: one match for all tags would jump.
+    #[inline(always)]
+    const fn universal_number(self) -> u32
+        requires { (label self).class ≡ 0 }
+        ensures { result ≡ (label self).number }
+    {
+        match self {
+            Tag::Boolean => 1,
+            Tag::Integer => 2,
+            Tag::BitString => 3,
+            Tag::OctetString => 4,
+            Tag::Null => 5,
+            Tag::ObjectIdentifier => 6,
+            Tag::Real => 9,
+            Tag::Enumerated => 10,
+            Tag::Utf8String => 12,
+            Tag::RelativeOid => 13,
+            Tag::Sequence => 16,
+            Tag::Set => 17,
+            Tag::NumericString => 18,
+            Tag::PrintableString => 19,
+            Tag::TeletexString => 20,
+            Tag::VideotexString => 21,
+            Tag::Ia5String => 22,
+            Tag::UtcTime => 23,
+            Tag::GeneralizedTime => 24,
+            Tag::VisibleString => 26,
+            Tag::GeneralString => 27,
+            // BMPString
+            _ => 30,
         }
     }
 

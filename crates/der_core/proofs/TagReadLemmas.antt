@@ -1,5 +1,5 @@
 -- Tags, octet by octet.
-use Rattle.std.proofs.Common.{◌≡◌, ◌≢◌, ℕ, ◌+◌, ◌*◌, ◌/◌, ◌%◌, ◌^◌, bit_and, ◌<◌, ◌≤◌, ◌⊎◌, inl, inr, Bool, true, false, IsTrue, ◌↔◌, Result, Ok, Err, IfOk, IfErr, Option, Some, None, nat_lt, List, [], ◌∷◌, ◌++◌, length, refl, sym, ap, ◌∙◌, subst, ⊎_elim, append-nil, length-append, arith}
+use Rattle.std.proofs.Common.{◌≡◌, ◌≢◌, ℕ, ◌+◌, ◌*◌, ◌/◌, ◌%◌, ◌^◌, bit_and, ◌<◌, ◌≤◌, ◌⊎◌, inl, inr, Bool, true, false, IsTrue, ◌↔◌, Result, Ok, Err, IfOk, Option, Some, None, nat_lt, List, [], ◌∷◌, ◌++◌, length, refl, sym, ap, ◌∙◌, subst, ⊎_elim, append-nil, length-append, arith}
 use Rattle.std.specs.Int.Bits.{and_zero_r}
 use Rattle.std.proofs.lemmas.Nat.{and_mask, and_block, shr_split}
 use Rattle.der_base.specs.Length.{digits}
@@ -14,12 +14,11 @@ use Rattle.der_base.specs.declared.encoding_rules.EncodingRules.{EncodingRules}
 use Rattle.der_base.specs.declared.encoding_rules.EncodingRules.TheVariants.{Ber, Der}
 use Rattle.der_base.proofs.LongNumberLemmas.{SoFar, so_far_none as none_so_far, so_far_more, number_found as found, number_cut, number_refused_first, number_refused_few, number_refused_many}
 use Rattle.der_base.proofs.IdentifierLemmas.{identifier_at, segments_identifier, universal_identifier, short_identifier, long_identifier, fault_nothing, fault_universal}
-use Rattle.der_base.proofs.TagLemmas.{universal_constructed}
-use Rattle.der_core.specs.ReaderState.{ReaderState, rest, reader_position, stopped_state, Same, Reads}
-use Rattle.der_core.specs.Decode.{Passes, Decodes, IsRefusedBy, at_fault, has_failed}
+use Rattle.der_base.proofs.TagLemmas.{universal_constructed, universal_class, universal_octets, universal_found}
+use Rattle.der_core.specs.ReaderState.{ReaderState, rest, reader_position, stopped_state, Reads}
+use Rattle.der_core.specs.Decode.{Passes, IsRefusedBy, at_fault, has_failed}
 use Rattle.der_core.specs.AfterFirstOctet.{IdentifierBehind, RefusesIdentifier, RefusesNumber, Stops, tag_or_segments, identifier_tag}
-use Rattle.der_core.proofs.DecodeLemmas.{decoded_ok, decoded_err}
-use Rattle.der_core.proofs.StateLemmas.{reads_none, reads_on, position_on, failed_on, rules_on, stops_on, same_trans, error_stops, ByteRefused, byte_failed, byte_cut}
+use Rattle.der_core.proofs.StateLemmas.{reads_none, reads_on, position_on, failed_on, rules_on, stops_on, error_stops, ByteRefused, byte_failed, byte_cut}
 
 pub bit_six : (o : ℕ) → bit_and o 32 ≡ o / 32 % 2 * 32
 bit_six o =
@@ -131,6 +130,20 @@ below o n low = (let yes : nat_lt o 64 ≡ true = grind arith in rw yes refl)
 behind_as : {o : ℕ} {s t : ReaderState} {x y : Tag} {b : Bool} → x ≡ y → IdentifierBehind o y b s t → IdentifierBehind o x b s t
 behind_as {o} {s} {t} {b = b} e h = subst (λ z. IdentifierBehind o z b s t) (sym e) h
 
+universal_low : (o : ℕ) (x : Tag) → universal_tag o ≡ Some x → o < 64
+universal_low o x e =
+    let row = universal_found x (universal_class o x e) in
+    let octets : o ∷ [] ≡ row.0 ∷ [] = sym (universal_octets o x e) ∙ row.1 in
+    let same : o ≡ row.0 = cc in
+    omega (arith, same, row.3)
+
+pub found_known : (s : ReaderState) (o n : ℕ) → universal_tag o ≢ None → IdentifierBehind o (identifier_tag o n) (is_constructed o) s s
+found_known s o n some = go (universal_tag o) refl
+  where
+    go : (known : Option Tag) → universal_tag o ≡ known → IdentifierBehind o (identifier_tag o n) (is_constructed o) s s
+    go (Some x) e = behind_as (below o n (universal_low o x e) ∙ ap tag_or_segments e) (found_universal s o (sym e) refl)
+    go None e = absurd (some e)
+
 pub found_low : (s : ReaderState) (o n : ℕ) → s.rules ≡ Ber → o < 64 → (o ≡ 36) ⊎ (universal_tag o ≢ None) → IdentifierBehind o (identifier_tag o n) (is_constructed o) s s
 found_low s o n ber low known = behind_as (below o n low) (go (universal_tag o) refl known)
   where
@@ -145,6 +158,13 @@ pub found_longer : (s t : ReaderState) (o : ℕ) (r : Result ℕ Error) → 64 �
     → IfOk r (λ n. IdentifierBehind o (identifier_tag o n) (is_constructed o) s t)
 found_longer s t o (Ok n) high octet all h = found_long o h.0 high octet all h.1 h.2 (above o n high) refl
 found_longer s t o (Err e) high octet all h = tt
+
+pub not_universal : (o : ℕ) {b : Bool} → IsTrue b ↔ (universal_tag o ≢ None) → b ≡ false → universal_tag o ≡ None
+not_universal o {b} h e = go (universal_tag o) refl
+  where
+    go : (known : Option Tag) → universal_tag o ≡ known → universal_tag o ≡ None
+    go None q = q
+    go (Some x) q = absurd (let no : false ≡ true = sym e ∙ h.1 (λ n. (let no : Some x ≡ None = sym q ∙ n in cc)) in cc)
 
 -- an octet begins no identifier
 pub refused_unknown : {s t : ReaderState} {o : ℕ} {e : Error} → o < 64 → universal_tag o ≡ None → (s.rules ≡ Der) ⊎ (o ≢ 36)
@@ -164,23 +184,23 @@ refused_low {s} {t} {o} {e} low unknown told leaves = refused_unknown low (none 
     none (Some x) e = absurd (unknown (inr (λ n. (let no : Some x ≡ None = sym e ∙ n in cc))))
 
 -- the refusals of a tag
-tag_ends : {a t : ReaderState} {e : Error} → ByteRefused a e t → IsRefusedBy IdentifierFault a e t
+pub tag_ends : {a t : ReaderState} {e : Error} → ByteRefused a e t → IsRefusedBy IdentifierFault a e t
 tag_ends (byte_failed f told leaves) = has_failed f told leaves
 tag_ends {a} (byte_cut working none stops) =
     at_fault (end_refusal a.position) working (subst (λ l. IdentifierFault a.rules a.position l (end_refusal a.position)) (sym none) (fault_nothing a.position)) stops.told stops.leaves
 
-behind_refused : {a b t : ReaderState} {o : ℕ} {e : Error} → a.failed ≡ false → Reads a b (o ∷ []) → RefusesIdentifier o b e t → IsRefusedBy IdentifierFault a e t
+pub behind_refused : {a b t : ReaderState} {o : ℕ} {e : Error} → a.failed ≡ false → Reads a b (o ∷ []) → RefusesIdentifier o b e t → IsRefusedBy IdentifierFault a e t
 behind_refused {a} {b} {t} {o} {e} working h n =
     let r = n a.position (position_on h) (failed_on h ∙ working) in
     let fault : IdentifierFault a.rules a.position (o ∷ rest b) r.0 = subst (λ rules. IdentifierFault rules a.position (o ∷ rest b) r.0) (rules_on h) r.1 in
     at_fault r.0 working (subst (λ l. IdentifierFault a.rules a.position l r.0) (sym h.split) fault) (stops_on h r.2).told (stops_on h r.2).leaves
 
--- so a tag is decoded
-pub tag_cut : {reliable : Bool} {a t : ReaderState} {e : Error} → Same a t → (reliable ≡ true → ByteRefused a e t) → Decodes IdentifierAhead IdentifierFault reliable a (Err e) t
-tag_cut same refused = decoded_err same (λ reliable. tag_ends (refused reliable))
+-- so an identifier is decoded
+pub tag_found : {a b t : ReaderState} {o : ℕ} {x : Tag} {bit : Bool} → a.failed ≡ false → Reads a b (o ∷ []) → IdentifierBehind o x bit b t → Passes (IdentifierAhead (x, bit)) a t
+tag_found {o = o} {x} {bit} working h found =
+    passed_tag working (reads_on h found.2) (subst (λ rules. IsIdentifier rules (o ∷ found.0) x bit) (rules_on h) found.1)
 
-pub tag_behind : {reliable : Bool} {a b t : ReaderState} {o : ℕ} (result : Result (Tag × Bool) Error) → a.failed ≡ false → Reads a b (o ∷ []) → Same a b → Same b t
-    → IfOk result (λ x. IdentifierBehind o x.0 x.1 b t) → (reliable ≡ true → IfErr result (λ e. RefusesIdentifier o b e t)) → Decodes IdentifierAhead IdentifierFault reliable a result t
-tag_behind {o = o} (Ok x) working h p q found refused =
-    decoded_ok (same_trans p q) (passed_tag working (reads_on h found.2) (subst (λ rules. IsIdentifier rules (o ∷ found.0) x.0 x.1) (rules_on h) found.1))
-tag_behind (Err e) working h p q found refused = decoded_err (same_trans p q) (λ reliable. behind_refused working h (refused reliable))
+-- and told as its tag and bit
+pub passes_as : {a t : ReaderState} {x y : Tag} {b d : Bool} → x ≡ y → b ≡ d → Passes (IdentifierAhead (y, d)) a t → Passes (IdentifierAhead (x, b)) a t
+passes_as {a} {t} {x} {y} {b} {d} p q h =
+    subst (λ z. Passes (IdentifierAhead (z, b)) a t) (sym p) (subst (λ z. Passes (IdentifierAhead (y, z)) a t) (sym q) h)

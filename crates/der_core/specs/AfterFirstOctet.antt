@@ -50,6 +50,11 @@ RefusesIdentifier first s e t =
     (at : ℕ) → s.position ≡ at + 1 → s.failed ≡ false
     → (r : Refusal) × IdentifierFault s.rules at (first ∷ rest s) r × Stops s r e t
 
+-- the tag of an identifier that is known by its first octet and number, if it is
+abbrev pub told_tag : Option (ℕ × ℕ) → Option Tag
+told_tag None = None
+told_tag (Some x) = Some (identifier_tag x.0 x.1)
+
 -- the kind that a length not spelled as it has to be is told as: with the tag that it stands
 -- behind, if it does
 abbrev pub wrong_length_kind : Option Tag → ErrorKind

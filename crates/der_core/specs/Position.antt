@@ -42,6 +42,11 @@ advance_outcome n s =
     else place_outcome (Ok (definite_length (s.position + n)))
     (place_at s.end (s.position + n) s.depth)
 
+-- the error of a part that ends behind the end
+abbrev pub part_error : ℕ → ℕ → Error
+part_error part_end end =
+    if not (nat_lt part_end (2 ^ 32)) then error_of_kind Overflow else (end_refusal end).error
+
 -- where a part of n octets ends
 abbrev pub part_end : ℕ → Place → Result ℕ Error
 part_end n s =

@@ -13,7 +13,7 @@ use crate::decode::Decode;
 use crate::encode::Encode;
 use crate::length::decode_length_behind;
 use crate::reader::{Reader, ReaderExt};
-use crate::tag::{decode_with_constructed_bit, first_octet_of};
+use crate::tag::{decode_identifier, first_octet_of, has_constructed_bit, tag_of};
 use crate::writer::Writer;
 use der_base::{Error, ErrorKind, Length, Tag};
 use std::alloc::Global;
@@ -97,13 +97,14 @@ pub fn decode_header<R: Reader>(reader: &mut R) -> Result<Header, Error>
     ensures { Decodes IsHeaderAhead (HeaderFault BodyFault) R.reliable (R.state reader.old) result
         (R.state reader.new) }
 {
-    let (tag, constructed) = decode_with_constructed_bit(reader)?;
-    let length = decode_length_behind(reader, Some(tag))?;
+    let (first, number) = decode_identifier(reader)?;
+    let length = decode_length_behind(reader, Some((first, number)))?;
+    let constructed = has_constructed_bit(first);
     if length.is_indefinite() && !constructed {
         return Err(reader.error(ErrorKind::IndefiniteLength));
     }
     Ok(Header {
-        tag,
+        tag: tag_of(first, number),
         length,
         constructed,
     })

@@ -4,7 +4,7 @@ ghost use Rattle.der_base.specs.Scan.{BodyFault};
 ghost use Rattle.der_base.specs.Length.{number, definite_length, length_octets};
 ghost use Rattle.der_base.specs.Header.{LengthAhead, LengthFault};
 ghost use Rattle.der_base.specs.declared.error.ErrorKind.TheVariants.{Overlength};
-ghost use Rattle.der_core.specs.AfterFirstOctet.{DefiniteBehind, IsIndefiniteForm, RefusesIndefinite, RefusesLongLength, wrong_length_kind};
+ghost use Rattle.der_core.specs.AfterFirstOctet.{DefiniteBehind, IsIndefiniteForm, RefusesIndefinite, RefusesLongLength, told_tag, wrong_length_kind};
 ghost use Rattle.der_core.specs.Decode.{Decodes, grammar_levels};
 ghost use Rattle.der_core.specs.Encode.{length_outcome};
 ghost use Rattle.der_core.specs.ReaderState.{Same};
@@ -17,8 +17,9 @@ use crate::decode::Decode;
 use crate::encode::Encode;
 use crate::length::indefinite::scan_uncounted;
 use crate::reader::{Reader, ReaderExt};
+use crate::tag::tag_of_identifier;
 use crate::writer::Writer;
-use der_base::{Error, ErrorKind, Length, Tag};
+use der_base::{Error, ErrorKind, Length};
 use std::alloc::Global;
 
 // the octet of the indefinite form
@@ -38,14 +39,15 @@ pub fn decode_length<R: Reader>(reader: &mut R) -> Result<Length, Error>
     decode_length_behind(reader, None)
 }
 
-// The same behind a tag, with which a length is told that is not spelled as it has to be.
+// The same behind an identifier of this first octet and number, with whose tag a length is told that
+// is not spelled as it has to be.
 #[inline(always)]
 pub(crate) fn decode_length_behind<R: Reader>(
     reader: &mut R,
-    tag: Option<Tag>,
+    identifier: Option<(u8, u32)>,
 ) -> Result<Length, Error>
-    ensures { Decodes LengthAhead (LengthFault BodyFault (wrong_length_kind tag)) R.reliable
-        (R.state reader.old) result (R.state reader.new) }
+    ensures { Decodes LengthAhead (LengthFault BodyFault (wrong_length_kind (told_tag identifier)))
+        R.reliable (R.state reader.old) result (R.state reader.new) }
 {
     let first = reader.read_byte()?;
     if first < INDEFINITE {
@@ -54,7 +56,7 @@ pub(crate) fn decode_length_behind<R: Reader>(
     if first == INDEFINITE {
         return decode_indefinite_form(reader);
     }
-    let number = decode_long_length(reader, first, tag)?;
+    let number = decode_long_length(reader, first, identifier)?;
     Ok(Length::new(number))
 }
 
@@ -70,7 +72,11 @@ fn decode_indefinite_form<R: Reader>(reader: &mut R) -> Result<Length, Error>
     if reader.encoding_rules().is_der() {
         return Err(reader.error(ErrorKind::IndefiniteLength));
     }
-    scan_uncounted(reader)
+    match scan_uncounted(reader) {
+        // flagged here, so that what is known of the flag is known of each way to a length
+        Ok(length) => Ok(Length::new_indefinite(u32::from(length))),
+        Err(error) => Err(error),
+    }
 }
 
 // The rest of a length behind a first octet from 81 on: so many octets in base 256, the fewest
@@ -79,18 +85,18 @@ fn decode_indefinite_form<R: Reader>(reader: &mut R) -> Result<Length, Error>
 pub(crate) fn decode_long_length<R: Reader>(
     reader: &mut R,
     first: u8,
-    tag: Option<Tag>,
+    identifier: Option<(u8, u32)>,
 ) -> Result<u32, Error>
     requires { 128 < first }
     ensures same { Same (R.state reader.old) (R.state reader.new) }
     ensures ok { IfOk result (λ n. DefiniteBehind first n (R.state reader.old)
         (R.state reader.new)) }
     ensures exact { R.reliable ≡ true
-        → IfErr result (λ e. RefusesLongLength (wrong_length_kind tag) first
+        → IfErr result (λ e. RefusesLongLength (wrong_length_kind (told_tag identifier)) first
         (R.state reader.old) e (R.state reader.new)) }
 {
     if first > 0x84 {
-        return Err(reader.error(wrong_length(tag)));
+        return Err(reader.error(wrong_length(identifier)));
     }
     let count = first - INDEFINITE;
     let mut number = 0u32;
@@ -99,18 +105,18 @@ pub(crate) fn decode_long_length<R: Reader>(
         number = number * 256 + octet as u32;
     }
     if number < least_of(count) {
-        return Err(reader.error(wrong_length(tag)));
+        return Err(reader.error(wrong_length(identifier)));
     }
     Ok(number)
 }
 
 // What is said of a length that is not spelled as it has to be.
 #[cold]
-fn wrong_length(tag: Option<Tag>) -> ErrorKind
-    ensures { result ≡ wrong_length_kind tag }
+fn wrong_length(identifier: Option<(u8, u32)>) -> ErrorKind
+    ensures { result ≡ wrong_length_kind (told_tag identifier) }
 {
-    match tag {
-        Some(tag) => tag.length_error(),
+    match identifier {
+        Some((first, number)) => tag_of_identifier(first, number).length_error(),
         None => ErrorKind::Overlength,
     }
 }

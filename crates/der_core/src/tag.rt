@@ -24,6 +24,7 @@ use std::alloc::Global;
 const SEGMENTS: u8 = 0x24;
 
 // The universal tag whose only octet this is (X.680 8.6).
+#[inline(always)]
 fn universal(octet: u8) -> Option<Tag>
     ensures { result ≡ universal_tag octet }
 {
@@ -54,13 +55,12 @@ fn universal(octet: u8) -> Option<Tag>
     }
 }
 
-// The same by a call of its own, which finds the tag in a table: in line it may become a jump for
-// each tag, which processors foresee badly where tags change.
-#[inline(never)]
-pub(crate) fn universal_by_table(octet: u8) -> Option<Tag>
-    ensures { result ≡ universal_tag octet }
+// Whether this octet is a universal tag: a test of bits, which finds no tag.
+#[inline(always)]
+fn is_universal(octet: u8) -> bool
+    ensures { IsTrue result ↔ (universal_tag octet ≢ None) }
 {
-    universal(octet)
+    universal(octet).is_some()
 }
 
 // Whether this octet below 40 is an identifier under the Basic Encoding Rules.
@@ -68,7 +68,7 @@ pub(crate) fn universal_by_table(octet: u8) -> Option<Tag>
 pub(crate) fn is_ber_identifier(octet: u8) -> bool
     ensures { IsTrue result ↔ ((octet ≡ 36) ⊎ (universal_tag octet ≢ None)) }
 {
-    octet == SEGMENTS || universal(octet).is_some()
+    octet == SEGMENTS || is_universal(octet)
 }
 
 // Bit 6 of an identifier's first octet (X.690 8.1.2.3).
@@ -81,6 +81,7 @@ pub(crate) fn has_constructed_bit(first: u8) -> bool
 }
 
 // The tag of another class with this first octet and number.
+#[inline(always)]
 fn other(first: u8, number: u32) -> Tag
     requires { 64 ≤ first }
     ensures { result ≡ other_tag first number }
@@ -106,9 +107,10 @@ fn other(first: u8, number: u32) -> Tag
 }
 
 // The tag of an identifier under the Basic Encoding Rules, by its first octet, and by its number
-// where that is 40 or more.
-#[cold]
-pub(crate) fn tag_of_identifier(first: u8, number: u32) -> Tag
+// where that is 40 or more. It is told once the octets behind are read: where ways meet at which a
+// reader stands in different places, a choice among tags would be a jump for each, not a table.
+#[inline(always)]
+pub(crate) fn tag_of(first: u8, number: u32) -> Tag
     ensures { result ≡ identifier_tag first number }
 {
     if first >= 0x40 {
@@ -120,46 +122,59 @@ pub(crate) fn tag_of_identifier(first: u8, number: u32) -> Tag
     }
 }
 
+// The same for a refusal, which is told by a call.
+#[cold]
+#[inline(never)]
+pub(crate) fn tag_of_identifier(first: u8, number: u32) -> Tag
+    ensures { result ≡ identifier_tag first number }
+{
+    tag_of(first, number)
+}
+
 // Decodes a tag (X.690 8.1.2), and tells the constructed bit of its identifier.
 #[inline(always)]
 pub(crate) fn decode_with_constructed_bit<R: Reader>(reader: &mut R) -> Result<(Tag, bool), Error>
     ensures { Decodes IdentifierAhead IdentifierFault R.reliable (R.state reader.old) result
         (R.state reader.new) }
 {
-    let first = reader.read_byte()?;
-    decode_identifier_behind(reader, first, universal(first))
+    let (first, number) = decode_identifier(reader)?;
+    Ok((tag_of(first, number), has_constructed_bit(first)))
 }
 
-// The same behind its first octet, which is this universal tag if it is any.
+// Decodes an identifier, and tells its first octet, and its number where that is 40 or more.
 #[inline(always)]
-pub(crate) fn decode_identifier_behind<R: Reader>(
-    reader: &mut R,
-    first: u8,
-    known: Option<Tag>,
-) -> Result<(Tag, bool), Error>
-    requires universal { known ≡ universal_tag first }
+pub(crate) fn decode_identifier<R: Reader>(reader: &mut R) -> Result<(u8, u32), Error>
+    ensures { Decodes (λ x. IdentifierAhead (identifier_tag x.0 x.1, is_constructed x.0))
+        IdentifierFault R.reliable (R.state reader.old) result (R.state reader.new) }
+{
+    let first = reader.read_byte()?;
+    let number = decode_number_behind(reader, first)?;
+    Ok((first, number))
+}
+
+// The rest of an identifier behind its first octet: the number of one from octet 40 on.
+#[inline(always)]
+pub(crate) fn decode_number_behind<R: Reader>(reader: &mut R, first: u8) -> Result<u32, Error>
     ensures same { Same (R.state reader.old) (R.state reader.new) }
-    ensures ok { IfOk result (λ x. IdentifierBehind first x.0 x.1 (R.state reader.old)
-        (R.state reader.new)) }
+    ensures ok { IfOk result (λ n. IdentifierBehind first (identifier_tag first n)
+        (is_constructed first) (R.state reader.old) (R.state reader.new)) }
     ensures exact { R.reliable ≡ true → IfErr result
         (λ e. RefusesIdentifier first (R.state reader.old) e (R.state reader.new)) }
 {
-    let constructed = has_constructed_bit(first);
-    if let Some(tag) = known {
-        return Ok((tag, constructed));
+    if is_universal(first) {
+        return Ok(0);
     }
     if first < 0x40 {
         if first == SEGMENTS && reader.encoding_rules().is_ber() {
-            return Ok((Tag::OctetString, true));
+            return Ok(0);
         }
         return Err(reader.error(unknown(first)));
     }
     let low = first % 32;
     if low < 31 {
-        return Ok((other(first, low as u32), constructed));
+        return Ok(low as u32);
     }
-    let number = decode_long_number(reader)?;
-    Ok((other(first, number), constructed))
+    decode_long_number(reader)
 }
 
 // What is said of a first octet below 40 that no universal tag has.

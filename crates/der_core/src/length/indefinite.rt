@@ -2,7 +2,7 @@
 ghost use Rattle.std.specs.Prelude.{◌≡◌, ◌≢◌, ◌≤◌, true, IfOk, IfErr};
 ghost use Rattle.der_base.specs.declared.encoding_rules.EncodingRules.TheVariants.{Ber};
 ghost use Rattle.der_base.specs.declared.error.ErrorKind.TheVariants.{Length as IncorrectLength};
-ghost use Rattle.der_core.specs.AfterFirstOctet.{DefiniteBehind, RefusesLongLength};
+ghost use Rattle.der_core.specs.AfterFirstOctet.{DefiniteBehind, RefusesLongLength, identifier_tag};
 ghost use Rattle.der_core.specs.ReaderState.{rest, Same};
 ghost use Rattle.der_core.specs.Scan.{Scans, ScansAhead, IsTurned};
 ghost use Rattle.der_core.specs.Turn.{PartRead, RefusesPart};
@@ -14,8 +14,8 @@ use crate::length::turns::Turns;
 use crate::length::{INDEFINITE, decode_long_length};
 use crate::reader::value::read_zero_octet;
 use crate::reader::{Octets, Reader, ReaderExt};
-use crate::tag::{decode_identifier_behind, universal_by_table};
-use der_base::{Error, ErrorKind, Length, Tag};
+use crate::tag::{decode_number_behind, has_constructed_bit};
+use der_base::{Error, ErrorKind, Length};
 use std::marker::Brand;
 use std::sync::ledger::{Blank, Ledger};
 
@@ -96,10 +96,10 @@ fn next_part<R: Reader>(reader: &mut R, level: u8) -> Result<Part, Error>
         read_zero_octet(reader)?;
         return Ok(Part::Ends);
     }
-    let (tag, constructed) = decode_identifier_behind(reader, first, universal_by_table(first))?;
+    let number = decode_number_behind(reader, first)?;
     let octet = reader.read_byte()?;
     if octet == INDEFINITE {
-        if !constructed {
+        if !has_constructed_bit(first) {
             return Err(reader.error(ErrorKind::IndefiniteLength));
         }
         if level == MAX_LEVEL {
@@ -107,25 +107,32 @@ fn next_part<R: Reader>(reader: &mut R, level: u8) -> Result<Part, Error>
         }
         return Ok(Part::Opens);
     }
-    let count = decode_definite(reader, octet, tag)?;
+    let count = decode_definite(reader, octet, first, number)?;
     reader.drain(Length::new(count))?;
     Ok(Part::Passes)
 }
 
-// A definite length behind its first octet.
-fn decode_definite<R: Reader>(reader: &mut R, first: u8, tag: Tag) -> Result<u32, Error>
+// A definite length behind its first octet, and behind the identifier of this first octet and
+// number.
+fn decode_definite<R: Reader>(
+    reader: &mut R,
+    first: u8,
+    leading: u8,
+    number: u32,
+) -> Result<u32, Error>
     requires { first ≢ 128 }
     ensures same { Same (R.state reader.old) (R.state reader.new) }
     ensures ok { IfOk result (λ n. DefiniteBehind first n (R.state reader.old)
         (R.state reader.new)) }
     ensures exact { R.reliable ≡ true
-        → IfErr result (λ e. RefusesLongLength (IncorrectLength tag) first
+        → IfErr result
+        (λ e. RefusesLongLength (IncorrectLength (identifier_tag leading number)) first
         (R.state reader.old) e (R.state reader.new)) }
 {
     if first < INDEFINITE {
         return Ok(first as u32);
     }
-    decode_long_length(reader, first, Some(tag))
+    decode_long_length(reader, first, Some((leading, number)))
 }
 
 // Scans the body ahead of a reader, which stays: by an index where it lends octets, else by a fork.

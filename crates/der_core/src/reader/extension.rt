@@ -85,7 +85,7 @@ pub trait ReaderExt: Reader {
     /// - The error that is given, with its position or none; the reader has not moved.
     /// - `TrailingData` at the position, where octets are left in the part; the reader has failed
     ///   then.
-    #[inline]
+    #[inline(always)]
     final fn close_nested<T: Drop, E: From<Error> + Drop>(
         &mut self,
         outer: Resumption,
@@ -98,9 +98,16 @@ pub trait ReaderExt: Reader {
         ensures exact { Closes E.from_gives answer (Self.state self.old) (outer_end outer)
             (outer_depth outer) result (Self.state self.new) }
     {
+        // an error is looked for first: what it holds is not to be moved where there is none
+        let value = match answer {
+            Ok(value) => value,
+            Err(error) => {
+                self.leave_nested(outer);
+                return Err(error);
+            }
+        };
         let left = self.remaining_len();
         self.leave_nested(outer);
-        let value = answer?;
         if !left.is_zero() {
             let kind = ErrorKind::TrailingData {
                 decoded: self.position(),
@@ -126,6 +133,7 @@ pub trait ReaderExt: Reader {
     /// - The error of `f`, handed on; the reader stands where `f` left it, with its own end and
     ///   depth.
     /// - `TrailingData` at the position, where `f` leaves octets; the reader has failed then.
+    #[inline(always)]
     final fn read_nested<T: Drop, E: From<Error> + Drop, F: FnOnce(&mut Self) -> Result<T, E>>(
         &mut self,
         len: Length,

@@ -40,7 +40,7 @@ impl Position {
     ghost use Rattle.der_base.specs.Error.{at};
     ghost use Rattle.der_base.specs.Length.{number, definite_length};
     ghost use Rattle.der_core.specs.Outcome.{map_ok};
-    ghost use Rattle.der_core.specs.Position.{position_place, place_at, Moves, advance_outcome, part_end, nested_place, split_nested_outcome};
+    ghost use Rattle.der_core.specs.Position.{position_place, place_at, Moves, advance_outcome, part_end, part_error, nested_place, split_nested_outcome};
     ghost use Rattle.der_core.specs.Resumption.{outer_place, outer_end, outer_depth};
 
     /// The beginning of an input of this length.
@@ -112,6 +112,7 @@ impl Position {
     }
 
     // The error where so many octets are not there.
+    #[inline(always)]
     pub(super) fn missing(&self, count: u32) -> Error
         ensures { result ≡ (missing_refusal (self.now.position + count) self.now.end
             self.now.position).error }
@@ -143,20 +144,33 @@ impl Position {
     }
 
     // Where a part of so many octets ends.
+    #[inline(always)]
     pub(super) fn part_end(&self, count: u32) -> Result<u32, Error>
         ensures { result ≡ part_end count (position_place self.now) }
     {
         let end = self.position + count as usize;
-        if end > u32::MAX as usize {
-            return Err(ErrorKind::Overflow.to_error());
-        }
         if end > self.end as usize {
-            return Err(Error::incomplete(self.input_len()));
+            return Err(Self::part_too_long(end, self.end));
         }
         Ok(end as u32)
     }
 
+    // The error of a part that ends there, behind the end.
+    #[cold]
+    #[inline(never)]
+    fn part_too_long(part_end: usize, end: u32) -> Error
+        requires { end < part_end }
+        ensures { result ≡ part_error part_end end }
+    {
+        if part_end > u32::MAX as usize {
+            ErrorKind::Overflow.to_error()
+        } else {
+            Error::incomplete(Length::new(end))
+        }
+    }
+
     // Inside a part that ends there; gives what to go back to.
+    #[inline(always)]
     pub(super) fn enter(&mut self, end: u32) -> Resumption
         requires { self.old.depth < 64 }
         ensures outer { outer_place result ≡ (self.old.end, self.old.depth) }

@@ -77,7 +77,7 @@ impl<'a> SliceReader<'a> {
     }
 
     // the error of a reader that has failed
-    #[cold]
+    #[inline(always)]
     fn has_failed(&self) -> Error
         ensures { result ≡ at Failed (reader_position (slice_state self.now)) }
     {
@@ -85,7 +85,7 @@ impl<'a> SliceReader<'a> {
     }
 
     // so many octets are not there
-    #[cold]
+    #[inline(always)]
     fn incomplete(&mut self, count: u32) -> Error
         ensures told { result ≡ (missing_refusal (self.old.place.position + count)
             self.old.place.end self.old.place.position).error }
@@ -120,23 +120,27 @@ impl<'a> Reader for SliceReader<'a> {
         Self::CAN_READ_SLICE
     }
 
+    #[inline(always)]
     fn encoding_rules(&self) -> EncodingRules {
         self.encoding_rules
     }
 
+    #[inline(always)]
     fn input_len(&self) -> Length {
         self.place.input_len()
     }
 
+    #[inline(always)]
     fn position(&self) -> Length {
         self.place.current()
     }
 
+    #[inline(always)]
     fn is_failed(&self) -> bool {
         self.failed
     }
 
-    #[inline]
+    #[inline(always)]
     fn read_slice(&mut self, len: Length) -> Result<&'a [u8], Error> {
         if self.failed {
             return Err(self.has_failed());
@@ -152,7 +156,7 @@ impl<'a> Reader for SliceReader<'a> {
         Ok(&self.bytes[start..behind])
     }
 
-    #[inline]
+    #[inline(always)]
     fn read_into(&mut self, buf: &mut [u8]) -> Result<(), Error> {
         if buf.len() > u32::MAX as usize {
             return Err(ErrorKind::Overflow.to_error());
@@ -162,11 +166,13 @@ impl<'a> Reader for SliceReader<'a> {
         Ok(())
     }
 
+    #[inline(always)]
     fn error(&mut self, kind: ErrorKind) -> Error {
         self.failed = true;
         self.place.error(kind)
     }
 
+    #[inline(always)]
     fn remaining(&self) -> Result<&'a [u8], Error> {
         if self.failed {
             return Err(self.has_failed());
@@ -231,7 +237,7 @@ impl<'a> Reader for SliceReader<'a> {
         Ok(())
     }
 
-    #[inline]
+    #[inline(always)]
     fn enter_nested(&mut self, len: Length) -> Result<Resumption, Error> {
         match self.place.part_end(u32::from(len)) {
             Err(error) => Err(error),
@@ -240,7 +246,7 @@ impl<'a> Reader for SliceReader<'a> {
         }
     }
 
-    #[inline]
+    #[inline(always)]
     fn leave_nested(&mut self, resumption: Resumption) {
         self.place.resume_nested(resumption);
     }

@@ -24,6 +24,7 @@ use der_base::{Error, ErrorKind, Length};
 ///   stands there and has not failed.
 /// - `Incomplete` at the end, where an octet is missing at any other position; the reader stands
 ///   there and has failed.
+#[inline(always)]
 pub fn read_eoc<R: Reader>(reader: &mut R) -> Result<(), Error>
     ensures same { Same (R.state reader.old) (R.state reader.new) }
     ensures exact { Meets R.reliable read_eoc_outcome (R.state reader.old) result
@@ -34,6 +35,7 @@ pub fn read_eoc<R: Reader>(reader: &mut R) -> Result<(), Error>
 }
 
 // One octet of an end mark.
+#[inline(always)]
 pub(crate) fn read_zero_octet<R: Reader>(reader: &mut R) -> Result<(), Error>
     ensures same { Same (R.state reader.old) (R.state reader.new) }
     ensures exact { Meets R.reliable read_zero_octet_outcome (R.state reader.old) result
@@ -60,7 +62,7 @@ pub(crate) fn read_zero_octet<R: Reader>(reader: &mut R) -> Result<(), Error>
 /// - `TrailingData` at the position, where octets are left in the contents; the reader has failed
 ///   then.
 /// - `Failed`, `IndefiniteLength`, `Incomplete` and `Overflow` of the end mark, as by [`read_eoc`].
-#[inline]
+#[inline(always)]
 pub fn close_value<R: Reader, T: Drop, E: From<Error> + Drop>(
     reader: &mut R,
     length: Length,
@@ -98,7 +100,7 @@ pub fn close_value<R: Reader, T: Drop, E: From<Error> + Drop>(
 /// - The error of `f`, handed on; the reader stands where `f` left it, with its own end and depth.
 /// - `TrailingData` at the position, where `f` leaves octets; the reader has failed then.
 /// - `Failed`, `IndefiniteLength`, `Incomplete` and `Overflow` of the end mark, as by [`read_eoc`].
-#[inline]
+#[inline(always)]
 pub fn read_value<
     R: Reader,
     T: Drop,
@@ -123,6 +125,7 @@ pub fn read_value<
 }
 
 // The same for a closure that wants no header: the contents of so many octets.
+#[inline(always)]
 pub(crate) fn read_contents<
     R: Reader,
     T: Drop,

@@ -1,4 +1,4 @@
-use Rattle.std.proofs.Common.{sym, ◌∙◌}
+use Rattle.std.proofs.Common.{Err, sym, ◌∙◌}
 use Rattle.der_core.proofs.LengthReadLemmas.{not_der, refused_under_der, scanned}
 use Rattle.der_core.proofs.length.decode_indefinite_form.Goals as goal
 
@@ -6,8 +6,5 @@ pub returns-then-is_der-clause-exact : goal.returns-then-is_der-clause-exact
 returns-then-is_der-clause-exact g c reliable =
     refused_under_der (sym c.encoding_rules.ensures ∙ c.is_der.ensures.0 c.if-is_der.true) c.error.ensures.at_position c.error.ensures.failed
 
-pub returns-clause-ok : goal.returns-clause-ok
-returns-clause-ok g c = (scanned c.scan_uncounted.result _ _ (sym c.encoding_rules.ensures ∙ not_der c.is_der.ensures c.if-is_der.false) c.scan_uncounted.ensures).0
-
-pub returns-clause-exact : goal.returns-clause-exact
-returns-clause-exact g c = (scanned c.scan_uncounted.result _ _ (sym c.encoding_rules.ensures ∙ not_der c.is_der.ensures c.if-is_der.false) c.scan_uncounted.ensures).1
+pub returns-in-Err-clause-exact : goal.returns-in-Err-clause-exact
+returns-in-Err-clause-exact g c = (scanned (Err c.in-Err.error) _ _ (sym c.encoding_rules.ensures ∙ not_der c.is_der.ensures c.if-is_der.false) c.in-Err.ensures).1

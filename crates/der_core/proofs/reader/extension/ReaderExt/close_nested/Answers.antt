@@ -1,21 +1,18 @@
 use Rattle.std.proofs.Common.{refl}
-use Rattle.std.proofs.lemmas.Result.{err_from_is_err_and}
 use Rattle.der_core.specs.Nested.{handed_on}
 use Rattle.der_core.proofs.NestedLemmas.{close_left_over, close_whole}
 use Rattle.der_core.proofs.reader.extension.ReaderExt.close_nested.Goals as goal
 
-pub returns-in_err-value-clause-exact : goal.returns-in_err-value-clause-exact
-returns-in_err-value-clause-exact g c =
-    let p = err_from_is_err_and c.from_residual.result c.from_residual.ensures.1 in
-    rw (p.1, p.2) (handed_on _ c.in_err-value.was refl c.leave_nested.ensures)
+pub returns-in-Err-clause-exact : goal.returns-in-Err-clause-exact
+returns-in-Err-clause-exact g c = handed_on _ c.in-Err.is refl c.leave_nested.ensures
 
 pub returns-then-not-is_zero-clause-exact : goal.returns-then-not-is_zero-clause-exact
 returns-then-not-is_zero-clause-exact g c =
-    close_left_over (g.Self.Reader.state c.args.self.now) (g.Self.Reader.state c.leave_nested.new.self) c.is_zero.result c.remaining_len-left.result c.in_ok-value.value _ _ _ _ c.in_ok-value.was
-    c.leave_nested.ensures c.remaining_len-left.ensures c.is_zero.ensures.1 c.if-not-is_zero.true c.position.ensures c.error.ensures.at_position c.error.ensures.failed c.from.ensures refl
+    close_left_over (g.Self.Reader.state c.args.self.now) (g.Self.Reader.state c.leave_nested-2.new.self) c.is_zero.result c.remaining_len-left.result c.in-Ok.value _ _ _ _ c.in-Ok.is
+    c.leave_nested-2.ensures c.remaining_len-left.ensures c.is_zero.ensures.1 c.if-not-is_zero.true c.position.ensures c.error.ensures.at_position c.error.ensures.failed c.from.ensures refl
 
 pub returns-clause-exact : goal.returns-clause-exact
 returns-clause-exact g c =
     let law = g.met.Self.Reader.lawful c.args.self.now in
-    close_whole (g.Self.Reader.state c.args.self.now) (g.Self.Reader.state c.leave_nested.new.self) c.is_zero.result c.remaining_len-left.result c.in_ok-value.value law.ordered c.in_ok-value.was
-    c.leave_nested.ensures c.remaining_len-left.ensures c.is_zero.ensures.0 c.if-not-is_zero.false refl
+    close_whole (g.Self.Reader.state c.args.self.now) (g.Self.Reader.state c.leave_nested-2.new.self) c.is_zero.result c.remaining_len-left.result c.in-Ok.value law.ordered c.in-Ok.is
+    c.leave_nested-2.ensures c.remaining_len-left.ensures c.is_zero.ensures.0 c.if-not-is_zero.false refl
