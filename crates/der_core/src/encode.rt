@@ -152,7 +152,10 @@ impl<T: EncodeValue + Tagged> Encode for T {
 
     #[inline(always)]
     fn encode<W: Writer>(&self, writer: &mut W) -> Result<(), Error> {
-        encode_tlv(self, writer)
+        if let Err(error) = encode_tlv(self, writer) {
+            return Err(error);
+        }
+        Ok(())
     }
 }
 
@@ -193,6 +196,7 @@ pub fn encode_tlv<T: EncodeValue + Tagged, W: Writer>(
         (T.value_answers value.now) (W.state writer.old) result (W.state writer.new) }
 {
     let header = value.header()?;
+    // an answer is matched where it is made: `?` and a last call would move all of its octets first
     if let Err(error) = header.encode(writer) {
         return Err(error);
     }
