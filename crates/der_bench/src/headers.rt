@@ -28,7 +28,7 @@ pub extern "C" fn der_bench_put_headers(wanted: &[Wanted], out: &mut [u8]) -> To
         }
         totals.pass(0, 0);
     }
-    totals.written(writer)
+    totals.written(writer.finish())
 }
 
 /// The same of four headers for each length, whose tags are known beforehand: SEQUENCE, INTEGER,
@@ -51,7 +51,7 @@ pub extern "C" fn der_bench_put_known(lengths: &[u32], out: &mut [u8]) -> Totals
         }
         totals.pass(0, 0);
     }
-    totals.written(writer)
+    totals.written(writer.finish())
 }
 
 #[inline(always)]

@@ -13,7 +13,7 @@ mod strings;
 mod tags;
 mod writing;
 
-use der::{EncodingRules, Reader, ReaderExt, SliceReader, SliceWriter, decode_header};
+use der::{EncodingRules, Error, Reader, ReaderExt, SliceReader, decode_header};
 
 /// What a walk has passed.
 #[repr(C)]
@@ -43,10 +43,10 @@ impl Totals {
         self.first_octets = self.first_octets.wrapping_add(first);
     }
 
-    // Has as contents the octets that the writer has written.
+    // Has as contents the octets that were written.
     #[inline(always)]
-    fn written(mut self, writer: SliceWriter<'_>) -> Totals {
-        if let Ok(octets) = writer.finish() {
+    fn written(mut self, answer: Result<&[u8], Error>) -> Totals {
+        if let Ok(octets) = answer {
             self.contents = octets.len() as u64;
         }
         self

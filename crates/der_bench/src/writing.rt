@@ -66,7 +66,7 @@ pub extern "C" fn der_bench_put_elements(numbers: &[u64], out: &mut [u8]) -> Tot
         }
         totals.pass(0, 0);
     }
-    totals.written(writer)
+    totals.written(writer.finish())
 }
 
 /// Writes each element into octets of its own. The sum of first octets is that of their last ones.
@@ -78,9 +78,15 @@ pub extern "C" fn der_bench_to_slice(numbers: &[u64]) -> Totals {
         let Ok(octets) = Eight::new(*number).encode_to_slice(&mut buf) else {
             return totals;
         };
-        totals.pass(octets.len(), octets.last().copied().unwrap_or(0) as u64);
+        totals.pass(octets.len(), last_of(octets) as u64);
     }
     totals
+}
+
+// The last octet, or zero. By a call, for which all octets have to be written, and not this one alone.
+#[inline(never)]
+fn last_of(octets: &[u8]) -> u8 {
+    octets.last().copied().unwrap_or(0)
 }
 
 /// The same into a vector of its own.
@@ -91,8 +97,7 @@ pub extern "C" fn der_bench_to_der(alloc: Global, numbers: &[u64]) -> Totals {
         let Ok(octets) = Eight::new(*number).to_der(alloc) else {
             return totals;
         };
-        let octets = octets.as_slice();
-        totals.pass(octets.len(), octets.last().copied().unwrap_or(0) as u64);
+        totals.pass(octets.len(), last_of(octets.as_slice()) as u64);
     }
     totals
 }
@@ -127,7 +132,7 @@ pub extern "C" fn der_bench_put_sequences(numbers: &[u64], out: &mut [u8]) -> To
         }
         totals.pass(0, 0);
     }
-    totals.written(writer)
+    totals.written(writer.finish())
 }
 
 /// The same with a closure that is called.
@@ -143,7 +148,7 @@ pub extern "C" fn der_bench_call_sequences(numbers: &[u64], out: &mut [u8]) -> T
         }
         totals.pass(0, 0);
     }
-    totals.written(writer)
+    totals.written(writer.finish())
 }
 
 #[inline(always)]
