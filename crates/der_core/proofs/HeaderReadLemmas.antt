@@ -1,8 +1,8 @@
 -- Headers, by their tag and their length.
-use Rattle.std.proofs.Common.{◌≡◌, ℕ, ◌+◌, ◌⊎◌, Bool, true, false, List, ◌++◌, length, sym, ap, ◌∙◌, subst, inl, inr, length-append, arith}
+use Rattle.std.proofs.Common.{◌≡◌, ℕ, ◌+◌, ◌%◌, ◌≤◌, ◌⊎◌, Bool, true, false, Option, Some, Ok, Err, List, [], ◌∷◌, ◌++◌, length, take, refl, sym, ap, ◌∙◌, subst, inl, inr, length-append, arith}
 use Rattle.der_base.specs.Error.{at as error_at, refusal}
 use Rattle.der_base.specs.Length.{definite_length, is_indefinite}
-use Rattle.der_base.specs.Tag.{IsIdentifier, IdentifierFault}
+use Rattle.der_base.specs.Tag.{IsIdentifier, IdentifierFault, is_constructed}
 use Rattle.der_base.specs.Scan.{BodyFault}
 use Rattle.der_base.specs.Header.{Head, head, IdentifierAhead, LengthAhead, HeaderAhead, header, LengthFault, HeaderFault, no_identifier, no_length, primitive}
 use Rattle.der_base.specs.Laws.{IsGrammar}
@@ -13,12 +13,16 @@ use Rattle.der_base.specs.declared.error.ErrorKind.{ErrorKind}
 use Rattle.der_base.specs.declared.error.ErrorKind.TheVariants.{IndefiniteLength, Length as IncorrectLength}
 use Rattle.der_base.proofs.HeaderLemmas.{IdentifierView, identifier_view_of, identifier_view, header_grammar}
 use Rattle.der_base.proofs.ScanLemmas.{body_fault_laws}
-use Rattle.der_core.specs.ReaderState.{ReaderState, rest, reader_position, advanced_state, stopped_state, Reads}
-use Rattle.der_core.specs.AfterFirstOctet.{Stops}
+use Rattle.der_core.specs.ReaderState.{ReaderState, rest, reader_position, advanced_state, stopped_state, IsSound, Reads}
+use Rattle.der_core.specs.AfterFirstOctet.{Stops, AreAhead, ToldHeaderAhead, identifier_tag}
+use Rattle.der_core.specs.Outcome.{Outcome, Gives, outcome_of}
+use Rattle.der_core.specs.Reader.{read_slice_outcome}
 use Rattle.der_core.specs.Decode.{Passes, IsRefusedBy, at_fault, has_failed}
 use Rattle.der_core.specs.Header.{head_of, IsHeaderAhead}
 use Rattle.der_core.specs.declared.header.Header.{Header}
-use Rattle.der_core.proofs.StateLemmas.{reads_front, position_on, failed_on, rules_on, stops_on}
+use Rattle.der_core.proofs.StateLemmas.{reads_front, rest_after, length-rest, position_on, failed_on, rules_on, stops_on}
+use Rattle.der_core.proofs.TagReadLemmas.{found_alone, tag_found}
+use Rattle.der_core.proofs.LengthReadLemmas.{passed_short}
 
 -- the identifier of a tag that was read
 pub record IdentifierRead (a b : ReaderState) (x : Tag × Bool) : Type 0 where
@@ -75,6 +79,44 @@ header_length_refused {a} {b} {t} {x} {e = e} {wrong} h same (at_fault r w fault
 pub bit_of_flag : {b c d : Bool} → b ≡ c → ((b ≡ true) × (d ≡ true)) ⊎ (b ≡ false) → c ≡ true → d ≡ true
 bit_of_flag e (inl h) f = h.1
 bit_of_flag e (inr h) f = absurd (let no : false ≡ true = sym h ∙ e ∙ f in cc)
+
+-- a header of two octets is there, and was read at once
+slice_fits : (s : ReaderState) (n : ℕ) → s.failed ≡ false → s.position + n ≤ s.end → read_slice_outcome n s ≡ outcome_of (Ok (take n (rest s))) (advanced_state s n)
+slice_fits s n working fits = grind arith
+
+fits_two : {s : ReaderState} {o p : ℕ} {more : List ℕ} → IsSound s → rest s ≡ o ∷ p ∷ more → s.position + 2 ≤ s.end
+fits_two {s} sound split = omega (arith, length-rest s sound, ap length split, sound.ordered)
+
+pub short_passed : {s t : ReaderState} {x : Option (ℕ × ℕ)} {o p n : ℕ} {l : List ℕ} {count : Length} → IsSound s → AreAhead s x → x ≡ Some (o, p) → n ≡ 2 → count ≡ definite_length p
+    → Gives (read_slice_outcome n) s (Ok l) t → Passes (ToldHeaderAhead (o, o % 32, count)) s t
+short_passed {s} {t} {x} {o} {p} {count = count} sound there is two counted h =
+    let a : AreAhead s (Some (o, p)) = subst (AreAhead s) is there in
+    let more = a.3.0 in
+    let split : rest s ≡ o ∷ p ∷ more = a.3.1 in
+    let b = advanced_state s 1 in
+    let first : Reads s b (o ∷ []) = reads_front s (o ∷ []) (p ∷ more) split in
+    let second : Reads b (advanced_state b 1) (p ∷ []) = reads_front b (p ∷ []) more (rest_after s (o ∷ []) (p ∷ more) split) in
+    let found = found_alone b o a.1 in
+    let tag = tag_found a.0 first found in
+    let length_read = passed_short {l = definite_length p} a.0 second a.2 refl in
+    let sum : s.position + 1 + 1 ≡ s.position + 2 = omega arith in
+    let after : t ≡ advanced_state b 1 = h.leaves ∙ ap (λ n. (read_slice_outcome n s).after) two ∙ ap (λ (q : Outcome (List ℕ)). q.after) (slice_fits s 2 a.0 (fits_two sound split)) ∙ ap (λ n. record s { position = n }) (sym sum) in
+    subst (λ c. Passes (ToldHeaderAhead (o, o % 32, c)) s t) (sym counted)
+    (subst (Passes (ToldHeaderAhead (o, o % 32, definite_length p)) s) (sym after) (passed_header tag length_read (λ flagged. absurd (let no : false ≡ true = flagged in cc))))
+
+pub short_granted : {s t : ReaderState} {x : Option (ℕ × ℕ)} {o p n : ℕ} {e : Error} → IsSound s → AreAhead s x → x ≡ Some (o, p) → n ≡ 2 → Gives (read_slice_outcome n) s (Err e) t → ⊥
+short_granted {s} {x = x} {o} {p} {e = e} sound there is two h =
+    let a : AreAhead s (Some (o, p)) = subst (AreAhead s) is there in
+    let fits = fits_two sound a.3.1 in
+    let no : Err e ≡ Ok (take 2 (rest s)) = h.answered ∙ ap (λ n. (read_slice_outcome n s).answer) two ∙ ap (λ (q : Outcome (List ℕ)). q.answer) (slice_fits s 2 a.0 fits) in
+    cc
+
+-- a header whose identifier was told
+pub told_passed : {s t : ReaderState} {l : Length} {x : Tag} {bit : Bool} (o n : ℕ) → x ≡ identifier_tag o n → bit ≡ is_constructed o
+    → Passes (ToldHeaderAhead (o, n, l)) s t → Passes (IsHeaderAhead (record { tag = x; length = l; constructed = bit })) s t
+told_passed {s} {t} {l} {x} {bit} o n tag constructed h =
+    subst (λ y. Passes (IsHeaderAhead (record { tag = y; length = l; constructed = bit })) s t) (sym tag)
+    (subst (λ b. Passes (HeaderAhead (head (identifier_tag o n) l b)) s t) (sym constructed) h)
 
 -- an indefinite length behind a primitive identifier
 pub header_primitive : {a b c t : ReaderState} {x : Tag} {bit : Bool} {l : Length} {e : Error} → Passes (IdentifierAhead (x, bit)) a b → bit ≡ false

@@ -17,7 +17,7 @@ use Rattle.der_base.proofs.IdentifierLemmas.{identifier_at, segments_identifier,
 use Rattle.der_base.proofs.TagLemmas.{universal_constructed, universal_class, universal_octets, universal_found}
 use Rattle.der_core.specs.ReaderState.{ReaderState, rest, reader_position, stopped_state, Reads}
 use Rattle.der_core.specs.Decode.{Passes, IsRefusedBy, at_fault, has_failed}
-use Rattle.der_core.specs.AfterFirstOctet.{IdentifierBehind, RefusesIdentifier, RefusesNumber, Stops, tag_or_segments, identifier_tag}
+use Rattle.der_core.specs.AfterFirstOctet.{IdentifierBehind, IsAlone, RefusesIdentifier, RefusesNumber, Stops, tag_or_segments, identifier_tag}
 use Rattle.der_core.proofs.StateLemmas.{reads_none, reads_on, position_on, failed_on, rules_on, stops_on, error_stops, ByteRefused, byte_failed, byte_cut}
 
 pub bit_six : (o : ℕ) → bit_and o 32 ≡ o / 32 % 2 * 32
@@ -153,6 +153,10 @@ found_low s o n ber low known = behind_as (below o n low) (go (universal_tag o) 
 
 pub found_high : (s : ReaderState) (o : ℕ) → 64 ≤ o → o < 256 → o % 32 < 31 → IdentifierBehind o (identifier_tag o (o % 32)) (is_constructed o) s s
 found_high s o high octet few = found_short s o high octet few (above o (o % 32) high) refl
+
+pub found_alone : (s : ReaderState) (o : ℕ) → IsAlone o → IdentifierBehind o (identifier_tag o (o % 32)) (is_constructed o) s s
+found_alone s o (inl known) = found_known s o (o % 32) known
+found_alone s o (inr high) = found_high s o high.0 high.1 high.2
 
 pub found_longer : (s t : ReaderState) (o : ℕ) (r : Result ℕ Error) → 64 ≤ o → o < 256 → o % 32 ≡ 31 → IfOk r (λ n. Reads s t (continuation_octets (digits 128 n)) × (31 ≤ n) × (n < 2 ^ 32))
     → IfOk r (λ n. IdentifierBehind o (identifier_tag o n) (is_constructed o) s t)

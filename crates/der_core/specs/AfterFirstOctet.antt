@@ -1,13 +1,14 @@
 -- What is read and refused behind a first octet, which stood at a position and was read.
-use Rattle.std.specs.Prelude.{◌≡◌, ℕ, ◌+◌, ◌%◌, ◌^◌, ◌<◌, ◌≤◌, Bool, false, Option, Some, None, List, ◌∷◌, nat_lt, if◌then◌else◌}
+use Rattle.std.specs.Prelude.{◌≡◌, ◌≢◌, ◌⊎◌, ℕ, ◌+◌, ◌%◌, ◌^◌, ◌<◌, ◌≤◌, Bool, false, Option, Some, None, List, ◌∷◌, nat_lt, if◌then◌else◌}
 use Rattle.der_base.specs.Error.{Refusal}
-use Rattle.der_base.specs.Tag.{IsIdentifier, IdentifierFault, universal_tag, other_tag}
+use Rattle.der_base.specs.Tag.{IsIdentifier, IdentifierFault, universal_tag, other_tag, is_constructed}
 use Rattle.der_base.specs.Length.{length_octets}
 use Rattle.der_base.specs.Scan.{NoBodyFault, BodyAhead, BodyFault}
-use Rattle.der_base.specs.Header.{LengthFault}
+use Rattle.der_base.specs.Header.{LengthFault, HeaderAhead, head}
 use Rattle.der_base.specs.declared.error.Error.{Error}
 use Rattle.der_base.specs.declared.error.ErrorKind.{ErrorKind}
 use Rattle.der_base.specs.declared.error.ErrorKind.TheVariants.{Overlength, Length as IncorrectLength}
+use Rattle.der_base.specs.declared.encoding_rules.EncodingRules.{EncodingRules}
 use Rattle.der_base.specs.declared.encoding_rules.EncodingRules.TheVariants.{Ber}
 use Rattle.der_base.specs.declared.length.Length.{Length}
 use Rattle.der_base.specs.declared.tag.Tag.{Tag}
@@ -31,6 +32,27 @@ tag_or_segments None = OctetString
 -- the tag that a first octet under BER says, from octet 40 on with a number
 abbrev pub identifier_tag : ℕ → ℕ → Tag
 identifier_tag o n = if nat_lt o 64 then tag_or_segments (universal_tag o) else other_tag o n
+
+-- an octet and the universal tag that it is, or nothing
+abbrev pub IsGuess : Option (ℕ × Tag) → Type 0
+IsGuess None = Unit {0}
+IsGuess (Some x) = universal_tag x.0 ≡ Some x.1
+
+-- an octet that is an identifier by itself
+abbrev pub IsAlone : ℕ → Type 0
+IsAlone o = (universal_tag o ≢ None) ⊎ ((64 ≤ o) × (o < 256) × (o % 32 < 31))
+
+-- such an octet and a length of one octet are the first of the rest
+abbrev pub AreAhead : ReaderState → Option (ℕ × ℕ) → Type 0
+AreAhead s None = Unit {0}
+AreAhead s (Some x) =
+    (s.failed ≡ false) × IsAlone x.0 × (x.1 < 128)
+    × ((more : List ℕ) × (rest s ≡ x.0 ∷ x.1 ∷ more))
+
+-- a header whose identifier is told by its first octet and number
+abbrev pub ToldHeaderAhead : ℕ × ℕ × Length → EncodingRules → List ℕ → ℕ → Type 0
+ToldHeaderAhead x =
+    HeaderAhead (head (identifier_tag x.0 x.1) x.2 (is_constructed x.0))
 
 -- a long tag number, behind any first octet that one follows
 abbrev pub RefusesNumber : ReaderState → Error → ReaderState → Type 0

@@ -4,6 +4,7 @@ ghost use Rattle.der_base.specs.Scan.{BodyFault};
 ghost use Rattle.der_base.specs.Header.{HeaderFault, header_octets};
 ghost use Rattle.der_base.specs.Length.{number, is_indefinite, definite_length};
 ghost use Rattle.der_base.specs.Tag.{label};
+ghost use Rattle.der_core.specs.AfterFirstOctet.{IsGuess, AreAhead, ToldHeaderAhead};
 ghost use Rattle.der_core.specs.Decode.{Decodes, Peeks, grammar_levels};
 ghost use Rattle.der_core.specs.Encode.{TakesCounted, header_outcome};
 ghost use Rattle.der_core.specs.Header.{head_of, IsHeaderAhead};
@@ -11,9 +12,11 @@ ghost use Rattle.der_core.specs.Writer.{Keeps, Appends, Writes};
 
 use crate::decode::Decode;
 use crate::encode::Encode;
-use crate::length::decode_length_behind;
-use crate::reader::{Reader, ReaderExt};
-use crate::tag::{decode_identifier, first_octet_of, has_constructed_bit, tag_of};
+use crate::length::{INDEFINITE, decode_length_behind};
+use crate::reader::{Octets, Reader, ReaderExt};
+use crate::tag::{
+    decode_identifier, first_octet_of, guessed_tag, has_constructed_bit, is_identifier, tag_of,
+};
 use crate::writer::Writer;
 use der_base::{Error, ErrorKind, Length, Tag};
 use std::alloc::Global;
@@ -97,17 +100,81 @@ pub fn decode_header<R: Reader>(reader: &mut R) -> Result<Header, Error>
     ensures { Decodes IsHeaderAhead (HeaderFault BodyFault) R.reliable (R.state reader.old) result
         (R.state reader.new) }
 {
-    let (first, number) = decode_identifier(reader)?;
-    let length = decode_length_behind(reader, Some((first, number)))?;
+    let (first, number, length) = decode_parts(reader)?;
     let constructed = has_constructed_bit(first);
-    if length.is_indefinite() && !constructed {
-        return Err(reader.error(ErrorKind::IndefiniteLength));
-    }
     Ok(Header {
         tag: tag_of(first, number),
         length,
         constructed,
     })
+}
+
+// The same with a guess at the tag, and in pieces always: where a value is decoded by it, all of that
+// stays small enough to be part of its caller.
+#[inline(always)]
+pub(crate) fn decode_guessed_header<R: Reader>(
+    reader: &mut R,
+    guess: Option<(u8, Tag)>,
+) -> Result<Header, Error>
+    requires { IsGuess guess }
+    ensures { Decodes IsHeaderAhead (HeaderFault BodyFault) R.reliable (R.state reader.old) result
+        (R.state reader.new) }
+{
+    let (first, number, length) = decode_in_pieces(reader)?;
+    let constructed = has_constructed_bit(first);
+    Ok(Header {
+        tag: guessed_tag(first, number, guess),
+        length,
+        constructed,
+    })
+}
+
+// Decodes a header, and tells the first octet of its identifier, and its number where that octet is
+// 40 or more. An identifier and a length of one octet each are read at once where they are lent.
+#[inline(always)]
+fn decode_parts<R: Reader>(reader: &mut R) -> Result<(u8, u32, Length), Error>
+    ensures { Decodes ToldHeaderAhead (HeaderFault BodyFault) R.reliable (R.state reader.old)
+        result (R.state reader.new) }
+{
+    if let Some((first, count)) = short_header(reader) {
+        let _ = reader.read_slice(Length::new(2))?;
+        return Ok((first, (first % 32) as u32, Length::new(count as u32)));
+    }
+    decode_in_pieces(reader)
+}
+
+// The same octet by octet.
+#[inline(always)]
+fn decode_in_pieces<R: Reader>(reader: &mut R) -> Result<(u8, u32, Length), Error>
+    ensures { Decodes ToldHeaderAhead (HeaderFault BodyFault) R.reliable (R.state reader.old)
+        result (R.state reader.new) }
+{
+    let (first, number) = decode_identifier(reader)?;
+    let length = decode_length_behind(reader, Some((first, number)))?;
+    if length.is_indefinite() && !has_constructed_bit(first) {
+        return Err(reader.error(ErrorKind::IndefiniteLength));
+    }
+    Ok((first, number, length))
+}
+
+// The identifier and the length ahead, where each has one octet, and they are lent.
+#[inline(always)]
+fn short_header<R: Reader>(reader: &R) -> Option<(u8, u8)>
+    ensures { AreAhead (R.state reader.now) result }
+{
+    let Ok(lent) = reader.remaining() else {
+        return None;
+    };
+    let octets = lent.as_slice();
+    if octets.len() < 2 {
+        return None;
+    }
+    let (first, count) = (octets[0], octets[1]);
+    if count < INDEFINITE && is_identifier(first) {
+        Some((first, count))
+    } else {
+        None
+    }
 }
 
 impl<R: Reader> Decode<R> for Header {

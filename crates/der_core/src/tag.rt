@@ -3,7 +3,7 @@ ghost use Rattle.std.specs.Prelude.{◌≡◌, ◌≢◌, ◌^◌, ◌<◌, ◌�
 ghost use Rattle.der_base.specs.Length.{definite_length, digits};
 ghost use Rattle.der_base.specs.Tag.{label, leading_octet, tag_octets, continuation_octets, universal_tag, other_tag, is_constructed, IdentifierFault, identifier_kind};
 ghost use Rattle.der_base.specs.Header.{IdentifierAhead, TagAhead};
-ghost use Rattle.der_core.specs.AfterFirstOctet.{IdentifierBehind, RefusesIdentifier, RefusesNumber, identifier_tag};
+ghost use Rattle.der_core.specs.AfterFirstOctet.{IdentifierBehind, IsAlone, IsGuess, RefusesIdentifier, RefusesNumber, identifier_tag};
 ghost use Rattle.der_core.specs.Decode.{Decodes, grammar_levels};
 ghost use Rattle.der_core.specs.Encode.{single_octets, high_digits, tag_outcome};
 ghost use Rattle.der_core.specs.ReaderState.{Same, Reads};
@@ -63,6 +63,14 @@ fn is_universal(octet: u8) -> bool
     universal(octet).is_some()
 }
 
+// Whether this octet is an identifier by itself, under any rules.
+#[inline(always)]
+pub(crate) fn is_identifier(octet: u8) -> bool
+    ensures { result ≡ true → IsAlone octet }
+{
+    is_universal(octet) || octet >= 0x40 && octet % 32 < 31
+}
+
 // Whether this octet below 40 is an identifier under the Basic Encoding Rules.
 #[inline(always)]
 pub(crate) fn is_ber_identifier(octet: u8) -> bool
@@ -119,6 +127,30 @@ pub(crate) fn tag_of(first: u8, number: u32) -> Tag
     match universal(first) {
         Some(tag) => tag,
         None => Tag::OctetString,
+    }
+}
+
+// The same with a guess at the tag, which is not looked for where it is that.
+#[inline(always)]
+pub(crate) fn guessed_tag(first: u8, number: u32, guess: Option<(u8, Tag)>) -> Tag
+    requires { IsGuess guess }
+    ensures { result ≡ identifier_tag first number }
+{
+    match guess {
+        Some((octet, tag)) if octet == first => tag,
+        _ => tag_of(first, number),
+    }
+}
+
+// A guess at a universal tag: its octet, and the tag itself. At no other tag is there one.
+#[inline(always)]
+pub(crate) fn guess(tag: Tag) -> Option<(u8, Tag)>
+    ensures { IsGuess result }
+{
+    let octet = first_octet_of(tag, (tag.number().0 % 32) as u8);
+    match universal(octet) {
+        Some(tag) => Some((octet, tag)),
+        None => None,
     }
 }
 

@@ -9,9 +9,10 @@ ghost use Rattle.der_core.specs.Element.{ElementAhead, ElementRead, element_leve
 ghost use Rattle.der_core.specs.Header.{head_of};
 
 use crate::decode::{Decode, DecodeError};
-use crate::header::{Header, decode_header};
+use crate::header::{Header, decode_guessed_header};
 use crate::reader::{Reader, read_value};
 use crate::tag::fixed::FixedTag;
+use crate::tag::guess;
 use std::alloc::Global;
 
 /// What a type means when its values are read: which values there are, and which octets are read
@@ -111,8 +112,9 @@ pub fn decode_tlv<R: Reader, T: DecodeValue<R> + FixedTag>(
         → ElementRead T.tag_is T.Error.from_gives T.value_answers (R.state reader.old) result
         (R.state reader.new) }
 {
-    let header = decode_header(reader)?;
-    header.tag().assert_eq(T::fixed_tag())?;
+    let expected = T::fixed_tag();
+    let header = decode_guessed_header(reader, guess(expected))?;
+    header.tag().assert_eq(expected)?;
     read_value(
         reader,
         header,

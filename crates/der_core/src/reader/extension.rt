@@ -19,12 +19,12 @@ ghost use Rattle.der_core.specs.Nested.{CanLeave, Closes, HandsBack, NestedAnswe
 ghost use Rattle.der_core.specs.Element.{ElementReadBy};
 
 use crate::decode::Decode;
-use crate::header::{Header, decode_header};
+use crate::header::{Header, decode_guessed_header, decode_header};
 use crate::length::indefinite::scan_ahead;
 use crate::length::turns::Turns;
 use crate::reader::value::read_contents;
 use crate::reader::{Reader, Resumption};
-use crate::tag::decode_tag;
+use crate::tag::{decode_tag, guess};
 use der_base::{Error, ErrorKind, Length, Tag};
 use std::alloc::Global;
 use std::sync::ledger::Ledger;
@@ -314,7 +314,7 @@ pub trait ReaderExt: Reader {
             → ElementReadBy Sequence E.from_gives (λ _. F.post f) (λ p. Self.state p.now)
             (λ q. Self.state q.now) (Self.state self.old) result (Self.state self.new) }
     {
-        let header = decode_header(self)?;
+        let header = decode_guessed_header(self, guess(Tag::Sequence))?;
         header.tag().assert_eq(Tag::Sequence)?;
         read_contents(self, header.length().sans_eoc(), f)
     }

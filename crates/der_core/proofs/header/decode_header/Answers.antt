@@ -1,29 +1,7 @@
-use Rattle.std.proofs.Common.{refl, sym, ◌∙◌}
-use Rattle.std.proofs.lemmas.Result.{err_from_is_err_and}
-use Rattle.der_core.proofs.StateLemmas.{same_trans}
-use Rattle.der_core.proofs.HeaderReadLemmas.{passed_header, header_tag_refused, header_length_refused, header_primitive, bit_of_flag}
-use Rattle.der_core.proofs.TagReadLemmas.{passes_as}
-use Rattle.der_core.proofs.DecodeLemmas.{decoded_ok, decoded_err}
+use Rattle.der_core.proofs.HeaderReadLemmas.{told_passed}
+use Rattle.der_core.proofs.DecodeLemmas.{decoded_ok}
 use Rattle.der_core.proofs.header.decode_header.Goals as goal
-
-pub returns-in_err-first : goal.returns-in_err-first
-returns-in_err-first g c =
-    let p = err_from_is_err_and c.from_residual.result c.from_residual.ensures.1 in
-    rw (p.1, p.2) (decoded_err c.in_err-first.ensures.same (λ reliable. header_tag_refused (c.in_err-first.ensures.refused reliable)))
-
-pub returns-in_err-length : goal.returns-in_err-length
-returns-in_err-length g c =
-    let p = err_from_is_err_and c.from_residual-in_err-length.result c.from_residual-in_err-length.ensures.1 in
-    let read = c.in_ok-first.ensures.ok in
-    rw (p.1, p.2) (decoded_err (same_trans c.in_ok-first.ensures.same c.in_err-length.ensures.same)
-    (λ reliable. header_length_refused read refl (c.in_err-length.ensures.refused reliable)))
-
-pub returns-then-not-constructed : goal.returns-then-not-constructed
-returns-then-not-constructed g c =
-    decoded_err (same_trans (same_trans c.in_ok-first.ensures.same c.in_ok-length.ensures.same) c.error.ensures.same)
-    (λ reliable. header_primitive c.in_ok-first.ensures.ok (sym c.has_constructed_bit-constructed.ensures ∙ c.if-not-constructed.true) c.in_ok-length.ensures.ok (sym c.is_indefinite.ensures ∙ c.if-is_indefinite.true) c.error.ensures.at_position c.error.ensures.failed)
 
 pub returns : goal.returns
 returns g c =
-    decoded_ok (same_trans c.in_ok-first.ensures.same c.in_ok-length.ensures.same)
-    (passed_header (passes_as c.tag_of.ensures c.has_constructed_bit-constructed.ensures c.in_ok-first.ensures.ok) c.in_ok-length.ensures.ok (bit_of_flag c.is_indefinite.ensures c.else-is_indefinite.either))
+    decoded_ok c.in_ok-first.ensures.same (told_passed c.in_ok-first.first c.in_ok-first.number c.tag_of.ensures c.has_constructed_bit-constructed.ensures c.in_ok-first.ensures.ok)
