@@ -155,14 +155,8 @@ pub extern "C" fn der_bench_call_sequences(numbers: &[u64], out: &mut [u8]) -> T
 fn put_four(writer: &mut SliceWriter<'_>, value: &Eight) -> Result<(), Error>
     ensures { Keeps (slice_writer_state writer.old) (slice_writer_state writer.new) }
 {
-    put_two(writer, value)?;
-    put_two(writer, value)
-}
-
-#[inline(always)]
-fn put_two(writer: &mut SliceWriter<'_>, value: &Eight) -> Result<(), Error>
-    ensures { Keeps (slice_writer_state writer.old) (slice_writer_state writer.new) }
-{
+    writer.encode(value)?;
+    writer.encode(value)?;
     writer.encode(value)?;
     writer.encode(value)
 }

@@ -322,9 +322,9 @@ fn unfilled_at(position: u32) -> Error
     Tag::Sequence.length_error().at(Length::new(position))
 }
 
-// An error with its position, or with this one where it has none.
-#[cold]
-#[inline(never)]
+// An error with its position, or with this one where it has none. It is no call: an error that is
+// handed to one has all of its octets moved, also where there is none.
+#[inline(always)]
 fn placed(error: Error, position: u32) -> Error
     ensures { result ≡ placed_error (position_of error) (definite_length position) error }
 {
