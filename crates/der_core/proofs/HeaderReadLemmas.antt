@@ -1,5 +1,5 @@
 -- Headers, by their tag and their length.
-use Rattle.std.proofs.Common.{◌≡◌, ℕ, ◌+◌, ◌%◌, ◌≤◌, ◌⊎◌, Bool, true, false, Option, Some, Ok, Err, List, [], ◌∷◌, ◌++◌, length, take, refl, sym, ap, ◌∙◌, subst, inl, inr, length-append, arith}
+use Rattle.std.proofs.Common.{◌≡◌, ℕ, ◌+◌, ◌%◌, ◌≤◌, Bool, true, false, Option, Some, Ok, Err, List, [], ◌∷◌, ◌++◌, length, take, refl, sym, ap, ◌∙◌, subst, length-append, arith}
 use Rattle.der_base.specs.Error.{at as error_at, refusal}
 use Rattle.der_base.specs.Length.{definite_length, is_indefinite}
 use Rattle.der_base.specs.Tag.{IsIdentifier, IdentifierFault, is_constructed}
@@ -74,11 +74,6 @@ header_length_refused {a} {b} {t} {x} {e = e} {wrong} h same (at_fault r w fault
     let stops : Stops b r e t = record { told = told; leaves = leaves } in
     at_fault r h.working (subst (λ s. HeaderFault BodyFault a.rules a.position s r) (sym id.reads.split) (no_length id.is_identifier moved))
     told (stops_on id.reads stops).leaves
-
--- a flag that was seen beside a bit
-pub bit_of_flag : {b c d : Bool} → b ≡ c → ((b ≡ true) × (d ≡ true)) ⊎ (b ≡ false) → c ≡ true → d ≡ true
-bit_of_flag e (inl h) f = h.1
-bit_of_flag e (inr h) f = absurd (let no : false ≡ true = sym h ∙ e ∙ f in cc)
 
 -- a header of two octets is there, and was read at once
 slice_fits : (s : ReaderState) (n : ℕ) → s.failed ≡ false → s.position + n ≤ s.end → read_slice_outcome n s ≡ outcome_of (Ok (take n (rest s))) (advanced_state s n)

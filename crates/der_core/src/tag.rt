@@ -130,7 +130,16 @@ pub(crate) fn tag_of(first: u8, number: u32) -> Tag
     }
 }
 
-// The same with a guess at the tag, which is not looked for where it is that.
+// The same for a refusal, which is told by a call.
+#[cold]
+#[inline(never)]
+pub(crate) fn tag_of_identifier(first: u8, number: u32) -> Tag
+    ensures { result ≡ identifier_tag first number }
+{
+    tag_of(first, number)
+}
+
+// The same with a guess at the tag: where it is the one, no tag is looked for.
 #[inline(always)]
 pub(crate) fn guessed_tag(first: u8, number: u32, guess: Option<(u8, Tag)>) -> Tag
     requires { IsGuess guess }
@@ -152,15 +161,6 @@ pub(crate) fn guess(tag: Tag) -> Option<(u8, Tag)>
         Some(tag) => Some((octet, tag)),
         None => None,
     }
-}
-
-// The same for a refusal, which is told by a call.
-#[cold]
-#[inline(never)]
-pub(crate) fn tag_of_identifier(first: u8, number: u32) -> Tag
-    ensures { result ≡ identifier_tag first number }
-{
-    tag_of(first, number)
 }
 
 // Decodes a tag (X.690 8.1.2), and tells the constructed bit of its identifier.
