@@ -1,0 +1,7 @@
+"""The lines that the drivers of rounds.rs tell, one for each row."""
+import re
+
+LINE = re.compile(
+    r"(?P<row>(?P<name>.+), (?P<size>\S+ [KM]iB): .*); library (?P<library>[\d.]+) ns, "
+    r"by hand (?P<hand>[\d.]+) ns, ratio [\d.]+(?:; the crate (?P<crate>[\d.]+) ns, ratio [\d.]+)?$"
+)
