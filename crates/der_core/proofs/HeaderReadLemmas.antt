@@ -107,11 +107,9 @@ short_granted {s} {x = x} {o} {p} {e = e} sound there is two h =
     cc
 
 -- a header whose identifier was told
-pub told_passed : {s t : ReaderState} {l : Length} {x : Tag} {bit : Bool} (o n : ℕ) → x ≡ identifier_tag o n → bit ≡ is_constructed o
-    → Passes (ToldHeaderAhead (o, n, l)) s t → Passes (IsHeaderAhead (record { tag = x; length = l; constructed = bit })) s t
-told_passed {s} {t} {l} {x} {bit} o n tag constructed h =
-    subst (λ y. Passes (IsHeaderAhead (record { tag = y; length = l; constructed = bit })) s t) (sym tag)
-    (subst (λ b. Passes (HeaderAhead (head (identifier_tag o n) l b)) s t) (sym constructed) h)
+pub told_passed : {s t : ReaderState} {l : Length} {h : Header} (o n : ℕ) → head_of h ≡ head (identifier_tag o n) l (is_constructed o)
+    → Passes (ToldHeaderAhead (o, n, l)) s t → Passes (IsHeaderAhead h) s t
+told_passed {s} {t} o n told h = subst (λ x. Passes (HeaderAhead x) s t) (sym told) h
 
 -- an indefinite length behind a primitive identifier
 pub header_primitive : {a b c t : ReaderState} {x : Tag} {bit : Bool} {l : Length} {e : Error} → Passes (IdentifierAhead (x, bit)) a b → bit ≡ false

@@ -1,10 +1,10 @@
 //! Headers.
 ghost use Rattle.std.specs.Prelude.{◌≡◌, ◌||◌, false, true, length, Ok};
 ghost use Rattle.der_base.specs.Scan.{BodyFault};
-ghost use Rattle.der_base.specs.Header.{HeaderFault, header_octets};
+ghost use Rattle.der_base.specs.Header.{HeaderFault, head, header_octets};
 ghost use Rattle.der_base.specs.Length.{number, is_indefinite, definite_length};
-ghost use Rattle.der_base.specs.Tag.{label};
-ghost use Rattle.der_core.specs.AfterFirstOctet.{IsGuess, AreAhead, ToldHeaderAhead};
+ghost use Rattle.der_base.specs.Tag.{label, is_constructed};
+ghost use Rattle.der_core.specs.AfterFirstOctet.{IsGuess, AreAhead, ToldHeaderAhead, identifier_tag};
 ghost use Rattle.der_core.specs.Decode.{Decodes, Peeks, grammar_levels};
 ghost use Rattle.der_core.specs.Encode.{TakesCounted, header_outcome};
 ghost use Rattle.der_core.specs.Header.{head_of, IsHeaderAhead};
@@ -15,7 +15,7 @@ use crate::encode::Encode;
 use crate::length::{INDEFINITE, decode_length_behind};
 use crate::reader::{Octets, Reader, ReaderExt};
 use crate::tag::{
-    decode_identifier, first_octet_of, guessed_tag, has_constructed_bit, is_identifier, tag_of,
+    decode_identifier, first_octet_of, guessed_tag, has_constructed_bit, is_identifier,
 };
 use crate::writer::Writer;
 use der_base::{Error, ErrorKind, Length, Tag};
@@ -31,7 +31,6 @@ pub struct Header {
 }
 
 impl Header {
-    ghost use Rattle.der_base.specs.Header.{head};
     ghost use Rattle.der_core.specs.Header.{contents_header};
 
     /// The header of a tag and a length: constructed where the tag is, or the length was read in
@@ -101,12 +100,7 @@ pub fn decode_header<R: Reader>(reader: &mut R) -> Result<Header, Error>
         (R.state reader.new) }
 {
     let (first, number, length) = decode_parts(reader)?;
-    let constructed = has_constructed_bit(first);
-    Ok(Header {
-        tag: tag_of(first, number),
-        length,
-        constructed,
-    })
+    Ok(told_header(first, number, length, None))
 }
 
 // The same with a guess at the tag, and in pieces always: where a value is decoded by it, all of that
@@ -121,12 +115,21 @@ pub(crate) fn decode_guessed_header<R: Reader>(
         (R.state reader.new) }
 {
     let (first, number, length) = decode_in_pieces(reader)?;
+    Ok(told_header(first, number, length, guess))
+}
+
+// The header of an identifier of this first octet and number, with a guess at its tag.
+#[inline(always)]
+fn told_header(first: u8, number: u32, length: Length, guess: Option<(u8, Tag)>) -> Header
+    requires { IsGuess guess }
+    ensures { head_of result ≡ head (identifier_tag first number) length (is_constructed first) }
+{
     let constructed = has_constructed_bit(first);
-    Ok(Header {
+    Header {
         tag: guessed_tag(first, number, guess),
         length,
         constructed,
-    })
+    }
 }
 
 // Decodes a header, and tells the first octet of its identifier, and its number where that octet is

@@ -118,7 +118,7 @@ fn other(first: u8, number: u32) -> Tag
 // where that is 40 or more. It is told once the octets behind are read: where ways meet at which a
 // reader stands in different places, a choice among tags would be a jump for each, not a table.
 #[inline(always)]
-pub(crate) fn tag_of(first: u8, number: u32) -> Tag
+fn tag_of(first: u8, number: u32) -> Tag
     ensures { result ≡ identifier_tag first number }
 {
     if first >= 0x40 {

@@ -4,4 +4,4 @@ use Rattle.der_core.proofs.header.decode_header.Goals as goal
 
 pub returns : goal.returns
 returns g c =
-    decoded_ok c.in_ok-first.ensures.same (told_passed c.in_ok-first.first c.in_ok-first.number c.tag_of.ensures c.has_constructed_bit-constructed.ensures c.in_ok-first.ensures.ok)
+    decoded_ok c.in_ok-first.ensures.same (told_passed c.in_ok-first.first c.in_ok-first.number c.told_header.ensures c.in_ok-first.ensures.ok)
