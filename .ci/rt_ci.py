@@ -16,17 +16,21 @@ REFUSED = re.compile(rb"rt: (\w+)(?:: its tests are)? NOT PROVED")
 
 class RtCi:
     """The run, whose lines are shown as they come. Until it ends there is a lane fewer, and the
-    processors that it leaves idle are theirs. Copies of these libraries are kept."""
+    processors that it leaves idle are theirs. Copies of these libraries are kept. Behind the run
+    come these commands, in turn."""
 
-    def __init__(self, lanes, room, libraries):
+    def __init__(self, lanes, room, libraries, behind):
         self.lanes, self.room, self.libraries = lanes, f"{room}/rlibs", libraries
+        self.behind = behind
         self.proved, self.is_refusing = set(), False
         self.lent = min(1, checker.processors() - 1)
 
     def __enter__(self):
         self.lanes.add(-self.lent)
         self.lanes.before = ["nice", "-n", "10"]
-        how = {"stdin": subprocess.DEVNULL, "stdout": subprocess.PIPE}
+        # Several processes prove a crate sooner, but take a third more of the processors for it.
+        by_one = {**os.environ, "RT_JOBS": str(checker.processors())}
+        how = {"stdin": subprocess.DEVNULL, "stdout": subprocess.PIPE, "env": by_one}
         # A group of its own, so that all of it can be ended at once.
         self.run = subprocess.Popen(["rt", "ci"], cwd=checker.TOP, process_group=0, **how)
         self.thread = threading.Thread(target=self.lanes.guard(self.follow))
@@ -68,6 +72,16 @@ class RtCi:
             give_up(f"rt ci did not say that {' '.join(lacking)} is proved")
         self.lanes.before = []
         self.lanes.add(self.lent)
+        for command in self.behind:
+            self.see(command)
+
+    def see(self, command):
+        """Runs the command over what the run has built, shows what it says, and sees it end well."""
+        with self.lanes.one():
+            status, said = self.lanes.run([command], checker.TOP)
+        print("\n".join(said), flush=True)
+        if status:
+            give_up(f"{command} ended with status {status}")
 
     def take(self, name):
         """Takes a crate as proved, and copies its library: at its end, which is not before it has

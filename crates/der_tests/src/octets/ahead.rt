@@ -1,6 +1,6 @@
 //! What is ahead of a reader, whole elements, and octets that are passed.
 use super::*;
-use crate::checks::{holds, same};
+use crate::checks::{holds, same, same_at};
 use der::{Class, TagPeek};
 
 #[test]
@@ -97,22 +97,15 @@ fn an_element_that_no_length_counts(rt: HostRuntime) -> Result<(), Fail> {
 fn a_tag_that_matches(rt: HostRuntime) -> Result<(), Fail> {
     let octets = [0xA0, 0x00];
     let mut reader = der_reader(&octets)?;
-    let zero = TagNumber(0);
-    same(
-        &rt,
-        Tag::peek_matches(&mut reader, Class::ContextSpecific, zero),
-        Ok(true),
-    );
-    same(
-        &rt,
-        Tag::peek_matches(&mut reader, Class::Application, zero),
-        Ok(false),
-    );
-    same(
-        &rt,
-        Tag::peek_matches(&mut reader, Class::ContextSpecific, TagNumber(1)),
-        Ok(false),
-    );
+    let rows = [
+        (Class::ContextSpecific, 0, true),
+        (Class::Application, 0, false),
+        (Class::ContextSpecific, 1, false),
+    ];
+    for (class, number, matches) in rows {
+        let answer = Tag::peek_matches(&mut reader, class, TagNumber(number));
+        same_at(&rt, class, answer, Ok(matches));
+    }
     same(&rt, reader.position(), Length::ZERO);
     Ok(())
 }

@@ -1,6 +1,7 @@
 //! Headers that are read.
 use super::*;
-use crate::checks::{holds, same};
+use crate::checks::{holds, same, same_at};
+use der_fixtures::errors::{incorrect, indefinite};
 
 fn header(alloc: Global, bytes: &[u8]) -> Result<(Header, usize), Error> {
     front::<Header>(alloc, bytes)
@@ -46,29 +47,17 @@ fn what_a_header_says(rt: HostRuntime) {
 
 #[test]
 fn headers_that_are_refused(rt: HostRuntime) {
-    let alloc = rt.alloc();
-    same(&rt, header(alloc, &[]), Err(incomplete(1, 0, 0)));
-    same(&rt, header(alloc, &[0x30]), Err(incomplete(2, 1, 1)));
-    let incorrect = ErrorKind::Length {
-        tag: Tag::OctetString,
-    };
-    same(
-        &rt,
-        header(alloc, &[0x04, 0x81, 0x7F]),
-        Err(incorrect.at(Length::new(3))),
-    );
-    same(
-        &rt,
-        header(alloc, &[0x04, 0x85]),
-        Err(incorrect.at(Length::new(2))),
-    );
-    let indefinite = ErrorKind::IndefiniteLength.at(Length::new(2));
-    same(&rt, header(alloc, &[0x04, 0x80]), Err(indefinite));
-    same(
-        &rt,
-        header(alloc, &[0x30, 0x80, 0x00, 0x00]),
-        Err(indefinite),
-    );
+    let rows: [(&[u8], Error); 6] = [
+        (&[], incomplete(1, 0, 0)),
+        (&[0x30], incomplete(2, 1, 1)),
+        (&[0x04, 0x81, 0x7F], incorrect(Tag::OctetString, 3)),
+        (&[0x04, 0x85], incorrect(Tag::OctetString, 2)),
+        (&[0x04, 0x80], indefinite(2)),
+        (&[0x30, 0x80, 0x00, 0x00], indefinite(2)),
+    ];
+    for (octets, error) in rows {
+        same_at(&rt, error, header(rt.alloc(), octets), Err(error));
+    }
 }
 
 #[test]

@@ -1,6 +1,6 @@
 //! Lengths that are read.
 use super::*;
-use crate::checks::same;
+use crate::checks::{same, same_at};
 
 fn length(alloc: Global, bytes: &[u8]) -> Result<(Length, usize), Error> {
     front::<Length>(alloc, bytes)
@@ -8,31 +8,20 @@ fn length(alloc: Global, bytes: &[u8]) -> Result<(Length, usize), Error> {
 
 #[test]
 fn lengths_of_each_form(rt: HostRuntime) {
-    let alloc = rt.alloc();
-    same(&rt, length(alloc, &[0x00]), Ok((Length::new(0), 0)));
-    same(&rt, length(alloc, &[0x7F]), Ok((Length::new(127), 0)));
-    same(&rt, length(alloc, &[0x81, 0x80]), Ok((Length::new(128), 0)));
-    same(&rt, length(alloc, &[0x81, 0xFF]), Ok((Length::new(255), 0)));
-    same(
-        &rt,
-        length(alloc, &[0x82, 0x01, 0x00]),
-        Ok((Length::new(256), 0)),
-    );
-    same(
-        &rt,
-        length(alloc, &[0x82, 0xAA, 0xBB]),
-        Ok((Length::new(43707), 0)),
-    );
-    same(
-        &rt,
-        length(alloc, &[0x83, 0x01, 0x00, 0x00]),
-        Ok((Length::new(65536), 0)),
-    );
-    same(
-        &rt,
-        length(alloc, &[0x84, 0xFF, 0xFF, 0xFF, 0xFF]),
-        Ok((Length::MAX, 0)),
-    );
+    let rows: [(&[u8], u32); 8] = [
+        (&[0x00], 0),
+        (&[0x7F], 127),
+        (&[0x81, 0x80], 128),
+        (&[0x81, 0xFF], 255),
+        (&[0x82, 0x01, 0x00], 256),
+        (&[0x82, 0xAA, 0xBB], 43707),
+        (&[0x83, 0x01, 0x00, 0x00], 65536),
+        (&[0x84, 0xFF, 0xFF, 0xFF, 0xFF], 4294967295),
+    ];
+    for (octets, number) in rows {
+        let read = Ok((Length::new(number), 0));
+        same_at(&rt, number, length(rt.alloc(), octets), read);
+    }
 }
 
 #[test]
@@ -46,19 +35,17 @@ fn octets_behind_a_length(rt: HostRuntime) {
 
 #[test]
 fn lengths_that_are_not_the_shortest(rt: HostRuntime) {
-    let alloc = rt.alloc();
-    let too_long = |position: u32| -> Result<(Length, usize), Error> {
-        Err(ErrorKind::Overlength.at(Length::new(position)))
-    };
-    same(&rt, length(alloc, &[0x81, 0x7F]), too_long(2));
-    same(&rt, length(alloc, &[0x82, 0x00, 0xFF]), too_long(3));
-    same(
-        &rt,
-        length(alloc, &[0x84, 0x00, 0xFF, 0xFF, 0xFF]),
-        too_long(5),
-    );
-    same(&rt, length(alloc, &[0x85, 0x01]), too_long(1));
-    same(&rt, length(alloc, &[0xFF]), too_long(1));
+    let rows: [(&[u8], u32); 5] = [
+        (&[0x81, 0x7F], 2),
+        (&[0x82, 0x00, 0xFF], 3),
+        (&[0x84, 0x00, 0xFF, 0xFF, 0xFF], 5),
+        (&[0x85, 0x01], 1),
+        (&[0xFF], 1),
+    ];
+    for (octets, position) in rows {
+        let too_long = ErrorKind::Overlength.at(Length::new(position));
+        same_at(&rt, position, length(rt.alloc(), octets), Err(too_long));
+    }
 }
 
 #[test]

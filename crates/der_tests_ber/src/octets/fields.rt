@@ -61,36 +61,34 @@ fn segments_that_are_lent(rt: HostRuntime) -> Result<(), Fail> {
 
 #[test]
 fn fields_that_are_refused(rt: HostRuntime) {
-    let rows = [
+    let rows: [(&[u8], Error); 5] = [
         (
             // a field is missing
-            [0x30, 0x80, 0x04, 0x01, 0x2A, 0x00, 0x00].as_slice(),
+            &[0x30, 0x80, 0x04, 0x01, 0x2A, 0x00, 0x00],
             incomplete(6, 5, 5),
         ),
         (
             // octets are left inside
-            [
+            &[
                 0x30, 0x80, 0x04, 0x01, 0x2A, 0x04, 0x01, 0x09, 0x05, 0x00, 0x00, 0x00,
-            ]
-            .as_slice(),
+            ],
             trailing(8, 2),
         ),
         (
             // octets are left behind
-            [
+            &[
                 0x30, 0x80, 0x04, 0x01, 0x2A, 0x04, 0x01, 0x09, 0x00, 0x00, 0x00,
-            ]
-            .as_slice(),
+            ],
             trailing(10, 1),
         ),
         (
             // the end mark is missing
-            [0x30, 0x80, 0x04, 0x01, 0x2A, 0x04, 0x01, 0x09].as_slice(),
+            &[0x30, 0x80, 0x04, 0x01, 0x2A, 0x04, 0x01, 0x09],
             incomplete(9, 8, 8),
         ),
         (
             // a field has another tag
-            [0x30, 0x80, 0x04, 0x01, 0x2A, 0x02, 0x01, 0x09, 0x00, 0x00].as_slice(),
+            &[0x30, 0x80, 0x04, 0x01, 0x2A, 0x02, 0x01, 0x09, 0x00, 0x00],
             unexpected(Tag::OctetString, Tag::Integer),
         ),
     ];

@@ -23,23 +23,14 @@ fn months_of_a_definite_length(rt: HostRuntime) -> Result<(), Fail> {
 // The contents of a body are not joined: its first octet is read, and the rest is left.
 #[test]
 fn months_of_an_indefinite_length(rt: HostRuntime) {
-    let rows = [
+    let rows: [(&[u8], Error); 6] = [
+        (&[0x24, 0x80, 0x04, 0x01, 0x09, 0x00, 0x00], trailing(3, 2)),
+        (&[0x24, 0x80, 0x09, 0x00, 0x00, 0x00], trailing(3, 1)),
+        (&[0x24, 0x80, 0x00, 0x00], incomplete(3, 2, 2)),
+        (&[0x24, 0x80, 0x00, 0x00, 0x09], incomplete(3, 2, 2)),
+        (&[0x24, 0x80, 0x0C, 0x00, 0x00, 0x00], no_month()),
         (
-            [0x24, 0x80, 0x04, 0x01, 0x09, 0x00, 0x00].as_slice(),
-            trailing(3, 2),
-        ),
-        (
-            [0x24, 0x80, 0x09, 0x00, 0x00, 0x00].as_slice(),
-            trailing(3, 1),
-        ),
-        ([0x24, 0x80, 0x00, 0x00].as_slice(), incomplete(3, 2, 2)),
-        (
-            [0x24, 0x80, 0x00, 0x00, 0x09].as_slice(),
-            incomplete(3, 2, 2),
-        ),
-        ([0x24, 0x80, 0x0C, 0x00, 0x00, 0x00].as_slice(), no_month()),
-        (
-            [0x24, 0x80, 0x30, 0x80, 0x00, 0x00, 0x00, 0x00].as_slice(),
+            &[0x24, 0x80, 0x30, 0x80, 0x00, 0x00, 0x00, 0x00],
             no_month(),
         ),
     ];
@@ -54,31 +45,16 @@ fn no_month() -> Error {
 
 #[test]
 fn months_whose_header_is_refused(rt: HostRuntime) {
-    let rows = [
-        ([0x24].as_slice(), incomplete(2, 1, 1)),
-        ([0x24, 0x80].as_slice(), incomplete(3, 2, 2)),
-        ([0x04, 0x80].as_slice(), incomplete(3, 2, 2)),
-        (
-            [0x24, 0x80, 0x09, 0x00, 0x00].as_slice(),
-            incomplete(6, 5, 5),
-        ),
-        (
-            [0x24, 0x80, 0x04, 0x01, 0x09, 0x00].as_slice(),
-            incomplete(7, 6, 6),
-        ),
-        (
-            [0x24, 0x80, 0x04, 0x01, 0x09].as_slice(),
-            incomplete(6, 5, 5),
-        ),
-        (
-            [0x04, 0x80, 0x04, 0x01, 0x09, 0x00, 0x00].as_slice(),
-            indefinite(2),
-        ),
-        (
-            [0x24, 0x81, 0x01, 0x09].as_slice(),
-            incorrect(Tag::OctetString, 3),
-        ),
-        ([0x2C, 0x01, 0x09].as_slice(), unknown(0x2C, 1)),
+    let rows: [(&[u8], Error); 9] = [
+        (&[0x24], incomplete(2, 1, 1)),
+        (&[0x24, 0x80], incomplete(3, 2, 2)),
+        (&[0x04, 0x80], incomplete(3, 2, 2)),
+        (&[0x24, 0x80, 0x09, 0x00, 0x00], incomplete(6, 5, 5)),
+        (&[0x24, 0x80, 0x04, 0x01, 0x09, 0x00], incomplete(7, 6, 6)),
+        (&[0x24, 0x80, 0x04, 0x01, 0x09], incomplete(6, 5, 5)),
+        (&[0x04, 0x80, 0x04, 0x01, 0x09, 0x00, 0x00], indefinite(2)),
+        (&[0x24, 0x81, 0x01, 0x09], incorrect(Tag::OctetString, 3)),
+        (&[0x2C, 0x01, 0x09], unknown(0x2C, 1)),
     ];
     for (octets, error) in rows {
         same_at(&rt, error, month(rt.alloc(), octets), Err(error));
@@ -87,14 +63,11 @@ fn months_whose_header_is_refused(rt: HostRuntime) {
 
 #[test]
 fn other_tags(rt: HostRuntime) {
-    let rows = [
-        ([0x30, 0x01, 0x09].as_slice(), Tag::Sequence),
-        ([0x30, 0x80, 0x00, 0x00].as_slice(), Tag::Sequence),
-        (
-            [0x31, 0x80, 0x04, 0x01, 0x09, 0x00, 0x00].as_slice(),
-            Tag::Set,
-        ),
-        ([0x0C, 0x01, 0x09].as_slice(), Tag::Utf8String),
+    let rows: [(&[u8], Tag); 4] = [
+        (&[0x30, 0x01, 0x09], Tag::Sequence),
+        (&[0x30, 0x80, 0x00, 0x00], Tag::Sequence),
+        (&[0x31, 0x80, 0x04, 0x01, 0x09, 0x00, 0x00], Tag::Set),
+        (&[0x0C, 0x01, 0x09], Tag::Utf8String),
     ];
     for (octets, actual) in rows {
         same_at(
@@ -121,14 +94,14 @@ fn another_tag_leaves_the_reader_behind_its_header(rt: HostRuntime) -> Result<()
 
 #[test]
 fn contents_that_are_not_all_of_the_octets(rt: HostRuntime) {
-    let rows = [
-        ([0x24, 0x00].as_slice(), incomplete(3, 2, 2)),
-        ([0x24, 0x01].as_slice(), incomplete(3, 2, 2)),
-        ([0x24, 0x02, 0x09].as_slice(), incomplete(4, 3, 3)),
-        ([0x24, 0x02, 0x09, 0x00].as_slice(), trailing(3, 1)),
-        ([0x24, 0x01, 0x09, 0x00].as_slice(), trailing(3, 1)),
-        ([0x04, 0x01, 0x09, 0x00, 0x00].as_slice(), trailing(3, 2)),
-        ([0x24, 0x01, 0x0C].as_slice(), no_month()),
+    let rows: [(&[u8], Error); 7] = [
+        (&[0x24, 0x00], incomplete(3, 2, 2)),
+        (&[0x24, 0x01], incomplete(3, 2, 2)),
+        (&[0x24, 0x02, 0x09], incomplete(4, 3, 3)),
+        (&[0x24, 0x02, 0x09, 0x00], trailing(3, 1)),
+        (&[0x24, 0x01, 0x09, 0x00], trailing(3, 1)),
+        (&[0x04, 0x01, 0x09, 0x00, 0x00], trailing(3, 2)),
+        (&[0x24, 0x01, 0x0C], no_month()),
     ];
     for (octets, error) in rows {
         same_at(&rt, error, month(rt.alloc(), octets), Err(error));

@@ -37,13 +37,13 @@ fn the_indefinite_form_under_der(rt: HostRuntime) -> Result<(), Fail> {
 
 #[test]
 fn definite_lengths(rt: HostRuntime) {
-    let rows = [
-        ([0x00].as_slice(), 0),
-        ([0x7F].as_slice(), 127),
-        ([0x81, 0x80].as_slice(), 128),
-        ([0x82, 0x01, 0x00].as_slice(), 256),
-        ([0x83, 0x01, 0x00, 0x00].as_slice(), 65536),
-        ([0x84, 0xFF, 0xFF, 0xFF, 0xFF].as_slice(), 4294967295),
+    let rows: [(&[u8], u32); 6] = [
+        (&[0x00], 0),
+        (&[0x7F], 127),
+        (&[0x81, 0x80], 128),
+        (&[0x82, 0x01, 0x00], 256),
+        (&[0x83, 0x01, 0x00, 0x00], 65536),
+        (&[0x84, 0xFF, 0xFF, 0xFF, 0xFF], 4294967295),
     ];
     for (octets, number) in rows {
         let length = Length::new(number);
@@ -65,13 +65,13 @@ fn definite_lengths(rt: HostRuntime) {
 // The Basic Encoding Rules allow lengths that are not the shortest; this library does not.
 #[test]
 fn lengths_that_are_not_the_shortest(rt: HostRuntime) {
-    let rows = [
-        ([0x81, 0x7F].as_slice(), 2),
-        ([0x82, 0x00, 0xFF].as_slice(), 3),
-        ([0x83, 0x00, 0xFF, 0xFF].as_slice(), 4),
-        ([0x84, 0x00, 0xFF, 0xFF, 0xFF].as_slice(), 5),
-        ([0x85, 0x00, 0x00, 0x00, 0x00, 0x01].as_slice(), 1),
-        ([0xFF].as_slice(), 1),
+    let rows: [(&[u8], u32); 6] = [
+        (&[0x81, 0x7F], 2),
+        (&[0x82, 0x00, 0xFF], 3),
+        (&[0x83, 0x00, 0xFF, 0xFF], 4),
+        (&[0x84, 0x00, 0xFF, 0xFF, 0xFF], 5),
+        (&[0x85, 0x00, 0x00, 0x00, 0x00, 0x01], 1),
+        (&[0xFF], 1),
     ];
     for (octets, position) in rows {
         let error = ErrorKind::Overlength.at(Length::new(position));
@@ -92,11 +92,11 @@ fn lengths_that_are_not_the_shortest(rt: HostRuntime) {
 
 #[test]
 fn headers_whose_length_is_refused(rt: HostRuntime) -> Result<(), Fail> {
-    let rows = [
-        ([0x04, 0x81, 0x7F].as_slice(), 3),
-        ([0x04, 0x82, 0x00, 0x80].as_slice(), 4),
-        ([0x04, 0x85].as_slice(), 2),
-        ([0x04, 0xFF, 0x01].as_slice(), 2),
+    let rows: [(&[u8], u32); 4] = [
+        (&[0x04, 0x81, 0x7F], 3),
+        (&[0x04, 0x82, 0x00, 0x80], 4),
+        (&[0x04, 0x85], 2),
+        (&[0x04, 0xFF, 0x01], 2),
     ];
     for rules in [EncodingRules::Ber, EncodingRules::Der] {
         for (octets, position) in rows {
@@ -113,14 +113,13 @@ fn headers_whose_length_is_refused(rt: HostRuntime) -> Result<(), Fail> {
 #[test]
 fn definite_headers(rt: HostRuntime) {
     let longest = TagNumber(4294967295).context_specific(true);
-    let rows = [
-        ([0x05, 0x00].as_slice(), Tag::Null, 0),
-        ([0x30, 0x82, 0x01, 0x00].as_slice(), Tag::Sequence, 256),
+    let rows: [(&[u8], Tag, u32); 3] = [
+        (&[0x05, 0x00], Tag::Null, 0),
+        (&[0x30, 0x82, 0x01, 0x00], Tag::Sequence, 256),
         (
-            [
+            &[
                 0xBF, 0x8F, 0xFF, 0xFF, 0xFF, 0x7F, 0x84, 0xFF, 0xFF, 0xFF, 0xFF,
-            ]
-            .as_slice(),
+            ],
             longest,
             4294967295,
         ),

@@ -4,7 +4,7 @@ ghost use Rattle.der_core.specs.ReaderState.{Same};
 ghost use Rattle.der_core.specs.SliceReader.{slice_state};
 
 use super::*;
-use crate::checks::same;
+use crate::checks::{same, same_at};
 use der::{close_value, read_value};
 
 fn read_header<R: Reader>(reader: &mut R) -> Result<Header, Error>
@@ -74,18 +74,27 @@ fn a_sequence_of_a_definite_length(rt: HostRuntime) -> Result<(), Fail> {
 
 #[test]
 fn a_sequence_in_a_sequence(rt: HostRuntime) -> Result<(), Fail> {
-    let octets = [0x30, 0x80, 0x30, 0x80, 0x05, 0x00, 0x00, 0x00, 0x00, 0x00];
-    let mut reader = ber_reader(&octets)?;
-    same(&rt, reader.sequence(read_inner), Ok(null()));
-    same(&rt, reader.place(), (10, 10, false));
-    let definite = [0x30, 0x06, 0x30, 0x80, 0x05, 0x00, 0x00, 0x00];
-    let mut reader = ber_reader(&definite)?;
-    same(&rt, reader.sequence(read_inner), Ok(null()));
-    same(&rt, reader.place(), (8, 8, false));
-    let inner_definite = [0x30, 0x80, 0x30, 0x02, 0x05, 0x00, 0x00, 0x00];
-    let mut reader = ber_reader(&inner_definite)?;
-    same(&rt, reader.sequence(read_inner), Ok(null()));
-    same(&rt, reader.place(), (8, 8, false));
+    let rows: [(&[u8], u32); 3] = [
+        (
+            &[0x30, 0x80, 0x30, 0x80, 0x05, 0x00, 0x00, 0x00, 0x00, 0x00],
+            10,
+        ),
+        (
+            // the outer one has a definite length
+            &[0x30, 0x06, 0x30, 0x80, 0x05, 0x00, 0x00, 0x00],
+            8,
+        ),
+        (
+            // the inner one has
+            &[0x30, 0x80, 0x30, 0x02, 0x05, 0x00, 0x00, 0x00],
+            8,
+        ),
+    ];
+    for (octets, end) in rows {
+        let mut reader = ber_reader(octets)?;
+        same_at(&rt, end, reader.sequence(read_inner), Ok(null()));
+        same_at(&rt, end, reader.place(), (end, end, false));
+    }
     Ok(())
 }
 
@@ -113,19 +122,20 @@ fn what_is_left_of_a_sequence(rt: HostRuntime) -> Result<(), Fail> {
 
 #[test]
 fn no_sequence(rt: HostRuntime) -> Result<(), Fail> {
-    let unexpected = ErrorKind::TagUnexpected {
-        expected: Some(Tag::Sequence),
-        actual: Tag::Set,
-    };
-    let mut reader = ber_reader(&[0x31, 0x80, 0x00, 0x00])?;
-    same(&rt, reader.sequence(read_none), Err(unexpected.to_error()));
-    same(&rt, reader.place(), (2, 4, false));
-    let mut reader = ber_reader(&[0x04, 0x80, 0x00, 0x00])?;
-    same(&rt, reader.sequence(read_none), Err(indefinite(2)));
-    same(&rt, reader.place(), (2, 4, true));
-    let mut reader = ber_reader(&[0x30, 0x80, 0x05, 0x00])?;
-    same(&rt, reader.sequence(read_none), Err(incomplete(5, 4, 4)));
-    same(&rt, reader.place(), (2, 4, false));
+    let rows: [(&[u8], Error, bool); 3] = [
+        (
+            &[0x31, 0x80, 0x00, 0x00],
+            unexpected(Tag::Sequence, Tag::Set),
+            false,
+        ),
+        (&[0x04, 0x80, 0x00, 0x00], indefinite(2), true),
+        (&[0x30, 0x80, 0x05, 0x00], incomplete(5, 4, 4), false),
+    ];
+    for (octets, error, failed) in rows {
+        let mut reader = ber_reader(octets)?;
+        same_at(&rt, error, reader.sequence(read_none), Err(error));
+        same_at(&rt, error, reader.place(), (2, 4, failed));
+    }
     Ok(())
 }
 

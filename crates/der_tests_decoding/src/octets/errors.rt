@@ -6,7 +6,7 @@ ghost use Rattle.der_base.specs.declared.tag.Tag.TheVariants.{OctetString};
 ghost use Rattle.der_core.specs.Decode.{is_out_of_memory_kind};
 
 use super::*;
-use crate::checks::{holds, same};
+use crate::checks::{holds, same, same_at};
 use der::{DecodeError, DecodeValue, FixedTag, ReadValue};
 
 #[derive(Clone, Copy, Debug, PartialEq, Eq)]
@@ -75,30 +75,22 @@ impl<R: Reader> DecodeValue<R> for Octet {
 
 #[test]
 fn errors_that_are_converted(rt: HostRuntime) {
-    let alloc = rt.alloc();
-    let converted = |error: Error| -> Result<Octet, OctetError> { Err(OctetError { error }) };
     let number = Ok(Octet { number: 0xFF });
-    same(&rt, Octet::from_der(alloc, &[0x04, 0x01, 0xFF]), number);
     same(
         &rt,
-        Octet::from_der(alloc, &[0x04]),
-        converted(incomplete(2, 1, 1)),
+        Octet::from_der(rt.alloc(), &[0x04, 0x01, 0xFF]),
+        number,
     );
-    same(
-        &rt,
-        Octet::from_der(alloc, &[0x05, 0x00]),
-        converted(unexpected(Tag::OctetString, Tag::Null)),
-    );
-    same(
-        &rt,
-        Octet::from_der(alloc, &[0x04, 0x02, 0xFF, 0x00]),
-        converted(trailing(3, 1)),
-    );
-    same(
-        &rt,
-        Octet::from_der(alloc, &[0x04, 0x01, 0xFF, 0x00]),
-        converted(trailing(3, 1)),
-    );
+    let rows: [(&[u8], Error); 4] = [
+        (&[0x04], incomplete(2, 1, 1)),
+        (&[0x05, 0x00], unexpected(Tag::OctetString, Tag::Null)),
+        (&[0x04, 0x02, 0xFF, 0x00], trailing(3, 1)),
+        (&[0x04, 0x01, 0xFF, 0x00], trailing(3, 1)),
+    ];
+    for (octets, error) in rows {
+        let converted = Err(OctetError { error });
+        same_at(&rt, error, Octet::from_der(rt.alloc(), octets), converted);
+    }
 }
 
 #[test]

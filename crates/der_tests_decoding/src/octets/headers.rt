@@ -1,6 +1,7 @@
 //! Headers that are all the octets.
 use super::*;
-use crate::checks::same;
+use crate::checks::{same, same_at};
+use der_fixtures::errors::{incorrect, indefinite};
 
 #[test]
 fn headers_both_ways(rt: HostRuntime) -> Result<(), Fail> {
@@ -15,39 +16,15 @@ fn headers_both_ways(rt: HostRuntime) -> Result<(), Fail> {
 
 #[test]
 fn headers_that_are_refused(rt: HostRuntime) {
-    let alloc = rt.alloc();
-    same(&rt, Header::from_der(alloc, &[]), Err(incomplete(1, 0, 0)));
-    same(
-        &rt,
-        Header::from_der(alloc, &[0x30]),
-        Err(incomplete(2, 1, 1)),
-    );
-    let incorrect = ErrorKind::Length {
-        tag: Tag::OctetString,
-    };
-    same(
-        &rt,
-        Header::from_der(alloc, &[0x04, 0x81, 0x7F]),
-        Err(incorrect.at(Length::new(3))),
-    );
-    let indefinite = ErrorKind::IndefiniteLength.at(Length::new(2));
-    same(
-        &rt,
-        Header::from_der(alloc, &[0x30, 0x80, 0x00, 0x00]),
-        Err(indefinite),
-    );
-}
-
-#[test]
-fn octets_behind_a_header(rt: HostRuntime) {
-    same(
-        &rt,
-        Header::from_der(rt.alloc(), &[0x04, 0x01, 0x09]),
-        Err(trailing(2, 1)),
-    );
-    same(
-        &rt,
-        Header::from_der(rt.alloc(), &[0x30, 0x82, 0x01, 0x00, 0x05, 0x00]),
-        Err(trailing(4, 2)),
-    );
+    let rows: [(&[u8], Error); 6] = [
+        (&[], incomplete(1, 0, 0)),
+        (&[0x30], incomplete(2, 1, 1)),
+        (&[0x04, 0x81, 0x7F], incorrect(Tag::OctetString, 3)),
+        (&[0x30, 0x80, 0x00, 0x00], indefinite(2)),
+        (&[0x04, 0x01, 0x09], trailing(2, 1)),
+        (&[0x30, 0x82, 0x01, 0x00, 0x05, 0x00], trailing(4, 2)),
+    ];
+    for (octets, error) in rows {
+        same_at(&rt, error, Header::from_der(rt.alloc(), octets), Err(error));
+    }
 }

@@ -1,6 +1,6 @@
 //! A SEQUENCE with another one inside it.
 use super::*;
-use crate::checks::{holds, same};
+use crate::checks::{holds, same, same_at};
 use der_uses::key_info::{KeyInfo, key_info_der, key_info_from_der};
 
 // How the octets are refused.
@@ -41,22 +41,27 @@ fn a_key_that_a_reader_decodes(rt: HostRuntime) -> Result<(), Fail> {
 
 #[test]
 fn parts_that_are_missing(rt: HostRuntime) {
-    let alloc = rt.alloc();
-    same(
-        &rt,
-        refusal(alloc, &[0x30, 0x00]),
-        Some(incomplete(3, 2, 2)),
-    );
-    let no_identifier = [0x30, 0x02, 0x30, 0x00];
-    same(
-        &rt,
-        refusal(alloc, &no_identifier),
-        Some(incomplete(5, 4, 4)),
-    );
-    let no_month = [0x30, 0x08, 0x30, 0x03, 0x04, 0x01, 0x2A, 0x04, 0x01, 0xFF];
-    same(&rt, refusal(alloc, &no_month), Some(incomplete(8, 7, 7)));
-    let no_key = [0x30, 0x08, 0x30, 0x06, 0x04, 0x01, 0x2A, 0x04, 0x01, 0x09];
-    same(&rt, refusal(alloc, &no_key), Some(incomplete(11, 10, 10)));
+    let rows: [(&[u8], Error); 4] = [
+        (&[0x30, 0x00], incomplete(3, 2, 2)),
+        (
+            // no field of the identifier
+            &[0x30, 0x02, 0x30, 0x00],
+            incomplete(5, 4, 4),
+        ),
+        (
+            // no month
+            &[0x30, 0x08, 0x30, 0x03, 0x04, 0x01, 0x2A, 0x04, 0x01, 0xFF],
+            incomplete(8, 7, 7),
+        ),
+        (
+            // no key
+            &[0x30, 0x08, 0x30, 0x06, 0x04, 0x01, 0x2A, 0x04, 0x01, 0x09],
+            incomplete(11, 10, 10),
+        ),
+    ];
+    for (octets, error) in rows {
+        same_at(&rt, error, refusal(rt.alloc(), octets), Some(error));
+    }
 }
 
 #[test]
@@ -75,34 +80,49 @@ fn other_tags(rt: HostRuntime) {
 }
 
 #[test]
-fn octets_that_are_left(rt: HostRuntime) {
-    let alloc = rt.alloc();
-    let in_inner = [
-        0x30, 0x0D, 0x30, 0x08, 0x04, 0x01, 0x2A, 0x04, 0x01, 0x09, 0x05, 0x00, 0x04, 0x01, 0xFF,
+fn octets_that_are_left_or_lacking(rt: HostRuntime) {
+    let rows: [(&[u8], Error); 5] = [
+        (
+            // in the inner sequence
+            &[
+                0x30, 0x0D, 0x30, 0x08, 0x04, 0x01, 0x2A, 0x04, 0x01, 0x09, 0x05, 0x00, 0x04, 0x01,
+                0xFF,
+            ],
+            trailing(10, 2),
+        ),
+        (
+            // in the outer one
+            &[
+                0x30, 0x0D, 0x30, 0x06, 0x04, 0x01, 0x2A, 0x04, 0x01, 0x09, 0x04, 0x01, 0xFF, 0x05,
+                0x00,
+            ],
+            trailing(13, 2),
+        ),
+        (
+            // behind it
+            &[
+                0x30, 0x0B, 0x30, 0x06, 0x04, 0x01, 0x2A, 0x04, 0x01, 0x09, 0x04, 0x01, 0xFF, 0x00,
+            ],
+            trailing(13, 1),
+        ),
+        (
+            // the inner sequence is to end far behind the outer one
+            &[
+                0x30, 0x0B, 0x30, 0x14, 0x04, 0x01, 0x2A, 0x04, 0x01, 0x09, 0x04, 0x01, 0xFF,
+            ],
+            incomplete(14, 13, 13),
+        ),
+        (
+            // its last octet stands behind the outer one
+            &[
+                0x30, 0x07, 0x30, 0x06, 0x04, 0x01, 0x2A, 0x04, 0x01, 0x09, 0x04, 0x01, 0xFF,
+            ],
+            incomplete(10, 9, 9),
+        ),
     ];
-    same(&rt, refusal(alloc, &in_inner), Some(trailing(10, 2)));
-    let in_outer = [
-        0x30, 0x0D, 0x30, 0x06, 0x04, 0x01, 0x2A, 0x04, 0x01, 0x09, 0x04, 0x01, 0xFF, 0x05, 0x00,
-    ];
-    same(&rt, refusal(alloc, &in_outer), Some(trailing(13, 2)));
-    let behind = [
-        0x30, 0x0B, 0x30, 0x06, 0x04, 0x01, 0x2A, 0x04, 0x01, 0x09, 0x04, 0x01, 0xFF, 0x00,
-    ];
-    same(&rt, refusal(alloc, &behind), Some(trailing(13, 1)));
-}
-
-#[test]
-fn an_inner_sequence_past_the_end(rt: HostRuntime) {
-    let alloc = rt.alloc();
-    let far = [
-        0x30, 0x0B, 0x30, 0x14, 0x04, 0x01, 0x2A, 0x04, 0x01, 0x09, 0x04, 0x01, 0xFF,
-    ];
-    same(&rt, refusal(alloc, &far), Some(incomplete(14, 13, 13)));
-    // its last octet stands behind the outer one
-    let by_one = [
-        0x30, 0x07, 0x30, 0x06, 0x04, 0x01, 0x2A, 0x04, 0x01, 0x09, 0x04, 0x01, 0xFF,
-    ];
-    same(&rt, refusal(alloc, &by_one), Some(incomplete(10, 9, 9)));
+    for (octets, error) in rows {
+        same_at(&rt, error, refusal(rt.alloc(), octets), Some(error));
+    }
 }
 
 #[test]

@@ -1,6 +1,6 @@
 //! Values one behind the other.
 use super::*;
-use crate::checks::{holds, same};
+use crate::checks::{holds, same, same_at};
 use std::marker::PhantomData;
 
 // The numbers of the two months that all the octets are.
@@ -57,36 +57,27 @@ fn three_months_at_the_front(rt: HostRuntime) -> Result<(), Fail> {
 }
 
 #[test]
-fn a_first_month_that_is_refused(rt: HostRuntime) {
-    let alloc = rt.alloc();
-    let no_month = ErrorKind::DateTime.at(Length::new(3));
-    let octets = [0x04, 0x01, 0x0C, 0x04, 0x01, 0x0C];
-    same(&rt, months(alloc, &octets), Err(no_month));
-    same(&rt, months(alloc, &[]), Err(incomplete(1, 0, 0)));
-    let other_tag = unexpected(Tag::OctetString, Tag::Integer);
-    let octets = [0x02, 0x01, 0x09, 0x04, 0x01, 0x02];
-    same(&rt, months(alloc, &octets), Err(other_tag));
-}
-
-#[test]
-fn a_second_month_that_is_refused(rt: HostRuntime) {
-    let alloc = rt.alloc();
-    let no_month = ErrorKind::DateTime.at(Length::new(6));
-    let octets = [0x04, 0x01, 0x09, 0x04, 0x01, 0x0C];
-    same(&rt, months(alloc, &octets), Err(no_month));
-    let missing = Err(incomplete(4, 3, 3));
-    same(&rt, months(alloc, &[0x04, 0x01, 0x09]), missing);
-    let cut = Err(incomplete(6, 5, 5));
-    same(&rt, months(alloc, &[0x04, 0x01, 0x09, 0x04, 0x01]), cut);
-    let other_tag = unexpected(Tag::OctetString, Tag::Null);
-    let octets = [0x04, 0x01, 0x09, 0x05, 0x00];
-    same(&rt, months(alloc, &octets), Err(other_tag));
-}
-
-#[test]
-fn octets_behind_two_months(rt: HostRuntime) {
-    let octets = [0x04, 0x01, 0x09, 0x04, 0x01, 0x02, 0x00];
-    same(&rt, months(rt.alloc(), &octets), Err(trailing(6, 1)));
+fn months_that_are_refused(rt: HostRuntime) {
+    let no_month = |position: u32| -> Error { ErrorKind::DateTime.at(Length::new(position)) };
+    let rows: [(&[u8], Error); 8] = [
+        (&[0x04, 0x01, 0x0C, 0x04, 0x01, 0x0C], no_month(3)),
+        (&[], incomplete(1, 0, 0)),
+        (
+            &[0x02, 0x01, 0x09, 0x04, 0x01, 0x02],
+            unexpected(Tag::OctetString, Tag::Integer),
+        ),
+        (&[0x04, 0x01, 0x09, 0x04, 0x01, 0x0C], no_month(6)),
+        (&[0x04, 0x01, 0x09], incomplete(4, 3, 3)),
+        (&[0x04, 0x01, 0x09, 0x04, 0x01], incomplete(6, 5, 5)),
+        (
+            &[0x04, 0x01, 0x09, 0x05, 0x00],
+            unexpected(Tag::OctetString, Tag::Null),
+        ),
+        (&[0x04, 0x01, 0x09, 0x04, 0x01, 0x02, 0x00], trailing(6, 1)),
+    ];
+    for (octets, error) in rows {
+        same_at(&rt, error, months(rt.alloc(), octets), Err(error));
+    }
 }
 
 #[test]

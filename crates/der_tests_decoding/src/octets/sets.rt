@@ -1,6 +1,6 @@
 //! A SET OF OCTET STRING: sorted and written, and read in order.
 use super::*;
-use crate::checks::same;
+use crate::checks::{same, same_at};
 use der::BytesRef;
 use der::example::BorrowedOctets;
 use der_uses::set_of::{set_of_contents, set_of_der};
@@ -14,10 +14,6 @@ fn string(octets: &[u8]) -> Result<BorrowedOctets<'_>, Error> {
 // How the octets are refused.
 fn refusal(alloc: Global, octets: &[u8]) -> Option<Error> {
     set_of_contents(alloc, octets).err()
-}
-
-fn falls_at(position: u32) -> Option<Error> {
-    Some(ErrorKind::SetOrdering.at(Length::new(position)))
 }
 
 #[test]
@@ -96,48 +92,53 @@ fn equal_elements(rt: HostRuntime) -> Result<(), Fail> {
 
 #[test]
 fn elements_that_fall(rt: HostRuntime) {
-    let alloc = rt.alloc();
-    let second = [0x31, 0x07, 0x04, 0x02, 0x00, 0x00, 0x04, 0x01, 0xFF];
-    same(&rt, refusal(alloc, &second), falls_at(6));
-    let third = [
-        0x31, 0x09, 0x04, 0x00, 0x04, 0x02, 0x00, 0x00, 0x04, 0x01, 0xFF,
+    let rows: [(&[u8], u32); 5] = [
+        (&[0x31, 0x07, 0x04, 0x02, 0x00, 0x00, 0x04, 0x01, 0xFF], 6),
+        (
+            // the third
+            &[
+                0x31, 0x09, 0x04, 0x00, 0x04, 0x02, 0x00, 0x00, 0x04, 0x01, 0xFF,
+            ],
+            8,
+        ),
+        (
+            // as long as the one before
+            &[0x31, 0x06, 0x04, 0x01, 0x02, 0x04, 0x01, 0x01],
+            5,
+        ),
+        (
+            // the second and the third
+            &[
+                0x31, 0x09, 0x04, 0x02, 0x00, 0x00, 0x04, 0x01, 0xFF, 0x04, 0x00,
+            ],
+            6,
+        ),
+        (
+            // before another tag
+            &[0x31, 0x07, 0x04, 0x01, 0xFF, 0x04, 0x00, 0x05, 0x00],
+            5,
+        ),
     ];
-    same(&rt, refusal(alloc, &third), falls_at(8));
-    let as_long = [0x31, 0x06, 0x04, 0x01, 0x02, 0x04, 0x01, 0x01];
-    same(&rt, refusal(alloc, &as_long), falls_at(5));
-    let twice = [
-        0x31, 0x09, 0x04, 0x02, 0x00, 0x00, 0x04, 0x01, 0xFF, 0x04, 0x00,
-    ];
-    same(&rt, refusal(alloc, &twice), falls_at(6));
-    let before_another_tag = [0x31, 0x07, 0x04, 0x01, 0xFF, 0x04, 0x00, 0x05, 0x00];
-    same(&rt, refusal(alloc, &before_another_tag), falls_at(5));
+    for (octets, position) in rows {
+        let falling = ErrorKind::SetOrdering.at(Length::new(position));
+        same_at(&rt, position, refusal(rt.alloc(), octets), Some(falling));
+    }
 }
 
 #[test]
 fn octets_that_are_no_set(rt: HostRuntime) {
-    let alloc = rt.alloc();
-    let sequence = unexpected(Tag::Set, Tag::Sequence);
-    same(&rt, refusal(alloc, &[0x30, 0x00]), Some(sequence));
-    let integer = unexpected(Tag::OctetString, Tag::Integer);
-    same(
-        &rt,
-        refusal(alloc, &[0x31, 0x03, 0x02, 0x01, 0x00]),
-        Some(integer),
-    );
-    same(
-        &rt,
-        refusal(alloc, &[0x31, 0x02, 0x04, 0x00, 0x05]),
-        Some(trailing(4, 1)),
-    );
-    same(
-        &rt,
-        refusal(alloc, &[0x31, 0x03, 0x04, 0x01]),
-        Some(incomplete(5, 4, 4)),
-    );
-    same(
-        &rt,
-        refusal(alloc, &[0x31, 0x02, 0x04, 0x01, 0xFF]),
-        Some(incomplete(5, 4, 4)),
-    );
-    same(&rt, refusal(alloc, &[]), Some(incomplete(1, 0, 0)));
+    let rows: [(&[u8], Error); 6] = [
+        (&[0x30, 0x00], unexpected(Tag::Set, Tag::Sequence)),
+        (
+            &[0x31, 0x03, 0x02, 0x01, 0x00],
+            unexpected(Tag::OctetString, Tag::Integer),
+        ),
+        (&[0x31, 0x02, 0x04, 0x00, 0x05], trailing(4, 1)),
+        (&[0x31, 0x03, 0x04, 0x01], incomplete(5, 4, 4)),
+        (&[0x31, 0x02, 0x04, 0x01, 0xFF], incomplete(5, 4, 4)),
+        (&[], incomplete(1, 0, 0)),
+    ];
+    for (octets, error) in rows {
+        same_at(&rt, error, refusal(rt.alloc(), octets), Some(error));
+    }
 }

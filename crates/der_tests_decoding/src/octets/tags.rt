@@ -4,21 +4,21 @@ use crate::checks::{same, same_at};
 
 #[test]
 fn tags_both_ways(rt: HostRuntime) -> Result<(), Fail> {
-    let rows = [
-        (Tag::OctetString, [0x04].as_slice()),
-        (Tag::Sequence, [0x30].as_slice()),
-        (TagNumber(33).application(true), [0x7F, 0x21].as_slice()),
+    let rows: [(Tag, &[u8]); 6] = [
+        (Tag::OctetString, &[0x04]),
+        (Tag::Sequence, &[0x30]),
+        (TagNumber(33).application(true), &[0x7F, 0x21]),
         (
             TagNumber(16385).application(false),
-            [0x5F, 0x81, 0x80, 0x01].as_slice(),
+            &[0x5F, 0x81, 0x80, 0x01],
         ),
         (
             TagNumber(2097153).context_specific(false),
-            [0x9F, 0x81, 0x80, 0x80, 0x01].as_slice(),
+            &[0x9F, 0x81, 0x80, 0x80, 0x01],
         ),
         (
             TagNumber(4294967295).private(false),
-            [0xDF, 0x8F, 0xFF, 0xFF, 0xFF, 0x7F].as_slice(),
+            &[0xDF, 0x8F, 0xFF, 0xFF, 0xFF, 0x7F],
         ),
     ];
     for (tag, octets) in rows {
@@ -31,11 +31,11 @@ fn tags_both_ways(rt: HostRuntime) -> Result<(), Fail> {
 
 #[test]
 fn numbers_that_are_refused(rt: HostRuntime) {
-    let rows = [
-        ([0xDF, 0x9F, 0x8F, 0x8F, 0x8F, 0x0F].as_slice(), 5),
-        ([0xFF, 0x03].as_slice(), 2),
-        ([0x5F, 0x80, 0x20].as_slice(), 2),
-        ([0x1F, 0xFF].as_slice(), 1),
+    let rows: [(&[u8], u32); 4] = [
+        (&[0xDF, 0x9F, 0x8F, 0x8F, 0x8F, 0x0F], 5),
+        (&[0xFF, 0x03], 2),
+        (&[0x5F, 0x80, 0x20], 2),
+        (&[0x1F, 0xFF], 1),
     ];
     for (octets, position) in rows {
         let invalid = ErrorKind::TagNumberInvalid.at(Length::new(position));

@@ -17,6 +17,14 @@ fn refused(rt: &impl Abort, octets: &[u8], error: Error) -> Result<(), Error> {
     body_refused(rt, ber_unlent(octets)?, error)
 }
 
+// Each of these bodies is refused by its error.
+fn refused_each(rt: &impl Abort, rows: &[(&[u8], Error)]) -> Result<(), Fail> {
+    for (octets, error) in rows {
+        refused(rt, octets, *error)?;
+    }
+    Ok(())
+}
+
 // A refused header leaves the reader behind octet 80, and it has not failed.
 fn header_refused<R: Reader>(rt: &impl Abort, mut reader: R, error: Error) {
     let end = u32::from(reader.input_len());
@@ -49,45 +57,62 @@ fn body_refused<R: Reader>(rt: &impl Abort, mut reader: R, error: Error) -> Resu
 
 #[test]
 fn nothing_follows(rt: HostRuntime) -> Result<(), Fail> {
-    refused(&rt, &[0x30, 0x80], incomplete(3, 2, 2))?;
-    refused(&rt, &[0x30, 0x80, 0x05, 0x00], incomplete(5, 4, 4))?;
-    refused(&rt, &[0x30, 0x80, 0xA0, 0x80], incomplete(5, 4, 4))?;
-    let closed = [0x30, 0x80, 0x30, 0x80, 0x00, 0x00];
-    refused(&rt, &closed, incomplete(7, 6, 6))?;
-    let long = [0x30, 0x80, 0xBF, 0x8F, 0xFF, 0xFF, 0xFF, 0x7F, 0x80];
-    refused(&rt, &long, incomplete(10, 9, 9))?;
-    Ok(())
+    let rows: [(&[u8], Error); 5] = [
+        (&[0x30, 0x80], incomplete(3, 2, 2)),
+        (&[0x30, 0x80, 0x05, 0x00], incomplete(5, 4, 4)),
+        (&[0x30, 0x80, 0xA0, 0x80], incomplete(5, 4, 4)),
+        (&[0x30, 0x80, 0x30, 0x80, 0x00, 0x00], incomplete(7, 6, 6)),
+        (
+            &[0x30, 0x80, 0xBF, 0x8F, 0xFF, 0xFF, 0xFF, 0x7F, 0x80],
+            incomplete(10, 9, 9),
+        ),
+    ];
+    refused_each(&rt, &rows)
 }
 
 #[test]
 fn half_an_end_mark(rt: HostRuntime) -> Result<(), Fail> {
-    refused(&rt, &[0x30, 0x80, 0x00], incomplete(4, 3, 3))?;
-    refused(&rt, &[0x30, 0x80, 0x05, 0x00, 0x00], incomplete(6, 5, 5))?;
-    let inner = [0x30, 0x80, 0x24, 0x80, 0x00, 0x00, 0x00];
-    refused(&rt, &inner, incomplete(8, 7, 7))?;
-    Ok(())
+    let rows: [(&[u8], Error); 3] = [
+        (&[0x30, 0x80, 0x00], incomplete(4, 3, 3)),
+        (&[0x30, 0x80, 0x05, 0x00, 0x00], incomplete(6, 5, 5)),
+        (
+            &[0x30, 0x80, 0x24, 0x80, 0x00, 0x00, 0x00],
+            incomplete(8, 7, 7),
+        ),
+    ];
+    refused_each(&rt, &rows)
 }
 
 #[test]
 fn half_an_end_mark_and_another_octet(rt: HostRuntime) -> Result<(), Fail> {
-    refused(&rt, &[0x30, 0x80, 0x00, 0x01], indefinite(4))?;
-    refused(&rt, &[0x30, 0x80, 0x00, 0x80, 0x00, 0x00], indefinite(4))?;
-    let inner = [0x30, 0x80, 0x24, 0x80, 0x00, 0x05, 0x00, 0x00];
-    refused(&rt, &inner, indefinite(6))?;
-    let behind = [0x30, 0x80, 0x05, 0x00, 0x00, 0x05, 0x00, 0x00];
-    refused(&rt, &behind, indefinite(6))?;
-    Ok(())
+    let rows: [(&[u8], Error); 4] = [
+        (&[0x30, 0x80, 0x00, 0x01], indefinite(4)),
+        (&[0x30, 0x80, 0x00, 0x80, 0x00, 0x00], indefinite(4)),
+        (
+            &[0x30, 0x80, 0x24, 0x80, 0x00, 0x05, 0x00, 0x00],
+            indefinite(6),
+        ),
+        (
+            &[0x30, 0x80, 0x05, 0x00, 0x00, 0x05, 0x00, 0x00],
+            indefinite(6),
+        ),
+    ];
+    refused_each(&rt, &rows)
 }
 
 #[test]
 fn identifiers_that_are_refused(rt: HostRuntime) -> Result<(), Fail> {
-    refused(&rt, &[0x30, 0x80, 0x3F, 0x00], unknown(0x3F, 3))?;
-    refused(&rt, &[0x30, 0x80, 0x25, 0x80, 0x00, 0x00], unknown(0x25, 3))?;
-    refused(&rt, &[0x30, 0x80, 0x1F], invalid_number(3))?;
-    refused(&rt, &[0x30, 0x80, 0x5F, 0x1E, 0x00], invalid_number(4))?;
-    let behind = [0x30, 0x80, 0x24, 0x80, 0x04, 0x00, 0x2C, 0x00];
-    refused(&rt, &behind, unknown(0x2C, 7))?;
-    Ok(())
+    let rows: [(&[u8], Error); 5] = [
+        (&[0x30, 0x80, 0x3F, 0x00], unknown(0x3F, 3)),
+        (&[0x30, 0x80, 0x25, 0x80, 0x00, 0x00], unknown(0x25, 3)),
+        (&[0x30, 0x80, 0x1F], invalid_number(3)),
+        (&[0x30, 0x80, 0x5F, 0x1E, 0x00], invalid_number(4)),
+        (
+            &[0x30, 0x80, 0x24, 0x80, 0x04, 0x00, 0x2C, 0x00],
+            unknown(0x2C, 7),
+        ),
+    ];
+    refused_each(&rt, &rows)
 }
 
 // What is refused early is no identifier that is cut.
@@ -101,22 +126,32 @@ fn identifiers_that_are_refused_at_the_end(rt: HostRuntime) -> Result<(), Fail> 
 
 #[test]
 fn identifiers_that_are_cut(rt: HostRuntime) -> Result<(), Fail> {
-    refused(&rt, &[0x30, 0x80, 0x5F, 0x9E], incomplete(5, 4, 4))?;
-    refused(&rt, &[0x30, 0x80, 0x5F], incomplete(4, 3, 3))?;
-    let large = [0x30, 0x80, 0xDF, 0x8F, 0xFF, 0xFF, 0xFF];
-    refused(&rt, &large, incomplete(8, 7, 7))?;
-    Ok(())
+    let rows: [(&[u8], Error); 3] = [
+        (&[0x30, 0x80, 0x5F, 0x9E], incomplete(5, 4, 4)),
+        (&[0x30, 0x80, 0x5F], incomplete(4, 3, 3)),
+        (
+            &[0x30, 0x80, 0xDF, 0x8F, 0xFF, 0xFF, 0xFF],
+            incomplete(8, 7, 7),
+        ),
+    ];
+    refused_each(&rt, &rows)
 }
 
 #[test]
 fn primitive_identifiers_before_octet_80(rt: HostRuntime) -> Result<(), Fail> {
-    refused(&rt, &[0x30, 0x80, 0x04, 0x80], indefinite(4))?;
-    refused(&rt, &[0x30, 0x80, 0x80, 0x80, 0x00, 0x00], indefinite(4))?;
-    let long = [0x30, 0x80, 0x5F, 0x21, 0x80, 0x00, 0x00, 0x00, 0x00];
-    refused(&rt, &long, indefinite(5))?;
-    let inner = [0x30, 0x80, 0x30, 0x80, 0x05, 0x80, 0x00, 0x00];
-    refused(&rt, &inner, indefinite(6))?;
-    Ok(())
+    let rows: [(&[u8], Error); 4] = [
+        (&[0x30, 0x80, 0x04, 0x80], indefinite(4)),
+        (&[0x30, 0x80, 0x80, 0x80, 0x00, 0x00], indefinite(4)),
+        (
+            &[0x30, 0x80, 0x5F, 0x21, 0x80, 0x00, 0x00, 0x00, 0x00],
+            indefinite(5),
+        ),
+        (
+            &[0x30, 0x80, 0x30, 0x80, 0x05, 0x80, 0x00, 0x00],
+            indefinite(6),
+        ),
+    ];
+    refused_each(&rt, &rows)
 }
 
 #[test]
@@ -145,29 +180,37 @@ fn what_is_refused_inside_all_bodies(rt: HostRuntime) -> Result<(), Fail> {
 
 #[test]
 fn lengths_that_are_refused(rt: HostRuntime) -> Result<(), Fail> {
-    let octet_string = Tag::OctetString;
-    refused(
-        &rt,
-        &[0x30, 0x80, 0x04, 0x81, 0x7F],
-        incorrect(octet_string, 5),
-    )?;
-    refused(&rt, &[0x30, 0x80, 0x04, 0x85], incorrect(octet_string, 4))?;
-    refused(&rt, &[0x30, 0x80, 0x24, 0xFF], incorrect(octet_string, 4))?;
-    let short = [0x30, 0x80, 0x02, 0x82, 0x00, 0x80];
-    refused(&rt, &short, incorrect(Tag::Integer, 6))?;
-    let long = [0x30, 0x80, 0x30, 0x84, 0x00, 0xFF, 0xFF, 0xFF];
-    refused(&rt, &long, incorrect(Tag::Sequence, 8))?;
-    Ok(())
+    let rows: [(&[u8], Error); 5] = [
+        (
+            &[0x30, 0x80, 0x04, 0x81, 0x7F],
+            incorrect(Tag::OctetString, 5),
+        ),
+        (&[0x30, 0x80, 0x04, 0x85], incorrect(Tag::OctetString, 4)),
+        (&[0x30, 0x80, 0x24, 0xFF], incorrect(Tag::OctetString, 4)),
+        (
+            &[0x30, 0x80, 0x02, 0x82, 0x00, 0x80],
+            incorrect(Tag::Integer, 6),
+        ),
+        (
+            &[0x30, 0x80, 0x30, 0x84, 0x00, 0xFF, 0xFF, 0xFF],
+            incorrect(Tag::Sequence, 8),
+        ),
+    ];
+    refused_each(&rt, &rows)
 }
 
 #[test]
 fn lengths_that_are_cut(rt: HostRuntime) -> Result<(), Fail> {
-    refused(&rt, &[0x30, 0x80, 0x04], incomplete(4, 3, 3))?;
-    refused(&rt, &[0x30, 0x80, 0x04, 0x82, 0x00], incomplete(6, 5, 5))?;
-    refused(&rt, &[0x30, 0x80, 0x04, 0x81], incomplete(5, 4, 4))?;
-    let long = [0x30, 0x80, 0x04, 0x84, 0x00, 0x00, 0x00];
-    refused(&rt, &long, incomplete(8, 7, 7))?;
-    Ok(())
+    let rows: [(&[u8], Error); 4] = [
+        (&[0x30, 0x80, 0x04], incomplete(4, 3, 3)),
+        (&[0x30, 0x80, 0x04, 0x82, 0x00], incomplete(6, 5, 5)),
+        (&[0x30, 0x80, 0x04, 0x81], incomplete(5, 4, 4)),
+        (
+            &[0x30, 0x80, 0x04, 0x84, 0x00, 0x00, 0x00],
+            incomplete(8, 7, 7),
+        ),
+    ];
+    refused_each(&rt, &rows)
 }
 
 // An OCTET STRING whose first octets are there: behind its header is position 4.

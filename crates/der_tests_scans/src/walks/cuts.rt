@@ -33,14 +33,11 @@ fn scans_each_cut(
 
 #[test]
 fn short_bodies(rt: HostRuntime) -> Result<(), Fail> {
-    let rows = [
-        (SEGMENT_OF_ZEROS.as_slice(), 10),
-        ([0x04, 0x80, 0x00, 0x00].as_slice(), 2),
-        ([0x30, 0x80, 0x05, 0x00, 0x00, 0x00].as_slice(), 4),
-        (
-            [0x30, 0x80, 0xBF, 0x21, 0x80, 0x00, 0x00, 0x00, 0x00].as_slice(),
-            7,
-        ),
+    let rows: [(&[u8], u32); 4] = [
+        (&SEGMENT_OF_ZEROS, 10),
+        (&[0x04, 0x80, 0x00, 0x00], 2),
+        (&[0x30, 0x80, 0x05, 0x00, 0x00, 0x00], 4),
+        (&[0x30, 0x80, 0xBF, 0x21, 0x80, 0x00, 0x00, 0x00, 0x00], 7),
     ];
     for (octets, count) in rows {
         scans_each_cut(&rt, rt.alloc(), octets, body_of(count))?;
@@ -68,16 +65,16 @@ fn more_bodies_than_may_be_open(rt: HostRuntime) -> Result<(), Fail> {
 
 #[test]
 fn what_is_no_item(rt: HostRuntime) -> Result<(), Fail> {
-    let rows = [
-        ([0x30, 0x80].as_slice(), incomplete(3, 2, 2)),
-        ([0x30, 0x80, 0x00].as_slice(), incomplete(4, 3, 3)),
-        ([0x30, 0x80, 0x00, 0x01].as_slice(), indefinite(4)),
-        ([0x30, 0x80, 0x3F, 0x00].as_slice(), unknown(0x3F, 3)),
-        ([0x30, 0x80, 0x1F].as_slice(), invalid_number(3)),
-        ([0x30, 0x80, 0x5F, 0x9E].as_slice(), incomplete(5, 4, 4)),
-        ([0x30, 0x80, 0x5F, 0x80].as_slice(), invalid_number(4)),
-        ([0x30, 0x80, 0x04, 0x80].as_slice(), indefinite(4)),
-        ([0x04, 0x80].as_slice(), incomplete(3, 2, 2)),
+    let rows: [(&[u8], Error); 9] = [
+        (&[0x30, 0x80], incomplete(3, 2, 2)),
+        (&[0x30, 0x80, 0x00], incomplete(4, 3, 3)),
+        (&[0x30, 0x80, 0x00, 0x01], indefinite(4)),
+        (&[0x30, 0x80, 0x3F, 0x00], unknown(0x3F, 3)),
+        (&[0x30, 0x80, 0x1F], invalid_number(3)),
+        (&[0x30, 0x80, 0x5F, 0x9E], incomplete(5, 4, 4)),
+        (&[0x30, 0x80, 0x5F, 0x80], invalid_number(4)),
+        (&[0x30, 0x80, 0x04, 0x80], indefinite(4)),
+        (&[0x04, 0x80], incomplete(3, 2, 2)),
     ];
     for (octets, error) in rows {
         scans_each_cut(&rt, rt.alloc(), octets, Err(error))?;
@@ -90,15 +87,12 @@ fn lengths_and_contents_that_are_refused(rt: HostRuntime) -> Result<(), Fail> {
     let short = [0x30, 0x80, 0x04, 0x81, 0x7F];
     let many = [0x30, 0x80, 0x04, 0x85];
     let long = [0x30, 0x80, 0x04, 0x84, 0xFF, 0xFF, 0xFF, 0xFF];
-    let rows = [
+    let rows: [(&[u8], Error); 5] = [
         (short.as_slice(), incorrect(Tag::OctetString, 5)),
         (many.as_slice(), incorrect(Tag::OctetString, 4)),
+        (&[0x30, 0x80, 0x04, 0x82, 0x00], incomplete(6, 5, 5)),
         (
-            [0x30, 0x80, 0x04, 0x82, 0x00].as_slice(),
-            incomplete(6, 5, 5),
-        ),
-        (
-            [0x30, 0x80, 0x04, 0x14, 0x2A, 0x2A, 0x2A].as_slice(),
+            &[0x30, 0x80, 0x04, 0x14, 0x2A, 0x2A, 0x2A],
             incomplete(20, 7, 4),
         ),
         (long.as_slice(), incomplete(24, 8, 8)),

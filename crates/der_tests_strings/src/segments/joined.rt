@@ -68,18 +68,10 @@ fn wholly_under_der(rt: &impl Abort, alloc: Global, octets: &[u8], answer: Resul
 
 #[test]
 fn octets_as_they_stand(rt: HostRuntime) -> Result<(), Fail> {
-    let rows = [
-        ([0x04, 0x00].as_slice(), [].as_slice(), 2u32),
-        (
-            [0x04, 0x02, 0xAA, 0xBB].as_slice(),
-            [0xAA, 0xBB].as_slice(),
-            4,
-        ),
-        (
-            [0x04, 0x02, 0x04, 0x00].as_slice(),
-            [0x04, 0x00].as_slice(),
-            4,
-        ),
+    let rows: [(&[u8], &[u8], u32); 3] = [
+        (&[0x04, 0x00], &[], 2u32),
+        (&[0x04, 0x02, 0xAA, 0xBB], &[0xAA, 0xBB], 4),
+        (&[0x04, 0x02, 0x04, 0x00], &[0x04, 0x00], 4),
     ];
     for (octets, read, end) in rows {
         under_ber(&rt, rt.alloc(), octets, Ok(read), (end, false))?;
@@ -90,52 +82,59 @@ fn octets_as_they_stand(rt: HostRuntime) -> Result<(), Fail> {
 
 #[test]
 fn octets_of_segments(rt: HostRuntime) -> Result<(), Fail> {
-    let none = [0x24, 0x80, 0x00, 0x00];
-    under_ber(&rt, rt.alloc(), &none, Ok(&[]), (4, false))?;
-    let two = [
-        0x24, 0x80, 0x04, 0x02, 0xAA, 0xBB, 0x04, 0x01, 0xCC, 0x00, 0x00,
+    let rows: [(&[u8], &[u8], u32); 4] = [
+        (&[0x24, 0x80, 0x00, 0x00], &[], 4),
+        (
+            &[
+                0x24, 0x80, 0x04, 0x02, 0xAA, 0xBB, 0x04, 0x01, 0xCC, 0x00, 0x00,
+            ],
+            &[0xAA, 0xBB, 0xCC],
+            11,
+        ),
+        (
+            &[
+                0x24, 0x80, 0x04, 0x02, 0xAA, 0xBB, 0x04, 0x00, 0x04, 0x01, 0xCC, 0x00, 0x00,
+            ],
+            &[0xAA, 0xBB, 0xCC],
+            13,
+        ),
+        (
+            &[0x24, 0x80, 0x04, 0x02, 0x00, 0x00, 0x00, 0x00],
+            &[0x00, 0x00],
+            8,
+        ),
     ];
-    under_ber(&rt, rt.alloc(), &two, Ok(&[0xAA, 0xBB, 0xCC]), (11, false))?;
-    let three = [
-        0x24, 0x80, 0x04, 0x02, 0xAA, 0xBB, 0x04, 0x00, 0x04, 0x01, 0xCC, 0x00, 0x00,
-    ];
-    under_ber(
-        &rt,
-        rt.alloc(),
-        &three,
-        Ok(&[0xAA, 0xBB, 0xCC]),
-        (13, false),
-    )?;
-    let zeros = [0x24, 0x80, 0x04, 0x02, 0x00, 0x00, 0x00, 0x00];
-    under_ber(&rt, rt.alloc(), &zeros, Ok(&[0x00, 0x00]), (8, false))?;
+    for (octets, read, end) in rows {
+        under_ber(&rt, rt.alloc(), octets, Ok(read), (end, false))?;
+    }
     Ok(())
 }
 
 #[test]
 fn segments_that_are_refused(rt: HostRuntime) -> Result<(), Fail> {
-    let rows = [
+    let rows: [(&[u8], Error, (u32, bool)); 5] = [
         (
-            [0x24, 0x80, 0x05, 0x00, 0x00, 0x00].as_slice(),
+            &[0x24, 0x80, 0x05, 0x00, 0x00, 0x00],
             unexpected(Tag::OctetString, Tag::Null),
             (4, false),
         ),
         (
-            [0x24, 0x80, 0x24, 0x80, 0x00, 0x00, 0x00, 0x00].as_slice(),
+            &[0x24, 0x80, 0x24, 0x80, 0x00, 0x00, 0x00, 0x00],
             indefinite(4),
             (4, true),
         ),
         (
-            [0x24, 0x80, 0x24, 0x04, 0x04, 0x02, 0xAA, 0xBB, 0x00, 0x00].as_slice(),
+            &[0x24, 0x80, 0x24, 0x04, 0x04, 0x02, 0xAA, 0xBB, 0x00, 0x00],
             noncanonical(3),
             (4, false),
         ),
         (
-            [0x24, 0x80, 0x04, 0x05, 0xAA, 0x00, 0x00].as_slice(),
+            &[0x24, 0x80, 0x04, 0x05, 0xAA, 0x00, 0x00],
             incomplete(9, 7, 4),
             (2, false),
         ),
         (
-            [0x24, 0x80, 0x04, 0x01, 0xAA].as_slice(),
+            &[0x24, 0x80, 0x04, 0x01, 0xAA],
             incomplete(6, 5, 5),
             (2, false),
         ),
@@ -148,40 +147,26 @@ fn segments_that_are_refused(rt: HostRuntime) -> Result<(), Fail> {
 
 #[test]
 fn constructed_elements_of_definite_lengths(rt: HostRuntime) -> Result<(), Fail> {
-    let segments = [0x24, 0x04, 0x04, 0x02, 0xAA, 0xBB];
-    under_ber(&rt, rt.alloc(), &segments, Err(noncanonical(1)), (2, false))?;
-    let octets = [0x24, 0x02, 0xAA, 0xBB];
-    under_ber(&rt, rt.alloc(), &octets, Err(noncanonical(1)), (2, false))?;
-    let none = [0x24, 0x00];
-    under_ber(&rt, rt.alloc(), &none, Err(noncanonical(1)), (2, false))?;
+    let rows: [&[u8]; 3] = [
+        &[0x24, 0x04, 0x04, 0x02, 0xAA, 0xBB],
+        &[0x24, 0x02, 0xAA, 0xBB],
+        &[0x24, 0x00],
+    ];
+    for octets in rows {
+        under_ber(&rt, rt.alloc(), octets, Err(noncanonical(1)), (2, false))?;
+    }
     Ok(())
 }
 
 #[test]
 fn what_der_refuses(rt: HostRuntime) -> Result<(), Fail> {
-    let rows = [
+    let rows: [(&[u8], Error, (u32, bool)); 5] = [
+        (&[0x24, 0x80, 0x00, 0x00], unknown(0x24, 1), (1, true)),
+        (&[0x24, 0x02, 0xAA, 0xBB], unknown(0x24, 1), (1, true)),
+        (&[0x04, 0x80, 0x00, 0x00], indefinite(2), (2, true)),
+        (&[0x04, 0x02, 0xAA], incomplete(4, 3, 3), (2, false)),
         (
-            [0x24, 0x80, 0x00, 0x00].as_slice(),
-            unknown(0x24, 1),
-            (1, true),
-        ),
-        (
-            [0x24, 0x02, 0xAA, 0xBB].as_slice(),
-            unknown(0x24, 1),
-            (1, true),
-        ),
-        (
-            [0x04, 0x80, 0x00, 0x00].as_slice(),
-            indefinite(2),
-            (2, true),
-        ),
-        (
-            [0x04, 0x02, 0xAA].as_slice(),
-            incomplete(4, 3, 3),
-            (2, false),
-        ),
-        (
-            [0x0C, 0x00].as_slice(),
+            &[0x0C, 0x00],
             unexpected(Tag::OctetString, Tag::Utf8String),
             (2, false),
         ),

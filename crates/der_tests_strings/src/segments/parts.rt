@@ -56,10 +56,10 @@ const SEGMENT: [u8; 3] = [0x04, 0x01, 0x2A];
 
 #[test]
 fn primitive_headers(rt: HostRuntime) -> Result<(), Fail> {
-    let rows = [
-        (0, Ok([].as_slice()), (0, false)),
-        (2, Ok([0x04, 0x01].as_slice()), (2, false)),
-        (3, Ok(SEGMENT.as_slice()), (3, false)),
+    let rows: [(u32, Result<&[u8], Error>, (u32, bool)); 4] = [
+        (0, Ok(&[]), (0, false)),
+        (2, Ok(&[0x04, 0x01]), (2, false)),
+        (3, Ok(&SEGMENT), (3, false)),
         (4, Err(incomplete(4, 3, 0)), (0, true)),
     ];
     for (count, answer, place) in rows {

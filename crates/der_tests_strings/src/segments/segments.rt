@@ -50,23 +50,15 @@ fn joining_primitive(
 #[test]
 fn segments_that_are_joined(rt: HostRuntime) -> Result<(), Fail> {
     // the segments, what they are joined to, and how many octets they have
-    let rows = [
-        ([].as_slice(), [].as_slice(), 0u32),
-        ([0x04, 0x00].as_slice(), [].as_slice(), 2),
-        ([0x04, 0x01, 0x2A].as_slice(), [0x2A].as_slice(), 3),
+    let rows: [(&[u8], &[u8], u32); 6] = [
+        (&[], &[], 0u32),
+        (&[0x04, 0x00], &[], 2),
+        (&[0x04, 0x01, 0x2A], &[0x2A], 3),
+        (&[0x04, 0x01, 0x2A, 0x04, 0x00], &[0x2A], 5),
+        (&[0x04, 0x00, 0x04, 0x01, 0x2A], &[0x2A], 5),
         (
-            [0x04, 0x01, 0x2A, 0x04, 0x00].as_slice(),
-            [0x2A].as_slice(),
-            5,
-        ),
-        (
-            [0x04, 0x00, 0x04, 0x01, 0x2A].as_slice(),
-            [0x2A].as_slice(),
-            5,
-        ),
-        (
-            [0x04, 0x02, 0x02, 0x01, 0x04, 0x01, 0x00, 0x04, 0x01, 0x02].as_slice(),
-            [0x02, 0x01, 0x00, 0x02].as_slice(),
+            &[0x04, 0x02, 0x02, 0x01, 0x04, 0x01, 0x00, 0x04, 0x01, 0x02],
+            &[0x02, 0x01, 0x00, 0x02],
             10,
         ),
     ];
@@ -78,36 +70,24 @@ fn segments_that_are_joined(rt: HostRuntime) -> Result<(), Fail> {
 
 #[test]
 fn segments_that_are_cut(rt: HostRuntime) -> Result<(), Fail> {
-    let rows = [
-        ([0x04].as_slice(), incomplete(2, 1, 1), (1, true)),
+    let rows: [(&[u8], Error, (u32, bool)); 8] = [
+        (&[0x04], incomplete(2, 1, 1), (1, true)),
+        (&[0x04, 0x00, 0x04], incomplete(4, 3, 3), (3, true)),
+        (&[0x04, 0x01], incomplete(3, 2, 2), (2, true)),
+        (&[0x04, 0x05, 0xAA], incomplete(7, 3, 2), (2, true)),
+        (&[0x04, 0x82, 0x01], incomplete(4, 3, 3), (3, true)),
         (
-            [0x04, 0x00, 0x04].as_slice(),
-            incomplete(4, 3, 3),
-            (3, true),
-        ),
-        ([0x04, 0x01].as_slice(), incomplete(3, 2, 2), (2, true)),
-        (
-            [0x04, 0x05, 0xAA].as_slice(),
-            incomplete(7, 3, 2),
-            (2, true),
-        ),
-        (
-            [0x04, 0x82, 0x01].as_slice(),
-            incomplete(4, 3, 3),
-            (3, true),
-        ),
-        (
-            [0x04, 0x01, 0xAA, 0x04, 0x02, 0xBB].as_slice(),
+            &[0x04, 0x01, 0xAA, 0x04, 0x02, 0xBB],
             incomplete(7, 6, 5),
             (5, true),
         ),
         (
-            [0x04, 0x84, 0xFF, 0xFF, 0xFF, 0xF9, 0xAA].as_slice(),
+            &[0x04, 0x84, 0xFF, 0xFF, 0xFF, 0xF9, 0xAA],
             incomplete(4294967295, 7, 6),
             (6, true),
         ),
         (
-            [0x04, 0x84, 0xFF, 0xFF, 0xFF, 0xFA, 0xAA].as_slice(),
+            &[0x04, 0x84, 0xFF, 0xFF, 0xFF, 0xFA, 0xAA],
             ErrorKind::Overflow.to_error(),
             (6, false),
         ),
@@ -121,16 +101,12 @@ fn segments_that_are_cut(rt: HostRuntime) -> Result<(), Fail> {
 #[test]
 fn segments_with_wrong_headers(rt: HostRuntime) -> Result<(), Fail> {
     let string = Tag::OctetString;
-    let rows = [
-        ([0x3F, 0x00].as_slice(), unknown(0x3F, 1), (1, true)),
-        ([0x1F, 0x00].as_slice(), invalid_number(1), (1, true)),
-        ([0x00, 0x00].as_slice(), unknown(0x00, 1), (1, true)),
-        (
-            [0x04, 0x81, 0x7F].as_slice(),
-            incorrect(string, 3),
-            (3, true),
-        ),
-        ([0x04, 0x85].as_slice(), incorrect(string, 2), (2, true)),
+    let rows: [(&[u8], Error, (u32, bool)); 5] = [
+        (&[0x3F, 0x00], unknown(0x3F, 1), (1, true)),
+        (&[0x1F, 0x00], invalid_number(1), (1, true)),
+        (&[0x00, 0x00], unknown(0x00, 1), (1, true)),
+        (&[0x04, 0x81, 0x7F], incorrect(string, 3), (3, true)),
+        (&[0x04, 0x85], incorrect(string, 2), (2, true)),
     ];
     for (octets, error, place) in rows {
         joining_primitive(&rt, rt.alloc(), octets, Err(error), place)?;
@@ -141,19 +117,15 @@ fn segments_with_wrong_headers(rt: HostRuntime) -> Result<(), Fail> {
 #[test]
 fn segments_with_other_tags(rt: HostRuntime) -> Result<(), Fail> {
     let string = Tag::OctetString;
-    let rows = [
+    let rows: [(&[u8], Error, (u32, bool)); 3] = [
+        (&[0x05, 0x00], unexpected(string, Tag::Null), (2, false)),
         (
-            [0x05, 0x00].as_slice(),
-            unexpected(string, Tag::Null),
-            (2, false),
-        ),
-        (
-            [0x04, 0x01, 0x2A, 0x30, 0x00].as_slice(),
+            &[0x04, 0x01, 0x2A, 0x30, 0x00],
             unexpected(string, Tag::Sequence),
             (5, false),
         ),
         (
-            [0x80, 0x01, 0x2A].as_slice(),
+            &[0x80, 0x01, 0x2A],
             unexpected(string, context_specific(false)),
             (2, false),
         ),
@@ -175,26 +147,14 @@ fn segments_with_other_tags(rt: HostRuntime) -> Result<(), Fail> {
 // A segment of indefinite length, or one that has segments itself.
 #[test]
 fn segments_of_segments(rt: HostRuntime) -> Result<(), Fail> {
-    let rows = [
-        ([0x24, 0x01, 0x2A].as_slice(), noncanonical(1), (2, false)),
-        ([0x24, 0x00].as_slice(), noncanonical(1), (2, false)),
-        (
-            [0x04, 0x00, 0x24, 0x01, 0x2A].as_slice(),
-            noncanonical(3),
-            (4, false),
-        ),
-        (
-            [0x24, 0x80, 0x00, 0x00].as_slice(),
-            indefinite(2),
-            (2, true),
-        ),
-        (
-            [0x04, 0x80, 0x00, 0x00].as_slice(),
-            indefinite(2),
-            (2, true),
-        ),
-        ([0x24, 0x80].as_slice(), incomplete(3, 2, 2), (2, false)),
-        ([0x04, 0x80].as_slice(), incomplete(3, 2, 2), (2, false)),
+    let rows: [(&[u8], Error, (u32, bool)); 7] = [
+        (&[0x24, 0x01, 0x2A], noncanonical(1), (2, false)),
+        (&[0x24, 0x00], noncanonical(1), (2, false)),
+        (&[0x04, 0x00, 0x24, 0x01, 0x2A], noncanonical(3), (4, false)),
+        (&[0x24, 0x80, 0x00, 0x00], indefinite(2), (2, true)),
+        (&[0x04, 0x80, 0x00, 0x00], indefinite(2), (2, true)),
+        (&[0x24, 0x80], incomplete(3, 2, 2), (2, false)),
+        (&[0x04, 0x80], incomplete(3, 2, 2), (2, false)),
     ];
     for (octets, error, place) in rows {
         joining_each(&rt, rt.alloc(), octets, Err(error), place)?;
@@ -204,18 +164,10 @@ fn segments_of_segments(rt: HostRuntime) -> Result<(), Fail> {
 
 #[test]
 fn segments_of_segments_under_der(rt: HostRuntime) -> Result<(), Fail> {
-    let rows = [
-        ([0x24, 0x01, 0x2A].as_slice(), unknown(0x24, 1), (1, true)),
-        (
-            [0x04, 0x00, 0x24, 0x00].as_slice(),
-            unknown(0x24, 3),
-            (3, true),
-        ),
-        (
-            [0x04, 0x80, 0x00, 0x00].as_slice(),
-            indefinite(2),
-            (2, true),
-        ),
+    let rows: [(&[u8], Error, (u32, bool)); 3] = [
+        (&[0x24, 0x01, 0x2A], unknown(0x24, 1), (1, true)),
+        (&[0x04, 0x00, 0x24, 0x00], unknown(0x24, 3), (3, true)),
+        (&[0x04, 0x80, 0x00, 0x00], indefinite(2), (2, true)),
     ];
     for (octets, error, place) in rows {
         joining(&rt, rt.alloc(), der_reader(octets)?, Err(error), place);

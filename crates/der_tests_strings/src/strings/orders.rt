@@ -16,40 +16,15 @@ fn owned_order(alloc: Global, a: &[u8], b: &[u8]) -> Result<Ordering, Error> {
 // Borrowed octets are ordered one by one; those in memory of their own first by their number.
 #[test]
 fn orders_of_octets(rt: HostRuntime) {
-    let rows = [
+    let rows: [(&[u8], &[u8], Ordering, Ordering); 6] = [
+        (&[0xFF], &[0x00, 0x00], Ordering::Greater, Ordering::Less),
+        (&[], &[0x00], Ordering::Less, Ordering::Less),
+        (&[0x01], &[0x01, 0x00], Ordering::Less, Ordering::Less),
+        (&[0x01, 0xFF], &[0x02, 0x00], Ordering::Less, Ordering::Less),
+        (&[0x02], &[0x01, 0xFF], Ordering::Greater, Ordering::Less),
         (
-            [0xFF].as_slice(),
-            [0x00, 0x00].as_slice(),
-            Ordering::Greater,
-            Ordering::Less,
-        ),
-        (
-            [].as_slice(),
-            [0x00].as_slice(),
-            Ordering::Less,
-            Ordering::Less,
-        ),
-        (
-            [0x01].as_slice(),
-            [0x01, 0x00].as_slice(),
-            Ordering::Less,
-            Ordering::Less,
-        ),
-        (
-            [0x01, 0xFF].as_slice(),
-            [0x02, 0x00].as_slice(),
-            Ordering::Less,
-            Ordering::Less,
-        ),
-        (
-            [0x02].as_slice(),
-            [0x01, 0xFF].as_slice(),
-            Ordering::Greater,
-            Ordering::Less,
-        ),
-        (
-            [0x07, 0x08].as_slice(),
-            [0x07, 0x08].as_slice(),
+            &[0x07, 0x08],
+            &[0x07, 0x08],
             Ordering::Equal,
             Ordering::Equal,
         ),

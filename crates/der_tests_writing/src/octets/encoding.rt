@@ -1,7 +1,7 @@
 //! Headers, lengths, tags and elements as octets.
 use super::month::september;
 use super::*;
-use crate::checks::{holds, same, same_at};
+use crate::checks::{holds, holds_at, same, same_at};
 use der::{Encode, SliceWriter, encode_tlv, encoded_len_tlv};
 
 #[test]
@@ -35,18 +35,18 @@ fn headers_for_which_the_buffer_is_too_short(rt: HostRuntime) {
 
 #[test]
 fn lengths_as_octets(rt: HostRuntime) -> Result<(), Fail> {
-    let rows = [
-        (0, [0x00].as_slice()),
-        (127, [0x7F].as_slice()),
-        (128, [0x81, 0x80].as_slice()),
-        (255, [0x81, 0xFF].as_slice()),
-        (256, [0x82, 0x01, 0x00].as_slice()),
-        (43707, [0x82, 0xAA, 0xBB].as_slice()),
-        (65535, [0x82, 0xFF, 0xFF].as_slice()),
-        (65536, [0x83, 0x01, 0x00, 0x00].as_slice()),
-        (16777215, [0x83, 0xFF, 0xFF, 0xFF].as_slice()),
-        (16777216, [0x84, 0x01, 0x00, 0x00, 0x00].as_slice()),
-        (4294967295, [0x84, 0xFF, 0xFF, 0xFF, 0xFF].as_slice()),
+    let rows: [(u32, &[u8]); 11] = [
+        (0, &[0x00]),
+        (127, &[0x7F]),
+        (128, &[0x81, 0x80]),
+        (255, &[0x81, 0xFF]),
+        (256, &[0x82, 0x01, 0x00]),
+        (43707, &[0x82, 0xAA, 0xBB]),
+        (65535, &[0x82, 0xFF, 0xFF]),
+        (65536, &[0x83, 0x01, 0x00, 0x00]),
+        (16777215, &[0x83, 0xFF, 0xFF, 0xFF]),
+        (16777216, &[0x84, 0x01, 0x00, 0x00, 0x00]),
+        (4294967295, &[0x84, 0xFF, 0xFF, 0xFF, 0xFF]),
     ];
     for (number, want) in rows {
         let length = Length::new(number);
@@ -82,48 +82,40 @@ fn is_written_as(alloc: Global, tag: Tag, want: &[u8]) -> Result<bool, Error> {
 }
 
 #[test]
-fn tags_of_one_octet(rt: HostRuntime) -> Result<(), Fail> {
-    let alloc = rt.alloc();
-    holds(&rt, is_written_as(alloc, Tag::Boolean, &[0x01])?);
-    holds(&rt, is_written_as(alloc, Tag::BmpString, &[0x1E])?);
-    holds(&rt, is_written_as(alloc, Tag::Set, &[0x31])?);
-    let context_specific = TagNumber(0).context_specific(true);
-    holds(&rt, is_written_as(alloc, context_specific, &[0xA0])?);
-    let private = TagNumber(30).private(false);
-    holds(&rt, is_written_as(alloc, private, &[0xDE])?);
-    Ok(())
-}
-
-#[test]
-fn tags_of_two_and_three_octets(rt: HostRuntime) -> Result<(), Fail> {
-    let alloc = rt.alloc();
-    let first = TagNumber(31).application(true);
-    holds(&rt, is_written_as(alloc, first, &[0x7F, 0x1F])?);
-    let last = TagNumber(127).application(false);
-    holds(&rt, is_written_as(alloc, last, &[0x5F, 0x7F])?);
-    let first = TagNumber(128).application(false);
-    holds(&rt, is_written_as(alloc, first, &[0x5F, 0x81, 0x00])?);
-    let last = TagNumber(16383).context_specific(false);
-    holds(&rt, is_written_as(alloc, last, &[0x9F, 0xFF, 0x7F])?);
-    Ok(())
-}
-
-#[test]
-fn tags_of_more_octets(rt: HostRuntime) -> Result<(), Fail> {
-    let alloc = rt.alloc();
-    let tag = TagNumber(16385).application(false);
-    holds(&rt, is_written_as(alloc, tag, &[0x5F, 0x81, 0x80, 0x01])?);
-    let tag = TagNumber(2097153).context_specific(false);
-    holds(
-        &rt,
-        is_written_as(alloc, tag, &[0x9F, 0x81, 0x80, 0x80, 0x01])?,
-    );
-    let tag = TagNumber(268435456).private(true);
-    let octets = [0xFF, 0x81, 0x80, 0x80, 0x80, 0x00];
-    holds(&rt, is_written_as(alloc, tag, &octets)?);
-    let greatest = TagNumber(4294967295).private(false);
-    let octets = [0xDF, 0x8F, 0xFF, 0xFF, 0xFF, 0x7F];
-    holds(&rt, is_written_as(alloc, greatest, &octets)?);
+fn tags_of_one_to_six_octets(rt: HostRuntime) -> Result<(), Fail> {
+    let rows: [(Tag, &[u8]); 13] = [
+        (Tag::Boolean, &[0x01]),
+        (Tag::BmpString, &[0x1E]),
+        (Tag::Set, &[0x31]),
+        (TagNumber(0).context_specific(true), &[0xA0]),
+        (TagNumber(30).private(false), &[0xDE]),
+        (TagNumber(31).application(true), &[0x7F, 0x1F]),
+        (TagNumber(127).application(false), &[0x5F, 0x7F]),
+        (TagNumber(128).application(false), &[0x5F, 0x81, 0x00]),
+        (
+            TagNumber(16383).context_specific(false),
+            &[0x9F, 0xFF, 0x7F],
+        ),
+        (
+            TagNumber(16385).application(false),
+            &[0x5F, 0x81, 0x80, 0x01],
+        ),
+        (
+            TagNumber(2097153).context_specific(false),
+            &[0x9F, 0x81, 0x80, 0x80, 0x01],
+        ),
+        (
+            TagNumber(268435456).private(true),
+            &[0xFF, 0x81, 0x80, 0x80, 0x80, 0x00],
+        ),
+        (
+            TagNumber(4294967295).private(false),
+            &[0xDF, 0x8F, 0xFF, 0xFF, 0xFF, 0x7F],
+        ),
+    ];
+    for (tag, octets) in rows {
+        holds_at(&rt, tag, is_written_as(rt.alloc(), tag, octets)?);
+    }
     Ok(())
 }
 
