@@ -28,7 +28,8 @@ class RtCi:
     def __enter__(self):
         self.lanes.add(-self.lent)
         self.lanes.before = ["nice", "-n", "10"]
-        # Several processes prove a crate sooner, but take a third more of the processors for it.
+        # With this word `rt ci` proves so many crates at a time, each by one process. Several would
+        # take up to a third more of the processors for a crate.
         by_one = {**os.environ, "RT_JOBS": str(checker.processors())}
         how = {"stdin": subprocess.DEVNULL, "stdout": subprocess.PIPE, "env": by_one}
         # A group of its own, so that all of it can be ended at once.

@@ -1,6 +1,7 @@
 //! Lengths that are read.
 use super::*;
 use crate::checks::{same, same_at};
+use der_fixtures::errors::indefinite;
 
 fn length(alloc: Global, bytes: &[u8]) -> Result<(Length, usize), Error> {
     front::<Length>(alloc, bytes)
@@ -50,7 +51,7 @@ fn lengths_that_are_not_the_shortest(rt: HostRuntime) {
 
 #[test]
 fn the_indefinite_form(rt: HostRuntime) {
-    let refused = Err(ErrorKind::IndefiniteLength.at(Length::ONE));
+    let refused = Err(indefinite(1));
     same(&rt, length(rt.alloc(), &[0x80, 0x00, 0x00]), refused);
 }
 

@@ -1,6 +1,7 @@
 //! Tags that are read.
 use super::*;
 use crate::checks::{same, same_at};
+use der_fixtures::errors::{invalid_number, unknown};
 
 fn tag(alloc: Global, bytes: &[u8]) -> Result<(Tag, usize), Error> {
     front::<Tag>(alloc, bytes)
@@ -58,8 +59,8 @@ fn long_tags_that_are_refused(rt: HostRuntime) {
         (&[0x9F, 0x1E], 2),
     ];
     for (octets, position) in rows {
-        let invalid = ErrorKind::TagNumberInvalid.at(Length::new(position));
-        same_at(&rt, position, tag(rt.alloc(), octets), Err(invalid));
+        let invalid = Err(invalid_number(position));
+        same_at(&rt, position, tag(rt.alloc(), octets), invalid);
     }
 }
 
@@ -67,8 +68,7 @@ fn long_tags_that_are_refused(rt: HostRuntime) {
 fn tags_that_are_unknown_or_cut(rt: HostRuntime) {
     let alloc = rt.alloc();
     for byte in [0x3F, 0x21, 0x24, 0x00] {
-        let unknown = ErrorKind::TagUnknown { byte }.at(Length::ONE);
-        same_at(&rt, byte, tag(alloc, &[byte]), Err(unknown));
+        same_at(&rt, byte, tag(alloc, &[byte]), Err(unknown(byte, 1)));
     }
     same(&rt, tag(alloc, &[0x5F, 0x9E]), Err(incomplete(3, 2, 2)));
     same(&rt, tag(alloc, &[]), Err(incomplete(1, 0, 0)));

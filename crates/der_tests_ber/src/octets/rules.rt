@@ -19,12 +19,13 @@ fn the_rules_of_a_reader(rt: HostRuntime) -> Result<(), Fail> {
 
 #[test]
 fn the_indefinite_form_under_der(rt: HostRuntime) -> Result<(), Fail> {
-    for octets in [
-        [0x30, 0x80, 0x00, 0x00].as_slice(),
-        [0x30, 0x80].as_slice(),
-        [0x04, 0x80, 0x00, 0x00].as_slice(),
-        [0x30, 0x80, 0x30, 0x80].as_slice(),
-    ] {
+    let rows: [&[u8]; 4] = [
+        &[0x30, 0x80, 0x00, 0x00],
+        &[0x30, 0x80],
+        &[0x04, 0x80, 0x00, 0x00],
+        &[0x30, 0x80, 0x30, 0x80],
+    ];
+    for octets in rows {
         let mut reader = SliceReader::new(octets)?;
         same(&rt, reader.peek_header(), Err(indefinite(2)));
         same(&rt, decode_header(&mut reader), Err(indefinite(2)));

@@ -58,15 +58,21 @@ fn three_months_at_the_front(rt: HostRuntime) -> Result<(), Fail> {
 
 #[test]
 fn months_that_are_refused(rt: HostRuntime) {
-    let no_month = |position: u32| -> Error { ErrorKind::DateTime.at(Length::new(position)) };
+    let no_month = ErrorKind::DateTime;
     let rows: [(&[u8], Error); 8] = [
-        (&[0x04, 0x01, 0x0C, 0x04, 0x01, 0x0C], no_month(3)),
+        (
+            &[0x04, 0x01, 0x0C, 0x04, 0x01, 0x0C],
+            no_month.at(Length::new(3)),
+        ),
         (&[], incomplete(1, 0, 0)),
         (
             &[0x02, 0x01, 0x09, 0x04, 0x01, 0x02],
             unexpected(Tag::OctetString, Tag::Integer),
         ),
-        (&[0x04, 0x01, 0x09, 0x04, 0x01, 0x0C], no_month(6)),
+        (
+            &[0x04, 0x01, 0x09, 0x04, 0x01, 0x0C],
+            no_month.at(Length::new(6)),
+        ),
         (&[0x04, 0x01, 0x09], incomplete(4, 3, 3)),
         (&[0x04, 0x01, 0x09, 0x04, 0x01], incomplete(6, 5, 5)),
         (

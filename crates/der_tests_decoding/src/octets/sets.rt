@@ -29,12 +29,7 @@ fn elements_in_any_order(rt: HostRuntime) -> Result<(), Fail> {
     ];
     let der = set_of_der(rt.alloc(), &mut elements)?;
     same(&rt, der.as_slice(), want.as_slice());
-    let sorted = [
-        [].as_slice(),
-        [0xFF].as_slice(),
-        [0xFF].as_slice(),
-        [0x00, 0x00].as_slice(),
-    ];
+    let sorted: [&[u8]; 4] = [&[], &[0xFF], &[0xFF], &[0x00, 0x00]];
     for (element, octets) in elements.iter().zip(sorted.iter()) {
         same(&rt, element.octets.as_slice(), *octets);
     }

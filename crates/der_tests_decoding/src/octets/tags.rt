@@ -1,6 +1,7 @@
 //! Tags that are all the octets.
 use super::*;
 use crate::checks::{same, same_at};
+use der_fixtures::errors::{invalid_number, unknown};
 
 #[test]
 fn tags_both_ways(rt: HostRuntime) -> Result<(), Fail> {
@@ -38,13 +39,8 @@ fn numbers_that_are_refused(rt: HostRuntime) {
         (&[0x1F, 0xFF], 1),
     ];
     for (octets, position) in rows {
-        let invalid = ErrorKind::TagNumberInvalid.at(Length::new(position));
-        same_at(
-            &rt,
-            position,
-            Tag::from_der(rt.alloc(), octets),
-            Err(invalid),
-        );
+        let invalid = Err(invalid_number(position));
+        same_at(&rt, position, Tag::from_der(rt.alloc(), octets), invalid);
     }
 }
 
@@ -52,8 +48,7 @@ fn numbers_that_are_refused(rt: HostRuntime) {
 fn tags_that_are_unknown_or_cut(rt: HostRuntime) {
     let alloc = rt.alloc();
     for byte in [0x3F, 0x21] {
-        let unknown = ErrorKind::TagUnknown { byte }.at(Length::ONE);
-        same(&rt, Tag::from_der(alloc, &[byte]), Err(unknown));
+        same(&rt, Tag::from_der(alloc, &[byte]), Err(unknown(byte, 1)));
     }
     same(
         &rt,

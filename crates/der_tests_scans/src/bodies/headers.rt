@@ -85,19 +85,21 @@ fn as_many_bodies_as_may_be_open(rt: HostRuntime) -> Result<(), Fail> {
 // At the top the body is scanned first; inside a scan the identifier is refused at once.
 #[test]
 fn a_primitive_identifier_before_octet_80(rt: HostRuntime) -> Result<(), Fail> {
-    for octets in [
-        [0x04, 0x80, 0x00, 0x00].as_slice(),
-        [0x04, 0x80, 0x04, 0x01, 0x09, 0x00, 0x00].as_slice(),
-        [0x80, 0x80, 0x00, 0x00, 0x05].as_slice(),
-    ] {
+    let rows: [&[u8]; 3] = [
+        &[0x04, 0x80, 0x00, 0x00],
+        &[0x04, 0x80, 0x04, 0x01, 0x09, 0x00, 0x00],
+        &[0x80, 0x80, 0x00, 0x00, 0x05],
+    ];
+    for octets in rows {
         refused_behind(&rt, ber_reader(octets)?, indefinite(2), true);
         refused_behind(&rt, ber_unlent(octets)?, indefinite(2), true);
     }
-    for (octets, error) in [
-        ([0x04, 0x80].as_slice(), incomplete(3, 2, 2)),
-        ([0x04, 0x80, 0x00].as_slice(), incomplete(4, 3, 3)),
-        ([0x04, 0x80, 0x04, 0x80].as_slice(), indefinite(4)),
-    ] {
+    let rows: [(&[u8], Error); 3] = [
+        (&[0x04, 0x80], incomplete(3, 2, 2)),
+        (&[0x04, 0x80, 0x00], incomplete(4, 3, 3)),
+        (&[0x04, 0x80, 0x04, 0x80], indefinite(4)),
+    ];
+    for (octets, error) in rows {
         refused_behind(&rt, ber_reader(octets)?, error, false);
         refused_behind(&rt, ber_unlent(octets)?, error, false);
     }
