@@ -5,7 +5,8 @@ use der::{
     Tag, TagNumber, decode_header, decode_length,
 };
 use der_fixtures::errors::{incomplete, trailing};
-use der_fixtures::readers::{der_reader, der_unlent};
+use der_fixtures::readers::{Placed, der_reader, der_unlent};
+use der_uses::reader::CopyingReader;
 use std::alloc::Global;
 use std::test::Fail;
 
@@ -33,4 +34,22 @@ fn front<'a, T: DecodeBytes<'a> + Decode<SliceReader<'a>, Error = Error>>(
         Ok((value, rest)) => Ok((value, rest.len())),
         Err(error) => Err(error),
     }
+}
+
+// What is said of a call costs the checker seconds in each test that makes it. Few tests need it, so
+// they make those that several make by functions of which nothing is said.
+fn octet(reader: &mut SliceReader<'_>) -> Result<u8, Error> {
+    reader.read_byte()
+}
+
+fn tag_by(alloc: Global, reader: &mut SliceReader<'_>) -> Result<Tag, Error> {
+    reader.decode(alloc)
+}
+
+fn unlent_tag(alloc: Global, reader: &mut CopyingReader<'_>) -> Result<Tag, Error> {
+    reader.decode(alloc)
+}
+
+fn header_ahead(reader: &SliceReader<'_>) -> Result<Header, Error> {
+    Header::peek(reader)
 }

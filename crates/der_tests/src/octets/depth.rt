@@ -3,8 +3,9 @@ ghost use Rattle.der_core.specs.SliceReader.{slice_state};
 ghost use Rattle.der_core.specs.ReaderState.{Same};
 
 use super::*;
-use crate::checks::{holds, same};
+use crate::checks::{same, same_at};
 use der::{Resumption, close_value};
+use der_fixtures::errors::too_deep;
 
 // So many empty parts inside each other.
 fn nest(reader: &mut SliceReader<'_>, levels: u8) -> Result<(), Error>
@@ -23,21 +24,12 @@ fn nest(reader: &mut SliceReader<'_>, levels: u8) -> Result<(), Error>
 
 #[test]
 fn as_many_parts_as_may_stand_inside_each_other(rt: HostRuntime) -> Result<(), Fail> {
-    let mut reader = der_reader(&[])?;
-    same(&rt, nest(&mut reader, 64), Ok(()));
-    holds(&rt, !reader.is_failed());
-    same(&rt, reader.position(), Length::ZERO);
-    same(&rt, reader.input_len(), Length::ZERO);
-    Ok(())
-}
-
-#[test]
-fn one_part_more_than_may_stand_inside_each_other(rt: HostRuntime) -> Result<(), Fail> {
-    let mut reader = der_reader(&[])?;
-    let too_deep = ErrorKind::NestingDepth.at(Length::ZERO);
-    same(&rt, nest(&mut reader, 65), Err(too_deep));
-    same(&rt, reader.input_len(), Length::ZERO);
-    holds(&rt, reader.is_failed());
+    let rows = [(64, Ok(()), false), (65, Err(too_deep(0)), true)];
+    for (levels, answer, failed) in rows {
+        let mut reader = der_reader(&[])?;
+        same_at(&rt, levels, nest(&mut reader, levels), answer);
+        same_at(&rt, levels, reader.place(), (0, 0, failed));
+    }
     Ok(())
 }
 
@@ -58,33 +50,29 @@ fn a_part_in_a_part(rt: HostRuntime) -> Result<(), Fail> {
     let octets = [0x01, 0x02];
     let mut reader = der_reader(&octets)?;
     same(&rt, reader.read_nested(Length::ONE, read_inner), Ok(0x01));
-    same(&rt, reader.position(), Length::ONE);
-    same(&rt, reader.input_len(), Length::new(2));
+    same(&rt, reader.place(), (1, 2, false));
     Ok(())
 }
 
 #[test]
 fn a_part_that_is_closed(rt: HostRuntime) -> Result<(), Fail> {
-    let octets = [0x01, 0x02];
-    let mut reader = der_reader(&octets)?;
+    let mut reader = der_reader(&[0x01, 0x02])?;
     let outer = reader.enter_nested(Length::ONE)?;
-    same(&rt, reader.input_len(), Length::ONE);
+    same(&rt, reader.place(), (0, 1, false));
     let answer = reader.read_byte();
     same(&rt, reader.close_nested(outer, answer), Ok(0x01));
-    same(&rt, reader.input_len(), Length::new(2));
+    same(&rt, reader.place(), (1, 2, false));
     Ok(())
 }
 
 #[test]
 fn a_part_that_is_left(rt: HostRuntime) -> Result<(), Fail> {
-    let octets = [0x01, 0x02];
-    let mut reader = der_reader(&octets)?;
+    let mut reader = der_reader(&[0x01, 0x02])?;
     let outer = reader.enter_nested(Length::ONE)?;
     same(&rt, outer.input_len(), Length::new(2));
     same(&rt, outer.depth(), 0);
     reader.leave_nested(outer);
-    same(&rt, reader.position(), Length::ZERO);
-    same(&rt, reader.input_len(), Length::new(2));
+    same(&rt, reader.place(), (0, 2, false));
     Ok(())
 }
 
@@ -97,12 +85,11 @@ fn what_a_part_goes_back_to(rt: HostRuntime) {
 
 #[test]
 fn contents_that_are_closed(rt: HostRuntime) -> Result<(), Fail> {
-    let octets = [0x07, 0x00, 0x00];
-    let mut reader = der_reader(&octets)?;
+    let mut reader = der_reader(&[0x07, 0x00, 0x00])?;
     let outer = reader.enter_nested(Length::ONE)?;
     let answer = reader.read_byte();
     let closed = close_value(&mut reader, Length::new_indefinite(3), outer, answer);
     same(&rt, closed, Ok(0x07));
-    same(&rt, reader.position(), Length::new(3));
+    same(&rt, reader.place(), (3, 3, false));
     Ok(())
 }

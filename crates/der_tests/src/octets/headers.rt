@@ -64,10 +64,9 @@ fn headers_that_are_refused(rt: HostRuntime) {
 fn a_refused_header_leaves_the_reader_failed(rt: HostRuntime) -> Result<(), Fail> {
     let octets = [0x04, 0x81, 0x7F, 0x05];
     let mut reader = der_reader(&octets)?;
-    let incorrect = incorrect(Tag::OctetString, 3);
-    same(&rt, decode_header(&mut reader), Err(incorrect));
-    holds(&rt, reader.is_failed());
-    same(&rt, reader.position(), Length::new(3));
+    let refused = Err(incorrect(Tag::OctetString, 3));
+    same(&rt, decode_header(&mut reader), refused);
+    same(&rt, reader.place(), (3, 4, true));
     let failed = ErrorKind::Failed.at(Length::new(3));
     same(&rt, decode_header(&mut reader), Err(failed));
     same(&rt, Header::decode(rt.alloc(), &mut reader), Err(failed));

@@ -72,6 +72,6 @@ fn a_length_without_an_allocator(rt: HostRuntime) -> Result<(), Fail> {
     let octets = [0x82, 0xAA, 0xBB, 0x01];
     let mut reader = der_reader(&octets)?;
     same(&rt, decode_length(&mut reader), Ok(Length::new(43707)));
-    same(&rt, reader.position(), Length::new(3));
+    same(&rt, reader.place(), (3, 4, false));
     Ok(())
 }

@@ -3,8 +3,9 @@ ghost use Rattle.der_core.specs.SliceReader.{slice_state};
 ghost use Rattle.der_core.specs.ReaderState.{Same};
 
 use super::*;
-use crate::checks::{holds, same};
+use crate::checks::{same, same_at};
 use der::{Position, read_eoc, read_value};
+use der_fixtures::errors::{indefinite, unexpected};
 
 fn read_one(reader: &mut SliceReader<'_>) -> Result<u8, Error>
     ensures { Same (slice_state reader.old) (slice_state reader.new) }
@@ -18,33 +19,23 @@ fn read_header(reader: &mut SliceReader<'_>) -> Result<Header, Error>
     decode_header(reader)
 }
 
-fn read_none(reader: &mut SliceReader<'_>) -> Result<(), Error>
-    ensures { Same (slice_state reader.old) (slice_state reader.new) }
-{
-    let _ = reader.position();
-    Ok(())
+// The octet that is all of a part of this length.
+fn part(reader: &mut SliceReader<'_>, length: Length) -> Result<u8, Error> {
+    reader.read_nested(length, read_one)
 }
 
 #[test]
-fn a_part_is_read_to_its_end(rt: HostRuntime) -> Result<(), Fail> {
-    let octets = [0x01, 0x02];
-    let mut reader = der_reader(&octets)?;
-    same(&rt, reader.read_nested(Length::ONE, read_one), Ok(0x01));
-    same(&rt, reader.position(), Length::ONE);
-    same(&rt, reader.input_len(), Length::new(2));
-    Ok(())
-}
-
-#[test]
-fn a_part_with_octets_left(rt: HostRuntime) -> Result<(), Fail> {
-    let octets = [0x01, 0x02];
-    let mut reader = der_reader(&octets)?;
-    same(
-        &rt,
-        reader.read_nested(Length::new(2), read_one),
-        Err(trailing(1, 1)),
-    );
-    holds(&rt, reader.is_failed());
+fn parts_of_octets(rt: HostRuntime) -> Result<(), Fail> {
+    let rows = [
+        (1, Ok(0x01), (1, 2, false)),
+        (2, Err(trailing(1, 1)), (1, 2, true)),
+        (3, Err(incomplete(3, 2, 2)), (0, 2, false)),
+    ];
+    for (count, answer, place) in rows {
+        let mut reader = der_reader(&[0x01, 0x02])?;
+        same_at(&rt, count, part(&mut reader, Length::new(count)), answer);
+        same_at(&rt, count, reader.place(), place);
+    }
     Ok(())
 }
 
@@ -52,72 +43,64 @@ fn a_part_with_octets_left(rt: HostRuntime) -> Result<(), Fail> {
 fn a_part_past_the_end(rt: HostRuntime) -> Result<(), Fail> {
     let octets = [0x01, 0x02, 0x03];
     let mut reader = der_reader(&octets)?;
-    same(&rt, reader.read_byte(), Ok(0x01));
+    same(&rt, octet(&mut reader), Ok(0x01));
     let past = Err(incomplete(4, 3, 3));
-    same(&rt, reader.read_nested(Length::new(3), read_one), past);
-    holds(&rt, !reader.is_failed());
-    same(&rt, reader.position(), Length::ONE);
+    same(&rt, part(&mut reader, Length::new(3)), past);
+    same(&rt, reader.place(), (1, 3, false));
     let overflow = Err(ErrorKind::Overflow.to_error());
-    same(&rt, reader.read_nested(Length::MAX, read_one), overflow);
+    same(&rt, part(&mut reader, Length::MAX), overflow);
     Ok(())
 }
 
 #[test]
-fn a_sequence_that_is_not_read_whole(rt: HostRuntime) -> Result<(), Fail> {
-    let octets = [0x30, 0x03, 0x05, 0x00, 0x00];
-    let mut reader = der_reader(&octets)?;
-    same(&rt, reader.sequence(read_header), Err(trailing(4, 1)));
-    holds(&rt, reader.is_failed());
-    Ok(())
-}
-
-#[test]
-fn a_sequence(rt: HostRuntime) -> Result<(), Fail> {
-    let octets = [0x30, 0x02, 0x05, 0x00, 0x01];
-    let mut reader = der_reader(&octets)?;
+fn sequences(rt: HostRuntime) -> Result<(), Fail> {
     let null = Header::new(Tag::Null, Length::ZERO);
-    same(&rt, reader.sequence(read_header), Ok(null));
-    same(&rt, reader.position(), Length::new(4));
-    same(&rt, reader.remaining_len(), Length::ONE);
+    let rows: [(&[u8], Result<Header, Error>, (u32, u32, bool)); 4] = [
+        (&[0x30, 0x02, 0x05, 0x00, 0x01], Ok(null), (4, 5, false)),
+        (
+            &[0x30, 0x03, 0x05, 0x00, 0x00],
+            Err(trailing(4, 1)),
+            (4, 5, true),
+        ),
+        (
+            &[0x31, 0x00],
+            Err(unexpected(Tag::Sequence, Tag::Set)),
+            (2, 2, false),
+        ),
+        (
+            &[0x30, 0x04, 0x05, 0x00],
+            Err(incomplete(5, 4, 4)),
+            (2, 4, false),
+        ),
+    ];
+    for (octets, answer, place) in rows {
+        let mut reader = der_reader(octets)?;
+        let read = reader.sequence(read_header);
+        same_at(&rt, octets.len(), read, answer);
+        same_at(&rt, octets.len(), reader.place(), place);
+    }
     Ok(())
 }
 
-#[test]
-fn no_sequence(rt: HostRuntime) -> Result<(), Fail> {
-    let set = [0x31, 0x00];
-    let mut reader = der_reader(&set)?;
-    let unexpected = ErrorKind::TagUnexpected {
-        expected: Some(Tag::Sequence),
-        actual: Tag::Set,
-    };
-    same(&rt, reader.sequence(read_none), Err(unexpected.to_error()));
-    same(&rt, reader.position(), Length::new(2));
-    holds(&rt, !reader.is_failed());
-    Ok(())
+fn advance(position: &mut Position, count: u32) -> Result<Length, Error> {
+    position.advance(Length::new(count))
+}
+
+// Where the position is, how far it may go, and how many parts it is in.
+fn place_in(position: &Position) -> (u32, u32, u8) {
+    let current = u32::from(position.current());
+    (current, u32::from(position.input_len()), position.depth())
 }
 
 #[test]
-fn a_sequence_that_is_cut(rt: HostRuntime) -> Result<(), Fail> {
-    let cut = [0x30, 0x04, 0x05, 0x00];
-    let mut reader = der_reader(&cut)?;
-    same(&rt, reader.sequence(read_none), Err(incomplete(5, 4, 4)));
-    same(&rt, reader.position(), Length::new(2));
-    holds(&rt, !reader.is_failed());
-    Ok(())
-}
-
-#[test]
-fn positions(rt: HostRuntime) -> Result<(), Fail> {
+fn positions(rt: HostRuntime) {
     let mut position = Position::new(Length::new(42));
-    same(&rt, position.advance(Length::ONE), Ok(Length::ONE));
-    same(&rt, position.advance(Length::new(41)), Ok(Length::new(42)));
-    same(
-        &rt,
-        position.advance(Length::ONE),
-        Err(incomplete(43, 42, 42)),
-    );
-    same(&rt, position.current(), Length::new(42));
-    Ok(())
+    let past = Err(incomplete(43, 42, 42));
+    let rows = [(1, Ok(Length::ONE)), (41, Ok(Length::new(42))), (1, past)];
+    for (count, answer) in rows {
+        same_at(&rt, count, advance(&mut position, count), answer);
+    }
+    same(&rt, place_in(&position), (42, 42, 0));
 }
 
 #[test]
@@ -125,36 +108,32 @@ fn positions_in_a_part(rt: HostRuntime) -> Result<(), Fail> {
     let mut position = Position::new(Length::new(42));
     let resumption = position.split_nested(Length::ONE)?;
     same(&rt, resumption.input_len(), Length::new(42));
-    same(&rt, position.advance(Length::ONE), Ok(Length::ONE));
-    same(&rt, position.advance(Length::ONE), Err(incomplete(2, 1, 1)));
+    same(&rt, advance(&mut position, 1), Ok(Length::ONE));
+    same(&rt, advance(&mut position, 1), Err(incomplete(2, 1, 1)));
     position.resume_nested(resumption);
-    same(&rt, position.current(), Length::ONE);
-    same(&rt, position.input_len(), Length::new(42));
+    same(&rt, place_in(&position), (1, 42, 0));
     Ok(())
 }
 
 #[test]
 fn a_clone_of_a_position(rt: HostRuntime) -> Result<(), Fail> {
     let mut position = Position::new(Length::new(42));
-    same(&rt, position.advance(Length::new(2)), Ok(Length::new(2)));
+    same(&rt, advance(&mut position, 2), Ok(Length::new(2)));
     position.split_nested(Length::new(10))?;
     let clone = position.clone()?;
-    same(&rt, position.advance(Length::ONE), Ok(Length::new(3)));
-    same(&rt, clone.current(), Length::new(2));
-    same(&rt, clone.input_len(), Length::new(12));
-    same(&rt, clone.depth(), 1);
+    same(&rt, advance(&mut position, 1), Ok(Length::new(3)));
+    same(&rt, place_in(&clone), (2, 12, 1));
     Ok(())
 }
 
 #[test]
 fn a_part_past_the_end_of_a_position(rt: HostRuntime) -> Result<(), Fail> {
     let mut position = Position::new(Length::new(42));
-    same(&rt, position.advance(Length::ONE), Ok(Length::ONE));
+    same(&rt, advance(&mut position, 1), Ok(Length::ONE));
     same(&rt, position.remaining_len(), Length::new(41));
     let past = position.split_nested(Length::new(42)).err();
     same(&rt, past, Some(incomplete(43, 42, 42)));
-    same(&rt, position.current(), Length::ONE);
-    same(&rt, position.depth(), 0);
+    same(&rt, place_in(&position), (1, 42, 0));
     same(
         &rt,
         position.error(ErrorKind::Failed),
@@ -164,26 +143,18 @@ fn a_part_past_the_end_of_a_position(rt: HostRuntime) -> Result<(), Fail> {
 }
 
 #[test]
-fn a_value_and_its_end_marks(rt: HostRuntime) -> Result<(), Fail> {
-    let octets = [0x07, 0x00, 0x00, 0x05];
-    let mut reader = der_reader(&octets)?;
-    let header = Header::new(Tag::OctetString, Length::new_indefinite(3));
-    let read = read_value(&mut reader, header, read_contents);
-    same(&rt, read, Ok((0x07, Length::new_indefinite(1))));
-    same(&rt, reader.position(), Length::new(3));
-    Ok(())
-}
-
-#[test]
-fn a_value_without_end_marks(rt: HostRuntime) -> Result<(), Fail> {
-    let octets = [0x07, 0x00, 0x00, 0x05];
-    let mut reader = der_reader(&octets)?;
-    let plain = Header::new(Tag::OctetString, Length::ONE);
-    same(
-        &rt,
-        read_value(&mut reader, plain, read_contents),
-        Ok((0x07, Length::ONE)),
-    );
+fn values_with_and_without_end_marks(rt: HostRuntime) -> Result<(), Fail> {
+    let rows = [
+        (Length::new_indefinite(3), Length::new_indefinite(1), 3),
+        (Length::ONE, Length::ONE, 1),
+    ];
+    for (length, contents, position) in rows {
+        let mut reader = der_reader(&[0x07, 0x00, 0x00, 0x05])?;
+        let header = Header::new(Tag::OctetString, length);
+        let read = read_value(&mut reader, header, read_contents);
+        same_at(&rt, length, read, Ok((0x07, contents)));
+        same_at(&rt, length, reader.place(), (position, 4, false));
+    }
     Ok(())
 }
 
@@ -192,10 +163,9 @@ fn end_marks(rt: HostRuntime) -> Result<(), Fail> {
     let octets = [0x00, 0x00, 0x05];
     let mut reader = der_reader(&octets)?;
     same(&rt, read_eoc(&mut reader), Ok(()));
-    same(&rt, reader.position(), Length::new(2));
-    let wrong = ErrorKind::IndefiniteLength.at(Length::new(3));
-    same(&rt, read_eoc(&mut reader), Err(wrong));
-    holds(&rt, reader.is_failed());
+    same(&rt, reader.place(), (2, 3, false));
+    same(&rt, read_eoc(&mut reader), Err(indefinite(3)));
+    same(&rt, reader.place(), (3, 3, true));
     Ok(())
 }
 

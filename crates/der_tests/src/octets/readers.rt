@@ -3,13 +3,15 @@ use super::*;
 use crate::checks::{holds, same};
 use der::DecodeError;
 
+fn octets_of<'a>(reader: &mut SliceReader<'a>, length: Length) -> Result<&'a [u8], Error> {
+    reader.read_slice(length)
+}
+
 #[test]
 fn a_new_reader(rt: HostRuntime) -> Result<(), Fail> {
     let reader = der_reader(&[0x01, 0x02])?;
     holds(&rt, reader.encoding_rules().is_der());
-    same(&rt, reader.input_len(), Length::new(2));
-    same(&rt, reader.position(), Length::ZERO);
-    holds(&rt, !reader.is_failed());
+    same(&rt, reader.place(), (0, 2, false));
     Ok(())
 }
 
@@ -17,12 +19,12 @@ fn a_new_reader(rt: HostRuntime) -> Result<(), Fail> {
 fn octets_in_turn(rt: HostRuntime) -> Result<(), Fail> {
     let octets = [0x01, 0x02, 0x03, 0x04];
     let mut reader = der_reader(&octets)?;
-    same(&rt, reader.read_byte(), Ok(0x01));
-    let lent = reader.read_slice(Length::new(2))?;
+    same(&rt, octet(&mut reader), Ok(0x01));
+    let lent = octets_of(&mut reader, Length::new(2))?;
     same(&rt, lent, [0x02, 0x03].as_slice());
     same(&rt, lent.as_slice().len(), 2);
     same(&rt, reader.remaining()?, [0x04].as_slice());
-    same(&rt, reader.position(), Length::new(3));
+    same(&rt, reader.place(), (3, 4, false));
     Ok(())
 }
 
@@ -32,9 +34,9 @@ fn octets_to_the_end(rt: HostRuntime) -> Result<(), Fail> {
     let mut octets = [0u8; 2];
     same(&rt, reader.read_into(&mut octets), Ok(()));
     same(&rt, octets, [0x03, 0x04]);
-    same(&rt, reader.position(), Length::new(2));
-    same(&rt, reader.read_byte(), Err(incomplete(3, 2, 2)));
-    holds(&rt, reader.is_failed());
+    same(&rt, reader.place(), (2, 2, false));
+    same(&rt, octet(&mut reader), Err(incomplete(3, 2, 2)));
+    same(&rt, reader.place(), (2, 2, true));
     Ok(())
 }
 
@@ -42,14 +44,12 @@ fn octets_to_the_end(rt: HostRuntime) -> Result<(), Fail> {
 fn octets_that_are_not_there(rt: HostRuntime) -> Result<(), Fail> {
     let octets = [0x01, 0x02];
     let mut reader = der_reader(&octets)?;
-    same(
-        &rt,
-        reader.read_slice(Length::MAX).err(),
-        Some(incomplete(4294967295, 2, 0)),
-    );
-    holds(&rt, reader.is_failed());
+    let missing = Some(incomplete(4294967295, 2, 0));
+    same(&rt, octets_of(&mut reader, Length::MAX).err(), missing);
+    same(&rt, reader.place(), (0, 2, true));
     let failed = ErrorKind::Failed.at(Length::ZERO);
-    same(&rt, reader.read_slice(Length::ZERO).err(), Some(failed));
+    let again = octets_of(&mut reader, Length::ZERO).err();
+    same(&rt, again, Some(failed));
     same(&rt, reader.remaining().err(), Some(failed));
     let mut buffer = [7u8, 7];
     same(&rt, reader.read_into(&mut buffer), Err(failed));
@@ -61,11 +61,12 @@ fn octets_that_are_not_there(rt: HostRuntime) -> Result<(), Fail> {
 fn more_octets_than_a_length_counts(rt: HostRuntime) -> Result<(), Fail> {
     let octets = [0x01, 0x02];
     let mut reader = der_reader(&octets)?;
-    same(&rt, reader.read_byte(), Ok(0x01));
+    same(&rt, octet(&mut reader), Ok(0x01));
     let overflow = ErrorKind::Overflow.to_error();
-    same(&rt, reader.read_slice(Length::MAX).err(), Some(overflow));
-    holds(&rt, !reader.is_failed());
-    same(&rt, reader.read_byte(), Ok(0x02));
+    let refused = octets_of(&mut reader, Length::MAX).err();
+    same(&rt, refused, Some(overflow));
+    same(&rt, reader.place(), (1, 2, false));
+    same(&rt, octet(&mut reader), Ok(0x02));
     Ok(())
 }
 
@@ -73,11 +74,10 @@ fn more_octets_than_a_length_counts(rt: HostRuntime) -> Result<(), Fail> {
 fn an_error_of_the_caller(rt: HostRuntime) -> Result<(), Fail> {
     let octets = [0x01, 0x02];
     let mut reader = der_reader(&octets)?;
-    same(&rt, reader.read_byte(), Ok(0x01));
+    same(&rt, octet(&mut reader), Ok(0x01));
     let error = reader.error(ErrorKind::DateTime);
     same(&rt, error, ErrorKind::DateTime.at(Length::ONE));
-    holds(&rt, reader.is_failed());
-    same(&rt, reader.position(), Length::ONE);
+    same(&rt, reader.place(), (1, 2, true));
     Ok(())
 }
 

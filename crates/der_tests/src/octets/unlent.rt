@@ -4,6 +4,7 @@ ghost use Rattle.der_core.specs.ReaderState.{Same};
 use super::*;
 use crate::checks::{holds, same};
 use der::read_eoc;
+use der_fixtures::errors::incorrect;
 
 fn read_header<R: Reader>(reader: &mut R) -> Result<Header, Error>
     ensures { Same (R.state reader.old) (R.state reader.new) }
@@ -17,15 +18,9 @@ fn headers_without_lending(rt: HostRuntime) -> Result<(), Fail> {
     let mut reader = der_unlent(&octets)?;
     let null = Header::new(Tag::Null, Length::ZERO);
     same(&rt, reader.sequence(read_header), Ok(null));
-    let incorrect = ErrorKind::Length {
-        tag: Tag::OctetString,
-    };
-    same(
-        &rt,
-        decode_header(&mut reader),
-        Err(incorrect.at(Length::new(7))),
-    );
-    holds(&rt, reader.is_failed());
+    let refused = Err(incorrect(Tag::OctetString, 7));
+    same(&rt, decode_header(&mut reader), refused);
+    same(&rt, reader.place(), (7, 7, true));
     Ok(())
 }
 
@@ -37,7 +32,7 @@ fn nothing_is_lent(rt: HostRuntime) -> Result<(), Fail> {
     same(&rt, reader.tlv_bytes().err(), Some(refused));
     same(&rt, reader.read_slice(Length::ONE).err(), Some(refused));
     same(&rt, reader.remaining().err(), Some(refused));
-    same(&rt, reader.position(), Length::ZERO);
+    same(&rt, reader.place(), (0, 2, false));
     Ok(())
 }
 
@@ -58,8 +53,7 @@ fn values_without_lending(rt: HostRuntime) -> Result<(), Fail> {
     let octets = [0x05, 0x30];
     let mut reader = der_unlent(&octets)?;
     same(&rt, reader.peek_tag(), Ok(Tag::Null));
-    let tag: Result<Tag, Error> = reader.decode(rt.alloc());
-    same(&rt, tag, Ok(Tag::Null));
+    same(&rt, unlent_tag(rt.alloc(), &mut reader), Ok(Tag::Null));
     same(&rt, reader.drain(Length::ONE), Ok(()));
     holds(&rt, reader.is_finished());
     same(&rt, reader.finish(), Ok(()));

@@ -2,7 +2,7 @@
 ghost use Rattle.der_core.specs.ReaderState.{Same};
 
 use super::*;
-use crate::checks::{holds, same};
+use crate::checks::same;
 use der::{close_value, read_value};
 
 fn read_one<R: Reader>(reader: &mut R) -> Result<u8, Error>
@@ -37,7 +37,7 @@ fn a_value_without_lending(rt: HostRuntime) -> Result<(), Fail> {
     let header = Header::new(Tag::OctetString, Length::new_indefinite(3));
     let read = read_value(&mut reader, header, read_contents);
     same(&rt, read, Ok((0x07, Length::new_indefinite(1))));
-    same(&rt, reader.position(), Length::new(3));
+    same(&rt, reader.place(), (3, 3, false));
     Ok(())
 }
 
@@ -47,12 +47,8 @@ fn contents_closed_without_lending(rt: HostRuntime) -> Result<(), Fail> {
     let mut reader = der_unlent(&octets)?;
     let outer = reader.enter_nested(Length::new(2))?;
     let answer = reader.read_byte();
-    let left = ErrorKind::TrailingData {
-        decoded: Length::ONE,
-        remaining: Length::ONE,
-    };
     let closed = close_value(&mut reader, Length::new(2), outer, answer);
-    same(&rt, closed, Err(left.at(Length::ONE)));
-    holds(&rt, reader.is_failed());
+    same(&rt, closed, Err(trailing(1, 1)));
+    same(&rt, reader.place(), (1, 2, true));
     Ok(())
 }

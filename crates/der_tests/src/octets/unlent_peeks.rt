@@ -2,6 +2,7 @@
 use super::*;
 use crate::checks::{holds, same};
 use der::{Class, TagPeek};
+use der_fixtures::errors::unknown;
 
 #[test]
 fn a_header_ahead_without_lending(rt: HostRuntime) -> Result<(), Fail> {
@@ -10,7 +11,7 @@ fn a_header_ahead_without_lending(rt: HostRuntime) -> Result<(), Fail> {
     let sequence = Header::new(Tag::Sequence, Length::ZERO);
     same(&rt, Header::peek(&reader), Ok(sequence));
     same(&rt, reader.peek_header(), Ok(sequence));
-    same(&rt, reader.position(), Length::ZERO);
+    same(&rt, reader.place(), (0, 2, false));
     Ok(())
 }
 
@@ -21,7 +22,7 @@ fn octets_ahead_without_lending(rt: HostRuntime) -> Result<(), Fail> {
     let mut buffer = [0u8; 2];
     same(&rt, reader.peek_into(&mut buffer), Ok(()));
     same(&rt, buffer, [0x30, 0x00]);
-    same(&rt, reader.position(), Length::ZERO);
+    same(&rt, reader.place(), (0, 2, false));
     Ok(())
 }
 
@@ -36,7 +37,7 @@ fn a_tag_ahead_without_lending(rt: HostRuntime) -> Result<(), Fail> {
         Tag::peek_matches(&mut reader, Class::ContextSpecific, one),
         Ok(true),
     );
-    same(&rt, reader.position(), Length::ZERO);
+    same(&rt, reader.place(), (0, 2, false));
     Ok(())
 }
 
@@ -49,7 +50,7 @@ fn a_tag_and_its_bit_without_lending(rt: HostRuntime) -> Result<(), Fail> {
         Tag::decode_with_constructed_bit(&mut reader),
         Ok((Tag::Sequence, true)),
     );
-    same(&rt, reader.position(), Length::ONE);
+    same(&rt, reader.place(), (1, 1, false));
     Ok(())
 }
 
@@ -78,13 +79,11 @@ fn a_length_decoded_without_lending(rt: HostRuntime) -> Result<(), Fail> {
 
 #[test]
 fn a_value_refused_without_lending(rt: HostRuntime) -> Result<(), Fail> {
-    let octets = [0x3F, 0x05];
-    let mut reader = der_unlent(&octets)?;
-    let tag: Result<Tag, Error> = reader.decode(rt.alloc());
-    let unknown = ErrorKind::TagUnknown { byte: 0x3F };
-    same(&rt, tag, Err(unknown.at(Length::ONE)));
-    holds(&rt, reader.is_failed());
-    let again: Result<Tag, Error> = reader.decode(rt.alloc());
-    same(&rt, again, Err(ErrorKind::Failed.at(Length::ONE)));
+    let mut reader = der_unlent(&[0x3F, 0x05])?;
+    let refused = Err(unknown(0x3F, 1));
+    same(&rt, unlent_tag(rt.alloc(), &mut reader), refused);
+    same(&rt, reader.place(), (1, 2, true));
+    let failed = Err(ErrorKind::Failed.at(Length::ONE));
+    same(&rt, unlent_tag(rt.alloc(), &mut reader), failed);
     Ok(())
 }
