@@ -18,6 +18,11 @@ pub fn same_at<K: Display + Drop, T: PartialEq + Debug + Drop>(
     assert_eq!(rt; answer, expected, "at {row}");
 }
 
+/// Ends the test where the octets are not those that are expected.
+pub fn same_octets(rt: &impl Abort, octets: &[u8], expected: &[u8]) {
+    same(rt, octets, expected);
+}
+
 /// Ends the test where the fact is false.
 pub fn holds(rt: &impl Abort, fact: bool) {
     assert!(rt; fact);

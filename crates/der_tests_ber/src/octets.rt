@@ -1,5 +1,9 @@
 //! Worked cases of reading under the Basic Encoding Rules; what is expected is worked out by hand
 //! from X.690 and from the rules of refusals.
+use calls::{
+    finished, header_of, next_element, next_header, next_month, peek_header, refused_element,
+};
+use der::example::MyByteMonth;
 use der::{
     Decode, DecodeBytes, EncodingRules, Error, ErrorKind, Header, Length, Reader, ReaderExt,
     SliceReader, Tag, decode_header,
@@ -13,6 +17,7 @@ use std::alloc::Global;
 use std::test::Fail;
 
 mod ahead;
+mod calls;
 mod elements;
 mod fields;
 mod months;

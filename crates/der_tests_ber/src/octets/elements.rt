@@ -4,7 +4,7 @@ ghost use Rattle.der_core.specs.ReaderState.{Same};
 ghost use Rattle.der_core.specs.SliceReader.{slice_state};
 
 use super::*;
-use crate::checks::{same, same_at};
+use crate::checks::{same, same_at, same_octets};
 use der::TagNumber;
 
 // What a CMS message of encrypted data says of its contents: the type, how they are encrypted, and
@@ -22,10 +22,10 @@ fn an_element_among_others(rt: HostRuntime) -> Result<(), Fail> {
     let octets = [0x30, 0x80, 0x05, 0x00, 0x00, 0x00, 0x02, 0x01, 0x2A];
     let mut reader = ber_reader(&octets)?;
     let null = [0x30, 0x80, 0x05, 0x00, 0x00, 0x00];
-    same(&rt, reader.tlv_bytes()?, null.as_slice());
+    same_octets(&rt, next_element(&mut reader)?, &null);
     same(&rt, reader.place(), (6, 9, false));
-    same(&rt, reader.tlv_bytes()?, [0x02, 0x01, 0x2A].as_slice());
-    same(&rt, reader.finish(), Ok(()));
+    same_octets(&rt, next_element(&mut reader)?, &[0x02, 0x01, 0x2A]);
+    same(&rt, finished(reader), Ok(()));
     Ok(())
 }
 
@@ -34,10 +34,11 @@ fn an_element_among_others(rt: HostRuntime) -> Result<(), Fail> {
 #[test]
 fn elements_of_each_length(rt: HostRuntime) -> Result<(), Fail> {
     for count in [0u8, 1, 122, 123, 124, 125, 126, 127] {
-        let octets = around_contents(rt.alloc(), count)?;
+        let element = around_contents(rt.alloc(), count)?;
+        let octets = element.as_slice();
         let end = count as u32 + 6;
-        let mut reader = ber_reader(octets.as_slice())?;
-        same_at(&rt, count, reader.tlv_bytes()?, octets.as_slice());
+        let mut reader = ber_reader(octets)?;
+        same_at(&rt, count, next_element(&mut reader)?, octets);
         same_at(&rt, count, reader.place(), (end, end, false));
     }
     Ok(())
@@ -55,7 +56,7 @@ fn an_element_without_lending(rt: HostRuntime) -> Result<(), Fail> {
 #[test]
 fn a_primitive_identifier_before_octet_80(rt: HostRuntime) -> Result<(), Fail> {
     let mut reader = ber_reader(&[0x04, 0x80, 0x00, 0x00])?;
-    same(&rt, reader.tlv_bytes().err(), Some(indefinite(2)));
+    same(&rt, refused_element(&mut reader), Some(indefinite(2)));
     same(&rt, reader.place(), (0, 4, false));
     Ok(())
 }
@@ -63,12 +64,12 @@ fn a_primitive_identifier_before_octet_80(rt: HostRuntime) -> Result<(), Fail> {
 #[test]
 fn encrypted_contents(rt: HostRuntime) -> Result<(), Fail> {
     let mut reader = ber_reader(&ENCRYPTED_CONTENT_INFO)?;
-    let header = decode_header(&mut reader)?;
+    let header = next_header(&mut reader)?;
     let info = Header::new(Tag::Sequence, Length::new_indefinite(66));
     same(&rt, header, info);
     same(&rt, reader.place(), (2, 68, false));
-    same(&rt, reader.tlv_bytes()?.len(), 11);
-    same(&rt, reader.tlv_bytes()?.len(), 31);
+    same(&rt, next_element(&mut reader)?.len(), 11);
+    same(&rt, next_element(&mut reader)?.len(), 31);
     same(&rt, reader.place(), (44, 68, false));
     let header = Header::decode(rt.alloc(), &mut reader)?;
     same(&rt, header.tag(), TagNumber(0).context_specific(true));
@@ -91,8 +92,8 @@ fn encrypted_contents_in_their_sequence(rt: HostRuntime) -> Result<(), Fail> {
     let mut reader = ber_reader(&ENCRYPTED_CONTENT_INFO)?;
     let (contents, first, second) = reader.sequence(read_three)?;
     same(&rt, (first, second), (11, 31));
-    same(&rt, contents, &ENCRYPTED_CONTENT_INFO[44..66]);
+    same_octets(&rt, contents, &ENCRYPTED_CONTENT_INFO[44..66]);
     same(&rt, reader.place(), (68, 68, false));
-    same(&rt, reader.finish(), Ok(()));
+    same(&rt, finished(reader), Ok(()));
     Ok(())
 }

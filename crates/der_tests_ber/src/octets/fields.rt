@@ -1,32 +1,30 @@
 //! A SEQUENCE of two fields, of which each length may have either form.
 use super::*;
-use crate::checks::{same, same_at};
+use crate::checks::{same, same_at, same_octets};
 use der::Encode;
-use der::example::MyByteMonth;
 use der_uses::algorithm_identifier::AlgorithmIdentifier;
 use der_uses::lent::Lent;
 
-// How the octets are refused.
-fn refusal(alloc: Global, octets: &[u8]) -> Option<Error> {
-    AlgorithmIdentifier::from_ber(alloc, octets).err()
+fn identifier_of(alloc: Global, octets: &[u8]) -> Result<AlgorithmIdentifier<'_>, Error> {
+    AlgorithmIdentifier::from_ber(alloc, octets)
 }
 
 // Four spellings of one value, of which the Distinguished Encoding Rules have the first alone.
 #[test]
 fn spellings_of_an_identifier(rt: HostRuntime) -> Result<(), Fail> {
-    let der = [0x30, 0x06, 0x04, 0x01, 0x2A, 0x04, 0x01, 0x09];
+    let der: &[u8] = &[0x30, 0x06, 0x04, 0x01, 0x2A, 0x04, 0x01, 0x09];
     let spellings: [&[u8]; 4] = [
-        &der,
+        der,
         &[0x30, 0x06, 0x24, 0x01, 0x2A, 0x24, 0x01, 0x09],
         &[0x30, 0x80, 0x04, 0x01, 0x2A, 0x04, 0x01, 0x09, 0x00, 0x00],
         &[0x30, 0x80, 0x24, 0x01, 0x2A, 0x04, 0x01, 0x09, 0x00, 0x00],
     ];
     for octets in spellings {
-        let identifier = AlgorithmIdentifier::from_ber(rt.alloc(), octets)?;
-        same(&rt, identifier.algorithm.octets, [0x2A].as_slice());
+        let identifier = identifier_of(rt.alloc(), octets)?;
+        same_octets(&rt, identifier.algorithm.octets, &[0x2A]);
         same(&rt, identifier.month.month(), 9);
         let written = identifier.to_der(rt.alloc())?;
-        same(&rt, written.as_slice(), der.as_slice());
+        same_octets(&rt, written.as_slice(), der);
     }
     Ok(())
 }
@@ -38,24 +36,28 @@ fn an_identifier_among_others(rt: HostRuntime) -> Result<(), Fail> {
     ];
     let mut reader = ber_reader(&octets)?;
     let identifier: AlgorithmIdentifier<'_> = reader.decode(rt.alloc())?;
-    same(&rt, identifier.algorithm.octets, [].as_slice());
+    same_octets(&rt, identifier.algorithm.octets, &[]);
     same(&rt, identifier.month.month(), 11);
     same(&rt, reader.place(), (9, 12, false));
-    let month: MyByteMonth = reader.decode(rt.alloc())?;
-    same(&rt, month.month(), 2);
-    same(&rt, reader.finish(), Ok(()));
+    same(&rt, next_month(rt.alloc(), &mut reader), Ok(2));
+    same(&rt, finished(reader), Ok(()));
     Ok(())
 }
 
 // The segments of a string are lent as they stand, without the end mark behind them.
 #[test]
 fn segments_that_are_lent(rt: HostRuntime) -> Result<(), Fail> {
-    let octets = [0x24, 0x80, 0x04, 0x02, 0xAA, 0xBB, 0x04, 0x00, 0x00, 0x00];
-    let lent = Lent::from_ber(rt.alloc(), &octets)?;
-    let segments = [0x04, 0x02, 0xAA, 0xBB, 0x04, 0x00];
-    same(&rt, lent.octets, segments.as_slice());
-    let empty = Lent::from_ber(rt.alloc(), &[0x24, 0x80, 0x00, 0x00])?;
-    same(&rt, empty.octets, [].as_slice());
+    let rows: [(&[u8], &[u8]); 2] = [
+        (
+            &[0x24, 0x80, 0x04, 0x02, 0xAA, 0xBB, 0x04, 0x00, 0x00, 0x00],
+            &[0x04, 0x02, 0xAA, 0xBB, 0x04, 0x00],
+        ),
+        (&[0x24, 0x80, 0x00, 0x00], &[]),
+    ];
+    for (octets, segments) in rows {
+        let lent = Lent::from_ber(rt.alloc(), octets)?;
+        same_octets(&rt, lent.octets, segments);
+    }
     Ok(())
 }
 
@@ -93,19 +95,27 @@ fn fields_that_are_refused(rt: HostRuntime) {
         ),
     ];
     for (octets, error) in rows {
-        same_at(&rt, error, refusal(rt.alloc(), octets), Some(error));
+        let refused = identifier_of(rt.alloc(), octets).err();
+        same_at(&rt, error, refused, Some(error));
     }
 }
 
 #[test]
 fn spellings_under_der(rt: HostRuntime) {
-    let alloc = rt.alloc();
-    let body = [0x30, 0x80, 0x04, 0x01, 0x2A, 0x04, 0x01, 0x09, 0x00, 0x00];
-    let refused = AlgorithmIdentifier::from_der(alloc, &body).err();
-    same(&rt, refused, Some(indefinite(2)));
-    let segments = [0x30, 0x06, 0x24, 0x01, 0x2A, 0x04, 0x01, 0x09];
-    let refused = AlgorithmIdentifier::from_der(alloc, &segments).err();
-    same(&rt, refused, Some(unknown(0x24, 3)));
+    let rows: [(&[u8], Error); 2] = [
+        (
+            &[0x30, 0x80, 0x04, 0x01, 0x2A, 0x04, 0x01, 0x09, 0x00, 0x00],
+            indefinite(2),
+        ),
+        (
+            &[0x30, 0x06, 0x24, 0x01, 0x2A, 0x04, 0x01, 0x09],
+            unknown(0x24, 3),
+        ),
+    ];
+    for (octets, error) in rows {
+        let refused = AlgorithmIdentifier::from_der(rt.alloc(), octets).err();
+        same_at(&rt, error, refused, Some(error));
+    }
 }
 
 #[test]

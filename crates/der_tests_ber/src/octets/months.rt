@@ -1,7 +1,6 @@
 //! A month, which takes one octet: as a string that is constructed too, and never as segments.
 use super::*;
 use crate::checks::{same, same_at};
-use der::example::MyByteMonth;
 
 // The number of the month that all the octets are.
 fn month(alloc: Global, octets: &[u8]) -> Result<u8, Error> {
@@ -14,8 +13,7 @@ fn months_of_a_definite_length(rt: HostRuntime) -> Result<(), Fail> {
     same(&rt, month(rt.alloc(), &[0x04, 0x01, 0x09]), Ok(9));
     same(&rt, month(rt.alloc(), &[0x24, 0x01, 0x09]), Ok(9));
     let mut reader = ber_reader(&[0x24, 0x01, 0x0B, 0x05, 0x00])?;
-    let read: MyByteMonth = reader.decode(rt.alloc())?;
-    same(&rt, read.month(), 11);
+    same(&rt, next_month(rt.alloc(), &mut reader), Ok(11));
     same(&rt, reader.place(), (3, 5, false));
     Ok(())
 }
@@ -122,9 +120,9 @@ fn months_of_other_kinds(rt: HostRuntime) -> Result<(), Fail> {
 // What is not there under the Distinguished Encoding Rules.
 #[test]
 fn months_under_der(rt: HostRuntime) {
-    let alloc = rt.alloc();
-    let constructed = MyByteMonth::from_der(alloc, &[0x24, 0x01, 0x09]);
-    same(&rt, constructed, Err(unknown(0x24, 1)));
-    let segments = MyByteMonth::from_der(alloc, &[0x24, 0x80, 0x00, 0x00]);
-    same(&rt, segments, Err(unknown(0x24, 1)));
+    let rows: [&[u8]; 2] = [&[0x24, 0x01, 0x09], &[0x24, 0x80, 0x00, 0x00]];
+    for octets in rows {
+        let refused = MyByteMonth::from_der(rt.alloc(), octets).err();
+        same(&rt, refused, Some(unknown(0x24, 1)));
+    }
 }

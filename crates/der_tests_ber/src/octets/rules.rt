@@ -1,7 +1,19 @@
 //! What both rules answer alike, and what the Distinguished Encoding Rules refuse.
 use super::*;
-use crate::checks::{same, same_at};
+use crate::checks::{same, same_at, same_octets};
 use der::TagNumber;
+
+fn length_under_ber(alloc: Global, octets: &[u8]) -> Result<Length, Error> {
+    Length::from_ber(alloc, octets)
+}
+
+fn length_under_der(alloc: Global, octets: &[u8]) -> Result<Length, Error> {
+    Length::from_der(alloc, octets)
+}
+
+fn reader_under(rules: EncodingRules, octets: &[u8]) -> Result<SliceReader<'_>, Error> {
+    SliceReader::new_with_encoding_rules(octets, rules)
+}
 
 #[test]
 fn the_rules_of_a_reader(rt: HostRuntime) -> Result<(), Fail> {
@@ -10,10 +22,10 @@ fn the_rules_of_a_reader(rt: HostRuntime) -> Result<(), Fail> {
     same(&rt, reader.fork().encoding_rules(), EncodingRules::Ber);
     same(&rt, reader.place(), (0, 0, false));
     let der = EncodingRules::Der;
-    let reader = SliceReader::new_with_encoding_rules(&[0x05], der)?;
+    let reader = reader_under(der, &[0x05])?;
     same(&rt, reader.encoding_rules(), der);
     same(&rt, reader.place(), (0, 1, false));
-    same(&rt, SliceReader::new(&[])?.encoding_rules(), der);
+    same(&rt, der_reader(&[])?.encoding_rules(), der);
     Ok(())
 }
 
@@ -26,12 +38,12 @@ fn the_indefinite_form_under_der(rt: HostRuntime) -> Result<(), Fail> {
         &[0x30, 0x80, 0x30, 0x80],
     ];
     for octets in rows {
-        let mut reader = SliceReader::new(octets)?;
-        same(&rt, reader.peek_header(), Err(indefinite(2)));
-        same(&rt, decode_header(&mut reader), Err(indefinite(2)));
+        let mut reader = der_reader(octets)?;
+        same(&rt, peek_header(&reader), Err(indefinite(2)));
+        same(&rt, next_header(&mut reader), Err(indefinite(2)));
         same(&rt, reader.place(), (2, octets.len() as u32, true));
     }
-    let refused = Length::from_der(rt.alloc(), &[0x80, 0x00, 0x00]);
+    let refused = length_under_der(rt.alloc(), &[0x80, 0x00, 0x00]);
     same(&rt, refused, Err(indefinite(1)));
     Ok(())
 }
@@ -51,13 +63,13 @@ fn definite_lengths(rt: HostRuntime) {
         same_at(
             &rt,
             number,
-            Length::from_ber(rt.alloc(), octets),
+            length_under_ber(rt.alloc(), octets),
             Ok(length),
         );
         same_at(
             &rt,
             number,
-            Length::from_der(rt.alloc(), octets),
+            length_under_der(rt.alloc(), octets),
             Ok(length),
         );
     }
@@ -79,13 +91,13 @@ fn lengths_that_are_not_the_shortest(rt: HostRuntime) {
         same_at(
             &rt,
             position,
-            Length::from_ber(rt.alloc(), octets),
+            length_under_ber(rt.alloc(), octets),
             Err(error),
         );
         same_at(
             &rt,
             position,
-            Length::from_der(rt.alloc(), octets),
+            length_under_der(rt.alloc(), octets),
             Err(error),
         );
     }
@@ -102,8 +114,8 @@ fn headers_whose_length_is_refused(rt: HostRuntime) -> Result<(), Fail> {
     for rules in [EncodingRules::Ber, EncodingRules::Der] {
         for (octets, position) in rows {
             let error = incorrect(Tag::OctetString, position);
-            let mut reader = SliceReader::new_with_encoding_rules(octets, rules)?;
-            same_at(&rt, rules, decode_header(&mut reader), Err(error));
+            let mut reader = reader_under(rules, octets)?;
+            same_at(&rt, rules, next_header(&mut reader), Err(error));
             let end = octets.len() as u32;
             same_at(&rt, rules, reader.place(), (position, end, true));
         }
@@ -127,7 +139,7 @@ fn definite_headers(rt: HostRuntime) {
     ];
     for (octets, tag, number) in rows {
         let header = Header::new(tag, Length::new(number));
-        same_at(&rt, tag, Header::from_ber(rt.alloc(), octets), Ok(header));
+        same_at(&rt, tag, header_of(rt.alloc(), octets), Ok(header));
         same_at(&rt, tag, Header::from_der(rt.alloc(), octets), Ok(header));
     }
 }
@@ -137,10 +149,10 @@ fn elements_of_a_definite_length(rt: HostRuntime) -> Result<(), Fail> {
     let octets = [0x30, 0x02, 0x05, 0x00, 0xFF];
     let mut reader = ber_reader(&octets)?;
     let element = [0x30, 0x02, 0x05, 0x00];
-    same(&rt, reader.tlv_bytes()?, element.as_slice());
+    same_octets(&rt, next_element(&mut reader)?, &element);
     same(&rt, reader.place(), (4, 5, false));
     let mut cut = ber_reader(&[0x24, 0x02])?;
-    same(&rt, cut.tlv_bytes().err(), Some(incomplete(4, 2, 0)));
+    same(&rt, refused_element(&mut cut), Some(incomplete(4, 2, 0)));
     same(&rt, cut.place(), (0, 2, true));
     Ok(())
 }

@@ -1,12 +1,20 @@
 //! Octet 24: the identifier of a string of segments, which the Basic Encoding Rules alone know.
 use super::*;
-use crate::checks::{same, same_at};
+use crate::checks::{same, same_at, same_octets};
 use der::{Encode, TagPeek};
+
+fn tag_under_ber(alloc: Global, octets: &[u8]) -> Result<Tag, Error> {
+    Tag::from_ber(alloc, octets)
+}
+
+fn tag_under_der(alloc: Global, octets: &[u8]) -> Result<Tag, Error> {
+    Tag::from_der(alloc, octets)
+}
 
 #[test]
 fn a_constructed_string(rt: HostRuntime) -> Result<(), Fail> {
     let mut reader = ber_reader(&[0x24, 0x01, 0x09])?;
-    let header = decode_header(&mut reader)?;
+    let header = next_header(&mut reader)?;
     same(&rt, header.tag(), Tag::OctetString);
     same(&rt, header.is_constructed(), true);
     same(&rt, header.length(), Length::ONE);
@@ -20,9 +28,9 @@ fn a_constructed_string(rt: HostRuntime) -> Result<(), Fail> {
 // The constructed bit tells two headers apart that say the same else.
 #[test]
 fn a_primitive_string(rt: HostRuntime) -> Result<(), Fail> {
-    let primitive = Header::from_ber(rt.alloc(), &[0x04, 0x00])?;
+    let primitive = header_of(rt.alloc(), &[0x04, 0x00])?;
     same(&rt, primitive, Header::new(Tag::OctetString, Length::ZERO));
-    let constructed = Header::from_ber(rt.alloc(), &[0x24, 0x00])?;
+    let constructed = header_of(rt.alloc(), &[0x24, 0x00])?;
     same(&rt, constructed == primitive, false);
     same(&rt, constructed.is_constructed(), true);
     Ok(())
@@ -33,7 +41,7 @@ fn a_string_of_segments(rt: HostRuntime) -> Result<(), Fail> {
     let octets = [0x24, 0x80, 0x04, 0x01, 0xAA, 0x04, 0x00, 0x00, 0x00];
     let mut reader = ber_reader(&octets)?;
     let segments = Header::new(Tag::OctetString, Length::new_indefinite(7));
-    same(&rt, decode_header(&mut reader), Ok(segments));
+    same(&rt, next_header(&mut reader), Ok(segments));
     same(&rt, reader.place(), (2, 9, false));
     Ok(())
 }
@@ -41,12 +49,12 @@ fn a_string_of_segments(rt: HostRuntime) -> Result<(), Fail> {
 #[test]
 fn the_tag_alone(rt: HostRuntime) -> Result<(), Fail> {
     let alloc = rt.alloc();
-    same(&rt, Tag::from_ber(alloc, &[0x24]), Ok(Tag::OctetString));
-    same(&rt, Tag::from_ber(alloc, &[0x04]), Ok(Tag::OctetString));
-    same(&rt, Tag::from_der(alloc, &[0x24]), Err(unknown(0x24, 1)));
+    same(&rt, tag_under_ber(alloc, &[0x24]), Ok(Tag::OctetString));
+    same(&rt, tag_under_ber(alloc, &[0x04]), Ok(Tag::OctetString));
+    same(&rt, tag_under_der(alloc, &[0x24]), Err(unknown(0x24, 1)));
     same(
         &rt,
-        Tag::from_ber(alloc, &[0x24, 0x00]),
+        tag_under_ber(alloc, &[0x24, 0x00]),
         Err(trailing(1, 1)),
     );
     let mut reader = ber_reader(&[0x24, 0x04])?;
@@ -60,14 +68,16 @@ fn the_tag_alone(rt: HostRuntime) -> Result<(), Fail> {
 // What was read of it is written without the constructed bit, and a length in the definite form.
 #[test]
 fn what_is_written(rt: HostRuntime) -> Result<(), Fail> {
-    let tag = Tag::from_ber(rt.alloc(), &[0x24])?;
-    same(&rt, tag.to_der(rt.alloc())?.as_slice(), [0x04].as_slice());
-    let header = Header::from_ber(rt.alloc(), &[0x24, 0x01])?;
-    let der = header.to_der(rt.alloc())?;
-    same(&rt, der.as_slice(), [0x04, 0x01].as_slice());
+    let tag = tag_under_ber(rt.alloc(), &[0x24])?;
+    same_octets(&rt, tag.to_der(rt.alloc())?.as_slice(), &[0x04]);
     let mut reader = ber_reader(&[0x24, 0x80, 0x00, 0x00])?;
-    let der = decode_header(&mut reader)?.to_der(rt.alloc())?;
-    same(&rt, der.as_slice(), [0x04, 0x02].as_slice());
+    let rows: [(Header, &[u8]); 2] = [
+        (header_of(rt.alloc(), &[0x24, 0x01])?, &[0x04, 0x01]),
+        (next_header(&mut reader)?, &[0x04, 0x02]),
+    ];
+    for (header, der) in rows {
+        same_octets(&rt, header.to_der(rt.alloc())?.as_slice(), der);
+    }
     Ok(())
 }
 
@@ -81,16 +91,16 @@ fn octets_that_both_rules_read_alike(rt: HostRuntime) {
     ];
     for octet in refused {
         let error = unknown(octet, 1);
-        same_at(&rt, error, Tag::from_ber(alloc, &[octet]), Err(error));
-        same_at(&rt, error, Tag::from_der(alloc, &[octet]), Err(error));
+        same_at(&rt, error, tag_under_ber(alloc, &[octet]), Err(error));
+        same_at(&rt, error, tag_under_der(alloc, &[octet]), Err(error));
     }
     let invalid = invalid_number(1);
-    same(&rt, Tag::from_ber(alloc, &[0x1F]), Err(invalid));
-    same(&rt, Tag::from_der(alloc, &[0x1F]), Err(invalid));
+    same(&rt, tag_under_ber(alloc, &[0x1F]), Err(invalid));
+    same(&rt, tag_under_der(alloc, &[0x1F]), Err(invalid));
     for octet in 0..=255u8 {
         if octet != 0x24 {
-            let under_der = Tag::from_der(alloc, &[octet]);
-            same_at(&rt, octet, Tag::from_ber(alloc, &[octet]), under_der);
+            let under_der = tag_under_der(alloc, &[octet]);
+            same_at(&rt, octet, tag_under_ber(alloc, &[octet]), under_der);
         }
     }
 }
@@ -98,7 +108,7 @@ fn octets_that_both_rules_read_alike(rt: HostRuntime) {
 #[test]
 fn a_constructed_string_under_der(rt: HostRuntime) -> Result<(), Fail> {
     let mut reader = der_reader(&[0x24, 0x01, 0x09])?;
-    same(&rt, decode_header(&mut reader), Err(unknown(0x24, 1)));
+    same(&rt, next_header(&mut reader), Err(unknown(0x24, 1)));
     same(&rt, reader.place(), (1, 3, true));
     Ok(())
 }

@@ -4,7 +4,7 @@ ghost use Rattle.der_core.specs.ReaderState.{Same};
 ghost use Rattle.der_core.specs.SliceReader.{slice_state};
 
 use super::*;
-use crate::checks::{same, same_at};
+use crate::checks::{same, same_at, same_octets};
 use der::{close_value, read_value};
 
 fn read_header<R: Reader>(reader: &mut R) -> Result<Header, Error>
@@ -26,6 +26,19 @@ fn read_inner(reader: &mut SliceReader<'_>) -> Result<Header, Error>
     reader.sequence(read_header)
 }
 
+fn header_within(reader: &mut SliceReader<'_>) -> Result<Header, Error> {
+    read_inner(reader)
+}
+
+fn nothing_within(reader: &mut SliceReader<'_>) -> Result<(), Error> {
+    reader.sequence(read_none)
+}
+
+// The header in a sequence that is in a sequence.
+fn header_two_within(reader: &mut SliceReader<'_>) -> Result<Header, Error> {
+    reader.sequence(read_inner)
+}
+
 // The header that contents get, and the octets of them.
 fn read_octets<'a>(
     reader: &mut SliceReader<'a>,
@@ -36,6 +49,13 @@ fn read_octets<'a>(
     Ok((header, reader.read_slice(header.length())?))
 }
 
+fn contents_behind<'a>(
+    reader: &mut SliceReader<'a>,
+    header: Header,
+) -> Result<(Header, &'a [u8]), Error> {
+    read_value(reader, header, read_octets)
+}
+
 fn null() -> Header {
     Header::new(Tag::Null, Length::ZERO)
 }
@@ -44,7 +64,7 @@ fn null() -> Header {
 fn a_sequence_and_its_end_mark(rt: HostRuntime) -> Result<(), Fail> {
     let octets = [0x30, 0x80, 0x05, 0x00, 0x00, 0x00, 0x02];
     let mut reader = ber_reader(&octets)?;
-    same(&rt, reader.sequence(read_header), Ok(null()));
+    same(&rt, header_within(&mut reader), Ok(null()));
     same(&rt, reader.place(), (6, 7, false));
     let mut unlent = ber_unlent(&octets)?;
     same(&rt, unlent.sequence(read_header), Ok(null()));
@@ -56,10 +76,10 @@ fn a_sequence_and_its_end_mark(rt: HostRuntime) -> Result<(), Fail> {
 fn a_sequence_of_nothing(rt: HostRuntime) -> Result<(), Fail> {
     let octets = [0x30, 0x80, 0x00, 0x00];
     let mut reader = ber_reader(&octets)?;
-    same(&rt, reader.sequence(read_none), Ok(()));
+    same(&rt, nothing_within(&mut reader), Ok(()));
     same(&rt, reader.place(), (4, 4, false));
     let mut reader = ber_reader(&octets)?;
-    same(&rt, reader.sequence(read_header), Err(incomplete(3, 2, 2)));
+    same(&rt, header_within(&mut reader), Err(incomplete(3, 2, 2)));
     same(&rt, reader.place(), (2, 4, true));
     Ok(())
 }
@@ -67,7 +87,7 @@ fn a_sequence_of_nothing(rt: HostRuntime) -> Result<(), Fail> {
 #[test]
 fn a_sequence_of_a_definite_length(rt: HostRuntime) -> Result<(), Fail> {
     let mut reader = ber_reader(&[0x30, 0x02, 0x05, 0x00, 0x00, 0x00])?;
-    same(&rt, reader.sequence(read_header), Ok(null()));
+    same(&rt, header_within(&mut reader), Ok(null()));
     same(&rt, reader.place(), (4, 6, false));
     Ok(())
 }
@@ -92,7 +112,7 @@ fn a_sequence_in_a_sequence(rt: HostRuntime) -> Result<(), Fail> {
     ];
     for (octets, end) in rows {
         let mut reader = ber_reader(octets)?;
-        same_at(&rt, end, reader.sequence(read_inner), Ok(null()));
+        same_at(&rt, end, header_two_within(&mut reader), Ok(null()));
         same_at(&rt, end, reader.place(), (end, end, false));
     }
     Ok(())
@@ -103,7 +123,11 @@ fn a_sequence_in_a_sequence(rt: HostRuntime) -> Result<(), Fail> {
 fn a_body_that_its_part_cuts(rt: HostRuntime) -> Result<(), Fail> {
     let octets = [0x30, 0x05, 0x30, 0x80, 0x05, 0x00, 0x00, 0x00];
     let mut reader = ber_reader(&octets)?;
-    same(&rt, reader.sequence(read_inner), Err(incomplete(8, 7, 7)));
+    same(
+        &rt,
+        header_two_within(&mut reader),
+        Err(incomplete(8, 7, 7)),
+    );
     same(&rt, reader.place(), (4, 8, false));
     Ok(())
 }
@@ -112,7 +136,7 @@ fn a_body_that_its_part_cuts(rt: HostRuntime) -> Result<(), Fail> {
 fn what_is_left_of_a_sequence(rt: HostRuntime) -> Result<(), Fail> {
     let octets = [0x30, 0x80, 0x05, 0x00, 0x02, 0x01, 0x2A, 0x00, 0x00];
     let mut reader = ber_reader(&octets)?;
-    same(&rt, reader.sequence(read_header), Err(trailing(4, 3)));
+    same(&rt, header_within(&mut reader), Err(trailing(4, 3)));
     same(&rt, reader.place(), (4, 9, true));
     let mut unlent = ber_unlent(&octets)?;
     same(&rt, unlent.sequence(read_none), Err(trailing(2, 5)));
@@ -133,7 +157,7 @@ fn no_sequence(rt: HostRuntime) -> Result<(), Fail> {
     ];
     for (octets, error, failed) in rows {
         let mut reader = ber_reader(octets)?;
-        same_at(&rt, error, reader.sequence(read_none), Err(error));
+        same_at(&rt, error, nothing_within(&mut reader), Err(error));
         same_at(&rt, error, reader.place(), (2, 4, failed));
     }
     Ok(())
@@ -144,12 +168,12 @@ fn no_sequence(rt: HostRuntime) -> Result<(), Fail> {
 fn contents_and_their_header(rt: HostRuntime) -> Result<(), Fail> {
     let octets = [0x24, 0x80, 0x04, 0x01, 0x09, 0x00, 0x00, 0x05];
     let mut reader = ber_reader(&octets)?;
-    let header = decode_header(&mut reader)?;
+    let header = next_header(&mut reader)?;
     let string = Header::new(Tag::OctetString, Length::new_indefinite(5));
     same(&rt, header, string);
-    let (inner, contents) = read_value(&mut reader, header, read_octets)?;
+    let (inner, contents) = contents_behind(&mut reader, header)?;
     same(&rt, inner, string.with_length(Length::new_indefinite(3)));
-    same(&rt, contents, [0x04, 0x01, 0x09].as_slice());
+    same_octets(&rt, contents, &[0x04, 0x01, 0x09]);
     same(&rt, reader.place(), (7, 8, false));
     Ok(())
 }
@@ -158,10 +182,10 @@ fn contents_and_their_header(rt: HostRuntime) -> Result<(), Fail> {
 fn contents_without_an_end_mark(rt: HostRuntime) -> Result<(), Fail> {
     let octets = [0x24, 0x02, 0x04, 0x00, 0x00, 0x00];
     let mut reader = ber_reader(&octets)?;
-    let header = decode_header(&mut reader)?;
-    let (inner, contents) = read_value(&mut reader, header, read_octets)?;
+    let header = next_header(&mut reader)?;
+    let (inner, contents) = contents_behind(&mut reader, header)?;
     same(&rt, inner, header);
-    same(&rt, contents, [0x04, 0x00].as_slice());
+    same_octets(&rt, contents, &[0x04, 0x00]);
     same(&rt, reader.place(), (4, 6, false));
     Ok(())
 }
@@ -171,11 +195,11 @@ fn contents_without_an_end_mark(rt: HostRuntime) -> Result<(), Fail> {
 fn contents_before_another_octet(rt: HostRuntime) -> Result<(), Fail> {
     let mut reader = ber_reader(&[0x05, 0x00, 0x00, 0x01])?;
     let header = Header::new(Tag::OctetString, Length::new_indefinite(4));
-    let refused = read_value(&mut reader, header, read_octets).err();
+    let refused = contents_behind(&mut reader, header).err();
     same(&rt, refused, Some(indefinite(4)));
     same(&rt, reader.place(), (4, 4, true));
     let mut reader = ber_reader(&[0x05, 0x00, 0x00])?;
-    let refused = read_value(&mut reader, header, read_octets).err();
+    let refused = contents_behind(&mut reader, header).err();
     same(&rt, refused, Some(incomplete(4, 3, 3)));
     same(&rt, reader.place(), (3, 3, true));
     Ok(())
