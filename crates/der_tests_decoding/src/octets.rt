@@ -6,7 +6,7 @@ use der::{
     Tag, TagNumber,
 };
 use der_fixtures::errors::{incomplete, trailing, unexpected};
-use der_fixtures::readers::{der_reader, der_unlent};
+use der_fixtures::readers::{Placed, der_reader, der_unlent};
 use std::alloc::Global;
 use std::test::Fail;
 
@@ -27,3 +27,10 @@ mod pairs;
 mod readers;
 mod sets;
 mod tags;
+
+// The number of the month that its type decodes from the reader. Nothing is said of it, as of the
+// like functions of the modules: what a contract says costs the checker seconds in each test.
+fn decoded_month(alloc: Global, reader: &mut SliceReader<'_>) -> Result<u8, Error> {
+    let month = MyByteMonth::decode(alloc, reader)?;
+    Ok(month.month())
+}

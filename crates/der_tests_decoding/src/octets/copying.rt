@@ -5,15 +5,17 @@ use der_uses::algorithm_identifier::AlgorithmIdentifier;
 use der_uses::lent::Lent;
 use der_uses::reader::CopyingReader;
 
+fn is_finished(reader: &CopyingReader<'_>) -> bool {
+    reader.is_finished()
+}
+
 #[test]
 fn a_month_without_lending(rt: HostRuntime) -> Result<(), Fail> {
     let octets = [0x04, 0x01, 0x09, 0x05, 0x00];
     let mut reader = der_unlent(&octets)?;
     let month = MyByteMonth::decode(rt.alloc(), &mut reader)?;
     same(&rt, month.month(), 9);
-    same(&rt, reader.position(), Length::new(3));
-    same(&rt, reader.input_len(), Length::new(5));
-    holds(&rt, !reader.is_failed());
+    same(&rt, reader.place(), (3, 5, false));
     Ok(())
 }
 
@@ -23,7 +25,7 @@ fn a_boxed_month_without_lending(rt: HostRuntime) -> Result<(), Fail> {
     let mut reader = der_unlent(&octets)?;
     let boxed = Box::<MyByteMonth>::decode(rt.alloc(), &mut reader)?;
     same(&rt, boxed.month(), 9);
-    holds(&rt, reader.is_finished());
+    holds(&rt, is_finished(&reader));
     Ok(())
 }
 
@@ -45,9 +47,7 @@ fn contents_that_want_lending(rt: HostRuntime) -> Result<(), Fail> {
     let mut reader = der_unlent(&octets)?;
     let refused = Lent::decode(rt.alloc(), &mut reader).err();
     same(&rt, refused, Some(ErrorKind::Reader.at(Length::new(2))));
-    same(&rt, reader.position(), Length::new(2));
-    same(&rt, reader.input_len(), Length::new(3));
-    holds(&rt, !reader.is_failed());
+    same(&rt, reader.place(), (2, 3, false));
     Ok(())
 }
 
@@ -57,8 +57,7 @@ fn a_field_that_wants_lending(rt: HostRuntime) -> Result<(), Fail> {
     let mut reader = der_unlent(&octets)?;
     let refused = AlgorithmIdentifier::decode(rt.alloc(), &mut reader).err();
     same(&rt, refused, Some(ErrorKind::Reader.at(Length::new(4))));
-    same(&rt, reader.position(), Length::new(4));
-    same(&rt, reader.input_len(), Length::new(8));
+    same(&rt, reader.place(), (4, 8, false));
     Ok(())
 }
 
@@ -69,6 +68,6 @@ fn pairs_without_lending(rt: HostRuntime) -> Result<(), Fail> {
     let (first, second) = <(MyByteMonth, MyByteMonth)>::decode(rt.alloc(), &mut reader)?;
     same(&rt, first.month(), 9);
     same(&rt, second.month(), 2);
-    holds(&rt, reader.is_finished());
+    holds(&rt, is_finished(&reader));
     Ok(())
 }

@@ -1,6 +1,6 @@
 //! Values inside as many parts as there may be.
 use super::*;
-use crate::checks::{holds, same};
+use crate::checks::same;
 
 // A reader of three octets inside so many parts, each of them all.
 fn reader_inside(octets: &[u8; 3], parts: u8) -> Result<SliceReader<'_>, Error> {
@@ -15,10 +15,8 @@ fn reader_inside(octets: &[u8; 3], parts: u8) -> Result<SliceReader<'_>, Error> 
 fn a_month_inside_63_parts(rt: HostRuntime) -> Result<(), Fail> {
     let octets = [0x04, 0x01, 0x09];
     let mut reader = reader_inside(&octets, 63)?;
-    let month = MyByteMonth::decode(rt.alloc(), &mut reader)?;
-    same(&rt, month.month(), 9);
-    same(&rt, reader.position(), Length::new(3));
-    holds(&rt, !reader.is_failed());
+    same(&rt, decoded_month(rt.alloc(), &mut reader), Ok(9));
+    same(&rt, reader.place(), (3, 3, false));
     Ok(())
 }
 
@@ -27,13 +25,9 @@ fn a_month_inside_64_parts(rt: HostRuntime) -> Result<(), Fail> {
     let octets = [0x04, 0x01, 0x09];
     let mut reader = reader_inside(&octets, 64)?;
     let too_deep = ErrorKind::NestingDepth.at(Length::new(2));
-    same(
-        &rt,
-        MyByteMonth::decode(rt.alloc(), &mut reader),
-        Err(too_deep),
-    );
-    same(&rt, reader.position(), Length::new(2));
-    holds(&rt, reader.is_failed());
+    let month = decoded_month(rt.alloc(), &mut reader);
+    same(&rt, month, Err(too_deep));
+    same(&rt, reader.place(), (2, 3, true));
     Ok(())
 }
 

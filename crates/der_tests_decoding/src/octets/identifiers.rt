@@ -1,22 +1,27 @@
 //! A SEQUENCE of two fields.
 use super::*;
-use crate::checks::same;
+use crate::checks::{same, same_octets};
 use der_uses::algorithm_identifier::AlgorithmIdentifier;
+
+// The identifier that all the octets are.
+fn identifier_of(alloc: Global, bytes: &[u8]) -> Result<AlgorithmIdentifier<'_>, Error> {
+    AlgorithmIdentifier::from_der(alloc, bytes)
+}
 
 // How the octets are refused.
 fn refusal(alloc: Global, bytes: &[u8]) -> Option<Error> {
-    AlgorithmIdentifier::from_der(alloc, bytes).err()
+    identifier_of(alloc, bytes).err()
 }
 
 #[test]
 fn an_identifier_both_ways(rt: HostRuntime) -> Result<(), Fail> {
     let octets = [0x30, 0x06, 0x04, 0x01, 0x2A, 0x04, 0x01, 0x09];
-    let identifier = AlgorithmIdentifier::from_der(rt.alloc(), &octets)?;
-    same(&rt, identifier.algorithm.octets, [0x2A].as_slice());
+    let identifier = identifier_of(rt.alloc(), &octets)?;
+    same_octets(&rt, identifier.algorithm.octets, &[0x2A]);
     same(&rt, identifier.month.month(), 9);
     same(&rt, identifier.encoded_len(), Ok(Length::new(8)));
     let der = identifier.to_der(rt.alloc())?;
-    same(&rt, der.as_slice(), octets.as_slice());
+    same_octets(&rt, der.as_slice(), &octets);
     Ok(())
 }
 
@@ -24,9 +29,9 @@ fn an_identifier_both_ways(rt: HostRuntime) -> Result<(), Fail> {
 fn an_identifier_at_the_front(rt: HostRuntime) -> Result<(), Fail> {
     let octets = [0x30, 0x05, 0x04, 0x00, 0x04, 0x01, 0x0B, 0x05, 0x00];
     let (identifier, rest) = AlgorithmIdentifier::from_der_partial(rt.alloc(), &octets)?;
-    same(&rt, identifier.algorithm.octets, [].as_slice());
+    same_octets(&rt, identifier.algorithm.octets, &[]);
     same(&rt, identifier.month.month(), 11);
-    same(&rt, rest, [0x05, 0x00].as_slice());
+    same_octets(&rt, rest, &[0x05, 0x00]);
     Ok(())
 }
 

@@ -1,11 +1,16 @@
 //! A SEQUENCE with another one inside it.
 use super::*;
-use crate::checks::{holds, same, same_at};
+use crate::checks::{same, same_at, same_octets};
 use der_uses::key_info::{KeyInfo, key_info_der, key_info_from_der};
+
+// The key that all the octets are.
+fn key_of(alloc: Global, bytes: &[u8]) -> Result<KeyInfo<'_>, Error> {
+    key_info_from_der(alloc, bytes)
+}
 
 // How the octets are refused.
 fn refusal(alloc: Global, bytes: &[u8]) -> Option<Error> {
-    key_info_from_der(alloc, bytes).err()
+    key_of(alloc, bytes).err()
 }
 
 #[test]
@@ -13,15 +18,15 @@ fn a_key_both_ways(rt: HostRuntime) -> Result<(), Fail> {
     let octets = [
         0x30, 0x0B, 0x30, 0x06, 0x04, 0x01, 0x2A, 0x04, 0x01, 0x09, 0x04, 0x01, 0xFF,
     ];
-    let info = key_info_from_der(rt.alloc(), &octets)?;
-    same(&rt, info.algorithm.algorithm.octets, [0x2A].as_slice());
+    let info = key_of(rt.alloc(), &octets)?;
+    same_octets(&rt, info.algorithm.algorithm.octets, &[0x2A]);
     same(&rt, info.algorithm.month.month(), 9);
-    same(&rt, info.key.octets, [0xFF].as_slice());
+    same_octets(&rt, info.key.octets, &[0xFF]);
     let der = key_info_der(rt.alloc(), &info)?;
-    same(&rt, der.as_slice(), octets.as_slice());
+    same_octets(&rt, der.as_slice(), &octets);
     same(&rt, info.encoded_len(), Ok(Length::new(13)));
     let mut buf = [0; 13];
-    same(&rt, info.encode_to_slice(&mut buf)?, octets.as_slice());
+    same_octets(&rt, info.encode_to_slice(&mut buf)?, &octets);
     Ok(())
 }
 
@@ -32,10 +37,8 @@ fn a_key_that_a_reader_decodes(rt: HostRuntime) -> Result<(), Fail> {
     ];
     let mut reader = der_reader(&octets)?;
     let info: KeyInfo = reader.decode(rt.alloc())?;
-    same(&rt, info.key.octets, [0xFF].as_slice());
-    same(&rt, reader.position(), Length::new(13));
-    same(&rt, reader.input_len(), Length::new(14));
-    holds(&rt, !reader.is_failed());
+    same_octets(&rt, info.key.octets, &[0xFF]);
+    same(&rt, reader.place(), (13, 14, false));
     Ok(())
 }
 
@@ -133,8 +136,6 @@ fn an_inner_sequence_past_the_end_leaves_the_reader(rt: HostRuntime) -> Result<(
     let mut reader = der_reader(&octets)?;
     let refused = KeyInfo::decode(rt.alloc(), &mut reader).err();
     same(&rt, refused, Some(incomplete(10, 9, 9)));
-    same(&rt, reader.position(), Length::new(4));
-    same(&rt, reader.input_len(), Length::new(13));
-    holds(&rt, !reader.is_failed());
+    same(&rt, reader.place(), (4, 13, false));
     Ok(())
 }

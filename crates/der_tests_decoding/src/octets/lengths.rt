@@ -3,6 +3,11 @@ use super::*;
 use crate::checks::{same, same_at};
 use der_fixtures::errors::indefinite;
 
+// The length that all the octets are.
+fn length_of(alloc: Global, bytes: &[u8]) -> Result<Length, Error> {
+    Length::from_der(alloc, bytes)
+}
+
 #[test]
 fn lengths_both_ways(rt: HostRuntime) -> Result<(), Fail> {
     let rows: [(u32, &[u8]); 8] = [
@@ -16,7 +21,7 @@ fn lengths_both_ways(rt: HostRuntime) -> Result<(), Fail> {
         (4294967295, &[0x84, 0xFF, 0xFF, 0xFF, 0xFF]),
     ];
     for (number, octets) in rows {
-        let length = Length::from_der(rt.alloc(), octets)?;
+        let length = length_of(rt.alloc(), octets)?;
         same_at(&rt, number, length, Length::new(number));
         let der = length.to_der(rt.alloc())?;
         same_at(&rt, number, der.as_slice(), octets);
@@ -34,6 +39,6 @@ fn lengths_that_are_refused(rt: HostRuntime) {
         (&[0x81, 0x80, 0x05], trailing(2, 1)),
     ];
     for (octets, error) in rows {
-        same_at(&rt, error, Length::from_der(rt.alloc(), octets), Err(error));
+        same_at(&rt, error, length_of(rt.alloc(), octets), Err(error));
     }
 }

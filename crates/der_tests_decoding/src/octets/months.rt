@@ -1,10 +1,15 @@
 //! A month as one octet.
 use super::*;
-use crate::checks::{holds, same, same_at};
+use crate::checks::{holds, same, same_at, same_octets};
 
-// The number of the month that all the octets are.
+// The month that all the octets are.
+fn month_of(alloc: Global, bytes: &[u8]) -> Result<MyByteMonth, Error> {
+    MyByteMonth::from_der(alloc, bytes)
+}
+
+// Its number.
 fn month(alloc: Global, bytes: &[u8]) -> Result<u8, Error> {
-    let month = MyByteMonth::from_der(alloc, bytes)?;
+    let month = month_of(alloc, bytes)?;
     Ok(month.month())
 }
 
@@ -13,7 +18,7 @@ fn a_month_at_the_front(rt: HostRuntime) -> Result<(), Fail> {
     let octets = [0x04, 0x01, 0x09, 0x05, 0x00];
     let (month, rest) = MyByteMonth::from_der_partial(rt.alloc(), &octets)?;
     same(&rt, month.month(), 9);
-    same(&rt, rest, [0x05, 0x00].as_slice());
+    same_octets(&rt, rest, &[0x05, 0x00]);
     Ok(())
 }
 
@@ -80,7 +85,7 @@ fn numbers_of_months(rt: HostRuntime) {
 fn months_both_ways(rt: HostRuntime) -> Result<(), Fail> {
     for number in 0..12u8 {
         let octets = [0x04, 0x01, number];
-        let month = MyByteMonth::from_der(rt.alloc(), &octets)?;
+        let month = month_of(rt.alloc(), &octets)?;
         same(&rt, month.month(), number);
         let der = month.to_der(rt.alloc())?;
         same_at(&rt, number, der.as_slice(), octets.as_slice());
@@ -91,22 +96,19 @@ fn months_both_ways(rt: HostRuntime) -> Result<(), Fail> {
 
 #[test]
 fn a_month_behind_other_octets(rt: HostRuntime) -> Result<(), Fail> {
-    let month = MyByteMonth::from_der(rt.alloc(), &[0x04, 0x01, 0x09])?;
+    let month = month_of(rt.alloc(), &[0x04, 0x01, 0x09])?;
     let mut out = Vec::from_slice(rt.alloc(), &[0xAAu8])?;
     same(&rt, month.encode_to_vec(&mut out), Ok(Length::new(3)));
-    same(&rt, out.as_slice(), [0xAA, 0x04, 0x01, 0x09].as_slice());
+    same_octets(&rt, out.as_slice(), &[0xAA, 0x04, 0x01, 0x09]);
     Ok(())
 }
 
 #[test]
 fn a_month_in_a_buffer(rt: HostRuntime) -> Result<(), Fail> {
-    let month = MyByteMonth::from_der(rt.alloc(), &[0x04, 0x01, 0x09])?;
+    let month = month_of(rt.alloc(), &[0x04, 0x01, 0x09])?;
     let mut buf = [0; 16];
-    same(
-        &rt,
-        month.encode_to_slice(&mut buf)?,
-        [0x04, 0x01, 0x09].as_slice(),
-    );
+    let written = month.encode_to_slice(&mut buf)?;
+    same_octets(&rt, written, &[0x04, 0x01, 0x09]);
     let mut short = [0; 2];
     let no_room = ErrorKind::Overlength.at(Length::new(3));
     let refused = month.encode_to_slice(&mut short);

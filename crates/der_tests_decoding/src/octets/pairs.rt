@@ -1,11 +1,16 @@
 //! Values one behind the other.
 use super::*;
-use crate::checks::{holds, same, same_at};
+use crate::checks::{same, same_at, same_octets};
 use std::marker::PhantomData;
 
-// The numbers of the two months that all the octets are.
+// The two months that all the octets are.
+fn pair_of(alloc: Global, bytes: &[u8]) -> Result<(MyByteMonth, MyByteMonth), Error> {
+    <(MyByteMonth, MyByteMonth)>::from_der(alloc, bytes)
+}
+
+// Their numbers.
 fn months(alloc: Global, bytes: &[u8]) -> Result<(u8, u8), Error> {
-    let (first, second) = <(MyByteMonth, MyByteMonth)>::from_der(alloc, bytes)?;
+    let (first, second) = pair_of(alloc, bytes)?;
     Ok((first.month(), second.month()))
 }
 
@@ -15,7 +20,7 @@ fn a_tag_and_a_length(rt: HostRuntime) -> Result<(), Fail> {
     same(&rt, pair, (Tag::OctetString, Length::new(5)));
     same(&rt, pair.encoded_len(), Ok(Length::new(2)));
     let der = pair.to_der(rt.alloc())?;
-    same(&rt, der.as_slice(), [0x04, 0x05].as_slice());
+    same_octets(&rt, der.as_slice(), &[0x04, 0x05]);
     Ok(())
 }
 
@@ -33,10 +38,10 @@ fn a_header_and_nothing(rt: HostRuntime) -> Result<(), Fail> {
 fn two_months(rt: HostRuntime) -> Result<(), Fail> {
     let octets = [0x04, 0x01, 0x09, 0x04, 0x01, 0x02];
     same(&rt, months(rt.alloc(), &octets), Ok((9, 2)));
-    let pair = <(MyByteMonth, MyByteMonth)>::from_der(rt.alloc(), &octets)?;
+    let pair = pair_of(rt.alloc(), &octets)?;
     same(&rt, pair.encoded_len(), Ok(Length::new(6)));
     let der = pair.to_der(rt.alloc())?;
-    same(&rt, der.as_slice(), octets.as_slice());
+    same_octets(&rt, der.as_slice(), &octets);
     Ok(())
 }
 
@@ -52,7 +57,7 @@ fn three_months_at_the_front(rt: HostRuntime) -> Result<(), Fail> {
         (first.month(), second.month(), third.month()),
         (9, 2, 0),
     );
-    same(&rt, rest, [0x05].as_slice());
+    same_octets(&rt, rest, &[0x05]);
     Ok(())
 }
 
@@ -92,7 +97,6 @@ fn where_the_second_month_leaves_the_reader(rt: HostRuntime) -> Result<(), Fail>
     let mut reader = der_reader(&octets)?;
     let refused = <(MyByteMonth, MyByteMonth)>::decode(rt.alloc(), &mut reader).err();
     same(&rt, refused, Some(unexpected(Tag::OctetString, Tag::Null)));
-    same(&rt, reader.position(), Length::new(5));
-    holds(&rt, !reader.is_failed());
+    same(&rt, reader.place(), (5, 5, false));
     Ok(())
 }

@@ -3,18 +3,20 @@ use super::*;
 use crate::checks::{holds, same};
 use der::{DecodeValue, decode_contents, decode_tlv};
 
+// The number of the month that the reader decodes.
+fn next_month(alloc: Global, reader: &mut SliceReader<'_>) -> Result<u8, Error> {
+    let month: MyByteMonth = reader.decode(alloc)?;
+    Ok(month.month())
+}
+
 #[test]
 fn a_type_leaves_the_reader_behind_another_tag(rt: HostRuntime) -> Result<(), Fail> {
     let octets = [0x30, 0x01, 0x09];
     let mut reader = der_reader(&octets)?;
     let refused = unexpected(Tag::OctetString, Tag::Sequence);
-    same(
-        &rt,
-        MyByteMonth::decode(rt.alloc(), &mut reader),
-        Err(refused),
-    );
-    same(&rt, reader.position(), Length::new(2));
-    holds(&rt, !reader.is_failed());
+    let month = decoded_month(rt.alloc(), &mut reader);
+    same(&rt, month, Err(refused));
+    same(&rt, reader.place(), (2, 3, false));
     Ok(())
 }
 
@@ -22,13 +24,12 @@ fn a_type_leaves_the_reader_behind_another_tag(rt: HostRuntime) -> Result<(), Fa
 fn a_reader_fails_behind_another_tag(rt: HostRuntime) -> Result<(), Fail> {
     let octets = [0x30, 0x01, 0x09];
     let mut reader = der_reader(&octets)?;
-    let month: Result<MyByteMonth, Error> = reader.decode(rt.alloc());
+    let month = next_month(rt.alloc(), &mut reader);
     same(&rt, month, Err(unexpected(Tag::OctetString, Tag::Sequence)));
-    same(&rt, reader.position(), Length::new(2));
-    holds(&rt, reader.is_failed());
-    let again: Result<MyByteMonth, Error> = reader.decode(rt.alloc());
+    same(&rt, reader.place(), (2, 3, true));
+    let again = next_month(rt.alloc(), &mut reader);
     same(&rt, again, Err(ErrorKind::Failed.at(Length::new(2))));
-    same(&rt, reader.position(), Length::new(2));
+    same(&rt, reader.place(), (2, 3, true));
     Ok(())
 }
 
@@ -37,14 +38,9 @@ fn a_reader_has_failed_behind_a_number_of_no_month(rt: HostRuntime) -> Result<()
     let octets = [0x04, 0x01, 0x0C, 0x05];
     let mut reader = der_reader(&octets)?;
     let no_month = ErrorKind::DateTime.at(Length::new(3));
-    same(
-        &rt,
-        MyByteMonth::decode(rt.alloc(), &mut reader),
-        Err(no_month),
-    );
-    holds(&rt, reader.is_failed());
-    same(&rt, reader.position(), Length::new(3));
-    same(&rt, reader.input_len(), Length::new(4));
+    let month = decoded_month(rt.alloc(), &mut reader);
+    same(&rt, month, Err(no_month));
+    same(&rt, reader.place(), (3, 4, true));
     Ok(())
 }
 
@@ -52,14 +48,11 @@ fn a_reader_has_failed_behind_a_number_of_no_month(rt: HostRuntime) -> Result<()
 fn months_in_turn(rt: HostRuntime) -> Result<(), Fail> {
     let octets = [0x04, 0x01, 0x09, 0x04, 0x01, 0x02, 0x05, 0x00];
     let mut reader = der_reader(&octets)?;
-    let first: MyByteMonth = reader.decode(rt.alloc())?;
-    same(&rt, first.month(), 9);
-    same(&rt, reader.position(), Length::new(3));
+    same(&rt, next_month(rt.alloc(), &mut reader), Ok(9));
+    same(&rt, reader.place(), (3, 8, false));
     let second = decode_tlv::<SliceReader, MyByteMonth>(rt.alloc(), &mut reader)?;
     same(&rt, second.month(), 2);
-    same(&rt, reader.position(), Length::new(6));
-    same(&rt, reader.input_len(), Length::new(8));
-    holds(&rt, !reader.is_failed());
+    same(&rt, reader.place(), (6, 8, false));
     Ok(())
 }
 

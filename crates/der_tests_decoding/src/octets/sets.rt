@@ -1,6 +1,6 @@
 //! A SET OF OCTET STRING: sorted and written, and read in order.
 use super::*;
-use crate::checks::{same, same_at};
+use crate::checks::{same, same_at, same_octets};
 use der::BytesRef;
 use der::example::BorrowedOctets;
 use der_uses::set_of::{set_of_contents, set_of_der};
@@ -11,9 +11,19 @@ fn string(octets: &[u8]) -> Result<BorrowedOctets<'_>, Error> {
     Ok(BorrowedOctets { octets })
 }
 
+// The encoding of a SET OF these elements.
+fn der_of(alloc: Global, elements: &mut [BorrowedOctets<'_>]) -> Result<Vec<u8>, Error> {
+    set_of_der(alloc, elements)
+}
+
+// The contents of the SET OF that all the octets are.
+fn contents_of(alloc: Global, octets: &[u8]) -> Result<&[u8], Error> {
+    set_of_contents(alloc, octets)
+}
+
 // How the octets are refused.
 fn refusal(alloc: Global, octets: &[u8]) -> Option<Error> {
-    set_of_contents(alloc, octets).err()
+    contents_of(alloc, octets).err()
 }
 
 #[test]
@@ -27,23 +37,23 @@ fn elements_in_any_order(rt: HostRuntime) -> Result<(), Fail> {
     let want = [
         0x31, 0x0C, 0x04, 0x00, 0x04, 0x01, 0xFF, 0x04, 0x01, 0xFF, 0x04, 0x02, 0x00, 0x00,
     ];
-    let der = set_of_der(rt.alloc(), &mut elements)?;
-    same(&rt, der.as_slice(), want.as_slice());
+    let der = der_of(rt.alloc(), &mut elements)?;
+    same_octets(&rt, der.as_slice(), &want);
     let sorted: [&[u8]; 4] = [&[], &[0xFF], &[0xFF], &[0x00, 0x00]];
     for (element, octets) in elements.iter().zip(sorted.iter()) {
-        same(&rt, element.octets.as_slice(), *octets);
+        same_octets(&rt, element.octets.as_slice(), *octets);
     }
-    let contents = set_of_contents(rt.alloc(), der.as_slice())?;
-    same(&rt, contents, &want[2..]);
+    let contents = contents_of(rt.alloc(), der.as_slice())?;
+    same_octets(&rt, contents, &want[2..]);
     Ok(())
 }
 
 #[test]
 fn no_elements(rt: HostRuntime) -> Result<(), Fail> {
-    let der = set_of_der(rt.alloc(), &mut [])?;
-    same(&rt, der.as_slice(), [0x31, 0x00].as_slice());
-    let contents = set_of_contents(rt.alloc(), &[0x31, 0x00])?;
-    same(&rt, contents, [].as_slice());
+    let der = der_of(rt.alloc(), &mut [])?;
+    same_octets(&rt, der.as_slice(), &[0x31, 0x00]);
+    let contents = contents_of(rt.alloc(), &[0x31, 0x00])?;
+    same_octets(&rt, contents, &[]);
     Ok(())
 }
 
@@ -57,10 +67,10 @@ fn lengths_of_two_forms(rt: HostRuntime) -> Result<(), Fail> {
     want.extend_from_slice(&ones)?;
     want.extend_from_slice(&[0x04, 0x81, 0x80])?;
     want.extend_from_slice(&zeros)?;
-    let der = set_of_der(rt.alloc(), &mut elements)?;
-    same(&rt, der.as_slice(), want.as_slice());
-    let contents = set_of_contents(rt.alloc(), der.as_slice())?;
-    same(&rt, contents, &want.as_slice()[4..]);
+    let der = der_of(rt.alloc(), &mut elements)?;
+    same_octets(&rt, der.as_slice(), want.as_slice());
+    let contents = contents_of(rt.alloc(), der.as_slice())?;
+    same_octets(&rt, contents, &want.as_slice()[4..]);
     Ok(())
 }
 
@@ -72,7 +82,7 @@ fn more_contents_than_a_length_counts(rt: HostRuntime) -> Result<(), Fail> {
     for fewer in 0..257 {
         elements.push(string(&octets.as_slice()[fewer..])?)?;
     }
-    let refused = set_of_der(rt.alloc(), elements.as_mut_slice()).err();
+    let refused = der_of(rt.alloc(), elements.as_mut_slice()).err();
     same(&rt, refused, Some(ErrorKind::Overflow.to_error()));
     Ok(())
 }
@@ -80,8 +90,8 @@ fn more_contents_than_a_length_counts(rt: HostRuntime) -> Result<(), Fail> {
 #[test]
 fn equal_elements(rt: HostRuntime) -> Result<(), Fail> {
     let octets = [0x31, 0x06, 0x04, 0x01, 0xFF, 0x04, 0x01, 0xFF];
-    let contents = set_of_contents(rt.alloc(), &octets)?;
-    same(&rt, contents, &octets[2..]);
+    let contents = contents_of(rt.alloc(), &octets)?;
+    same_octets(&rt, contents, &octets[2..]);
     Ok(())
 }
 

@@ -3,6 +3,11 @@ use super::*;
 use crate::checks::{same, same_at};
 use der_fixtures::errors::{invalid_number, unknown};
 
+// The tag that all the octets are.
+fn tag_of(alloc: Global, bytes: &[u8]) -> Result<Tag, Error> {
+    Tag::from_der(alloc, bytes)
+}
+
 #[test]
 fn tags_both_ways(rt: HostRuntime) -> Result<(), Fail> {
     let rows: [(Tag, &[u8]); 6] = [
@@ -23,7 +28,7 @@ fn tags_both_ways(rt: HostRuntime) -> Result<(), Fail> {
         ),
     ];
     for (tag, octets) in rows {
-        same_at(&rt, tag, Tag::from_der(rt.alloc(), octets), Ok(tag));
+        same_at(&rt, tag, tag_of(rt.alloc(), octets), Ok(tag));
         let der = tag.to_der(rt.alloc())?;
         same_at(&rt, tag, der.as_slice(), octets);
     }
@@ -40,7 +45,7 @@ fn numbers_that_are_refused(rt: HostRuntime) {
     ];
     for (octets, position) in rows {
         let invalid = Err(invalid_number(position));
-        same_at(&rt, position, Tag::from_der(rt.alloc(), octets), invalid);
+        same_at(&rt, position, tag_of(rt.alloc(), octets), invalid);
     }
 }
 
@@ -48,21 +53,17 @@ fn numbers_that_are_refused(rt: HostRuntime) {
 fn tags_that_are_unknown_or_cut(rt: HostRuntime) {
     let alloc = rt.alloc();
     for byte in [0x3F, 0x21] {
-        same(&rt, Tag::from_der(alloc, &[byte]), Err(unknown(byte, 1)));
+        same(&rt, tag_of(alloc, &[byte]), Err(unknown(byte, 1)));
     }
-    same(
-        &rt,
-        Tag::from_der(alloc, &[0x5F, 0x9E]),
-        Err(incomplete(3, 2, 2)),
-    );
-    same(&rt, Tag::from_der(alloc, &[]), Err(incomplete(1, 0, 0)));
+    same(&rt, tag_of(alloc, &[0x5F, 0x9E]), Err(incomplete(3, 2, 2)));
+    same(&rt, tag_of(alloc, &[]), Err(incomplete(1, 0, 0)));
 }
 
 #[test]
 fn octets_behind_a_tag(rt: HostRuntime) {
     same(
         &rt,
-        Tag::from_der(rt.alloc(), &[0x7F, 0x21, 0x00]),
+        tag_of(rt.alloc(), &[0x7F, 0x21, 0x00]),
         Err(trailing(2, 1)),
     );
 }
