@@ -91,6 +91,13 @@ class Edit:
     def has_right(self):
         return any(old != right for _, old, right in self.rights)
 
+    def is_apart(self, edits):
+        """Whether none of these edits is of its functions, or of a text that it changes."""
+        functions = {function for it in edits for function in it.functions}
+        texts = {change[:2] for it in edits for change in it.changes}
+        own = {change[:2] for change in self.changes}
+        return functions.isdisjoint(self.functions) and texts.isdisjoint(own)
+
     def refuse(self, why):
         give_up(f"{self.at} {why}")
 
@@ -172,12 +179,27 @@ def see_apart(edits):
             seen[function] = edit.at
 
 
-def changed(name, edits, rightly=False):
-    """The texts of the crate with all these changes, or with what is right in their place."""
+def beside(groups):
+    """Which right bodies are seen beside the wrong ones of each of these folders: none of its edits
+    is of their functions or texts. Those that are beside none follow, in as few lists as may be."""
+    seen = [[] for _ in groups]
+    for edit in [it for group in groups for it in group if it.has_right()]:
+        there = [*groups, *([] for _ in seen[len(groups) :])]
+        apart = [it for it, them in enumerate(there) if edit.is_apart([*them, *seen[it]])]
+        if apart:
+            seen[min(apart, key=lambda it: len(there[it]) + len(seen[it]))].append(edit)
+        else:
+            seen.append([edit])
+    return seen
+
+
+def changed(name, wrong, right=()):
+    """The texts of the crate with the wrong bodies of the first edits, and the right ones of the
+    others."""
     texts = {}
-    for edit in edits:
-        pairs = edit.rights if rightly else edit.changes
-        for file, old, new in [it for it in pairs if it[1] != it[2]]:
+    pairs = [(it, it.changes) for it in wrong] + [(it, it.rights) for it in right]
+    for edit, changes in pairs:
+        for file, old, new in [it for it in changes if it[1] != it[2]]:
             if file not in texts:
                 if not os.path.isfile(f"{folder_of(name)}/{file}"):
                     edit.refuse(f"names the file {file}, which is not there")
