@@ -4,6 +4,10 @@
 #[cfg(test)]
 mod checks;
 #[cfg(test)]
+mod elements;
+#[cfg(test)]
+mod readers;
+#[cfg(test)]
 mod segments;
 #[cfg(test)]
 mod strings;

@@ -1,13 +1,15 @@
 //! Worked cases of octets that stand in segments; what is expected is worked out by hand from X.690
 //! and from the rules of refusals.
+use crate::readers::next_header;
 use der::{
-    BytesOwned, Decode, DecodeBytes, Encode, Error, ErrorKind, Header, Length, Reader, ReaderExt,
-    SliceReader, Tag, TagNumber, decode_header,
+    BytesOwned, Decode, Error, ErrorKind, Header, Length, Reader, ReaderExt, SliceReader, Tag,
+    TagNumber, read_constructed_vec,
 };
 use der_fixtures::errors::{
     incomplete, incorrect, indefinite, invalid_number, unexpected, unknown,
 };
 use der_fixtures::readers::{Placed, ber_reader, ber_unlent, der_reader, der_unlent, place_of};
+use der_uses::reader::CopyingReader;
 use std::alloc::Global;
 use std::test::Fail;
 
@@ -15,6 +17,24 @@ mod joined;
 mod joining;
 mod parts;
 mod segments;
+
+// Readers that segments are joined by, without saying all that they are.
+trait Joins: Placed + Drop {
+    // What segments with this tag are joined to, behind a length.
+    fn join(&mut self, alloc: Global, length: Length, tag: Tag) -> Result<Vec<u8>, Error>;
+}
+
+impl<'a> Joins for SliceReader<'a> {
+    fn join(&mut self, alloc: Global, length: Length, tag: Tag) -> Result<Vec<u8>, Error> {
+        read_constructed_vec(alloc, self, length, tag)
+    }
+}
+
+impl<'a> Joins for CopyingReader<'a> {
+    fn join(&mut self, alloc: Global, length: Length, tag: Tag) -> Result<Vec<u8>, Error> {
+        read_constructed_vec(alloc, self, length, tag)
+    }
+}
 
 // What was read into a vector, or why it was not.
 fn view(read: &Result<Vec<u8>, Error>) -> Result<&[u8], Error> {

@@ -4,7 +4,6 @@ use der::example::{BorrowedOctets, OwnedText};
 use der::{
     BytesCow, BytesOwned, BytesRef, Decode, DecodeBytes, DecodeValue, Encode, EncodeValue, Error,
     ErrorKind, Header, Length, Reader, SliceReader, StringCow, StringOwned, StringRef, Tag,
-    decode_header,
 };
 use der_fixtures::errors::{incomplete, indefinite, trailing, unexpected};
 use der_fixtures::readers::{Placed, ber_reader, der_reader, der_unlent};
@@ -20,6 +19,52 @@ mod owned;
 mod sizes;
 mod tagged;
 mod texts;
+
+// What a contract says of the calls below is not needed by the tests: so nothing is said here.
+
+// Octets that are borrowed.
+fn bytes_of(octets: &[u8]) -> Result<BytesRef<'_>, Error> {
+    BytesRef::new(octets)
+}
+
+// Octets in memory of their own.
+fn owned_bytes(alloc: Global, octets: &[u8]) -> Result<BytesOwned, Error> {
+    BytesOwned::from_slice(alloc, octets)
+}
+
+// A text that is borrowed.
+fn text_of(text: &str) -> Result<StringRef<'_>, Error> {
+    StringRef::new(text)
+}
+
+// Likewise, of the octets of a text.
+fn text_from(octets: &[u8]) -> Result<StringRef<'_>, Error> {
+    StringRef::from_bytes(octets)
+}
+
+// A text in memory of its own, of the octets of a text.
+fn owned_text(alloc: Global, octets: &[u8]) -> Result<StringOwned, Error> {
+    StringOwned::from_bytes(alloc, octets)
+}
+
+// Likewise, of a text that is borrowed.
+fn copied_text(alloc: Global, text: &StringRef<'_>) -> Result<StringOwned, Error> {
+    text.ref_to_owned(alloc)
+}
+
+// Likewise, of another one.
+fn cloned_text(alloc: Global, text: &StringOwned) -> Result<StringOwned, Error> {
+    text.clone_in(alloc)
+}
+
+// The contents of a text, borrowed from a reader that lends.
+fn lent_text<'a>(
+    alloc: Global,
+    reader: &mut SliceReader<'a>,
+    header: Header,
+) -> Result<StringRef<'a>, Error> {
+    StringRef::decode_value(alloc, reader, header)
+}
 
 // That a reader cannot lend.
 fn unlendable(position: u32) -> Error {

@@ -1,6 +1,7 @@
 //! Elements whose octets may stand in segments.
 use super::*;
 use crate::checks::{same, same_at};
+use crate::elements::{joined_of_ber, joined_of_der, joined_to_der};
 use der::example::JoinedOctets;
 use std::process::Abort;
 
@@ -42,7 +43,7 @@ fn under_ber(
 
 // All of the octets, as one element under those rules.
 fn wholly_under_ber(rt: &impl Abort, alloc: Global, octets: &[u8], answer: Result<&[u8], Error>) {
-    let whole = JoinedOctets::from_ber(alloc, octets);
+    let whole = joined_of_ber(alloc, octets);
     same_at(rt, octets.len(), octets_of(&whole), answer);
 }
 
@@ -62,7 +63,7 @@ fn under_der(
 
 // All of the octets, as one element under those rules.
 fn wholly_under_der(rt: &impl Abort, alloc: Global, octets: &[u8], answer: Result<&[u8], Error>) {
-    let whole = JoinedOctets::from_der(alloc, octets);
+    let whole = joined_of_der(alloc, octets);
     same_at(rt, octets.len(), octets_of(&whole), answer);
 }
 
@@ -183,11 +184,11 @@ fn what_is_written(rt: HostRuntime) -> Result<(), Fail> {
     let segments = [
         0x24, 0x80, 0x04, 0x02, 0xAA, 0xBB, 0x04, 0x01, 0xCC, 0x00, 0x00,
     ];
-    let joined = JoinedOctets::from_ber(rt.alloc(), &segments)?;
-    let written = joined.to_der(rt.alloc())?;
+    let joined = joined_of_ber(rt.alloc(), &segments)?;
+    let written = joined_to_der(rt.alloc(), &joined)?;
     let whole = [0x04, 0x03, 0xAA, 0xBB, 0xCC];
     same(&rt, written.as_slice(), whole.as_slice());
-    let again = JoinedOctets::from_der(rt.alloc(), written.as_slice())?;
+    let again = joined_of_der(rt.alloc(), written.as_slice())?;
     same(&rt, again.octets, joined.octets);
     Ok(())
 }

@@ -1,15 +1,14 @@
 //! Segments behind lengths of each form, with other tags, inside parts, and of a failed reader.
 use super::*;
 use crate::checks::{same, same_at};
-use der::read_constructed_vec;
 use std::process::Abort;
 
 // Two segments behind a length of the indefinite form, whatever its number.
-fn behind_indefinite<R: Reader>(rt: &impl Abort, alloc: Global, mut reader: R, number: u32) {
+fn behind_indefinite<R: Joins>(rt: &impl Abort, alloc: Global, mut reader: R, number: u32) {
     let length = Length::new_indefinite(number);
-    let joined = read_constructed_vec(alloc, &mut reader, length, Tag::OctetString);
+    let joined = reader.join(alloc, length, Tag::OctetString);
     same_at(rt, number, view(&joined), Ok([0xAA, 0xBB].as_slice()));
-    same_at(rt, number, place_of(&reader), (6, 6, false));
+    same_at(rt, number, reader.place(), (6, 6, false));
 }
 
 #[test]
@@ -23,12 +22,12 @@ fn indefinite_lengths(rt: HostRuntime) -> Result<(), Fail> {
 }
 
 // A length of the definite form is refused at once.
-fn behind_definite<R: Reader>(rt: &impl Abort, alloc: Global, mut reader: R, number: u32) {
-    let (position, end, _) = place_of(&reader);
+fn behind_definite<R: Joins>(rt: &impl Abort, alloc: Global, mut reader: R, number: u32) {
+    let (position, end, _) = reader.place();
     let length = Length::new(number);
-    let joined = read_constructed_vec(alloc, &mut reader, length, Tag::OctetString);
+    let joined = reader.join(alloc, length, Tag::OctetString);
     same_at(rt, number, view(&joined), Err(indefinite(position)));
-    same_at(rt, number, place_of(&reader), (position, end, true));
+    same_at(rt, number, reader.place(), (position, end, true));
 }
 
 #[test]
@@ -46,7 +45,7 @@ fn definite_lengths(rt: HostRuntime) -> Result<(), Fail> {
 }
 
 // Segments with this tag, of the context.
-fn tagged<R: Reader>(
+fn tagged<R: Joins>(
     rt: &impl Abort,
     alloc: Global,
     mut reader: R,
@@ -54,10 +53,10 @@ fn tagged<R: Reader>(
     answer: Result<&[u8], Error>,
 ) {
     let length = Length::new_indefinite(3);
-    let joined = read_constructed_vec(alloc, &mut reader, length, inner_tag);
+    let joined = reader.join(alloc, length, inner_tag);
     same(rt, view(&joined), answer);
     let position = if answer.is_ok() { 3 } else { 2 };
-    same(rt, place_of(&reader), (position, 3, false));
+    same(rt, reader.place(), (position, 3, false));
 }
 
 #[test]
@@ -65,36 +64,14 @@ fn tags_of_the_context(rt: HostRuntime) -> Result<(), Fail> {
     let alloc = rt.alloc();
     let primitive = context_specific(false);
     let constructed = context_specific(true);
-    let joined = Ok([0x2A].as_slice());
-    tagged(
-        &rt,
-        alloc,
-        der_reader(&[0x80, 0x01, 0x2A])?,
-        primitive,
-        joined,
-    );
-    tagged(
-        &rt,
-        alloc,
-        der_unlent(&[0x80, 0x01, 0x2A])?,
-        primitive,
-        joined,
-    );
-    let other = Err(unexpected(primitive, constructed));
-    tagged(
-        &rt,
-        alloc,
-        der_reader(&[0xA0, 0x01, 0x2A])?,
-        primitive,
-        other,
-    );
-    tagged(
-        &rt,
-        alloc,
-        der_unlent(&[0xA0, 0x01, 0x2A])?,
-        primitive,
-        other,
-    );
+    let rows: [(&[u8], Result<&[u8], Error>); 2] = [
+        (&[0x80, 0x01, 0x2A], Ok(&[0x2A])),
+        (&[0xA0, 0x01, 0x2A], Err(unexpected(primitive, constructed))),
+    ];
+    for (octets, answer) in rows {
+        tagged(&rt, alloc, der_reader(octets)?, primitive, answer);
+        tagged(&rt, alloc, der_unlent(octets)?, primitive, answer);
+    }
     Ok(())
 }
 
@@ -143,12 +120,11 @@ fn part<R: Reader>(
 #[test]
 fn parts(rt: HostRuntime) -> Result<(), Fail> {
     let octets = [0x04, 0x01, 0x2A, 0x04, 0x01, 0x2B];
-    let first = Ok([0x2A].as_slice());
-    part(&rt, rt.alloc(), ber_reader(&octets)?, 3, first)?;
-    part(&rt, rt.alloc(), der_unlent(&octets)?, 3, first)?;
-    let cut = Err(incomplete(3, 2, 2));
-    part(&rt, rt.alloc(), ber_reader(&octets)?, 2, cut)?;
-    part(&rt, rt.alloc(), der_unlent(&octets)?, 2, cut)?;
+    let rows: [(u32, Result<&[u8], Error>); 2] = [(3, Ok(&[0x2A])), (2, Err(incomplete(3, 2, 2)))];
+    for (end, answer) in rows {
+        part(&rt, rt.alloc(), ber_reader(&octets)?, end, answer)?;
+        part(&rt, rt.alloc(), der_unlent(&octets)?, end, answer)?;
+    }
     Ok(())
 }
 
@@ -157,7 +133,7 @@ fn a_failed_reader(rt: HostRuntime) -> Result<(), Fail> {
     let mut reader = der_reader(&[0x04, 0x00])?;
     let failed = reader.error(ErrorKind::Failed);
     let length = Length::new_indefinite(0);
-    let joined = read_constructed_vec(rt.alloc(), &mut reader, length, Tag::OctetString);
+    let joined = reader.join(rt.alloc(), length, Tag::OctetString);
     same(&rt, view(&joined), Err(failed));
     same(&rt, reader.place(), (0, 2, true));
     Ok(())

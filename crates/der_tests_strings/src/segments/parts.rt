@@ -4,8 +4,26 @@ use crate::checks::{same, same_at};
 use der::read_eoc;
 use std::process::Abort;
 
+// Readers that contents are read by, without saying all that they are.
+trait Parts: Placed + Drop {
+    // What the contents behind this header give.
+    fn parts(&mut self, alloc: Global, header: Header) -> Result<BytesOwned, Error>;
+}
+
+impl<'a> Parts for SliceReader<'a> {
+    fn parts(&mut self, alloc: Global, header: Header) -> Result<BytesOwned, Error> {
+        BytesOwned::decode_value_parts(alloc, self, header, Tag::OctetString)
+    }
+}
+
+impl<'a> Parts for CopyingReader<'a> {
+    fn parts(&mut self, alloc: Global, header: Header) -> Result<BytesOwned, Error> {
+        BytesOwned::decode_value_parts(alloc, self, header, Tag::OctetString)
+    }
+}
+
 // What contents behind this header give, and where the reader stands then.
-fn decoding<R: Reader>(
+fn decoding<R: Parts>(
     rt: &impl Abort,
     alloc: Global,
     mut reader: R,
@@ -14,14 +32,17 @@ fn decoding<R: Reader>(
     place: (u32, bool),
 ) {
     let (position, failed) = place;
-    let end = u32::from(reader.input_len());
-    let read = BytesOwned::decode_value_parts(alloc, &mut reader, header, Tag::OctetString);
-    let octets = match &read {
+    let (_, end, _) = reader.place();
+    let read = reader.parts(alloc, header);
+    same_at(rt, end, octets_of(&read), answer);
+    same_at(rt, end, reader.place(), (position, end, failed));
+}
+
+fn octets_of(read: &Result<BytesOwned, Error>) -> Result<&[u8], Error> {
+    match read {
         Ok(bytes) => Ok(bytes.as_slice()),
         Err(error) => Err(*error),
-    };
-    same_at(rt, end, octets, answer);
-    same_at(rt, end, place_of(&reader), (position, end, failed));
+    }
 }
 
 // Likewise under the Basic Encoding Rules, whether the reader lends or not.
@@ -87,6 +108,16 @@ fn headers_of_segments(rt: HostRuntime) -> Result<(), Fail> {
     Ok(())
 }
 
+// What stands in an element of indefinite length, whatever its tag.
+fn contents(alloc: Global, reader: &mut SliceReader<'_>) -> Result<BytesOwned, Error> {
+    let header = next_header(reader)?;
+    let outer = reader.enter_nested(header.length().sans_eoc())?;
+    let read = BytesOwned::decode_value_parts(alloc, reader, header, Tag::OctetString);
+    let joined = reader.close_nested(outer, read)?;
+    read_eoc(reader)?;
+    Ok(joined)
+}
+
 // The encrypted octets of a CMS message, whose tag stands in the place of OCTET STRING.
 #[test]
 fn an_implicit_tag(rt: HostRuntime) -> Result<(), Fail> {
@@ -95,23 +126,18 @@ fn an_implicit_tag(rt: HostRuntime) -> Result<(), Fail> {
         0xE1, 0xB9, 0x27, 0xF0, 0xF0, 0x00, 0x00,
     ];
     let mut reader = ber_reader(&octets)?;
-    let header = decode_header(&mut reader)?;
-    let outer = reader.enter_nested(header.length().sans_eoc())?;
-    let alloc = rt.alloc();
-    let read = BytesOwned::decode_value_parts(alloc, &mut reader, header, Tag::OctetString);
-    let joined = reader.close_nested(outer, read)?;
-    read_eoc(&mut reader)?;
-    let contents = [
+    let joined = contents(rt.alloc(), &mut reader)?;
+    let whole = [
         0xCC, 0x74, 0xAD, 0xF6, 0x5D, 0x97, 0x3C, 0x8B, 0x72, 0xCD, 0x51, 0xE1, 0xB9, 0x27, 0xF0,
         0xF0,
     ];
-    same(&rt, joined.as_slice(), contents.as_slice());
+    same(&rt, joined.as_slice(), whole.as_slice());
     same(&rt, reader.place(), (22, 22, false));
     Ok(())
 }
 
 // What is refused at the front is told there, and else at the octet before.
-fn refused_behind<R: Reader>(
+fn refused_behind<R: Reader + Parts>(
     rt: &impl Abort,
     alloc: Global,
     mut reader: R,

@@ -1,11 +1,10 @@
 //! Segments up to the end.
 use super::*;
 use crate::checks::same_at;
-use der::read_constructed_vec;
 use std::process::Abort;
 
 // What segments are joined to, or why they are refused, and where the reader stands then.
-fn joining<R: Reader>(
+fn joining<R: Joins>(
     rt: &impl Abort,
     alloc: Global,
     mut reader: R,
@@ -13,11 +12,11 @@ fn joining<R: Reader>(
     place: (u32, bool),
 ) {
     let (position, failed) = place;
-    let end = u32::from(reader.input_len());
+    let (_, end, _) = reader.place();
     let length = Length::new_indefinite(5);
-    let joined = read_constructed_vec(alloc, &mut reader, length, Tag::OctetString);
+    let joined = reader.join(alloc, length, Tag::OctetString);
     same_at(rt, end, view(&joined), answer);
-    same_at(rt, end, place_of(&reader), (position, end, failed));
+    same_at(rt, end, reader.place(), (position, end, failed));
 }
 
 // Likewise, whether the reader lends or not.

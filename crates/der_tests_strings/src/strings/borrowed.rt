@@ -4,11 +4,11 @@ use crate::checks::{holds, same};
 
 #[test]
 fn octets_that_are_borrowed(rt: HostRuntime) -> Result<(), Fail> {
-    let bytes = BytesRef::new(&[0x01, 0x02, 0x03])?;
+    let bytes = bytes_of(&[0x01, 0x02, 0x03])?;
     same(&rt, bytes.as_slice(), [0x01, 0x02, 0x03].as_slice());
     same(&rt, bytes.len(), Length::new(3));
     holds(&rt, !bytes.is_empty());
-    let empty = BytesRef::new(&[])?;
+    let empty = bytes_of(&[])?;
     same(&rt, empty, BytesRef::EMPTY);
     same(&rt, BytesRef::EMPTY.len(), Length::ZERO);
     holds(&rt, BytesRef::EMPTY.is_empty());
@@ -17,7 +17,7 @@ fn octets_that_are_borrowed(rt: HostRuntime) -> Result<(), Fail> {
 
 #[test]
 fn prefixes(rt: HostRuntime) -> Result<(), Fail> {
-    let bytes = BytesRef::new(&[0x01, 0x02, 0x03])?;
+    let bytes = bytes_of(&[0x01, 0x02, 0x03])?;
     let two = bytes.prefix(Length::new(2))?;
     same(&rt, two.as_slice(), [0x01, 0x02].as_slice());
     same(&rt, bytes.prefix(Length::ZERO)?, BytesRef::EMPTY);
@@ -27,7 +27,7 @@ fn prefixes(rt: HostRuntime) -> Result<(), Fail> {
 
 #[test]
 fn prefixes_that_are_too_long(rt: HostRuntime) -> Result<(), Fail> {
-    let bytes = BytesRef::new(&[0x01, 0x02, 0x03])?;
+    let bytes = bytes_of(&[0x01, 0x02, 0x03])?;
     for len in [Length::new(4), Length::new_indefinite(4), Length::MAX] {
         same(&rt, bytes.prefix(len), Err(incomplete(4, 3, 3)));
     }
@@ -38,28 +38,28 @@ fn prefixes_that_are_too_long(rt: HostRuntime) -> Result<(), Fail> {
 
 #[test]
 fn texts_that_are_borrowed(rt: HostRuntime) -> Result<(), Fail> {
-    let text = StringRef::new("grün")?;
+    let text = text_of("grün")?;
     same(&rt, text.as_str(), "grün");
     let octets = [0x67, 0x72, 0xC3, 0xBC, 0x6E];
     same(&rt, text.as_bytes(), octets.as_slice());
-    same(&rt, text.as_bytes_ref(), BytesRef::new(&octets)?);
+    same(&rt, text.as_bytes_ref(), bytes_of(&octets)?);
     same(&rt, text.len(), Length::new(5));
     holds(&rt, !text.is_empty());
-    same(&rt, StringRef::from_bytes(&octets), Ok(text));
-    let empty = StringRef::new("")?;
+    same(&rt, text_from(&octets), Ok(text));
+    let empty = text_of("")?;
     same(&rt, empty.len(), Length::ZERO);
     holds(&rt, empty.is_empty());
-    same(&rt, StringRef::from_bytes(&[]), Ok(empty));
+    same(&rt, text_from(&[]), Ok(empty));
     Ok(())
 }
 
 #[test]
 fn copies_of_what_is_borrowed(rt: HostRuntime) -> Result<(), Fail> {
-    let bytes = BytesRef::new(&[0x01, 0x02])?;
+    let bytes = bytes_of(&[0x01, 0x02])?;
     let copy = bytes.ref_to_owned(rt.alloc())?;
     same(&rt, copy.owned_to_ref(), bytes);
-    let text = StringRef::new("grün")?;
-    let copy = text.ref_to_owned(rt.alloc())?;
+    let text = text_of("grün")?;
+    let copy = copied_text(rt.alloc(), &text)?;
     same(&rt, copy.owned_to_ref(), text);
     Ok(())
 }

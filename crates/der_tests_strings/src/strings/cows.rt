@@ -4,6 +4,24 @@ use crate::checks::{holds, same};
 use der::encode_value_to_slice;
 use std::process::Abort;
 
+// Contents that a reader cannot lend.
+fn octets_of_contents<'a>(
+    alloc: Global,
+    reader: &mut CopyingReader<'a>,
+    header: Header,
+) -> Result<BytesCow<'a>, Error> {
+    BytesCow::decode_value(alloc, reader, header)
+}
+
+// The contents of a text, which a reader lends.
+fn text_of_contents<'a>(
+    alloc: Global,
+    reader: &mut SliceReader<'a>,
+    header: Header,
+) -> Result<StringCow<'a>, Error> {
+    StringCow::decode_value(alloc, reader, header)
+}
+
 #[test]
 fn octets_from_a_reader_that_lends(rt: HostRuntime) -> Result<(), Fail> {
     let octets = [0x01, 0x02, 0x03];
@@ -19,7 +37,7 @@ fn octets_from_a_reader_that_lends(rt: HostRuntime) -> Result<(), Fail> {
 fn octets_from_a_reader_that_does_not(rt: HostRuntime) -> Result<(), Fail> {
     let octets = [0x01, 0x02, 0x03];
     let mut reader = der_unlent(&octets)?;
-    let bytes = BytesCow::decode_value(rt.alloc(), &mut reader, header_of(3))?;
+    let bytes = octets_of_contents(rt.alloc(), &mut reader, header_of(3))?;
     holds(&rt, matches!(bytes, BytesCow::Owned(_)));
     same(&rt, bytes.as_bytes_ref().as_slice(), octets.as_slice());
     same(&rt, reader.place(), (3, 3, false));
@@ -29,7 +47,7 @@ fn octets_from_a_reader_that_does_not(rt: HostRuntime) -> Result<(), Fail> {
 #[test]
 fn octets_that_are_refused(rt: HostRuntime) -> Result<(), Fail> {
     let mut reader = der_unlent(&[0x01, 0x02, 0x03])?;
-    let refused = BytesCow::decode_value(rt.alloc(), &mut reader, header_of(4)).err();
+    let refused = octets_of_contents(rt.alloc(), &mut reader, header_of(4)).err();
     same(&rt, refused, Some(incomplete(4, 3, 0)));
     same(&rt, reader.place(), (0, 3, true));
     Ok(())
@@ -38,7 +56,7 @@ fn octets_that_are_refused(rt: HostRuntime) -> Result<(), Fail> {
 #[test]
 fn texts_from_a_reader_that_lends(rt: HostRuntime) -> Result<(), Fail> {
     let mut reader = der_reader(&[0xC3, 0xBC])?;
-    let text = StringCow::decode_value(rt.alloc(), &mut reader, header_of(2))?;
+    let text = text_of_contents(rt.alloc(), &mut reader, header_of(2))?;
     holds(&rt, matches!(text, StringCow::Borrowed(_)));
     same(&rt, text.as_string_ref().as_str(), "ü");
     same(&rt, reader.place(), (2, 2, false));
@@ -57,7 +75,7 @@ fn texts_from_a_reader_that_does_not(rt: HostRuntime) -> Result<(), Fail> {
 #[test]
 fn texts_that_are_refused(rt: HostRuntime) -> Result<(), Fail> {
     let mut reader = der_reader(&[0xC3])?;
-    let refused = StringCow::decode_value(rt.alloc(), &mut reader, header_of(1));
+    let refused = text_of_contents(rt.alloc(), &mut reader, header_of(1));
     holds(&rt, is_no_text(refused.err()));
     same(&rt, reader.place(), (1, 1, false));
     Ok(())
@@ -76,16 +94,16 @@ fn written<T: EncodeValue>(rt: &impl Abort, value: &T) -> Result<(), Error> {
 
 #[test]
 fn octets_that_are_written(rt: HostRuntime) -> Result<(), Fail> {
-    written(&rt, &BytesCow::Borrowed(BytesRef::new(&TEXT)?))?;
-    let owned = BytesOwned::from_slice(rt.alloc(), &TEXT)?;
+    written(&rt, &BytesCow::Borrowed(bytes_of(&TEXT)?))?;
+    let owned = owned_bytes(rt.alloc(), &TEXT)?;
     written(&rt, &BytesCow::Owned(owned))?;
     Ok(())
 }
 
 #[test]
 fn texts_that_are_written(rt: HostRuntime) -> Result<(), Fail> {
-    written(&rt, &StringCow::Borrowed(StringRef::from_bytes(&TEXT)?))?;
-    let owned = StringOwned::from_bytes(rt.alloc(), &TEXT)?;
+    written(&rt, &StringCow::Borrowed(text_from(&TEXT)?))?;
+    let owned = owned_text(rt.alloc(), &TEXT)?;
     written(&rt, &StringCow::Owned(owned))?;
     Ok(())
 }

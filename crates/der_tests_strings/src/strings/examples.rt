@@ -1,23 +1,28 @@
 //! The types of `example` over octets and texts.
 use super::*;
 use crate::checks::{holds, same};
+use crate::elements::{borrowed_of_der, borrowed_to_der, text_of_der, text_to_der};
 use std::process::Abort;
 
 #[test]
 fn octets_both_ways(rt: HostRuntime) -> Result<(), Fail> {
     let alloc = rt.alloc();
     let octets = [0x04, 0x02, 0x01, 0x02];
-    let borrowed = BorrowedOctets::from_der(alloc, &octets)?;
+    let borrowed = borrowed_of_der(alloc, &octets)?;
     same(&rt, borrowed.octets.as_slice(), [0x01, 0x02].as_slice());
-    same(&rt, borrowed.to_der(alloc)?.as_slice(), octets.as_slice());
-    let empty = BorrowedOctets::from_der(alloc, &[0x04, 0x00])?;
+    same(
+        &rt,
+        borrowed_to_der(alloc, &borrowed)?.as_slice(),
+        octets.as_slice(),
+    );
+    let empty = borrowed_of_der(alloc, &[0x04, 0x00])?;
     holds(&rt, empty.octets.is_empty());
     Ok(())
 }
 
 // This element is refused so.
 fn refused(rt: &impl Abort, alloc: Global, octets: &[u8], error: Error) {
-    let refused = BorrowedOctets::from_der(alloc, octets).err();
+    let refused = borrowed_of_der(alloc, octets).err();
     same(rt, refused, Some(error));
 }
 
@@ -47,10 +52,14 @@ fn octets_under_ber(rt: HostRuntime) -> Result<(), Fail> {
 fn texts_both_ways(rt: HostRuntime) -> Result<(), Fail> {
     let alloc = rt.alloc();
     let octets = [0x0C, 0x03, 0x67, 0xC3, 0xBC];
-    let owned = OwnedText::from_der(alloc, &octets)?;
+    let owned = text_of_der(alloc, &octets)?;
     same(&rt, owned.text.as_str(), "gü");
-    same(&rt, owned.to_der(alloc)?.as_slice(), octets.as_slice());
-    let ascii = OwnedText::from_der(alloc, &[0x0C, 0x02, 0x68, 0x69])?;
+    same(
+        &rt,
+        text_to_der(alloc, &owned)?.as_slice(),
+        octets.as_slice(),
+    );
+    let ascii = text_of_der(alloc, &[0x0C, 0x02, 0x68, 0x69])?;
     same(&rt, ascii.text.as_str(), "hi");
     Ok(())
 }
@@ -58,11 +67,11 @@ fn texts_both_ways(rt: HostRuntime) -> Result<(), Fail> {
 #[test]
 fn elements_that_are_no_texts(rt: HostRuntime) -> Result<(), Fail> {
     let alloc = rt.alloc();
-    let refused = OwnedText::from_der(alloc, &[0x0C, 0x01, 0xFF]);
+    let refused = text_of_der(alloc, &[0x0C, 0x01, 0xFF]);
     holds(&rt, is_no_text(refused.err()));
-    let refused = OwnedText::from_der(alloc, &[0x0C, 0x01, 0xC3]);
+    let refused = text_of_der(alloc, &[0x0C, 0x01, 0xC3]);
     holds(&rt, is_no_text(refused.err()));
-    let refused = OwnedText::from_der(alloc, &[0x04, 0x00]).err();
+    let refused = text_of_der(alloc, &[0x04, 0x00]).err();
     same(
         &rt,
         refused,

@@ -4,13 +4,13 @@ use crate::checks::{holds, same};
 use std::cmp::Ordering;
 
 fn borrowed_order(a: &[u8], b: &[u8]) -> Result<Ordering, Error> {
-    let a = BytesRef::new(a)?;
-    Ok(a.cmp(&BytesRef::new(b)?))
+    let a = bytes_of(a)?;
+    Ok(a.cmp(&bytes_of(b)?))
 }
 
 fn owned_order(alloc: Global, a: &[u8], b: &[u8]) -> Result<Ordering, Error> {
-    let a = BytesOwned::from_slice(alloc, a)?;
-    Ok(a.cmp(&BytesOwned::from_slice(alloc, b)?))
+    let a = owned_bytes(alloc, a)?;
+    Ok(a.cmp(&owned_bytes(alloc, b)?))
 }
 
 // Borrowed octets are ordered one by one; those in memory of their own first by their number.
@@ -39,15 +39,15 @@ fn orders_of_octets(rt: HostRuntime) {
 
 #[test]
 fn orders_of_texts(rt: HostRuntime) -> Result<(), Fail> {
-    let long = StringRef::new("aa")?;
-    let short = StringRef::new("b")?;
+    let long = text_of("aa")?;
+    let short = text_of("b")?;
     same(&rt, long.cmp(&short), Ordering::Less);
     same(&rt, long.partial_cmp(&short), Some(Ordering::Less));
-    let long = long.ref_to_owned(rt.alloc())?;
-    let short = short.ref_to_owned(rt.alloc())?;
+    let long = copied_text(rt.alloc(), &long)?;
+    let short = copied_text(rt.alloc(), &short)?;
     same(&rt, long.cmp(&short), Ordering::Less);
     same(&rt, short.cmp(&long), Ordering::Greater);
     holds(&rt, long != short);
-    holds(&rt, long == long.clone_in(rt.alloc())?);
+    holds(&rt, long == cloned_text(rt.alloc(), &long)?);
     Ok(())
 }

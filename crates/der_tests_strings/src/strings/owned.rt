@@ -5,7 +5,7 @@ use der::{box_to_ref, slice_to_owned};
 use std::process::Abort;
 
 fn three(alloc: Global) -> Result<BytesOwned, Error> {
-    BytesOwned::from_slice(alloc, &[0x01, 0x02, 0x03])
+    owned_bytes(alloc, &[0x01, 0x02, 0x03])
 }
 
 // Octets of whichever origin are these.
@@ -20,7 +20,7 @@ fn octets_of_each_origin(rt: HostRuntime) -> Result<(), Fail> {
     are_three(&rt, three(alloc)?);
     are_three(&rt, BytesOwned::new(slice_to_owned(alloc, &octets)?)?);
     are_three(&rt, BytesOwned::from_vec(Vec::from_slice(alloc, &octets)?)?);
-    are_three(&rt, BytesOwned::from_ref(alloc, BytesRef::new(&octets)?)?);
+    are_three(&rt, BytesOwned::from_ref(alloc, bytes_of(&octets)?)?);
     Ok(())
 }
 
@@ -35,8 +35,8 @@ fn octets_that_are_cloned(rt: HostRuntime) -> Result<(), Fail> {
 fn octets_and_their_views(rt: HostRuntime) -> Result<(), Fail> {
     let octets = [0x01, 0x02, 0x03];
     let bytes = three(rt.alloc())?;
-    same(&rt, bytes.as_bytes_ref(), BytesRef::new(&octets)?);
-    same(&rt, bytes.owned_to_ref(), BytesRef::new(&octets)?);
+    same(&rt, bytes.as_bytes_ref(), bytes_of(&octets)?);
+    same(&rt, bytes.owned_to_ref(), bytes_of(&octets)?);
     same(&rt, bytes.len(), Length::new(3));
     holds(&rt, !bytes.is_empty());
     same(&rt, box_to_ref(&bytes.into_box()), octets.as_slice());
@@ -49,7 +49,7 @@ fn no_octets(rt: HostRuntime) -> Result<(), Fail> {
     same(&rt, empty.as_slice(), [].as_slice());
     same(&rt, empty.len(), Length::ZERO);
     holds(&rt, empty.is_empty());
-    same(&rt, BytesOwned::from_slice(rt.alloc(), &[])?, empty);
+    same(&rt, owned_bytes(rt.alloc(), &[])?, empty);
     Ok(())
 }
 
@@ -58,9 +58,9 @@ const TEXT: [u8; 5] = [0x67, 0x72, 0xC3, 0xBC, 0x6E];
 #[test]
 fn texts_of_each_origin(rt: HostRuntime) -> Result<(), Fail> {
     let alloc = rt.alloc();
-    let text = StringOwned::from_bytes(alloc, &TEXT)?;
+    let text = owned_text(alloc, &TEXT)?;
     same(&rt, text.as_str(), "grün");
-    same(&rt, text.clone_in(alloc)?, text);
+    same(&rt, cloned_text(alloc, &text)?, text);
     let text = StringOwned::new(String::from_str(alloc, "grün")?)?;
     same(&rt, text.as_bytes(), TEXT.as_slice());
     Ok(())
@@ -68,10 +68,10 @@ fn texts_of_each_origin(rt: HostRuntime) -> Result<(), Fail> {
 
 #[test]
 fn texts_and_their_views(rt: HostRuntime) -> Result<(), Fail> {
-    let text = StringOwned::from_bytes(rt.alloc(), &TEXT)?;
-    same(&rt, text.as_bytes_ref(), BytesRef::new(&TEXT)?);
-    same(&rt, text.as_string_ref(), StringRef::new("grün")?);
-    same(&rt, text.owned_to_ref(), StringRef::new("grün")?);
+    let text = owned_text(rt.alloc(), &TEXT)?;
+    same(&rt, text.as_bytes_ref(), bytes_of(&TEXT)?);
+    same(&rt, text.as_string_ref(), text_of("grün")?);
+    same(&rt, text.owned_to_ref(), text_of("grün")?);
     same(&rt, text.len(), Length::new(5));
     holds(&rt, !text.is_empty());
     Ok(())
@@ -79,7 +79,7 @@ fn texts_and_their_views(rt: HostRuntime) -> Result<(), Fail> {
 
 #[test]
 fn no_text(rt: HostRuntime) -> Result<(), Fail> {
-    let empty = StringOwned::from_bytes(rt.alloc(), &[])?;
+    let empty = owned_text(rt.alloc(), &[])?;
     same(&rt, empty.len(), Length::ZERO);
     holds(&rt, empty.is_empty());
     Ok(())

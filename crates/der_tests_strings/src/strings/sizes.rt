@@ -1,7 +1,10 @@
 //! Contents of every form of length.
 use super::*;
 use crate::checks::{holds, holds_at, same, same_at};
-use der::example::JoinedOctets;
+use crate::elements::{
+    borrowed_of_der, borrowed_to_der, joined_of_ber, joined_to_der, text_of_der, text_to_der,
+};
+use crate::readers::next_header;
 
 const COUNTS: [usize; 5] = [0, 1, 127, 128, 65536];
 
@@ -24,9 +27,9 @@ fn octets_that_are_borrowed(rt: HostRuntime) -> Result<(), Fail> {
     let alloc = rt.alloc();
     for count in COUNTS {
         let octets = begun(alloc, 0x04, count)?;
-        let borrowed = BorrowedOctets::from_der(alloc, octets.as_slice())?;
+        let borrowed = borrowed_of_der(alloc, octets.as_slice())?;
         same_at(&rt, count, borrowed.octets.as_slice().len(), count);
-        let written = borrowed.to_der(alloc)?;
+        let written = borrowed_to_der(alloc, &borrowed)?;
         same_at(&rt, count, written.as_slice(), octets.as_slice());
     }
     Ok(())
@@ -38,7 +41,7 @@ fn octets_that_are_copied(rt: HostRuntime) -> Result<(), Fail> {
     for count in COUNTS {
         let octets = begun(alloc, 0x04, count)?;
         let mut reader = der_reader(octets.as_slice())?;
-        let header = decode_header(&mut reader)?;
+        let header = next_header(&mut reader)?;
         let owned = BytesOwned::decode_value(alloc, &mut reader, header)?;
         same_at(&rt, count, owned.as_slice().len(), count);
         holds_at(&rt, count, octets.as_slice().ends_with(owned.as_slice()));
@@ -52,12 +55,12 @@ fn texts_of_each_number(rt: HostRuntime) -> Result<(), Fail> {
     let alloc = rt.alloc();
     for count in COUNTS {
         let octets = begun(alloc, 0x0C, count)?;
-        let owned = OwnedText::from_der(alloc, octets.as_slice())?;
+        let owned = text_of_der(alloc, octets.as_slice())?;
         same_at(&rt, count, owned.text.as_bytes().len(), count);
         same_at(
             &rt,
             count,
-            owned.to_der(alloc)?.as_slice(),
+            text_to_der(alloc, &owned)?.as_slice(),
             octets.as_slice(),
         );
     }
@@ -79,12 +82,12 @@ fn segments_of_each_number(rt: HostRuntime) -> Result<(), Fail> {
     for count in COUNTS {
         let segment = begun(alloc, 0x04, count)?;
         let octets = around(alloc, segment.as_slice())?;
-        let joined = JoinedOctets::from_ber(alloc, octets.as_slice())?;
+        let joined = joined_of_ber(alloc, octets.as_slice())?;
         same_at(&rt, count, joined.octets.as_slice().len(), count);
         same_at(
             &rt,
             count,
-            joined.to_der(alloc)?.as_slice(),
+            joined_to_der(alloc, &joined)?.as_slice(),
             segment.as_slice(),
         );
     }
@@ -100,7 +103,7 @@ fn segments_of_all_numbers(rt: HostRuntime) -> Result<(), Fail> {
         segments.extend_from_slice(begun(alloc, 0x04, count)?.as_slice())?;
     }
     let octets = around(alloc, segments.as_slice())?;
-    let joined = JoinedOctets::from_ber(alloc, octets.as_slice())?;
+    let joined = joined_of_ber(alloc, octets.as_slice())?;
     same(&rt, joined.octets.as_slice().len(), 131328);
     holds(
         &rt,

@@ -5,13 +5,13 @@ use std::process::Abort;
 
 // These octets are a text, borrowed, copied, or read.
 fn is_text(rt: &impl Abort, alloc: Global, octets: &[u8]) -> Result<(), Error> {
-    let text = StringRef::from_bytes(octets)?;
+    let text = text_from(octets)?;
     same_at(rt, text.len(), text.as_bytes(), octets);
-    let copy = StringOwned::from_bytes(alloc, octets)?;
+    let copy = owned_text(alloc, octets)?;
     same_at(rt, text.len(), copy.as_bytes(), octets);
     let mut reader = der_reader(octets)?;
     let header = Header::new(Tag::Utf8String, text.len());
-    let read = StringRef::decode_value(alloc, &mut reader, header)?;
+    let read = lent_text(alloc, &mut reader, header)?;
     same_at(rt, text.len(), read, text);
     Ok(())
 }
@@ -39,13 +39,9 @@ fn octets_that_are_texts(rt: HostRuntime) -> Result<(), Fail> {
 fn is_refused(rt: &impl Abort, alloc: Global, octets: &[u8]) -> Result<(), Error> {
     let mut reader = der_reader(octets)?;
     let end = u32::from(reader.input_len());
-    holds_at(rt, end, is_no_text(StringRef::from_bytes(octets).err()));
-    holds_at(
-        rt,
-        end,
-        is_no_text(StringOwned::from_bytes(alloc, octets).err()),
-    );
-    let refused = StringRef::decode_value(alloc, &mut reader, header_of(end));
+    holds_at(rt, end, is_no_text(text_from(octets).err()));
+    holds_at(rt, end, is_no_text(owned_text(alloc, octets).err()));
+    let refused = lent_text(alloc, &mut reader, header_of(end));
     holds_at(rt, end, is_no_text(refused.err()));
     same_at(rt, end, reader.place(), (end, end, false));
     let mut reader = der_reader(octets)?;
