@@ -2,30 +2,29 @@
 use super::*;
 use crate::checks::same;
 
+fn order(these: &[BorrowedOctets<'_>], those: &[BorrowedOctets<'_>]) -> Result<Ordering, Error> {
+    iter_cmp(these.iter(), those.iter())
+}
+
+fn order_of_copies(
+    these: &[BorrowedOctets<'_>],
+    those: &[BorrowedOctets<'_>],
+) -> Result<Ordering, Error> {
+    iter_cmp_owned(these.iter().copied(), those.iter().copied())
+}
+
 #[test]
 fn the_first_difference_decides(rt: HostRuntime) -> Result<(), Fail> {
     let one = [borrowed(&[0x01])?];
     let two = [borrowed(&[0x01])?, borrowed(&[0x00])?];
-    same(&rt, iter_cmp(one.iter(), two.iter()), Ok(Ordering::Less));
-    same(&rt, iter_cmp(two.iter(), one.iter()), Ok(Ordering::Greater));
+    same(&rt, order(&one, &two), Ok(Ordering::Less));
+    same(&rt, order(&two, &one), Ok(Ordering::Greater));
     let later = [borrowed(&[0x02])?];
     let longer = [borrowed(&[0x01])?, borrowed(&[0xFF])?];
-    same(
-        &rt,
-        iter_cmp(later.iter(), longer.iter()),
-        Ok(Ordering::Greater),
-    );
-    same(
-        &rt,
-        iter_cmp(longer.iter(), later.iter()),
-        Ok(Ordering::Less),
-    );
-    same(&rt, iter_cmp(two.iter(), longer.iter()), Ok(Ordering::Less));
-    same(
-        &rt,
-        iter_cmp(longer.iter(), longer.iter()),
-        Ok(Ordering::Equal),
-    );
+    same(&rt, order(&later, &longer), Ok(Ordering::Greater));
+    same(&rt, order(&longer, &later), Ok(Ordering::Less));
+    same(&rt, order(&two, &longer), Ok(Ordering::Less));
+    same(&rt, order(&longer, &longer), Ok(Ordering::Equal));
     Ok(())
 }
 
@@ -33,43 +32,22 @@ fn the_first_difference_decides(rt: HostRuntime) -> Result<(), Fail> {
 fn the_first_difference_of_owned_values_decides(rt: HostRuntime) -> Result<(), Fail> {
     let one = [borrowed(&[0x01])?];
     let two = [borrowed(&[0x01])?, borrowed(&[0x00])?];
-    let answer = iter_cmp_owned(one.iter().copied(), two.iter().copied());
-    same(&rt, answer, Ok(Ordering::Less));
-    let answer = iter_cmp_owned(two.iter().copied(), one.iter().copied());
-    same(&rt, answer, Ok(Ordering::Greater));
+    same(&rt, order_of_copies(&one, &two), Ok(Ordering::Less));
+    same(&rt, order_of_copies(&two, &one), Ok(Ordering::Greater));
     let later = [borrowed(&[0x02])?];
     let longer = [borrowed(&[0x01])?, borrowed(&[0xFF])?];
-    let answer = iter_cmp_owned(later.iter().copied(), longer.iter().copied());
-    same(&rt, answer, Ok(Ordering::Greater));
-    let answer = iter_cmp_owned(longer.iter().copied(), longer.iter().copied());
-    same(&rt, answer, Ok(Ordering::Equal));
+    same(&rt, order_of_copies(&later, &longer), Ok(Ordering::Greater));
+    same(&rt, order_of_copies(&longer, &longer), Ok(Ordering::Equal));
     Ok(())
 }
 
 #[test]
 fn empty_lists_are_equal(rt: HostRuntime) -> Result<(), Fail> {
     let some = [borrowed(&[])?];
-    same(
-        &rt,
-        iter_cmp(some[..0].iter(), some[..0].iter()),
-        Ok(Ordering::Equal),
-    );
-    same(
-        &rt,
-        iter_cmp(some[..0].iter(), some.iter()),
-        Ok(Ordering::Less),
-    );
-    same(
-        &rt,
-        iter_cmp(some.iter(), some[..0].iter()),
-        Ok(Ordering::Greater),
-    );
-    let none = some[..0].iter().copied();
-    same(
-        &rt,
-        iter_cmp_owned(none, some.iter().copied()),
-        Ok(Ordering::Less),
-    );
+    same(&rt, order(&[], &[]), Ok(Ordering::Equal));
+    same(&rt, order(&[], &some), Ok(Ordering::Less));
+    same(&rt, order(&some, &[]), Ok(Ordering::Greater));
+    same(&rt, order_of_copies(&[], &some), Ok(Ordering::Less));
     Ok(())
 }
 

@@ -34,23 +34,15 @@ fn ascending(rt: HostRuntime) {
 
 #[test]
 fn printed(rt: HostRuntime) -> Result<(), Fail> {
-    let alloc = rt.alloc();
-    same(
-        &rt,
-        Class::Universal.to_string(alloc)?.as_str(),
-        "UNIVERSAL",
-    );
-    same(
-        &rt,
-        Class::Application.to_string(alloc)?.as_str(),
-        "APPLICATION",
-    );
-    same(
-        &rt,
-        Class::ContextSpecific.to_string(alloc)?.as_str(),
-        "CONTEXT-SPECIFIC",
-    );
-    same(&rt, Class::Private.to_string(alloc)?.as_str(), "PRIVATE");
+    let rows = [
+        (Class::Universal, "UNIVERSAL"),
+        (Class::Application, "APPLICATION"),
+        (Class::ContextSpecific, "CONTEXT-SPECIFIC"),
+        (Class::Private, "PRIVATE"),
+    ];
+    for (class, text) in rows {
+        same(&rt, class.to_string(rt.alloc())?.as_str(), text);
+    }
     Ok(())
 }
 

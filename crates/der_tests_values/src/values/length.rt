@@ -181,23 +181,16 @@ fn whole_elements_by_tag_number(rt: HostRuntime) {
 
 #[test]
 fn printed(rt: HostRuntime) -> std::result::Result<(), Fail> {
-    let alloc = rt.alloc();
-    same(
-        &rt,
-        Length::new_indefinite(5).to_string(alloc)?.as_str(),
-        "5",
-    );
-    same(&rt, Length::MAX.to_string(alloc)?.as_str(), "4294967295");
-    same(
-        &rt,
-        format!(in alloc; "{:?}", Length::new(5))?.as_str(),
-        "Length(5)",
-    );
-    same(
-        &rt,
-        format!(in alloc; "{:?}", Length::new_indefinite(5))?.as_str(),
-        "Length([indefinite])",
-    );
+    let indefinite = Length::new_indefinite(5);
+    for (length, text) in [(indefinite, "5"), (Length::MAX, "4294967295")] {
+        same(&rt, length.to_string(rt.alloc())?.as_str(), text);
+    }
+    for (length, text) in [
+        (Length::new(5), "Length(5)"),
+        (indefinite, "Length([indefinite])"),
+    ] {
+        same(&rt, format!(in rt.alloc(); "{length:?}")?.as_str(), text);
+    }
     Ok(())
 }
 

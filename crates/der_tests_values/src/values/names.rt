@@ -50,18 +50,14 @@ fn which_rules(rt: HostRuntime) {
 
 #[test]
 fn printed(rt: HostRuntime) -> Result<(), Fail> {
-    let alloc = rt.alloc();
-    same(
-        &rt,
-        TagMode::Explicit.to_string(alloc)?.as_str(),
-        "EXPLICIT",
-    );
-    same(
-        &rt,
-        TagMode::Implicit.to_string(alloc)?.as_str(),
-        "IMPLICIT",
-    );
-    same(&rt, EncodingRules::Ber.to_string(alloc)?.as_str(), "BER");
-    same(&rt, EncodingRules::Der.to_string(alloc)?.as_str(), "DER");
+    for (mode, text) in [
+        (TagMode::Explicit, "EXPLICIT"),
+        (TagMode::Implicit, "IMPLICIT"),
+    ] {
+        same(&rt, mode.to_string(rt.alloc())?.as_str(), text);
+    }
+    for (rules, text) in [(EncodingRules::Ber, "BER"), (EncodingRules::Der, "DER")] {
+        same(&rt, rules.to_string(rt.alloc())?.as_str(), text);
+    }
     Ok(())
 }

@@ -67,44 +67,38 @@ fn universal_tags(rt: HostRuntime) -> Result<(), Fail> {
 
 #[test]
 fn printed(rt: HostRuntime) -> Result<(), Fail> {
-    let alloc = rt.alloc();
     let number = TagNumber::from(4294967295);
-    same(&rt, number.to_string(alloc)?.as_str(), "4294967295");
-    let tag = TagNumber::new(33).application(true);
-    same(
-        &rt,
-        tag.to_string(alloc)?.as_str(),
-        "APPLICATION [33] (constructed)",
-    );
-    let tag = TagNumber::new(0).context_specific(false);
-    same(
-        &rt,
-        tag.to_string(alloc)?.as_str(),
-        "CONTEXT-SPECIFIC [0] (primitive)",
-    );
-    let tag = number.private(false);
-    same(
-        &rt,
-        tag.to_string(alloc)?.as_str(),
-        "PRIVATE [4294967295] (primitive)",
-    );
-    same(
-        &rt,
-        format!(in alloc; "{tag:?}")?.as_str(),
-        "Tag(0xffffffff: PRIVATE [4294967295] (primitive))",
-    );
-    let tag = Tag::Sequence;
-    same(
-        &rt,
-        format!(in alloc; "{tag:?}")?.as_str(),
-        "Tag(0x10: SEQUENCE)",
-    );
-    let tag = Tag::Boolean;
-    same(
-        &rt,
-        format!(in alloc; "{tag:?}")?.as_str(),
-        "Tag(0x01: BOOLEAN)",
-    );
+    same(&rt, number.to_string(rt.alloc())?.as_str(), "4294967295");
+    let rows = [
+        (
+            TagNumber::new(33).application(true),
+            "APPLICATION [33] (constructed)",
+        ),
+        (
+            TagNumber::new(0).context_specific(false),
+            "CONTEXT-SPECIFIC [0] (primitive)",
+        ),
+        (number.private(false), "PRIVATE [4294967295] (primitive)"),
+    ];
+    for (tag, text) in rows {
+        same(&rt, tag.to_string(rt.alloc())?.as_str(), text);
+    }
+    Ok(())
+}
+
+#[test]
+fn printed_to_debug(rt: HostRuntime) -> Result<(), Fail> {
+    let rows = [
+        (
+            TagNumber::from(4294967295).private(false),
+            "Tag(0xffffffff: PRIVATE [4294967295] (primitive))",
+        ),
+        (Tag::Sequence, "Tag(0x10: SEQUENCE)"),
+        (Tag::Boolean, "Tag(0x01: BOOLEAN)"),
+    ];
+    for (tag, text) in rows {
+        same(&rt, format!(in rt.alloc(); "{tag:?}")?.as_str(), text);
+    }
     Ok(())
 }
 
