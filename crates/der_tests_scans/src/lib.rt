@@ -6,4 +6,6 @@ mod bodies;
 #[cfg(test)]
 mod checks;
 #[cfg(test)]
+mod readers;
+#[cfg(test)]
 mod walks;

@@ -1,6 +1,7 @@
 //! Elements of indefinite lengths, cut behind each of their octets.
 use super::*;
 use crate::checks::{same, same_at};
+use crate::readers::next_element;
 use std::process::Abort;
 
 // The header of octets that are cut is refused so. A reader fails only where the cut is in the
@@ -10,7 +11,7 @@ fn cut(rt: &impl Abort, octets: &[u8], error: Error) -> Result<(), Error> {
     cut_header(rt, ber_unlent(octets)?, error);
     let mut reader = ber_reader(octets)?;
     let end = u32::from(reader.input_len());
-    same_at(rt, end, reader.tlv_bytes().err(), Some(error));
+    same_at(rt, end, next_element(&mut reader).err(), Some(error));
     same_at(rt, end, reader.place(), (0, end, false));
     Ok(())
 }
@@ -43,7 +44,7 @@ fn a_body_in_a_body(rt: HostRuntime) -> Result<(), Fail> {
         cut(&rt, octets, incomplete(wanted, count, position))?;
     }
     let mut whole = ber_reader(&SEGMENT_OF_ZEROS)?;
-    same(&rt, whole.tlv_bytes()?, SEGMENT_OF_ZEROS.as_slice());
+    same(&rt, next_element(&mut whole)?, SEGMENT_OF_ZEROS.as_slice());
     same(&rt, whole.place(), (12, 12, false));
     Ok(())
 }
@@ -74,7 +75,7 @@ fn a_long_body(rt: HostRuntime) -> Result<(), Fail> {
         }
     }
     let mut whole = ber_reader(octets)?;
-    same(&rt, whole.tlv_bytes()?, octets);
+    same(&rt, next_element(&mut whole)?, octets);
     same(&rt, whole.place(), (132, 132, false));
     Ok(())
 }

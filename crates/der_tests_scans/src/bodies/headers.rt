@@ -1,7 +1,7 @@
 //! Headers with lengths of the indefinite form, and those that are refused before or behind a scan.
 use super::*;
 use crate::checks::{same, same_at};
-use der::decode_length;
+use crate::readers::{next_header, next_length};
 use std::process::Abort;
 
 // A SEQUENCE whose body has so many octets, with its end mark.
@@ -43,15 +43,17 @@ fn a_body_in_a_body(rt: HostRuntime) -> Result<(), Fail> {
 
 #[test]
 fn bodies_of_each_kind(rt: HostRuntime) -> Result<(), Fail> {
-    reads_on_both(&rt, &[0x30, 0x80, 0x00, 0x00], 2)?;
-    reads_on_both(&rt, &[0x30, 0x80, 0x00, 0x00, 0x05, 0x00], 2)?;
-    reads_on_both(&rt, &[0x30, 0x80, 0x05, 0x00, 0x00, 0x00], 4)?;
-    let zeros = [0x30, 0x80, 0x04, 0x02, 0x00, 0x00, 0x00, 0x00, 0x00];
-    reads_on_both(&rt, &zeros, 6)?;
-    let inner = [0x30, 0x80, 0x30, 0x80, 0x00, 0x00, 0x00, 0x00];
-    reads_on_both(&rt, &inner, 6)?;
-    let long_tag = [0x30, 0x80, 0xBF, 0x21, 0x80, 0x00, 0x00, 0x00, 0x00];
-    reads_on_both(&rt, &long_tag, 7)?;
+    let rows: [(&[u8], u32); 6] = [
+        (&[0x30, 0x80, 0x00, 0x00], 2),
+        (&[0x30, 0x80, 0x00, 0x00, 0x05, 0x00], 2),
+        (&[0x30, 0x80, 0x05, 0x00, 0x00, 0x00], 4),
+        (&[0x30, 0x80, 0x04, 0x02, 0x00, 0x00, 0x00, 0x00, 0x00], 6),
+        (&[0x30, 0x80, 0x30, 0x80, 0x00, 0x00, 0x00, 0x00], 6),
+        (&[0x30, 0x80, 0xBF, 0x21, 0x80, 0x00, 0x00, 0x00, 0x00], 7),
+    ];
+    for (octets, count) in rows {
+        reads_on_both(&rt, octets, count)?;
+    }
     Ok(())
 }
 
@@ -116,19 +118,16 @@ fn refused_behind<R: Reader>(rt: &impl Abort, mut reader: R, error: Error, faile
 
 #[test]
 fn lengths_without_a_tag(rt: HostRuntime) -> Result<(), Fail> {
-    let alloc = rt.alloc();
-    same(
-        &rt,
-        Length::from_ber(alloc, &[0x80, 0x00, 0x00]),
-        Err(trailing(1, 2)),
-    );
-    same(
-        &rt,
-        Length::from_ber(alloc, &[0x80]),
-        Err(incomplete(2, 1, 1)),
-    );
+    let rows: [(&[u8], Error); 2] = [
+        (&[0x80, 0x00, 0x00], trailing(1, 2)),
+        (&[0x80], incomplete(2, 1, 1)),
+    ];
+    for (octets, error) in rows {
+        let refused = Length::from_ber(rt.alloc(), octets);
+        same_at(&rt, error, refused, Err(error));
+    }
     let mut reader = ber_reader(&[0x80, 0x05, 0x00, 0x00, 0x00])?;
-    let length = Length::decode(alloc, &mut reader)?;
+    let length = Length::decode(rt.alloc(), &mut reader)?;
     same(&rt, length, Length::new_indefinite(4));
     same(&rt, reader.place(), (1, 5, false));
     Ok(())
@@ -137,15 +136,14 @@ fn lengths_without_a_tag(rt: HostRuntime) -> Result<(), Fail> {
 // A header is not the octets of its body.
 #[test]
 fn headers_that_are_all_the_octets(rt: HostRuntime) {
-    let alloc = rt.alloc();
-    let empty = [0x30, 0x80, 0x00, 0x00];
-    same(&rt, Header::from_ber(alloc, &empty), Err(trailing(2, 2)));
-    let begun = [0x30, 0x80];
-    same(
-        &rt,
-        Header::from_ber(alloc, &begun),
-        Err(incomplete(3, 2, 2)),
-    );
+    let rows: [(&[u8], Error); 2] = [
+        (&[0x30, 0x80, 0x00, 0x00], trailing(2, 2)),
+        (&[0x30, 0x80], incomplete(3, 2, 2)),
+    ];
+    for (octets, error) in rows {
+        let refused = Header::from_ber(rt.alloc(), octets);
+        same_at(&rt, error, refused, Err(error));
+    }
 }
 
 // A body is refused with the tags in it, also behind a length that has none.
@@ -153,7 +151,7 @@ fn headers_that_are_all_the_octets(rt: HostRuntime) {
 fn a_length_whose_body_is_refused(rt: HostRuntime) -> Result<(), Fail> {
     let mut reader = ber_reader(&[0x80, 0x04, 0x81, 0x7F])?;
     let refused = incorrect(Tag::OctetString, 4);
-    same(&rt, decode_length(&mut reader), Err(refused));
+    same(&rt, next_length(&mut reader), Err(refused));
     same(&rt, reader.place(), (1, 4, false));
     Ok(())
 }
@@ -161,9 +159,9 @@ fn a_length_whose_body_is_refused(rt: HostRuntime) -> Result<(), Fail> {
 #[test]
 fn a_header_behind_a_refused_one(rt: HostRuntime) -> Result<(), Fail> {
     let mut reader = ber_reader(&[0x30, 0x80, 0x05, 0x00])?;
-    same(&rt, decode_header(&mut reader), Err(incomplete(5, 4, 4)));
+    same(&rt, next_header(&mut reader), Err(incomplete(5, 4, 4)));
     let null = Header::new(Tag::Null, Length::ZERO);
-    same(&rt, decode_header(&mut reader), Ok(null));
+    same(&rt, next_header(&mut reader), Ok(null));
     same(&rt, reader.place(), (4, 4, false));
     Ok(())
 }
@@ -176,7 +174,7 @@ fn headers_decoded_by_a_reader(rt: HostRuntime) -> Result<(), Fail> {
     same(&rt, header, Err(incomplete(3, 2, 2)));
     same(&rt, reader.place(), (2, 2, true));
     let failed = ErrorKind::Failed.at(Length::new(2));
-    same(&rt, decode_header(&mut reader), Err(failed));
-    same(&rt, decode_length(&mut reader), Err(failed));
+    same(&rt, next_header(&mut reader), Err(failed));
+    same(&rt, next_length(&mut reader), Err(failed));
     Ok(())
 }

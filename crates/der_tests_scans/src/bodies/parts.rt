@@ -3,7 +3,8 @@ ghost use Rattle.std.specs.Prelude.{◌≡◌};
 ghost use Rattle.der_core.specs.ReaderState.{Same};
 
 use super::*;
-use crate::checks::same;
+use crate::checks::{same, same_at};
+use crate::readers::next_element;
 use der::close_value;
 use std::process::Abort;
 
@@ -27,23 +28,29 @@ fn a_body_that_its_part_cuts(rt: HostRuntime) -> Result<(), Fail> {
     Ok(())
 }
 
+// A part that holds the body, and one that cuts its contents.
 #[test]
-fn a_body_that_its_part_holds(rt: HostRuntime) -> Result<(), Fail> {
-    let octets = [0x30, 0x80, 0x04, 0x00, 0x00, 0x00, 0x05, 0x00];
-    let mut reader = ber_reader(&octets)?;
-    let left = reader.read_nested(Length::new(6), read_header);
-    same(&rt, left, Err(trailing(2, 4)));
-    same(&rt, reader.place(), (2, 8, true));
-    Ok(())
-}
-
-#[test]
-fn contents_that_their_part_cuts(rt: HostRuntime) -> Result<(), Fail> {
-    let octets = [0x30, 0x80, 0x04, 0x02, 0x00, 0x00, 0x00, 0x00];
-    let mut reader = ber_reader(&octets)?;
-    let refused = reader.read_nested(Length::new(5), read_header);
-    same(&rt, refused, Err(incomplete(6, 5, 4)));
-    same(&rt, reader.place(), (2, 8, false));
+fn bodies_in_parts(rt: HostRuntime) -> Result<(), Fail> {
+    let rows: [(&[u8], u32, Error, bool); 2] = [
+        (
+            &[0x30, 0x80, 0x04, 0x00, 0x00, 0x00, 0x05, 0x00],
+            6,
+            trailing(2, 4),
+            true,
+        ),
+        (
+            &[0x30, 0x80, 0x04, 0x02, 0x00, 0x00, 0x00, 0x00],
+            5,
+            incomplete(6, 5, 4),
+            false,
+        ),
+    ];
+    for (octets, part, error, failed) in rows {
+        let mut reader = ber_reader(octets)?;
+        let refused = reader.read_nested(Length::new(part), read_header);
+        same_at(&rt, error, refused, Err(error));
+        same_at(&rt, error, reader.place(), (2, 8, failed));
+    }
     Ok(())
 }
 
@@ -55,7 +62,7 @@ fn an_element_that_its_part_cuts(rt: HostRuntime) -> Result<(), Fail> {
     same(&rt, reader.place(), (0, 3, false));
     reader.leave_nested(outer);
     let whole = [0x30, 0x80, 0x00, 0x00];
-    same(&rt, reader.tlv_bytes()?, whole.as_slice());
+    same(&rt, next_element(&mut reader)?, whole.as_slice());
     Ok(())
 }
 

@@ -6,6 +6,7 @@ ghost use Rattle.der_base.specs.declared.encoding_rules.EncodingRules.TheVariant
 use super::scans::{body_ahead, pass_body};
 use super::*;
 use crate::checks::same_at;
+use crate::readers::next_element;
 use std::process::Abort;
 
 // The body behind the first two octets is refused so, by every call and on both readers.
@@ -37,7 +38,7 @@ fn header_refused<R: Reader>(rt: &impl Abort, mut reader: R, error: Error) {
 // An element whose header is refused leaves the reader as it was.
 fn element_refused(rt: &impl Abort, mut reader: SliceReader<'_>, error: Error) {
     let end = u32::from(reader.input_len());
-    same_at(rt, error, reader.tlv_bytes().err(), Some(error));
+    same_at(rt, error, next_element(&mut reader).err(), Some(error));
     same_at(rt, error, reader.place(), (0, end, false));
 }
 

@@ -5,6 +5,7 @@ ghost use Rattle.der_core.specs.ReaderState.{Same};
 
 use super::*;
 use crate::checks::{same, same_at};
+use crate::readers::{next_header, ruled_behind};
 use der::{Turns, decode_indefinite_length};
 use std::marker::Brand;
 use std::process::Abort;
@@ -81,21 +82,16 @@ fn bodies_at_the_front(rt: HostRuntime) -> Result<(), Fail> {
 
 #[test]
 fn a_body_behind_a_header(rt: HostRuntime) -> Result<(), Fail> {
-    let mut reader = ruled_reader(&SEGMENT_OF_ZEROS)?;
-    reader.drain(Length::new(2))?;
-    scans(&rt, reader, 10);
-    let mut inner = ruled_reader(&SEGMENT_OF_ZEROS)?;
-    inner.drain(Length::new(4))?;
-    scans(&rt, inner, 6);
+    for (start, count) in [(2, 10), (4, 6)] {
+        scans(&rt, ruled_behind(&SEGMENT_OF_ZEROS, start)?, count);
+    }
     Ok(())
 }
 
 #[test]
 fn as_many_bodies_as_may_be_open(rt: HostRuntime) -> Result<(), Fail> {
     let octets = around_null(rt.alloc(), 64)?;
-    let mut reader = ruled_reader(octets.as_slice())?;
-    reader.drain(Length::new(2))?;
-    scans(&rt, reader, 256);
+    scans(&rt, ruled_behind(octets.as_slice(), 2)?, 256);
     let mut whole = ruled_reader(octets.as_slice())?;
     same(&rt, pass_body(&mut whole), Err(too_deep(128)));
     same(&rt, whole.place(), (128, 258, true));
@@ -104,13 +100,12 @@ fn as_many_bodies_as_may_be_open(rt: HostRuntime) -> Result<(), Fail> {
 
 #[test]
 fn a_reader_that_has_failed(rt: HostRuntime) -> Result<(), Fail> {
-    let mut reader = ruled_reader(&[0x05, 0x00, 0x00, 0x00])?;
-    reader.drain(Length::new(2))?;
+    let mut reader = ruled_behind(&[0x05, 0x00, 0x00, 0x00], 2)?;
     let _ = reader.error(ErrorKind::DateTime);
     let failed = ErrorKind::Failed.at(Length::new(2));
     same(&rt, body_ahead(&reader), Err(failed));
     same(&rt, pass_body(&mut reader), Err(failed));
-    same(&rt, decode_header(&mut reader), Err(failed));
+    same(&rt, next_header(&mut reader), Err(failed));
     same(&rt, reader.place(), (2, 4, true));
     Ok(())
 }

@@ -5,6 +5,7 @@ ghost use Rattle.der_core.specs.ReaderState.{Same};
 
 use super::*;
 use crate::checks::same_at;
+use crate::readers::ruled_behind;
 use der::decode_indefinite_length;
 use std::marker::Brand;
 use std::process::Abort;
@@ -51,12 +52,10 @@ pub(super) fn answer_between(
     position: u32,
     end: u32,
 ) -> Result<Answer, Error> {
-    let mut plain = ruled_reader(first_octets(octets, end as usize))?;
-    plain.drain(Length::new(position))?;
+    let plain = ruled_behind(first_octets(octets, end as usize), position)?;
     let (ahead, passed) = scans(&plain);
     same_at(rt, end, ahead, passed);
-    let mut around = ruled_reader(octets)?;
-    around.drain(Length::new(position))?;
+    let mut around = ruled_behind(octets, position)?;
     let part = Length::new(end.saturating_sub(position));
     let (ahead_in_part, passed_in_part) = around.read_nested(part, scans_of_part)?;
     same_at(rt, end, ahead_in_part, passed_in_part);
