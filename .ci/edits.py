@@ -102,6 +102,11 @@ class Edit:
         give_up(f"{self.at} {why}")
 
 
+def functions_of(edits):
+    """The functions that these edits name."""
+    return sorted({function for edit in edits for function in edit.functions})
+
+
 def calls_of(changes):
     """How often the texts of these changes call each function or macro. A variant is none."""
     texts = "\n".join(text for _, _, text in changes)

@@ -10,7 +10,8 @@ import threading
 import checker
 from checker import give_up
 
-PROVED = re.compile(rb"rt: (\w+) proved\n")
+# A crate that an earlier run on this machine proved as it stands is kept, and not proved again.
+PROVED = re.compile(rb"rt: (\w+) (?:proved\n|is kept: )")
 REFUSED = re.compile(rb"rt: (\w+)(?:: its tests are)? NOT PROVED")
 
 
@@ -58,7 +59,7 @@ class RtCi:
         for line in self.run.stdout:
             sys.stdout.buffer.write(line)
             sys.stdout.flush()
-            proved, refused = PROVED.fullmatch(line), REFUSED.match(line)
+            proved, refused = PROVED.match(line), REFUSED.match(line)
             if proved:
                 self.take(proved[1].decode())
             elif refused and not self.is_refusing:
