@@ -1,5 +1,6 @@
 """Checks side by side: so many at a time, and none goes on once something has failed."""
 import contextlib
+import math
 import os
 import signal
 import subprocess
@@ -15,6 +16,7 @@ class Lanes:
 
     def __init__(self, number):
         self.free, self.running, self.why = number, set(), None
+        self.waiting = []
         self.before, self.state = [], threading.Condition()
 
     def add(self, number):
@@ -34,11 +36,17 @@ class Lanes:
             raise Stopped
 
     @contextlib.contextmanager
-    def one(self):
-        """A lane, once one is free."""
+    def one(self, much=math.inf):
+        """A lane for so much, once one is free and nothing that is more waits for it: what takes
+        longest begins first, so that no lane is idle at the end."""
         with self.state:
-            self.wait_for(lambda: self.free > 0)
-            self.free -= 1
+            self.waiting.append(much)
+            try:
+                self.wait_for(lambda: self.free > 0 and much == max(self.waiting))
+                self.free -= 1
+            finally:
+                self.waiting.remove(much)
+                self.state.notify_all()
         try:
             yield
         finally:
