@@ -6,7 +6,7 @@ use der_uses::lent::Lent;
 
 // The month that all the octets are.
 fn boxed_month(alloc: Global, octets: &[u8]) -> Result<Box<MyByteMonth>, Error> {
-    Box::<MyByteMonth>::from_der(alloc, octets)
+    value_of(alloc, octets)
 }
 
 // How the octets are refused.
@@ -14,15 +14,23 @@ fn refusal(alloc: Global, octets: &[u8]) -> Option<Error> {
     boxed_month(alloc, octets).err()
 }
 
+fn tag_of<T: Tagged>(value: &T) -> Tag {
+    value.tag()
+}
+
+fn value_len_of<T: EncodeValue>(value: &T) -> Result<Length, Error> {
+    value.value_len()
+}
+
 #[test]
 fn a_boxed_month_both_ways(rt: HostRuntime) -> Result<(), Fail> {
     let octets = [0x04, 0x01, 0x09];
     let boxed = boxed_month(rt.alloc(), &octets)?;
-    same(&rt, boxed.month(), 9);
-    same(&rt, boxed.tag(), Tag::OctetString);
-    same(&rt, boxed.value_len(), Ok(Length::ONE));
-    same(&rt, boxed.encoded_len(), Ok(Length::new(3)));
-    same_octets(&rt, boxed.to_der(rt.alloc())?.as_slice(), &octets);
+    same(&rt, month_number(&boxed), 9);
+    same(&rt, tag_of(&boxed), Tag::OctetString);
+    same(&rt, value_len_of(&boxed), Ok(Length::ONE));
+    same(&rt, len_of(&boxed), Ok(Length::new(3)));
+    same_octets(&rt, der_of(rt.alloc(), &boxed)?.as_slice(), &octets);
     Ok(())
 }
 
@@ -53,8 +61,8 @@ fn boxed_months_that_are_refused(rt: HostRuntime) {
 #[test]
 fn boxed_contents_both_ways(rt: HostRuntime) -> Result<(), Fail> {
     let octets = [0x04, 0x02, 0x2A, 0x2B];
-    let boxed = Box::<Lent>::from_der(rt.alloc(), &octets)?;
+    let boxed: Box<Lent> = value_of(rt.alloc(), &octets)?;
     same_octets(&rt, boxed.octets, &[0x2A, 0x2B]);
-    same_octets(&rt, boxed.to_der(rt.alloc())?.as_slice(), &octets);
+    same_octets(&rt, der_of(rt.alloc(), &boxed)?.as_slice(), &octets);
     Ok(())
 }

@@ -33,10 +33,11 @@ fn a_boxed_month_without_lending(rt: HostRuntime) -> Result<(), Fail> {
 fn months_refused_without_lending(rt: HostRuntime) -> Result<(), Fail> {
     let octets = [0x04, 0x01, 0x0C];
     let mut reader = der_unlent(&octets)?;
-    let month: Result<MyByteMonth, Error> = reader.decode(rt.alloc());
+    let month: Result<MyByteMonth, Error> = next_of(rt.alloc(), &mut reader);
     same(&rt, month, Err(ErrorKind::DateTime.at(Length::new(3))));
-    holds(&rt, reader.is_failed());
-    let again: Result<MyByteMonth, Error> = reader.decode(rt.alloc());
+    let (_, _, is_failed) = reader.place();
+    holds(&rt, is_failed);
+    let again: Result<MyByteMonth, Error> = next_of(rt.alloc(), &mut reader);
     same(&rt, again, Err(ErrorKind::Failed.at(Length::new(3))));
     Ok(())
 }
@@ -45,7 +46,7 @@ fn months_refused_without_lending(rt: HostRuntime) -> Result<(), Fail> {
 fn contents_that_want_lending(rt: HostRuntime) -> Result<(), Fail> {
     let octets = [0x04, 0x01, 0x2A];
     let mut reader = der_unlent(&octets)?;
-    let refused = Lent::decode(rt.alloc(), &mut reader).err();
+    let refused = refusal_by::<CopyingReader, Lent>(rt.alloc(), &mut reader);
     same(&rt, refused, Some(ErrorKind::Reader.at(Length::new(2))));
     same(&rt, reader.place(), (2, 3, false));
     Ok(())
@@ -55,7 +56,7 @@ fn contents_that_want_lending(rt: HostRuntime) -> Result<(), Fail> {
 fn a_field_that_wants_lending(rt: HostRuntime) -> Result<(), Fail> {
     let octets = [0x30, 0x06, 0x04, 0x01, 0x2A, 0x04, 0x01, 0x09];
     let mut reader = der_unlent(&octets)?;
-    let refused = AlgorithmIdentifier::decode(rt.alloc(), &mut reader).err();
+    let refused = refusal_by::<CopyingReader, AlgorithmIdentifier>(rt.alloc(), &mut reader);
     same(&rt, refused, Some(ErrorKind::Reader.at(Length::new(4))));
     same(&rt, reader.place(), (4, 8, false));
     Ok(())
@@ -65,9 +66,7 @@ fn a_field_that_wants_lending(rt: HostRuntime) -> Result<(), Fail> {
 fn pairs_without_lending(rt: HostRuntime) -> Result<(), Fail> {
     let octets = [0x04, 0x01, 0x09, 0x04, 0x01, 0x02];
     let mut reader = der_unlent(&octets)?;
-    let (first, second) = <(MyByteMonth, MyByteMonth)>::decode(rt.alloc(), &mut reader)?;
-    same(&rt, first.month(), 9);
-    same(&rt, second.month(), 2);
+    same(&rt, decoded_months(rt.alloc(), &mut reader), Ok((9, 2)));
     holds(&rt, is_finished(&reader));
     Ok(())
 }

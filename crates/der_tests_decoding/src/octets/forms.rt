@@ -2,6 +2,41 @@
 use super::*;
 use crate::checks::same_at;
 use der_uses::lent::Lent;
+use std::process::Abort;
+
+// The contents whose encoding all the octets are.
+fn contents_of(alloc: Global, octets: &[u8]) -> Result<&[u8], Error> {
+    let lent: Lent<'_> = value_of(alloc, octets)?;
+    Ok(lent.octets)
+}
+
+// The contents at the front, and the octets behind them.
+fn contents_at_front(alloc: Global, octets: &[u8]) -> Result<(&[u8], &[u8]), Error> {
+    let (lent, rest): (Lent<'_>, &[u8]) = front_of(alloc, octets)?;
+    Ok((lent.octets, rest))
+}
+
+// The second octets behind the first.
+fn joined(alloc: Global, first: &[u8], second: &[u8]) -> Result<Vec<u8>, Fail> {
+    let mut octets = Vec::from_slice(alloc, first)?;
+    octets.extend_from_slice(second)?;
+    Ok(octets)
+}
+
+// The contents are written behind this header, and are read behind it, whether or not an octet
+// follows.
+fn both_ways(rt: &impl Abort, alloc: Global, header: &[u8], contents: &[u8]) -> Result<(), Fail> {
+    let count = contents.len();
+    let want = joined(alloc, header, contents)?;
+    let written = der_of(alloc, &Lent { octets: contents })?;
+    same_at(rt, count, written.as_slice(), want.as_slice());
+    same_at(rt, count, contents_of(alloc, want.as_slice()), Ok(contents));
+    let more = joined(alloc, written.as_slice(), &[0xFF])?;
+    let rest: &[u8] = &[0xFF];
+    let read = contents_at_front(alloc, more.as_slice());
+    same_at(rt, count, read, Ok((contents, rest)));
+    Ok(())
+}
 
 #[test]
 fn contents_of_each_form_both_ways(rt: HostRuntime) -> Result<(), Fail> {
@@ -17,19 +52,7 @@ fn contents_of_each_form_both_ways(rt: HostRuntime) -> Result<(), Fail> {
     ];
     for (count, header) in rows {
         let contents = vec![in rt.alloc(); 0x2Au8; count]?;
-        let lent = Lent {
-            octets: contents.as_slice(),
-        };
-        let mut octets = lent.to_der(rt.alloc())?;
-        let mut want = Vec::from_slice(rt.alloc(), header)?;
-        want.extend_from_slice(contents.as_slice())?;
-        same_at(&rt, count, octets.as_slice(), want.as_slice());
-        octets.push(0xFF)?;
-        let (read, rest) = Lent::from_der_partial(rt.alloc(), octets.as_slice())?;
-        same_at(&rt, count, read.octets, contents.as_slice());
-        same_at(&rt, count, rest, [0xFF].as_slice());
-        let whole = Lent::from_der(rt.alloc(), want.as_slice())?;
-        same_at(&rt, count, whole.octets, contents.as_slice());
+        both_ways(&rt, rt.alloc(), header, contents.as_slice())?;
     }
     Ok(())
 }

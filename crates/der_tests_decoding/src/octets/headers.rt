@@ -5,7 +5,7 @@ use der_fixtures::errors::{incorrect, indefinite};
 
 // The header that all the octets are.
 fn header_of(alloc: Global, bytes: &[u8]) -> Result<Header, Error> {
-    Header::from_der(alloc, bytes)
+    value_of(alloc, bytes)
 }
 
 #[test]
@@ -13,8 +13,8 @@ fn headers_both_ways(rt: HostRuntime) -> Result<(), Fail> {
     let octets = [0x30, 0x82, 0x01, 0x00];
     let header = header_of(rt.alloc(), &octets)?;
     same(&rt, header, Header::new(Tag::Sequence, Length::new(256)));
-    same(&rt, header.encoded_len(), Ok(Length::new(4)));
-    let der = header.to_der(rt.alloc())?;
+    same(&rt, len_of(&header), Ok(Length::new(4)));
+    let der = der_of(rt.alloc(), &header)?;
     same_octets(&rt, der.as_slice(), &octets);
     Ok(())
 }

@@ -5,7 +5,13 @@ use der_uses::algorithm_identifier::AlgorithmIdentifier;
 
 // The identifier that all the octets are.
 fn identifier_of(alloc: Global, bytes: &[u8]) -> Result<AlgorithmIdentifier<'_>, Error> {
-    AlgorithmIdentifier::from_der(alloc, bytes)
+    value_of(alloc, bytes)
+}
+
+// The two fields of the identifier at the front, and the octets behind it.
+fn fields_at_front(alloc: Global, bytes: &[u8]) -> Result<(&[u8], u8, &[u8]), Error> {
+    let (identifier, rest): (AlgorithmIdentifier<'_>, &[u8]) = front_of(alloc, bytes)?;
+    Ok((identifier.algorithm.octets, identifier.month.month(), rest))
 }
 
 // How the octets are refused.
@@ -18,9 +24,9 @@ fn an_identifier_both_ways(rt: HostRuntime) -> Result<(), Fail> {
     let octets = [0x30, 0x06, 0x04, 0x01, 0x2A, 0x04, 0x01, 0x09];
     let identifier = identifier_of(rt.alloc(), &octets)?;
     same_octets(&rt, identifier.algorithm.octets, &[0x2A]);
-    same(&rt, identifier.month.month(), 9);
-    same(&rt, identifier.encoded_len(), Ok(Length::new(8)));
-    let der = identifier.to_der(rt.alloc())?;
+    same(&rt, month_number(&identifier.month), 9);
+    same(&rt, len_of(&identifier), Ok(Length::new(8)));
+    let der = der_of(rt.alloc(), &identifier)?;
     same_octets(&rt, der.as_slice(), &octets);
     Ok(())
 }
@@ -28,9 +34,9 @@ fn an_identifier_both_ways(rt: HostRuntime) -> Result<(), Fail> {
 #[test]
 fn an_identifier_at_the_front(rt: HostRuntime) -> Result<(), Fail> {
     let octets = [0x30, 0x05, 0x04, 0x00, 0x04, 0x01, 0x0B, 0x05, 0x00];
-    let (identifier, rest) = AlgorithmIdentifier::from_der_partial(rt.alloc(), &octets)?;
-    same_octets(&rt, identifier.algorithm.octets, &[]);
-    same(&rt, identifier.month.month(), 11);
+    let (algorithm, month, rest) = fields_at_front(rt.alloc(), &octets)?;
+    same_octets(&rt, algorithm, &[]);
+    same(&rt, month, 11);
     same_octets(&rt, rest, &[0x05, 0x00]);
     Ok(())
 }

@@ -5,7 +5,7 @@ use der_fixtures::errors::indefinite;
 
 // The length that all the octets are.
 fn length_of(alloc: Global, bytes: &[u8]) -> Result<Length, Error> {
-    Length::from_der(alloc, bytes)
+    value_of(alloc, bytes)
 }
 
 #[test]
@@ -23,7 +23,7 @@ fn lengths_both_ways(rt: HostRuntime) -> Result<(), Fail> {
     for (number, octets) in rows {
         let length = length_of(rt.alloc(), octets)?;
         same_at(&rt, number, length, Length::new(number));
-        let der = length.to_der(rt.alloc())?;
+        let der = der_of(rt.alloc(), &length)?;
         same_at(&rt, number, der.as_slice(), octets);
     }
     Ok(())

@@ -1,10 +1,10 @@
 //! A month as one octet.
 use super::*;
-use crate::checks::{holds, same, same_at, same_octets};
+use crate::checks::{same, same_at, same_octets};
 
 // The month that all the octets are.
 fn month_of(alloc: Global, bytes: &[u8]) -> Result<MyByteMonth, Error> {
-    MyByteMonth::from_der(alloc, bytes)
+    value_of(alloc, bytes)
 }
 
 // Its number.
@@ -16,8 +16,8 @@ fn month(alloc: Global, bytes: &[u8]) -> Result<u8, Error> {
 #[test]
 fn a_month_at_the_front(rt: HostRuntime) -> Result<(), Fail> {
     let octets = [0x04, 0x01, 0x09, 0x05, 0x00];
-    let (month, rest) = MyByteMonth::from_der_partial(rt.alloc(), &octets)?;
-    same(&rt, month.month(), 9);
+    let (month, rest): (MyByteMonth, &[u8]) = front_of(rt.alloc(), &octets)?;
+    same(&rt, month_number(&month), 9);
     same_octets(&rt, rest, &[0x05, 0x00]);
     Ok(())
 }
@@ -86,10 +86,10 @@ fn months_both_ways(rt: HostRuntime) -> Result<(), Fail> {
     for number in 0..12u8 {
         let octets = [0x04, 0x01, number];
         let month = month_of(rt.alloc(), &octets)?;
-        same(&rt, month.month(), number);
-        let der = month.to_der(rt.alloc())?;
+        same(&rt, month_number(&month), number);
+        let der = der_of(rt.alloc(), &month)?;
         same_at(&rt, number, der.as_slice(), octets.as_slice());
-        same_at(&rt, number, month.encoded_len(), Ok(Length::new(3)));
+        same_at(&rt, number, len_of(&month), Ok(Length::new(3)));
     }
     Ok(())
 }
@@ -103,15 +103,18 @@ fn a_month_behind_other_octets(rt: HostRuntime) -> Result<(), Fail> {
     Ok(())
 }
 
+fn buffered<'b>(month: &MyByteMonth, buf: &'b mut [u8]) -> Result<&'b [u8], Error> {
+    month.encode_to_slice(buf)
+}
+
 #[test]
 fn a_month_in_a_buffer(rt: HostRuntime) -> Result<(), Fail> {
     let month = month_of(rt.alloc(), &[0x04, 0x01, 0x09])?;
     let mut buf = [0; 16];
-    let written = month.encode_to_slice(&mut buf)?;
+    let written = buffered(&month, &mut buf)?;
     same_octets(&rt, written, &[0x04, 0x01, 0x09]);
     let mut short = [0; 2];
     let no_room = ErrorKind::Overlength.at(Length::new(3));
-    let refused = month.encode_to_slice(&mut short);
-    holds(&rt, matches!(refused, Err(error) if error == no_room));
+    same(&rt, buffered(&month, &mut short).err(), Some(no_room));
     Ok(())
 }

@@ -5,7 +5,7 @@ use std::marker::PhantomData;
 
 // Nothing, where that is what all the octets are.
 fn nothing_of(alloc: Global, bytes: &[u8]) -> Result<PhantomData<u8>, Error> {
-    PhantomData::<u8>::from_der(alloc, bytes)
+    value_of(alloc, bytes)
 }
 
 #[test]
@@ -17,7 +17,7 @@ fn nothing_from_no_octets(rt: HostRuntime) {
 fn octets_behind_nothing(rt: HostRuntime) -> Result<(), Fail> {
     let refused = nothing_of(rt.alloc(), &[0x00]).err();
     same(&rt, refused, Some(trailing(0, 1)));
-    let (_, rest) = PhantomData::<u8>::from_der_partial(rt.alloc(), &[0x00])?;
+    let (_, rest): (PhantomData<u8>, &[u8]) = front_of(rt.alloc(), &[0x00])?;
     same_octets(&rt, rest, &[0x00]);
     Ok(())
 }
@@ -38,7 +38,7 @@ fn nothing_leaves_the_reader(rt: HostRuntime) -> Result<(), Fail> {
 #[test]
 fn nothing_is_no_octets(rt: HostRuntime) -> Result<(), Fail> {
     let nothing = PhantomData::<u8>;
-    same(&rt, nothing.encoded_len(), Ok(Length::ZERO));
-    same_octets(&rt, nothing.to_der(rt.alloc())?.as_slice(), &[]);
+    same(&rt, len_of(&nothing), Ok(Length::ZERO));
+    same_octets(&rt, der_of(rt.alloc(), &nothing)?.as_slice(), &[]);
     Ok(())
 }

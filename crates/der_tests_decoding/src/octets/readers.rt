@@ -5,7 +5,30 @@ use der::{DecodeValue, decode_contents, decode_tlv};
 
 // The number of the month that the reader decodes.
 fn next_month(alloc: Global, reader: &mut SliceReader<'_>) -> Result<u8, Error> {
-    let month: MyByteMonth = reader.decode(alloc)?;
+    let month: MyByteMonth = next_of(alloc, reader)?;
+    Ok(month.month())
+}
+
+// The number of the month that is the element ahead.
+fn element_month(alloc: Global, reader: &mut SliceReader<'_>) -> Result<u8, Error> {
+    let month: MyByteMonth = decode_tlv(alloc, reader)?;
+    Ok(month.month())
+}
+
+// The number of the month whose contents are ahead, behind this header.
+fn month_by_header(
+    alloc: Global,
+    reader: &mut SliceReader<'_>,
+    header: Header,
+) -> Result<u8, Error> {
+    let month = MyByteMonth::decode_value(alloc, reader, header)?;
+    <MyByteMonth as DecodeValue<SliceReader>>::is_value(&month);
+    Ok(month.month())
+}
+
+// The number of the month that is all that stands in the contents ahead, behind this header.
+fn field_month(alloc: Global, reader: &mut SliceReader<'_>, header: Header) -> Result<u8, Error> {
+    let month: MyByteMonth = decode_contents(alloc, reader, header)?;
     Ok(month.month())
 }
 
@@ -50,8 +73,7 @@ fn months_in_turn(rt: HostRuntime) -> Result<(), Fail> {
     let mut reader = der_reader(&octets)?;
     same(&rt, next_month(rt.alloc(), &mut reader), Ok(9));
     same(&rt, reader.place(), (3, 8, false));
-    let second = decode_tlv::<SliceReader, MyByteMonth>(rt.alloc(), &mut reader)?;
-    same(&rt, second.month(), 2);
+    same(&rt, element_month(rt.alloc(), &mut reader), Ok(2));
     same(&rt, reader.place(), (6, 8, false));
     Ok(())
 }
@@ -61,10 +83,8 @@ fn contents_without_their_header(rt: HostRuntime) -> Result<(), Fail> {
     let octets = [0x09, 0x05];
     let mut reader = der_reader(&octets)?;
     let header = Header::new(Tag::OctetString, Length::ONE);
-    let month = MyByteMonth::decode_value(rt.alloc(), &mut reader, header)?;
-    same(&rt, month.month(), 9);
+    same(&rt, month_by_header(rt.alloc(), &mut reader, header), Ok(9));
     same(&rt, reader.position(), Length::ONE);
-    <MyByteMonth as DecodeValue<SliceReader>>::is_value(&month);
     Ok(())
 }
 
@@ -73,8 +93,7 @@ fn contents_that_are_fields(rt: HostRuntime) -> Result<(), Fail> {
     let octets = [0x04, 0x01, 0x09];
     let mut reader = der_reader(&octets)?;
     let header = Header::new(Tag::Sequence, Length::new(3));
-    let month = decode_contents::<SliceReader, MyByteMonth>(rt.alloc(), &mut reader, header)?;
-    same(&rt, month.month(), 9);
+    same(&rt, field_month(rt.alloc(), &mut reader, header), Ok(9));
     holds(&rt, reader.is_finished());
     Ok(())
 }

@@ -4,6 +4,7 @@ use crate::checks::{same, same_at, same_octets};
 use der::BytesRef;
 use der::example::BorrowedOctets;
 use der_uses::set_of::{set_of_contents, set_of_der};
+use std::process::Abort;
 
 // An OCTET STRING of these octets.
 fn string(octets: &[u8]) -> Result<BorrowedOctets<'_>, Error> {
@@ -11,8 +12,24 @@ fn string(octets: &[u8]) -> Result<BorrowedOctets<'_>, Error> {
     Ok(BorrowedOctets { octets })
 }
 
+// A string of each of these octets.
+fn strings<'a>(alloc: Global, list: &[&'a [u8]]) -> Result<Vec<BorrowedOctets<'a>>, Fail> {
+    let mut elements = Vec::new(alloc);
+    for octets in list {
+        elements.push(string(*octets)?)?;
+    }
+    Ok(elements)
+}
+
+fn same_strings(rt: &impl Abort, strings: &[BorrowedOctets<'_>], expected: &[&[u8]]) {
+    same(rt, strings.len(), expected.len());
+    for (string, octets) in strings.iter().zip(expected.iter()) {
+        same_octets(rt, string.octets.as_slice(), *octets);
+    }
+}
+
 // The encoding of a SET OF these elements.
-fn der_of(alloc: Global, elements: &mut [BorrowedOctets<'_>]) -> Result<Vec<u8>, Error> {
+fn set_of(alloc: Global, elements: &mut [BorrowedOctets<'_>]) -> Result<Vec<u8>, Error> {
     set_of_der(alloc, elements)
 }
 
@@ -28,21 +45,15 @@ fn refusal(alloc: Global, octets: &[u8]) -> Option<Error> {
 
 #[test]
 fn elements_in_any_order(rt: HostRuntime) -> Result<(), Fail> {
-    let mut elements = [
-        string(&[0xFF])?,
-        string(&[0x00, 0x00])?,
-        string(&[])?,
-        string(&[0xFF])?,
-    ];
+    let octets: [&[u8]; 4] = [&[0xFF], &[0x00, 0x00], &[], &[0xFF]];
+    let mut elements = strings(rt.alloc(), &octets)?;
     let want = [
         0x31, 0x0C, 0x04, 0x00, 0x04, 0x01, 0xFF, 0x04, 0x01, 0xFF, 0x04, 0x02, 0x00, 0x00,
     ];
-    let der = der_of(rt.alloc(), &mut elements)?;
+    let der = set_of(rt.alloc(), elements.as_mut_slice())?;
     same_octets(&rt, der.as_slice(), &want);
     let sorted: [&[u8]; 4] = [&[], &[0xFF], &[0xFF], &[0x00, 0x00]];
-    for (element, octets) in elements.iter().zip(sorted.iter()) {
-        same_octets(&rt, element.octets.as_slice(), *octets);
-    }
+    same_strings(&rt, elements.as_slice(), &sorted);
     let contents = contents_of(rt.alloc(), der.as_slice())?;
     same_octets(&rt, contents, &want[2..]);
     Ok(())
@@ -50,7 +61,7 @@ fn elements_in_any_order(rt: HostRuntime) -> Result<(), Fail> {
 
 #[test]
 fn no_elements(rt: HostRuntime) -> Result<(), Fail> {
-    let der = der_of(rt.alloc(), &mut [])?;
+    let der = set_of(rt.alloc(), &mut [])?;
     same_octets(&rt, der.as_slice(), &[0x31, 0x00]);
     let contents = contents_of(rt.alloc(), &[0x31, 0x00])?;
     same_octets(&rt, contents, &[]);
@@ -62,12 +73,13 @@ fn no_elements(rt: HostRuntime) -> Result<(), Fail> {
 fn lengths_of_two_forms(rt: HostRuntime) -> Result<(), Fail> {
     let zeros = [0x00; 128];
     let ones = [0xFF; 127];
-    let mut elements = [string(&zeros)?, string(&ones)?];
+    let octets: [&[u8]; 2] = [&zeros, &ones];
+    let mut elements = strings(rt.alloc(), &octets)?;
     let mut want = Vec::from_slice(rt.alloc(), &[0x31, 0x82, 0x01, 0x04, 0x04, 0x7F])?;
     want.extend_from_slice(&ones)?;
     want.extend_from_slice(&[0x04, 0x81, 0x80])?;
     want.extend_from_slice(&zeros)?;
-    let der = der_of(rt.alloc(), &mut elements)?;
+    let der = set_of(rt.alloc(), elements.as_mut_slice())?;
     same_octets(&rt, der.as_slice(), want.as_slice());
     let contents = contents_of(rt.alloc(), der.as_slice())?;
     same_octets(&rt, contents, &want.as_slice()[4..]);
@@ -82,7 +94,7 @@ fn more_contents_than_a_length_counts(rt: HostRuntime) -> Result<(), Fail> {
     for fewer in 0..257 {
         elements.push(string(&octets.as_slice()[fewer..])?)?;
     }
-    let refused = der_of(rt.alloc(), elements.as_mut_slice()).err();
+    let refused = set_of(rt.alloc(), elements.as_mut_slice()).err();
     same(&rt, refused, Some(ErrorKind::Overflow.to_error()));
     Ok(())
 }

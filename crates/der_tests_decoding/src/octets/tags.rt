@@ -5,7 +5,7 @@ use der_fixtures::errors::{invalid_number, unknown};
 
 // The tag that all the octets are.
 fn tag_of(alloc: Global, bytes: &[u8]) -> Result<Tag, Error> {
-    Tag::from_der(alloc, bytes)
+    value_of(alloc, bytes)
 }
 
 #[test]
@@ -29,7 +29,7 @@ fn tags_both_ways(rt: HostRuntime) -> Result<(), Fail> {
     ];
     for (tag, octets) in rows {
         same_at(&rt, tag, tag_of(rt.alloc(), octets), Ok(tag));
-        let der = tag.to_der(rt.alloc())?;
+        let der = der_of(rt.alloc(), &tag)?;
         same_at(&rt, tag, der.as_slice(), octets);
     }
     Ok(())
