@@ -72,7 +72,6 @@ class RtCi:
             give_up(f"rt ci ended with status {status}")
         if lacking:
             give_up(f"rt ci did not say that {' '.join(lacking)} is proved")
-        self.lanes.before = []
         self.lanes.add(self.lent)
         for command in self.behind:
             self.see(command)
