@@ -28,8 +28,8 @@ mod readers;
 mod sets;
 mod tags;
 
-// The functions below are the calls of this crate, and nothing is said of what they answer: what a
-// contract says costs the checker seconds at each place where it is called, and here there is one.
+// The functions below make calls that several tests need, and nothing is said of what they answer:
+// what a contract says costs the checker seconds at each place where it is called.
 
 // The value that all the octets are.
 fn value_of<'a, T: Decode<SliceReader<'a>>>(

@@ -14,21 +14,13 @@ fn refusal(alloc: Global, octets: &[u8]) -> Option<Error> {
     boxed_month(alloc, octets).err()
 }
 
-fn tag_of<T: Tagged>(value: &T) -> Tag {
-    value.tag()
-}
-
-fn value_len_of<T: EncodeValue>(value: &T) -> Result<Length, Error> {
-    value.value_len()
-}
-
 #[test]
 fn a_boxed_month_both_ways(rt: HostRuntime) -> Result<(), Fail> {
     let octets = [0x04, 0x01, 0x09];
     let boxed = boxed_month(rt.alloc(), &octets)?;
     same(&rt, month_number(&boxed), 9);
-    same(&rt, tag_of(&boxed), Tag::OctetString);
-    same(&rt, value_len_of(&boxed), Ok(Length::ONE));
+    same(&rt, boxed.tag(), Tag::OctetString);
+    same(&rt, boxed.value_len(), Ok(Length::ONE));
     same(&rt, len_of(&boxed), Ok(Length::new(3)));
     same_octets(&rt, der_of(rt.alloc(), &boxed)?.as_slice(), &octets);
     Ok(())
