@@ -5,13 +5,14 @@ src/reader/slice.rt, and is a list of edits of it:
 
     # What is wrong, in one sentence.
     fn: PATH ..
+    also: GOAL .. of these functions that fail too, and are left out (one is evidence enough)
     weak: why it is kept though its refusal says little (only then)
     file: src/reader/slice.rt
     old: a text of one line that stands once in the file
     new: what stands in its place
     right: what could stand there rightly, and makes the same calls (only where `new:` adds one)
 
-A block has further files and pairs where it needs them. A file of must-fail/ is one edit, with
+A block has further functions, files and pairs where it needs them. A file of must-fail/ is one edit, with
 `file:`, `old:` and `new:` alone.
 """
 import collections
@@ -21,7 +22,7 @@ import re
 from checker import TOP, folder_of, give_up, text_of
 
 ONE = ("file", "old", "new")
-MANY = ("fn", "weak", "right", *ONE)
+MANY = ("fn", "also", "weak", "right", *ONE)
 
 
 class Edit:
@@ -31,7 +32,7 @@ class Edit:
         self.at = f"{os.path.relpath(path, TOP)}:{number}"
         self.title, self.keys = title, keys
         self.functions, self.weak, self.changes, self.rights = [], "", [], []
-        self.file = self.old = None
+        self.also, self.named, self.file, self.old = {}, [], None, None
 
     def take(self, line):
         """Takes a line of the edit."""
@@ -44,7 +45,10 @@ class Edit:
         if self.old is not None and key != "new":
             self.refuse(f"has an old text without a new one: {self.old}")
         if key == "fn":
-            self.functions += rest.split()
+            self.named = rest.split()
+            self.functions += self.named
+        elif key == "also":
+            self.leave_out(rest.split())
         elif key == "weak":
             self.weak = rest
         elif key == "file":
@@ -55,6 +59,13 @@ class Edit:
             self.correct(rest)
         else:
             self.change(rest)
+
+    def leave_out(self, goals):
+        """Takes the goals of the functions named last that are left out."""
+        if not self.named:
+            self.refuse(f"has goals without a function: {' '.join(goals)}")
+        for function in self.named:
+            self.also[function] = goals
 
     def change(self, new):
         """Takes the text that stands in place of the old one."""
@@ -105,6 +116,12 @@ class Edit:
 def functions_of(edits):
     """The functions that these edits name."""
     return sorted({function for edit in edits for function in edit.functions})
+
+
+def left_out(edits):
+    """The pairs of a function and a goal of it that these edits leave out."""
+    pairs = [it for edit in edits for it in edit.also.items()]
+    return {(function, goal) for function, goals in pairs for goal in goals}
 
 
 def calls_of(changes):
