@@ -2,17 +2,7 @@
 //! hexadecimal text, or the order of two elements.
 #![tactic(auto)]
 
-mod answer;
-mod arguments;
-mod command;
-mod element;
-mod head;
-mod order;
-mod output;
-mod program;
-mod tlv;
-
-use arguments::run_arguments;
+use der_answers::run_arguments;
 use std::env;
 use std::process::ExitCode;
 
@@ -21,6 +11,3 @@ use std::process::ExitCode;
 fn main(rt: HostRuntime) -> ExitCode {
     ExitCode::from(run_arguments(rt.alloc(), env::args(&rt), &mut rt.stdout()))
 }
-
-#[cfg(test)]
-mod tests;

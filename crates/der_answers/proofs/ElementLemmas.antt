@@ -1,0 +1,83 @@
+-- What the octets of a whole element say of the input.
+use Rattle.std.proofs.Common.{◌≡◌, ℕ, ◌+◌, ◌^◌, ◌<◌, ◌≤◌, if◌then◌else◌, Bool, true, Result, Ok, Err, IfOk, IfErr, List, length, take, refl, sym, ap, ◌∙◌, subst, ⊎_elim, arith}
+use Rattle.std.proofs.lemmas.Bool.{lt-ltb, le-ltb, cases_lt, lt-leb, le-leb}
+use Rattle.der_base.specs.Error.{error_of_kind, missing_refusal}
+use Rattle.der_base.specs.Length.{number}
+use Rattle.der_base.specs.Header.{Head, HeaderAhead}
+use Rattle.der_base.specs.declared.error.Error.{Error}
+use Rattle.der_base.specs.declared.error.ErrorKind.TheVariants.{Overflow}
+use Rattle.der_base.specs.declared.encoding_rules.EncodingRules.{EncodingRules}
+use Rattle.der_core.specs.ReaderState.{ReaderState, initial_state, rest, advanced_state}
+use Rattle.der_core.specs.Outcome.{outcome_of, map_ok, IsBinding}
+use Rattle.der_core.specs.Reader.{read_slice_outcome, short_outcome, tlv_outcome}
+use Rattle.der_core.specs.Header.{head_of}
+use Rattle.der_core.specs.Decode.{TlvAnswers}
+use Rattle.der_core.proofs.DecodeLemmas.{rest-beginning}
+use Rattle.der_answers.specs.Answer.{IsElement, NoElement}
+use Rattle.der_answers.proofs.HeaderLemmas.{fault_refused}
+
+-- an answer told of octets: their element, or why there is none
+abbrev ElementSays : EncodingRules → List ℕ → Result (List ℕ) Error → Type 0
+ElementSays rules octets (Ok element) = IsElement rules octets element
+ElementSays rules octets (Err e) = NoElement rules octets e
+
+module _ (rules : EncodingRules) (octets : List ℕ) where
+  abbrev begun : ReaderState
+  begun = initial_state rules octets
+
+  left : rest begun ≡ octets
+  left = rest-beginning rules octets
+
+  -- the answer of an element of n octets, and what its two tests choose from
+  abbrev whole_answer : ℕ → Result (List ℕ) Error
+  whole_answer n = (tlv_outcome n begun).answer
+
+  abbrev counted : ℕ → Bool → Result (List ℕ) Error
+  counted n near = (if near then read_slice_outcome n begun else outcome_of (Err (error_of_kind Overflow)) begun).answer
+
+  abbrev lent : ℕ → Bool → Result (List ℕ) Error
+  lent n there = (if there then outcome_of (Ok (take n (rest begun))) (advanced_state begun n) else short_outcome (List ℕ) begun n).answer
+
+  far_answer : (n : ℕ) → 2 ^ 32 ≤ n → whole_answer n ≡ Err (error_of_kind Overflow)
+  far_answer n far = ap (counted n) (le-ltb n (2 ^ 32) far)
+
+  from_zero : (n : ℕ) → 0 + n ≡ n
+  from_zero n = omega arith
+
+  there_answer : (n : ℕ) → n < 2 ^ 32 → n ≤ length octets → whole_answer n ≡ Ok (take n octets)
+  there_answer n near there = ap (counted n) (lt-ltb n (2 ^ 32) near) ∙ ap (lent n) (le-leb (0 + n) (length octets) (omega (arith, there))) ∙ ap (λ o. Ok (take n o)) left
+
+  short_answer : (n : ℕ) → n < 2 ^ 32 → length octets < n → whole_answer n ≡ Err (missing_refusal n (length octets) 0).error
+  short_answer n near few =
+      ap (counted n) (lt-ltb n (2 ^ 32) near) ∙ ap (lent n) (lt-leb (0 + n) (length octets) (omega (arith, few)))
+      ∙ ap (λ k. Err (missing_refusal k (length octets) 0).error) (from_zero n)
+
+  whole_says : (r : Result (List ℕ) Error) (h : Head) (m : ℕ) → length octets < 2 ^ 32 → HeaderAhead h rules octets m → r ≡ whole_answer (m + number h.length) → ElementSays rules octets r
+  whole_says r h m small ahead is =
+      let n = m + number h.length in
+      ⊎_elim
+      (λ near. ⊎_elim
+      (λ few. subst (ElementSays rules octets) (sym (is ∙ short_answer n near few)) (NoElement.contents_missing h m ahead near few))
+      (λ there. subst (ElementSays rules octets) (sym (is ∙ there_answer n near there)) record { countable = small; head = h; count = m; ahead = ahead; there = there; whole = refl })
+      (cases_lt (length octets) n))
+      (λ far. subst (ElementSays rules octets) (sym (is ∙ far_answer n far)) (NoElement.past_every_length h m small ahead far))
+      (cases_lt n (2 ^ 32))
+
+  begun_says : (r : Result (List ℕ) Error) (t : ReaderState) → length octets < 2 ^ 32 → TlvAnswers begun r t → ElementSays rules octets r
+  begun_says r t small (TlvAnswers.no_header e peeked is same) = subst (ElementSays rules octets) (sym is) (NoElement.no_header (fault_refused rules octets e small (peeked.1.refused refl)))
+  begun_says r t small (TlvAnswers.with_header h m ahead working gives) =
+      whole_says r (head_of h) m small (subst (λ o. HeaderAhead (head_of h) rules o m) left ahead) gives.answered
+
+  element_says : (s t : ReaderState) (r : Result (List ℕ) Error) → length octets < 2 ^ 32 → s ≡ begun → TlvAnswers s r t → ElementSays rules octets r
+  element_says s t r small e h = begun_says r t small (subst (λ x. TlvAnswers x r t) e h)
+
+  -- what a reliable reader lends, or the error that it tells
+  pub lent_says : {B : Type 0} (now : B → List ℕ) (s t : ReaderState) (r : Result B Error) → length octets < 2 ^ 32 → s ≡ begun → (IsBinding true r → TlvAnswers s (map_ok now r) t)
+      → IfOk r (λ e. IsElement rules octets (now e))
+  lent_says now s t (Ok e) small is h = element_says s t (Ok (now e)) small is (h tt)
+  lent_says now s t (Err e) small is h = tt
+
+  pub told_says : {B : Type 0} (now : B → List ℕ) (s t : ReaderState) (r : Result B Error) → length octets < 2 ^ 32 → s ≡ begun → (IsBinding true r → TlvAnswers s (map_ok now r) t)
+      → IfErr r (NoElement rules octets)
+  told_says now s t (Ok e) small is h = tt
+  told_says now s t (Err e) small is h = element_says s t (Err e) small is (h refl)

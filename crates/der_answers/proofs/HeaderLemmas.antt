@@ -1,0 +1,40 @@
+-- What a header that was read, or refused, says of the input.
+use Rattle.std.proofs.Common.{◌≡◌, ℕ, ◌+◌, ◌-◌, ◌^◌, ◌<◌, true, false, Ok, List, length, take, drop, ap, ◌∙◌, subst, inr, length-drop, arith}
+use Rattle.std.proofs.lemmas.List.{take_all}
+use Rattle.der_base.specs.Scan.{BodyFault}
+use Rattle.der_base.specs.Header.{HeaderAhead, HeaderFault}
+use Rattle.der_base.specs.declared.error.Error.{Error}
+use Rattle.der_base.specs.declared.encoding_rules.EncodingRules.{EncodingRules}
+use Rattle.der_core.specs.ReaderState.{ReaderState, initial_state, rest, advanced_state}
+use Rattle.der_core.specs.Reader.{remaining_answer}
+use Rattle.der_core.specs.Header.{head_of, IsHeaderAhead}
+use Rattle.der_core.specs.Decode.{Passes, IsRefusedBy}
+use Rattle.der_core.specs.declared.header.Header.{Header}
+use Rattle.der_core.proofs.DecodeLemmas.{rest-beginning, remaining_ok}
+use Rattle.der_answers.specs.Answer.{IsHeaderRead, IsRefusedFor}
+
+module _ (rules : EncodingRules) (octets : List ℕ) where
+  -- a reader of the octets refuses
+  pub fault_refused : (e : Error) {t : ReaderState} → length octets < 2 ^ 32 → IsRefusedBy (HeaderFault BodyFault) (initial_state rules octets) e t → IsRefusedFor rules octets e
+  fault_refused e small (IsRefusedBy.has_failed h told same) = absurd (let no : false ≡ true = h in cc)
+  fault_refused e small (IsRefusedBy.at_fault r working fault told leaves) = inr (r, small, subst (λ o. HeaderFault BodyFault rules 0 o r) (rest-beginning rules octets) fault, told)
+
+  rest-advanced : (m : ℕ) → rest (advanced_state (initial_state rules octets) m) ≡ drop m octets
+  rest-advanced m =
+      let passed : 0 + m ≡ m = omega arith in
+      ap (λ k. take (length octets - k) (drop k octets)) passed ∙ take_all (length octets - m) (drop m octets) (omega (arith, length-drop m octets))
+
+  module _ (s t : ReaderState) (begun : s ≡ initial_state rules octets) (small : length octets < 2 ^ 32) where
+    pub refused_header : (e : Error) → IsRefusedBy (HeaderFault BodyFault) s e t → IsRefusedFor rules octets e
+    refused_header e refused = fault_refused e small (subst (λ x. IsRefusedBy (HeaderFault BodyFault) x e t) begun refused)
+
+    -- the octets behind the header are those that are left
+    pub read_header : (h : Header) (left : List ℕ) → Passes (IsHeaderAhead h) s t → Ok left ≡ remaining_answer t → IsHeaderRead rules octets (head_of h) left
+    read_header h left passes is =
+        let passed : Passes (IsHeaderAhead h) (initial_state rules octets) t = subst (λ x. Passes (IsHeaderAhead h) x t) begun passes in
+        record {
+          countable = small;
+          count = passed.octets;
+          ahead = subst (λ o. HeaderAhead (head_of h) rules o passed.octets) (rest-beginning rules octets) passed.ahead;
+          behind = (remaining_ok t left is).1 ∙ ap rest passed.leaves ∙ rest-advanced passed.octets;
+        }

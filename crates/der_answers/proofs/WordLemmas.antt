@@ -1,0 +1,33 @@
+-- The words of a command.
+use Rattle.std.proofs.Common.{◌≡◌, ℕ, ◌<◌, ◌≤◌, List, [], ◌∷◌, map, length, get_or, codes, true, inl, inr, sym, ◌∙◌, arith}
+use Rattle.std.proofs.lemmas.Slice.Eq.{bytes_eq-Decides}
+use Rattle.std.specs.Str.{bytes_eq}
+use Rattle.der_base.specs.declared.encoding_rules.EncodingRules.TheVariants.{Ber, Der}
+use Rattle.der_answers.specs.Command.{order_words, three, IsCommand, IsHex}
+
+-- a list that a pattern of three items takes
+map_three : {A : Type 0} (f : A → List ℕ) (xs : List A) (a b c : A) → 3 ≤ length xs → length xs < 4 → a ≡ get_or xs 0 a → b ≡ get_or xs 1 b → c ≡ get_or xs 2 c
+    → map f xs ≡ three (f a) (f b) (f c)
+map_three f [] a b c l m p q r = grind arith
+map_three f (x ∷ []) a b c l m p q r = grind arith
+map_three f (x ∷ y ∷ []) a b c l m p q r = grind arith
+map_three f (x ∷ y ∷ z ∷ []) a b c l m p q r = grind arith
+map_three f (x ∷ y ∷ z ∷ w ∷ more) a b c l m p q r = grind arith
+
+-- the words of such a list, by what each of its items says
+pub three_words : {A : Type 0} (f : A → List ℕ) (xs : List A) (a b c : A) (first second third : List ℕ) → 3 ≤ length xs → length xs < 4 → a ≡ get_or xs 0 a → b ≡ get_or xs 1 b → c ≡ get_or xs 2 c
+    → first ≡ f a → second ≡ f b → third ≡ f c → map f xs ≡ three first second third
+three_words f xs a b c first second third l m p q r s t u = map_three f xs a b c l m p q r ∙ cc
+
+-- the word `order` and two words
+pub words_with_order : (name first second : List ℕ) → true ≡ bytes_eq name (codes "order") → three name first second ≡ order_words first second
+words_with_order name first second e =
+    let s : name ≡ codes "order" = (bytes_eq-Decides name (codes "order")).0 (sym e) in
+    cc
+
+-- such words are a command only by these texts
+pub command_with_order : (first second : List ℕ) → IsCommand (order_words first second) → IsHex first × IsHex second
+command_with_order first second (inl (Der, n, h, named, digits, is)) = absurd (grind arith)
+command_with_order first second (inl (Ber, n, h, inl named, digits, is)) = absurd (let is_order : n ≡ codes "order" = grind arith in let no : codes "head" ≡ codes "order" = sym named ∙ is_order in cc)
+command_with_order first second (inl (Ber, n, h, inr named, digits, is)) = absurd (let is_order : n ≡ codes "order" = grind arith in let no : codes "tlv" ≡ codes "order" = sym named ∙ is_order in cc)
+command_with_order first second (inr (one, other, digits, more, is)) = grind arith

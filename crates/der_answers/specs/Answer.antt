@@ -1,0 +1,175 @@
+-- What the program may say to its words.
+use Rattle.std.specs.Prelude.{◌≡◌, ℕ, ◌+◌, ◌-◌, ◌^◌, ◌<◌, ◌≤◌, ◌⊎◌, List, length, take, drop, codes, Option, Some, Ok, string_bytes}
+use Rattle.std.specs.Io.KnownBytes.{Appends}
+use Rattle.hex.specs.Hex.{decode_of}
+use Rattle.der_base.specs.Scan.{BodyFault}
+use Rattle.der_base.specs.Header.{Head, HeaderAhead, HeaderFault}
+use Rattle.der_base.specs.Length.{number, definite_length}
+use Rattle.der_base.specs.Order.{byte_order}
+use Rattle.der_base.specs.Error.{at, error_of_kind, Refusal, missing_refusal, end_refusal}
+use Rattle.der_base.specs.Text.{error_text}
+use Rattle.der_base.specs.declared.error.Error.{Error}
+use Rattle.der_base.specs.declared.error.ErrorKind.TheVariants.{Overflow, TrailingData}
+use Rattle.der_base.specs.declared.encoding_rules.EncodingRules.{EncodingRules}
+use Rattle.der_base.specs.declared.encoding_rules.EncodingRules.TheVariants.{Der}
+use Rattle.der_answers.specs.Command.{IsCommand, words_of}
+use Rattle.der_answers.specs.Text.{usage_line, error_line, header_lines, element_line, order_line}
+use Rattle.der_answers.specs.declared.command.Command.{Command}
+use Rattle.der_answers.specs.declared.command.Command.TheVariants.{Head as HeadOf, Tlv as TlvOf, Order as OrderOf}
+use Rattle.der_answers.specs.declared.answer.Answer.{Answer}
+use Rattle.der_answers.specs.declared.answer.Answer.TheVariants as answer
+
+-- as many octets as a length can count begin with this header, and these are left behind it
+pub record IsHeaderRead (rules : EncodingRules) (octets : List ℕ) (h : Head) (rest : List ℕ)
+    : Type 0 where
+  pub countable : length octets < 2 ^ 32
+  pub count : ℕ
+  pub ahead : HeaderAhead h rules octets count
+  pub behind : rest ≡ drop count octets
+
+-- the octets are more than a length can count, or begin with no header; the error tells which
+abbrev pub IsRefusedFor : EncodingRules → List ℕ → Error → Type 0
+IsRefusedFor rules octets e =
+    ((2 ^ 32 ≤ length octets) × (e ≡ error_of_kind Overflow))
+    ⊎ ((r : Refusal) × (length octets < 2 ^ 32) × HeaderFault BodyFault rules 0 octets r
+    × (e ≡ r.error))
+
+-- so many octets were read, and others are left behind them, up to an end
+abbrev pub trailing_error : ℕ → ℕ → Error
+trailing_error passed end =
+    at (TrailingData (definite_length passed) (definite_length (end - passed)))
+    (definite_length passed)
+
+-- as many octets as a length can count begin with this element: a header, and as many octets more
+-- as its length says
+pub record IsElement (rules : EncodingRules) (octets element : List ℕ) : Type 0 where
+  pub countable : length octets < 2 ^ 32
+  pub head : Head
+  pub count : ℕ
+  pub ahead : HeaderAhead head rules octets count
+  pub there : count + number head.length ≤ length octets
+  pub whole : element ≡ take (count + number head.length) octets
+
+-- the octets begin with no whole element; the error tells why
+pub data NoElement (rules : EncodingRules) (octets : List ℕ) : Error → Type 0 where
+  no_header : {e : Error} → IsRefusedFor rules octets e → NoElement rules octets e
+  past_every_length : (h : Head) (count : ℕ) → length octets < 2 ^ 32
+      → HeaderAhead h rules octets count → 2 ^ 32 ≤ count + number h.length
+      → NoElement rules octets (error_of_kind Overflow)
+  contents_missing : (h : Head) (count : ℕ) → HeaderAhead h rules octets count
+      → count + number h.length < 2 ^ 32 → length octets < count + number h.length
+      → NoElement rules octets (missing_refusal (count + number h.length) (length octets) 0).error
+
+-- as many octets as a length can count are wholly one element under DER: a header, and as many
+-- octets more as its length says (X.690 8.1.1)
+pub record IsWholeElement (octets : List ℕ) : Type 0 where
+  pub countable : length octets < 2 ^ 32
+  pub head : Head
+  pub count : ℕ
+  pub ahead : HeaderAhead head Der octets count
+  pub whole : count + number head.length ≡ length octets
+
+-- the octets are not wholly one element; the error tells why
+pub data NoWholeElement (octets : List ℕ) : Error → Type 0 where
+  no_header : {e : Error} → IsRefusedFor Der octets e → NoWholeElement octets e
+  past_every_length : (h : Head) (count : ℕ) → length octets < 2 ^ 32
+      → HeaderAhead h Der octets count → 2 ^ 32 ≤ count + number h.length
+      → NoWholeElement octets (error_of_kind Overflow)
+  contents_missing : (h : Head) (count : ℕ) → HeaderAhead h Der octets count
+      → count + number h.length < 2 ^ 32 → length octets < count + number h.length
+      → NoWholeElement octets (end_refusal (length octets)).error
+  left_behind : (h : Head) (count : ℕ) → length octets < 2 ^ 32
+      → HeaderAhead h Der octets count → count + number h.length < length octets
+      → NoWholeElement octets (trailing_error (count + number h.length) (length octets))
+
+-- one of the two is not wholly an element, the second where the first is one; the error tells why
+pub data NoPair (first second : List ℕ) (e : Error) : Type 0 where
+  first_refused : NoWholeElement first e → NoPair first second e
+  second_refused : IsWholeElement first → NoWholeElement second e → NoPair first second e
+
+-- the lines tell the header that the octets begin with
+pub record Tells (rules : EncodingRules) (octets text : List ℕ) : Type 0 where
+  pub head : Head
+  pub rest : List ℕ
+  pub read : IsHeaderRead rules octets head rest
+  pub lines : text ≡ header_lines head rest
+
+-- the line tells the error, where its text is known
+abbrev pub TellsError : Error → List ℕ → Type 0
+TellsError e text = (reason : List ℕ) → error_text e ≡ Some reason → text ≡ error_line reason
+
+-- the line tells why octets are refused, for the errors that they are refused by
+pub record Refuses (IsRefused : Error → Type 0) (text : List ℕ) : Type 0 where
+  pub error : Error
+  pub reason : List ℕ
+  pub refused : IsRefused error
+  pub says : error_text error ≡ Some reason
+  pub line : text ≡ error_line reason
+
+-- what `head` says to octets: a status and a text
+pub data AnswersHead (rules : EncodingRules) (octets : List ℕ) : ℕ → List ℕ → Type 0 where
+  told : {text : List ℕ} → Tells rules octets text → AnswersHead rules octets 0 text
+  refused : {text : List ℕ} → Refuses (IsRefusedFor rules octets) text
+      → AnswersHead rules octets 1 text
+
+-- the line tells the element that the octets begin with
+pub record TellsElement (rules : EncodingRules) (octets text : List ℕ) : Type 0 where
+  pub element : List ℕ
+  pub read : IsElement rules octets element
+  pub line : text ≡ element_line element
+
+-- what `tlv` says to octets: a status and a text
+pub data AnswersTlv (rules : EncodingRules) (octets : List ℕ) : ℕ → List ℕ → Type 0 where
+  told : {text : List ℕ} → TellsElement rules octets text → AnswersTlv rules octets 0 text
+  refused : {text : List ℕ} → Refuses (NoElement rules octets) text → AnswersTlv rules octets 1 text
+
+-- the line tells the byte order of two whole elements (X.690 11.6)
+pub record TellsOrder (first second text : List ℕ) : Type 0 where
+  pub first_whole : IsWholeElement first
+  pub second_whole : IsWholeElement second
+  pub line : text ≡ order_line (byte_order first second)
+
+-- what `order` says to octets of two: a status and a text
+pub data AnswersOrder (first second : List ℕ) : ℕ → List ℕ → Type 0 where
+  told : {text : List ℕ} → TellsOrder first second text → AnswersOrder first second 0 text
+  refused : {text : List ℕ} → Refuses (NoPair first second) text → AnswersOrder first second 1 text
+
+-- this is answered to the octets that a text spells
+pub record ToSpelled (hex : List ℕ) (AnswersTo : List ℕ → Type 0) : Type 0 where
+  pub octets : List ℕ
+  pub spelled : decode_of hex ≡ Ok octets
+  pub answered : AnswersTo octets
+
+-- what a command is answered, memory aside
+abbrev pub Fulfils : Command → ℕ → List ℕ → Type 0
+Fulfils (HeadOf rules hex) status text =
+    ToSpelled hex.now (λ octets. AnswersHead rules octets status text)
+Fulfils (TlvOf rules hex) status text =
+    ToSpelled hex.now (λ octets. AnswersTlv rules octets status text)
+Fulfils (OrderOf first second) status text =
+    ToSpelled first.now (λ one. ToSpelled second.now (λ other. AnswersOrder one other status text))
+
+-- what the program may say to its words
+pub data Answers (words : List (List ℕ)) : ℕ → List ℕ → Type 0 where
+  misused : (IsCommand words → ⊥) → Answers words 2 usage_line
+  fulfilled : {status : ℕ} {text : List ℕ} (command : Command) → words ≡ words_of command
+      → Fulfils command status text → Answers words status text
+  no_memory : IsCommand words → Answers words 1 (error_line (codes "out of memory"))
+
+-- the output took an answer to the words whole, and nothing else
+abbrev pub WritesAnswer : List (List ℕ) → ℕ → Option (List ℕ) → Option (List ℕ) → Type 0
+WritesAnswer words status old new = (text : List ℕ) × Answers words status text
+    × Appends old new text
+
+-- an answer's status and text
+abbrev pub status_of : {A : Type 0} → Answer A → ℕ
+status_of (answer.Told lines) = 0
+status_of (answer.Refused line) = 1
+status_of answer.OutOfMemory = 1
+status_of answer.Usage = 2
+
+abbrev pub text_of : {A : Type 0} → Answer A → List ℕ
+text_of (answer.Told lines) = string_bytes lines
+text_of (answer.Refused line) = string_bytes line
+text_of answer.OutOfMemory = error_line (codes "out of memory")
+text_of answer.Usage = usage_line

@@ -1,0 +1,50 @@
+-- The commands, as words.
+use Rattle.std.specs.Prelude.{◌≡◌, ◌⊎◌, ℕ, ◌%◌, List, [], ◌∷◌, length, map, codes, String, string_bytes}
+use Rattle.std.specs.List.{AllPass}
+use Rattle.hex.specs.Hex.{is_hex_digit}
+use Rattle.der_base.specs.declared.encoding_rules.EncodingRules.{EncodingRules}
+use Rattle.der_base.specs.declared.encoding_rules.EncodingRules.TheVariants.{Ber, Der}
+use Rattle.der_answers.specs.declared.command.Command.{Command}
+use Rattle.der_answers.specs.declared.command.Command.TheVariants.{Head, Tlv, Order}
+
+-- the octets of each word
+abbrev pub texts : {A : Type 0} → List (String A) → List (List ℕ)
+texts words = map string_bytes words
+
+-- an even number of hexadecimal digits, in either case
+abbrev pub IsHex : List ℕ → Type 0
+IsHex text = (length text % 2 ≡ 0) × AllPass is_hex_digit text
+
+-- what a command that reads one text is called
+abbrev pub IsName : List ℕ → Type 0
+IsName name = (name ≡ codes "head") ⊎ (name ≡ codes "tlv")
+
+abbrev pub three : List ℕ → List ℕ → List ℕ → List (List ℕ)
+three first second third = first ∷ second ∷ third ∷ []
+
+-- a name, behind it `--ber` exactly where octets are read by these rules, and the octets' text
+abbrev pub words_under : EncodingRules → List ℕ → List ℕ → List (List ℕ)
+words_under Der name hex = name ∷ hex ∷ []
+words_under Ber name hex = three name (codes "--ber") hex
+
+-- the command that compares what two texts spell
+abbrev pub order_words : List ℕ → List ℕ → List (List ℕ)
+order_words first second = three (codes "order") first second
+
+abbrev pub words_of : Command → List (List ℕ)
+words_of (Head rules hex) = words_under rules (codes "head") hex.now
+words_of (Tlv rules hex) = words_under rules (codes "tlv") hex.now
+words_of (Order first second) = order_words first.now second.now
+
+-- each text of a command spells octets
+abbrev pub SpellsOctets : Command → Type 0
+SpellsOctets (Head rules hex) = IsHex hex.now
+SpellsOctets (Tlv rules hex) = IsHex hex.now
+SpellsOctets (Order first second) = IsHex first.now × IsHex second.now
+
+-- the words are a command
+abbrev pub IsCommand : List (List ℕ) → Type 0
+IsCommand words =
+    ((rules : EncodingRules) × (name hex : List ℕ) × IsName name × IsHex hex
+    × (words ≡ words_under rules name hex))
+    ⊎ ((first second : List ℕ) × IsHex first × IsHex second × (words ≡ order_words first second))

@@ -1,0 +1,81 @@
+//! Commands.
+ghost use Rattle.std.specs.Prelude.{◌≡◌, ◌↔◌, IsSome, IfSome, IsTrue};
+ghost use Rattle.der_answers.specs.Command.{IsHex, IsName, IsCommand, texts};
+
+use der::EncodingRules;
+
+/// What the words ask for.
+#[derive(Clone, Copy)]
+pub enum Command<'a> {
+    /// `head [--ber] HEX`: the header at the front of these octets.
+    Head { rules: EncodingRules, hex: &'a str },
+    /// `tlv [--ber] HEX`: the whole element at the front of these octets.
+    Tlv { rules: EncodingRules, hex: &'a str },
+    /// `order HEX HEX`: how two whole elements stand to each other.
+    Order { first: &'a str, second: &'a str },
+}
+
+impl<'a> Command<'a> {
+    ghost use Rattle.der_answers.specs.Command.{words_of, words_under, order_words, three, SpellsOctets};
+
+    /// The command, if the words are one.
+    pub fn parse(words: &'a [String]) -> Option<Self>
+        ensures found { IsSome result ↔ IsCommand (texts words.now) }
+        ensures words { IfSome result (λ c. texts words.now ≡ words_of c) }
+        ensures digits { IfSome result SpellsOctets }
+    {
+        match words {
+            [name, hex] => Command::named(name, EncodingRules::Der, hex),
+            [first, second, third] => Command::of_three(first, second, third),
+            _ => None,
+        }
+    }
+
+    /// The command of these three words, if they are one.
+    fn of_three(first: &'a str, second: &'a str, third: &'a str) -> Option<Self>
+        ensures found { IsSome result ↔ IsCommand (three first.now second.now third.now) }
+        ensures words { IfSome result (λ c. three first.now second.now third.now ≡ words_of c) }
+        ensures digits { IfSome result SpellsOctets }
+    {
+        if second == "--ber" {
+            Command::named(first, EncodingRules::Ber, third)
+        } else if first == "order" {
+            Command::ordering(second, third)
+        } else {
+            None
+        }
+    }
+
+    /// The command of this name that reads one text, if there is one and the text spells octets.
+    fn named(name: &str, rules: EncodingRules, hex: &'a str) -> Option<Self>
+        ensures found { IsSome result ↔ (IsName name.now × IsHex hex.now) }
+        ensures words { IfSome result (λ c. words_under rules name.now hex.now ≡ words_of c) }
+        ensures digits { IfSome result SpellsOctets }
+    {
+        match name {
+            "head" if is_hex(hex) => Some(Command::Head { rules, hex }),
+            "tlv" if is_hex(hex) => Some(Command::Tlv { rules, hex }),
+            _ => None,
+        }
+    }
+
+    /// The command `order` of these texts, if both spell octets.
+    fn ordering(first: &'a str, second: &'a str) -> Option<Self>
+        ensures found { IsSome result ↔ (IsHex first.now × IsHex second.now) }
+        ensures words { IfSome result (λ c. order_words first.now second.now ≡ words_of c) }
+        ensures digits { IfSome result SpellsOctets }
+    {
+        if is_hex(first) && is_hex(second) {
+            Some(Command::Order { first, second })
+        } else {
+            None
+        }
+    }
+}
+
+/// Whether the text is an even number of hexadecimal digits.
+fn is_hex(text: &str) -> bool
+    ensures { IsTrue result ↔ IsHex text.now }
+{
+    text.len() % 2 == 0 && text.bytes().all(|digit| digit.is_ascii_hexdigit())
+}

@@ -1,0 +1,117 @@
+//! Writers that fail, and an output that never does.
+ghost use Rattle.std.specs.Prelude.{true, None};
+
+use super::{USAGE, words_of};
+use der_answers::{Output, run};
+use std::io;
+use std::test::Fail;
+
+const LINES: &str = "tag: INTEGER\nconstructed: no\nlength: 1\nrest: 2a00\n";
+
+const ROWS: [(&str, u8, &str); 4] = [
+    ("head 02012A00", 0, LINES),
+    ("tlv 02012A00", 0, "02012a\n"),
+    ("order 3000 1600", 0, "greater\n"),
+    ("head 0", 2, USAGE),
+];
+
+/// Takes an octet at a call, and fails once the calls are used up.
+#[derive(Drop)]
+struct Choppy {
+    taken: Vec<u8>,
+    calls: usize,
+}
+
+impl io::Write for Choppy {
+    fn write(&mut self, buf: &[u8]) -> io::Result<usize> {
+        if self.calls == 0 {
+            return Err(io::Error::from(io::ErrorKind::BrokenPipe));
+        }
+        self.calls -= 1;
+        let count = buf.len().min(1);
+        self.taken.extend_from_slice(&buf[..count])?;
+        Ok(count)
+    }
+
+    fn flush(&mut self) -> io::Result<()> {
+        Ok(())
+    }
+}
+
+/// Takes nothing, or all of it and then fails to pass it on.
+#[derive(Drop)]
+struct Broken {
+    takes: bool,
+}
+
+impl io::Write for Broken {
+    fn write(&mut self, buf: &[u8]) -> io::Result<usize> {
+        Ok(if self.takes { buf.len() } else { 0 })
+    }
+
+    fn flush(&mut self) -> io::Result<()> {
+        Err(io::Error::from(io::ErrorKind::BrokenPipe))
+    }
+}
+
+// Each write fails in turn, and at last none does.
+#[test]
+fn a_failed_write_is_status_1(rt: HostRuntime) -> Result<(), Fail> {
+    for (line, status, text) in ROWS {
+        let words = words_of(rt.alloc(), line)?;
+        for calls in 0..=text.len() {
+            let mut out = Choppy {
+                taken: Vec::new(rt.alloc()),
+                calls,
+            };
+            let want = if calls < text.len() { 1 } else { status };
+            assert_eq!(rt;
+                run(rt.alloc(), &words, &mut out),
+                want,
+                "at {line}, {calls}"
+            );
+            if calls == text.len() {
+                assert!(rt; out.taken.as_slice() == text.as_bytes(), "at {line}");
+            }
+        }
+    }
+    Ok(())
+}
+
+#[test]
+fn a_writer_that_takes_nothing_is_status_1(rt: HostRuntime) -> Result<(), Fail> {
+    for line in ["head 02012A00", "tlv 02012A00", "order 3000 1600"] {
+        let words = words_of(rt.alloc(), line)?;
+        for takes in [false, true] {
+            let mut out = Broken { takes };
+            assert_eq!(rt; run(rt.alloc(), &words, &mut out), 1, "at {line}, {takes}");
+        }
+    }
+    Ok(())
+}
+
+/// Counts the octets.
+#[derive(Drop)]
+pub struct Tally(pub usize);
+
+impl Output for Tally {
+    ghost contents = { λ _. None };
+
+    ghost reliable = { true };
+
+    fn put(&mut self, text: &str) -> io::Result<()> {
+        self.0 = self.0.saturating_add(text.len());
+        Ok(())
+    }
+}
+
+#[test]
+fn an_output_of_another_kind_serves(rt: HostRuntime) -> Result<(), Fail> {
+    for (line, status, text) in ROWS {
+        let words = words_of(rt.alloc(), line)?;
+        let mut out = Tally(0);
+        assert_eq!(rt; run(rt.alloc(), &words, &mut out), status, "at {line}");
+        assert_eq!(rt; out.0, text.len(), "at {line}");
+    }
+    Ok(())
+}
