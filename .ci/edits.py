@@ -12,8 +12,7 @@ src/reader/slice.rt, and is a list of edits of it:
     new: what stands in its place
     right: what could stand there rightly, and makes the same calls (only where `new:` adds one)
 
-A block has further functions, files and pairs where it needs them. A file of must-fail/ is one edit, with
-`file:`, `old:` and `new:` alone.
+A block has further functions, files and pairs where it needs them.
 """
 import collections
 import os
@@ -21,23 +20,21 @@ import re
 
 from checker import TOP, folder_of, give_up, text_of
 
-ONE = ("file", "old", "new")
-MANY = ("fn", "also", "weak", "right", *ONE)
+KEYS = ("fn", "also", "weak", "right", "file", "old", "new")
 
 
 class Edit:
     """What an edit changes, and which functions it makes wrong."""
 
-    def __init__(self, path, number, title, keys):
+    def __init__(self, path, number):
         self.at = f"{os.path.relpath(path, TOP)}:{number}"
-        self.title, self.keys = title, keys
         self.functions, self.weak, self.changes, self.rights = [], "", [], []
         self.also, self.named, self.file, self.old = {}, [], None, None
 
     def take(self, line):
         """Takes a line of the edit."""
         key, colon, rest = line.partition(":")
-        if not colon or key not in self.keys:
+        if not colon or key not in KEYS:
             self.refuse(f"has a line of no key: {line}")
         if not rest.startswith(" ") and (key != "new" or rest):
             self.refuse(f"has no blank behind a key's colon: {line}")
@@ -89,10 +86,10 @@ class Edit:
             self.refuse(f"has an old text without a new one: {self.old}")
         if not self.changes:
             self.refuse("changes nothing")
-        if "fn" in self.keys and not self.functions:
+        if not self.functions:
             self.refuse("names no function")
-        if "fn" in self.keys and not all(it.startswith("src/") for it, _, _ in self.changes):
-            self.refuse("changes more than sources: it is to be tried by itself, in must-fail/")
+        if not all(it.startswith("src/") for it, _, _ in self.changes):
+            self.refuse("changes more than sources")
         return self
 
     def adds_call(self):
@@ -140,7 +137,7 @@ def edits_of(path):
     edits = []
     for number, line in enumerate(text_of(path).split("\n"), 1):
         if line.startswith("# "):
-            edits.append(Edit(path, number, line[2:], MANY))
+            edits.append(Edit(path, number))
         elif line and not edits:
             give_up(f"{os.path.relpath(path, TOP)} does not begin with '# ' and a sentence")
         elif line:
@@ -154,15 +151,6 @@ def edits_of(path):
     return edits
 
 
-def edit_of(path):
-    """The edit of a file of must-fail/."""
-    edit = Edit(path, 1, "", ONE)
-    for line in text_of(path).split("\n"):
-        if line:
-            edit.take(line)
-    return edit.end()
-
-
 def files_of(folder, ending):
     """The files right in the folder, each of which has this ending."""
     for it in sorted(os.listdir(folder)):
@@ -170,12 +158,6 @@ def files_of(folder, ending):
         if not os.path.isfile(path) or not it.endswith(ending):
             give_up(f"{os.path.relpath(path, TOP)} is no file that ends in {ending}")
         yield path
-
-
-def one_by_one(name):
-    """The edits of the crate's must-fail/."""
-    folder = f"{folder_of(name)}/must-fail"
-    return [edit_of(it) for it in files_of(folder, ".edit")] if os.path.isdir(folder) else []
 
 
 def together(name):
