@@ -1,10 +1,11 @@
-//! Readers that tests read by, and what they look at in a reader.
+//! Readers that tests read by, what they read, and what they look at in a reader.
 ghost use Rattle.std.specs.Prelude.{◌≡◌, IfOk};
 ghost use Rattle.der_base.specs.declared.encoding_rules.EncodingRules.TheVariants.{Ber};
 ghost use Rattle.der_core.specs.SliceReader.{slice_state};
 
-use der::{EncodingRules, Error, Reader, SliceReader};
+use der::{Decode, DecodeBytes, EncodingRules, Error, Reader, SliceReader};
 use der_uses::reader::CopyingReader;
+use std::alloc::Global;
 
 /// A reader of these octets under the Distinguished Encoding Rules. What a contract says of a reader
 /// costs the checker seconds at each call, and few tests need it: so nothing is said here.
@@ -38,6 +39,17 @@ pub fn ber_unlent(octets: &[u8]) -> Result<CopyingReader<'_>, Error>
 {
     match ruled_reader(octets) {
         Ok(inner) => Ok(CopyingReader::new(inner)),
+        Err(error) => Err(error),
+    }
+}
+
+/// The value at the front of the octets, and how many octets are left behind it.
+pub fn front<'a, T: DecodeBytes<'a> + Decode<SliceReader<'a>, Error = Error>>(
+    alloc: Global,
+    bytes: &'a [u8],
+) -> Result<(T, usize), Error> {
+    match T::from_der_partial(alloc, bytes) {
+        Ok((value, rest)) => Ok((value, rest.len())),
         Err(error) => Err(error),
     }
 }

@@ -1,11 +1,11 @@
 //! Worked cases of reading and writing; what is expected is worked out by hand from X.690 and from
 //! the rules of refusals.
 use der::{
-    Decode, DecodeBytes, Error, ErrorKind, Header, Length, Octets, Reader, ReaderExt, SliceReader,
-    Tag, TagNumber, decode_header, decode_length,
+    Decode, Error, ErrorKind, Header, Length, Octets, Reader, ReaderExt, SliceReader, Tag,
+    TagNumber, decode_header, decode_length,
 };
 use der_fixtures::errors::{incomplete, trailing};
-use der_fixtures::readers::{Placed, der_reader, der_unlent};
+use der_fixtures::readers::{Placed, der_reader, der_unlent, front};
 use der_uses::reader::CopyingReader;
 use std::alloc::Global;
 use std::test::Fail;
@@ -24,17 +24,6 @@ mod unlent_parts;
 mod unlent_peeks;
 mod wrong;
 mod zeros;
-
-// The value at the front of the octets, and how many octets are left behind it.
-fn front<'a, T: DecodeBytes<'a> + Decode<SliceReader<'a>, Error = Error>>(
-    alloc: Global,
-    bytes: &'a [u8],
-) -> Result<(T, usize), Error> {
-    match T::from_der_partial(alloc, bytes) {
-        Ok((value, rest)) => Ok((value, rest.len())),
-        Err(error) => Err(error),
-    }
-}
 
 // What is said of a call costs the checker seconds in each test that makes it. Few tests need it, so
 // they make those that several make by functions of which nothing is said.

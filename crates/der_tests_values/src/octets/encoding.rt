@@ -3,6 +3,7 @@ use super::month::september;
 use super::*;
 use crate::checks::{holds, holds_at, same, same_at};
 use der::{Encode, SliceWriter, encode_tlv, encoded_len_tlv};
+use der_fixtures::readers::front;
 
 #[test]
 fn headers_as_octets(rt: HostRuntime) -> Result<(), Fail> {
