@@ -151,12 +151,12 @@ def edits_of(path):
     return edits
 
 
-def files_of(folder, ending):
-    """The files right in the folder, each of which has this ending."""
+def files_of(folder):
+    """The lists right in the folder, in which nothing else may stand."""
     for it in sorted(os.listdir(folder)):
         path = f"{folder}/{it}"
-        if not os.path.isfile(path) or not it.endswith(ending):
-            give_up(f"{os.path.relpath(path, TOP)} is no file that ends in {ending}")
+        if not os.path.isfile(path) or not it.endswith(".edits"):
+            give_up(f"{os.path.relpath(path, TOP)} is no file that ends in .edits")
         yield path
 
 
@@ -166,7 +166,7 @@ def together(name):
     for it in sorted(os.listdir(top)) if os.path.isdir(top) else []:
         if not os.path.isdir(f"{top}/{it}") or not it.isdecimal():
             give_up(f"{os.path.relpath(top, TOP)}/{it} is no folder that has a number as its name")
-        found[it] = [edit for path in files_of(f"{top}/{it}", ".edits") for edit in edits_of(path)]
+        found[it] = [edit for path in files_of(f"{top}/{it}") for edit in edits_of(path)]
         if not found[it]:
             give_up(f"{os.path.relpath(top, TOP)}/{it} has no edit")
         see_apart(found[it])
