@@ -1,5 +1,5 @@
 //! Decodes 16 MiB of OCTET STRINGs and UTF8Strings by the proved reader and by hand, and tells how
-//! long one takes each: borrowed, copied as a text, and joined of segments.
+//! long one takes each: borrowed, copied as a text, and joined of segments, flat and inside each other.
 mod common;
 
 use common::{INPUT_LEN, Numbers, Totals, measure, push_length, split_contents};
@@ -104,6 +104,39 @@ fn join_segments(bytes: &[u8]) -> Option<(Vec<u8>, &[u8])> {
     }
 }
 
+#[inline(never)]
+fn join_levels_by_hand(bytes: &[u8]) -> Totals {
+    let mut totals = Totals::default();
+    let mut rest = bytes;
+    while let Some(segments) = rest.strip_prefix(&SEGMENTS) {
+        let mut joined = Vec::new();
+        let Some(behind) = append_segments(segments, &mut joined) else {
+            return totals;
+        };
+        count(&mut totals, &black_box(joined));
+        rest = behind;
+    }
+    totals
+}
+
+/// Appends what the segments up to the end mark are joined to, those inside each other too, and
+/// gives the octets behind the mark. No octet is looked at twice.
+fn append_segments<'a>(bytes: &'a [u8], joined: &mut Vec<u8>) -> Option<&'a [u8]> {
+    let mut rest = bytes;
+    loop {
+        if let Some(behind) = rest.strip_prefix(&END_MARK) {
+            return Some(behind);
+        }
+        if let Some(inside) = rest.strip_prefix(&SEGMENTS) {
+            rest = append_segments(inside, joined)?;
+            continue;
+        }
+        let (contents, behind) = split_element(OCTET_STRING, rest)?;
+        joined.extend_from_slice(contents);
+        rest = behind;
+    }
+}
+
 fn push_element(out: &mut Vec<u8>, numbers: &mut Numbers, tag: u8, len: usize) {
     out.push(tag);
     push_length(out, len);
@@ -123,18 +156,22 @@ fn elements(tag: u8, bound: u64) -> (Vec<u8>, u64) {
     (out, count)
 }
 
-/// Strings of 16 segments each, likewise.
-fn segmented(bound: u64) -> (Vec<u8>, u64) {
+/// Strings of so many segments each, likewise, which stand inside so many levels.
+fn segmented(levels: usize, segments: usize, bound: u64) -> (Vec<u8>, u64) {
     let mut numbers = Numbers(0x9E37_79B9_7F4A_7C15);
     let mut out = Vec::with_capacity(INPUT_LEN + (1 << 16));
     let mut count = 0;
     while out.len() < INPUT_LEN {
-        out.extend_from_slice(&SEGMENTS);
-        for _ in 0..16 {
+        for _ in 0..levels {
+            out.extend_from_slice(&SEGMENTS);
+        }
+        for _ in 0..segments {
             let len = numbers.below(bound) as usize;
             push_element(&mut out, &mut numbers, OCTET_STRING, len);
         }
-        out.extend_from_slice(&END_MARK);
+        for _ in 0..levels {
+            out.extend_from_slice(&END_MARK);
+        }
         count += 1;
     }
     (out, count)
@@ -168,6 +205,11 @@ fn main() {
     tell("copied texts", &texts, proved_texts, copy_by_hand);
     for bound in [33, 2049] {
         let name = format!("16 segments of 0 to {} octets", bound - 1);
-        tell(&name, &segmented(bound), proved_joined, join_by_hand);
+        tell(&name, &segmented(1, 16, bound), proved_joined, join_by_hand);
+    }
+    for levels in [1, 4, 16, 64] {
+        let name = format!("1024 segments of 0 to 32 octets, inside {levels} levels");
+        let strings = segmented(levels, 1024, 33);
+        tell(&name, &strings, proved_joined, join_levels_by_hand);
     }
 }

@@ -10,7 +10,7 @@ use Rattle.std.specs.declared.cmp.Ordering.TheVariants.{Less, Equal, Greater}
 use Rattle.std.proofs.lemmas.Str.{IsUtf8-from_is_utf8}
 use Rattle.der.specs.Octets.{utf8_fault}
 use Rattle.der_base.specs.Order.{byte_order}
-use Rattle.der.specs.Compare.{counted_order}
+use Rattle.der.specs.OctetsOrder.{counted_order}
 
 -- the test fails on octets that are no UTF-8
 pub is_utf8_false : (octets : List ℕ) → (IsUtf8 octets → ⊥) → is_utf8 octets ≡ false

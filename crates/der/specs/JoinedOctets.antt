@@ -1,15 +1,16 @@
 -- An OCTET STRING whose segments are joined (X.690 8.7).
 use Rattle.std.specs.Prelude.{◌≡◌, ℕ, true, false, List, Result}
 use Rattle.std.proofs.Common.{arith, refl, sym, ◌∙◌}
-use Rattle.der_base.specs.Header.{Head}
+use Rattle.der_base.specs.HeaderGrammar.{Head}
 use Rattle.der_base.specs.declared.error.Error.{Error}
 use Rattle.der_base.specs.declared.tag.Tag.TheVariants.{OctetString}
 use Rattle.der_base.specs.declared.encoding_rules.EncodingRules.{EncodingRules}
+use Rattle.der_base.specs.declared.encoding_rules.EncodingRules.TheVariants.{Ber, Der}
 use Rattle.der_core.specs.Lawful.{IsLawful}
 use Rattle.der_core.specs.ReaderState.{ReaderState}
 use Rattle.der.specs.BytesOwned.{owned_octets}
 use Rattle.der.specs.Octets.{IsCounted}
-use Rattle.der.specs.Parts.{TakesParts, as_they_stand, as_segments, PartsAnswers}
+use Rattle.der.specs.Parts.{TakesParts, as_they_stand, as_segments, levels_inside, PartsAnswers}
 use Rattle.der.specs.declared.example.joined_octets.JoinedOctets.{JoinedOctets}
 
 abbrev pub joined_octets : JoinedOctets → List ℕ
@@ -22,6 +23,11 @@ TakesJoined v rules h octets =
 abbrev pub JoinedAnswers : Head → ReaderState → Result JoinedOctets Error → ReaderState → Type 0
 JoinedAnswers h s result t = PartsAnswers OctetString joined_octets h s result t
 
+-- how many levels of nesting the contents want: under DER they have no segments
+abbrev pub joined_levels : EncodingRules → ℕ
+joined_levels Ber = levels_inside
+joined_levels Der = 0
+
 -- a primitive header has no segments
 primitive_contents : {out octets : List ℕ} {rules : EncodingRules} {h : Head}
     → h.constructed ≡ false → TakesParts OctetString out rules h octets → out ≡ octets
@@ -31,7 +37,7 @@ primitive_contents bit (as_segments segments joined) =
 
 -- under DER its header is primitive, so it is read as it is written
 pub joined_lawful : IsLawful OctetString TakesJoined (λ v. IsCounted (joined_octets v))
-    joined_octets (λ _. 0)
+    joined_octets joined_levels
 joined_lawful =
     record {
       exact = λ octets v short.

@@ -1,19 +1,38 @@
 -- What joining segments answers.
-use Rattle.std.specs.Prelude.{◌≡◌, ◌≢◌, ℕ, ◌+◌, ◌-◌, ◌<◌, ◌≤◌, true, false, List, ◌++◌, length, take}
-use Rattle.der_base.specs.Scan.{BodyFault}
+use Rattle.std.specs.Prelude.{◌≡◌, ◌≢◌, ℕ, ◌+◌, ◌-◌, ◌<◌, ◌≤◌, ◌⊎◌, true, false, List, ◌++◌, length, take, Err}
+use Rattle.der_base.specs.Arithmetic.{sans_eoc}
+use Rattle.der_base.specs.ScanGrammar.{BodyFault}
 use Rattle.der_base.specs.Error.{at, error_of_kind, unexpected_tag}
 use Rattle.der_base.specs.Length.{number, is_indefinite, definite_length}
-use Rattle.der_base.specs.Header.{HeaderFault}
+use Rattle.der_base.specs.HeaderGrammar.{HeaderFault}
 use Rattle.der_base.specs.declared.length.Length.{Length}
 use Rattle.der_base.specs.declared.tag.Tag.{Tag}
 use Rattle.der_base.specs.declared.error.Error.{Error}
 use Rattle.der_base.specs.declared.error.ErrorKind.TheVariants.{IndefiniteLength, Noncanonical, OutOfMemory}
-use Rattle.der_core.specs.ReaderState.{ReaderState, rest, reader_position, advanced_state, stopped_state, Reads}
-use Rattle.der_core.specs.Reader.{VecRefused}
+use Rattle.der_base.specs.declared.encoding_rules.EncodingRules.{EncodingRules}
+use Rattle.der_base.specs.declared.encoding_rules.EncodingRules.TheVariants.{Ber, Der}
+use Rattle.der_core.specs.ReaderState.{ReaderState, rest, reader_position, advanced_state, nested_state, resumed_state, stopped_state, Reads}
+use Rattle.der_core.specs.Outcome.{Gives}
+use Rattle.der_core.specs.Reader.{VecRefused, enter_nested_outcome}
+use Rattle.der_core.specs.Nested.{CanNest}
 use Rattle.der_core.specs.Decode.{Passes, IsRefusedBy}
 use Rattle.der_core.specs.Header.{head_of, IsHeaderAhead}
 use Rattle.der_core.specs.declared.header.Header.{Header}
 use Rattle.der.specs.Joined.{Joined}
+
+-- how many levels of segments may be cut again: those that a BER reader can still enter, and none
+-- under DER
+abbrev pub levels_at : EncodingRules → ℕ → ℕ
+levels_at Ber depth = 64 - depth
+levels_at Der depth = 0
+
+abbrev pub levels_left : ReaderState → ℕ
+levels_left s = levels_at s.rules s.depth
+
+-- segments stand behind a length of either form under BER, and under DER behind one that was read
+-- in the indefinite form
+abbrev pub MayJoin : Length → EncodingRules → Type 0
+MayJoin l rules = (rules ≡ Ber) ⊎ (is_indefinite l ≡ true)
 
 -- n octets are there, and are appended
 pub record AppendsOctets (n : ℕ) (s : ReaderState) (old new : List ℕ) (t : ReaderState)
@@ -23,19 +42,19 @@ pub record AppendsOctets (n : ℕ) (s : ReaderState) (old new : List ℕ) (t : R
   pub leaves : t ≡ advanced_state s n
 
 -- segments are read, and what they are joined to is appended
-pub record AppendsJoined (tag : Tag) (s : ReaderState) (old new : List ℕ) (t : ReaderState)
-    : Type 0 where
+pub record AppendsJoined (tag : Tag) (levels : ℕ) (s : ReaderState) (old new : List ℕ)
+    (t : ReaderState) : Type 0 where
   pub octets : List ℕ
   pub out : List ℕ
   pub reads : Reads s t octets
-  pub joined : Joined tag octets out
+  pub joined : Joined tag levels octets out
   pub appended : new ≡ old ++ out
 
--- behind an indefinite length all that was left is joined, and the reader stands at the end
+-- all that was left is joined, and the reader stands at the end
 pub record JoinsAll (l : Length) (tag : Tag) (s : ReaderState) (out : List ℕ) (t : ReaderState)
     : Type 0 where
-  pub marked : is_indefinite l ≡ true
-  pub joined : Joined tag (rest s) out
+  pub may_join : MayJoin l s.rules
+  pub joined : Joined tag (levels_left s) (rest s) out
   pub leaves : t ≡ advanced_state s (length (rest s))
 
 -- the header of an element with this tag is read
@@ -43,41 +62,65 @@ pub record PassesTagged (tag : Tag) (h : Header) (s u : ReaderState) : Type 0 wh
   pub passes : Passes (IsHeaderAhead h) s u
   pub tagged : (head_of h).tag ≡ tag
 
--- behind a constructed header, which one of an indefinite length is (8.1.3.2): that is refused at
--- the position, and the reader has failed then; one of a definite length at the octet before, and
--- the reader is left as it is
-pub data RefusesConstructed (h : Header) (s : ReaderState) (e : Error) (t : ReaderState)
+-- the header of a segment is read, which under DER is primitive
+pub record PassesSegmentHeader (tag : Tag) (h : Header) (s u : ReaderState) : Type 0 where
+  pub passes : PassesTagged tag h s u
+  pub primitive : s.rules ≡ Der → (head_of h).constructed ≡ false
+
+-- a constructed header under DER is refused at the octet before the position; the reader is left as
+-- it is
+pub record RefusesConstructed (h : Header) (s : ReaderState) (e : Error) (t : ReaderState)
     : Type 0 where
-  of_indefinite_length : is_indefinite (head_of h).length ≡ true
-      → e ≡ at IndefiniteLength (reader_position s) → t ≡ stopped_state s s.position
-      → RefusesConstructed h s e t
-  of_definite_length : is_indefinite (head_of h).length ≡ false → (head_of h).constructed ≡ true
-      → e ≡ at (Noncanonical (head_of h).tag) (definite_length (s.position - 1)) → t ≡ s
-      → RefusesConstructed h s e t
+  pub under_der : s.rules ≡ Der
+  pub bit : (head_of h).constructed ≡ true
+  pub told : e ≡ at (Noncanonical (head_of h).tag) (definite_length (s.position - 1))
+  pub leaves : t ≡ s
 
--- a segment is refused: it has no header; it has another tag, and the reader stands behind its
--- header; it is constructed; or its octets are refused
-pub data RefusesSegment (tag : Tag) (s : ReaderState) (e : Error) (t : ReaderState) : Type 0 where
-  no_header : IsRefusedBy (HeaderFault BodyFault) s e t → RefusesSegment tag s e t
+-- the header of a segment is refused: there is none; it has another tag, and the reader stands
+-- behind it; or it is constructed, under DER
+pub data RefusesSegmentHeader (tag : Tag) (s : ReaderState) (e : Error) (t : ReaderState)
+    : Type 0 where
+  no_header : IsRefusedBy (HeaderFault BodyFault) s e t → RefusesSegmentHeader tag s e t
   other_tag : (h : Header) → Passes (IsHeaderAhead h) s t → (head_of h).tag ≢ tag
-      → e ≡ unexpected_tag tag (head_of h).tag → RefusesSegment tag s e t
+      → e ≡ unexpected_tag tag (head_of h).tag → RefusesSegmentHeader tag s e t
   constructed_segment : (h : Header) (u : ReaderState) → PassesTagged tag h s u
-      → RefusesConstructed h u e t → RefusesSegment tag s e t
-  no_octets : (h : Header) (u : ReaderState) → PassesTagged tag h s u
-      → (head_of h).constructed ≡ false → VecRefused (number (head_of h).length) u e t
-      → RefusesSegment tag s e t
+      → RefusesConstructed h u e t → RefusesSegmentHeader tag s e t
 
--- behind segments that were read and joined octets are left, and a segment is refused
-pub data RefusesSegments (tag : Tag) (s : ReaderState) (e : Error) (t : ReaderState) : Type 0 where
-  behind_segments : (u : ReaderState) (octets out : List ℕ) → Reads s u octets
-      → Joined tag octets out → u.position < u.end → RefusesSegment tag u e t
-      → RefusesSegments tag s e t
+-- how many octets of contents a header announces, without an end mark
+abbrev pub contents_number : Header → ℕ
+contents_number h = number (sans_eoc (head_of h).length)
 
--- the length is definite; memory of the length's number is refused; or a segment is
+mutual
+  -- a segment is refused: its header is; of a primitive one its octets are; a constructed one
+  -- cannot be entered; or inside it segments are refused, and the reader stands there, with the end
+  -- and the depth around it
+  pub data RefusesSegment (tag : Tag) : ReaderState → Error → ReaderState → Type 0 where
+    no_segment : {s t : ReaderState} {e : Error} → RefusesSegmentHeader tag s e t
+        → RefusesSegment tag s e t
+    no_octets : {s t : ReaderState} {e : Error} (h : Header) (u : ReaderState)
+        → PassesSegmentHeader tag h s u → (head_of h).constructed ≡ false
+        → VecRefused (number (head_of h).length) u e t → RefusesSegment tag s e t
+    not_entered : {s t : ReaderState} {e : Error} (h : Header) (u : ReaderState)
+        → PassesSegmentHeader tag h s u → (head_of h).constructed ≡ true
+        → Gives (enter_nested_outcome (contents_number h)) u (Err e) t → RefusesSegment tag s e t
+    refused_inside : {s t : ReaderState} {e : Error} (h : Header) (u v : ReaderState)
+        → PassesSegmentHeader tag h s u → (head_of h).constructed ≡ true
+        → CanNest u (contents_number h)
+        → RefusesSegments tag (nested_state u (contents_number h)) e v
+        → t ≡ resumed_state v u.end u.depth → RefusesSegment tag s e t
+
+  -- behind segments that were read and joined octets are left, and a segment is refused
+  pub data RefusesSegments (tag : Tag) : ReaderState → Error → ReaderState → Type 0 where
+    behind_segments : {s t : ReaderState} {e : Error} (u : ReaderState) (octets out : List ℕ)
+        → Reads s u octets → Joined tag (levels_left s) octets out → u.position < u.end
+        → RefusesSegment tag u e t → RefusesSegments tag s e t
+
+-- under DER the length is definite; memory of the length's number is refused; or a segment is
 pub data RefusesJoining (l : Length) (tag : Tag) (s : ReaderState) (e : Error) (t : ReaderState)
     : Type 0 where
-  definite_form : is_indefinite l ≡ false → e ≡ at IndefiniteLength (reader_position s)
-      → t ≡ stopped_state s s.position → RefusesJoining l tag s e t
-  no_memory : is_indefinite l ≡ true → e ≡ error_of_kind OutOfMemory → t ≡ s
+  definite_form : s.rules ≡ Der → is_indefinite l ≡ false
+      → e ≡ at IndefiniteLength (reader_position s) → t ≡ stopped_state s s.position
       → RefusesJoining l tag s e t
-  no_segments : is_indefinite l ≡ true → RefusesSegments tag s e t → RefusesJoining l tag s e t
+  no_memory : MayJoin l s.rules → e ≡ error_of_kind OutOfMemory → t ≡ s
+      → RefusesJoining l tag s e t
+  no_segments : MayJoin l s.rules → RefusesSegments tag s e t → RefusesJoining l tag s e t

@@ -1,7 +1,7 @@
 -- A month as one octet.
 use Rattle.std.specs.Prelude.{◌≡◌, ℕ, ◌<◌, List, [], ◌∷◌, Result, Ok, nat_lt, if◌then◌else◌}
 use Rattle.std.proofs.Common.{arith}
-use Rattle.der_base.specs.Header.{Head}
+use Rattle.der_base.specs.HeaderGrammar.{Head}
 use Rattle.der_base.specs.Length.{definite_length}
 use Rattle.der_base.specs.declared.length.Length.{Length}
 use Rattle.der_base.specs.declared.tag.Tag.TheVariants.{OctetString}

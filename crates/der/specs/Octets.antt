@@ -1,24 +1,26 @@
 -- Values whose contents are octets, or a text of them: which there are, and how they are read and
 -- written.
-use Rattle.std.specs.Prelude.{◌≡◌, ℕ, ◌^◌, ◌<◌, ◌⊎◌, true, List, length, drop, take, nat_lt, nat_le, Result, Ok, Err, IsOk, if◌then◌else◌}
+use Rattle.std.specs.Prelude.{◌≡◌, ℕ, ◌+◌, ◌^◌, ◌<◌, ◌≤◌, ◌⊎◌, Bool, true, false, List, length, drop, take, nat_lt, nat_le, Result, Ok, Err, IsOk, if◌then◌else◌}
 use Rattle.std.proofs.Common.{arith}
 use Rattle.std.specs.Str.{is_utf8}
 use Rattle.std.specs.Str.Lossy.{utf8_valid_len, utf8_error_len}
 use Rattle.std.specs.declared.str.Utf8Error.{Utf8Error}
-use Rattle.der_base.specs.Error.{error_of_kind, error_at_end}
-use Rattle.der_base.specs.Header.{Head}
+use Rattle.der_base.specs.Error.{at, error_of_kind, error_at_end, kind_of}
+use Rattle.der_base.specs.HeaderGrammar.{Head}
 use Rattle.der_base.specs.Length.{number, definite_length}
 use Rattle.der_base.specs.Tag.{label}
 use Rattle.der_base.specs.declared.tag.Tag.{Tag}
 use Rattle.der_base.specs.declared.length.Length.{Length}
 use Rattle.der_base.specs.declared.error.Error.{Error}
-use Rattle.der_base.specs.declared.error.ErrorKind.TheVariants.{Overflow, OutOfMemory, Utf8}
+use Rattle.der_base.specs.declared.error.ErrorKind.TheVariants.{Overflow, OutOfMemory, Reader, Utf8}
 use Rattle.der_base.specs.declared.encoding_rules.EncodingRules.{EncodingRules}
+use Rattle.der_core.specs.Decode.{is_out_of_memory_kind}
+use Rattle.der_core.specs.DecodeValue.{ContentsAhead, EndsOrLacks}
 use Rattle.der_core.specs.Encode.{WriterAnswer}
 use Rattle.der_core.specs.Lawful.{IsLawful}
 use Rattle.der_core.specs.Outcome.{Outcome, Gives, outcome_of, chained_outcome, map_ok}
 use Rattle.der_core.specs.Reader.{read_slice_outcome, VecMeets}
-use Rattle.der_core.specs.ReaderState.{ReaderState}
+use Rattle.der_core.specs.ReaderState.{ReaderState, reader_position}
 use Rattle.der_core.specs.Writer.{Writes, write_outcome}
 
 -- octets that a length can count
@@ -90,6 +92,19 @@ abbrev pub OwnedTextAnswers : {A : Type 0} → (A → List ℕ)
 OwnedTextAnswers octets_of h s result t =
     AnswersOrLacks (text_outcome (number h.length) s).answer (map_ok octets_of result)
     × (t ≡ (text_outcome (number h.length) s).after)
+
+-- a reliable reader ends where contents of so many octets are taken as a value, and no memory is
+-- taken
+abbrev pub EndsTaken : {A : Type 0} → (List ℕ → Type 0) → (A → List ℕ)
+    → Bool → Head → ReaderState → Result A Error → ReaderState → Type 0
+EndsTaken {A} IsKind octets_of reliable h s result t =
+    (v : A) → reliable ≡ true → ContentsAhead (TakesOctets IsKind octets_of v) h s
+    → s.depth + 0 ≤ 64
+    → EndsOrLacks (λ e. is_out_of_memory_kind (kind_of e)) false result t
+
+-- what is lent by a reader that cannot lend: nothing, and it stays
+abbrev pub unlent_outcome : ReaderState → Outcome (List ℕ)
+unlent_outcome s = outcome_of (Err (at Reader (reader_position s))) s
 
 -- a type with such a tag is read as it is written
 pub octets_lawful : {A : Type 0} (tag : Tag) (IsKind : List ℕ → Type 0) (octets_of : A → List ℕ)

@@ -1,31 +1,36 @@
 -- Contents that stand as they are or in segments.
 use Rattle.std.specs.Prelude.{◌≡◌, ℕ, ◌-◌, true, false, List, Result, Ok, Err}
 use Rattle.der_base.specs.Error.{at}
-use Rattle.der_base.specs.Header.{Head}
-use Rattle.der_base.specs.Length.{number, is_indefinite, definite_length}
+use Rattle.der_base.specs.HeaderGrammar.{Head}
+use Rattle.der_base.specs.Length.{number, definite_length}
 use Rattle.der_base.specs.declared.tag.Tag.{Tag}
 use Rattle.der_base.specs.declared.error.Error.{Error}
 use Rattle.der_base.specs.declared.error.ErrorKind.TheVariants.{Noncanonical}
 use Rattle.der_base.specs.declared.encoding_rules.EncodingRules.{EncodingRules}
-use Rattle.der_base.specs.declared.encoding_rules.EncodingRules.TheVariants.{Ber}
+use Rattle.der_base.specs.declared.encoding_rules.EncodingRules.TheVariants.{Ber, Der}
 use Rattle.der_core.specs.Outcome.{Gives}
 use Rattle.der_core.specs.Reader.{read_slice_outcome, VecRefused}
 use Rattle.der_core.specs.ReaderState.{ReaderState}
 use Rattle.der.specs.Joined.{Joined}
 use Rattle.der.specs.Joining.{JoinsAll, RefusesJoining}
 
--- behind a header stand segments (X.690 8.7.3): it is constructed, its length is indefinite, and
--- the rules are the Basic Encoding Rules
+-- behind a header stand segments (X.690 8.7.3): it is constructed, and the rules are the Basic
+-- Encoding Rules
 pub record HasSegments (h : Head) (rules : EncodingRules) : Type 0 where
   pub bit : h.constructed ≡ true
-  pub marked : is_indefinite h.length ≡ true
   pub ber : rules ≡ Ber
+
+-- how many levels of segments may be cut again inside contents: a reader of contents stands inside
+-- one part of 64 at least
+abbrev pub levels_inside : ℕ
+levels_inside = 63
 
 -- contents of a primitive header are taken as they stand, and segments as what they are joined to
 pub data TakesParts (tag : Tag) (out : List ℕ) (rules : EncodingRules) (h : Head)
     (octets : List ℕ) : Type 0 where
   as_they_stand : h.constructed ≡ false → out ≡ octets → TakesParts tag out rules h octets
-  as_segments : HasSegments h rules → Joined tag octets out → TakesParts tag out rules h octets
+  as_segments : HasSegments h rules → Joined tag levels_inside octets out
+      → TakesParts tag out rules h octets
 
 -- what is read so
 pub data ReadsParts (tag : Tag) (h : Head) (s : ReaderState) (out : List ℕ) (t : ReaderState)
@@ -34,15 +39,15 @@ pub data ReadsParts (tag : Tag) (h : Head) (s : ReaderState) (out : List ℕ) (t
       → Gives (read_slice_outcome (number h.length)) s (Ok out) t → ReadsParts tag h s out t
   reads_segments : HasSegments h s.rules → JoinsAll h.length tag s out t → ReadsParts tag h s out t
 
--- octets are refused, or segments are; or the header is constructed and has none, which is told at
--- its last octet, and no reader fails by it
+-- octets are refused, or segments are; or the header is constructed under DER, which is told at its
+-- last octet, and no reader fails by it
 pub data RefusesParts (tag : Tag) (h : Head) (s : ReaderState) (e : Error) (t : ReaderState)
     : Type 0 where
   no_octets : h.constructed ≡ false → VecRefused (number h.length) s e t
       → RefusesParts tag h s e t
   no_segments : HasSegments h s.rules → RefusesJoining h.length tag s e t
       → RefusesParts tag h s e t
-  not_in_segments : h.constructed ≡ true → (HasSegments h s.rules → ⊥)
+  not_in_segments : h.constructed ≡ true → s.rules ≡ Der
       → e ≡ at (Noncanonical h.tag) (definite_length (s.position - 1)) → t ≡ s
       → RefusesParts tag h s e t
 

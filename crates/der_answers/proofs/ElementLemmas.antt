@@ -1,18 +1,14 @@
 -- What the octets of a whole element say of the input.
 use Rattle.std.proofs.Common.{◌≡◌, ℕ, ◌+◌, ◌^◌, ◌<◌, ◌≤◌, if◌then◌else◌, Bool, true, Result, Ok, Err, IfOk, IfErr, List, length, take, refl, sym, ap, ◌∙◌, subst, ⊎_elim, arith}
 use Rattle.std.proofs.lemmas.Bool.{lt-ltb, le-ltb, cases_lt, lt-leb, le-leb}
-use Rattle.der_base.specs.Error.{error_of_kind, missing_refusal}
-use Rattle.der_base.specs.Length.{number}
-use Rattle.der_base.specs.Header.{Head, HeaderAhead}
-use Rattle.der_base.specs.declared.error.Error.{Error}
-use Rattle.der_base.specs.declared.error.ErrorKind.TheVariants.{Overflow}
-use Rattle.der_base.specs.declared.encoding_rules.EncodingRules.{EncodingRules}
-use Rattle.der_core.specs.ReaderState.{ReaderState, initial_state, rest, advanced_state}
-use Rattle.der_core.specs.Outcome.{outcome_of, map_ok, IsBinding}
-use Rattle.der_core.specs.Reader.{read_slice_outcome, short_outcome, tlv_outcome}
-use Rattle.der_core.specs.Header.{head_of}
-use Rattle.der_core.specs.Decode.{TlvAnswers}
-use Rattle.der_core.proofs.DecodeLemmas.{rest-beginning}
+use Rattle.der.specs.Prelude.{error_of_kind, number, Head, HeaderAhead, Error, EncodingRules, ReaderState, rest, map_ok, read_slice_outcome, head_of}
+use Rattle.der.specs.Error.{missing_refusal}
+use Rattle.der.specs.ErrorKinds.{Overflow}
+use Rattle.der.specs.ReaderState.{initial_state, advanced_state}
+use Rattle.der.specs.Outcome.{outcome_of, IsBinding}
+use Rattle.der.specs.Reader.{short_outcome, tlv_outcome}
+use Rattle.der.specs.Decode.{TlvAnswers}
+use Rattle.der.proofs.DecodeLemmas.{rest-beginning}
 use Rattle.der_answers.specs.Answer.{IsElement, NoElement}
 use Rattle.der_answers.proofs.HeaderLemmas.{fault_refused}
 

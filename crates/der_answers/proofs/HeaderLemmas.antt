@@ -1,16 +1,13 @@
 -- What a header that was read, or refused, says of the input.
 use Rattle.std.proofs.Common.{◌≡◌, ℕ, ◌+◌, ◌-◌, ◌^◌, ◌<◌, true, false, Ok, List, length, take, drop, ap, ◌∙◌, subst, inr, length-drop, arith}
 use Rattle.std.proofs.lemmas.List.{take_all}
-use Rattle.der_base.specs.Scan.{BodyFault}
-use Rattle.der_base.specs.Header.{HeaderAhead, HeaderFault}
-use Rattle.der_base.specs.declared.error.Error.{Error}
-use Rattle.der_base.specs.declared.encoding_rules.EncodingRules.{EncodingRules}
-use Rattle.der_core.specs.ReaderState.{ReaderState, initial_state, rest, advanced_state}
-use Rattle.der_core.specs.Reader.{remaining_answer}
-use Rattle.der_core.specs.Header.{head_of, IsHeaderAhead}
-use Rattle.der_core.specs.Decode.{Passes, IsRefusedBy}
-use Rattle.der_core.specs.declared.header.Header.{Header}
-use Rattle.der_core.proofs.DecodeLemmas.{rest-beginning, remaining_ok}
+use Rattle.der.specs.ScanGrammar.{BodyFault}
+use Rattle.der.specs.Prelude.{HeaderAhead, Error, EncodingRules, ReaderState, rest, head_of, IsHeaderAhead, Header}
+use Rattle.der.specs.HeaderGrammar.{HeaderFault}
+use Rattle.der.specs.ReaderState.{initial_state, advanced_state}
+use Rattle.der.specs.Reader.{remaining_answer}
+use Rattle.der.specs.Decode.{Passes, IsRefusedBy}
+use Rattle.der.proofs.DecodeLemmas.{rest-beginning, remaining_ok}
 use Rattle.der_answers.specs.Answer.{IsHeaderRead, IsRefusedFor}
 
 module _ (rules : EncodingRules) (octets : List ℕ) where

@@ -1,5 +1,6 @@
 pub mod WordLemmas
 pub mod TextLemmas
+pub mod JoinLemmas
 pub mod HeaderLemmas
 pub mod ElementLemmas
 pub mod WholeElementLemmas

@@ -1,28 +1,23 @@
 -- What is refused has a text.
 use Rattle.std.proofs.Common.{◌≡◌, ℕ, ◌+◌, ◌-◌, min, ◌++◌, ◌^◌, ◌==◌, nat_lt, List, length, [], ◌∷◌, Option, Some, refl, inl, inr}
 use Rattle.std.proofs.lemmas.Bool.{cases_Bool}
-use Rattle.der_base.specs.Length.{length_octets}
-use Rattle.der_base.specs.Scan.{NoBodyFault, passed_steps, ScanFault, BodyFault}
-use Rattle.der_base.specs.Header.{Head, LengthFault, HeaderFault}
-use Rattle.der_base.specs.Tag.{IdentifierFault}
-use Rattle.der_base.specs.Order.{byte_order}
-use Rattle.der_base.specs.Error.{kind_of, position_of, Refusal, refusal, missing_refusal}
-use Rattle.der_base.specs.Length.{number}
-use Rattle.der_base.specs.Text.{kind_text, position_text, error_text}
-use Rattle.der_base.specs.declared.error.Error.{Error}
-use Rattle.der_base.specs.declared.error.ErrorKind.{ErrorKind}
-use Rattle.der_base.specs.declared.encoding_rules.EncodingRules.{EncodingRules}
-use Rattle.der_base.specs.declared.encoding_rules.EncodingRules.TheVariants.{Der}
+use Rattle.der.specs.Prelude.{length_octets, Head, byte_order, kind_of, position_of, number, Error, EncodingRules, Der}
+use Rattle.der.specs.ScanGrammar.{NoBodyFault, passed_steps, ScanFault, BodyFault}
+use Rattle.der.specs.HeaderGrammar.{LengthFault, HeaderFault}
+use Rattle.der.specs.Tag.{IdentifierFault}
+use Rattle.der.specs.Error.{Refusal, refusal, missing_refusal}
+use Rattle.der.specs.Text.{kind_text, position_text, error_text}
+use Rattle.der.specs.ErrorKinds.{ErrorKind}
 use Rattle.der_answers.specs.Text.{header_lines, element_line, order_line}
 use Rattle.der_answers.specs.Answer.{IsHeaderRead, IsRefusedFor, TellsError, AnswersHead, IsElement, NoElement, AnswersTlv, IsWholeElement, NoWholeElement, NoPair, AnswersOrder}
 
-abbrev HasText : Option (List ℕ) → Type 0
+abbrev pub HasText : Option (List ℕ) → Type 0
 HasText printed = (text : List ℕ) × (printed ≡ Some text)
 
 error_text_of_kind : (e : Error) → HasText (kind_text (kind_of e)) → HasText (error_text e)
 error_text_of_kind e (t, is) = (t ++ position_text (position_of e), rw is refl)
 
-missing_printed : (expected actual p : ℕ) → HasText (error_text (missing_refusal expected actual p).error)
+pub missing_printed : (expected actual p : ℕ) → HasText (error_text (missing_refusal expected actual p).error)
 missing_printed expected actual p =
     elim (cases_Bool (nat_lt expected (2 ^ 32))) [
       | inl near ↦ rw near (_, refl)
@@ -70,7 +65,7 @@ scan_text {at = at} (ScanFault.short {id = id} n rest d small less) =
 body_text : BodyText BodyFault
 body_text at s r f = scan_text f.stops
 
-header_text : {rules : EncodingRules} {at : ℕ} {s : List ℕ} {r : Refusal} → HeaderFault BodyFault rules at s r → HasText (error_text r.error)
+pub header_text : {rules : EncodingRules} {at : ℕ} {s : List ℕ} {r : Refusal} → HeaderFault BodyFault rules at s r → HasText (error_text r.error)
 header_text (HeaderFault.no_identifier f) = identifier_text f
 header_text (HeaderFault.no_length i f) = length_text body_text (_, refl) f
 header_text (HeaderFault.primitive i l f) = (_, refl)

@@ -2,26 +2,18 @@
 use Rattle.std.proofs.Common.{◌≡◌, ℕ, ◌+◌, ◌-◌, ◌^◌, ◌<◌, ◌≤◌, ◌++◌, Bool, true, false, Result, Ok, Err, List, length, take, drop, refl, sym, ap, ◌∙◌, subst, inl, inr, take-take, length-drop, nat_lt, arith}
 use Rattle.std.proofs.lemmas.Bool.{lt-ltb, le-leb, cases_lt}
 use Rattle.std.proofs.lemmas.List.{take_all, drop_at}
-use Rattle.der_base.specs.Arithmetic.{sans_eoc}
-use Rattle.der_base.specs.Error.{error_of_kind, end_refusal}
-use Rattle.der_base.specs.Header.{Head, HeaderAhead, header_octets}
-use Rattle.der_base.specs.Length.{number, definite_length}
-use Rattle.der_base.specs.declared.error.Error.{Error}
-use Rattle.der_base.specs.declared.error.ErrorKind.TheVariants.{Overflow}
-use Rattle.der_base.specs.declared.length.Length.{Length}
-use Rattle.der_base.specs.declared.encoding_rules.EncodingRules.TheVariants.{Der}
-use Rattle.der_core.specs.Decode.{Passes}
-use Rattle.der_core.specs.Encode.{element_octets}
-use Rattle.der_core.specs.Header.{head_of, IsHeaderAhead}
-use Rattle.der_core.specs.Nested.{Closes, handed_on, left_over, whole, ClosesValue, part_refused, without_mark, with_mark, mark_refused, ValueAnswers, not_opened, opened}
-use Rattle.der_core.specs.Outcome.{Gives, map_ok}
-use Rattle.der_core.specs.Reader.{enter_nested_outcome, read_slice_outcome, finish_answer}
-use Rattle.der_core.specs.ReaderState.{ReaderState, initial_state, rest, advanced_state, nested_state}
-use Rattle.der_core.specs.declared.header.Header.{Header}
-use Rattle.der_core.proofs.ContentsLemmas.{closes_ok}
-use Rattle.der_core.proofs.DecodeLemmas.{rest-beginning}
-use Rattle.der_core.proofs.DerLemmas.{HeaderRead, header_read}
-use Rattle.der_core.proofs.WholeLemmas.{finish_ok, finishes}
+use Rattle.der.specs.Arithmetic.{sans_eoc}
+use Rattle.der.specs.Prelude.{error_of_kind, Head, HeaderAhead, header_octets, number, definite_length, Error, Length, Der, element_octets, head_of, IsHeaderAhead, Gives, map_ok, read_slice_outcome, ReaderState, rest, Header}
+use Rattle.der.specs.Error.{end_refusal}
+use Rattle.der.specs.ErrorKinds.{Overflow}
+use Rattle.der.specs.Decode.{Passes}
+use Rattle.der.specs.Nested.{Closes, handed_on, left_over, whole, ClosesValue, part_refused, without_mark, with_mark, mark_refused, ValueAnswers, not_opened, opened}
+use Rattle.der.specs.Reader.{enter_nested_outcome, finish_answer}
+use Rattle.der.specs.ReaderState.{initial_state, advanced_state, nested_state}
+use Rattle.der.proofs.ContentsLemmas.{closes_ok}
+use Rattle.der.proofs.DecodeLemmas.{rest-beginning}
+use Rattle.der.proofs.DerLemmas.{HeaderRead, header_read}
+use Rattle.der.proofs.WholeLemmas.{finish_ok, finishes}
 use Rattle.der_answers.specs.Answer.{IsWholeElement, NoWholeElement, trailing_error}
 
 -- behind so many of the octets

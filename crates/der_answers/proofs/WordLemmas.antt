@@ -1,9 +1,21 @@
 -- The words of a command.
-use Rattle.std.proofs.Common.{◌≡◌, ℕ, ◌<◌, ◌≤◌, List, [], ◌∷◌, map, length, get_or, codes, true, inl, inr, sym, ◌∙◌, arith}
+use Rattle.std.proofs.Common.{◌≡◌, ℕ, ◌<◌, ◌≤◌, List, [], ◌∷◌, map, length, get_or, codes, true, false, inl, inr, sym, ap, ◌∙◌, arith}
 use Rattle.std.proofs.lemmas.Slice.Eq.{bytes_eq-Decides}
 use Rattle.std.specs.Str.{bytes_eq}
-use Rattle.der_base.specs.declared.encoding_rules.EncodingRules.TheVariants.{Ber, Der}
-use Rattle.der_answers.specs.Command.{order_words, three, IsCommand, IsHex}
+use Rattle.der.specs.Prelude.{Ber, Der}
+use Rattle.der_answers.specs.Command.{order_words, join_words, two, three, IsCommand, IsHex}
+
+-- a list that a pattern of two items takes
+map_two : {A : Type 0} (f : A → List ℕ) (xs : List A) (a b : A) → 2 ≤ length xs → length xs < 3 → a ≡ get_or xs 0 a → b ≡ get_or xs 1 b → map f xs ≡ two (f a) (f b)
+map_two f [] a b l m p q = grind arith
+map_two f (x ∷ []) a b l m p q = grind arith
+map_two f (x ∷ y ∷ []) a b l m p q = grind arith
+map_two f (x ∷ y ∷ z ∷ more) a b l m p q = grind arith
+
+-- the words of such a list, by what each of its items says
+pub two_words : {A : Type 0} (f : A → List ℕ) (xs : List A) (a b : A) (first second : List ℕ) → 2 ≤ length xs → length xs < 3 → a ≡ get_or xs 0 a → b ≡ get_or xs 1 b → first ≡ f a → second ≡ f b
+    → map f xs ≡ two first second
+two_words f xs a b first second l m p q r s = map_two f xs a b l m p q ∙ cc
 
 -- a list that a pattern of three items takes
 map_three : {A : Type 0} (f : A → List ℕ) (xs : List A) (a b c : A) → 3 ≤ length xs → length xs < 4 → a ≡ get_or xs 0 a → b ≡ get_or xs 1 b → c ≡ get_or xs 2 c
@@ -30,4 +42,19 @@ pub command_with_order : (first second : List ℕ) → IsCommand (order_words fi
 command_with_order first second (inl (Der, n, h, named, digits, is)) = absurd (grind arith)
 command_with_order first second (inl (Ber, n, h, inl named, digits, is)) = absurd (let is_order : n ≡ codes "order" = grind arith in let no : codes "head" ≡ codes "order" = sym named ∙ is_order in cc)
 command_with_order first second (inl (Ber, n, h, inr named, digits, is)) = absurd (let is_order : n ≡ codes "order" = grind arith in let no : codes "tlv" ≡ codes "order" = sym named ∙ is_order in cc)
-command_with_order first second (inr (one, other, digits, more, is)) = grind arith
+command_with_order first second (inr (inl (one, other, digits, more, is))) = grind arith
+command_with_order first second (inr (inr (hex, digits, is))) = absurd (grind arith)
+
+-- the word `join` and another
+pub words_with_join : (name hex : List ℕ) → true ≡ bytes_eq name (codes "join") → two name hex ≡ join_words hex
+words_with_join name hex e =
+    let s : name ≡ codes "join" = (bytes_eq-Decides name (codes "join")).0 (sym e) in
+    cc
+
+-- such words are a command only by this text
+pub command_with_join : (hex : List ℕ) → IsCommand (join_words hex) → IsHex hex
+command_with_join hex (inl (Ber, n, h, named, digits, is)) = absurd (grind arith)
+command_with_join hex (inl (Der, n, h, inl named, digits, is)) = absurd (let is_join : n ≡ codes "join" = grind arith in let no : true ≡ false = ap (bytes_eq (codes "head")) (sym named ∙ is_join) in cc)
+command_with_join hex (inl (Der, n, h, inr named, digits, is)) = absurd (let is_join : n ≡ codes "join" = grind arith in let no : true ≡ false = ap (bytes_eq (codes "tlv")) (sym named ∙ is_join) in cc)
+command_with_join hex (inr (inl (one, other, digits, more, is))) = absurd (grind arith)
+command_with_join hex (inr (inr (text, digits, is))) = grind arith

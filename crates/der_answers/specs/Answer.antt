@@ -1,21 +1,21 @@
 -- What the program may say to its words.
-use Rattle.std.specs.Prelude.{◌≡◌, ℕ, ◌+◌, ◌-◌, ◌^◌, ◌<◌, ◌≤◌, ◌⊎◌, List, length, take, drop, codes, Option, Some, Ok, string_bytes}
+use Rattle.std.specs.Prelude.{◌≡◌, ℕ, ◌+◌, ◌-◌, ◌^◌, ◌<◌, ◌≤◌, ◌⊎◌, List, length, take, drop, codes, Option, Some, Ok, Err, string_bytes}
 use Rattle.std.specs.Io.KnownBytes.{Appends}
 use Rattle.hex.specs.Hex.{decode_of}
-use Rattle.der_base.specs.Scan.{BodyFault}
-use Rattle.der_base.specs.Header.{Head, HeaderAhead, HeaderFault}
-use Rattle.der_base.specs.Length.{number, definite_length}
-use Rattle.der_base.specs.Order.{byte_order}
-use Rattle.der_base.specs.Error.{at, error_of_kind, Refusal, missing_refusal, end_refusal}
-use Rattle.der_base.specs.Text.{error_text}
-use Rattle.der_base.specs.declared.error.Error.{Error}
-use Rattle.der_base.specs.declared.error.ErrorKind.TheVariants.{Overflow, TrailingData}
-use Rattle.der_base.specs.declared.encoding_rules.EncodingRules.{EncodingRules}
-use Rattle.der_base.specs.declared.encoding_rules.EncodingRules.TheVariants.{Der}
+use Rattle.der.specs.ScanGrammar.{BodyFault}
+use Rattle.der.specs.Prelude.{Head, HeaderAhead, number, definite_length, byte_order, at, error_of_kind, Error, EncodingRules, Ber, Der, OctetString, ElementAhead, ElementRead}
+use Rattle.der.specs.HeaderGrammar.{HeaderFault}
+use Rattle.der.specs.Error.{Refusal, missing_refusal, end_refusal}
+use Rattle.der.specs.Text.{error_text}
+use Rattle.der.specs.ErrorKinds.{Overflow, TrailingData}
+use Rattle.der.specs.Decode.{Whole, WholeAnswer}
+use Rattle.der.specs.JoinedOctets.{JoinedAnswers}
+use Rattle.der.specs.Parts.{TakesParts}
+use Rattle.der.specs.declared.example.joined_octets.JoinedOctets.{JoinedOctets}
 use Rattle.der_answers.specs.Command.{IsCommand, words_of}
-use Rattle.der_answers.specs.Text.{usage_line, error_line, header_lines, element_line, order_line}
+use Rattle.der_answers.specs.Text.{usage_line, error_line, header_lines, octets_line, element_line, order_line}
 use Rattle.der_answers.specs.declared.command.Command.{Command}
-use Rattle.der_answers.specs.declared.command.Command.TheVariants.{Head as HeadOf, Tlv as TlvOf, Order as OrderOf}
+use Rattle.der_answers.specs.declared.command.Command.TheVariants.{Head as HeadOf, Tlv as TlvOf, Order as OrderOf, Join as JoinOf}
 use Rattle.der_answers.specs.declared.answer.Answer.{Answer}
 use Rattle.der_answers.specs.declared.answer.Answer.TheVariants as answer
 
@@ -87,6 +87,23 @@ pub data NoPair (first second : List ℕ) (e : Error) : Type 0 where
   first_refused : NoWholeElement first e → NoPair first second e
   second_refused : IsWholeElement first → NoWholeElement second e → NoPair first second e
 
+-- as many octets as a length can count are wholly an OCTET STRING under BER, and these are its
+-- contents, or what the segments there are joined to (X.690 8.7)
+pub record IsJoined (octets out : List ℕ) : Type 0 where
+  pub countable : length octets < 2 ^ 32
+  pub whole : Whole (ElementAhead OctetString (TakesParts OctetString) out) Ber octets
+
+-- an error that is handed on as it is
+abbrev pub HandsOn : Error → Error → Type 0
+HandsOn given e = e ≡ given
+
+-- the octets are none; the error is that of the first step of decoding which fails, or that memory
+-- was refused
+abbrev pub NotJoined : List ℕ → Error → Type 0
+NotJoined octets e =
+    WholeAnswer {A = JoinedOctets} Ber (ElementRead OctetString HandsOn JoinedAnswers) HandsOn
+    octets (Err e)
+
 -- the lines tell the header that the octets begin with
 pub record Tells (rules : EncodingRules) (octets text : List ℕ) : Type 0 where
   pub head : Head
@@ -134,6 +151,17 @@ pub data AnswersOrder (first second : List ℕ) : ℕ → List ℕ → Type 0 wh
   told : {text : List ℕ} → TellsOrder first second text → AnswersOrder first second 0 text
   refused : {text : List ℕ} → Refuses (NoPair first second) text → AnswersOrder first second 1 text
 
+-- the line tells what the octets are joined to
+pub record TellsJoined (octets text : List ℕ) : Type 0 where
+  pub out : List ℕ
+  pub read : IsJoined octets out
+  pub line : text ≡ octets_line out
+
+-- what `join` says to octets: a status and a text
+pub data AnswersJoin (octets : List ℕ) : ℕ → List ℕ → Type 0 where
+  told : {text : List ℕ} → TellsJoined octets text → AnswersJoin octets 0 text
+  refused : {text : List ℕ} → Refuses (NotJoined octets) text → AnswersJoin octets 1 text
+
 -- this is answered to the octets that a text spells
 pub record ToSpelled (hex : List ℕ) (AnswersTo : List ℕ → Type 0) : Type 0 where
   pub octets : List ℕ
@@ -148,6 +176,7 @@ Fulfils (TlvOf rules hex) status text =
     ToSpelled hex.now (λ octets. AnswersTlv rules octets status text)
 Fulfils (OrderOf first second) status text =
     ToSpelled first.now (λ one. ToSpelled second.now (λ other. AnswersOrder one other status text))
+Fulfils (JoinOf hex) status text = ToSpelled hex.now (λ octets. AnswersJoin octets status text)
 
 -- what the program may say to its words
 pub data Answers (words : List (List ℕ)) : ℕ → List ℕ → Type 0 where

@@ -3,12 +3,12 @@ use Rattle.std.specs.Prelude.{ℕ, Bool, List, [], ◌∷◌, ◌++◌, codes, i
 use Rattle.std.specs.declared.cmp.Ordering.{Ordering}
 use Rattle.std.specs.declared.cmp.Ordering.TheVariants.{Less, Equal, Greater}
 use Rattle.hex.specs.Hex.{encode_lower}
-use Rattle.der_base.specs.Header.{Head}
-use Rattle.der_base.specs.Length.{is_indefinite}
-use Rattle.der_base.specs.Text.{tag_text, length_text}
+use Rattle.der.specs.Prelude.{Head, is_indefinite}
+use Rattle.der.specs.Text.{tag_text, length_text}
 
 abbrev pub usage_line : List ℕ
-usage_line = codes "usage: der_tool head [--ber] HEX | tlv [--ber] HEX | order HEX HEX\n"
+usage_line =
+    codes "usage: der_tool head [--ber] HEX | tlv [--ber] HEX | order HEX HEX | join HEX\n"
 
 abbrev pub error_line : List ℕ → List ℕ
 error_line reason = codes "error: " ++ reason ++ codes "\n"
@@ -24,6 +24,10 @@ indefinite_mark b = if b then codes " indefinite" else []
 abbrev pub octets_text : List ℕ → List ℕ
 octets_text [] = codes "-"
 octets_text (o ∷ os) = encode_lower (o ∷ os)
+
+-- a line of octets
+abbrev pub octets_line : List ℕ → List ℕ
+octets_line octets = octets_text octets ++ codes "\n"
 
 -- an element in lower case hexadecimal
 abbrev pub element_line : List ℕ → List ℕ

@@ -8,7 +8,7 @@ use std::alloc::{AllocError, Allocator};
 /// What the program says, and how it ends.
 #[derive(Drop)]
 pub enum Answer<A: Allocator> {
-    /// What the octets begin with, or how they stand to others, as these lines.
+    /// What the octets begin with or are joined to, or how they stand to others, as these lines.
     Told(String<A>),
     /// The octets are refused, for the reason that this line gives.
     Refused(String<A>),
@@ -40,7 +40,9 @@ impl<A: Allocator> Answer<A> {
             Answer::Told(lines) => lines,
             Answer::Refused(line) => line,
             Answer::OutOfMemory => "error: out of memory\n",
-            Answer::Usage => "usage: der_tool head [--ber] HEX | tlv [--ber] HEX | order HEX HEX\n",
+            Answer::Usage => {
+                "usage: der_tool head [--ber] HEX | tlv [--ber] HEX | order HEX HEX | join HEX\n"
+            }
         }
     }
 }

@@ -13,10 +13,12 @@ pub enum Command<'a> {
     Tlv { rules: EncodingRules, hex: &'a str },
     /// `order HEX HEX`: how two whole elements stand to each other.
     Order { first: &'a str, second: &'a str },
+    /// `join HEX`: what the segments of a whole element are joined to.
+    Join { hex: &'a str },
 }
 
 impl<'a> Command<'a> {
-    ghost use Rattle.der_answers.specs.Command.{words_of, words_under, order_words, three, SpellsOctets};
+    ghost use Rattle.der_answers.specs.Command.{words_of, words_under, order_words, join_words, two, three, SpellsOctets};
 
     /// The command, if the words are one.
     pub fn parse(words: &'a [String]) -> Option<Self>
@@ -25,9 +27,22 @@ impl<'a> Command<'a> {
         ensures digits { IfSome result SpellsOctets }
     {
         match words {
-            [name, hex] => Command::named(name, EncodingRules::Der, hex),
+            [name, hex] => Command::of_two(name, hex),
             [first, second, third] => Command::of_three(first, second, third),
             _ => None,
+        }
+    }
+
+    /// The command of these two words, if they are one.
+    fn of_two(name: &str, hex: &'a str) -> Option<Self>
+        ensures found { IsSome result ↔ IsCommand (two name.now hex.now) }
+        ensures words { IfSome result (λ c. two name.now hex.now ≡ words_of c) }
+        ensures digits { IfSome result SpellsOctets }
+    {
+        if name == "join" {
+            Command::joining(hex)
+        } else {
+            Command::named(name, EncodingRules::Der, hex)
         }
     }
 
@@ -67,6 +82,19 @@ impl<'a> Command<'a> {
     {
         if is_hex(first) && is_hex(second) {
             Some(Command::Order { first, second })
+        } else {
+            None
+        }
+    }
+
+    /// The command `join` of this text, if it spells octets.
+    fn joining(hex: &'a str) -> Option<Self>
+        ensures found { IsSome result ↔ IsHex hex.now }
+        ensures words { IfSome result (λ c. join_words hex.now ≡ words_of c) }
+        ensures digits { IfSome result SpellsOctets }
+    {
+        if is_hex(hex) {
+            Some(Command::Join { hex })
         } else {
             None
         }

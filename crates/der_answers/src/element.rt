@@ -1,14 +1,9 @@
 //! Elements under DER.
 ghost use Rattle.std.specs.Prelude.{◌≡◌, IfOk, IfErr};
 ghost use Rattle.std.proofs.Common.{refl};
-ghost use Rattle.der_core.specs.Encode.{element_octets};
-ghost use Rattle.der_core.specs.Outcome.{Gives, map_ok};
-ghost use Rattle.der_core.specs.Reader.{read_slice_outcome};
-ghost use Rattle.der_core.specs.ReaderState.{Same};
-ghost use Rattle.der_core.specs.SliceReader.{slice_state};
-ghost use Rattle.der_base.specs.Length.{number};
+ghost use Rattle.der.specs.Prelude.{element_octets, Gives, map_ok, read_slice_outcome, Same, slice_state, number};
 ghost use Rattle.der.specs.BytesRef.{reference_octets};
-ghost use Rattle.der.specs.Compare.{octets_order};
+ghost use Rattle.der.specs.OctetsOrder.{octets_order};
 ghost use Rattle.der.specs.Octets.{IsCounted, octets_size, WritesOctets};
 ghost use Rattle.der_answers.specs.Answer.{IsWholeElement, NoWholeElement};
 ghost use Rattle.der_answers.specs.Element.{contents_of};

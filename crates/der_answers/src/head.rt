@@ -1,6 +1,6 @@
 //! The command `head`.
 ghost use Rattle.std.specs.Prelude.{◌≡◌, IfOk, IfErr, string_bytes};
-ghost use Rattle.der_core.specs.Header.{head_of};
+ghost use Rattle.der.specs.Prelude.{head_of};
 ghost use Rattle.der_answers.specs.Text as text;
 ghost use Rattle.der_answers.specs.Answer.{AnswersHead, IsHeaderRead, IsRefusedFor, status_of, text_of};
 
@@ -65,7 +65,7 @@ fn indefinite_mark(indefinite: bool) -> &'static str
 }
 
 /// The octets in lower case hexadecimal, or a dash for none.
-fn octets_text<A: Allocator>(alloc: A, octets: &[u8]) -> Result<String<A>, AllocError>
+pub fn octets_text<A: Allocator>(alloc: A, octets: &[u8]) -> Result<String<A>, AllocError>
     ensures { IfOk result (λ s. string_bytes s ≡ text.octets_text octets.now) }
 {
     if octets.is_empty() {

@@ -1,5 +1,6 @@
 //! What the program `der_tool` answers its words: the header, or the whole element, at the front of
-//! DER or BER octets that are given as hexadecimal text, or the order of two elements.
+//! DER or BER octets that are given as hexadecimal text, the order of two elements, or what the
+//! segments of one are joined to.
 #![tactic(auto)]
 
 mod answer;
@@ -7,6 +8,7 @@ mod arguments;
 mod command;
 mod element;
 mod head;
+mod join;
 mod order;
 mod output;
 mod program;

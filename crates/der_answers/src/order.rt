@@ -1,6 +1,6 @@
 //! The command `order`.
 ghost use Rattle.std.specs.Prelude.{◌≡◌, IfOk, IfErr};
-ghost use Rattle.der_base.specs.Order.{byte_order};
+ghost use Rattle.der.specs.Prelude.{byte_order};
 ghost use Rattle.der_answers.specs.Text as text;
 ghost use Rattle.der_answers.specs.Answer.{AnswersOrder, IsWholeElement, NoPair, status_of, text_of};
 

@@ -8,6 +8,7 @@ ghost use Rattle.der_answers.specs.Answer.{Answers, Fulfils, WritesAnswer, statu
 use crate::answer::Answer;
 use crate::command::Command;
 use crate::head::answer_head;
+use crate::join::answer_join;
 use crate::order::answer_order;
 use crate::output::Output;
 use crate::tlv::answer_tlv;
@@ -24,13 +25,14 @@ pub fn run<W: Output>(alloc: Global, words: &[String], out: &mut W) -> u8
     ensures exact { W.reliable ≡ true
         → WritesAnswer (texts words.now) result (W.contents out.old) (W.contents out.new) }
 {
-    respond(alloc, words, out).unwrap_or(1)
+    respond(alloc, alloc, words, out).unwrap_or(1)
 }
 
 /// Answers the words on the output, which is called only when no memory is asked for any more; an
 /// error is the output's. The octets and lines are in memory of `alloc`, so that a test can refuse
-/// it.
+/// it; but segments are joined in memory of `global`, as the library joins them.
 pub fn respond<A: Allocator + Copy, W: Output>(
+    global: Global,
     alloc: A,
     words: &[String],
     out: &mut W,
@@ -39,7 +41,7 @@ pub fn respond<A: Allocator + Copy, W: Output>(
         WritesAnswer (texts words.now) status (W.contents out.old) (W.contents out.new)) }
     ensures succeeds { W.reliable ≡ true → IsOk result }
 {
-    say(&answer(alloc, words), out)
+    say(&answer(global, alloc, words), out)
 }
 
 /// Puts the answer out, and gives its status.
@@ -54,18 +56,22 @@ pub fn say<A: Allocator, W: Output>(answer: &Answer<A>, out: &mut W) -> io::Resu
 }
 
 /// What the program says to the words.
-fn answer<A: Allocator + Copy>(alloc: A, words: &[String]) -> Answer<A>
+fn answer<A: Allocator + Copy>(global: Global, alloc: A, words: &[String]) -> Answer<A>
     ensures { Answers (texts words.now) (status_of result) (text_of result) }
 {
     match Command::parse(words) {
-        Some(command) => fulfil(alloc, command).unwrap_or(Answer::OutOfMemory),
+        Some(command) => fulfil(global, alloc, command).unwrap_or(Answer::OutOfMemory),
         None => Answer::Usage,
     }
 }
 
 /// What the command is answered. Each of its texts is an even number of hexadecimal digits, so that
 /// only want of memory keeps the octets that it spells from being read.
-fn fulfil<A: Allocator + Copy>(alloc: A, command: Command<'_>) -> Result<Answer<A>, AllocError>
+fn fulfil<A: Allocator + Copy>(
+    global: Global,
+    alloc: A,
+    command: Command<'_>,
+) -> Result<Answer<A>, AllocError>
     requires { SpellsOctets command }
     ensures { IfOk result (λ a. Fulfils command.entry (status_of a) (text_of a)) }
 {
@@ -77,6 +83,7 @@ fn fulfil<A: Allocator + Copy>(alloc: A, command: Command<'_>) -> Result<Answer<
             let second = octets_of(alloc, second)?;
             answer_order(alloc, &first, &second)
         }
+        Command::Join { hex } => answer_join(global, alloc, &octets_of(alloc, hex)?),
     }
 }
 

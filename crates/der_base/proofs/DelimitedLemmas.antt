@@ -1,7 +1,7 @@
 -- Octets of tags, lengths, headers and elements can be told apart where they are joined.
 use Rattle.std.proofs.Common.{◌≡◌, ◌≢◌, ℕ, ◌≤◌, List, [], ◌∷◌, ◌++◌, length, sym, ap, ◌∙◌, subst, append_assoc, arith}
 use Rattle.std.specs.Ordering.{ordering_then}
-use Rattle.der_base.specs.Header.{Head, header_octets}
+use Rattle.der_base.specs.HeaderGrammar.{Head, header_octets}
 use Rattle.der_base.specs.Length.{number, length_octets}
 use Rattle.der_base.specs.Order.{byte_order, AreApart, AreDelimited}
 use Rattle.der_base.specs.Tag.{tag_octets}

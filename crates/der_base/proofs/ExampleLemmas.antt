@@ -4,7 +4,7 @@ use Rattle.std.proofs.lemmas.List.{replicate-append-replicate}
 use Rattle.der_base.specs.Tag.{IsIdentifier, of_tag, of_segments}
 use Rattle.der_base.specs.Body.{Item, Body, Open, definite, indefinite, ends, more, first, none}
 use Rattle.der_base.specs.Error.{refusal}
-use Rattle.der_base.specs.Scan.{BodyFault, too_deep}
+use Rattle.der_base.specs.ScanGrammar.{BodyFault, too_deep}
 use Rattle.der_base.specs.Laws.{ExamplesOfParts, nested_openings}
 use Rattle.der_base.specs.declared.tag.Tag.TheVariants.{Null, OctetString, Sequence}
 use Rattle.der_base.specs.declared.error.ErrorKind.TheVariants.{NestingDepth}

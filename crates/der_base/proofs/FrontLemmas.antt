@@ -7,7 +7,7 @@ use Rattle.std.specs.Int.Digits.{number_from_digits, AllBelowBase}
 use Rattle.der_base.specs.Length.{length_octets}
 use Rattle.der_base.specs.Tag.{universal_tag, IsIdentifier, IdentifierFault}
 use Rattle.der_base.specs.Error.{Refusal, refusal}
-use Rattle.der_base.specs.Header.{LengthFault, nothing, far, longer}
+use Rattle.der_base.specs.HeaderGrammar.{LengthFault, nothing, far, longer}
 use Rattle.der_base.specs.declared.tag.Tag.{Tag}
 use Rattle.der_base.specs.declared.error.ErrorKind.{ErrorKind}
 use Rattle.der_base.specs.declared.encoding_rules.EncodingRules.{EncodingRules}

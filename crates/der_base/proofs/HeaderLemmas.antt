@@ -5,7 +5,7 @@ use Rattle.der_base.specs.Length.{is_indefinite, definite_length, indefinite_len
 use Rattle.der_base.specs.Tag.{IsIdentifier, IdentifierFault}
 use Rattle.der_base.specs.Body.{Body}
 use Rattle.der_base.specs.Error.{Refusal, refusal}
-use Rattle.der_base.specs.Header.{header_octets, IdentifierAhead, identifier, TagAhead, LengthAhead, definite, indefinite, Head, head, HeaderAhead, header, LengthFault, HeaderFault, no_identifier, no_length, primitive}
+use Rattle.der_base.specs.HeaderGrammar.{header_octets, IdentifierAhead, identifier, TagAhead, LengthAhead, definite, indefinite, Head, head, HeaderAhead, header, LengthFault, HeaderFault, no_identifier, no_length, primitive}
 use Rattle.der_base.specs.Laws.{IsGrammar, IsBodyFault}
 use Rattle.der_base.specs.declared.length.Length.{Length}
 use Rattle.der_base.specs.declared.tag.Tag.{Tag}

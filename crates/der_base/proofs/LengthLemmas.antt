@@ -6,7 +6,7 @@ use Rattle.std.specs.Int.Digits.{digits_of, number_from_digits, AllBelowBase}
 use Rattle.der_base.specs.Length.{definite_length, digits, length_octets}
 use Rattle.der_base.specs.Error.{Refusal, refusal, end_refusal}
 use Rattle.der_base.specs.Body.{Body}
-use Rattle.der_base.specs.Header.{LengthAhead, definite, LengthFault, nothing, few, far, longer, indefinite_form, no_body}
+use Rattle.der_base.specs.HeaderGrammar.{LengthAhead, definite, LengthFault, nothing, few, far, longer, indefinite_form, no_body}
 use Rattle.der_base.specs.Laws.{IsBodyFault}
 use Rattle.der_base.specs.declared.error.ErrorKind.{ErrorKind}
 use Rattle.der_base.specs.declared.encoding_rules.EncodingRules.{EncodingRules}

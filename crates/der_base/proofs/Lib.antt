@@ -1,5 +1,5 @@
 pub mod BodyLemmas
-pub mod CompareLemmas
+pub mod DerivedOrderLemmas
 pub mod CountLemmas
 pub mod DelimitedLemmas
 pub mod DigitLemmas

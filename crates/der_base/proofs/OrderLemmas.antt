@@ -13,7 +13,7 @@ use Rattle.std.specs.declared.cmp.Ordering.TheVariants.{Less, Equal, Greater}
 use Rattle.der_base.specs.Length.{length_octets}
 use Rattle.der_base.specs.Tag.{tag_octets}
 use Rattle.der_base.specs.Order.{IsBefore, begins, differs, byte_order, AreApart}
-use Rattle.der_base.specs.Header.{header_octets}
+use Rattle.der_base.specs.HeaderGrammar.{header_octets}
 use Rattle.der_base.specs.declared.tag.Tag.{Tag}
 use Rattle.der_base.proofs.DigitLemmas.{digits_positive}
 use Rattle.der_base.proofs.LengthLemmas.{length_small, length_large}

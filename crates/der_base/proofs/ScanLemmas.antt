@@ -5,9 +5,9 @@ use Rattle.der_base.specs.Length.{length_octets, indefinite_length}
 use Rattle.der_base.specs.Tag.{IsIdentifier, IsCutIdentifier, IdentifierFault, cut, refused}
 use Rattle.der_base.specs.Body.{Body, ends, more, definite, indefinite}
 use Rattle.der_base.specs.Error.{Refusal, refusal, end_refusal}
-use Rattle.der_base.specs.Header.{LengthFault, nothing as no_octet, few, far, longer, indefinite_form, no_body}
+use Rattle.der_base.specs.HeaderGrammar.{LengthFault, nothing as no_octet, few, far, longer, indefinite_form, no_body}
 use Rattle.der_base.specs.Laws.{IsBodyFault, IsGrammar}
-use Rattle.der_base.specs.Scan.{NoBodyFault, short_refusal, ScanFault, nothing, half_mark, no_mark, refused_identifier, cut_identifier, primitive, too_deep, no_length, short, BodyFault, BodyAhead}
+use Rattle.der_base.specs.ScanGrammar.{NoBodyFault, short_refusal, ScanFault, nothing, half_mark, no_mark, refused_identifier, cut_identifier, primitive, too_deep, no_length, short, BodyFault, BodyAhead}
 use Rattle.der_base.specs.declared.length.Length.{Length}
 use Rattle.der_base.specs.declared.tag.Tag.{Tag}
 use Rattle.der_base.specs.declared.error.ErrorKind.{ErrorKind}

@@ -7,7 +7,7 @@ use Rattle.der_base.specs.Tag.{IsIdentifier, IdentifierFault, cut, refused}
 use Rattle.der_base.specs.Body.{Body, Open, definite, first, none}
 use Rattle.der_base.specs.Error.{Refusal}
 use Rattle.der_base.specs.Laws.{BodiesOrFaults}
-use Rattle.der_base.specs.Scan.{PartsAhead, NoBodyFault, ScanFault, nothing, half_mark, no_mark, refused_identifier, cut_identifier, primitive, too_deep, no_length, short, BodyFault}
+use Rattle.der_base.specs.ScanGrammar.{PartsAhead, NoBodyFault, ScanFault, nothing, half_mark, no_mark, refused_identifier, cut_identifier, primitive, too_deep, no_length, short, BodyFault}
 use Rattle.der_base.specs.declared.tag.Tag.{Tag}
 use Rattle.der_base.specs.declared.error.ErrorKind.TheVariants.{Length as IncorrectLength}
 use Rattle.der_base.specs.declared.encoding_rules.EncodingRules.TheVariants.{Ber}

@@ -2,9 +2,9 @@
 use Rattle.std.specs.Prelude.{◌≡◌, ℕ, zero, suc, ◌*◌, ◌≤◌, ◌⊎◌, Bool, List, [], ◌∷◌, ◌++◌, length, replicate}
 use Rattle.der_base.specs.Length.{length_octets}
 use Rattle.der_base.specs.Tag.{label, tag_octets, IsIdentifier}
-use Rattle.der_base.specs.Header.{header_octets}
+use Rattle.der_base.specs.HeaderGrammar.{header_octets}
 use Rattle.der_base.specs.Body.{Item, Body, Items, Open}
-use Rattle.der_base.specs.Scan.{PartsAhead, BodyFault}
+use Rattle.der_base.specs.ScanGrammar.{PartsAhead, BodyFault}
 use Rattle.der_base.specs.Error.{Refusal, refusal}
 use Rattle.der_base.specs.declared.tag.Tag.{Tag}
 use Rattle.der_base.specs.declared.error.ErrorKind.TheVariants.{NestingDepth}

@@ -3,8 +3,8 @@ pub mod Length
 pub mod Class
 pub mod Tag
 pub mod Body
-pub mod Header
-pub mod Scan
+pub mod HeaderGrammar
+pub mod ScanGrammar
 pub mod Error
 pub mod Text
 pub mod Arithmetic

@@ -4,7 +4,7 @@ use Rattle.std.specs.Cmp.{IsTotalOrder}
 use Rattle.std.specs.Ordering.{nat_cmp, ordering_then}
 use Rattle.std.specs.declared.cmp.Ordering.{Ordering}
 use Rattle.std.specs.declared.cmp.Ordering.TheVariants.{Less, Equal, Greater}
-use Rattle.der_base.specs.Header.{header_octets}
+use Rattle.der_base.specs.HeaderGrammar.{header_octets}
 use Rattle.der_base.specs.Length.{length_octets}
 use Rattle.der_base.specs.Order.{IsBefore, byte_order, AreApart}
 use Rattle.der_base.specs.Tag.{tag_octets, tag_number}

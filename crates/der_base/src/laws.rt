@@ -1,8 +1,8 @@
 //! The laws of the octets of tags, lengths, headers and bodies. Each function does nothing; its
 //! contract is a law, whose statement is a word of `specs/Laws.antt` or
 //! `specs/OrderLaws.antt`. Nothing else uses these.
-ghost use Rattle.der_base.specs.Scan.{BodyAhead, BodyFault};
-ghost use Rattle.der_base.specs.Header.{IdentifierAhead, TagAhead, LengthAhead, LengthFault, HeaderAhead, HeaderFault};
+ghost use Rattle.der_base.specs.ScanGrammar.{BodyAhead, BodyFault};
+ghost use Rattle.der_base.specs.HeaderGrammar.{IdentifierAhead, TagAhead, LengthAhead, LengthFault, HeaderAhead, HeaderFault};
 ghost use Rattle.der_base.specs.Order.{byte_order};
 ghost use Rattle.der_base.specs.OrderLaws.{IsByteOrder, FrontsDecide, LengthsStandAsNumbers, HeadersStandByTags, TagsDoNotStandAsNumbers};
 ghost use Rattle.der_base.specs.Laws.{OneTagOfALabel, NoTagBeginsAnother, NoIdentifierBeginsAnother, NoLengthBeginsAnother, NoHeaderBeginsAnother, NoBodyBeginsAnother, BodiesOrFaults, NoBodyOutsideLevels, NoItemOutsideLevels, NoItemsOutsideLevels, NothingOpenOutsideLevels, BodiesAtEachLevel, PartsHaveTwoOctets, ExamplesOfParts, IsGrammar, IsBodyFault};

@@ -1,6 +1,5 @@
 //! Walks over elements, and over those inside them.
-ghost use Rattle.der_core.specs.ReaderState.{Same};
-ghost use Rattle.der_core.specs.SliceReader.{slice_state};
+ghost use Rattle.der.specs.Prelude.{Same, slice_state};
 
 use crate::Totals;
 use der::{Error, Header, Reader, ReaderExt, SliceReader, decode_header, read_value};

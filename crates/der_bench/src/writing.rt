@@ -1,9 +1,6 @@
 //! OCTET STRINGs of eight octets that are written, and SEQUENCEs of four of them.
 ghost use Rattle.std.specs.Prelude.{Ok};
-ghost use Rattle.der_base.specs.Length.{definite_length};
-ghost use Rattle.der_base.specs.declared.tag.Tag.TheVariants.{OctetString};
-ghost use Rattle.der_core.specs.SliceWriter.{slice_writer_state};
-ghost use Rattle.der_core.specs.Writer.{Keeps, Writes, write_outcome};
+ghost use Rattle.der.specs.Prelude.{definite_length, OctetString, slice_writer_state, Keeps, Writes, write_outcome};
 
 use crate::Totals;
 use der::{Encode, EncodeValue, Error, FixedTag, Length, SliceWriter, Tag, Writer, WrittenValue};

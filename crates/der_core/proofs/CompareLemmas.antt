@@ -4,7 +4,7 @@ use Rattle.std.specs.Cmp.{first_so, second_so}
 use Rattle.der_base.specs.contracts.tag.TagPartialEq.TheImpl as tag
 use Rattle.der_base.specs.declared.tag.Tag.{Tag}
 use Rattle.der_core.specs.contracts.header.HeaderPartialEq.TheImpl as header
-use Rattle.der_base.specs.Header.{Head, head}
+use Rattle.der_base.specs.HeaderGrammar.{Head, head}
 use Rattle.der_base.specs.contracts.length.LengthPartialEq.TheImpl as length
 use Rattle.der_base.specs.declared.length.Length.{Length}
 use Rattle.std.specs.contracts.prelude.BoolPartialEq.TheImpl as bool

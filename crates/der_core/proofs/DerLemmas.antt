@@ -2,7 +2,7 @@
 use Rattle.std.proofs.Common.{◌≡◌, ℕ, ◌+◌, ◌^◌, ◌<◌, Bool, List, [], ◌++◌, length, refl, sym, ap, subst, ◌∙◌, append_assoc, length-append}
 use Rattle.der_base.specs.Length.{number, definite_length, length_octets}
 use Rattle.der_base.specs.Tag.{label, tag_octets, IsIdentifier, of_tag, of_segments}
-use Rattle.der_base.specs.Header.{Head, head, header_octets, IdentifierAhead, identifier, TagAhead, LengthAhead, definite, HeaderAhead, header}
+use Rattle.der_base.specs.HeaderGrammar.{Head, head, header_octets, IdentifierAhead, identifier, TagAhead, LengthAhead, definite, HeaderAhead, header}
 use Rattle.der_base.specs.declared.length.Length.{Length}
 use Rattle.der_base.specs.declared.tag.Tag.{Tag}
 use Rattle.der_base.specs.declared.encoding_rules.EncodingRules.{EncodingRules}

@@ -5,7 +5,7 @@ use Rattle.std.proofs.lemmas.List.{take-append-drop, take_at, drop_at}
 use Rattle.der_base.specs.Length.{number, is_indefinite}
 use Rattle.der_base.specs.declared.length.Length.{Length}
 use Rattle.der_base.specs.Arithmetic.{sans_eoc}
-use Rattle.der_base.specs.Header.{Head}
+use Rattle.der_base.specs.HeaderGrammar.{Head}
 use Rattle.der_base.specs.declared.tag.Tag.{Tag}
 use Rattle.der_base.specs.declared.error.Error.{Error}
 use Rattle.der_base.specs.declared.encoding_rules.EncodingRules.{EncodingRules}

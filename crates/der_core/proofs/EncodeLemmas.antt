@@ -13,7 +13,7 @@ use Rattle.der_base.specs.Tag.{label, leading_octet, tag_octets, continuation_oc
 use Rattle.der_base.specs.declared.tag.Tag.{Tag}
 use Rattle.der_base.specs.declared.error.Error.{Error}
 use Rattle.der_base.proofs.TagLemmas.{label_small, label_large}
-use Rattle.der_base.specs.Header.{header_octets}
+use Rattle.der_base.specs.HeaderGrammar.{header_octets}
 use Rattle.der_core.specs.Writer.{WriterState, WriterOutcome, Writes, write_outcome, write_pieces, chained_write, success_outcome, appended_state, room_outcome, written_count, HasRoom}
 use Rattle.der_core.specs.Encode.{single_octets, high_digits, first_and_others, length_outcome, header_outcome}
 

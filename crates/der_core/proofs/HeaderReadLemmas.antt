@@ -3,8 +3,8 @@ use Rattle.std.proofs.Common.{◌≡◌, ℕ, ◌+◌, ◌%◌, ◌≤◌, Bool,
 use Rattle.der_base.specs.Error.{at as error_at, refusal}
 use Rattle.der_base.specs.Length.{definite_length, is_indefinite}
 use Rattle.der_base.specs.Tag.{IsIdentifier, IdentifierFault, is_constructed}
-use Rattle.der_base.specs.Scan.{BodyFault}
-use Rattle.der_base.specs.Header.{Head, head, IdentifierAhead, LengthAhead, HeaderAhead, header, LengthFault, HeaderFault, no_identifier, no_length, primitive}
+use Rattle.der_base.specs.ScanGrammar.{BodyFault}
+use Rattle.der_base.specs.HeaderGrammar.{Head, head, IdentifierAhead, LengthAhead, HeaderAhead, header, LengthFault, HeaderFault, no_identifier, no_length, primitive}
 use Rattle.der_base.specs.Laws.{IsGrammar}
 use Rattle.der_base.specs.declared.length.Length.{Length}
 use Rattle.der_base.specs.declared.tag.Tag.{Tag}

@@ -3,7 +3,7 @@ use Rattle.std.proofs.Common.{◌≡◌, ℕ, ◌^◌, ◌<◌, ◌≤◌, Bool,
 use Rattle.std.proofs.lemmas.List.{drop_at}
 use Rattle.der_base.specs.Length.{number, is_indefinite}
 use Rattle.der_base.specs.Tag.{label}
-use Rattle.der_base.specs.Header.{Head, HeaderAhead, header_octets}
+use Rattle.der_base.specs.HeaderGrammar.{Head, HeaderAhead, header_octets}
 use Rattle.der_base.specs.declared.tag.Tag.{Tag}
 use Rattle.der_base.specs.declared.encoding_rules.EncodingRules.{EncodingRules}
 use Rattle.der_base.specs.declared.encoding_rules.EncodingRules.TheVariants.{Der}

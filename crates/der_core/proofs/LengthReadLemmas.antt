@@ -5,8 +5,8 @@ use Rattle.std.proofs.lemmas.Int.Digits.{number_push, number_lt}
 use Rattle.std.proofs.Math.Nat.{pow-le-pow_right}
 use Rattle.der_base.specs.Error.{at as error_at, Refusal, refusal, end_refusal}
 use Rattle.der_base.specs.Length.{definite_length, indefinite_length, length_octets}
-use Rattle.der_base.specs.Scan.{NoBodyFault, BodyFault}
-use Rattle.der_base.specs.Header.{LengthAhead, definite, indefinite, LengthFault, nothing, few, far, longer, indefinite_form, no_body}
+use Rattle.der_base.specs.ScanGrammar.{NoBodyFault, BodyFault}
+use Rattle.der_base.specs.HeaderGrammar.{LengthAhead, definite, indefinite, LengthFault, nothing, few, far, longer, indefinite_form, no_body}
 use Rattle.der_base.specs.declared.length.Length.{Length}
 use Rattle.der_base.specs.declared.error.Error.{Error}
 use Rattle.der_base.specs.declared.error.ErrorKind.{ErrorKind}

@@ -5,7 +5,7 @@ use Rattle.std.specs.declared.cmp.Ordering.{Ordering}
 use Rattle.std.specs.declared.cmp.Ordering.TheVariants.{Less, Equal, Greater}
 use Rattle.der_base.specs.Length.{number}
 use Rattle.der_base.specs.Order.{byte_order}
-use Rattle.der_base.specs.Header.{header_octets, Head}
+use Rattle.der_base.specs.HeaderGrammar.{header_octets, Head}
 use Rattle.der_base.specs.declared.length.Length.{Length}
 use Rattle.der_base.specs.declared.tag.Tag.{Tag}
 use Rattle.der_base.specs.declared.error.Error.{Error}

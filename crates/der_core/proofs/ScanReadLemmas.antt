@@ -2,7 +2,7 @@
 use Rattle.std.proofs.Common.{◌≡◌, ℕ, zero, suc, ◌+◌, ◌-◌, ◌/◌, ◌<◌, ◌≤◌, ◌⊎◌, inl, inr, ⊎_elim, true, false, List, [], ◌∷◌, ◌++◌, length, refl, sym, ap, ◌∙◌, subst, length-append, arith}
 use Rattle.der_base.specs.Length.{indefinite_length}
 use Rattle.der_base.specs.Body.{Body, Open, first, none}
-use Rattle.der_base.specs.Scan.{PartsAhead, BodyAhead, ScanFault, BodyFault}
+use Rattle.der_base.specs.ScanGrammar.{PartsAhead, BodyAhead, ScanFault, BodyFault}
 use Rattle.der_base.specs.declared.error.Error.{Error}
 use Rattle.der_base.specs.declared.length.Length.{Length}
 use Rattle.der_base.proofs.IdentifierLemmas.{identifier_some}

@@ -5,7 +5,7 @@ use Rattle.std.proofs.lemmas.Nat.{and_mask, and_block, shr_split}
 use Rattle.der_base.specs.Length.{digits}
 use Rattle.der_base.specs.Error.{at as error_at, Refusal, refusal, end_refusal}
 use Rattle.der_base.specs.Tag.{universal_tag, other_tag, is_constructed, continuation_octets, IsIdentifier, IdentifierFault, identifier_kind}
-use Rattle.der_base.specs.Header.{IdentifierAhead, identifier}
+use Rattle.der_base.specs.HeaderGrammar.{IdentifierAhead, identifier}
 use Rattle.der_base.specs.declared.tag.Tag.{Tag}
 use Rattle.der_base.specs.declared.tag.Tag.TheVariants.{OctetString}
 use Rattle.der_base.specs.declared.error.Error.{Error}

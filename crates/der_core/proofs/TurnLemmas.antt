@@ -7,8 +7,8 @@ use Rattle.der_base.specs.Error.{at as error_at, Refusal, refusal, end_refusal, 
 use Rattle.der_base.specs.Length.{definite_length, length_octets}
 use Rattle.der_base.specs.Tag.{IsIdentifier, IdentifierFault, cut, refused}
 use Rattle.der_base.specs.Body.{IsLevel, Item, definite}
-use Rattle.der_base.specs.Header.{LengthFault, nothing as no_octet}
-use Rattle.der_base.specs.Scan.{NoBodyFault, short_refusal, ScanFault, nothing, half_mark, no_mark, refused_identifier, cut_identifier, primitive, too_deep, no_length, short}
+use Rattle.der_base.specs.HeaderGrammar.{LengthFault, nothing as no_octet}
+use Rattle.der_base.specs.ScanGrammar.{NoBodyFault, short_refusal, ScanFault, nothing, half_mark, no_mark, refused_identifier, cut_identifier, primitive, too_deep, no_length, short}
 use Rattle.der_base.specs.declared.length.Length.{Length}
 use Rattle.der_base.specs.declared.tag.Tag.{Tag}
 use Rattle.der_base.specs.declared.error.Error.{Error}

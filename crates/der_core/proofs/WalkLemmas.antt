@@ -4,7 +4,7 @@ use Rattle.std.proofs.Math.Seq.{drop-append-add}
 use Rattle.std.proofs.lemmas.List.{take_all, length-replicate}
 use Rattle.der_base.specs.Length.{definite_length}
 use Rattle.der_base.specs.Error.{Refusal, end_refusal}
-use Rattle.der_base.specs.Scan.{BodyAhead, BodyFault, short_refusal}
+use Rattle.der_base.specs.ScanGrammar.{BodyAhead, BodyFault, short_refusal}
 use Rattle.der_base.specs.declared.error.Error.{Error}
 use Rattle.der_base.specs.declared.length.Length.{Length}
 use Rattle.der_base.specs.declared.encoding_rules.EncodingRules.TheVariants.{Ber}

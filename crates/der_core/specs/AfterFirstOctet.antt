@@ -3,8 +3,8 @@ use Rattle.std.specs.Prelude.{◌≡◌, ◌≢◌, ◌⊎◌, ℕ, ◌+◌, ◌
 use Rattle.der_base.specs.Error.{Refusal}
 use Rattle.der_base.specs.Tag.{IsIdentifier, IdentifierFault, universal_tag, other_tag, is_constructed}
 use Rattle.der_base.specs.Length.{length_octets}
-use Rattle.der_base.specs.Scan.{NoBodyFault, BodyAhead, BodyFault}
-use Rattle.der_base.specs.Header.{LengthFault, HeaderAhead, head}
+use Rattle.der_base.specs.ScanGrammar.{NoBodyFault, BodyAhead, BodyFault}
+use Rattle.der_base.specs.HeaderGrammar.{LengthFault, HeaderAhead, head}
 use Rattle.der_base.specs.declared.error.Error.{Error}
 use Rattle.der_base.specs.declared.error.ErrorKind.{ErrorKind}
 use Rattle.der_base.specs.declared.error.ErrorKind.TheVariants.{Overlength, Length as IncorrectLength}

@@ -3,8 +3,8 @@ use Rattle.std.specs.Prelude.{◌≡◌, ℕ, ◌^◌, ◌<◌, ◌≤◌, ◌�
 use Rattle.der_base.specs.Error.{at, error_of_kind, Refusal}
 use Rattle.der_base.specs.Length.{number, definite_length}
 use Rattle.der_base.specs.Tag.{label, IdentifierFault}
-use Rattle.der_base.specs.Scan.{BodyFault}
-use Rattle.der_base.specs.Header.{TagAhead, HeaderFault}
+use Rattle.der_base.specs.ScanGrammar.{BodyFault}
+use Rattle.der_base.specs.HeaderGrammar.{TagAhead, HeaderFault}
 use Rattle.der_base.specs.declared.tag.Tag.{Tag}
 use Rattle.der_base.specs.declared.error.Error.{Error}
 use Rattle.der_base.specs.declared.error.ErrorKind.{ErrorKind}

@@ -1,7 +1,7 @@
 -- What decoding of contents answers.
 use Rattle.std.specs.Prelude.{◌≡◌, ℕ, ◌≤◌, ◌⊎◌, Bool, true, false, List, length, Result, IfOk, IsOk, IsErrAnd}
 use Rattle.der_base.specs.Length.{number}
-use Rattle.der_base.specs.Header.{Head}
+use Rattle.der_base.specs.HeaderGrammar.{Head}
 use Rattle.der_base.specs.declared.encoding_rules.EncodingRules.{EncodingRules}
 use Rattle.der_core.specs.ReaderState.{ReaderState, rest}
 

@@ -2,7 +2,7 @@
 use Rattle.std.specs.Prelude.{◌≡◌, ◌≢◌, ℕ, ◌-◌, List, ◌++◌, length, replicate, Result, Ok, Err}
 use Rattle.std.specs.declared.cmp.Ordering.{Ordering}
 use Rattle.std.specs.declared.cmp.Ordering.TheVariants.{Less, Equal, Greater}
-use Rattle.der_base.specs.Header.{header_octets}
+use Rattle.der_base.specs.HeaderGrammar.{header_octets}
 use Rattle.der_base.specs.Length.{number}
 use Rattle.der_base.specs.Order.{byte_order}
 use Rattle.der_base.specs.declared.error.Error.{Error}

@@ -1,10 +1,10 @@
 -- Elements: a header, contents, and the end mark of an indefinite length (X.690 8.1.1).
 use Rattle.std.specs.Prelude.{◌≡◌, ◌≢◌, ℕ, ◌+◌, Bool, true, false, List, [], ◌∷◌, ◌++◌, length, drop, Result, Err}
 use Rattle.der_base.specs.Arithmetic.{sans_eoc}
-use Rattle.der_base.specs.Scan.{BodyFault}
+use Rattle.der_base.specs.ScanGrammar.{BodyFault}
 use Rattle.der_base.specs.Error.{unexpected_tag}
 use Rattle.der_base.specs.Length.{number, is_indefinite}
-use Rattle.der_base.specs.Header.{Head, head, HeaderAhead, HeaderFault}
+use Rattle.der_base.specs.HeaderGrammar.{Head, head, HeaderAhead, HeaderFault}
 use Rattle.der_base.specs.declared.tag.Tag.{Tag}
 use Rattle.der_base.specs.declared.error.Error.{Error}
 use Rattle.der_base.specs.declared.encoding_rules.EncodingRules.{EncodingRules}

@@ -4,7 +4,7 @@ use Rattle.std.specs.Int.Digits.{digits_of}
 use Rattle.der_base.specs.Length.{number, is_indefinite, definite_length, length_octets}
 use Rattle.der_base.specs.Tag.{label, tag_octets}
 use Rattle.der_base.specs.Error.{at, error_of_kind, kind_of, position_of}
-use Rattle.der_base.specs.Header.{head, header_octets}
+use Rattle.der_base.specs.HeaderGrammar.{head, header_octets}
 use Rattle.der_base.specs.Arithmetic.{checked_length, element_count}
 use Rattle.der_base.specs.declared.length.Length.{Length}
 use Rattle.der_base.specs.declared.tag.Tag.{Tag}

@@ -1,7 +1,7 @@
 -- Fields: elements that stand one behind the other, as in the contents of a SEQUENCE (X.690 8.9).
 use Rattle.std.specs.Prelude.{◌≡◌, ℕ, ◌+◌, List, drop, max, Result, Ok, Err}
 use Rattle.der_base.specs.Arithmetic.{checked_length}
-use Rattle.der_base.specs.Header.{Head}
+use Rattle.der_base.specs.HeaderGrammar.{Head}
 use Rattle.der_base.specs.Length.{number}
 use Rattle.der_base.specs.declared.length.Length.{Length}
 use Rattle.der_base.specs.declared.error.Error.{Error}

@@ -1,7 +1,7 @@
 -- What a header says.
 use Rattle.der_base.specs.Arithmetic.{sans_eoc}
 use Rattle.std.specs.Prelude.{ℕ, List}
-use Rattle.der_base.specs.Header.{Head, HeaderAhead}
+use Rattle.der_base.specs.HeaderGrammar.{Head, HeaderAhead}
 use Rattle.der_base.specs.declared.encoding_rules.EncodingRules.{EncodingRules}
 use Rattle.der_core.specs.declared.header.Header.{Header}
 

@@ -22,3 +22,17 @@ pub mod Lawful
 pub mod Fields
 pub mod DerOrd
 pub mod Items
+pub use Rattle.der_base.specs.Order
+pub use Rattle.der_base.specs.Length
+pub use Rattle.der_base.specs.Class
+pub use Rattle.der_base.specs.Tag
+pub use Rattle.der_base.specs.Body
+pub use Rattle.der_base.specs.HeaderGrammar
+pub use Rattle.der_base.specs.ScanGrammar
+pub use Rattle.der_base.specs.Error
+pub use Rattle.der_base.specs.Text
+pub use Rattle.der_base.specs.Arithmetic
+pub use Rattle.der_base.specs.Names
+pub use Rattle.der_base.specs.Compare
+pub use Rattle.der_base.specs.Laws
+pub use Rattle.der_base.specs.OrderLaws

@@ -1,6 +1,6 @@
 -- What a scan of an indefinite length answers, and how many turns it takes.
 use Rattle.std.specs.Prelude.{◌≡◌, ℕ, ◌+◌, ◌/◌, ◌≤◌, Bool, List, length, Result, Ok, Err}
-use Rattle.der_base.specs.Scan.{BodyAhead, BodyFault, PartsAhead}
+use Rattle.der_base.specs.ScanGrammar.{BodyAhead, BodyFault, PartsAhead}
 use Rattle.der_base.specs.declared.length.Length.{Length}
 use Rattle.der_base.specs.declared.error.Error.{Error}
 use Rattle.der_core.specs.ReaderState.{ReaderState}

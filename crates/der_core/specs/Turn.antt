@@ -2,7 +2,7 @@
 use Rattle.std.specs.Prelude.{◌≡◌, ℕ, ◌<◌, true, false, List, [], ◌∷◌, ◌++◌}
 use Rattle.der_base.specs.Tag.{IsIdentifier}
 use Rattle.der_base.specs.Body.{Item}
-use Rattle.der_base.specs.Scan.{ScanFault}
+use Rattle.der_base.specs.ScanGrammar.{ScanFault}
 use Rattle.der_base.specs.declared.tag.Tag.{Tag}
 use Rattle.der_base.specs.declared.error.Error.{Error}
 use Rattle.der_base.specs.declared.encoding_rules.EncodingRules.TheVariants.{Ber}

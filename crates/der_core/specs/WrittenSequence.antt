@@ -3,7 +3,7 @@
 use Rattle.std.specs.Prelude.{◌≡◌, ℕ, ◌+◌, ◌<◌, ◌≤◌, true, false, length, take, ◌++◌, Result, Ok, Err, OnOk}
 use Rattle.std.specs.Borrow.{MutBor}
 use Rattle.der_base.specs.Length.{definite_length}
-use Rattle.der_base.specs.Header.{header_octets}
+use Rattle.der_base.specs.HeaderGrammar.{header_octets}
 use Rattle.der_base.specs.Error.{at}
 use Rattle.der_base.specs.declared.tag.Tag.TheVariants.{Sequence}
 use Rattle.der_base.specs.declared.error.Error.{Error}

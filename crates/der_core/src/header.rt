@@ -1,7 +1,7 @@
 //! Headers.
 ghost use Rattle.std.specs.Prelude.{◌≡◌, ◌||◌, false, true, length, Ok};
-ghost use Rattle.der_base.specs.Scan.{BodyFault};
-ghost use Rattle.der_base.specs.Header.{HeaderFault, head, header_octets};
+ghost use Rattle.der_base.specs.ScanGrammar.{BodyFault};
+ghost use Rattle.der_base.specs.HeaderGrammar.{HeaderFault, head, header_octets};
 ghost use Rattle.der_base.specs.Length.{number, is_indefinite, definite_length};
 ghost use Rattle.der_base.specs.Tag.{label, is_constructed};
 ghost use Rattle.der_core.specs.AfterFirstOctet.{IsGuess, AreAhead, ToldHeaderAhead, identifier_tag};

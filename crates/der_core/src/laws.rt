@@ -1,8 +1,8 @@
 //! Laws that follow from the contracts. Each function does nothing; its contract is the law, and
 //! nothing else uses it.
 ghost use Rattle.std.specs.Prelude.{◌^◌, ◌<◌, ◌≡◌, []};
-ghost use Rattle.der_base.specs.Scan.{BodyFault};
-ghost use Rattle.der_base.specs.Header.{header_octets, IdentifierAhead, TagAhead, LengthAhead, LengthFault, HeaderFault};
+ghost use Rattle.der_base.specs.ScanGrammar.{BodyFault};
+ghost use Rattle.der_base.specs.HeaderGrammar.{header_octets, IdentifierAhead, TagAhead, LengthAhead, LengthFault, HeaderFault};
 ghost use Rattle.der_base.specs.Length.{length_octets, number};
 ghost use Rattle.der_base.specs.Tag.{label, tag_octets, IdentifierFault};
 ghost use Rattle.der_base.specs.declared.error.ErrorKind.{ErrorKind};

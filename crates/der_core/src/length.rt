@@ -1,8 +1,8 @@
 //! Lengths.
 ghost use Rattle.std.specs.Prelude.{◌≡◌, ◌+◌, ◌-◌, ◌^◌, ◌<◌, ◌≤◌, true, false, length, max, Ok, IfOk, IfErr};
-ghost use Rattle.der_base.specs.Scan.{BodyFault};
+ghost use Rattle.der_base.specs.ScanGrammar.{BodyFault};
 ghost use Rattle.der_base.specs.Length.{number, definite_length, length_octets};
-ghost use Rattle.der_base.specs.Header.{LengthAhead, LengthFault};
+ghost use Rattle.der_base.specs.HeaderGrammar.{LengthAhead, LengthFault};
 ghost use Rattle.der_base.specs.declared.error.ErrorKind.TheVariants.{Overlength};
 ghost use Rattle.der_core.specs.AfterFirstOctet.{DefiniteBehind, IsIndefiniteForm, RefusesIndefinite, RefusesLongLength, told_tag, wrong_length_kind};
 ghost use Rattle.der_core.specs.Decode.{Decodes, grammar_levels};

@@ -2,7 +2,7 @@
 ghost use Rattle.std.specs.Prelude.{◌≡◌, ◌≢◌, ◌^◌, ◌<◌, ◌≤◌, ◌⊎◌, ◌↔◌, true, false, IsTrue, None, [], length, Ok, IfOk, IfErr};
 ghost use Rattle.der_base.specs.Length.{definite_length, digits};
 ghost use Rattle.der_base.specs.Tag.{label, leading_octet, tag_octets, continuation_octets, universal_tag, other_tag, is_constructed, IdentifierFault, identifier_kind};
-ghost use Rattle.der_base.specs.Header.{IdentifierAhead, TagAhead};
+ghost use Rattle.der_base.specs.HeaderGrammar.{IdentifierAhead, TagAhead};
 ghost use Rattle.der_core.specs.AfterFirstOctet.{IdentifierBehind, IsAlone, IsGuess, RefusesIdentifier, RefusesNumber, identifier_tag};
 ghost use Rattle.der_core.specs.Decode.{Decodes, grammar_levels};
 ghost use Rattle.der_core.specs.Encode.{single_octets, high_digits, tag_outcome};

@@ -28,6 +28,11 @@ pub fn unexpected(expected: Tag, actual: Tag) -> Error {
     .to_error()
 }
 
+/// A reader cannot do what is asked of it.
+pub fn unsupported(position: u32) -> Error {
+    ErrorKind::Reader.at(Length::new(position))
+}
+
 /// A length of the indefinite form stands where none may.
 pub fn indefinite(position: u32) -> Error {
     ErrorKind::IndefiniteLength.at(Length::new(position))

@@ -1,7 +1,6 @@
 //! Readers that tests read by, what they read, and what they look at in a reader.
 ghost use Rattle.std.specs.Prelude.{◌≡◌, IfOk};
-ghost use Rattle.der_base.specs.declared.encoding_rules.EncodingRules.TheVariants.{Ber};
-ghost use Rattle.der_core.specs.SliceReader.{slice_state};
+ghost use Rattle.der.specs.Prelude.{Ber, slice_state};
 
 use der::{Decode, DecodeBytes, EncodingRules, Error, Reader, SliceReader};
 use der_uses::reader::CopyingReader;
@@ -39,6 +38,24 @@ pub fn ber_unlent(octets: &[u8]) -> Result<CopyingReader<'_>, Error>
 {
     match ruled_reader(octets) {
         Ok(inner) => Ok(CopyingReader::new(inner)),
+        Err(error) => Err(error),
+    }
+}
+
+/// Likewise, with a read that fails: the one of this number, the first being 1.
+pub fn ber_failing(octets: &[u8], read: u32) -> Result<CopyingReader<'_>, Error>
+    ensures { IfOk result (λ r. (slice_state r.inner).rules ≡ Ber) }
+{
+    match ruled_reader(octets) {
+        Ok(inner) => Ok(CopyingReader::failing(inner, read)),
+        Err(error) => Err(error),
+    }
+}
+
+/// Likewise, under the Distinguished Encoding Rules.
+pub fn der_failing(octets: &[u8], read: u32) -> Result<CopyingReader<'_>, Error> {
+    match SliceReader::new(octets) {
+        Ok(inner) => Ok(CopyingReader::failing(inner, read)),
         Err(error) => Err(error),
     }
 }

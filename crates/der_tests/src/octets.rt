@@ -13,6 +13,7 @@ use std::test::Fail;
 mod ahead;
 mod constants;
 mod depth;
+mod failed;
 mod headers;
 mod lengths;
 mod memory;

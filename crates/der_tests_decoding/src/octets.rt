@@ -10,6 +10,7 @@ use der_fixtures::readers::{Placed, der_reader, der_unlent};
 use std::alloc::Global;
 use std::test::Fail;
 
+mod beginnings;
 mod boxed;
 mod careless;
 mod constants;
@@ -22,9 +23,11 @@ mod identifiers;
 mod keys;
 mod lengths;
 mod months;
+mod nests;
 mod nothing;
 mod pairs;
 mod readers;
+mod rows;
 mod sets;
 mod tags;
 

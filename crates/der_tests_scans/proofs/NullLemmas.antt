@@ -1,18 +1,14 @@
 -- Three NULLs and an end mark, scanned from the beginning of an input.
 use Rattle.std.proofs.Common.{◌≡◌, ℕ, ◌+◌, true, Result, Ok, Err, List, [], ◌∷◌, refl, sym, ap, ◌∙◌, arith}
-use Rattle.der_base.specs.Body.{Item, Body, definite, ends, more}
-use Rattle.der_base.specs.Length.{indefinite_length}
-use Rattle.der_base.specs.Scan.{BodyAhead}
-use Rattle.der_base.specs.Tag.{of_tag}
-use Rattle.der_base.specs.declared.length.Length.{Length}
-use Rattle.der_base.specs.declared.error.Error.{Error}
-use Rattle.der_base.specs.declared.tag.Tag.TheVariants.{Null}
-use Rattle.der_base.specs.declared.encoding_rules.EncodingRules.TheVariants.{Ber}
-use Rattle.der_base.proofs.BodyLemmas.{body_front}
-use Rattle.der_base.proofs.ScanLemmas.{body_grammar}
-use Rattle.der_core.specs.ReaderState.{ReaderState, initial_state, rest}
-use Rattle.der_core.specs.Scan.{ScansAhead, IsTurned}
-use Rattle.der_core.proofs.DecodeLemmas.{accepts, rest-beginning}
+use Rattle.der.specs.Body.{Item, Body, definite, ends, more}
+use Rattle.der.specs.Prelude.{indefinite_length, Length, Error, Null, Ber, ReaderState, rest}
+use Rattle.der.specs.ScanGrammar.{BodyAhead}
+use Rattle.der.specs.Tag.{of_tag}
+use Rattle.der.proofs.BodyLemmas.{body_front}
+use Rattle.der.proofs.ScanLemmas.{body_grammar}
+use Rattle.der.specs.ReaderState.{initial_state}
+use Rattle.der.specs.Scan.{ScansAhead, IsTurned}
+use Rattle.der.proofs.DecodeLemmas.{accepts, rest-beginning}
 
 abbrev pub nulls : List ℕ
 nulls = 5 ∷ 0 ∷ 5 ∷ 0 ∷ 5 ∷ 0 ∷ 0 ∷ 0 ∷ []

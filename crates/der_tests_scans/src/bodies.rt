@@ -6,16 +6,17 @@ use der::{
 };
 use der_fixtures::bodies::{SEGMENT_OF_ZEROS, around_contents, around_null, first_octets};
 use der_fixtures::errors::{
-    incomplete, incorrect, indefinite, invalid_number, too_deep, trailing, unknown,
+    incomplete, incorrect, indefinite, invalid_number, too_deep, trailing, unknown, unsupported,
 };
-use der_fixtures::readers::{Placed, ber_reader, ber_unlent, place_of, ruled_reader};
+use der_fixtures::readers::{
+    Placed, ber_failing, ber_reader, ber_unlent, der_failing, place_of, ruled_reader,
+};
 use std::alloc::Global;
 use std::test::Fail;
 
 mod cuts;
+mod faults;
 mod headers;
 mod parts;
 mod refusals;
 mod scans;
-mod stumbling;
-mod stumbling_reader;

@@ -2,8 +2,7 @@
 //! says of a call is made out anew in each test that makes it, and few tests need it: so of most of
 //! these nothing is said.
 ghost use Rattle.std.specs.Prelude.{◌≡◌, IfOk};
-ghost use Rattle.der_base.specs.declared.encoding_rules.EncodingRules.TheVariants.{Ber};
-ghost use Rattle.der_core.specs.SliceReader.{slice_state};
+ghost use Rattle.der.specs.Prelude.{Ber, slice_state};
 
 use der::{Error, Header, Length, Reader, ReaderExt, SliceReader, decode_header, decode_length};
 use der_fixtures::readers::ruled_reader;

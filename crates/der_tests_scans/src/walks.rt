@@ -2,7 +2,7 @@
 use der::{EncodingRules, Error, ErrorKind, Length, Reader, ReaderExt, SliceReader, Tag, Turns};
 use der_fixtures::bodies::{SEGMENT_OF_ZEROS, around_contents, around_null, first_octets};
 use der_fixtures::errors::{incomplete, incorrect, indefinite, invalid_number, too_deep, unknown};
-use der_fixtures::readers::{ber_reader, place_of, ruled_reader};
+use der_fixtures::readers::{ber_reader, ber_unlent, place_of, ruled_reader};
 use std::alloc::Global;
 use std::test::Fail;
 
@@ -12,5 +12,4 @@ mod lending;
 mod lending_reader;
 mod lists;
 mod scans;
-mod stepping_reader;
 mod turns;

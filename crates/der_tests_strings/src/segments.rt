@@ -6,15 +6,21 @@ use der::{
     TagNumber, read_constructed_vec,
 };
 use der_fixtures::errors::{
-    incomplete, incorrect, indefinite, invalid_number, unexpected, unknown,
+    incomplete, incorrect, indefinite, invalid_number, unexpected, unknown, unsupported,
 };
-use der_fixtures::readers::{Placed, ber_reader, ber_unlent, der_reader, der_unlent, place_of};
+use der_fixtures::readers::{
+    Placed, ber_failing, ber_reader, ber_unlent, der_reader, der_unlent, place_of,
+};
 use der_uses::reader::CopyingReader;
 use std::alloc::Global;
 use std::test::Fail;
 
+mod cuts;
+mod faults;
 mod joined;
 mod joining;
+mod levels;
+mod model;
 mod parts;
 mod segments;
 
@@ -42,12 +48,6 @@ fn view(read: &Result<Vec<u8>, Error>) -> Result<&[u8], Error> {
         Ok(octets) => Ok(octets.as_slice()),
         Err(error) => Err(*error),
     }
-}
-
-// An OCTET STRING is constructed where it may not be.
-fn noncanonical(position: u32) -> Error {
-    let kind = Tag::OctetString.non_canonical_error();
-    kind.at(Length::new(position))
 }
 
 // Number 0 of the context.

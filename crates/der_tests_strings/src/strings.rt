@@ -5,7 +5,7 @@ use der::{
     BytesCow, BytesOwned, BytesRef, Decode, DecodeBytes, DecodeValue, Encode, EncodeValue, Error,
     ErrorKind, Header, Length, Reader, SliceReader, StringCow, StringOwned, StringRef, Tag,
 };
-use der_fixtures::errors::{incomplete, indefinite, trailing, unexpected};
+use der_fixtures::errors::{incomplete, indefinite, trailing, unexpected, unsupported};
 use der_fixtures::readers::{Placed, ber_reader, der_reader, der_unlent};
 use der_uses::reader::CopyingReader;
 use std::alloc::Global;
@@ -64,11 +64,6 @@ fn lent_text<'a>(
     header: Header,
 ) -> Result<StringRef<'a>, Error> {
     StringRef::decode_value(alloc, reader, header)
-}
-
-// That a reader cannot lend.
-fn unlendable(position: u32) -> Error {
-    ErrorKind::Reader.at(Length::new(position))
 }
 
 // Whether an error says that octets are no text; it has no position.

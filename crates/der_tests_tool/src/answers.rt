@@ -3,6 +3,8 @@ mod arguments;
 mod ber;
 mod ber_cases;
 mod cases;
+mod join;
+mod join_cases;
 mod memory;
 mod order;
 mod order_cases;
@@ -14,7 +16,8 @@ use std::alloc::{AllocError, Global};
 use std::process::Abort;
 use std::test::Fail;
 
-const USAGE: &str = "usage: der_tool head [--ber] HEX | tlv [--ber] HEX | order HEX HEX\n";
+const USAGE: &str =
+    "usage: der_tool head [--ber] HEX | tlv [--ber] HEX | order HEX HEX | join HEX\n";
 
 /// The words of a line with a blank between each two.
 fn words_of(alloc: Global, line: &str) -> Result<Vec<String>, AllocError> {
@@ -166,5 +169,6 @@ fn answers_a_sample(rt: HostRuntime) -> Result<(), Fail> {
     replay(&rt, &cases::CASES)?;
     replay(&rt, &tlv_cases::TLV_CASES)?;
     replay(&rt, &ber_cases::BER_CASES)?;
-    replay(&rt, &order_cases::ORDER_CASES)
+    replay(&rt, &order_cases::ORDER_CASES)?;
+    replay(&rt, &join_cases::JOIN_CASES)
 }

@@ -1,5 +1,5 @@
 //! Tells the header, or the whole element, at the front of DER or BER octets that are given as
-//! hexadecimal text, or the order of two elements.
+//! hexadecimal text, the order of two elements, or what the segments of one are joined to.
 #![tactic(auto)]
 
 use der_answers::run_arguments;

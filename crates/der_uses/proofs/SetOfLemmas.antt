@@ -6,15 +6,10 @@ use Rattle.std.proofs.lemmas.List.{take_more, map_push}
 use Rattle.std.proofs.lemmas.List.Concat.{flat_map-append, length-flat_map}
 use Rattle.std.proofs.lemmas.List.Sorted.{sum_by-IsPermutation}
 use Rattle.std.proofs.lemmas.List.Folds.{flat_map-map, length-flat_map-take}
-use Rattle.der_base.specs.Arithmetic.{checked_length, element_count}
-use Rattle.der_base.specs.Error.{error_of_kind}
-use Rattle.der_base.specs.Header.{header_octets}
-use Rattle.der_base.specs.Length.{length_octets}
-use Rattle.der_base.specs.Order.{byte_order}
-use Rattle.der_base.specs.Tag.{tag_octets}
-use Rattle.der_base.specs.declared.error.ErrorKind.TheVariants.{Overflow}
-use Rattle.der_base.specs.declared.tag.Tag.TheVariants.{OctetString}
-use Rattle.der_base.proofs.OrderLemmas.{less_from_before}
+use Rattle.der.specs.Prelude.{checked_length, error_of_kind, header_octets, length_octets, byte_order, tag_octets, OctetString}
+use Rattle.der.specs.Arithmetic.{element_count}
+use Rattle.der.specs.ErrorKinds.{Overflow}
+use Rattle.der.proofs.OrderLemmas.{less_from_before}
 use Rattle.der.specs.BorrowedOctets.{borrowed_octets}
 use Rattle.der.specs.declared.example.borrowed_octets.BorrowedOctets.{BorrowedOctets}
 use Rattle.der_uses.specs.SetOf.{string_octets, octets_of, joined_strings, Ascend}

@@ -1,35 +1,26 @@
 -- SETs OF OCTET STRINGs that are read.
 use Rattle.std.proofs.Common.{◌≡◌, ◌≢◌, ℕ, ◌+◌, ◌-◌, ◌^◌, ◌<◌, ◌≤◌, Bool, true, false, Result, Ok, Err, IfOk, OnOk, IsOk, IsTrue, List, [], ◌∷◌, ◌++◌, length, Bor, take, drop, take_at, refl, sym, ap, subst, ◌∙◌, append-nil, append_assoc, length-append, ◌⊎◌, ⊎_elim, arith}
-use Rattle.der_base.specs.Error.{at}
-use Rattle.der_base.specs.Length.{number, definite_length}
-use Rattle.der_base.specs.Tag.{label}
-use Rattle.der_base.specs.Order.{IsBefore}
-use Rattle.der_base.specs.declared.error.Error.{Error}
-use Rattle.der_base.specs.declared.error.ErrorKind.TheVariants.{SetOrdering}
-use Rattle.der_base.specs.declared.tag.Tag.TheVariants.{OctetString, Set}
+use Rattle.der.specs.Prelude.{at, number, definite_length, IsBefore, Error, OctetString, Set, header_octets, Der, ElementAhead, ElementRead, head_of, IsHeaderAhead, Gives, Header, read_slice_outcome, ReaderState, rest, reader_position, Reads, slice_state}
+use Rattle.der.specs.Tag.{label}
+use Rattle.der.specs.ErrorKinds.{SetOrdering}
 use Rattle.std.proofs.lemmas.List.{take-append-drop}
 use Rattle.std.proofs.lemmas.List.Concat.{flat_map-append}
-use Rattle.der_base.proofs.DelimitedLemmas.{element_front}
-use Rattle.der_base.proofs.HeaderLemmas.{header_front}
-use Rattle.der_base.specs.Header.{header_octets}
-use Rattle.der_base.specs.declared.encoding_rules.EncodingRules.TheVariants.{Der}
-use Rattle.der_core.specs.Decode.{Passes, ReadsOrLacks, ReaderDecodes, had_failed, decodes, refuses}
-use Rattle.der_core.specs.Element.{ElementAhead, ElementRead, no_header, other_tag, in_contents}
-use Rattle.der_core.specs.Header.{head_of, IsHeaderAhead}
-use Rattle.der_core.specs.Nested.{CanNest, Closes, handed_on, left_over, whole, NestedAnswers, not_entered, entered}
-use Rattle.der_core.specs.Outcome.{Gives, IsBinding}
-use Rattle.der_core.specs.declared.header.Header.{Header}
-use Rattle.der_core.proofs.DecodeLemmas.{remaining_ok, rest-beginning}
-use Rattle.der_core.proofs.WholeLemmas.{finish_ok, finishes}
-use Rattle.der_core.proofs.DerLemmas.{headers_are_encodings}
-use Rattle.der_core.specs.Reader.{read_slice_outcome, remaining_answer, finish_answer}
-use Rattle.der_core.specs.ReaderState.{ReaderState, rest, reader_position, IsSound, Reads, initial_state, nested_state, resumed_state}
-use Rattle.der_core.specs.SliceReader.{slice_state}
-use Rattle.der_core.specs.declared.reader.slice.SliceReader.{SliceReader}
-use Rattle.der_core.proofs.ContentsLemmas.{Behind, unmarked, behind_mark, value_ran, rest_inside, closes_ok}
-use Rattle.der_core.proofs.ElementLemmas.{entered_part}
-use Rattle.der_core.proofs.LawfulLemmas.{elements_are_encodings, passed_encodings}
-use Rattle.der_core.proofs.StateLemmas.{length-rest, position_on, reads_none, reads_on, reads_front, rules_on, failed_on}
+use Rattle.der.proofs.DelimitedLemmas.{element_front}
+use Rattle.der.proofs.HeaderLemmas.{header_front}
+use Rattle.der.specs.Decode.{Passes, ReadsOrLacks, ReaderDecodes, had_failed, decodes, refuses}
+use Rattle.der.specs.Element.{no_header, other_tag, in_contents}
+use Rattle.der.specs.Nested.{CanNest, Closes, handed_on, left_over, whole, NestedAnswers, not_entered, entered}
+use Rattle.der.specs.Outcome.{IsBinding}
+use Rattle.der.proofs.DecodeLemmas.{remaining_ok, rest-beginning}
+use Rattle.der.proofs.WholeLemmas.{finish_ok, finishes}
+use Rattle.der.proofs.DerLemmas.{headers_are_encodings}
+use Rattle.der.specs.Reader.{remaining_answer, finish_answer}
+use Rattle.der.specs.ReaderState.{IsSound, initial_state, nested_state, resumed_state}
+use Rattle.der.specs.Prelude.{SliceReader}
+use Rattle.der.proofs.ContentsLemmas.{Behind, unmarked, behind_mark, value_ran, rest_inside, closes_ok}
+use Rattle.der.proofs.ElementLemmas.{entered_part}
+use Rattle.der.proofs.LawfulLemmas.{elements_are_encodings, passed_encodings}
+use Rattle.der.proofs.StateLemmas.{length-rest, position_on, reads_none, reads_on, reads_front, rules_on, failed_on}
 use Rattle.der.specs.BorrowedOctets.{borrowed_octets, borrowed_lawful}
 use Rattle.der.specs.Octets.{IsCounted, TakesOctets, LentAnswers}
 use Rattle.der.specs.declared.example.borrowed_octets.BorrowedOctets.{BorrowedOctets}

@@ -1,18 +1,8 @@
 -- An algorithm and a month, one behind the other.
 use Rattle.std.specs.Prelude.{◌≡◌, ℕ, List, ◌++◌, Result}
 use Rattle.std.proofs.Common.{arith}
-use Rattle.der_base.specs.Header.{Head}
-use Rattle.der_base.specs.declared.length.Length.{Length}
-use Rattle.der_base.specs.declared.tag.Tag.TheVariants.{OctetString, Sequence}
-use Rattle.der_base.specs.declared.error.Error.{Error}
-use Rattle.der_base.specs.declared.encoding_rules.EncodingRules.{EncodingRules}
-use Rattle.der_core.specs.Element.{ElementAhead, ElementRead, element_levels}
-use Rattle.der_core.specs.Encode.{WriterAnswer, ElementAnswers, element_octets, element_size}
-use Rattle.der_core.specs.Fields.{FieldsAhead, FieldsRead, FieldsWritten, TakesWhole, fields_levels, fields_size}
-use Rattle.der_core.specs.Lawful.{IsLawful}
-use Rattle.der_core.specs.Outcome.{map_ok}
-use Rattle.der_core.specs.ReaderState.{ReaderState}
-use Rattle.der_core.proofs.LawfulLemmas.{contents_lawful, fields_are_encodings, elements_are_encodings}
+use Rattle.der.specs.Prelude.{Head, Length, OctetString, Sequence, Error, EncodingRules, ElementAhead, ElementRead, element_levels, WriterAnswer, ElementAnswers, element_octets, element_size, FieldsAhead, FieldsRead, FieldsWritten, TakesWhole, fields_levels, fields_size, IsLawful, map_ok, ReaderState}
+use Rattle.der.specs.LawfulLemmas.{contents_lawful, fields_are_encodings, elements_are_encodings}
 use Rattle.der_uses.specs.Lent.{IsLent, TakesLent, LentAnswers, WritesLent, lent_contents, lent_size, lent_lawful}
 use Rattle.der.specs.MyByteMonth.{IsMonth, TakesMonth, MonthAnswers, WritesMonth, month_contents, month_size, month_lawful}
 use Rattle.der_uses.specs.declared.lent.Lent.{Lent}

@@ -1,21 +1,7 @@
 -- Octets that are lent.
 use Rattle.std.specs.Prelude.{◌≡◌, ℕ, List, length, Result, Ok}
 use Rattle.std.proofs.Common.{arith}
-use Rattle.der_base.specs.Arithmetic.{checked_length}
-use Rattle.der_base.specs.Header.{Head}
-use Rattle.der_base.specs.Order.{byte_order}
-use Rattle.der_base.specs.declared.length.Length.{Length}
-use Rattle.der_base.specs.declared.tag.Tag.TheVariants.{OctetString}
-use Rattle.der_base.specs.Length.{number}
-use Rattle.der_base.specs.declared.error.Error.{Error}
-use Rattle.der_base.specs.declared.encoding_rules.EncodingRules.{EncodingRules}
-use Rattle.der_core.specs.ReaderState.{ReaderState}
-use Rattle.der_core.specs.Outcome.{Gives, map_ok}
-use Rattle.der_core.specs.Reader.{read_slice_outcome}
-use Rattle.der_core.specs.DerOrd.{Compared}
-use Rattle.der_core.specs.Encode.{WriterAnswer}
-use Rattle.der_core.specs.Lawful.{IsLawful}
-use Rattle.der_core.specs.Writer.{Writes, write_outcome}
+use Rattle.der.specs.Prelude.{checked_length, Head, byte_order, Length, OctetString, number, Error, EncodingRules, ReaderState, Gives, map_ok, read_slice_outcome, Compared, WriterAnswer, IsLawful, Writes, write_outcome}
 use Rattle.der_uses.specs.declared.lent.Lent.{Lent}
 
 abbrev pub lent_contents : Lent → List ℕ

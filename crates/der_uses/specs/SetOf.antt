@@ -1,15 +1,8 @@
 -- A SET OF OCTET STRING, whose elements stand in the order of their encodings (X.690 8.12, 11.6).
 use Rattle.std.specs.Prelude.{◌≡◌, ℕ, ◌+◌, ◌≤◌, false, List, [], ◌∷◌, ◌++◌, length, map, Result, Ok, Err, OnOk}
 use Rattle.std.specs.List.{flat_map}
-use Rattle.der_base.specs.Error.{at}
-use Rattle.der_base.specs.Length.{definite_length}
-use Rattle.der_base.specs.Order.{IsBefore}
-use Rattle.der_base.specs.declared.encoding_rules.EncodingRules.TheVariants.{Der}
-use Rattle.der_base.specs.declared.error.Error.{Error}
-use Rattle.der_base.specs.declared.error.ErrorKind.TheVariants.{SetOrdering}
-use Rattle.der_base.specs.declared.tag.Tag.TheVariants.{OctetString, Set}
-use Rattle.der_core.specs.Encode.{element_octets}
-use Rattle.der_core.specs.ReaderState.{ReaderState, Reads, rest}
+use Rattle.der.specs.Prelude.{at, definite_length, IsBefore, Der, Error, OctetString, Set, element_octets, ReaderState, Reads, rest}
+use Rattle.der.specs.ErrorKinds.{SetOrdering}
 use Rattle.der.specs.BorrowedOctets.{borrowed_octets}
 use Rattle.der.specs.declared.example.borrowed_octets.BorrowedOctets.{BorrowedOctets}
 

@@ -1,6 +1,6 @@
 //! A SEQUENCE of two fields, as an algorithm and its parameter are written in a certificate.
 ghost use Rattle.std.specs.Prelude.{◌≡◌, false};
-ghost use Rattle.der_base.specs.declared.tag.Tag.TheVariants.{Sequence};
+ghost use Rattle.der.specs.Prelude.{Sequence};
 ghost use Rattle.der_uses.specs.AlgorithmIdentifier.{IsIdentifier, TakesIdentifier, IdentifierAnswers, identifier_contents, identifier_levels, identifier_size, WritesIdentifier, identifier_lawful};
 
 use crate::lent::Lent;

@@ -1,9 +1,6 @@
 //! The contents of an element, lent by the input.
 ghost use Rattle.std.specs.Prelude.{◌≡◌, ℕ, take, drop, IfOk};
-ghost use Rattle.der_base.specs.Header.{HeaderAhead};
-ghost use Rattle.der_base.specs.Length.{number};
-ghost use Rattle.der_base.specs.declared.encoding_rules.EncodingRules.TheVariants.{Der};
-ghost use Rattle.der_core.specs.Header.{head_of};
+ghost use Rattle.der.specs.Prelude.{HeaderAhead, number, Der, head_of};
 
 use der::{Error, Header, Reader, SliceReader, decode_header};
 

@@ -1,7 +1,6 @@
 //! Fields that are borrowed from the input, and fields in memory of their own.
 ghost use Rattle.std.specs.Prelude.{◌≡◌, IfOk};
-ghost use Rattle.der_base.specs.declared.tag.Tag.TheVariants.{OctetString, Utf8String};
-ghost use Rattle.der_core.specs.Encode.{element_octets};
+ghost use Rattle.der.specs.Prelude.{OctetString, Utf8String, element_octets};
 ghost use Rattle.der.specs.BytesRef.{reference_octets};
 ghost use Rattle.der.specs.StringOwned.{owned_text};
 

@@ -1,8 +1,6 @@
 //! What octets begin with.
 ghost use Rattle.std.specs.Prelude.{◌≡◌, ℕ, drop, IfOk};
-ghost use Rattle.der_base.specs.Header.{HeaderAhead};
-ghost use Rattle.der_base.specs.declared.encoding_rules.EncodingRules.TheVariants.{Der};
-ghost use Rattle.der_core.specs.Header.{head_of};
+ghost use Rattle.der.specs.Prelude.{HeaderAhead, Der, head_of};
 
 use der::{DecodeBytes, Error, Header};
 use std::alloc::Global;

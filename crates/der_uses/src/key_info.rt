@@ -1,7 +1,6 @@
 //! A SEQUENCE with another one inside it, as a key stands in a certificate.
 ghost use Rattle.std.specs.Prelude.{◌≡◌, ◌<◌, ◌^◌, false, length, IfOk, IsOk};
-ghost use Rattle.der_base.specs.declared.tag.Tag.TheVariants.{Sequence};
-ghost use Rattle.der_core.specs.Encode.{element_octets};
+ghost use Rattle.der.specs.Prelude.{Sequence, element_octets};
 ghost use Rattle.der_uses.specs.KeyInfo.{IsKeyInfo, TakesKeyInfo, KeyInfoAnswers, key_info_contents, key_info_levels, key_info_size, WritesKeyInfo, key_info_lawful};
 
 use crate::algorithm_identifier::AlgorithmIdentifier;

@@ -1,7 +1,7 @@
 //! A type of a user's own that is lent by the input: an `OCTET STRING`.
 ghost use Rattle.std.specs.Prelude.{◌≡◌, false, length};
 ghost use Rattle.std.proofs.Common.{refl};
-ghost use Rattle.der_base.specs.declared.tag.Tag.TheVariants.{OctetString};
+ghost use Rattle.der.specs.Prelude.{OctetString};
 ghost use Rattle.der_uses.specs.Lent.{IsLent, TakesLent, LentAnswers, WritesLent, lent_contents, lent_size, lent_lawful, lent_order};
 
 use der::{

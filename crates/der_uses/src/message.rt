@@ -1,9 +1,6 @@
 //! A message under the Basic Encoding Rules.
 ghost use Rattle.std.specs.Prelude.{◌≡◌, ℕ, ◌+◌, ◌/◌, ◌≤◌, length, take, drop, IfOk};
-ghost use Rattle.der_base.specs.Header.{HeaderAhead};
-ghost use Rattle.der_base.specs.Length.{number};
-ghost use Rattle.der_base.specs.declared.encoding_rules.EncodingRules.TheVariants.{Ber};
-ghost use Rattle.der_core.specs.Header.{head_of};
+ghost use Rattle.der.specs.Prelude.{HeaderAhead, number, Ber, head_of};
 
 use der::{
     EncodingRules, Error, Header, Length, Reader, ReaderExt, SliceReader, Turns, decode_header,

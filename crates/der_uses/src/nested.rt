@@ -1,11 +1,10 @@
 //! Parts that are entered and left by hand.
-ghost use Rattle.der_core.specs.ReaderState.{Same};
-ghost use Rattle.der_core.specs.SliceReader.{slice_state};
+ghost use Rattle.der.specs.Prelude.{Same, slice_state};
 
 use der::{Error, Reader, ReaderExt, SliceReader, Tag, decode_header};
 
 /// How many elements stand in the SEQUENCE at the front of the octets.
-pub fn count_of_elements(octets: &[u8]) -> Result<u32, Error> {
+pub fn count_of_elements(octets: &[u8]) -> Result<usize, Error> {
     let mut reader = SliceReader::new(octets)?;
     let header = decode_header(&mut reader)?;
     header.tag().assert_eq(Tag::Sequence)?;
@@ -15,11 +14,11 @@ pub fn count_of_elements(octets: &[u8]) -> Result<u32, Error> {
 }
 
 // Passes element after element, up to the end of the part; each has an octet at least.
-fn count_rest(reader: &mut SliceReader<'_>) -> Result<u32, Error>
+fn count_rest(reader: &mut SliceReader<'_>) -> Result<usize, Error>
     ensures { Same (slice_state reader.old) (slice_state reader.new) }
 {
     let mut count = 0;
-    for _ in 0..u32::from(reader.remaining_len()) {
+    for _ in 0..reader.remaining()?.len() {
         if reader.is_finished() {
             break;
         }

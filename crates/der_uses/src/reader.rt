@@ -1,14 +1,18 @@
-//! A reader of a user's own: one that hands out copies, and lends nothing.
+//! A reader of a user's own, as one over a connection would be: it hands out copies, lends nothing,
+//! and one of its reads may fail.
 ghost use Rattle.std.specs.Prelude.{◌≡◌, false};
-ghost use Rattle.der_core.specs.SliceReader.{slice_state};
+ghost use Rattle.der.specs.Prelude.{at, reader_position, slice_state};
+ghost use Rattle.der.specs.ErrorKinds.{Reader as CannotRead};
 
 use der::{EncodingRules, Error, ErrorKind, Length, Reader, Resumption, SliceReader};
 use std::alloc::Allocator;
 
-/// A reader over another one that lends nothing.
+/// A reader over another one that lends nothing. It goes on behind a read that failed.
 #[derive(Drop)]
 pub struct CopyingReader<'a> {
     inner: SliceReader<'a>,
+    // how many reads are left up to the one that fails, and with it; zero where none does
+    reads: u32,
 }
 
 impl<'a> CopyingReader<'a> {
@@ -16,7 +20,35 @@ impl<'a> CopyingReader<'a> {
     pub fn new(inner: SliceReader<'a>) -> Self
         ensures inner { result.inner ≡ inner.entry }
     {
-        CopyingReader { inner }
+        CopyingReader { inner, reads: 0 }
+    }
+
+    /// The same, where the read of this number fails, the first being 1.
+    pub fn failing(inner: SliceReader<'a>, reads: u32) -> Self
+        ensures inner { result.inner ≡ inner.entry }
+    {
+        CopyingReader { inner, reads }
+    }
+
+    // Counts a read, which may be the one that fails.
+    fn begin_read(&mut self) -> Result<(), Error>
+        ensures inner { self.new.inner ≡ self.old.inner }
+    {
+        if self.reads == 0 {
+            return Ok(());
+        }
+        self.reads -= 1;
+        if self.reads == 0 {
+            return Err(self.unsupported());
+        }
+        Ok(())
+    }
+
+    // What is refused that the reader does not do, or cannot.
+    fn unsupported(&self) -> Error
+        ensures { result ≡ at CannotRead (reader_position (slice_state self.now.inner)) }
+    {
+        ErrorKind::Reader.at(self.inner.position())
     }
 }
 
@@ -58,10 +90,11 @@ impl<'a> Reader for CopyingReader<'a> {
     }
 
     fn read_slice(&mut self, _len: Length) -> Result<&'a [u8], Error> {
-        Err(ErrorKind::Reader.at(self.inner.position()))
+        Err(self.unsupported())
     }
 
     fn read_into(&mut self, buf: &mut [u8]) -> Result<(), Error> {
+        self.begin_read()?;
         self.inner.read_into(buf)
     }
 
@@ -70,21 +103,37 @@ impl<'a> Reader for CopyingReader<'a> {
     }
 
     fn remaining(&self) -> Result<&'a [u8], Error> {
-        Err(ErrorKind::Reader.at(self.inner.position()))
+        Err(self.unsupported())
     }
 
     fn fork(&self) -> Self {
         CopyingReader {
             inner: self.inner.fork(),
+            reads: self.reads,
         }
     }
 
     fn read_vec_in<A: Allocator>(&mut self, alloc: A, len: Length) -> Result<Vec<u8, A>, Error> {
+        self.begin_read()?;
         self.inner.read_vec_in(alloc, len)
     }
 
+    // it reads into a buffer of its own; a flagged zero is one read of no octets
     fn drain(&mut self, amount: Length) -> Result<(), Error> {
-        self.inner.drain(amount)
+        if amount == Length::ZERO {
+            return Ok(());
+        }
+        let mut buffer = [0u8; 16];
+        let mut left = u32::from(amount);
+        loop {
+            let step = left.min(16);
+            self.begin_read()?;
+            self.inner.read_into(&mut buffer[..step as usize])?;
+            left -= step;
+            if left == 0 {
+                return Ok(());
+            }
+        }
     }
 
     fn finish(self) -> Result<(), Error> {

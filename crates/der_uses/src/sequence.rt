@@ -1,7 +1,6 @@
 //! A SEQUENCE, read by a function.
 ghost use Rattle.std.specs.Prelude.{◌≡◌};
-ghost use Rattle.der_core.specs.ReaderState.{Same};
-ghost use Rattle.der_core.specs.SliceReader.{slice_state};
+ghost use Rattle.der.specs.Prelude.{Same, slice_state};
 
 use der::{Error, Reader, ReaderExt, SliceReader, Tag, decode_header};
 

@@ -1,15 +1,7 @@
 //! A SET OF OCTET STRING: its elements stand in the order of their encodings (X.690 11.6).
 ghost use Rattle.std.specs.Prelude.{◌≡◌, ◌+◌, ◌++◌, ◌^◌, ◌<◌, ◌≤◌, ◌⊎◌, ℕ, List, length, Err, IfOk, IsOk, IsErrAnd, OnOk, IsPermutation};
-ghost use Rattle.der_base.specs.Arithmetic.{checked_length};
-ghost use Rattle.der_base.specs.Error.{at, error_of_kind};
-ghost use Rattle.der_base.specs.Header.{header_octets};
-ghost use Rattle.der_base.specs.Length.{number};
-ghost use Rattle.der_base.specs.Order.{IsBefore, byte_order};
-ghost use Rattle.der_base.specs.declared.error.ErrorKind.TheVariants.{Overflow, OutOfMemory, SetOrdering};
-ghost use Rattle.der_base.specs.declared.tag.Tag.TheVariants.{Set};
-ghost use Rattle.der_core.specs.Outcome.{map_ok};
-ghost use Rattle.der_core.specs.ReaderState.{Reads, Same, reader_position, rest};
-ghost use Rattle.der_core.specs.SliceReader.{slice_state};
+ghost use Rattle.der.specs.Prelude.{checked_length, at, error_of_kind, header_octets, number, IsBefore, byte_order, Set, map_ok, Reads, Same, reader_position, rest, slice_state};
+ghost use Rattle.der.specs.ErrorKinds.{Overflow, OutOfMemory, SetOrdering};
 ghost use Rattle.der.specs.BorrowedOctets.{borrowed_octets};
 ghost use Rattle.der_uses.specs.SetOf.{string_octets, octets_of, joined_strings, set_octets, Ascend, IsReady, MayFollow, OrderAnswer, PassesStrings, ReadsAscending};
 

@@ -1,6 +1,6 @@
 //! A writer of a user's own: one that collects what is written.
 ghost use Rattle.std.specs.Prelude.{◌≡◌, ◌++◌, true, false, [], OnOk};
-ghost use Rattle.der_base.specs.Tag.{tag_octets};
+ghost use Rattle.der.specs.Prelude.{tag_octets};
 
 use der::{Encode, Error, ErrorKind, Tag, Writer};
 

@@ -1,12 +1,9 @@
 //! Octets that are borrowed where a reader lends them.
-ghost use Rattle.std.specs.Prelude.{◌≡◌, ◌↔◌, ◌+◌, ◌≤◌, false, true, IfOk};
-ghost use Rattle.der_base.specs.Error.{kind_of};
-ghost use Rattle.der_core.specs.Decode.{is_out_of_memory_kind};
-ghost use Rattle.der_core.specs.DecodeValue.{ContentsAhead, EndsOrLacks, TakesContents};
+ghost use Rattle.std.specs.Prelude.{◌≡◌, ◌↔◌, false, true, IfOk, IsOk};
+ghost use Rattle.der_core.specs.DecodeValue.{TakesContents};
 ghost use Rattle.der_core.specs.Header.{head_of};
 ghost use Rattle.der_core.specs.ReaderState.{Same};
-ghost use Rattle.der.specs.Octets.{IsCounted, TakesOctets, LentAnswers, octets_size, WritesOctets};
-ghost use Rattle.der.specs.declared.bytes.cow.BytesCow.{BytesCow as ACow};
+ghost use Rattle.der.specs.Octets.{IsCounted, TakesOctets, EndsTaken, LentAnswers, octets_size, WritesOctets};
 ghost use Rattle.der.specs.BytesCow.{cow_octets, IsBorrowed};
 
 use crate::bytes::{BytesOwned, BytesRef};
@@ -64,14 +61,12 @@ impl<'a, R: Reader<Lent = &'a [u8]>> DecodeValue<R> for BytesCow<'a> {
         ensures same { Same (R.state reader.old) (R.state reader.new) }
         ensures sound { TakesContents (TakesOctets IsCounted cow_octets) (head_of header)
             (R.state reader.old) result (R.state reader.new) }
-        ensures complete { (v : ACow) → R.reliable ≡ true
-            → ContentsAhead (TakesOctets IsCounted cow_octets v) (head_of header)
-            (R.state reader.old)
-            → (R.state reader.old).depth + 0 ≤ 64
-            → EndsOrLacks (λ e. is_out_of_memory_kind (kind_of e)) false result
-            (R.state reader.new) }
+        ensures complete { EndsTaken IsCounted cow_octets R.reliable (head_of header)
+            (R.state reader.old) result (R.state reader.new) }
         ensures exact { R.reliable ≡ true → LentAnswers cow_octets (head_of header)
             (R.state reader.old) result (R.state reader.new) }
+        ensures ok { IsOk result → LentAnswers cow_octets (head_of header) (R.state reader.old)
+            result (R.state reader.new) }
         ensures borrowed { IfOk result (λ b. IsBorrowed b ↔ (R.lends ≡ true)) }
     {
         if R::can_lend() {

@@ -1,7 +1,7 @@
 //! What a hasher gets of a value.
 ghost use Rattle.std.specs.Prelude.{◌≡◌, fold};
 ghost use Rattle.std.specs.Hash as fed;
-ghost use Rattle.der.specs.Compare.{counted_writes};
+ghost use Rattle.der.specs.OctetsOrder.{counted_writes};
 ghost use Rattle.der.specs.BytesOwned.{owned_octets};
 ghost use Rattle.der.specs.BytesRef.{reference_octets};
 ghost use Rattle.der.specs.StringOwned.{owned_text};

@@ -1,7 +1,7 @@
 //! The derived partial orders are the total ones.
 ghost use Rattle.std.specs.Prelude.{◌≡◌, Some};
 ghost use Rattle.der_base.specs.Order.{byte_order};
-ghost use Rattle.der.specs.Compare.{counted_order};
+ghost use Rattle.der.specs.OctetsOrder.{counted_order};
 ghost use Rattle.der.specs.BytesOwned.{owned_octets};
 ghost use Rattle.der.specs.BytesRef.{reference_octets};
 ghost use Rattle.der.specs.StringOwned.{owned_text};

@@ -2,9 +2,9 @@
 ghost use Rattle.std.specs.Prelude.{true};
 ghost use Rattle.der_base.specs.declared.tag.Tag.TheVariants.{OctetString};
 ghost use Rattle.std.proofs.Common.{refl};
-ghost use Rattle.der.specs.Compare.{octets_order};
+ghost use Rattle.der.specs.OctetsOrder.{octets_order};
 ghost use Rattle.der.specs.Octets.{IsCounted, octets_size, WritesOctets};
-ghost use Rattle.der.specs.JoinedOctets.{joined_octets, TakesJoined, JoinedAnswers, joined_lawful};
+ghost use Rattle.der.specs.JoinedOctets.{joined_octets, joined_levels, TakesJoined, JoinedAnswers, joined_lawful};
 
 use crate::bytes::BytesOwned;
 use der_base::{Error, Length, Tag};
@@ -37,14 +37,14 @@ impl ReadValue for JoinedOctets {
 
     ghost takes = { TakesJoined };
 
-    ghost levels = { λ _. 0 };
+    ghost levels = { joined_levels };
 
     ghost takes_memory = { true };
 
     ghost takes_valid = { λ v rules h octets taken. taken.0 };
 }
 
-/// The contents are copied as they stand, and segments are joined.
+/// The contents are copied as they stand, and segments are joined, those inside them too.
 ///
 /// # Errors
 ///

@@ -2,7 +2,7 @@
 ghost use Rattle.std.specs.Prelude.{true};
 ghost use Rattle.der_base.specs.declared.tag.Tag.TheVariants.{Utf8String};
 ghost use Rattle.std.proofs.Common.{refl};
-ghost use Rattle.der.specs.Compare.{octets_order};
+ghost use Rattle.der.specs.OctetsOrder.{octets_order};
 ghost use Rattle.der.specs.Octets.{IsText, TakesOctets, OwnedTextAnswers, octets_size, WritesOctets};
 ghost use Rattle.der.specs.OwnedText.{owned_text_octets, owned_text_lawful};
 

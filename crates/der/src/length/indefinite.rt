@@ -1,44 +1,49 @@
-//! Contents of an indefinite length (X.690 8.1.3.6) that are given in segments (X.690 8.7.3).
+//! Contents that are given in segments (X.690 8.7.3), which may be cut into segments again.
 ghost use Rattle.std.specs.Prelude.{◌≡◌, ◌+◌, ◌^◌, ◌<◌, ◌⊎◌, ℕ, List, true, false, IfOk, IfErr, IsOk, OnOk, IsErrAnd};
 ghost use Rattle.der_base.specs.Error.{error_of_kind, missing_refusal};
-ghost use Rattle.der_base.specs.Length.{number, is_indefinite};
+ghost use Rattle.der_base.specs.Length.{number};
 ghost use Rattle.der_base.specs.Tag.{label};
 ghost use Rattle.der_base.specs.declared.error.ErrorKind.TheVariants.{OutOfMemory as NoMemory};
 ghost use Rattle.der_core.specs.AfterFirstOctet.{Stops};
-ghost use Rattle.der_core.specs.Header.{head_of};
 ghost use Rattle.der_core.specs.Reader.{VecRefused};
 ghost use Rattle.der_core.specs.ReaderState.{rest, Same};
 ghost use Rattle.der.specs.Joined.{Joined};
-ghost use Rattle.der.specs.Joining.{AppendsJoined, AppendsOctets, JoinsAll, RefusesConstructed, RefusesJoining, RefusesSegment, RefusesSegments};
+ghost use Rattle.der.specs.Joining.{levels_left, AppendsJoined, AppendsOctets, JoinsAll, MayJoin, PassesSegmentHeader, RefusesJoining, RefusesSegmentHeader, RefusesSegments};
 
 use der_base::{Error, ErrorKind, Length, Tag};
-use der_core::{Header, Reader, ReaderExt, decode_header};
+use der_core::{Header, Reader, ReaderExt, close_value, decode_header};
 use std::alloc::Global;
 
-/// Joins the segments up to the end (X.690 8.7.3): primitive elements with this tag and a definite
-/// length, whose contents are read one behind the other into memory of their own. `length` is that
-/// of the segments' element, read in the indefinite form; the end mark is not read.
+/// Joins the segments up to the end (X.690 8.7.3) into memory of their own: elements with this tag,
+/// one behind the other. A primitive one of definite length gives its contents. Under the Basic
+/// Encoding Rules a constructed one, of either form of length, gives what the segments inside it are
+/// joined to; they are entered as any part, with at most 64 parts inside each other. `length` is
+/// that of the segments' element; the end mark is not read.
 ///
 /// # Errors
 ///
-/// - `IndefiniteLength` at the position, where `length` was not read in the indefinite form; the
-///   reader has failed then.
+/// - `IndefiniteLength` at the position, where `length` was not read in the indefinite form, under
+///   the Distinguished Encoding Rules; the reader has failed then.
 /// - `OutOfMemory` without a position, where memory for as many octets as `length` says is refused;
 ///   the reader is unchanged.
-/// - `Failed`, `Overflow`, `Incomplete`, `TagUnknown`, `TagNumberInvalid`, `IndefiniteLength` and
-///   `Length` of a segment's header, as by [`Header::decode`](der_core::Header).
+/// - `Failed`, `Overflow`, `Incomplete`, `TagUnknown`, `TagNumberInvalid`, `IndefiniteLength`,
+///   `Length` and `NestingDepth` of a segment's header, as by [`Header::decode`](der_core::Header).
 /// - `TagUnexpected` without a position, where a segment has another tag; the reader stands behind
 ///   its header and has not failed.
-/// - `IndefiniteLength` at the position behind the header of a segment of indefinite length; the
-///   reader stands there and has failed.
 /// - `Noncanonical` with the tag, one before the position behind the header of a segment that is
-///   constructed and of definite length; the reader stands behind the header and has not failed.
-/// - `Overflow` without a position, where fewer octets are left than a segment has, and its end
-///   would pass 4294967295; the reader stands behind its header and has not failed.
-/// - `Incomplete` at the position, where fewer octets are left than a segment has; the reader
-///   stands behind its header and has failed.
+///   constructed, under the Distinguished Encoding Rules; the reader stands behind the header and
+///   has not failed.
+/// - `Overflow`, `Incomplete` and `NestingDepth` of a constructed segment that cannot be entered, as
+///   by [`Reader::enter_nested`]; the reader stands behind its header.
+/// - `Overflow` without a position, where fewer octets are left than a primitive segment has, and
+///   its end would pass 4294967295; the reader stands behind its header and has not failed.
+/// - `Incomplete` at the position, where fewer octets are left than a primitive segment has; the
+///   reader stands behind its header and has failed.
 /// - `OutOfMemory` without a position, where memory for a segment's octets is refused; the reader
 ///   stands behind its header and has not failed.
+///
+/// Where segments inside a segment are refused, the reader stands where that leaves it, with its own
+/// end and depth.
 pub fn read_constructed_vec<R: Reader>(
     alloc: Global,
     reader: &mut R,
@@ -49,14 +54,15 @@ pub fn read_constructed_vec<R: Reader>(
     ensures ok { IfOk result (λ v. JoinsAll length inner_tag (R.state reader.old) v.items
         (R.state reader.new)) }
     ensures complete { (out : List ℕ) → R.reliable ≡ true → (R.state reader.old).failed ≡ false
-        → is_indefinite length ≡ true → Joined inner_tag (rest (R.state reader.old)) out
+        → MayJoin length (R.state reader.old).rules
+        → Joined inner_tag (levels_left (R.state reader.old)) (rest (R.state reader.old)) out
         → IsOk result ⊎ IsErrAnd result (λ e. e ≡ error_of_kind NoMemory) }
     ensures exact { R.reliable ≡ true
         → IfErr result (λ e. RefusesJoining length inner_tag (R.state reader.old) e
         (R.state reader.new)) }
 {
     number_fits(inner_tag);
-    if !length.is_indefinite() {
+    if !reader.encoding_rules().is_ber() && !length.is_indefinite() {
         return Err(reader.error(ErrorKind::IndefiniteLength));
     }
     let mut out = match Vec::with_capacity(alloc, u32::from(length) as usize) {
@@ -74,58 +80,50 @@ fn number_fits(tag: Tag)
     let _ = tag.number().value();
 }
 
-// Appends the contents of the segments up to the end.
+// Appends what the segments up to the end are joined to.
 fn append_segments<R: Reader>(
     reader: &mut R,
     inner_tag: Tag,
     out: &mut Vec<u8>,
 ) -> Result<(), Error>
     ensures same { Same (R.state reader.old) (R.state reader.new) }
-    ensures ok { OnOk result (AppendsJoined inner_tag (R.state reader.old) out.old.items
-        out.new.items (R.state reader.new)) }
+    ensures ok { OnOk result (AppendsJoined inner_tag (levels_left (R.state reader.old))
+        (R.state reader.old) out.old.items out.new.items (R.state reader.new)) }
     ensures to_the_end { OnOk result ((R.state reader.new).end ≡ (R.state reader.new).position) }
     ensures exact { R.reliable ≡ true
         → IfErr result (λ e. RefusesSegments inner_tag (R.state reader.old) e
         (R.state reader.new)) }
 {
     'segments: while !reader.is_finished() {
-        append_segment(reader, inner_tag, out)?;
+        let header = segment_header(reader, inner_tag)?;
+        if header.is_constructed() {
+            let length = header.length().sans_eoc();
+            let outer = reader.enter_nested(length)?;
+            let answer = append_segments(reader, inner_tag, out);
+            close_value(reader, length, outer, answer)?;
+        } else {
+            append_octets(reader, header.length(), out)?;
+        }
     }
     Ok(())
 }
 
-// Appends the contents of the next segment.
-fn append_segment<R: Reader>(reader: &mut R, inner_tag: Tag, out: &mut Vec<u8>) -> Result<(), Error>
+// Reads the header of the next segment, which under DER is not constructed.
+fn segment_header<R: Reader>(reader: &mut R, inner_tag: Tag) -> Result<Header, Error>
     ensures same { Same (R.state reader.old) (R.state reader.new) }
-    ensures ok { OnOk result (AppendsJoined inner_tag (R.state reader.old) out.old.items
-        out.new.items (R.state reader.new)) }
-    ensures forward { OnOk result ((R.state reader.old).position < (R.state reader.new).position) }
+    ensures ok { IfOk result (λ h. PassesSegmentHeader inner_tag h (R.state reader.old)
+        (R.state reader.new)) }
     ensures exact { R.reliable ≡ true
-        → IfErr result (λ e. RefusesSegment inner_tag (R.state reader.old) e
+        → IfErr result (λ e. RefusesSegmentHeader inner_tag (R.state reader.old) e
         (R.state reader.new)) }
 {
     let header = decode_header(reader)?;
     header.tag().assert_eq(inner_tag)?;
-    expect_primitive(reader, header)?;
-    append_octets(reader, header.length(), out)
-}
-
-// A header that was read is not constructed.
-fn expect_primitive<R: Reader>(reader: &mut R, header: Header) -> Result<(), Error>
-    ensures same { Same (R.state reader.old) (R.state reader.new) }
-    ensures unmoved { OnOk result (R.state reader.new ≡ R.state reader.old) }
-    ensures primitive { OnOk result ((head_of header).constructed ≡ false) }
-    ensures exact { IfErr result (λ e. RefusesConstructed header (R.state reader.old) e
-        (R.state reader.new)) }
-{
-    if header.length().is_indefinite() {
-        return Err(reader.error(ErrorKind::IndefiniteLength));
-    }
-    if header.is_constructed() {
+    if header.is_constructed() && !reader.encoding_rules().is_ber() {
         let at = reader.position().saturating_sub(Length::ONE);
         return Err(header.tag().non_canonical_error().at(at));
     }
-    Ok(())
+    Ok(header)
 }
 
 // Appends so many octets. Memory is asked for once they are known to be there.

@@ -1,12 +1,10 @@
 //! Texts that are borrowed where a reader lends them.
-ghost use Rattle.std.specs.Prelude.{◌≡◌, ◌↔◌, ◌+◌, ◌≤◌, false, true, IfOk};
-ghost use Rattle.der_base.specs.Error.{kind_of};
-ghost use Rattle.der_core.specs.Decode.{is_out_of_memory_kind};
-ghost use Rattle.der_core.specs.DecodeValue.{ContentsAhead, EndsOrLacks, TakesContents};
+ghost use Rattle.std.specs.Prelude.{◌≡◌, ◌↔◌, false, true, IfOk, IsOk};
+ghost use Rattle.der_core.specs.DecodeValue.{TakesContents};
 ghost use Rattle.der_core.specs.Header.{head_of};
+ghost use Rattle.der_core.specs.Outcome.{Gives, map_ok};
 ghost use Rattle.der_core.specs.ReaderState.{Same};
-ghost use Rattle.der.specs.Octets.{IsText, TakesOctets, LentTextAnswers, octets_size, WritesOctets};
-ghost use Rattle.der.specs.declared.string.cow.StringCow.{StringCow as ACow};
+ghost use Rattle.der.specs.Octets.{IsText, TakesOctets, EndsTaken, LentTextAnswers, octets_size, WritesOctets, unlent_outcome};
 ghost use Rattle.der.specs.StringCow.{cow_text, IsBorrowed};
 
 use crate::string::{StringOwned, StringRef};
@@ -66,14 +64,14 @@ impl<'a, R: Reader<Lent = &'a [u8]>> DecodeValue<R> for StringCow<'a> {
         ensures same { Same (R.state reader.old) (R.state reader.new) }
         ensures sound { TakesContents (TakesOctets IsText cow_text) (head_of header)
             (R.state reader.old) result (R.state reader.new) }
-        ensures complete { (v : ACow) → R.reliable ≡ true
-            → ContentsAhead (TakesOctets IsText cow_text v) (head_of header)
-            (R.state reader.old)
-            → (R.state reader.old).depth + 0 ≤ 64
-            → EndsOrLacks (λ e. is_out_of_memory_kind (kind_of e)) false result
-            (R.state reader.new) }
+        ensures complete { EndsTaken IsText cow_text R.reliable (head_of header)
+            (R.state reader.old) result (R.state reader.new) }
         ensures exact { R.reliable ≡ true → LentTextAnswers cow_text (head_of header)
             (R.state reader.old) result (R.state reader.new) }
+        ensures ok { IsOk result → LentTextAnswers cow_text (head_of header) (R.state reader.old)
+            result (R.state reader.new) }
+        ensures unlent { R.lends ≡ false → Gives unlent_outcome (R.state reader.old)
+            (map_ok cow_text result) (R.state reader.new) }
         ensures borrowed { IfOk result (λ t. IsBorrowed t ↔ (R.lends ≡ true)) }
     {
         if R::can_lend() {

@@ -1,6 +1,6 @@
 //! Decoding of contents.
 ghost use Rattle.std.specs.Prelude.{◌≡◌, ℕ, ◌+◌, ◌≤◌, Bool, true, false, List, IfOk, Result as AResult};
-ghost use Rattle.der_base.specs.Header.{Head};
+ghost use Rattle.der_base.specs.HeaderGrammar.{Head};
 ghost use Rattle.der_base.specs.declared.encoding_rules.EncodingRules.{EncodingRules as Rules};
 ghost use Rattle.der_core.specs.ReaderState.{ReaderState, rest, Same};
 ghost use Rattle.der_core.specs.Decode.{Passes, ReadsOrLacks};

@@ -1,6 +1,6 @@
 //! The order of headers.
 ghost use Rattle.std.specs.Prelude.{◌≡◌, Ok};
-ghost use Rattle.der_base.specs.Header.{header_octets};
+ghost use Rattle.der_base.specs.HeaderGrammar.{header_octets};
 ghost use Rattle.der_base.specs.Length.{number};
 ghost use Rattle.der_base.specs.Order.{byte_order};
 ghost use Rattle.der_base.proofs.DelimitedLemmas.{headers_delimited};

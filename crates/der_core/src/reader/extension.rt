@@ -1,7 +1,7 @@
 //! The calls that every reader has.
 ghost use Rattle.std.specs.Prelude.{◌≡◌, ◌↔◌, ℕ, ◌+◌, ◌-◌, ◌≤◌, true, false, IsTrue, length, IfOk, OnErr};
-ghost use Rattle.der_base.specs.Scan.{BodyFault};
-ghost use Rattle.der_base.specs.Header.{TagAhead, HeaderFault};
+ghost use Rattle.der_base.specs.ScanGrammar.{BodyFault};
+ghost use Rattle.der_base.specs.HeaderGrammar.{TagAhead, HeaderFault};
 ghost use Rattle.der_base.specs.Tag.{IdentifierFault};
 ghost use Rattle.der_base.specs.Length.{number, definite_length};
 ghost use Rattle.der_core.specs.ReaderState.{ReaderState, rest, Same, resumed_state};

@@ -1,7 +1,7 @@
 //! Tags ahead of a reader, which stays.
 ghost use Rattle.std.specs.Prelude.{◌≡◌, ◌↔◌, true, IsTrue};
 ghost use Rattle.der_base.specs.Class.{class_number};
-ghost use Rattle.der_base.specs.Header.{IdentifierAhead, TagAhead};
+ghost use Rattle.der_base.specs.HeaderGrammar.{IdentifierAhead, TagAhead};
 ghost use Rattle.der_base.specs.Tag.{label, IdentifierFault};
 ghost use Rattle.der_core.specs.Decode.{Decodes, Peeks, MatchAnswers};
 ghost use Rattle.der_core.specs.Outcome.{IsBinding};

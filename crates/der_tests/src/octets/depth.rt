@@ -1,6 +1,5 @@
 //! Parts inside each other, entered and left.
-ghost use Rattle.der_core.specs.SliceReader.{slice_state};
-ghost use Rattle.der_core.specs.ReaderState.{Same};
+ghost use Rattle.der.specs.Prelude.{slice_state, Same};
 
 use super::*;
 use crate::checks::{same, same_at};
@@ -8,18 +7,20 @@ use der::{Resumption, close_value};
 use der_fixtures::errors::too_deep;
 
 // So many empty parts inside each other.
+#[cycle(nest)]
 fn nest(reader: &mut SliceReader<'_>, levels: u8) -> Result<(), Error>
     ensures { Same (slice_state reader.old) (slice_state reader.new) }
 {
     if levels == 0 {
         return Ok(());
     }
-    let outer = match reader.enter_nested(Length::ZERO) {
-        Ok(outer) => outer,
-        Err(error) => return Err(error),
-    };
-    let answer = nest(reader, levels - 1);
-    reader.close_nested(outer, answer)
+    let inner = levels - 1;
+    reader.read_nested(
+        Length::ZERO,
+        |reader: &mut SliceReader<'_>| -> Result<(), Error>
+            ensures { Same (slice_state reader.old) (slice_state reader.new) }
+        { nest(reader, inner) },
+    )
 }
 
 #[test]
@@ -51,6 +52,34 @@ fn a_part_in_a_part(rt: HostRuntime) -> Result<(), Fail> {
     let mut reader = der_reader(&octets)?;
     same(&rt, reader.read_nested(Length::ONE, read_inner), Ok(0x01));
     same(&rt, reader.place(), (1, 2, false));
+    Ok(())
+}
+
+// Two of three octets are read, and then they are refused.
+fn refuse_behind_two(reader: &mut SliceReader<'_>) -> Result<(), Error>
+    ensures { Same (slice_state reader.old) (slice_state reader.new) }
+{
+    reader.drain(Length::new(2))?;
+    Err(ErrorKind::DateTime.at(Length::new(3)))
+}
+
+fn refused_within(reader: &mut SliceReader<'_>) -> Result<(), Error>
+    ensures { Same (slice_state reader.old) (slice_state reader.new) }
+{
+    reader.drain(Length::ONE)?;
+    reader.read_nested(Length::new(3), refuse_behind_two)
+}
+
+// Both parts are left, so that as many may be entered as before.
+#[test]
+fn a_part_in_a_part_that_is_refused(rt: HostRuntime) -> Result<(), Fail> {
+    let octets = [0x01, 0x02, 0x03, 0x04, 0x05, 0x06];
+    let mut reader = der_reader(&octets)?;
+    let refused = reader.read_nested(Length::new(5), refused_within);
+    same(&rt, refused, Err(ErrorKind::DateTime.at(Length::new(3))));
+    same(&rt, reader.place(), (3, 6, false));
+    same(&rt, nest(&mut reader, 64), Ok(()));
+    same(&rt, reader.place(), (3, 6, false));
     Ok(())
 }
 

@@ -1,6 +1,7 @@
 //! Headers that are read.
 use super::*;
 use crate::checks::{holds, same, same_at};
+use der_fixtures::bodies::first_octets;
 use der_fixtures::errors::{incorrect, indefinite};
 
 fn header(alloc: Global, bytes: &[u8]) -> Result<(Header, usize), Error> {
@@ -57,6 +58,18 @@ fn headers_that_are_refused(rt: HostRuntime) {
     ];
     for (octets, error) in rows {
         same_at(&rt, error, header(rt.alloc(), octets), Err(error));
+    }
+}
+
+// Each octet of the longest header is wanted where it is missing.
+#[test]
+fn headers_that_are_cut(rt: HostRuntime) {
+    let longest = [
+        0xBF, 0x8F, 0xFF, 0xFF, 0xFF, 0x7F, 0x84, 0xFF, 0xFF, 0xFF, 0xFF,
+    ];
+    for count in 0..=10u32 {
+        let cut = header(rt.alloc(), first_octets(&longest, count as usize));
+        same_at(&rt, count, cut, Err(incomplete(count + 1, count, count)));
     }
 }
 

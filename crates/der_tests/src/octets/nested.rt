@@ -1,6 +1,5 @@
 //! Parts, sequences and values that are read by a function of the caller, and positions.
-ghost use Rattle.der_core.specs.SliceReader.{slice_state};
-ghost use Rattle.der_core.specs.ReaderState.{Same};
+ghost use Rattle.der.specs.Prelude.{slice_state, Same};
 
 use super::*;
 use crate::checks::{same, same_at};

@@ -29,6 +29,19 @@ fn octets_in_turn(rt: HostRuntime) -> Result<(), Fail> {
 }
 
 #[test]
+fn contents_behind_a_header(rt: HostRuntime) -> Result<(), Fail> {
+    let octets = [0x04, 0x02, 0x31, 0x32];
+    let mut reader = der_reader(&octets)?;
+    let header: Result<Header, Error> = reader.decode(rt.alloc());
+    let two = Length::new(2);
+    same(&rt, header, Ok(Header::new(Tag::OctetString, two)));
+    let contents = octets_of(&mut reader, two)?;
+    same(&rt, contents, [0x31, 0x32].as_slice());
+    same(&rt, reader.place(), (4, 4, false));
+    Ok(())
+}
+
+#[test]
 fn octets_to_the_end(rt: HostRuntime) -> Result<(), Fail> {
     let mut reader = der_reader(&[0x03, 0x04])?;
     let mut octets = [0u8; 2];

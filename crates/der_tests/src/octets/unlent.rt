@@ -1,5 +1,5 @@
 //! A reader that cannot lend, through which the generic calls run a second time.
-ghost use Rattle.der_core.specs.ReaderState.{Same};
+ghost use Rattle.der.specs.Prelude.{Same};
 
 use super::*;
 use crate::checks::{holds, same};

@@ -1,5 +1,5 @@
 //! Parts and values of a reader that cannot lend.
-ghost use Rattle.der_core.specs.ReaderState.{Same};
+ghost use Rattle.der.specs.Prelude.{Same};
 
 use super::*;
 use crate::checks::same;

@@ -1,10 +1,8 @@
 //! A type that writes an octet and then refuses.
 ghost use Rattle.std.specs.Prelude.{◌≡◌, [], ◌∷◌, Ok, Err};
-ghost use Rattle.der_base.specs.Length.{definite_length};
-ghost use Rattle.der_base.specs.Error.{error_of_kind};
-ghost use Rattle.der_base.specs.declared.error.ErrorKind.TheVariants.{Overflow};
-ghost use Rattle.der_core.specs.Writer.{write_outcome};
-ghost use Rattle.der_core.specs.Encode.{ThenAnswers};
+ghost use Rattle.der.specs.Prelude.{definite_length, error_of_kind, write_outcome};
+ghost use Rattle.der.specs.ErrorKinds.{Overflow};
+ghost use Rattle.der.specs.Encode.{ThenAnswers};
 
 use super::*;
 use crate::checks::{holds, same};

@@ -1,7 +1,6 @@
 //! Contents of indefinite lengths that are read by a function, and the end marks behind them.
 ghost use Rattle.std.specs.Prelude.{◌≡◌};
-ghost use Rattle.der_core.specs.ReaderState.{Same};
-ghost use Rattle.der_core.specs.SliceReader.{slice_state};
+ghost use Rattle.der.specs.Prelude.{Same, slice_state};
 
 use super::*;
 use crate::checks::{same, same_at, same_octets};

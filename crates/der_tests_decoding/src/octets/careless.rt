@@ -1,6 +1,6 @@
 //! Types of a careless author: what they leave, or read past the end, is refused.
 ghost use Rattle.std.specs.Prelude.{◌≡◌, [], false};
-ghost use Rattle.der_base.specs.declared.tag.Tag.TheVariants.{OctetString};
+ghost use Rattle.der.specs.Prelude.{OctetString};
 
 use super::*;
 use crate::checks::{holds, same};

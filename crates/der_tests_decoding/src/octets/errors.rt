@@ -1,9 +1,8 @@
 //! A type with an error of its own, to which those of decoding are converted.
 ghost use Rattle.std.specs.Prelude.{◌≡◌, [], ◌∷◌, false};
 ghost use Rattle.std.proofs.Common.{ap};
-ghost use Rattle.der_base.specs.Error.{kind_of};
-ghost use Rattle.der_base.specs.declared.tag.Tag.TheVariants.{OctetString};
-ghost use Rattle.der_core.specs.Decode.{is_out_of_memory_kind};
+ghost use Rattle.der.specs.Prelude.{kind_of, OctetString};
+ghost use Rattle.der.specs.Decode.{is_out_of_memory_kind};
 
 use super::*;
 use crate::checks::{holds, same, same_at};

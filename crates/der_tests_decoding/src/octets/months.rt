@@ -46,6 +46,17 @@ fn months_that_are_too_long(rt: HostRuntime) {
     );
 }
 
+// No length counts the octets up to the end of the contents, or one does and they are not there.
+#[test]
+fn months_of_the_longest_lengths(rt: HostRuntime) {
+    let alloc = rt.alloc();
+    let longest = [0x04, 0x84, 0xFF, 0xFF, 0xFF, 0xFF];
+    let overflow = ErrorKind::Overflow.to_error();
+    same(&rt, month(alloc, &longest), Err(overflow));
+    let shorter = [0x04, 0x84, 0xFF, 0xFF, 0xFF, 0xF9];
+    same(&rt, month(alloc, &shorter), Err(incomplete(7, 6, 6)));
+}
+
 #[test]
 fn months_that_are_refused(rt: HostRuntime) {
     let alloc = rt.alloc();

@@ -10,13 +10,21 @@ fn tag_of(alloc: Global, bytes: &[u8]) -> Result<Tag, Error> {
 
 #[test]
 fn tags_both_ways(rt: HostRuntime) -> Result<(), Fail> {
-    let rows: [(Tag, &[u8]); 6] = [
+    let rows: [(Tag, &[u8]); 8] = [
         (Tag::OctetString, &[0x04]),
         (Tag::Sequence, &[0x30]),
         (TagNumber(33).application(true), &[0x7F, 0x21]),
         (
             TagNumber(16385).application(false),
             &[0x5F, 0x81, 0x80, 0x01],
+        ),
+        (
+            TagNumber(16383).context_specific(false),
+            &[0x9F, 0xFF, 0x7F],
+        ),
+        (
+            TagNumber(16384).context_specific(false),
+            &[0x9F, 0x81, 0x80, 0x00],
         ),
         (
             TagNumber(2097153).context_specific(false),
@@ -37,8 +45,10 @@ fn tags_both_ways(rt: HostRuntime) -> Result<(), Fail> {
 
 #[test]
 fn numbers_that_are_refused(rt: HostRuntime) {
-    let rows: [(&[u8], u32); 4] = [
+    let rows: [(&[u8], u32); 6] = [
         (&[0xDF, 0x9F, 0x8F, 0x8F, 0x8F, 0x0F], 5),
+        (&[0x7F, 0x90, 0x80, 0x80, 0x80, 0x00], 5),
+        (&[0xBF, 0x8F, 0xFF, 0xFF, 0xFF, 0xFF, 0x7F], 6),
         (&[0xFF, 0x03], 2),
         (&[0x5F, 0x80, 0x20], 2),
         (&[0x1F, 0xFF], 1),

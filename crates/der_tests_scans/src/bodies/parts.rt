@@ -1,6 +1,6 @@
 //! Bodies inside parts: a scan goes up to the end of the part, and counts its own levels.
 ghost use Rattle.std.specs.Prelude.{◌≡◌};
-ghost use Rattle.der_core.specs.ReaderState.{Same};
+ghost use Rattle.der.specs.Prelude.{Same};
 
 use super::*;
 use crate::checks::{same, same_at};

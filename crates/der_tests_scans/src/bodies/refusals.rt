@@ -1,7 +1,7 @@
 //! What a body is refused for: by a header that wants it, by a scan that passes it, and by one that
 //! stays.
 ghost use Rattle.std.specs.Prelude.{◌≡◌};
-ghost use Rattle.der_base.specs.declared.encoding_rules.EncodingRules.TheVariants.{Ber};
+ghost use Rattle.der.specs.Prelude.{Ber};
 
 use super::scans::{body_ahead, pass_body};
 use super::*;

@@ -1,7 +1,6 @@
 //! The scan of a body, by a reader that passes it and by one that stays.
 ghost use Rattle.std.specs.Prelude.{◌≡◌};
-ghost use Rattle.der_base.specs.declared.encoding_rules.EncodingRules.TheVariants.{Ber};
-ghost use Rattle.der_core.specs.ReaderState.{Same};
+ghost use Rattle.der.specs.Prelude.{Ber, Same};
 
 use super::*;
 use crate::checks::{same, same_at};

@@ -1,5 +1,4 @@
 //! Octets that a slice drains at once, and a reader that lends nothing in steps.
-use super::stepping_reader::ber_stepping;
 use super::*;
 use crate::checks::{same, same_at};
 use std::process::Abort;
@@ -13,7 +12,7 @@ fn drain_both<R: Reader, S: Reader>(rt: &impl Abort, mut reader: R, mut steps: S
 // The same where the first octets are read, and where both have failed behind them.
 fn drain_behind(rt: &impl Abort, octets: &[u8], passed: u32, amount: Length) -> Result<(), Error> {
     let mut reader = ber_reader(octets)?;
-    let mut steps = ber_stepping(octets)?;
+    let mut steps = ber_unlent(octets)?;
     let _ = reader.read_slice(Length::new(passed))?;
     steps.drain(Length::new(passed))?;
     drain_both(rt, reader.fork(), steps.fork(), amount);

@@ -1,7 +1,6 @@
 //! A reader that lends all that is left, and reads nothing.
 ghost use Rattle.std.specs.Prelude.{◌≡◌, false, true, IfOk};
-ghost use Rattle.der_base.specs.declared.encoding_rules.EncodingRules.TheVariants.{Ber};
-ghost use Rattle.der_core.specs.SliceReader.{slice_state};
+ghost use Rattle.der.specs.Prelude.{Ber, slice_state};
 
 use super::*;
 use der::Resumption;

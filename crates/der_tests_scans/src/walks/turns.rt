@@ -1,6 +1,6 @@
 //! How many turns a scan takes, which is proved.
 ghost use Rattle.std.specs.Prelude.{◌≡◌, ◌+◌, Ok};
-ghost use Rattle.der_base.specs.Length.{indefinite_length};
+ghost use Rattle.der.specs.Prelude.{indefinite_length};
 
 use super::*;
 use crate::checks::same;

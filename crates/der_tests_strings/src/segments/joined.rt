@@ -6,7 +6,7 @@ use der::example::JoinedOctets;
 use std::process::Abort;
 
 // What an element gives, and where the reader stands then.
-fn decoding<R: Reader>(
+pub(super) fn decoding<R: Reader>(
     rt: &impl Abort,
     alloc: Global,
     mut reader: R,
@@ -83,8 +83,9 @@ fn octets_as_they_stand(rt: HostRuntime) -> Result<(), Fail> {
 
 #[test]
 fn octets_of_segments(rt: HostRuntime) -> Result<(), Fail> {
-    let rows: [(&[u8], &[u8], u32); 4] = [
+    let rows: [(&[u8], &[u8], u32); 5] = [
         (&[0x24, 0x80, 0x00, 0x00], &[], 4),
+        (&[0x24, 0x04, 0x04, 0x02, 0xAA, 0xBB], &[0xAA, 0xBB], 6),
         (
             &[
                 0x24, 0x80, 0x04, 0x02, 0xAA, 0xBB, 0x04, 0x01, 0xCC, 0x00, 0x00,
@@ -111,23 +112,88 @@ fn octets_of_segments(rt: HostRuntime) -> Result<(), Fail> {
     Ok(())
 }
 
+// Segments that are cut into segments, of either form of length.
+#[test]
+fn octets_of_segments_in_segments(rt: HostRuntime) -> Result<(), Fail> {
+    let rows: [(&[u8], &[u8], u32); 6] = [
+        (&[0x24, 0x00], &[], 2),
+        (&[0x24, 0x80, 0x24, 0x80, 0x00, 0x00, 0x00, 0x00], &[], 8),
+        (
+            &[
+                0x24, 0x80, 0x24, 0x80, 0x04, 0x01, 0xAA, 0x00, 0x00, 0x04, 0x01, 0xBB, 0x00, 0x00,
+            ],
+            &[0xAA, 0xBB],
+            14,
+        ),
+        (
+            &[0x24, 0x80, 0x24, 0x03, 0x04, 0x01, 0xAA, 0x00, 0x00],
+            &[0xAA],
+            9,
+        ),
+        (
+            &[0x24, 0x80, 0x24, 0x04, 0x04, 0x02, 0xAA, 0xBB, 0x00, 0x00],
+            &[0xAA, 0xBB],
+            10,
+        ),
+        (
+            &[
+                0x24, 0x0D, 0x24, 0x80, 0x04, 0x01, 0xBB, 0x24, 0x00, 0x00, 0x00, 0x04, 0x02, 0x00,
+                0x00,
+            ],
+            &[0xBB, 0x00, 0x00],
+            15,
+        ),
+    ];
+    for (octets, read, end) in rows {
+        under_ber(&rt, rt.alloc(), octets, Ok(read), (end, false))?;
+    }
+    Ok(())
+}
+
 #[test]
 fn segments_that_are_refused(rt: HostRuntime) -> Result<(), Fail> {
-    let rows: [(&[u8], Error, (u32, bool)); 5] = [
+    let rows: [(&[u8], Error, (u32, bool)); 10] = [
         (
             &[0x24, 0x80, 0x05, 0x00, 0x00, 0x00],
             unexpected(Tag::OctetString, Tag::Null),
             (4, false),
         ),
         (
-            &[0x24, 0x80, 0x24, 0x80, 0x00, 0x00, 0x00, 0x00],
-            indefinite(4),
+            &[0x24, 0x02, 0x05, 0x00],
+            unexpected(Tag::OctetString, Tag::Null),
+            (4, false),
+        ),
+        (
+            &[0x24, 0x04, 0x24, 0x02, 0x30, 0x00],
+            unexpected(Tag::OctetString, Tag::Sequence),
+            (6, false),
+        ),
+        (
+            &[0x24, 0x02, 0xAA, 0xBB],
+            incorrect(TagNumber::new(10).context_specific(true), 4),
             (4, true),
         ),
         (
-            &[0x24, 0x80, 0x24, 0x04, 0x04, 0x02, 0xAA, 0xBB, 0x00, 0x00],
-            noncanonical(3),
+            &[0x24, 0x04, 0x24, 0x03, 0x04, 0x00],
+            incomplete(7, 6, 6),
             (4, false),
+        ),
+        (
+            &[0x24, 0x04, 0x24, 0x02, 0x04, 0x01],
+            incomplete(7, 6, 6),
+            (6, true),
+        ),
+        (
+            &[0x24, 0x05, 0x24, 0x80, 0x04, 0x01, 0xAA],
+            incomplete(8, 7, 7),
+            (4, false),
+        ),
+        (
+            &[
+                0x24, 0x09, 0x24, 0x80, 0x24, 0x02, 0x04, 0x00, 0x00, 0x00, 0x00,
+            ],
+            unknown(0x00, 11),
+            (11, true),
         ),
         (
             &[0x24, 0x80, 0x04, 0x05, 0xAA, 0x00, 0x00],
@@ -142,19 +208,6 @@ fn segments_that_are_refused(rt: HostRuntime) -> Result<(), Fail> {
     ];
     for (octets, error, place) in rows {
         under_ber(&rt, rt.alloc(), octets, Err(error), place)?;
-    }
-    Ok(())
-}
-
-#[test]
-fn constructed_elements_of_definite_lengths(rt: HostRuntime) -> Result<(), Fail> {
-    let rows: [&[u8]; 3] = [
-        &[0x24, 0x04, 0x04, 0x02, 0xAA, 0xBB],
-        &[0x24, 0x02, 0xAA, 0xBB],
-        &[0x24, 0x00],
-    ];
-    for octets in rows {
-        under_ber(&rt, rt.alloc(), octets, Err(noncanonical(1)), (2, false))?;
     }
     Ok(())
 }

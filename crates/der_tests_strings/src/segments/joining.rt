@@ -21,8 +21,8 @@ fn indefinite_lengths(rt: HostRuntime) -> Result<(), Fail> {
     Ok(())
 }
 
-// A length of the definite form is refused at once.
-fn behind_definite<R: Joins>(rt: &impl Abort, alloc: Global, mut reader: R, number: u32) {
+// A length of the definite form is refused at once, under the Distinguished Encoding Rules.
+fn refused_behind_definite<R: Joins>(rt: &impl Abort, alloc: Global, mut reader: R, number: u32) {
     let (position, end, _) = reader.place();
     let length = Length::new(number);
     let joined = reader.join(alloc, length, Tag::OctetString);
@@ -31,16 +31,57 @@ fn behind_definite<R: Joins>(rt: &impl Abort, alloc: Global, mut reader: R, numb
 }
 
 #[test]
-fn definite_lengths(rt: HostRuntime) -> Result<(), Fail> {
+fn definite_lengths_under_der(rt: HostRuntime) -> Result<(), Fail> {
     let octets = [0x04, 0x05, 0xAA];
     for number in [0, 1, 3, 4294967295] {
-        behind_definite(&rt, rt.alloc(), ber_reader(&octets)?, number);
-        behind_definite(&rt, rt.alloc(), der_unlent(&octets)?, number);
+        refused_behind_definite(&rt, rt.alloc(), der_reader(&octets)?, number);
+        refused_behind_definite(&rt, rt.alloc(), der_unlent(&octets)?, number);
     }
     let mut reader = der_reader(&octets)?;
     reader.drain(Length::new(2))?;
-    behind_definite(&rt, rt.alloc(), reader, 1);
-    behind_definite(&rt, rt.alloc(), der_reader(&[])?, 0);
+    refused_behind_definite(&rt, rt.alloc(), reader, 1);
+    refused_behind_definite(&rt, rt.alloc(), der_reader(&[])?, 0);
+    Ok(())
+}
+
+// Under the Basic Encoding Rules segments behind it are joined.
+fn behind_definite<R: Joins>(
+    rt: &impl Abort,
+    alloc: Global,
+    mut reader: R,
+    number: u32,
+    answer: Result<&[u8], Error>,
+    place: (u32, bool),
+) {
+    let (position, failed) = place;
+    let (_, end, _) = reader.place();
+    let joined = reader.join(alloc, Length::new(number), Tag::OctetString);
+    same_at(rt, number, view(&joined), answer);
+    same_at(rt, number, reader.place(), (position, end, failed));
+}
+
+#[test]
+fn definite_lengths_under_ber(rt: HostRuntime) -> Result<(), Fail> {
+    let rows: [(&[u8], Result<&[u8], Error>, (u32, bool)); 4] = [
+        (&[], Ok(&[]), (0, false)),
+        (
+            &[0x04, 0x01, 0xAA, 0x24, 0x03, 0x04, 0x01, 0xBB],
+            Ok(&[0xAA, 0xBB]),
+            (8, false),
+        ),
+        (&[0x04, 0x05, 0xAA], Err(incomplete(7, 3, 2)), (2, true)),
+        (
+            &[0x24, 0x02, 0x05, 0x00],
+            Err(unexpected(Tag::OctetString, Tag::Null)),
+            (4, false),
+        ),
+    ];
+    for (octets, answer, place) in rows {
+        for number in [0, 1, 3, 4096] {
+            behind_definite(&rt, rt.alloc(), ber_reader(octets)?, number, answer, place);
+            behind_definite(&rt, rt.alloc(), ber_unlent(octets)?, number, answer, place);
+        }
+    }
     Ok(())
 }
 
@@ -75,26 +116,50 @@ fn tags_of_the_context(rt: HostRuntime) -> Result<(), Fail> {
     Ok(())
 }
 
-// Segments are primitive, also where the tag that is asked for is not.
+// Under the Distinguished Encoding Rules segments are primitive, also where the tag that is asked for
+// is not.
 #[test]
-fn constructed_tags(rt: HostRuntime) -> Result<(), Fail> {
+fn constructed_tags_under_der(rt: HostRuntime) -> Result<(), Fail> {
     let alloc = rt.alloc();
     let constructed = context_specific(true);
     let refused = Err(constructed.non_canonical_error().at(Length::ONE));
-    tagged(
-        &rt,
-        alloc,
-        der_reader(&[0xA0, 0x01, 0x2A])?,
-        constructed,
-        refused,
-    );
-    tagged(
-        &rt,
-        alloc,
-        ber_unlent(&[0xA0, 0x01, 0x2A])?,
-        constructed,
-        refused,
-    );
+    let octets = [0xA0, 0x01, 0x2A];
+    tagged(&rt, alloc, der_reader(&octets)?, constructed, refused);
+    tagged(&rt, alloc, der_unlent(&octets)?, constructed, refused);
+    Ok(())
+}
+
+// Under the Basic Encoding Rules each of them is cut into segments with that tag.
+fn cut_again<R: Joins>(
+    rt: &impl Abort,
+    alloc: Global,
+    mut reader: R,
+    answer: Result<&[u8], Error>,
+    place: (u32, bool),
+) {
+    let (position, failed) = place;
+    let (_, end, _) = reader.place();
+    let joined = reader.join(alloc, Length::new(end), context_specific(true));
+    same_at(rt, end, view(&joined), answer);
+    same_at(rt, end, reader.place(), (position, end, failed));
+}
+
+#[test]
+fn constructed_tags_under_ber(rt: HostRuntime) -> Result<(), Fail> {
+    let rows: [(&[u8], Result<&[u8], Error>, (u32, bool)); 4] = [
+        (&[0xA0, 0x00], Ok(&[]), (2, false)),
+        (&[0xA0, 0x80, 0xA0, 0x00, 0x00, 0x00], Ok(&[]), (6, false)),
+        (&[0xA0, 0x01, 0x2A], Err(unknown(0x2A, 3)), (3, true)),
+        (
+            &[0xA0, 0x02, 0x80, 0x00],
+            Err(unexpected(context_specific(true), context_specific(false))),
+            (4, false),
+        ),
+    ];
+    for (octets, answer, place) in rows {
+        cut_again(&rt, rt.alloc(), ber_reader(octets)?, answer, place);
+        cut_again(&rt, rt.alloc(), ber_unlent(octets)?, answer, place);
+    }
     Ok(())
 }
 

@@ -1,7 +1,7 @@
 //! Contents that stand as they are or in segments.
 use super::*;
 use crate::checks::{same, same_at};
-use der::read_eoc;
+use der::close_value;
 use std::process::Abort;
 
 // Readers that contents are read by, without saying all that they are.
@@ -92,8 +92,8 @@ fn primitive_headers(rt: HostRuntime) -> Result<(), Fail> {
 }
 
 // The header's tag is not looked at, but in what a refusal says.
-fn segments_behind(rt: &impl Abort, alloc: Global, tag: Tag) -> Result<(), Error> {
-    let header = Header::new(tag, Length::new_indefinite(3));
+fn segments_behind(rt: &impl Abort, alloc: Global, tag: Tag, length: Length) -> Result<(), Error> {
+    let header = Header::new(tag, length);
     let joined = Ok([0x2A].as_slice());
     under_ber(rt, alloc, &SEGMENT, header, joined, (3, false))?;
     let refused = Err(tag.non_canonical_error().at(Length::ZERO));
@@ -102,37 +102,59 @@ fn segments_behind(rt: &impl Abort, alloc: Global, tag: Tag) -> Result<(), Error
 
 #[test]
 fn headers_of_segments(rt: HostRuntime) -> Result<(), Fail> {
+    let indefinite = Length::new_indefinite(3);
     for tag in [Tag::OctetString, context_specific(true), Tag::Sequence] {
-        segments_behind(&rt, rt.alloc(), tag)?;
+        segments_behind(&rt, rt.alloc(), tag, indefinite)?;
+    }
+    for tag in [context_specific(true), Tag::Sequence] {
+        segments_behind(&rt, rt.alloc(), tag, Length::new(3))?;
     }
     Ok(())
 }
 
-// What stands in an element of indefinite length, whatever its tag.
+// What stands in a constructed element, whatever its tag and the form of its length.
 fn contents(alloc: Global, reader: &mut SliceReader<'_>) -> Result<BytesOwned, Error> {
     let header = next_header(reader)?;
-    let outer = reader.enter_nested(header.length().sans_eoc())?;
+    let length = header.length().sans_eoc();
+    let outer = reader.enter_nested(length)?;
     let read = BytesOwned::decode_value_parts(alloc, reader, header, Tag::OctetString);
-    let joined = reader.close_nested(outer, read)?;
-    read_eoc(reader)?;
-    Ok(joined)
+    close_value(reader, length, outer, read)
 }
 
 // The encrypted octets of a CMS message, whose tag stands in the place of OCTET STRING.
-#[test]
-fn an_implicit_tag(rt: HostRuntime) -> Result<(), Fail> {
-    let octets = [
-        0xA0, 0x80, 0x04, 0x10, 0xCC, 0x74, 0xAD, 0xF6, 0x5D, 0x97, 0x3C, 0x8B, 0x72, 0xCD, 0x51,
-        0xE1, 0xB9, 0x27, 0xF0, 0xF0, 0x00, 0x00,
-    ];
-    let mut reader = ber_reader(&octets)?;
-    let joined = contents(rt.alloc(), &mut reader)?;
+fn encrypted(rt: &impl Abort, alloc: Global, octets: &[u8]) -> Result<(), Error> {
+    let end = octets.len() as u32;
+    let mut reader = ber_reader(octets)?;
+    let joined = contents(alloc, &mut reader)?;
     let whole = [
         0xCC, 0x74, 0xAD, 0xF6, 0x5D, 0x97, 0x3C, 0x8B, 0x72, 0xCD, 0x51, 0xE1, 0xB9, 0x27, 0xF0,
         0xF0,
     ];
-    same(&rt, joined.as_slice(), whole.as_slice());
-    same(&rt, reader.place(), (22, 22, false));
+    same_at(rt, end, joined.as_slice(), whole.as_slice());
+    same_at(rt, end, reader.place(), (end, end, false));
+    Ok(())
+}
+
+#[test]
+fn an_implicit_tag(rt: HostRuntime) -> Result<(), Fail> {
+    let rows: [&[u8]; 3] = [
+        &[
+            0xA0, 0x80, 0x04, 0x10, 0xCC, 0x74, 0xAD, 0xF6, 0x5D, 0x97, 0x3C, 0x8B, 0x72, 0xCD,
+            0x51, 0xE1, 0xB9, 0x27, 0xF0, 0xF0, 0x00, 0x00,
+        ],
+        &[
+            0xA0, 0x12, 0x04, 0x10, 0xCC, 0x74, 0xAD, 0xF6, 0x5D, 0x97, 0x3C, 0x8B, 0x72, 0xCD,
+            0x51, 0xE1, 0xB9, 0x27, 0xF0, 0xF0,
+        ],
+        &[
+            0xA0, 0x80, 0x24, 0x80, 0x04, 0x04, 0xCC, 0x74, 0xAD, 0xF6, 0x24, 0x06, 0x04, 0x04,
+            0x5D, 0x97, 0x3C, 0x8B, 0x00, 0x00, 0x04, 0x08, 0x72, 0xCD, 0x51, 0xE1, 0xB9, 0x27,
+            0xF0, 0xF0, 0x00, 0x00,
+        ],
+    ];
+    for octets in rows {
+        encrypted(&rt, rt.alloc(), octets)?;
+    }
     Ok(())
 }
 
@@ -152,10 +174,9 @@ fn refused_behind<R: Reader + Parts>(
 }
 
 #[test]
-fn constructed_headers_of_definite_lengths(rt: HostRuntime) -> Result<(), Fail> {
+fn constructed_headers_under_der(rt: HostRuntime) -> Result<(), Fail> {
     for (before, at) in [(0, 0), (1, 0), (2, 1), (3, 2)] {
-        refused_behind(&rt, rt.alloc(), ber_reader(&SEGMENT)?, before, at)?;
-        refused_behind(&rt, rt.alloc(), ber_unlent(&SEGMENT)?, before, at)?;
+        refused_behind(&rt, rt.alloc(), der_reader(&SEGMENT)?, before, at)?;
         refused_behind(&rt, rt.alloc(), der_unlent(&SEGMENT)?, before, at)?;
     }
     Ok(())
@@ -170,5 +191,23 @@ fn segments_that_are_refused(rt: HostRuntime) -> Result<(), Fail> {
     under_ber(&rt, alloc, &[0x04, 0x05, 0xAA], header, cut, (2, true))?;
     let other = Err(unexpected(Tag::OctetString, Tag::Null));
     under_ber(&rt, alloc, &[0x05, 0x00], header, other, (2, false))?;
+    let header = Header::new(Tag::Sequence, Length::new(4));
+    under_ber(
+        &rt,
+        alloc,
+        &[0x24, 0x02, 0x05, 0x00],
+        header,
+        other,
+        (4, false),
+    )?;
+    let inside = Err(incomplete(5, 4, 4));
+    under_ber(
+        &rt,
+        alloc,
+        &[0x24, 0x03, 0x04, 0x01],
+        header,
+        inside,
+        (2, false),
+    )?;
     Ok(())
 }

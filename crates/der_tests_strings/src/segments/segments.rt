@@ -143,16 +143,69 @@ fn segments_with_other_tags(rt: HostRuntime) -> Result<(), Fail> {
     Ok(())
 }
 
-// A segment of indefinite length, or one that has segments itself.
+// A segment of either form of length that is cut into segments.
 #[test]
 fn segments_of_segments(rt: HostRuntime) -> Result<(), Fail> {
-    let rows: [(&[u8], Error, (u32, bool)); 7] = [
-        (&[0x24, 0x01, 0x2A], noncanonical(1), (2, false)),
-        (&[0x24, 0x00], noncanonical(1), (2, false)),
-        (&[0x04, 0x00, 0x24, 0x01, 0x2A], noncanonical(3), (4, false)),
-        (&[0x24, 0x80, 0x00, 0x00], indefinite(2), (2, true)),
-        (&[0x04, 0x80, 0x00, 0x00], indefinite(2), (2, true)),
+    // the segments, what they are joined to, and how many octets they have
+    let rows: [(&[u8], &[u8], u32); 5] = [
+        (&[0x24, 0x00], &[], 2u32),
+        (&[0x24, 0x80, 0x00, 0x00], &[], 4),
+        (
+            &[0x04, 0x01, 0x2A, 0x24, 0x03, 0x04, 0x01, 0x2B],
+            &[0x2A, 0x2B],
+            8,
+        ),
+        (
+            &[
+                0x24, 0x80, 0x04, 0x01, 0x2A, 0x00, 0x00, 0x24, 0x03, 0x04, 0x01, 0x2B, 0x04, 0x01,
+                0x2C,
+            ],
+            &[0x2A, 0x2B, 0x2C],
+            15,
+        ),
+        (
+            &[
+                0x24, 0x06, 0x24, 0x80, 0x24, 0x00, 0x00, 0x00, 0x04, 0x01, 0x00,
+            ],
+            &[0x00],
+            11,
+        ),
+    ];
+    for (octets, joined, end) in rows {
+        joining_each(&rt, rt.alloc(), octets, Ok(joined), (end, false))?;
+    }
+    Ok(())
+}
+
+#[test]
+fn segments_of_segments_that_are_refused(rt: HostRuntime) -> Result<(), Fail> {
+    let string = Tag::OctetString;
+    let rows: [(&[u8], Error, (u32, bool)); 10] = [
+        (&[0x24, 0x01, 0x2A], unknown(0x2A, 3), (3, true)),
+        (&[0x04, 0x00, 0x24, 0x01, 0x2A], unknown(0x2A, 5), (5, true)),
+        (
+            &[0x24, 0x02, 0x05, 0x00],
+            unexpected(string, Tag::Null),
+            (4, false),
+        ),
+        (
+            &[0x24, 0x03, 0x04, 0x02, 0x2A],
+            incomplete(6, 5, 4),
+            (4, true),
+        ),
+        (&[0x24, 0x03, 0x04, 0x01], incomplete(5, 4, 4), (2, false)),
         (&[0x24, 0x80], incomplete(3, 2, 2), (2, false)),
+        (
+            &[0x24, 0x80, 0x30, 0x00, 0x00, 0x00],
+            unexpected(string, Tag::Sequence),
+            (4, false),
+        ),
+        (
+            &[0x24, 0x80, 0x00, 0x00, 0x24],
+            incomplete(6, 5, 5),
+            (5, true),
+        ),
+        (&[0x04, 0x80, 0x00, 0x00], indefinite(2), (2, true)),
         (&[0x04, 0x80], incomplete(3, 2, 2), (2, false)),
     ];
     for (octets, error, place) in rows {

@@ -67,7 +67,7 @@ fn texts_from_a_reader_that_lends(rt: HostRuntime) -> Result<(), Fail> {
 fn texts_from_a_reader_that_does_not(rt: HostRuntime) -> Result<(), Fail> {
     let mut reader = der_unlent(&[0xC3, 0xBC])?;
     let refused = StringCow::decode_value(rt.alloc(), &mut reader, header_of(2)).err();
-    same(&rt, refused, Some(unlendable(0)));
+    same(&rt, refused, Some(unsupported(0)));
     same(&rt, reader.place(), (0, 2, false));
     Ok(())
 }

@@ -87,15 +87,19 @@ fn unlent<T: Decode<CopyingReader<'static>, Error = Error> + Drop>(
     octets: &'static [u8; 3],
 ) -> Result<(), Error> {
     let mut reader = der_unlent(octets)?;
-    same(rt, T::decode(alloc, &mut reader).err(), Some(unlendable(2)));
+    same(
+        rt,
+        T::decode(alloc, &mut reader).err(),
+        Some(unsupported(2)),
+    );
     same(rt, reader.place(), (2, 3, false));
     Ok(())
 }
 
 #[test]
 fn elements_that_want_lending(rt: HostRuntime) -> Result<(), Fail> {
-    unlent::<BorrowedOctets<'static>>(&rt, rt.alloc(), &[0x04, 0x01, 0x09])?;
-    unlent::<OwnedText>(&rt, rt.alloc(), &[0x0C, 0x01, 0x61])?;
+    unlent::<BorrowedOctets<'static>>(&rt, rt.alloc(), &[0x04, 0x01, 0xFF])?;
+    unlent::<OwnedText>(&rt, rt.alloc(), &[0x0C, 0x01, 0x68])?;
     Ok(())
 }
 
@@ -113,11 +117,11 @@ fn contents_that_want_lending(rt: HostRuntime) -> Result<(), Fail> {
     let alloc = rt.alloc();
     let mut reader = der_unlent(&[0x61])?;
     let refused = StringRef::decode_value(alloc, &mut reader, header_of(1)).err();
-    same(&rt, refused, Some(unlendable(0)));
+    same(&rt, refused, Some(unsupported(0)));
     let refused = StringOwned::decode_value(alloc, &mut reader, header_of(1)).err();
-    same(&rt, refused, Some(unlendable(0)));
+    same(&rt, refused, Some(unsupported(0)));
     let refused = BytesRef::decode_value(alloc, &mut reader, header_of(1)).err();
-    same(&rt, refused, Some(unlendable(0)));
+    same(&rt, refused, Some(unsupported(0)));
     same(&rt, reader.place(), (0, 1, false));
     Ok(())
 }

@@ -1,7 +1,7 @@
 //! A type with a tag of its own over octets that are borrowed where the reader lends: it is lawful.
 ghost use Rattle.std.specs.Prelude.{◌≡◌, false};
 ghost use Rattle.std.proofs.Common.{arith};
-ghost use Rattle.der_base.specs.declared.tag.Tag.TheVariants.{OctetString};
+ghost use Rattle.der.specs.Prelude.{OctetString};
 ghost use Rattle.der.specs.BytesCow.{cow_octets};
 ghost use Rattle.der.specs.Octets.{IsCounted, TakesOctets, LentAnswers, octets_lawful, octets_size, WritesOctets};
 

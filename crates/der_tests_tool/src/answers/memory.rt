@@ -20,7 +20,7 @@ fn refuse_in_turn(
     for step in 1..257 {
         let heap = LocalHeap::new(rt.alloc(), step * 16)?;
         let mut out = Vec::new(rt.alloc());
-        let got = respond(&heap, &words, &mut out)?;
+        let got = respond(rt.alloc(), &heap, &words, &mut out)?;
         if out.as_slice() == text.as_bytes() {
             assert_eq!(rt; got, status, "at {step}");
         } else {
@@ -77,6 +77,17 @@ fn refuses_each_growth_for_two_elements_in_turn(rt: HostRuntime) -> Result<(), F
     Ok(())
 }
 
+// The segments are joined in other memory, of which `.ci/refused_memory` refuses each growth.
+#[test]
+fn refuses_each_growth_for_segments_in_turn(rt: HostRuntime) -> Result<(), Fail> {
+    let told = refuse_in_turn(&rt, "join 240524030401AA", 0, "aa\n")?;
+    assert!(rt; 0 < told && told < 256, "{told}");
+    let line = "error: unexpected ASN.1 DER tag: expected OCTET STRING, got NULL\n";
+    let refused = refuse_in_turn(&rt, "join 240424020500", 1, line)?;
+    assert!(rt; 0 < refused && refused < 256, "{refused}");
+    Ok(())
+}
+
 // The words are looked at without memory.
 #[test]
 fn tells_the_usage_without_memory(rt: HostRuntime) -> Result<(), Fail> {
@@ -84,5 +95,6 @@ fn tells_the_usage_without_memory(rt: HostRuntime) -> Result<(), Fail> {
     assert_eq!(rt; refuse_in_turn(&rt, "tlv 0", 2, USAGE)?, 0);
     assert_eq!(rt; refuse_in_turn(&rt, "tlv --ber 0", 2, USAGE)?, 0);
     assert_eq!(rt; refuse_in_turn(&rt, "order 3000 0", 2, USAGE)?, 0);
+    assert_eq!(rt; refuse_in_turn(&rt, "join 0", 2, USAGE)?, 0);
     Ok(())
 }

@@ -8,11 +8,39 @@ use std::test::Fail;
 
 const LINES: &str = "tag: INTEGER\nconstructed: no\nlength: 1\nrest: 2a00\n";
 
-const ROWS: [(&str, u8, &str); 4] = [
+const BER_LINES: &str = "tag: OCTET STRING\nconstructed: yes\nlength: 1\nrest: 09\n";
+
+// Each command with its answer and with a line of an error, and other words.
+const ROWS: [(&str, u8, &str); 13] = [
     ("head 02012A00", 0, LINES),
+    (
+        "head 04817F",
+        1,
+        "error: incorrect length for OCTET STRING at DER byte 3\n",
+    ),
+    ("head --ber 240109", 0, BER_LINES),
+    (
+        "head --ber 0480",
+        1,
+        "error: ASN.1 DER message is incomplete: expected 3, actual 2 at DER byte 2\n",
+    ),
     ("tlv 02012A00", 0, "02012a\n"),
+    ("tlv 0184FFFFFFFF", 1, "error: integer overflow\n"),
+    ("tlv --ber 308005000000FF", 0, "308005000000\n"),
+    (
+        "tlv --ber 04800000",
+        1,
+        "error: indefinite length disallowed/malformed at DER byte 2\n",
+    ),
     ("order 3000 1600", 0, "greater\n"),
+    (
+        "order 0405 3000",
+        1,
+        "error: ASN.1 DER message is incomplete: expected 3, actual 2 at DER byte 2\n",
+    ),
+    ("join 240524030401AA", 0, "aa\n"),
     ("head 0", 2, USAGE),
+    ("order --ber 3000 3000", 2, USAGE),
 ];
 
 /// Takes an octet at a call, and fails once the calls are used up.
@@ -80,7 +108,7 @@ fn a_failed_write_is_status_1(rt: HostRuntime) -> Result<(), Fail> {
 
 #[test]
 fn a_writer_that_takes_nothing_is_status_1(rt: HostRuntime) -> Result<(), Fail> {
-    for line in ["head 02012A00", "tlv 02012A00", "order 3000 1600"] {
+    for (line, _, _) in ROWS {
         let words = words_of(rt.alloc(), line)?;
         for takes in [false, true] {
             let mut out = Broken { takes };

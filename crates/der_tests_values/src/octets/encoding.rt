@@ -36,7 +36,7 @@ fn headers_for_which_the_buffer_is_too_short(rt: HostRuntime) {
 
 #[test]
 fn lengths_as_octets(rt: HostRuntime) -> Result<(), Fail> {
-    let rows: [(u32, &[u8]); 11] = [
+    let rows: [(u32, &[u8]); 12] = [
         (0, &[0x00]),
         (127, &[0x7F]),
         (128, &[0x81, 0x80]),
@@ -47,6 +47,7 @@ fn lengths_as_octets(rt: HostRuntime) -> Result<(), Fail> {
         (65536, &[0x83, 0x01, 0x00, 0x00]),
         (16777215, &[0x83, 0xFF, 0xFF, 0xFF]),
         (16777216, &[0x84, 0x01, 0x00, 0x00, 0x00]),
+        (268435456, &[0x84, 0x10, 0x00, 0x00, 0x00]),
         (4294967295, &[0x84, 0xFF, 0xFF, 0xFF, 0xFF]),
     ];
     for (number, want) in rows {

@@ -1,7 +1,6 @@
 //! A type that is written: a month as an `OCTET STRING` of one octet.
 ghost use Rattle.std.specs.Prelude.{◌≡◌, [], ◌∷◌, ◌++◌, IfOk, OnErr, OnOk};
-ghost use Rattle.der_base.specs.Length.{definite_length};
-ghost use Rattle.der_base.specs.declared.tag.Tag.TheVariants.{Sequence};
+ghost use Rattle.der.specs.Prelude.{definite_length, Sequence};
 
 use super::*;
 use crate::checks::same;

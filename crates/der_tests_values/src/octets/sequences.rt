@@ -1,11 +1,7 @@
 //! SEQUENCEs that are written into a slice.
 ghost use Rattle.std.specs.Prelude.{◌≡◌, ◌+◌, ◌≤◌, ◌++◌, false, length, OnOk, IsOk};
-ghost use Rattle.der_base.specs.Length.{number};
-ghost use Rattle.der_base.specs.Header.{header_octets};
-ghost use Rattle.der_base.specs.declared.tag.Tag.TheVariants.{Sequence};
-ghost use Rattle.der_core.specs.Writer.{Keeps, Appends};
-ghost use Rattle.der_core.specs.SliceWriter.{slice_writer_state};
-ghost use Rattle.der_core.specs.WrittenSequence.{headed_state};
+ghost use Rattle.der.specs.Prelude.{number, header_octets, Sequence, Keeps, Appends, slice_writer_state};
+ghost use Rattle.der.specs.WrittenSequence.{headed_state};
 
 use super::*;
 use crate::checks::{holds, same, same_at};
@@ -130,6 +126,55 @@ fn a_sequence_that_is_refused_inside(rt: HostRuntime) {
     let failed = ErrorKind::Failed.at(Length::new(4));
     same(&rt, writer.write_byte(0x01), Err(failed));
     same(&rt, writer.sequence(Length::ZERO, |_w| Ok(())), Err(failed));
+}
+
+// A SEQUENCE of which one octet of two is written, and then the rest is refused.
+fn refused_within(writer: &mut SliceWriter<'_>) -> Result<(), Error>
+    ensures { Keeps (slice_writer_state writer.old) (slice_writer_state writer.new) }
+{
+    writer.sequence(Length::new(2), |w| match w.write_byte(0x05) {
+        Ok(()) => Err(ErrorKind::DateTime.to_error()),
+        Err(error) => Err(error),
+    })
+}
+
+// Likewise, by an author who does not look at the refusal.
+fn ignored_within(writer: &mut SliceWriter<'_>) -> Result<(), Error>
+    ensures { Keeps (slice_writer_state writer.old) (slice_writer_state writer.new) }
+{
+    match refused_within(writer) {
+        Ok(()) => Ok(()),
+        Err(_) => Ok(()),
+    }
+}
+
+#[test]
+fn a_sequence_in_a_sequence_that_is_refused(rt: HostRuntime) {
+    let mut buf = [0; 8];
+    let mut writer = SliceWriter::new(&mut buf);
+    let refused = writer.sequence(Length::new(4), refused_within);
+    same(&rt, refused, Err(ErrorKind::DateTime.to_error()));
+    holds(&rt, writer.is_failed());
+    // the inner part is behind two headers
+    let failed = ErrorKind::Failed.at(Length::new(6));
+    holds(
+        &rt,
+        matches!(writer.finish(), Err(error) if error == failed),
+    );
+}
+
+#[test]
+fn a_sequence_whose_refusal_is_ignored(rt: HostRuntime) {
+    let mut buf = [0; 8];
+    let mut writer = SliceWriter::new(&mut buf);
+    let refused = writer.sequence(Length::new(4), ignored_within);
+    same(&rt, refused, Err(ErrorKind::Failed.at(Length::new(4))));
+    holds(&rt, writer.is_failed());
+    let failed = ErrorKind::Failed.at(Length::new(6));
+    holds(
+        &rt,
+        matches!(writer.finish(), Err(error) if error == failed),
+    );
 }
 
 // A SEQUENCE whose contents are not written.

@@ -1,7 +1,6 @@
 //! What is refused in a comparison, and when.
 ghost use Rattle.std.specs.Prelude.{◌≡◌, [], Ok, IsOk};
-ghost use Rattle.der_base.specs.Length.{definite_length};
-ghost use Rattle.der_core.specs.Outcome.{map_ok};
+ghost use Rattle.der.specs.Prelude.{definite_length, map_ok};
 
 use super::*;
 use crate::checks::same;

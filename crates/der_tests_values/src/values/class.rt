@@ -1,6 +1,6 @@
 //! Classes of tags.
 use crate::checks::{holds, same, same_at};
-use der_base::{
+use der::{
     CLASS_APPLICATION, CLASS_CONTEXT_SPECIFIC, CLASS_PRIVATE, CLASS_UNIVERSAL, Class, Tag,
     TagNumber,
 };

@@ -1,6 +1,6 @@
 //! Errors and their printed texts.
 use crate::checks::{holds, same, same_at};
-use der_base::{Error, ErrorKind, Length, Tag};
+use der::{Error, ErrorKind, Length, Tag};
 use std::alloc::Global;
 use std::process::Abort;
 use std::str;

@@ -1,6 +1,6 @@
 //! Names of tagging modes and of encoding rules.
 use crate::checks::{holds, same, same_at};
-use der_base::{EncodingRules, Error, ErrorKind, TagMode};
+use der::{EncodingRules, Error, ErrorKind, TagMode};
 use std::str::FromStr;
 use std::test::Fail;
 

@@ -1,7 +1,7 @@
 //! Tags and tag numbers.
 use crate::checks::{holds, same, same_at};
 use crate::values::recorder::recorded;
-use der_base::{Class, ErrorKind, Tag, TagNumber};
+use der::{Class, ErrorKind, Tag, TagNumber};
 use std::alloc::Global;
 use std::cmp::Ordering;
 use std::process::Abort;

@@ -1,10 +1,11 @@
 //! How octets in memory of their own are read and written.
 ghost use Rattle.std.specs.Prelude.{true};
 ghost use Rattle.der_base.specs.Length.{number};
-ghost use Rattle.der_core.specs.Outcome.{map_ok};
+ghost use Rattle.der_core.specs.Header.{head_of};
+ghost use Rattle.der_core.specs.Outcome.{IsBinding, map_ok};
 ghost use Rattle.der_core.specs.Reader.{VecMeets};
 ghost use Rattle.der_core.specs.ReaderState.{Same};
-ghost use Rattle.der.specs.Compare.{octets_order};
+ghost use Rattle.der.specs.OctetsOrder.{octets_order};
 ghost use Rattle.der.specs.Octets.{IsCounted, TakesOctets, OwnedAnswers, octets_size, WritesOctets};
 ghost use Rattle.der.specs.BytesOwned.{owned_octets};
 
@@ -37,7 +38,11 @@ impl<R: Reader> DecodeValue<R> for BytesOwned {
 
     ghost value_answers = { OwnedAnswers owned_octets };
 
-    fn decode_value(alloc: Global, reader: &mut R, header: Header) -> Result<Self, Error> {
+    fn decode_value(alloc: Global, reader: &mut R, header: Header) -> Result<Self, Error>
+        ensures same { Same (R.state reader.old) (R.state reader.new) }
+        ensures exact { IsBinding R.reliable result → OwnedAnswers owned_octets (head_of header)
+            (R.state reader.old) result (R.state reader.new) }
+    {
         read_owned(alloc, reader, header.length())
     }
 

@@ -6,6 +6,7 @@ ghost use Rattle.der_core.specs.Header.{head_of};
 ghost use Rattle.der_core.specs.ReaderState.{rest, Same};
 ghost use Rattle.der.specs.BytesOwned.{owned_octets};
 ghost use Rattle.der.specs.Joined.{Joined};
+ghost use Rattle.der.specs.Joining.{levels_left};
 ghost use Rattle.der.specs.Parts.{HasSegments, ReadsParts, RefusesParts};
 
 use super::der::read_owned;
@@ -17,15 +18,14 @@ use std::alloc::Global;
 
 impl BytesOwned {
     /// Decodes contents. Those of a primitive header are taken as they stand; behind a constructed
-    /// header of indefinite length, under the Basic Encoding Rules, stand segments with the inner
-    /// tag, which are joined (X.690 8.7.3).
+    /// header, under the Basic Encoding Rules, stand segments with the inner tag, which are joined
+    /// (X.690 8.7.3), and which may be cut into segments again.
     ///
     /// # Errors
     ///
     /// - Those of [`Reader::read_vec`] and of [`read_constructed_vec`].
     /// - `Noncanonical` with the header's tag, at the last octet of the header, where it is
-    ///   constructed and its length is definite, or the rules are the Distinguished Encoding Rules;
-    ///   the reader is unchanged.
+    ///   constructed and the rules are the Distinguished Encoding Rules; the reader is unchanged.
     pub fn decode_value_parts<R: Reader>(
         alloc: Global,
         reader: &mut R,
@@ -38,7 +38,7 @@ impl BytesOwned {
         ensures complete { (out : List ℕ) → R.reliable ≡ true
             → (R.state reader.old).failed ≡ false
             → HasSegments (head_of header) (R.state reader.old).rules
-            → Joined inner_tag (rest (R.state reader.old)) out
+            → Joined inner_tag (levels_left (R.state reader.old)) (rest (R.state reader.old)) out
             → IsOk result ⊎ IsErrAnd result (λ e. e ≡ error_of_kind NoMemory) }
         ensures exact { R.reliable ≡ true
             → IfErr result (λ e. RefusesParts inner_tag (head_of header) (R.state reader.old) e
@@ -47,7 +47,7 @@ impl BytesOwned {
         if !header.is_constructed() {
             return read_owned(alloc, reader, header.length());
         }
-        if header.length().is_indefinite() && reader.encoding_rules().is_ber() {
+        if reader.encoding_rules().is_ber() {
             let octets = read_constructed_vec(alloc, reader, header.length(), inner_tag)?;
             return BytesOwned::from_vec(octets);
         }

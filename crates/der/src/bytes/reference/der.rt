@@ -1,7 +1,11 @@
 //! How borrowed octets are read and written.
-ghost use Rattle.std.specs.Prelude.{false};
-ghost use Rattle.der.specs.Compare.{octets_order};
-ghost use Rattle.der.specs.Octets.{IsCounted, TakesOctets, LentAnswers, octets_size, WritesOctets};
+ghost use Rattle.std.specs.Prelude.{◌≡◌, false, true, IsOk};
+ghost use Rattle.der_core.specs.DecodeValue.{TakesContents};
+ghost use Rattle.der_core.specs.Header.{head_of};
+ghost use Rattle.der_core.specs.Outcome.{Gives, map_ok};
+ghost use Rattle.der_core.specs.ReaderState.{Same};
+ghost use Rattle.der.specs.OctetsOrder.{octets_order};
+ghost use Rattle.der.specs.Octets.{IsCounted, TakesOctets, EndsTaken, LentAnswers, octets_size, WritesOctets, unlent_outcome};
 ghost use Rattle.der.specs.BytesRef.{reference_octets};
 
 use crate::bytes::BytesRef;
@@ -33,7 +37,19 @@ impl<'a, R: Reader<Lent = &'a [u8]>> DecodeValue<R> for BytesRef<'a> {
 
     ghost value_answers = { LentAnswers reference_octets };
 
-    fn decode_value(_alloc: Global, reader: &mut R, header: Header) -> Result<Self, Error> {
+    fn decode_value(_alloc: Global, reader: &mut R, header: Header) -> Result<Self, Error>
+        ensures same { Same (R.state reader.old) (R.state reader.new) }
+        ensures sound { TakesContents (TakesOctets IsCounted reference_octets) (head_of header)
+            (R.state reader.old) result (R.state reader.new) }
+        ensures complete { EndsTaken IsCounted reference_octets R.reliable (head_of header)
+            (R.state reader.old) result (R.state reader.new) }
+        ensures exact { R.reliable ≡ true → LentAnswers reference_octets (head_of header)
+            (R.state reader.old) result (R.state reader.new) }
+        ensures ok { IsOk result → LentAnswers reference_octets (head_of header)
+            (R.state reader.old) result (R.state reader.new) }
+        ensures unlent { R.lends ≡ false → Gives unlent_outcome (R.state reader.old)
+            (map_ok reference_octets result) (R.state reader.new) }
+    {
         BytesRef::new(reader.read_slice(header.length())?)
     }
 

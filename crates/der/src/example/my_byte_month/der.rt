@@ -2,7 +2,7 @@
 ghost use Rattle.std.specs.Prelude.{◌≡◌, false};
 ghost use Rattle.der_base.specs.declared.tag.Tag.TheVariants.{OctetString};
 ghost use Rattle.std.proofs.Common.{refl};
-ghost use Rattle.der.specs.Compare.{octets_order};
+ghost use Rattle.der.specs.OctetsOrder.{octets_order};
 ghost use Rattle.der.specs.MyByteMonth.{IsMonth, TakesMonth, MonthAnswers, WritesMonth, month_contents, month_size, month_lawful};
 
 use crate::example::MyByteMonth;

@@ -1,6 +1,9 @@
 //! How texts in memory of their own are read and written.
-ghost use Rattle.std.specs.Prelude.{true};
-ghost use Rattle.der.specs.Octets.{IsText, TakesOctets, OwnedTextAnswers, octets_size, WritesOctets};
+ghost use Rattle.std.specs.Prelude.{◌≡◌, false, true};
+ghost use Rattle.der_core.specs.Header.{head_of};
+ghost use Rattle.der_core.specs.Outcome.{Gives, IsBinding, map_ok};
+ghost use Rattle.der_core.specs.ReaderState.{Same};
+ghost use Rattle.der.specs.Octets.{IsText, TakesOctets, OwnedTextAnswers, octets_size, WritesOctets, unlent_outcome};
 ghost use Rattle.der.specs.StringOwned.{owned_text};
 
 use crate::string::StringOwned;
@@ -34,7 +37,13 @@ impl<R: Reader> DecodeValue<R> for StringOwned {
 
     ghost value_answers = { OwnedTextAnswers owned_text };
 
-    fn decode_value(alloc: Global, reader: &mut R, header: Header) -> Result<Self, Error> {
+    fn decode_value(alloc: Global, reader: &mut R, header: Header) -> Result<Self, Error>
+        ensures same { Same (R.state reader.old) (R.state reader.new) }
+        ensures exact { IsBinding R.reliable result → OwnedTextAnswers owned_text (head_of header)
+            (R.state reader.old) result (R.state reader.new) }
+        ensures unlent { R.lends ≡ false → Gives unlent_outcome (R.state reader.old)
+            (map_ok owned_text result) (R.state reader.new) }
+    {
         let bytes = reader.read_slice(header.length())?;
         StringOwned::from_bytes(alloc, bytes.as_slice())
     }

@@ -1,6 +1,10 @@
 //! How borrowed texts are read and written.
-ghost use Rattle.std.specs.Prelude.{false};
-ghost use Rattle.der.specs.Octets.{IsText, TakesOctets, LentTextAnswers, octets_size, WritesOctets};
+ghost use Rattle.std.specs.Prelude.{◌≡◌, false, true, IsOk};
+ghost use Rattle.der_core.specs.DecodeValue.{TakesContents};
+ghost use Rattle.der_core.specs.Header.{head_of};
+ghost use Rattle.der_core.specs.Outcome.{Gives, map_ok};
+ghost use Rattle.der_core.specs.ReaderState.{Same};
+ghost use Rattle.der.specs.Octets.{IsText, TakesOctets, EndsTaken, LentTextAnswers, octets_size, WritesOctets, unlent_outcome};
 ghost use Rattle.der.specs.StringRef.{reference_text};
 
 use crate::string::StringRef;
@@ -33,7 +37,19 @@ impl<'a, R: Reader<Lent = &'a [u8]>> DecodeValue<R> for StringRef<'a> {
 
     ghost value_answers = { LentTextAnswers reference_text };
 
-    fn decode_value(_alloc: Global, reader: &mut R, header: Header) -> Result<Self, Error> {
+    fn decode_value(_alloc: Global, reader: &mut R, header: Header) -> Result<Self, Error>
+        ensures same { Same (R.state reader.old) (R.state reader.new) }
+        ensures sound { TakesContents (TakesOctets IsText reference_text) (head_of header)
+            (R.state reader.old) result (R.state reader.new) }
+        ensures complete { EndsTaken IsText reference_text R.reliable (head_of header)
+            (R.state reader.old) result (R.state reader.new) }
+        ensures exact { R.reliable ≡ true → LentTextAnswers reference_text (head_of header)
+            (R.state reader.old) result (R.state reader.new) }
+        ensures ok { IsOk result → LentTextAnswers reference_text (head_of header)
+            (R.state reader.old) result (R.state reader.new) }
+        ensures unlent { R.lends ≡ false → Gives unlent_outcome (R.state reader.old)
+            (map_ok reference_text result) (R.state reader.new) }
+    {
         StringRef::from_bytes(reader.read_slice(header.length())?)
     }
 

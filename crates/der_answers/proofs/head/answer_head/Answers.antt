@@ -1,4 +1,4 @@
-use Rattle.der_core.specs.Header.{head_of}
+use Rattle.der.specs.Prelude.{head_of}
 use Rattle.der_answers.proofs.TextLemmas.{answer_told, answer_refused}
 use Rattle.der_answers.proofs.head.answer_head.Goals as goal
 

@@ -1,5 +1,5 @@
 use Rattle.std.proofs.Common.{rules, refl}
-use Rattle.der_core.specs.SliceReader.{slice_state}
+use Rattle.der.specs.Prelude.{slice_state}
 use Rattle.der_answers.proofs.HeaderLemmas.{refused_header, read_header}
 use Rattle.der_answers.proofs.head.read_head.Goals as goal
 

@@ -1,5 +1,5 @@
 use Rattle.std.proofs.Common.{rules, refl}
-use Rattle.der_core.specs.SliceReader.{slice_state}
+use Rattle.der.specs.Prelude.{slice_state}
 use Rattle.der_answers.specs.Answer.{no_header}
 use Rattle.der_answers.proofs.ElementLemmas.{lent_says, told_says}
 use Rattle.der_answers.proofs.tlv.read_element.Goals as goal

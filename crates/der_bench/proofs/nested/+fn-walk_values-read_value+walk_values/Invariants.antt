@@ -1,6 +1,5 @@
 use Rattle.std.proofs.Common.{◌+◌, ◌*◌}
-use Rattle.der_core.specs.ReaderState.{Same}
-use Rattle.der_core.specs.SliceReader.{slice_state}
+use Rattle.der.specs.Prelude.{Same, slice_state}
 use Rattle.der_bench.proofs.nested.+fn-walk_values-read_value+walk_values.Given as goal
 
 abbrev pub decreases-read_value : goal.decreases-read_value

@@ -1,4 +1,4 @@
-use Rattle.der_base.specs.Scan.{BodyFault}
+use Rattle.der_base.specs.ScanGrammar.{BodyFault}
 use Rattle.der_base.proofs.HeaderLemmas.{identifier_grammar, tag_grammar, length_grammar}
 use Rattle.der_base.proofs.ScanLemmas.{body_fault_laws}
 use Rattle.der_core.proofs.DecodeLemmas.{accepts}

@@ -1,4 +1,4 @@
-use Rattle.der_core.proofs.LawfulLemmas.{elements_are_encodings, whole_encodings}
+use Rattle.der.proofs.LawfulLemmas.{elements_are_encodings, whole_encodings}
 use Rattle.der.specs.OwnedText.{owned_text_lawful}
 use Rattle.der_uses.proofs.fields.kept_text.Goals as goal
 

@@ -1,4 +1,4 @@
-use Rattle.der_core.proofs.LawfulLemmas.{elements_are_encodings, whole_encodings}
+use Rattle.der.proofs.LawfulLemmas.{elements_are_encodings, whole_encodings}
 use Rattle.der.specs.BorrowedOctets.{borrowed_lawful}
 use Rattle.der_uses.proofs.fields.lent_octets.Goals as goal
 

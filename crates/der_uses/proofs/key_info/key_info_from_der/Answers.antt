@@ -1,6 +1,6 @@
 use Rattle.std.proofs.Common.{⊎_elim, arith}
 use Rattle.std.proofs.lemmas.Result.{IfOk-weaker}
-use Rattle.der_core.proofs.LawfulLemmas.{elements_are_encodings, whole_encodings}
+use Rattle.der.proofs.LawfulLemmas.{elements_are_encodings, whole_encodings}
 use Rattle.der_uses.specs.KeyInfo.{key_info_lawful}
 use Rattle.der_uses.proofs.key_info.key_info_from_der.Goals as goal
 

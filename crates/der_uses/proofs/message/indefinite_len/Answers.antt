@@ -1,11 +1,8 @@
 use Rattle.std.proofs.Common.{◌≡◌, ℕ, ◌+◌, ◌/◌, ◌≤◌, Result, Ok, Err, List, length, ap, ◌∙◌, length-append, arith}
-use Rattle.der_base.proofs.GrowthLemmas.{body_parts}
-use Rattle.der_base.specs.declared.length.Length.{Length}
-use Rattle.der_base.specs.declared.error.Error.{Error}
-use Rattle.der_base.specs.declared.encoding_rules.EncodingRules.TheVariants.{Ber}
-use Rattle.der_core.specs.ReaderState.{rest}
-use Rattle.der_core.specs.Scan.{IsTurned}
-use Rattle.der_core.proofs.DecodeLemmas.{rest-beginning}
+use Rattle.der.proofs.GrowthLemmas.{body_parts}
+use Rattle.der.specs.Prelude.{Length, Error, Ber, rest}
+use Rattle.der.specs.Scan.{IsTurned}
+use Rattle.der.proofs.DecodeLemmas.{rest-beginning}
 use Rattle.der_uses.proofs.message.indefinite_len.Goals as goal
 
 -- a turn takes two octets

@@ -1,6 +1,5 @@
 use Rattle.std.proofs.Common.{◌≤◌}
-use Rattle.der_core.specs.ReaderState.{Same}
-use Rattle.der_core.specs.SliceReader.{slice_state}
+use Rattle.der.specs.Prelude.{Same, slice_state}
 use Rattle.der_uses.proofs.nested.count_rest.Given as goal
 
 abbrev pub invariant-loop : goal.invariant-loop

@@ -1,8 +1,7 @@
 use Rattle.std.proofs.Common.{Err, sym, ap, subst, inr, ◌∙◌}
-use Rattle.der_base.specs.Error.{at}
-use Rattle.der_base.specs.Order.{IsBefore}
-use Rattle.der_base.specs.declared.error.ErrorKind.TheVariants.{SetOrdering}
-use Rattle.der_base.proofs.OrderLemmas.{before_from_less, less_from_before}
+use Rattle.der.specs.Prelude.{at, IsBefore}
+use Rattle.der.specs.ErrorKinds.{SetOrdering}
+use Rattle.der.proofs.OrderLemmas.{before_from_less, less_from_before}
 use Rattle.der.specs.BorrowedOctets.{borrowed_octets}
 use Rattle.der_uses.specs.SetOf.{string_octets}
 use Rattle.der_uses.proofs.SetReadLemmas.{string_is}

@@ -1,5 +1,5 @@
 use Rattle.std.proofs.Common.{refl, arith}
-use Rattle.der_core.specs.SliceReader.{slice_state}
+use Rattle.der.specs.Prelude.{slice_state}
 use Rattle.der_uses.proofs.SetReadLemmas.{slice_sound, lent_string, string_read, string_counted, string_ahead, not_lacking}
 use Rattle.der_uses.proofs.set_of.next_element.Goals as goal
 

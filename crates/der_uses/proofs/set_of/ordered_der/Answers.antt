@@ -1,11 +1,8 @@
 use Rattle.std.proofs.Common.{◌∙◌, sym, ap, length, length-append, arith}
 use Rattle.std.proofs.lemmas.Result.{err_from_is_err_and}
-use Rattle.der_base.specs.Header.{Head, header_octets}
-use Rattle.der_base.specs.Length.{number, length_octets}
-use Rattle.der_base.specs.Tag.{tag_octets}
-use Rattle.der_base.specs.declared.tag.Tag.TheVariants.{Set}
-use Rattle.der_base.proofs.LengthLemmas.{length_octets_few}
-use Rattle.der_core.proofs.PeekLemmas.{counted_ok}
+use Rattle.der.specs.Prelude.{Head, header_octets, number, length_octets, tag_octets, Set}
+use Rattle.der.proofs.LengthLemmas.{length_octets_few}
+use Rattle.der.proofs.PeekLemmas.{counted_ok}
 use Rattle.der_uses.proofs.set_of.ordered_der.Goals as goal
 
 pub returns-in_err-encode_to_vec-clause-succeeds :

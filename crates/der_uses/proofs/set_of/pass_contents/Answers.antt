@@ -1,7 +1,6 @@
 use Rattle.std.proofs.Common.{rules, true, refl, arith}
-use Rattle.der_base.specs.Length.{number}
-use Rattle.der_core.specs.SliceReader.{slice_state}
-use Rattle.der_core.proofs.ElementLemmas.{reliable_owes}
+use Rattle.der.specs.Prelude.{number, slice_state}
+use Rattle.der.proofs.ElementLemmas.{reliable_owes}
 use Rattle.der_uses.proofs.SetReadLemmas.{slice_sound, part_read, part_judged}
 use Rattle.der_uses.proofs.set_of.pass_contents.Goals as goal
 

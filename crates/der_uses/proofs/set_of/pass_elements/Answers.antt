@@ -1,6 +1,6 @@
 use Rattle.std.proofs.lemmas.Result.{err_from_is_err_and}
-use Rattle.der_core.specs.SliceReader.{slice_state}
-use Rattle.der_core.proofs.StateLemmas.{same_trans}
+use Rattle.der.specs.Prelude.{slice_state}
+use Rattle.der.proofs.StateLemmas.{same_trans}
 use Rattle.der.specs.BorrowedOctets.{borrowed_octets}
 use Rattle.der_uses.proofs.SetReadLemmas.{slice_sound, passed_next, passed_none, passed_all, unfinished_at, first_refused, next_refused}
 use Rattle.der_uses.proofs.set_of.pass_elements.Goals as goal

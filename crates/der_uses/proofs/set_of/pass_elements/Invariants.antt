@@ -1,6 +1,5 @@
 use Rattle.std.proofs.Common.{◌-◌}
-use Rattle.der_core.specs.ReaderState.{Same}
-use Rattle.der_core.specs.SliceReader.{slice_state}
+use Rattle.der.specs.Prelude.{Same, slice_state}
 use Rattle.der.specs.BorrowedOctets.{borrowed_octets}
 use Rattle.der_uses.proofs.SetReadLemmas.{PassedTo}
 use Rattle.der_uses.proofs.set_of.pass_elements.Given as goal

@@ -1,12 +1,8 @@
 use Rattle.std.proofs.Common.{refl, sym, subst, ◌∙◌}
-use Rattle.der_base.specs.declared.tag.Tag.TheVariants.{Set}
-use Rattle.der_base.specs.Header.{header_octets}
-use Rattle.der_base.specs.Length.{number}
-use Rattle.der_core.specs.ReaderState.{Reads}
-use Rattle.der_core.specs.SliceReader.{slice_state}
-use Rattle.der_core.proofs.DecodeLemmas.{not_refused}
-use Rattle.der_core.proofs.HeaderReadLemmas.{decoded_header_grammar}
-use Rattle.der_core.proofs.TagAssertedLemmas.{tag_asserted, another_tag}
+use Rattle.der.specs.Prelude.{Set, header_octets, number, Reads, slice_state}
+use Rattle.der.proofs.DecodeLemmas.{not_refused}
+use Rattle.der.proofs.HeaderReadLemmas.{decoded_header_grammar}
+use Rattle.der.proofs.TagAssertedLemmas.{tag_asserted, another_tag}
 use Rattle.der_uses.proofs.SetReadLemmas.{slice_sound, set_read, set_ahead, set_alone}
 use Rattle.der_uses.proofs.set_of.set_header.Goals as goal
 

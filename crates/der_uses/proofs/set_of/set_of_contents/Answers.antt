@@ -1,8 +1,7 @@
 use Rattle.std.proofs.Common.{[], refl, sym, ◌∙◌, append-nil}
 use Rattle.std.proofs.lemmas.Result.{err_from_is_err_and}
-use Rattle.der_base.specs.Length.{number}
-use Rattle.der_core.specs.SliceReader.{slice_state}
-use Rattle.der_core.proofs.DecodeLemmas.{remaining_ok}
+use Rattle.der.specs.Prelude.{number, slice_state}
+use Rattle.der.proofs.DecodeLemmas.{remaining_ok}
 use Rattle.der_uses.specs.SetOf.{joined_strings}
 use Rattle.der_uses.proofs.SetReadLemmas.{slice_sound, header_count, header_position, whole_set, set_finished, order_refused, order_lent}
 use Rattle.der_uses.proofs.set_of.set_of_contents.Goals as goal

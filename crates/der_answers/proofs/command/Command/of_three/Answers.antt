@@ -1,4 +1,4 @@
-use Rattle.std.proofs.Common.{subst, inr}
+use Rattle.std.proofs.Common.{subst, inl, inr}
 use Rattle.der_answers.specs.Command.{IsCommand}
 use Rattle.der_answers.proofs.WordLemmas.{words_with_order, command_with_order}
 use Rattle.der_answers.proofs.command.Command.of_three.Goals as goal
@@ -7,4 +7,4 @@ pub returns-then-eq-2-clause-found : goal.returns-then-eq-2-clause-found
 returns-then-eq-2-clause-found c =
     let words = words_with_order c.args.first.now c.args.second.now c.args.third.now c.if-eq-2.ensures in
     let found = c.ordering.ensures.found in
-    (λ some. inr (_, _, (found.0 some).0, (found.0 some).1, words), λ command. found.1 (command_with_order _ _ (subst IsCommand words command)))
+    (λ some. inr (inl (_, _, (found.0 some).0, (found.0 some).1, words)), λ command. found.1 (command_with_order _ _ (subst IsCommand words command)))

@@ -1,11 +1,6 @@
 use Rattle.std.proofs.Common.{rules, refl, ap, ◌∙◌}
-use Rattle.der_base.specs.Length.{number}
-use Rattle.der_base.specs.declared.encoding_rules.EncodingRules.TheVariants.{Der}
-use Rattle.der_core.proofs.ElementLemmas.{at_contents, value_told}
-use Rattle.der_core.specs.Encode.{element_octets}
-use Rattle.der_core.specs.Outcome.{Gives, map_ok}
-use Rattle.der_core.specs.Reader.{read_slice_outcome}
-use Rattle.der_core.specs.SliceReader.{slice_state}
+use Rattle.der.specs.Prelude.{number, Der, element_octets, Gives, map_ok, read_slice_outcome, slice_state}
+use Rattle.der.proofs.ElementLemmas.{at_contents, value_told}
 use Rattle.der.specs.BytesRef.{reference_octets}
 use Rattle.der_answers.specs.Answer.{NoWholeElement}
 use Rattle.der_answers.proofs.HeaderLemmas.{refused_header}

@@ -1,5 +1,5 @@
 use Rattle.std.proofs.Common.{◌∙◌}
-use Rattle.der_base.proofs.CompareLemmas.{tag_cmp-is}
+use Rattle.der_base.proofs.DerivedOrderLemmas.{tag_cmp-is}
 use Rattle.der_base.proofs.comparisons.order.tag_ordering.Goals as goal
 
 pub returns : goal.returns

@@ -3,7 +3,7 @@ use Rattle.std.proofs.lemmas.Result.{err_from_is_err_and}
 use Rattle.der_base.specs.Error.{unexpected_tag}
 use Rattle.der_core.specs.Element.{no_header, other_tag, in_contents}
 use Rattle.der_core.proofs.DecodeLemmas.{decodes_reliably, not_refused}
-use Rattle.der_base.specs.Scan.{BodyFault}
+use Rattle.der_base.specs.ScanGrammar.{BodyFault}
 use Rattle.der_base.proofs.HeaderLemmas.{header_grammar}
 use Rattle.der_base.proofs.ScanLemmas.{body_fault_laws}
 use Rattle.der_core.proofs.ElementLemmas.{at_contents, Tells, Vows, element_ok, element_complete, header_tagged, reliable_owes, value_told}

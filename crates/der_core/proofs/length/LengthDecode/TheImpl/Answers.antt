@@ -1,5 +1,5 @@
 use Rattle.std.proofs.lemmas.Result.{IfOk-weaker}
-use Rattle.der_base.specs.Scan.{BodyFault}
+use Rattle.der_base.specs.ScanGrammar.{BodyFault}
 use Rattle.der_base.proofs.HeaderLemmas.{length_grammar}
 use Rattle.der_base.proofs.ScanLemmas.{body_fault_laws}
 use Rattle.der_core.proofs.DecodeLemmas.{decodes_reliably, reads}

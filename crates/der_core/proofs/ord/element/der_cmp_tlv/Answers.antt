@@ -1,6 +1,6 @@
 use Rattle.std.proofs.Common.{◌≡◌, Ok, sym, ap, ◌∙◌}
 use Rattle.der_base.specs.Length.{number}
-use Rattle.der_base.specs.Header.{header_octets}
+use Rattle.der_base.specs.HeaderGrammar.{header_octets}
 use Rattle.der_base.specs.Order.{byte_order}
 use Rattle.der_core.specs.DerOrd.{then_compared}
 use Rattle.der_core.proofs.OrdLemmas.{decided, unequal_decides}

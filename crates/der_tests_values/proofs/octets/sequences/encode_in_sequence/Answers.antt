@@ -1,13 +1,9 @@
 use Rattle.std.proofs.Common.{arith, rules, ◌≡◌, ℕ, ◌+◌, ◌^◌, ◌<◌, true, false, List, length, length-append, refl, ap, ◌∙◌, Result, Err}
-use Rattle.der_base.specs.Length.{number}
-use Rattle.der_base.specs.Header.{header_octets}
-use Rattle.der_base.specs.declared.tag.Tag.TheVariants.{Sequence}
-use Rattle.der_base.specs.declared.error.Error.{Error}
-use Rattle.der_core.specs.Writer.{WriterState, Appends, appended_state}
-use Rattle.der_core.specs.Encode.{TakesCounted}
-use Rattle.der_core.specs.SliceWriter.{slice_writer_state}
-use Rattle.der_core.proofs.WriterLemmas.{filled_appends}
-use Rattle.der_core.specs.WrittenSequence.{ClosesPart, handed_on, failed, unfilled, filled, part_state, headed_state}
+use Rattle.der.specs.Prelude.{number, header_octets, Sequence, Error, Appends, slice_writer_state}
+use Rattle.der.specs.Writer.{WriterState, appended_state}
+use Rattle.der.specs.Encode.{TakesCounted}
+use Rattle.der.proofs.WriterLemmas.{filled_appends}
+use Rattle.der.specs.WrittenSequence.{ClosesPart, handed_on, failed, unfilled, filled, part_state, headed_state}
 use Rattle.der_tests_values.proofs.octets.sequences.encode_in_sequence.Goals as goal
 
 -- a part that is filled is not refused

@@ -10,7 +10,7 @@ use Rattle.der.proofs.bytes.owned.BytesOwned.decode_value_parts.Goals as goal
 pub returns-in_err-octets-clause-exact : goal.returns-in_err-octets-clause-exact
 returns-in_err-octets-clause-exact g c =
     let p = err_from_is_err_and c.from_residual.result c.from_residual.ensures.1 in
-    rw (p.1, p.2) (λ reliable. no_segments (record { bit = search rules; marked = search rules; ber = search rules })
+    rw (p.1, p.2) (λ reliable. no_segments (record { bit = search rules; ber = search rules })
     (subst (λ (l : Length). RefusesJoining l c.args.inner_tag (g.R.Reader.state c.args.reader.now)
     c.in_err-octets.field-0.0 (g.R.Reader.state c.read_constructed_vec.new.reader))
     c.length-then-is_ber.ensures (c.in_err-octets.ensures.exact reliable)))

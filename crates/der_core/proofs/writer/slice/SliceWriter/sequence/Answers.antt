@@ -1,7 +1,7 @@
 use Rattle.std.proofs.Common.{refl, sym, ap, ◌∙◌, subst, Ok, Err}
 use Rattle.std.proofs.lemmas.Result.{err_from_is_err_and}
 use Rattle.der_base.specs.Length.{number}
-use Rattle.der_base.specs.Header.{Head, header_octets}
+use Rattle.der_base.specs.HeaderGrammar.{Head, header_octets}
 use Rattle.der_core.specs.Writer.{WriterState, Writes, appended_state}
 use Rattle.der_core.specs.Encode.{header_outcome}
 use Rattle.der_core.specs.SliceWriter.{slice_writer_state}

@@ -1,7 +1,7 @@
 use Rattle.std.proofs.Common.{◌+◌, ◌-◌, sym, ap, subst, length, add-zero, ◌≡◌, ◌∙◌, arith}
 use Rattle.std.proofs.lemmas.Result.{err_from_is_err_and}
 use Rattle.der_base.specs.Length.{number, indefinite_length}
-use Rattle.der_base.specs.Scan.{PartsAhead}
+use Rattle.der_base.specs.ScanGrammar.{PartsAhead}
 use Rattle.der_core.specs.Walk.{walked_state, walk_state}
 use Rattle.der_core.proofs.ScanReadLemmas.{Reached, reached_none, reached_passes, reached_opens, reached_ends, reached_last, reached_parts, reached_refused, reached_turns, part_progress}
 use Rattle.der_core.proofs.StateLemmas.{same_trans}

@@ -1,0 +1,39 @@
+-- Elements whose tag is one of many: ANY, and a CHOICE.
+use Rattle.std.specs.Prelude.{◌≡◌, ◌↔◌, ℕ, ◌^◌, ◌<◌, true, List, length, Result, Err}
+use Rattle.der.specs.Arithmetic.{sans_eoc}
+use Rattle.der.specs.ScanGrammar.{BodyFault}
+use Rattle.der.specs.Tag.{label}
+use Rattle.der.specs.Prelude.{Head, Tag, Error, EncodingRules, Der, ElementAhead, head_of}
+use Rattle.der.specs.Prelude.{IsHeaderAhead, ReaderState, Header}
+use Rattle.der.specs.HeaderGrammar.{HeaderFault}
+use Rattle.der.specs.Decode.{Passes, Decodes}
+use Rattle.der.specs.Element.{contents_head}
+use Rattle.der.specs.Lawful.{definite_head}
+use Rattle.der.specs.Nested.{ValueAnswers}
+
+-- an element of some tag, whose contents are taken as the value, with that tag
+pub record AnyElementAhead {A : Type 0} (takes : A → EncodingRules → Head → List ℕ → Type 0) (v : A)
+    (rules : EncodingRules) (octets : List ℕ) (m : ℕ) : Type 0 where
+  pub tag : Tag
+  pub element : ElementAhead tag takes v rules octets m
+
+-- what reading answers: no header, or what is made of the contents
+pub data AnyElementRead {T E : Type 0} (converts : Error → E → Type 0)
+    (answers : Head → ReaderState → Result T E → ReaderState → Type 0)
+    (s : ReaderState) (result : Result T E) (t : ReaderState) : Type 0 where
+  no_header : (e : Error) (f : E) → Decodes IsHeaderAhead (HeaderFault BodyFault) true s (Err e) t
+      → converts e f → result ≡ Err f → AnyElementRead converts answers s result t
+  in_contents : (h : Header) (u : ReaderState) → Passes (IsHeaderAhead h) s u
+      → ValueAnswers converts (answers (contents_head (head_of h))) (λ s. s) (λ t. t)
+      (sans_eoc (head_of h).length) u result t
+      → AnyElementRead converts answers s result t
+
+-- a type whose values have tags of their own is lawful: under DER contents are taken as a value,
+-- with a tag, exactly where it is valid, the tag is its own, and they are what it is written as
+pub record IsLawfulChoice {A : Type 0} (tag_of : A → Tag)
+    (takes : A → EncodingRules → Head → List ℕ → Type 0) (valid : A → Type 0)
+    (contents : A → List ℕ) : Type 0 where
+  pub exact : (octets : List ℕ) (t : Tag) (v : A) → length octets < 2 ^ 32
+      → (label t).number < 2 ^ 32 → takes v Der (definite_head t (length octets)) octets
+      ↔ (valid v × (t ≡ tag_of v) × (contents v ≡ octets))
+  pub numbered : (v : A) → valid v → (label (tag_of v)).number < 2 ^ 32

@@ -1,0 +1,51 @@
+-- Octets of a form, which the input lends.
+use Rattle.std.specs.Prelude.{◌≡◌, ℕ, ◌^◌, ◌<◌, Bool, true, List, length, Result, Ok, if◌then◌else◌}
+use Rattle.std.proofs.Common.{arith, subst, sym}
+use Rattle.der.specs.Prelude.{checked_length, Head, number, Tag, Length, Error, EncodingRules}
+use Rattle.der.specs.Prelude.{WriterAnswer, IsLawful, Gives, map_ok, read_slice_outcome}
+use Rattle.der.specs.Prelude.{ReaderState, Writes, write_outcome}
+use Rattle.der.specs.Tag.{label}
+use Rattle.der.specs.ErrorKinds.{Value}
+use Rattle.der.specs.Outcome.{Outcome, outcome_of, chained_outcome}
+use Rattle.der.specs.Reader.{kind_outcome}
+
+abbrev pub HasForm : {A : Type 0} → (List ℕ → Bool) → (A → List ℕ) → A → Type 0
+HasForm form contents v = form (contents v) ≡ true
+
+-- octets of the form are taken as they stand
+abbrev pub TakesForm : {A : Type 0} → (List ℕ → Bool) → (A → List ℕ) → A → EncodingRules → Head
+    → List ℕ → Type 0
+TakesForm form contents v rules h octets = (form octets ≡ true) × (contents v ≡ octets)
+
+-- others are refused behind them
+abbrev pub form_of : (List ℕ → Bool) → Tag → List ℕ → ReaderState → Outcome (List ℕ)
+form_of form tag octets s =
+    if form octets then outcome_of (Ok octets) s else kind_outcome (List ℕ) (Value tag) s
+
+abbrev pub form_outcome : (List ℕ → Bool) → Tag → ℕ → ReaderState → Outcome (List ℕ)
+form_outcome form tag n s = chained_outcome (read_slice_outcome n s) (form_of form tag)
+
+abbrev pub FormAnswers : {A : Type 0} → (List ℕ → Bool) → Tag → (A → List ℕ) → Head → ReaderState
+    → Result A Error → ReaderState → Type 0
+FormAnswers form tag contents h s result t =
+    Gives (form_outcome form tag (number h.length)) s (map_ok contents result) t
+
+abbrev pub octets_size : List ℕ → Result Length Error
+octets_size octets = checked_length (length octets)
+
+abbrev pub WritesOctets : List ℕ → WriterAnswer
+WritesOctets octets s result t = Writes (write_outcome octets s) result t
+
+-- they are read as they are written
+pub form_lawful : {A : Type 0} (tag : Tag) (form : List ℕ → Bool) (contents : A → List ℕ)
+    → (label tag).number < 2 ^ 32
+    → IsLawful tag (TakesForm form contents) (HasForm form contents) contents (λ _. 0)
+form_lawful tag form contents numbered =
+    record {
+      exact = λ octets v short. (
+        λ h. (subst (λ x. form x ≡ true) (sym h.1) h.0, h.1),
+        λ h. (subst (λ x. form x ≡ true) h.1 h.0, h.1),
+      );
+      shallow = omega arith;
+      numbered = numbered;
+    }

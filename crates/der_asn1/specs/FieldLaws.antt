@@ -1,0 +1,223 @@
+-- Laws of fields, as they are put together.
+use Rattle.std.proofs.Common.{inl, ℕ, ◌^◌, ◌<◌, ◌≤◌, List, ◌++◌, length, drop, Option, Some, None}
+use Rattle.der.specs.Prelude.{Head, Tag, EncodingRules, Der, ElementAhead, element_octets}
+use Rattle.der.specs.Prelude.{FieldsAhead, TakesWhole, IsLawful}
+use Rattle.der.specs.Tag.{label}
+use Rattle.der.specs.Element.{contents_head}
+use Rattle.der.specs.Lawful.{ReadsEncodings}
+use Rattle.der.specs.LawfulLemmas.{elements_are_encodings}
+use Rattle.der_asn1.specs.Follow.{ReadsFields, Anything, Starts, MayStart, PrecedesBut, no_tags}
+use Rattle.der_asn1.specs.Follow.{either_tags, BothPrecede}
+use Rattle.der_asn1.specs.Optional.{OptionAhead, IsOptional, option_encoding, OptionPrecedes}
+use Rattle.der_asn1.specs.FollowLemmas.{encodings_are_fields, fields_follow, fields_lawful}
+use Rattle.der_asn1.specs.FollowLemmas.{lawful_starts, anything_precedes, pair_precedes}
+use Rattle.der_asn1.specs.FollowLemmas.{pair_precedes_absent, pair_may_start, starts_so_may}
+use Rattle.der_asn1.specs.FollowLemmas.{starts_append, starts_wider, last_of}
+use Rattle.der_asn1.specs.AnyElement.{AnyElementAhead, IsLawfulChoice}
+use Rattle.der_asn1.specs.AnyElementLemmas.{choices_are_encodings, choices_start}
+use Rattle.der_asn1.specs.declared.optional.Optional.{Optional}
+use Rattle.der_asn1.specs.OptionalLemmas.{options_are_fields, option_may_start, option_precedes}
+
+-- all that is known of a field: it is read as it is written, which tags it may begin with, and
+-- before which it may not stand
+pub record FieldLaws {A : Type 0} (Ahead : A → EncodingRules → List ℕ → ℕ → Type 0)
+    (valid : A → Type 0) (encoding : A → List ℕ) : Type 1 where
+  pub Precedes : A → List ℕ → Type 0
+  pub tags : Tag → Type 0
+  pub stops : Tag → Type 0
+  pub reads : ReadsFields Ahead valid encoding Precedes
+  pub starts : MayStart valid encoding tags
+  pub precedes : PrecedesBut valid Precedes stops
+  -- what stands ahead under any rules is valid
+  pub holds : (v : A) (rules : EncodingRules) (octets : List ℕ) (m : ℕ) → Ahead v rules octets m
+      → valid v
+
+-- of one that always has octets
+pub record SomeLaws {A : Type 0} (Ahead : A → EncodingRules → List ℕ → ℕ → Type 0)
+    (valid : A → Type 0) (encoding : A → List ℕ) : Type 1 where
+  pub laws : FieldLaws Ahead valid encoding
+  pub some : Starts valid encoding laws.tags
+
+-- octets that anything may follow
+abbrev pub encoding_laws : {A : Type 0} {Ahead : A → EncodingRules → List ℕ → ℕ → Type 0}
+    {valid : A → Type 0} {encoding : A → List ℕ} {tags : Tag → Type 0}
+    → ReadsEncodings Ahead valid encoding → Starts valid encoding tags
+    → ((v : A) (rules : EncodingRules) (octets : List ℕ) (m : ℕ) → Ahead v rules octets m → valid v)
+    → SomeLaws Ahead valid encoding
+encoding_laws {valid = valid} {tags = tags} reads some holds =
+    record {
+      laws = record {
+        Precedes = Anything;
+        tags = tags;
+        stops = no_tags;
+        reads = encodings_are_fields reads;
+        starts = starts_so_may some;
+        precedes = anything_precedes valid no_tags;
+        holds = holds;
+      };
+      some = some;
+    }
+
+-- an element of a lawful type
+abbrev pub element_laws : {A : Type 0} {tag : Tag} {takes : A → EncodingRules → Head → List ℕ → Type 0}
+    {valid : A → Type 0} {contents : A → List ℕ} {levels : EncodingRules → ℕ}
+    → IsLawful tag takes valid contents levels
+    → ((v : A) (rules : EncodingRules) (h : Head) (octets : List ℕ) → takes v rules h octets → valid v)
+    → SomeLaws (ElementAhead tag takes) valid (λ v. element_octets tag (contents v))
+element_laws lawful takes_valid =
+    encoding_laws (elements_are_encodings lawful) (lawful_starts lawful)
+    (λ v rules octets m e. takes_valid v rules (contents_head e.says) e.contents e.taken)
+
+-- an element of a tag of its own
+abbrev pub choice_laws : {A : Type 0} {tag_of : A → Tag} {takes : A → EncodingRules → Head → List ℕ → Type 0}
+    {valid : A → Type 0} {contents : A → List ℕ} (tags : Tag → Type 0)
+    → IsLawfulChoice tag_of takes valid contents → ((v : A) → valid v → tags (tag_of v))
+    → ((v : A) (rules : EncodingRules) (h : Head) (octets : List ℕ) → takes v rules h octets → valid v)
+    → SomeLaws (AnyElementAhead takes) valid (λ v. element_octets (tag_of v) (contents v))
+choice_laws tags lawful among takes_valid =
+    encoding_laws (choices_are_encodings lawful) (choices_start lawful tags among)
+    (λ v rules octets m e. takes_valid v rules (contents_head e.element.says) e.element.contents
+    e.element.taken)
+
+pub option_holds : {A : Type 0} (tags : Tag → Type 0) {Ahead : A → EncodingRules → List ℕ → ℕ → Type 0}
+    {valid : A → Type 0} → ((v : A) (rules : EncodingRules) (octets : List ℕ) (m : ℕ) → Ahead v rules octets m → valid v)
+    → (v : Option A) (rules : EncodingRules) (octets : List ℕ) (m : ℕ) → OptionAhead tags Ahead v rules octets m → IsOptional valid v
+option_holds tags holds None rules octets m h = tt
+option_holds tags holds (Some v) rules octets m h = holds v rules octets m h
+
+-- an optional one, seen as another's value
+abbrev pub optional_laws : {A : Type 0} {Ahead : A → EncodingRules → List ℕ → ℕ → Type 0}
+    {valid : A → Type 0} {encoding : A → List ℕ} (one : SomeLaws Ahead valid encoding)
+    → FieldLaws (OptionAhead one.laws.tags Ahead) (IsOptional valid) (option_encoding encoding)
+optional_laws one =
+    record {
+      Precedes = OptionPrecedes one.laws.tags one.laws.Precedes;
+      tags = one.laws.tags;
+      stops = either_tags one.laws.tags one.laws.stops;
+      reads = options_are_fields one.laws.reads;
+      starts = option_may_start one.some;
+      precedes = option_precedes one.laws.tags one.laws.precedes;
+      holds = option_holds one.laws.tags one.laws.holds;
+    }
+
+-- the same value in another type
+pub seen_reads : {A B : Type 0} {Ahead : A → EncodingRules → List ℕ → ℕ → Type 0} {valid : A → Type 0}
+    {encoding : A → List ℕ} {P : A → List ℕ → Type 0} (f : B → A)
+    → ReadsFields Ahead valid encoding P
+    → ReadsFields (λ b. Ahead (f b)) (λ b. valid (f b)) (λ b. encoding (f b)) (λ b. P (f b))
+seen_reads f reads =
+    record {
+      only = λ octets b m h. (let e = reads.only octets (f b) m h in record { is_valid = e.is_valid; behind = e.behind; split = e.split; whole = e.whole; precedes = e.precedes });
+      every = λ octets b m short e. reads.every octets (f b) m short (record { is_valid = e.is_valid; behind = e.behind; split = e.split; whole = e.whole; precedes = e.precedes });
+    }
+
+abbrev pub seen_laws : {A B : Type 0} {Ahead : A → EncodingRules → List ℕ → ℕ → Type 0}
+    {valid : A → Type 0} {encoding : A → List ℕ} (f : B → A) → FieldLaws Ahead valid encoding
+    → FieldLaws (λ b. Ahead (f b)) (λ b. valid (f b)) (λ b. encoding (f b))
+seen_laws f one =
+    record {
+      Precedes = λ b. one.Precedes (f b);
+      tags = one.tags;
+      stops = one.stops;
+      reads = seen_reads f one.reads;
+      starts = record { starts = λ b is. one.starts.starts (f b) is };
+      precedes = record { precedes = λ b behind is none. one.precedes.precedes (f b) behind is none };
+      holds = λ b. one.holds (f b);
+    }
+
+-- and in an `Optional`
+abbrev pub optional_field : {A : Type 0} {Ahead : A → EncodingRules → List ℕ → ℕ → Type 0}
+    {valid : A → Type 0} {encoding : A → List ℕ} (one : SomeLaws Ahead valid encoding)
+    → FieldLaws (λ (p : Optional A). OptionAhead one.laws.tags Ahead p.0)
+    (λ p. IsOptional valid p.0) (λ p. option_encoding encoding p.0)
+optional_field one = seen_laws (λ p. p.0) (optional_laws one)
+
+-- a field before one that always has octets, none of whose tags it may not stand before
+abbrev pub pair_laws : {A B : Type 0} {First : A → EncodingRules → List ℕ → ℕ → Type 0}
+    {Second : B → EncodingRules → List ℕ → ℕ → Type 0} {is_first : A → Type 0}
+    {is_second : B → Type 0} {first : A → List ℕ} {second : B → List ℕ}
+    (one : FieldLaws First is_first first) (two : SomeLaws Second is_second second)
+    → ((t : Tag) → one.stops t → two.laws.tags t → ⊥)
+    → FieldLaws (FieldsAhead First Second) (λ v. is_first v.0 × is_second v.1)
+    (λ v. first v.0 ++ second v.1)
+pair_laws {second = second} one two apart =
+    record {
+      Precedes = BothPrecede second one.Precedes two.laws.Precedes;
+      tags = either_tags one.tags two.laws.tags;
+      stops = two.laws.stops;
+      reads = fields_follow one.reads two.laws.reads;
+      starts = pair_may_start one.starts two.laws.starts;
+      precedes = pair_precedes one.precedes two.laws.precedes two.some apart;
+      holds = λ v rules octets m f. (
+        one.holds v.0 rules octets f.first f.ahead,
+        two.laws.holds v.1 rules (drop f.first octets) f.second f.behind,
+      );
+    }
+
+-- and before one that may be absent
+abbrev pub pair_laws_absent : {A B : Type 0} {First : A → EncodingRules → List ℕ → ℕ → Type 0}
+    {Second : B → EncodingRules → List ℕ → ℕ → Type 0} {is_first : A → Type 0}
+    {is_second : B → Type 0} {first : A → List ℕ} {second : B → List ℕ}
+    (one : FieldLaws First is_first first) (two : FieldLaws Second is_second second)
+    → ((t : Tag) → one.stops t → two.tags t → ⊥)
+    → FieldLaws (FieldsAhead First Second) (λ v. is_first v.0 × is_second v.1)
+    (λ v. first v.0 ++ second v.1)
+pair_laws_absent {second = second} one two apart =
+    record {
+      Precedes = BothPrecede second one.Precedes two.Precedes;
+      tags = either_tags one.tags two.tags;
+      stops = either_tags one.stops two.stops;
+      reads = fields_follow one.reads two.reads;
+      starts = pair_may_start one.starts two.starts;
+      precedes = pair_precedes_absent one.precedes two.precedes two.starts apart;
+      holds = λ v rules octets m f. (
+        one.holds v.0 rules octets f.first f.ahead,
+        two.holds v.1 rules (drop f.first octets) f.second f.behind,
+      );
+    }
+
+-- so two fields always have octets, where the first has
+abbrev pub some_before : {A B : Type 0} {First : A → EncodingRules → List ℕ → ℕ → Type 0}
+    {Second : B → EncodingRules → List ℕ → ℕ → Type 0} {is_first : A → Type 0}
+    {is_second : B → Type 0} {first : A → List ℕ} {second : B → List ℕ}
+    (one : SomeLaws First is_first first) (two : FieldLaws Second is_second second)
+    → ((t : Tag) → one.laws.stops t → two.tags t → ⊥)
+    → SomeLaws (FieldsAhead First Second) (λ v. is_first v.0 × is_second v.1)
+    (λ v. first v.0 ++ second v.1)
+some_before {first = first} {second} one two apart =
+    record {
+      laws = pair_laws_absent one.laws two apart;
+      some = record {
+        starts = λ v is. starts_append (first v.0) (second v.1)
+            (starts_wider (λ t h. inl h) (one.some.starts v.0 is.0));
+      };
+    }
+
+abbrev pub some_before_some : {A B : Type 0} {First : A → EncodingRules → List ℕ → ℕ → Type 0}
+    {Second : B → EncodingRules → List ℕ → ℕ → Type 0} {is_first : A → Type 0}
+    {is_second : B → Type 0} {first : A → List ℕ} {second : B → List ℕ}
+    (one : SomeLaws First is_first first) (two : SomeLaws Second is_second second)
+    → ((t : Tag) → one.laws.stops t → two.laws.tags t → ⊥)
+    → SomeLaws (FieldsAhead First Second) (λ v. is_first v.0 × is_second v.1)
+    (λ v. first v.0 ++ second v.1)
+some_before_some {first = first} {second} one two apart =
+    record {
+      laws = pair_laws one.laws two apart;
+      some = record {
+        starts = λ v is. starts_append (first v.0) (second v.1)
+            (starts_wider (λ t h. inl h) (one.some.starts v.0 is.0));
+      };
+    }
+
+-- fields that are all the contents of a type make it lawful
+pub contents_laws : {A B : Type 0} {Ahead : A → EncodingRules → List ℕ → ℕ → Type 0}
+    {valid : A → Type 0} {encoding : A → List ℕ} (tag : Tag) (levels : EncodingRules → ℕ)
+    (f : B → A) → FieldLaws Ahead valid encoding → levels Der ≤ 63 → (label tag).number < 2 ^ 32
+    → IsLawful tag (λ b. TakesWhole Ahead (f b)) (λ b. valid (f b)) (λ b. encoding (f b)) levels
+contents_laws tag levels f one shallow numbered =
+    fields_lawful tag levels f one.reads (last_of one.precedes) shallow numbered
+
+pub contents_hold : {A : Type 0} {Ahead : A → EncodingRules → List ℕ → ℕ → Type 0}
+    {valid : A → Type 0} {encoding : A → List ℕ} → FieldLaws Ahead valid encoding → (v : A)
+    (rules : EncodingRules) (h : Head) (octets : List ℕ) → TakesWhole Ahead v rules h octets → valid v
+contents_hold one v rules h octets taken = one.holds v rules octets (length octets) taken

@@ -1,0 +1,83 @@
+-- What it means that fields are read as they are written, where what follows one may decide.
+use Rattle.std.specs.Prelude.{◌≡◌, ℕ, ◌^◌, ◌<◌, ◌⊎◌, List, [], ◌++◌, length}
+use Rattle.der.specs.HeaderGrammar.{TagAhead}
+use Rattle.der.specs.Tag.{label}
+use Rattle.der.specs.Prelude.{tag_octets, Tag, EncodingRules, Der}
+
+-- the first m octets of a list are the encoding of a valid value, and the others may follow it
+pub record FieldAhead {A : Type 0} (valid : A → Type 0) (encoding : A → List ℕ)
+    (MayPrecede : A → List ℕ → Type 0) (v : A) (octets : List ℕ) (m : ℕ) : Type 0 where
+  pub is_valid : valid v
+  pub behind : List ℕ
+  pub split : octets ≡ encoding v ++ behind
+  pub whole : m ≡ length (encoding v)
+  pub precedes : MayPrecede v behind
+
+-- under DER a field stands at the front of octets only where they begin with its encoding and what
+-- may follow it, and wherever octets that a length can count do
+pub record ReadsFields {A : Type 0} (Ahead : A → EncodingRules → List ℕ → ℕ → Type 0)
+    (valid : A → Type 0) (encoding : A → List ℕ) (MayPrecede : A → List ℕ → Type 0)
+    : Type 0 where
+  pub only : (octets : List ℕ) (v : A) (m : ℕ) → Ahead v Der octets m
+      → FieldAhead valid encoding MayPrecede v octets m
+  pub every : (octets : List ℕ) (v : A) (m : ℕ) → length octets < 2 ^ 32
+      → FieldAhead valid encoding MayPrecede v octets m → Ahead v Der octets m
+
+-- anything may follow
+abbrev pub Anything : {A : Type 0} → A → List ℕ → Type 0
+Anything v behind = Unit {0}
+
+-- one of these tags stands ahead
+pub record TagIn (tags : Tag → Type 0) (rules : EncodingRules) (octets : List ℕ) : Type 0 where
+  pub tag : Tag
+  pub count : ℕ
+  pub ahead : TagAhead tag rules octets count
+  pub among : tags tag
+
+-- none of these tags stands ahead: nothing does, or another tag
+pub data NoTagIn (tags : Tag → Type 0) (rules : EncodingRules) (octets : List ℕ) : Type 0 where
+  nothing : octets ≡ [] → NoTagIn tags rules octets
+  other : (t : Tag) (n : ℕ) → TagAhead t rules octets n → (tags t → ⊥)
+      → NoTagIn tags rules octets
+
+-- octets begin with one of these tags
+pub record StartsIn (tags : Tag → Type 0) (octets : List ℕ) : Type 0 where
+  pub tag : Tag
+  pub more : List ℕ
+  pub split : octets ≡ tag_octets tag ++ more
+  pub numbered : (label tag).number < 2 ^ 32
+  pub among : tags tag
+
+-- the encodings of valid values begin with one of these tags; or they may be empty too
+pub record Starts {A : Type 0} (valid : A → Type 0) (encoding : A → List ℕ) (tags : Tag → Type 0)
+    : Type 0 where
+  pub starts : (v : A) → valid v → StartsIn tags (encoding v)
+
+pub record MayStart {A : Type 0} (valid : A → Type 0) (encoding : A → List ℕ)
+    (tags : Tag → Type 0) : Type 0 where
+  pub starts : (v : A) → valid v → (encoding v ≡ []) ⊎ StartsIn tags (encoding v)
+
+-- valid values may stand before everything that begins with none of these tags
+pub record PrecedesBut {A : Type 0} (valid : A → Type 0) (MayPrecede : A → List ℕ → Type 0)
+    (stops : Tag → Type 0) : Type 0 where
+  pub precedes : (v : A) (behind : List ℕ) → valid v → NoTagIn stops Der behind
+      → MayPrecede v behind
+
+-- no tags, a tag alone, any tag, and those of two sets
+abbrev pub no_tags : Tag → Type 0
+no_tags t = ⊥
+
+abbrev pub this_tag : Tag → Tag → Type 0
+this_tag u t = t ≡ u
+
+abbrev pub any_tag : Tag → Type 0
+any_tag t = Unit {0}
+
+abbrev pub either_tags : (Tag → Type 0) → (Tag → Type 0) → Tag → Type 0
+either_tags f g t = f t ⊎ g t
+
+-- one may stand before another, and that before what follows both
+abbrev pub BothPrecede : {A B : Type 0} → (B → List ℕ) → (A → List ℕ → Type 0)
+    → (B → List ℕ → Type 0) → A × B → List ℕ → Type 0
+BothPrecede second first_precedes second_precedes v behind =
+    first_precedes v.0 (second v.1 ++ behind) × second_precedes v.1 behind

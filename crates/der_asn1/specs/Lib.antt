@@ -1,0 +1,14 @@
+pub mod Follow
+pub mod FollowLemmas
+pub mod Begins
+pub mod Optional
+pub mod OptionalLemmas
+pub mod AnyElement
+pub mod AnyElementLemmas
+pub mod AnyRef
+pub mod Checked
+pub mod Forms
+pub mod FieldLaws
+pub mod ElementLaws
+pub mod AlgorithmIdentifier
+pub mod SubjectPublicKeyInfo

@@ -1,0 +1,49 @@
+-- Fields that may be absent (X.690 8.9.3).
+use Rattle.std.specs.Prelude.{◌≡◌, ℕ, true, List, [], Option, Some, None, Result, Ok, Err}
+use Rattle.der.specs.Prelude.{Tag, EncodingRules, Der, Error, definite_length, Length, WriterAnswer}
+use Rattle.der.specs.Prelude.{map_ok, ReaderState}
+use Rattle.der.specs.HeaderGrammar.{TagAhead}
+use Rattle.der.specs.Tag.{IdentifierFault}
+use Rattle.der.specs.Decode.{Peeks}
+use Rattle.der_asn1.specs.Follow.{NoTagIn}
+
+-- a value, or none of the tags that one begins with
+abbrev pub OptionAhead : {A : Type 0} → (Tag → Type 0)
+    → (A → EncodingRules → List ℕ → ℕ → Type 0) → Option A → EncodingRules → List ℕ → ℕ → Type 0
+OptionAhead tags Ahead None rules octets m = (m ≡ 0) × NoTagIn tags rules octets
+OptionAhead tags Ahead (Some v) rules octets m = Ahead v rules octets m
+
+abbrev pub IsOptional : {A : Type 0} → (A → Type 0) → Option A → Type 0
+IsOptional valid None = Unit {0}
+IsOptional valid (Some v) = valid v
+
+abbrev pub option_encoding : {A : Type 0} → (A → List ℕ) → Option A → List ℕ
+option_encoding encoding None = []
+option_encoding encoding (Some v) = encoding v
+
+abbrev pub OptionPrecedes : {A : Type 0} → (Tag → Type 0) → (A → List ℕ → Type 0) → Option A
+    → List ℕ → Type 0
+OptionPrecedes tags MayPrecede None behind = NoTagIn tags Der behind
+OptionPrecedes tags MayPrecede (Some v) behind = MayPrecede v behind
+
+-- what reading answers: nothing at the end, or where another tag stands ahead; else the value
+pub data OptionRead {A E : Type 0} (tags : Tag → Type 0) (converts : Error → E → Type 0)
+    (answers : ReaderState → Result A E → ReaderState → Type 0) (s : ReaderState)
+    (result : Result (Option A) E) (t : ReaderState) : Type 0 where
+  at_end : s.end ≡ s.position → result ≡ Ok None → t ≡ s
+      → OptionRead tags converts answers s result t
+  no_tag : (e : Error) (f : E) → Peeks TagAhead IdentifierFault true s (Err e) → converts e f
+      → result ≡ Err f → t ≡ s → OptionRead tags converts answers s result t
+  other_tag : (u : Tag) → Peeks TagAhead IdentifierFault true s (Ok u) → (tags u → ⊥)
+      → result ≡ Ok None → t ≡ s → OptionRead tags converts answers s result t
+  chosen : (u : Tag) (r : Result A E) → Peeks TagAhead IdentifierFault true s (Ok u) → tags u
+      → answers s r t → result ≡ map_ok Some r → OptionRead tags converts answers s result t
+
+-- how many octets there are, and what writing answers
+abbrev pub option_size : {A : Type 0} → (A → Result Length Error) → Option A → Result Length Error
+option_size size None = Ok (definite_length 0)
+option_size size (Some v) = size v
+
+abbrev pub OptionWritten : {A : Type 0} → (A → WriterAnswer) → Option A → WriterAnswer
+OptionWritten answers None s result t = (result ≡ Ok tt) × (t ≡ s)
+OptionWritten answers (Some v) s result t = answers v s result t

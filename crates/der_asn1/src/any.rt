@@ -1,0 +1,109 @@
+//! An element of any tag.
+ghost use Rattle.std.specs.Prelude.{◌≡◌, false};
+ghost use Rattle.der.specs.Prelude.{element_levels};
+ghost use Rattle.der_asn1.specs.AnyRef.{IsAny, TakesAny, AnyAnswers, any_contents, any_size};
+ghost use Rattle.der_asn1.specs.AnyRef.{WritesAny};
+ghost use Rattle.der_asn1.specs.AnyElement.{AnyElementAhead, AnyElementRead};
+
+use crate::element::decode_element;
+use der::{
+    Decode, DecodeValue, EncodeValue, Error, Header, Length, ReadValue, Reader, Tag, Tagged,
+    Writer, WrittenValue,
+};
+use std::alloc::Global;
+
+/// An element of any tag: the tag, and the contents as they stand, lent by the input. It is ANY of
+/// older modules, and what an open type has.
+#[derive(Clone, Copy)]
+pub struct AnyRef<'a> {
+    /// The tag.
+    pub tag: Tag,
+    /// The contents.
+    pub contents: &'a [u8],
+}
+
+impl<'a> Tagged for AnyRef<'a> {
+    ghost tag_of = { λ v. v.tag };
+
+    fn tag(&self) -> Tag {
+        self.tag
+    }
+}
+
+impl<'a> ReadValue for AnyRef<'a> {
+    ghost valid = { IsAny };
+
+    ghost takes = { TakesAny };
+
+    ghost levels = { λ _. 0 };
+
+    ghost takes_memory = { false };
+
+    ghost takes_valid = { λ v rules h octets taken. taken.numbered };
+}
+
+/// The contents are lent as they stand, whatever the header.
+///
+/// # Errors
+///
+/// `Failed`, `Overflow` and `Incomplete`, as by [`Reader::read_slice`].
+impl<'a, R: Reader<Lent = &'a [u8]>> DecodeValue<R> for AnyRef<'a> {
+    type Error = Error;
+
+    ghost value_answers = { AnyAnswers };
+
+    fn decode_value(_alloc: Global, reader: &mut R, header: Header) -> Result<Self, Error> {
+        let contents = reader.read_slice(header.length())?;
+        Ok(AnyRef {
+            tag: header.tag(),
+            contents,
+        })
+    }
+
+    fn is_value(&self) {
+        let _number = self.tag.number().value();
+    }
+}
+
+/// # Errors
+///
+/// Those of [`decode_element`].
+impl<'a, R: Reader<Lent = &'a [u8]>> Decode<R> for AnyRef<'a> {
+    type Error = Error;
+
+    ghost heads = { AnyElementAhead TakesAny };
+
+    ghost needs = { element_levels (λ _. 0) };
+
+    ghost takes_memory = { false };
+
+    ghost answers = { AnyElementRead (λ e f. f ≡ e) AnyAnswers };
+
+    fn decode(alloc: Global, reader: &mut R) -> Result<Self, Error> {
+        decode_element::<R, AnyRef<'a>>(alloc, reader)
+    }
+}
+
+impl<'a> WrittenValue for AnyRef<'a> {
+    ghost contents = { any_contents };
+
+    ghost writable = { IsAny };
+}
+
+/// # Errors
+///
+/// - `Overflow` where there are more than 4294967295 octets.
+/// - The writer's errors, as by [`Writer::write`].
+impl<'a> EncodeValue for AnyRef<'a> {
+    ghost value_size = { any_size };
+
+    ghost value_answers = { WritesAny };
+
+    fn value_len(&self) -> Result<Length, Error> {
+        Length::new_usize(self.contents.len())
+    }
+
+    fn encode_value<W: Writer>(&self, writer: &mut W) -> Result<(), Error> {
+        writer.write(self.contents)
+    }
+}

@@ -1,0 +1,50 @@
+//! A BIT STRING.
+ghost use Rattle.std.specs.Prelude.{◌≡◌, ◌<◌};
+ghost use Rattle.std.proofs.Common.{arith};
+ghost use Rattle.der.specs.Prelude.{BitString as BitTag};
+ghost use Rattle.der_asn1.specs.Forms.{bits_form, has_low_zeros};
+
+use crate::checked::Checked;
+use crate::form::Form;
+use der::{FixedTag, Tag};
+
+/// The form of a BIT STRING: the number of unused bits, and octets of which these are zero
+/// (X.690 8.6.2, 11.2.1).
+pub struct BitStringForm;
+
+/// A BIT STRING, lent by the input. Its first octet is the number of unused bits.
+pub type BitStringRef<'a> = Checked<'a, BitStringForm>;
+
+impl FixedTag for BitStringForm {
+    ghost tag_is = { BitTag };
+
+    const TAG: Tag = Tag::BitString;
+
+    fn fixed_tag() -> Tag {
+        Self::TAG
+    }
+}
+
+impl Form for BitStringForm {
+    ghost form = { bits_form };
+
+    fn has_form(octets: &[u8]) -> bool {
+        let [unused, bits @ ..] = octets else {
+            return false;
+        };
+        *unused < 8 && ends_in_zeros(*unused, bits)
+    }
+
+    ghost numbered = { Prim.omega arith };
+}
+
+// Whether so many of the last bits are zero.
+fn ends_in_zeros(unused: u8, bits: &[u8]) -> bool
+    requires { unused < 8 }
+    ensures { result ≡ has_low_zeros unused bits.now }
+{
+    match bits {
+        [] => unused == 0,
+        [.., last] => *last % (1 << unused) == 0,
+    }
+}

@@ -1,0 +1,123 @@
+//! Types whose contents are octets of a form, lent by the input.
+ghost use Rattle.std.specs.Prelude.{◌≡◌, true, false, IfSome, IsSome, ◌↔◌};
+ghost use Rattle.std.proofs.Common.{subst, sym};
+ghost use Rattle.der_asn1.specs.Checked.{HasForm, TakesForm, FormAnswers, octets_size};
+ghost use Rattle.der_asn1.specs.Checked.{WritesOctets, form_lawful};
+
+use crate::form::Form;
+use der::{
+    DecodeValue, EncodeValue, Error, FixedTag, Header, Lawful, Length, ReadValue, Reader, Tag,
+    Writer, WrittenValue,
+};
+use std::alloc::Global;
+use std::marker::PhantomData;
+
+/// Octets of a form, lent by the input.
+#[derive(Drop)]
+pub struct Checked<'a, F: Form> {
+    octets: &'a [u8],
+    form: PhantomData<F>,
+    ghost checked: { F.form octets.now ≡ true },
+}
+
+impl<'a, F: Form> Checked<'a, F> {
+    /// The octets, where they have the form.
+    pub fn new(octets: &'a [u8]) -> Option<Self>
+        ensures some { IsSome result ↔ (F.form octets.now ≡ true) }
+        ensures same { IfSome result (λ v. v.octets.now ≡ octets.now) }
+    {
+        if F::has_form(octets) {
+            Some(Checked {
+                octets,
+                form: PhantomData,
+            })
+        } else {
+            None
+        }
+    }
+
+    /// The octets.
+    pub fn octets(&self) -> &'a [u8]
+        ensures value { result.now ≡ self.now.octets.now }
+        ensures formed { F.form result.now ≡ true }
+    {
+        self.octets
+    }
+}
+
+impl<'a, F: Form> FixedTag for Checked<'a, F> {
+    ghost tag_is = { F.tag_is };
+
+    const TAG: Tag = F::TAG;
+
+    fn fixed_tag() -> Tag
+        ensures { result ≡ F.tag_is }
+    {
+        F::fixed_tag()
+    }
+}
+
+impl<'a, F: Form> ReadValue for Checked<'a, F> {
+    ghost valid = { HasForm F.form (λ v. v.octets.now) };
+
+    ghost takes = { TakesForm F.form (λ v. v.octets.now) };
+
+    ghost levels = { λ _. 0 };
+
+    ghost takes_memory = { false };
+
+    ghost takes_valid = { λ v rules h octets taken.
+        subst (λ x. F.form x ≡ true) (sym taken.1) taken.0 };
+}
+
+/// The contents are lent as they stand, whatever the header; also under BER they have the form.
+///
+/// # Errors
+///
+/// - `Failed`, `Overflow` and `Incomplete`, as by [`Reader::read_slice`].
+/// - `Value` of the tag behind octets that have not the form; the reader has failed then.
+impl<'a, F: Form, R: Reader<Lent = &'a [u8]>> DecodeValue<R> for Checked<'a, F> {
+    type Error = Error;
+
+    ghost value_answers = { FormAnswers F.form F.tag_is (λ v. v.octets.now) };
+
+    fn decode_value(_alloc: Global, reader: &mut R, header: Header) -> Result<Self, Error> {
+        let octets = reader.read_slice(header.length())?;
+        match Checked::new(octets) {
+            Some(value) => Ok(value),
+            None => Err(reader.error(F::fixed_tag().value_error())),
+        }
+    }
+
+    fn is_value(&self) {
+        let _octets = self.octets();
+    }
+}
+
+impl<'a, F: Form> WrittenValue for Checked<'a, F> {
+    ghost contents = { λ v. v.octets.now };
+
+    ghost writable = { HasForm F.form (λ v. v.octets.now) };
+}
+
+/// # Errors
+///
+/// - `Overflow` where there are more than 4294967295 octets.
+/// - The writer's errors, as by [`Writer::write`].
+impl<'a, F: Form> EncodeValue for Checked<'a, F> {
+    ghost value_size = { λ v. octets_size v.octets.now };
+
+    ghost value_answers = { λ v. WritesOctets v.octets.now };
+
+    fn value_len(&self) -> Result<Length, Error> {
+        Length::new_usize(self.octets.len())
+    }
+
+    fn encode_value<W: Writer>(&self, writer: &mut W) -> Result<(), Error> {
+        writer.write(self.octets)
+    }
+}
+
+impl<'a, F: Form> Lawful for Checked<'a, F> {
+    ghost lawful = { form_lawful F.tag_is F.form (λ v. v.octets.now) F.numbered };
+}

@@ -1,0 +1,44 @@
+//! Types that the tag ahead tells.
+ghost use Rattle.std.specs.Prelude.{◌↔◌, ℕ, List, IsTrue};
+ghost use Rattle.der.specs.Prelude.{Tag as ATag, EncodingRules as Rules};
+ghost use Rattle.der_asn1.specs.Follow.{TagIn, this_tag, any_tag};
+ghost use Rattle.der_asn1.specs.Begins.{element_begins, any_element_begins};
+
+use crate::any::AnyRef;
+use der::{Decode, DecodeValue, FixedTag, Reader, Tag};
+
+/// Types of which the tag ahead tells whether a value stands there.
+///
+/// Ghost members: `chooses` says which tags those are; `begins` is the law that a value begins with
+/// one of them.
+pub trait Choice<R: Reader>: Decode<R> {
+    ghost chooses: { ATag → Type 0 };
+
+    /// Whether a value may begin with this tag.
+    fn can_decode(tag: Tag) -> bool
+        ensures { IsTrue result ↔ chooses tag };
+
+    // a value begins with such a tag
+    ghost begins: { (v : Self) (rules : Rules) (octets : List ℕ) (m : ℕ)
+        → Self.heads v rules octets m → TagIn chooses rules octets };
+}
+
+impl<R: Reader, T: DecodeValue<R> + FixedTag> Choice<R> for T {
+    ghost chooses = { this_tag T.tag_is };
+
+    fn can_decode(tag: Tag) -> bool {
+        tag == T::fixed_tag()
+    }
+
+    ghost begins = { λ v rules octets m e. element_begins e };
+}
+
+impl<'a, R: Reader<Lent = &'a [u8]>> Choice<R> for AnyRef<'a> {
+    ghost chooses = { any_tag };
+
+    fn can_decode(_tag: Tag) -> bool {
+        true
+    }
+
+    ghost begins = { λ v rules octets m e. any_element_begins e };
+}

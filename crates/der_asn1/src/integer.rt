@@ -1,0 +1,41 @@
+//! An INTEGER.
+ghost use Rattle.std.specs.Prelude.{◌<◌};
+ghost use Rattle.std.proofs.Common.{arith};
+ghost use Rattle.der.specs.Prelude.{Integer as IntegerTag};
+ghost use Rattle.der_asn1.specs.Forms.{integer_form};
+
+use crate::checked::Checked;
+use crate::form::Form;
+use der::{FixedTag, Tag};
+
+/// The form of an INTEGER: a number in two's complement, as short as can be (X.690 8.3.2).
+pub struct IntegerForm;
+
+/// An INTEGER, lent by the input.
+pub type IntRef<'a> = Checked<'a, IntegerForm>;
+
+impl FixedTag for IntegerForm {
+    ghost tag_is = { IntegerTag };
+
+    const TAG: Tag = Tag::Integer;
+
+    fn fixed_tag() -> Tag {
+        Self::TAG
+    }
+}
+
+impl Form for IntegerForm {
+    ghost form = { integer_form };
+
+    fn has_form(octets: &[u8]) -> bool {
+        match octets {
+            [] => false,
+            [_] => true,
+            [first, second, ..] => {
+                !(*first == 0 && *second < 0x80 || *first == 0xFF && !(*second < 0x80))
+            }
+        }
+    }
+
+    ghost numbered = { Prim.omega arith };
+}

@@ -1,0 +1,34 @@
+//! NULL.
+ghost use Rattle.std.proofs.Common.{arith};
+ghost use Rattle.der.specs.Prelude.{Null as NullTag};
+ghost use Rattle.der_asn1.specs.Forms.{null_form};
+
+use crate::checked::Checked;
+use crate::form::Form;
+use der::{FixedTag, Tag};
+
+/// The form of NULL: no octets (X.690 8.8.2).
+pub struct NullForm;
+
+/// NULL, lent by the input.
+pub type Null<'a> = Checked<'a, NullForm>;
+
+impl FixedTag for NullForm {
+    ghost tag_is = { NullTag };
+
+    const TAG: Tag = Tag::Null;
+
+    fn fixed_tag() -> Tag {
+        Self::TAG
+    }
+}
+
+impl Form for NullForm {
+    ghost form = { null_form };
+
+    fn has_form(octets: &[u8]) -> bool {
+        octets.is_empty()
+    }
+
+    ghost numbered = { Prim.omega arith };
+}

@@ -1,0 +1,43 @@
+//! An OBJECT IDENTIFIER.
+ghost use Rattle.std.specs.Prelude.{◌<◌};
+ghost use Rattle.std.proofs.Common.{arith};
+ghost use Rattle.der.specs.Prelude.{ObjectIdentifier as OidTag};
+ghost use Rattle.der_asn1.specs.Forms.{oid_form};
+
+use crate::checked::Checked;
+use crate::form::Form;
+use der::{FixedTag, Tag};
+
+/// The form of an OBJECT IDENTIFIER: one subidentifier at least, none of which begins with octet 80
+/// (X.690 8.19.2, 8.19.3).
+pub struct ObjectIdentifierForm;
+
+/// An OBJECT IDENTIFIER, lent by the input.
+pub type ObjectIdentifierRef<'a> = Checked<'a, ObjectIdentifierForm>;
+
+impl FixedTag for ObjectIdentifierForm {
+    ghost tag_is = { OidTag };
+
+    const TAG: Tag = Tag::ObjectIdentifier;
+
+    fn fixed_tag() -> Tag {
+        Self::TAG
+    }
+}
+
+impl Form for ObjectIdentifierForm {
+    ghost form = { oid_form };
+
+    fn has_form(octets: &[u8]) -> bool {
+        let mut starts = true;
+        for octet in octets {
+            if starts && *octet == 0x80 {
+                return false;
+            }
+            starts = *octet < 0x80;
+        }
+        starts && !octets.is_empty()
+    }
+
+    ghost numbered = { Prim.omega arith };
+}

@@ -1,0 +1,34 @@
+//! An OCTET STRING.
+ghost use Rattle.std.proofs.Common.{arith};
+ghost use Rattle.der.specs.Prelude.{OctetString as OctetTag};
+ghost use Rattle.der_asn1.specs.Forms.{octets_form};
+
+use crate::checked::Checked;
+use crate::form::Form;
+use der::{FixedTag, Tag};
+
+/// The form of an OCTET STRING: any octets (X.690 8.7).
+pub struct OctetStringForm;
+
+/// An OCTET STRING, lent by the input.
+pub type OctetStringRef<'a> = Checked<'a, OctetStringForm>;
+
+impl FixedTag for OctetStringForm {
+    ghost tag_is = { OctetTag };
+
+    const TAG: Tag = Tag::OctetString;
+
+    fn fixed_tag() -> Tag {
+        Self::TAG
+    }
+}
+
+impl Form for OctetStringForm {
+    ghost form = { octets_form };
+
+    fn has_form(_octets: &[u8]) -> bool {
+        true
+    }
+
+    ghost numbered = { Prim.omega arith };
+}

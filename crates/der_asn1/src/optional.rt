@@ -1,0 +1,70 @@
+//! Fields that may be absent.
+ghost use Rattle.der.specs.Prelude.{map_ok};
+ghost use Rattle.der_asn1.specs.Optional.{OptionAhead, OptionRead, IsOptional, option_encoding};
+ghost use Rattle.der_asn1.specs.Optional.{option_size, OptionWritten};
+
+use crate::choice::Choice;
+use der::{Decode, Encode, Error, Length, Reader, ReaderExt, Writer};
+use std::alloc::Global;
+
+/// An OPTIONAL field (X.690 8.9.3): a value, or nothing where none of its tags stands ahead.
+#[derive(Clone, Copy, Drop)]
+pub struct Optional<T>(pub Option<T>);
+
+/// # Errors
+///
+/// - Those of [`Tag::peek`], where octets are left that begin with no tag; the reader stays.
+/// - Those of the value, where one of its tags stands ahead.
+impl<R: Reader, T: Choice<R>> Decode<R> for Optional<T> {
+    type Error = <T as Decode<R>>::Error;
+
+    ghost heads = { λ v. OptionAhead T.chooses T.heads v.0 };
+
+    ghost needs = { T.needs };
+
+    ghost takes_memory = { T.takes_memory };
+
+    ghost answers = { λ s result t. OptionRead T.chooses T.Error.from_gives T.answers s
+        (map_ok (λ v. v.0) result) t };
+
+    fn decode(alloc: Global, reader: &mut R) -> Result<Self, <T as Decode<R>>::Error> {
+        if reader.is_finished() {
+            return Ok(Optional(None));
+        }
+        let tag = reader.peek_tag()?;
+        if !T::can_decode(tag) {
+            return Ok(Optional(None));
+        }
+        let value = T::decode(alloc, reader)?;
+        Ok(Optional(Some(value)))
+    }
+}
+
+/// Nothing is written as no octets.
+///
+/// # Errors
+///
+/// Those of the value.
+impl<T: Encode> Encode for Optional<T> {
+    ghost encoding = { λ v. option_encoding T.encoding v.0 };
+
+    ghost encodable = { λ v. IsOptional T.encodable v.0 };
+
+    ghost size = { λ v. option_size T.size v.0 };
+
+    ghost answers = { λ v. OptionWritten T.answers v.0 };
+
+    fn encoded_len(&self) -> Result<Length, Error> {
+        match &self.0 {
+            Some(value) => value.encoded_len(),
+            None => Ok(Length::ZERO),
+        }
+    }
+
+    fn encode<W: Writer>(&self, writer: &mut W) -> Result<(), Error> {
+        match &self.0 {
+            Some(value) => value.encode(writer),
+            None => Ok(()),
+        }
+    }
+}

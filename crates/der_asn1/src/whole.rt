@@ -1,0 +1,27 @@
+//! Whole encodings of lawful types.
+ghost use Rattle.std.specs.Prelude.{◌≡◌, ◌^◌, ◌<◌, length, IfOk};
+ghost use Rattle.der.specs.Decode.{SucceedsOrLacks, WholeAnswer};
+ghost use Rattle.der.specs.Prelude.{Der, ElementRead, element_octets};
+
+use der::{DecodeBytes, DecodeValue, Lawful, SliceReader};
+use std::alloc::Global;
+
+/// The value whose encoding these octets are. A lawful type answers one exactly where there is one.
+///
+/// # Errors
+///
+/// Those of [`DecodeBytes::from_der`].
+pub fn lawful_from_der<'a, T: Lawful + DecodeValue<SliceReader<'a>>>(
+    alloc: Global,
+    octets: &'a [u8],
+) -> Result<T, <T as DecodeValue<SliceReader<'a>>>::Error>
+    ensures ok { IfOk result (λ v. T.valid v
+        × (octets.now ≡ element_octets T.tag_is (T.contents v))) }
+    ensures complete { (v : T) → length octets.now < 2 ^ 32 → T.valid v
+        → octets.now ≡ element_octets T.tag_is (T.contents v)
+        → SucceedsOrLacks T.Error.out_of_memory T.takes_memory result }
+    ensures exact { WholeAnswer Der (ElementRead T.tag_is T.Error.from_gives T.value_answers)
+        T.Error.from_gives octets.now result }
+{
+    T::from_der(alloc, octets)
+}

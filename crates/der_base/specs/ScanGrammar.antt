@@ -1,0 +1,79 @@
+-- What a scan finds: a body of an indefinite length, or why there is none (X.690 8.1.3.6, 8.1.5).
+use Rattle.std.specs.Prelude.{◌≡◌, ◌≢◌, ℕ, ◌+◌, ◌-◌, ◌*◌, ◌/◌, ◌^◌, ◌<◌, min, Bool, true, false, List, [], ◌∷◌, ◌++◌, length}
+use Rattle.der_base.specs.Length.{indefinite_length, length_octets}
+use Rattle.der_base.specs.Tag.{IsIdentifier, IsCutIdentifier, identifier_kind}
+use Rattle.der_base.specs.Body.{Body, Open}
+use Rattle.der_base.specs.HeaderGrammar.{LengthFault}
+use Rattle.der_base.specs.Error.{Refusal, refusal, end_refusal, missing_refusal}
+use Rattle.der_base.specs.declared.length.Length.{Length}
+use Rattle.der_base.specs.declared.tag.Tag.{Tag}
+use Rattle.der_base.specs.declared.error.ErrorKind.TheVariants.{IndefiniteLength, NestingDepth, Length as IncorrectLength}
+use Rattle.der_base.specs.declared.encoding_rules.EncodingRules.{EncodingRules}
+use Rattle.der_base.specs.declared.encoding_rules.EncodingRules.TheVariants.{Ber}
+
+-- octets begin with a body of so many identifiers and end marks
+abbrev pub PartsAhead : ℕ → List ℕ → Type 0
+PartsAhead parts octets = (body behind : List ℕ) × Body 1 parts body × (octets ≡ body ++ behind)
+
+-- the first m octets of a list are a body, which a length counts in the indefinite form
+pub record BodyAhead (l : Length) (rules : EncodingRules) (octets : List ℕ) (m : ℕ) : Type 0 where
+  pub parts : ℕ
+  pub body : List ℕ
+  pub behind : List ℕ
+  pub is_body : Body 1 parts body
+  pub split : octets ≡ body ++ behind
+  pub sized : m ≡ length body
+  pub counts : l ≡ indefinite_length m
+
+-- a scan reads lengths by itself, and looks for no body behind octet 80
+abbrev pub NoBodyFault : ℕ → List ℕ → Refusal → Type 0
+NoBodyFault at octets r = ⊥
+
+-- the octets that whole steps of sixteen take of those that are left
+abbrev pub passed_steps : ℕ → ℕ
+passed_steps left = 16 * (left / 16)
+
+-- n octets are wanted at a position, and fewer are left: whole steps of sixteen are passed, and
+-- then a step is wanted, or what is left of the n octets
+abbrev pub short_refusal : ℕ → ℕ → ℕ → Refusal
+short_refusal n left at =
+    missing_refusal (at + passed_steps left + min 16 (n - passed_steps left)) (at + left)
+    (at + passed_steps left)
+
+-- a scan stands at a position with so many levels open, and cannot go on: nothing follows; half an
+-- end mark does; a zero octet and another; an identifier that is refused, or one that is cut; a
+-- primitive identifier and octet 80; a constructed one and 80, with all levels open; an identifier
+-- and no length; or a length of more octets than are left
+pub data ScanFault (level at : ℕ) : List ℕ → Refusal → Type 0 where
+  nothing : ScanFault level at [] (end_refusal at)
+  half_mark : ScanFault level at (0 ∷ []) (end_refusal (at + 1))
+  no_mark : (o : ℕ) (rest : List ℕ) → o ≢ 0
+      → ScanFault level at (0 ∷ o ∷ rest) (refusal IndefiniteLength (at + 2))
+  refused_identifier : (s : List ℕ) (o : ℕ) (rest : List ℕ) → s ++ o ∷ [] ≢ 0 ∷ []
+      → IsCutIdentifier Ber s
+      → ((more : List ℕ) (t : Tag) (b : Bool) → IsIdentifier Ber ((s ++ o ∷ []) ++ more) t b → ⊥)
+      → ScanFault level at (s ++ o ∷ rest) (refusal (identifier_kind s o) (at + length s + 1))
+  cut_identifier : (o : ℕ) (s : List ℕ) → IsCutIdentifier Ber (o ∷ s)
+      → ScanFault level at (o ∷ s) (end_refusal (at + length (o ∷ s)))
+  primitive : {id : List ℕ} {t : Tag} (rest : List ℕ) → IsIdentifier Ber id t false
+      → ScanFault level at (id ++ 128 ∷ rest) (refusal IndefiniteLength (at + length id + 1))
+  too_deep : {id : List ℕ} {t : Tag} (rest : List ℕ) → level ≡ 64 → IsIdentifier Ber id t true
+      → ScanFault level at (id ++ 128 ∷ rest) (refusal NestingDepth (at + length id + 1))
+  no_length : {id more : List ℕ} {t : Tag} {b : Bool} {r : Refusal} → IsIdentifier Ber id t b
+      → LengthFault NoBodyFault (IncorrectLength t) Ber (at + length id) more r
+      → ScanFault level at (id ++ more) r
+  short : {id : List ℕ} {t : Tag} {b : Bool} (n : ℕ) (rest : List ℕ) → IsIdentifier Ber id t b
+      → n < 2 ^ 32 → length rest < n
+      → ScanFault level at (id ++ (length_octets n ++ rest))
+      (short_refusal n (length rest) (at + length id + length (length_octets n)))
+
+-- octets at a position begin with no body, and why: the beginning of one was passed, cut between
+-- items, and what is left behind it cannot go on
+pub record BodyFault (at : ℕ) (octets : List ℕ) (r : Refusal) : Type 0 where
+  pub level : ℕ
+  pub parts : ℕ
+  pub passed : List ℕ
+  pub left : List ℕ
+  pub split : octets ≡ passed ++ left
+  pub reached : Open level parts passed
+  pub stops : ScanFault level (at + length passed) left r

@@ -1,0 +1,43 @@
+//! Calls that take no memory, group by group. A line tells what each of them answered; but for what
+//! stands before a line `prepared`, the program asks for no memory, which `.ci/refused_memory` sees.
+#![tactic(auto)]
+
+mod decoding;
+mod orders;
+mod readers;
+mod refusals;
+mod strings;
+mod tell;
+mod values;
+mod writers;
+mod zeros;
+
+use std::io;
+
+fn main(rt: HostRuntime) -> io::Result<()> {
+    values::lengths(&rt)?;
+    values::sums(&rt)?;
+    values::tags(&rt)?;
+    values::numbers(&rt)?;
+    values::names(&rt)?;
+    values::errors(&rt)?;
+    readers::plain_calls(&rt)?;
+    readers::peeks(&rt)?;
+    readers::parts(&rt)?;
+    readers::scans(&rt)?;
+    readers::positions(&rt)?;
+    writers::pieces(&rt)?;
+    writers::sequences(&rt)?;
+    writers::values(&rt)?;
+    decoding::headers(&rt, rt.alloc())?;
+    decoding::elements(&rt, rt.alloc())?;
+    decoding::fronts(&rt, rt.alloc())?;
+    decoding::by_a_reader(&rt, rt.alloc())?;
+    strings::borrowed(&rt)?;
+    strings::owned(&rt, rt.alloc())?;
+    orders::values(&rt)?;
+    orders::lists(&rt)?;
+    refusals::of_reading(&rt, rt.alloc())?;
+    refusals::of_strings(&rt, rt.alloc())?;
+    refusals::of_writing(&rt, rt.alloc())
+}

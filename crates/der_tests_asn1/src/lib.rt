@@ -1,0 +1,12 @@
+//! Tests of `der_asn1`, made from outside as a user makes them: forms of contents, fields, and public
+//! keys that `openssl genpkey` made, as `openssl pkey -pubout -outform DER` writes them.
+#![tactic(auto)]
+
+#[cfg(test)]
+mod checks;
+#[cfg(test)]
+mod fields;
+#[cfg(test)]
+mod forms;
+#[cfg(test)]
+mod keys;

@@ -1,0 +1,111 @@
+//! Every beginning of elements in segments: each is refused where it was cut.
+use super::levels::{Forms, nested};
+use super::*;
+use crate::checks::same_at;
+use crate::elements::joined_of_ber;
+use der::example::JoinedOctets;
+use std::process::Abort;
+
+// Where contents stand that a scan passes at once, and how many octets they have, 16 at most.
+type Passed = (u32, u32);
+
+// What is missing of an element that was cut behind so many octets: the next one, or those that a
+// scan passes at once.
+fn missing(passed: &[Passed], cut: u32) -> Error {
+    for (start, count) in passed {
+        if cut >= *start && cut - *start < *count {
+            return incomplete(cut - (cut - *start) + *count, cut, *start);
+        }
+    }
+    incomplete(cut.saturating_add(1), cut, cut)
+}
+
+// A beginning is refused by this error.
+fn refused(rt: &impl Abort, cut: usize, read: &Result<JoinedOctets, Error>, error: Error) {
+    match read {
+        Ok(_) => same_at(rt, cut, None, Some(error)),
+        Err(told) => same_at(rt, cut, Some(*told), Some(error)),
+    }
+}
+
+// The whole is joined to these octets.
+fn read(rt: &impl Abort, row: usize, read: &Result<JoinedOctets, Error>, joined: &[u8]) {
+    match read {
+        Ok(whole) => same_at(rt, row, whole.octets.as_slice(), joined),
+        Err(error) => same_at(rt, row, Some(*error), None),
+    }
+}
+
+// The element is joined to these octets, and of each beginning octets are missing.
+fn cut_everywhere(rt: &impl Abort, alloc: Global, octets: &[u8], joined: &[u8], passed: &[Passed]) {
+    for cut in 0..octets.len() {
+        let (beginning, _) = octets.split_at(cut);
+        refused(
+            rt,
+            cut,
+            &joined_of_ber(alloc, beginning),
+            missing(passed, cut as u32),
+        );
+    }
+    read(rt, octets.len(), &joined_of_ber(alloc, octets), joined);
+}
+
+#[test]
+fn elements_of_definite_lengths(rt: HostRuntime) -> Result<(), Fail> {
+    let rows: [(&[u8], &[u8]); 3] = [
+        (&[0x24, 0x00], &[]),
+        (&[0x24, 0x04, 0x04, 0x02, 0xAA, 0xBB], &[0xAA, 0xBB]),
+        (
+            &[
+                0x24, 0x0D, 0x24, 0x80, 0x04, 0x01, 0xBB, 0x24, 0x00, 0x00, 0x00, 0x04, 0x02, 0x00,
+                0x00,
+            ],
+            &[0xBB, 0x00, 0x00],
+        ),
+    ];
+    for (octets, joined) in rows {
+        cut_everywhere(&rt, rt.alloc(), octets, joined, &[]);
+    }
+    Ok(())
+}
+
+#[test]
+fn elements_of_indefinite_lengths(rt: HostRuntime) -> Result<(), Fail> {
+    let rows: [(&[u8], &[u8], &[Passed]); 5] = [
+        (&[0x24, 0x80, 0x00, 0x00], &[], &[]),
+        (&[0x24, 0x80, 0x24, 0x80, 0x00, 0x00, 0x00, 0x00], &[], &[]),
+        (
+            &[
+                0x24, 0x80, 0x24, 0x80, 0x04, 0x01, 0xAA, 0x00, 0x00, 0x04, 0x01, 0xBB, 0x00, 0x00,
+            ],
+            &[0xAA, 0xBB],
+            &[],
+        ),
+        (
+            &[0x24, 0x80, 0x24, 0x03, 0x04, 0x01, 0xAA, 0x00, 0x00],
+            &[0xAA],
+            &[(4, 3)],
+        ),
+        (
+            &[
+                0x24, 0x80, 0x04, 0x02, 0xAA, 0xBB, 0x24, 0x80, 0x24, 0x05, 0x04, 0x03, 0x00, 0x00,
+                0xCC, 0x00, 0x00, 0x00, 0x00,
+            ],
+            &[0xAA, 0xBB, 0x00, 0x00, 0xCC],
+            &[(4, 2), (10, 5)],
+        ),
+    ];
+    for (octets, joined, passed) in rows {
+        cut_everywhere(&rt, rt.alloc(), octets, joined, passed);
+    }
+    Ok(())
+}
+
+#[test]
+fn elements_as_deep_as_they_may_be(rt: HostRuntime) -> Result<(), Fail> {
+    for forms in [Forms::Definite, Forms::Indefinite] {
+        let octets = nested(rt.alloc(), forms, 64, &[0x04, 0x01, 0x2A])?;
+        cut_everywhere(&rt, rt.alloc(), octets.as_slice(), &[0x2A], &[]);
+    }
+    Ok(())
+}
