@@ -3,7 +3,7 @@ ghost use Rattle.std.specs.Prelude.{◌≡◌, [], ◌∷◌, Ok};
 ghost use Rattle.std.specs.Ordering.{nat_cmp};
 ghost use Rattle.std.proofs.Common.{sym};
 ghost use Rattle.der.specs.Prelude.{definite_length, byte_order, Integer, Writes, write_outcome};
-ghost use Rattle.der.proofs.OrderLemmas.{then_equal};
+ghost use Rattle.der_base.proofs.OrderLemmas.{then_equal};
 
 use super::*;
 use crate::checks::same;
