@@ -14,7 +14,7 @@ type Passed = (u32, u32);
 fn missing(passed: &[Passed], cut: u32) -> Error {
     for (start, count) in passed {
         if cut >= *start && cut - *start < *count {
-            return incomplete(cut - (cut - *start) + *count, cut, *start);
+            return incomplete(start.saturating_add(*count), cut, *start);
         }
     }
     incomplete(cut.saturating_add(1), cut, cut)

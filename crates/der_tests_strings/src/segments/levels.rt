@@ -34,7 +34,7 @@ fn around(alloc: Global, octets: &[u8], indefinite: bool) -> Result<Vec<u8>, Fai
         _ if indefinite => segment.push(0x80)?,
         0..=127 => segment.push(count as u8)?,
         128..=255 => segment.extend_from_slice(&[0x81, count as u8])?,
-        _ => segment.extend_from_slice(&[0x82, (count / 256) as u8, (count % 256) as u8])?,
+        _ => segment.extend_from_slice(&[0x82, (count / 256 % 256) as u8, (count % 256) as u8])?,
     }
     segment.extend_from_slice(octets)?;
     if indefinite {

@@ -92,10 +92,11 @@ fn is_joined_plainly<R: Joins>(
     mut reader: R,
     octets: &[u8],
     levels: u32,
-) -> Result<bool, AllocError> {
+) -> Result<bool, Fail> {
     let mut plain = Vec::new(alloc);
     let joinable = join_plainly(octets, levels, &mut plain)?;
-    let length = Length::new_indefinite(octets.len() as u32);
+    let count = u32::from(Length::new_usize(octets.len())?);
+    let length = Length::new_indefinite(count);
     Ok(match reader.join(alloc, length, Tag::OctetString) {
         Ok(joined) => joinable && joined.as_slice() == plain.as_slice(),
         Err(_) => !joinable,
