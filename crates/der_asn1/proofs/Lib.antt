@@ -1,1 +1,2 @@
 pub mod OptionalReadLemmas
+pub mod SequenceOfLemmas

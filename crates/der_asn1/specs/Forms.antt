@@ -38,3 +38,25 @@ null_form (o ∷ os) = false
 -- any octets (8.7.2)
 abbrev pub octets_form : List ℕ → Bool
 octets_form octets = true
+
+-- false or true, in one octet (8.2, 11.1)
+abbrev pub boolean_form : List ℕ → Bool
+boolean_form [] = false
+boolean_form (o ∷ []) = (o == 0) || (o == 255)
+boolean_form (o ∷ p ∷ os) = false
+
+-- characters of 7 bits (X.680 41, ISO/IEC 646)
+abbrev pub ia5_form : List ℕ → Bool
+ia5_form [] = true
+ia5_form (o ∷ os) = if nat_lt o 128 then ia5_form os else false
+
+-- letters, digits, space, and ' ( ) + , - . / : = ? (X.680 41.4)
+abbrev pub is_printable : ℕ → Bool
+is_printable o =
+    nat_lt 64 o && nat_lt o 91 || nat_lt 96 o && nat_lt o 123 || nat_lt 47 o && nat_lt o 58
+    || (o == 32) || nat_lt 38 o && nat_lt o 42 || nat_lt 42 o && nat_lt o 48
+    || (o == 58) || (o == 61) || (o == 63)
+
+abbrev pub printable_form : List ℕ → Bool
+printable_form [] = true
+printable_form (o ∷ os) = if is_printable o then printable_form os else false

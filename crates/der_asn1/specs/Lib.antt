@@ -7,7 +7,9 @@ pub mod AnyElement
 pub mod AnyElementLemmas
 pub mod AnyRef
 pub mod Checked
+pub mod ContextSpecific
 pub mod Forms
+pub mod SequenceOf
 pub mod FieldLaws
 pub mod ElementLaws
 pub mod AlgorithmIdentifier

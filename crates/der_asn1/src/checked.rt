@@ -1,9 +1,10 @@
 //! Types whose contents are octets of a form, lent by the input.
 ghost use Rattle.std.specs.Prelude.{◌≡◌, true, false, IfSome, IsSome, ◌↔◌};
-ghost use Rattle.std.proofs.Common.{subst, sym};
+ghost use Rattle.std.proofs.Common.{arith, subst, sym};
 ghost use Rattle.der_asn1.specs.Checked.{HasForm, TakesForm, FormAnswers, octets_size};
 ghost use Rattle.der_asn1.specs.Checked.{WritesOctets, form_lawful};
 
+use crate::explicit::Nestable;
 use crate::form::Form;
 use der::{
     DecodeValue, EncodeValue, Error, FixedTag, Header, Lawful, Length, ReadValue, Reader, Tag,
@@ -120,4 +121,8 @@ impl<'a, F: Form> EncodeValue for Checked<'a, F> {
 
 impl<'a, F: Form> Lawful for Checked<'a, F> {
     ghost lawful = { form_lawful F.tag_is F.form (λ v. v.octets.now) F.numbered };
+}
+
+impl<'a, F: Form> Nestable for Checked<'a, F> {
+    ghost nestable = { Prim.omega arith };
 }

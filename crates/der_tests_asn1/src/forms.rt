@@ -1,7 +1,10 @@
 //! Contents that have a form of X.690, and contents that have it not.
 use crate::checks::same_at;
 use der::{DecodeBytes, Error, ErrorKind, Length, Tag};
-use der_asn1::{BitStringRef, IntRef, Null, ObjectIdentifierRef, OctetStringRef, lawful_from_der};
+use der_asn1::{
+    BitStringRef, BooleanRef, Ia5StringRef, IntRef, Null, ObjectIdentifierRef, OctetStringRef,
+    PrintableStringRef, lawful_from_der,
+};
 use std::alloc::Global;
 
 // The contents that these octets are the element of.
@@ -27,6 +30,21 @@ fn null<'a>(alloc: Global, octets: &'a [u8]) -> Result<&'a [u8], Error> {
 
 fn octet_string<'a>(alloc: Global, octets: &'a [u8]) -> Result<&'a [u8], Error> {
     let value: OctetStringRef<'a> = lawful_from_der(alloc, octets)?;
+    Ok(value.octets())
+}
+
+fn boolean(alloc: Global, octets: &[u8]) -> Result<bool, Error> {
+    let value: BooleanRef<'_> = lawful_from_der(alloc, octets)?;
+    Ok(value.is_true())
+}
+
+fn ia5_string<'a>(alloc: Global, octets: &'a [u8]) -> Result<&'a [u8], Error> {
+    let value: Ia5StringRef<'a> = lawful_from_der(alloc, octets)?;
+    Ok(value.octets())
+}
+
+fn printable_string<'a>(alloc: Global, octets: &'a [u8]) -> Result<&'a [u8], Error> {
+    let value: PrintableStringRef<'a> = lawful_from_der(alloc, octets)?;
     Ok(value.octets())
 }
 
@@ -103,4 +121,45 @@ fn nulls_and_octet_strings(rt: HostRuntime) {
         octet_string(rt.alloc(), &[4, 2, 0xFF, 0]),
         Ok(&[0xFF, 0]),
     );
+}
+
+#[test]
+fn booleans(rt: HostRuntime) {
+    let refused = |end: u32| -> Result<bool, Error> {
+        Err(ErrorKind::Value { tag: Tag::Boolean }.at(Length::new(end)))
+    };
+    let rows: [(&[u8], Result<bool, Error>); 5] = [
+        (&[1, 1, 0], Ok(false)),
+        (&[1, 1, 0xFF], Ok(true)),
+        (&[1, 1, 1], refused(3)),
+        (&[1, 0], refused(2)),
+        (&[1, 2, 0xFF, 0xFF], refused(4)),
+    ];
+    for (row, (octets, expected)) in rows.into_iter().enumerate() {
+        same_at(&rt, row, boolean(rt.alloc(), octets), expected);
+    }
+}
+
+#[test]
+fn texts_with_an_alphabet(rt: HostRuntime) {
+    let rows: [(&[u8], Result<&[u8], Error>); 4] = [
+        (&[22, 0], Ok(&[])),
+        (&[22, 3, 0, 0x40, 0x7F], Ok(&[0, 0x40, 0x7F])),
+        (&[22, 2, 0x41, 0x80], refused(Tag::Ia5String, 4)),
+        (&[22, 2, 0xFF, 0x41], refused(Tag::Ia5String, 4)),
+    ];
+    for (row, (octets, expected)) in rows.into_iter().enumerate() {
+        same_at(&rt, row, ia5_string(rt.alloc(), octets), expected);
+    }
+    let rows: [(&[u8], Result<&[u8], Error>); 6] = [
+        (&[19, 0], Ok(&[])),
+        (b"\x13\x0CAZaz09 '()+,", Ok(b"AZaz09 '()+,")),
+        (b"\x13\x06-./:=?", Ok(b"-./:=?")),
+        (b"\x13\x01*", refused(Tag::PrintableString, 3)),
+        (b"\x13\x02a@", refused(Tag::PrintableString, 4)),
+        (b"\x13\x02_a", refused(Tag::PrintableString, 4)),
+    ];
+    for (row, (octets, expected)) in rows.into_iter().enumerate() {
+        same_at(&rt, row, printable_string(rt.alloc(), octets), expected);
+    }
 }

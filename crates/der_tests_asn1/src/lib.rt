@@ -1,5 +1,5 @@
-//! Tests of `der_asn1`, made from outside as a user makes them: forms of contents, fields, and public
-//! keys that `openssl genpkey` made, as `openssl pkey -pubout -outform DER` writes them.
+//! Tests of `der_asn1`, made from outside as a user makes them: forms of contents, fields, tags, and
+//! public keys that `openssl genpkey` made, as `openssl pkey -pubout -outform DER` writes them.
 #![tactic(auto)]
 
 #[cfg(test)]
@@ -10,3 +10,7 @@ mod fields;
 mod forms;
 #[cfg(test)]
 mod keys;
+#[cfg(test)]
+mod lists;
+#[cfg(test)]
+mod tags;

@@ -1,0 +1,154 @@
+-- Elements of one type, one behind the other, as they are read.
+use Rattle.std.proofs.Common.{◌≡◌, ℕ, ◌+◌, ◌-◌, ◌^◌, ◌<◌, ◌≤◌, Bool, true, false, Result, Ok, Err, IfOk, inl, inr, List, [], ◌∷◌, ◌++◌, length, drop, refl, sym, ap, subst, ◌∙◌, length-append, length-drop, nat_lt, nat_le, take, arith}
+use Rattle.std.proofs.lemmas.Grind.{not_there}
+use Rattle.std.proofs.lemmas.List.{take_all}
+use Rattle.der.specs.Prelude.{Error}
+use Rattle.der.specs.Outcome.{Gives}
+use Rattle.der.specs.Reader.{read_slice_outcome}
+use Rattle.der.specs.HeaderGrammar.{Head, header_octets}
+use Rattle.der.specs.Tag.{label, tag_octets}
+use Rattle.der.specs.Length.{length_octets}
+use Rattle.der.specs.Prelude.{Tag}
+use Rattle.der.specs.Prelude.{EncodingRules}
+use Rattle.der.specs.Prelude.{Der}
+use Rattle.der.specs.Decode.{Passes, ReadsOrLacks, SucceedsOrLacks}
+use Rattle.der.specs.Element.{ElementAhead, element_levels}
+use Rattle.der.specs.Encode.{element_octets}
+use Rattle.der.specs.Lawful.{IsLawful}
+use Rattle.der.specs.ReaderState.{ReaderState, rest, advanced_state, initial_state, IsSound, Reads}
+use Rattle.der.proofs.DecodeLemmas.{lacks_only, read_on, rest-beginning}
+use Rattle.der.specs.LawfulLemmas.{elements_are_encodings, passed_encodings}
+use Rattle.der.proofs.StateLemmas.{length-rest, rest_after}
+use Rattle.der.specs.SliceReader.{slice_state}
+use Rattle.der.specs.Prelude.{SliceReader}
+use Rattle.der_asn1.proofs.OptionalReadLemmas.{rest_at_end, rest_before_end}
+use Rattle.der_asn1.specs.SequenceOf.{IsListOf, IsAtItem, AllValid, joined_encodings}
+
+-- a list that is not empty: one, and others behind it
+pub record IsCons {A : Type 0} (valid : A → Type 0) (encoding : A → List ℕ) (octets : List ℕ) : Type 0 where
+  pub first : A
+  pub others : List ℕ
+  pub is_valid : valid first
+  pub split : octets ≡ encoding first ++ others
+  pub list : IsListOf valid encoding others
+
+pub uncons : {A : Type 0} {valid : A → Type 0} {encoding : A → List ℕ} {octets : List ℕ} → IsListOf valid encoding octets → (octets ≡ [] → ⊥) → IsCons valid encoding octets
+uncons {A} {valid} {encoding} {octets} l some = go l.items l.are_valid l.joined
+  where
+    go : (items : List A) → AllValid valid items → octets ≡ joined_encodings encoding items → IsCons valid encoding octets
+    go [] are e = absurd (some e)
+    go (v ∷ vs) are e = record { first = v; others = joined_encodings encoding vs; is_valid = are.0; split = e; list = record { items = vs; are_valid = are.1; joined = refl } }
+
+pub cons : {A : Type 0} {valid : A → Type 0} {encoding : A → List ℕ} (v : A) {octets others : List ℕ} → valid v → octets ≡ encoding v ++ others → IsListOf valid encoding others → IsListOf valid encoding octets
+cons {encoding = encoding} v is e l = record { items = v ∷ l.items; are_valid = (is, l.are_valid); joined = e ∙ ap (λ x. encoding v ++ x) l.joined }
+
+pub nil : {A : Type 0} (valid : A → Type 0) (encoding : A → List ℕ) {octets : List ℕ} → octets ≡ [] → IsListOf valid encoding octets
+nil valid encoding e = record { items = []; are_valid = tt; joined = e }
+
+module _ {A : Type 0} {tag : Tag} {takes : A → EncodingRules → Head → List ℕ → Type 0} {valid : A → Type 0} {contents : A → List ℕ} {levels : EncodingRules → ℕ} (laws : IsLawful tag takes valid contents levels) (s : ReaderState) (sound : IsSound s) (at : IsAtItem s) where
+  -- an element that was passed
+  pub item_passed : (v : A) (t : ReaderState) → Passes (ElementAhead tag takes v) s t → valid v × Reads s t (element_octets tag (contents v))
+  item_passed v t passed = passed_encodings (elements_are_encodings laws) s t v at.der passed
+
+  module _ (l : IsListOf valid (λ v. element_octets tag (contents v)) (rest s)) (some : rest s ≡ [] → ⊥) where
+    pub first : IsCons valid (λ v. element_octets tag (contents v)) (rest s)
+    first = uncons l some
+
+    -- the first of a list stands ahead
+    pub item_ahead : ElementAhead tag takes first.first s.rules (rest s) (length (element_octets tag (contents first.first)))
+    item_ahead =
+        subst (λ r. ElementAhead tag takes first.first r (rest s) (length (element_octets tag (contents first.first)))) (sym at.der)
+        ((elements_are_encodings laws).every (rest s) first.first (length (element_octets tag (contents first.first))) (omega (arith, length-rest s sound, sound.in_input, sound.addressable)) (record { is_valid = first.is_valid; behind = first.others; split = first.split; whole = refl }))
+
+    pub deep_enough : s.depth + element_levels levels s.rules ≤ 64
+    deep_enough = omega (arith, laws.shallow, at.outside, ap levels at.der)
+
+    module _ {E : Type 0} (oom : E → Bool) (takes_memory : Bool) (t : ReaderState) where
+      -- a refusal says that memory was refused
+      pub item_lacks : (e : E) → ((v : A) (m : ℕ) → s.failed ≡ false → ElementAhead tag takes v s.rules (rest s) m → s.depth + element_levels levels s.rules ≤ 64 → ReadsOrLacks {A = A} oom takes_memory s m (Err e) t) → SucceedsOrLacks {A = A} oom takes_memory (Err e)
+      item_lacks e owed = inr (lacks_only A oom s t _ (owed first.first (length (element_octets tag (contents first.first))) at.working item_ahead deep_enough))
+
+      module _ (a : A) (owed : (v : A) (m : ℕ) → s.failed ≡ false → ElementAhead tag takes v s.rules (rest s) m → s.depth + element_levels levels s.rules ≤ 64 → ReadsOrLacks oom takes_memory s m (Ok a) t) where
+        there : t ≡ advanced_state s (length (element_octets tag (contents first.first)))
+        there = read_on E oom s (length (element_octets tag (contents first.first))) a (owed first.first (length (element_octets tag (contents first.first))) at.working item_ahead deep_enough)
+
+        -- the reader has not failed, and stands before the others
+        pub item_working : t.failed ≡ false
+        item_working = ap (λ (x : ReaderState). x.failed) there ∙ at.working
+
+        pub item_keeps : IsListOf valid (λ v. element_octets tag (contents v)) (rest t)
+        item_keeps =
+            let left : rest t ≡ first.others = ap rest there ∙ rest_after s (element_octets tag (contents first.first)) first.others first.split in
+            subst (IsListOf valid (λ v. element_octets tag (contents v))) (sym left) first.list
+
+pub slice_sound : (r : SliceReader) → IsSound (slice_state r)
+slice_sound r = record { ordered = r.ordered; in_input = r.in_input; addressable = r.addressable; shallow = r.shallow; marked = λ failed. refl }
+
+-- behind an element that was read a reader stands before others
+pub still_at_item : {s t : ReaderState} {octets : List ℕ} → IsAtItem s → Reads s t octets → IsAtItem t
+still_at_item at r =
+    record {
+      der = ap (λ (x : ReaderState). x.rules) r.state ∙ at.der;
+      working = ap (λ (x : ReaderState). x.failed) r.state ∙ at.working;
+      outside = ap (λ (x : ReaderState). x.depth) r.state ∙ at.outside;
+    }
+
+tag_some : (t : Tag) → 1 ≤ length (tag_octets t)
+tag_some t = go (nat_lt (label t).number 31) refl
+  where
+    go : (b : Bool) → nat_lt (label t).number 31 ≡ b → 1 ≤ length (tag_octets t)
+    go true e = rw e (omega arith)
+    go false e = rw e (omega arith)
+
+-- less is left
+pub item_smaller : (s t : ReaderState) (tag : Tag) (contents : List ℕ) → IsSound t → Reads s t (element_octets tag contents) → t.end - t.position < s.end - s.position
+item_smaller s t tag contents sound r =
+    let some = tag_some tag in
+    let size : length (element_octets tag contents) ≡ length (tag_octets tag) + length (length_octets (length contents)) + length contents = omega (arith, length-append (tag_octets tag ++ length_octets (length contents)) contents, length-append (tag_octets tag) (length_octets (length contents))) in
+    let place : t.position ≡ s.position + length (element_octets tag contents) = ap (λ (x : ReaderState). x.position) r.state in
+    let end : t.end ≡ s.end = ap (λ (x : ReaderState). x.end) r.state in
+    omega (arith, some, size, place, end, sound.ordered)
+
+-- the state of a walk over a list: what is left is a list where the whole is, and makes it one
+pub record IsWalking {A : Type 0} (valid : A → Type 0) (encoding : A → List ℕ) (octets : List ℕ) (s : ReaderState) : Type 0 where
+  pub at : IsAtItem s
+  pub back : IsListOf valid encoding (rest s) → IsListOf valid encoding octets
+  pub on : IsListOf valid encoding octets → IsListOf valid encoding (rest s)
+
+pub begins_walking : {A : Type 0} (valid : A → Type 0) (encoding : A → List ℕ) (octets : List ℕ) (s : ReaderState) → s ≡ initial_state Der octets → IsWalking valid encoding octets s
+begins_walking valid encoding octets s e =
+    let left : rest s ≡ octets = ap rest e ∙ rest-beginning Der octets in
+    record {
+      at = record { der = ap (λ (x : ReaderState). x.rules) e; working = ap (λ (x : ReaderState). x.failed) e; outside = ap (λ (x : ReaderState). x.depth) e };
+      back = subst (IsListOf valid encoding) left;
+      on = subst (IsListOf valid encoding) (sym left);
+    }
+
+pub goes_on_walking : {A : Type 0} {valid : A → Type 0} {encoding : A → List ℕ} {octets : List ℕ} {s t : ReaderState} (v : A) → IsWalking valid encoding octets s → valid v → Reads s t (encoding v)
+    → (IsListOf valid encoding (rest s) → IsListOf valid encoding (rest t)) → IsWalking valid encoding octets t
+goes_on_walking v w is r keeps = record { at = still_at_item w.at r; back = λ l. w.back (cons v is r.split l); on = λ l. keeps (w.on l) }
+
+pub ends_walking : {A : Type 0} {valid : A → Type 0} {encoding : A → List ℕ} {octets : List ℕ} (s : ReaderState) → IsWalking valid encoding octets s → s.end ≡ s.position → IsListOf valid encoding octets
+ends_walking {valid = valid} {encoding} s w e = w.back (nil valid encoding (rest_at_end s e))
+
+-- a refusal of memory is one of a type that takes it
+pub lacks_takes : {E : Type 0} (oom : E → Bool) (takes : Bool) (e : E) → SucceedsOrLacks {A = E} oom takes (Err e) → (takes ≡ true) × (oom e ≡ true)
+lacks_takes oom takes e (inl h) = absurd (let no : false ≡ true = h in cc)
+lacks_takes oom takes e (inr h) = h
+
+stable_true : (b : Bool) → ((b ≡ true → ⊥) → ⊥) → b ≡ true
+stable_true true f = refl
+stable_true false f = absurd (f (λ e. (cc)))
+
+pub lacks_merely : {E P : Type 0} (oom : E → Bool) (takes : Bool) (e : E) → ∥ P ∥₁ → (P → SucceedsOrLacks {A = E} oom takes (Err e)) → (takes ≡ true) × (oom e ≡ true)
+lacks_merely oom takes e t f =
+    (stable_true takes (λ no. not_there t (λ p. no (lacks_takes oom takes e (f p)).0)), stable_true (oom e) (λ no. not_there t (λ p. no (lacks_takes oom takes e (f p)).1)))
+
+-- what is lent of all that is left
+pub lent_all : (n : ℕ) (s t : ReaderState) (octets : List ℕ) → Gives (read_slice_outcome n) s (Ok octets) t → length (rest s) ≡ n → octets ≡ rest s
+lent_all n s t octets g size = go s.failed refl (nat_le (s.position + n) s.end) refl
+  where
+    go : (f : Bool) → s.failed ≡ f → (b : Bool) → nat_le (s.position + n) s.end ≡ b → octets ≡ rest s
+    go true e b h = absurd (let a = rw e at g.answered in cc)
+    go false e false h = absurd (let a = rw (e, h) at g.answered in cc)
+    go false e true h = let a : Ok octets ≡ Ok (take n (rest s)) = rw (e, h) at g.answered in let one : octets ≡ take n (rest s) = cc in one ∙ take_all n (rest s) (omega (arith, size))

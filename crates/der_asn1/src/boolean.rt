@@ -1,0 +1,50 @@
+//! A BOOLEAN.
+ghost use Rattle.std.specs.Prelude.{◌≡◌, ◌∷◌, [], true, ◌↔◌};
+ghost use Rattle.std.proofs.Common.{arith};
+ghost use Rattle.der.specs.Prelude.{Boolean as BooleanTag};
+ghost use Rattle.der_asn1.specs.Forms.{boolean_form};
+
+use crate::checked::Checked;
+use crate::form::Form;
+use der::{FixedTag, Tag};
+
+/// The form of a BOOLEAN: octet 00 is false, and FF true (X.690 8.2, 11.1).
+pub struct BooleanForm;
+
+/// A BOOLEAN, lent by the input.
+pub type BooleanRef<'a> = Checked<'a, BooleanForm>;
+
+impl FixedTag for BooleanForm {
+    ghost tag_is = { BooleanTag };
+
+    const TAG: Tag = Tag::Boolean;
+
+    fn fixed_tag() -> Tag {
+        Self::TAG
+    }
+}
+
+impl Form for BooleanForm {
+    ghost form = { boolean_form };
+
+    fn has_form(octets: &[u8]) -> bool {
+        match octets {
+            [octet] => *octet == 0 || *octet == 0xFF,
+            _ => false,
+        }
+    }
+
+    ghost numbered = { Prim.omega arith };
+}
+
+impl<'a> Checked<'a, BooleanForm> {
+    /// Whether it is true.
+    pub fn is_true(&self) -> bool
+        ensures { (result ≡ true) ↔ (self.now.octets.now ≡ 255 ∷ []) }
+    {
+        match self.octets() {
+            [octet] => *octet == 0xFF,
+            _ => false,
+        }
+    }
+}

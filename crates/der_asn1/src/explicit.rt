@@ -1,0 +1,103 @@
+//! EXPLICIT context-specific tags.
+ghost use Rattle.std.specs.Prelude.{◌≡◌, ◌≤◌, true};
+ghost use Rattle.std.proofs.Common.{arith};
+ghost use Rattle.der.specs.Prelude.{Der, ElementAhead, ElementRead, element_levels, map_ok};
+ghost use Rattle.der.specs.Prelude.{element_octets, element_size, ElementAnswers, TakesWhole};
+ghost use Rattle.der_asn1.specs.ContextSpecific.{context_tag, explicit_lawful, explicit_holds};
+
+use der::{
+    DecodeValue, Encode, EncodeValue, Error, FixedTag, Header, Lawful, Length, ReadValue, Reader,
+    Tag, TagNumber, Writer, WrittenValue, decode_contents,
+};
+use std::alloc::Global;
+
+/// Types whose elements may stand in another element.
+pub trait Nestable: ReadValue {
+    // such a value wants at most 62 levels
+    ghost nestable: { Self.levels Der ≤ 62 };
+}
+
+/// A value whose element stands in one with the context-specific tag of number `N` (X.690 8.14.2).
+#[derive(Clone, Copy, Drop)]
+pub struct Explicit<T, const N: u32>(pub T);
+
+impl<T, const N: u32> FixedTag for Explicit<T, N> {
+    ghost tag_is = { context_tag true N };
+
+    const TAG: Tag = Tag::ContextSpecific {
+        constructed: true,
+        number: TagNumber(N),
+    };
+
+    fn fixed_tag() -> Tag
+        ensures { result ≡ context_tag true N }
+    {
+        Tag::ContextSpecific {
+            constructed: true,
+            number: TagNumber(N),
+        }
+    }
+}
+
+impl<T: ReadValue + FixedTag, const N: u32> ReadValue for Explicit<T, N> {
+    ghost valid = { λ v. T.valid v.0 };
+
+    ghost takes = { λ v. TakesWhole (ElementAhead T.tag_is T.takes) v.0 };
+
+    ghost levels = { element_levels T.levels };
+
+    ghost takes_memory = { T.takes_memory };
+
+    ghost takes_valid = { explicit_holds (λ v. v.0) T.takes_valid };
+}
+
+/// # Errors
+///
+/// Those of the element, as by [`decode_tlv`](der::decode_tlv).
+impl<R: Reader, T: DecodeValue<R> + FixedTag, const N: u32> DecodeValue<R> for Explicit<T, N> {
+    type Error = <T as DecodeValue<R>>::Error;
+
+    ghost value_answers = { λ h s result t. ElementRead T.tag_is T.Error.from_gives
+        T.value_answers s (map_ok (λ v. v.0) result) t };
+
+    fn decode_value(
+        alloc: Global,
+        reader: &mut R,
+        header: Header,
+    ) -> Result<Self, <T as DecodeValue<R>>::Error> {
+        let value = decode_contents::<R, T>(alloc, reader, header)?;
+        Ok(Explicit(value))
+    }
+
+    fn is_value(&self) {
+        self.0.is_value()
+    }
+}
+
+impl<T: WrittenValue + FixedTag, const N: u32> WrittenValue for Explicit<T, N> {
+    ghost contents = { λ v. element_octets T.tag_is (T.contents v.0) };
+
+    ghost writable = { λ v. T.writable v.0 };
+}
+
+/// # Errors
+///
+/// Those of the element.
+impl<T: EncodeValue + FixedTag, const N: u32> EncodeValue for Explicit<T, N> {
+    ghost value_size = { λ v. element_size T.tag_is (T.value_size v.0) };
+
+    ghost value_answers = { λ v. ElementAnswers T.tag_is (T.value_size v.0) (T.value_answers v.0) };
+
+    fn value_len(&self) -> Result<Length, Error> {
+        self.0.encoded_len()
+    }
+
+    fn encode_value<W: Writer>(&self, writer: &mut W) -> Result<(), Error> {
+        self.0.encode(writer)
+    }
+}
+
+impl<T: Lawful + Nestable, const N: u32> Lawful for Explicit<T, N> {
+    ghost lawful = { explicit_lawful (context_tag true N) (λ v. v.0) (Prim.omega arith) T.lawful
+        T.nestable };
+}

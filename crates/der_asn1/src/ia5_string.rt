@@ -1,0 +1,39 @@
+//! An IA5String.
+ghost use Rattle.std.proofs.Common.{arith};
+ghost use Rattle.der.specs.Prelude.{Ia5String as Ia5Tag};
+ghost use Rattle.der_asn1.specs.Forms.{ia5_form};
+
+use crate::checked::Checked;
+use crate::form::Form;
+use der::{FixedTag, Tag};
+
+/// The form of an IA5String: octets below 80 (X.690 8.23, X.680 41).
+pub struct Ia5StringForm;
+
+/// An IA5String, lent by the input.
+pub type Ia5StringRef<'a> = Checked<'a, Ia5StringForm>;
+
+impl FixedTag for Ia5StringForm {
+    ghost tag_is = { Ia5Tag };
+
+    const TAG: Tag = Tag::Ia5String;
+
+    fn fixed_tag() -> Tag {
+        Self::TAG
+    }
+}
+
+impl Form for Ia5StringForm {
+    ghost form = { ia5_form };
+
+    fn has_form(octets: &[u8]) -> bool {
+        for octet in octets {
+            if *octet >= 0x80 {
+                return false;
+            }
+        }
+        true
+    }
+
+    ghost numbered = { Prim.omega arith };
+}

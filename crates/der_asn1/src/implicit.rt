@@ -1,0 +1,105 @@
+//! IMPLICIT context-specific tags.
+ghost use Rattle.std.specs.Prelude.{◌≡◌, ℕ};
+ghost use Rattle.std.proofs.Common.{arith};
+ghost use Rattle.der.specs.Prelude.{map_ok};
+ghost use Rattle.der.specs.Tag.{label};
+ghost use Rattle.der_asn1.specs.ContextSpecific.{context_tag, retagged, TakesImplicit};
+ghost use Rattle.der_asn1.specs.ContextSpecific.{implicit_lawful};
+
+use crate::explicit::Nestable;
+use der::{
+    DecodeValue, EncodeValue, Error, FixedTag, Header, Lawful, Length, ReadValue, Reader, Tag,
+    TagNumber, Writer, WrittenValue,
+};
+use std::alloc::Global;
+
+/// A value whose contents stand behind the context-specific tag of number `N`, in the place of its
+/// own (X.690 8.14.3). The tag is constructed where the value's own is.
+#[derive(Clone, Copy, Drop)]
+pub struct Implicit<T, const N: u32>(pub T);
+
+impl<T: FixedTag, const N: u32> FixedTag for Implicit<T, N> {
+    ghost tag_is = { context_tag (label T.tag_is).constructed N };
+
+    const TAG: Tag = Tag::ContextSpecific {
+        constructed: Tag::is_constructed(T::TAG),
+        number: TagNumber(N),
+    };
+
+    fn fixed_tag() -> Tag
+        ensures { result ≡ context_tag (label T.tag_is).constructed N }
+    {
+        Tag::ContextSpecific {
+            constructed: T::fixed_tag().is_constructed(),
+            number: TagNumber(N),
+        }
+    }
+}
+
+impl<T: ReadValue + FixedTag, const N: u32> ReadValue for Implicit<T, N> {
+    ghost valid = { λ v. T.valid v.0 };
+
+    ghost takes = { TakesImplicit T.tag_is T.takes (λ v. v.0) };
+
+    ghost levels = { T.levels };
+
+    ghost takes_memory = { T.takes_memory };
+
+    ghost takes_valid = { λ v rules h octets taken. T.takes_valid v.0 rules (retagged T.tag_is h)
+        octets taken };
+}
+
+/// # Errors
+///
+/// Those of the value, as by its [`DecodeValue::decode_value`].
+impl<R: Reader, T: DecodeValue<R> + FixedTag, const N: u32> DecodeValue<R> for Implicit<T, N> {
+    type Error = <T as DecodeValue<R>>::Error;
+
+    ghost value_answers = { λ h s result t. T.value_answers (retagged T.tag_is h) s
+        (map_ok (λ v. v.0) result) t };
+
+    fn decode_value(
+        alloc: Global,
+        reader: &mut R,
+        header: Header,
+    ) -> Result<Self, <T as DecodeValue<R>>::Error> {
+        let own = Header::new(T::fixed_tag(), header.length());
+        Ok(Implicit(T::decode_value(alloc, reader, own)?))
+    }
+
+    fn is_value(&self) {
+        self.0.is_value()
+    }
+}
+
+impl<T: WrittenValue, const N: u32> WrittenValue for Implicit<T, N> {
+    ghost contents = { λ v. T.contents v.0 };
+
+    ghost writable = { λ v. T.writable v.0 };
+}
+
+/// # Errors
+///
+/// Those of the value.
+impl<T: EncodeValue, const N: u32> EncodeValue for Implicit<T, N> {
+    ghost value_size = { λ v. T.value_size v.0 };
+
+    ghost value_answers = { λ v. T.value_answers v.0 };
+
+    fn value_len(&self) -> Result<Length, Error> {
+        self.0.value_len()
+    }
+
+    fn encode_value<W: Writer>(&self, writer: &mut W) -> Result<(), Error> {
+        self.0.encode_value(writer)
+    }
+}
+
+impl<T: Lawful, const N: u32> Lawful for Implicit<T, N> {
+    ghost lawful = { implicit_lawful (context_tag (label T.tag_is).constructed N) (λ v. v.0)
+        (Prim.omega arith) T.lawful };
+}
+
+impl<T: Nestable + FixedTag, const N: u32> Nestable for Implicit<T, N> {
+    ghost nestable = { T.nestable };
+}

@@ -1,0 +1,51 @@
+//! A PrintableString.
+ghost use Rattle.std.specs.Prelude.{◌≡◌};
+ghost use Rattle.std.proofs.Common.{arith};
+ghost use Rattle.der.specs.Prelude.{PrintableString as PrintableTag};
+ghost use Rattle.der_asn1.specs.Forms.{printable_form, is_printable};
+
+use crate::checked::Checked;
+use crate::form::Form;
+use der::{FixedTag, Tag};
+
+/// The form of a PrintableString: letters, digits, space, and `'()+,-./:=?` (X.680 41.4).
+pub struct PrintableStringForm;
+
+/// A PrintableString, lent by the input.
+pub type PrintableStringRef<'a> = Checked<'a, PrintableStringForm>;
+
+impl FixedTag for PrintableStringForm {
+    ghost tag_is = { PrintableTag };
+
+    const TAG: Tag = Tag::PrintableString;
+
+    fn fixed_tag() -> Tag {
+        Self::TAG
+    }
+}
+
+impl Form for PrintableStringForm {
+    ghost form = { printable_form };
+
+    fn has_form(octets: &[u8]) -> bool {
+        for octet in octets {
+            if !is_printable_octet(*octet) {
+                return false;
+            }
+        }
+        true
+    }
+
+    ghost numbered = { Prim.omega arith };
+}
+
+// Whether it is a character of such a string.
+fn is_printable_octet(octet: u8) -> bool
+    ensures { result ≡ is_printable octet }
+{
+    match octet {
+        b'A'..=b'Z' | b'a'..=b'z' | b'0'..=b'9' => true,
+        b' ' | b'\'' | b'(' | b')' | b'+' | b',' | b'-' | b'.' | b'/' | b':' | b'=' | b'?' => true,
+        _ => false,
+    }
+}

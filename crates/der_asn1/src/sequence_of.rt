@@ -1,0 +1,241 @@
+//! SEQUENCE OF, lent by the input: checked once, and then walked without a failure.
+ghost use Rattle.std.specs.Prelude.{◌≡◌, ◌^◌, ◌<◌, false, [], None, length, IfOk, OnOk, IfSome};
+ghost use Rattle.std.proofs.Common.{arith};
+ghost use Rattle.der.specs.Prelude.{Sequence, element_octets, rest, Reads, slice_state};
+ghost use Rattle.der.specs.Decode.{SucceedsOrLacks};
+ghost use Rattle.der_asn1.specs.Checked.{octets_size, WritesOctets};
+ghost use Rattle.der_asn1.specs.SequenceOf.{AreElements, IsAtItem, TakesList, IsList, ListAnswers};
+ghost use Rattle.der_asn1.specs.SequenceOf.{list_lawful, list_holds};
+
+use crate::explicit::Nestable;
+use der::{
+    DecodeValue, EncodeValue, Error, ErrorKind, FixedTag, Header, Lawful, Length, ReadValue,
+    Reader, ReaderExt, SliceReader, Tag, Writer, WrittenValue, decode_tlv,
+};
+use std::alloc::Global;
+use std::marker::PhantomData;
+
+// The element ahead.
+fn next_item<'a, T: Lawful + DecodeValue<SliceReader<'a>>>(
+    alloc: Global,
+    reader: &mut SliceReader<'a>,
+) -> Result<T, <T as DecodeValue<SliceReader<'a>>>::Error>
+    requires { IsAtItem (slice_state reader.old) }
+    ensures ok { IfOk result (λ v. T.valid v
+        × Reads (slice_state reader.old) (slice_state reader.new)
+        (element_octets T.tag_is (T.contents v))) }
+    ensures complete { AreElements T.tag_is T.valid T.contents (rest (slice_state reader.old))
+        → (rest (slice_state reader.old) ≡ [] → ⊥)
+        → SucceedsOrLacks T.Error.out_of_memory T.takes_memory result }
+    ensures keeps { AreElements T.tag_is T.valid T.contents (rest (slice_state reader.old))
+        → (rest (slice_state reader.old) ≡ [] → ⊥)
+        → IfOk result (λ _. AreElements T.tag_is T.valid T.contents
+        (rest (slice_state reader.new))) }
+{
+    let value = decode_tlv::<SliceReader<'a>, T>(alloc, reader)?;
+    if reader.is_failed() {
+        return Err(reader.error(ErrorKind::Failed).into());
+    }
+    Ok(value)
+}
+
+// Whether octets are the encodings of values, one behind the other.
+fn check_items<'a, T: Lawful + DecodeValue<SliceReader<'a>>>(
+    alloc: Global,
+    octets: &'a [u8],
+) -> Result<(), <T as DecodeValue<SliceReader<'a>>>::Error>
+    ensures ok { OnOk result (AreElements T.tag_is T.valid T.contents octets.now) }
+    ensures short { OnOk result (length octets.now < 2 ^ 32) }
+    ensures complete { length octets.now < 2 ^ 32
+        → AreElements T.tag_is T.valid T.contents octets.now
+        → SucceedsOrLacks T.Error.out_of_memory T.takes_memory result }
+{
+    let mut reader = SliceReader::new(octets)?;
+    'items: while !reader.is_finished() {
+        let _item = next_item::<T>(alloc, &mut reader)?;
+    }
+    Ok(())
+}
+
+/// A SEQUENCE OF, lent by the input: its contents are the encodings of values of the type, one behind
+/// the other, which was seen once.
+#[derive(Drop)]
+pub struct SequenceOf<'a, T: Lawful> {
+    octets: &'a [u8],
+    of: PhantomData<T>,
+    ghost short: { length octets.now < 2 ^ 32 },
+    ghost checked: { ∥ AreElements T.tag_is T.valid T.contents octets.now ∥₁ },
+}
+
+impl<'a, T: Lawful> FixedTag for SequenceOf<'a, T> {
+    ghost tag_is = { Sequence };
+
+    const TAG: Tag = Tag::Sequence;
+
+    fn fixed_tag() -> Tag
+        ensures { result ≡ Sequence }
+    {
+        Tag::Sequence
+    }
+}
+
+impl<'a, T: Lawful> ReadValue for SequenceOf<'a, T> {
+    ghost valid = { IsList T.valid (λ v. element_octets T.tag_is (T.contents v))
+        (λ v. v.octets.now) };
+
+    ghost takes = { TakesList T.valid (λ v. element_octets T.tag_is (T.contents v))
+        (λ v. v.octets.now) };
+
+    ghost levels = { λ _. 0 };
+
+    ghost takes_memory = { T.takes_memory };
+
+    ghost takes_valid = { list_holds T.valid (λ v. element_octets T.tag_is (T.contents v))
+        (λ v. v.octets.now) };
+}
+
+/// The contents are lent, and every element in them is read once, under DER.
+///
+/// # Errors
+///
+/// - `Failed`, `Overflow` and `Incomplete`, as by [`Reader::read_slice`].
+/// - Those of the elements, with positions counted from the beginning of the contents.
+impl<'a, T: Lawful + DecodeValue<SliceReader<'a>>, R: Reader<Lent = &'a [u8]>> DecodeValue<R>
+    for SequenceOf<'a, T> {
+    type Error = <T as DecodeValue<SliceReader<'a>>>::Error;
+
+    ghost value_answers = { ListAnswers (λ v. v.octets.now) };
+
+    fn decode_value(
+        alloc: Global,
+        reader: &mut R,
+        header: Header,
+    ) -> Result<Self, <T as DecodeValue<SliceReader<'a>>>::Error> {
+        let octets = reader.read_slice(header.length())?;
+        check_items::<T>(alloc, octets)?;
+        Ok(SequenceOf {
+            octets,
+            of: PhantomData,
+        })
+    }
+
+    fn is_value(&self) {
+        let _octets = self.octets;
+    }
+}
+
+impl<'a, T: Lawful> WrittenValue for SequenceOf<'a, T> {
+    ghost contents = { λ v. v.octets.now };
+
+    ghost writable = { IsList T.valid (λ v. element_octets T.tag_is (T.contents v))
+        (λ v. v.octets.now) };
+}
+
+/// # Errors
+///
+/// - `Overflow` where there are more than 4294967295 octets.
+/// - The writer's errors, as by [`Writer::write`].
+impl<'a, T: Lawful> EncodeValue for SequenceOf<'a, T> {
+    ghost value_size = { λ v. octets_size v.octets.now };
+
+    ghost value_answers = { λ v. WritesOctets v.octets.now };
+
+    fn value_len(&self) -> Result<Length, Error> {
+        Length::new_usize(self.octets.len())
+    }
+
+    fn encode_value<W: Writer>(&self, writer: &mut W) -> Result<(), Error> {
+        writer.write(self.octets)
+    }
+}
+
+impl<'a, T: Lawful> Lawful for SequenceOf<'a, T> {
+    ghost lawful = { list_lawful Sequence T.valid (λ v. element_octets T.tag_is (T.contents v))
+        (λ v. v.octets.now) (Prim.omega arith) };
+}
+
+impl<'a, T: Lawful> Nestable for SequenceOf<'a, T> {
+    ghost nestable = { Prim.omega arith };
+}
+
+/// A walk over the elements of a SEQUENCE OF.
+#[derive(Drop)]
+pub struct Items<'a, T: Lawful> {
+    reader: SliceReader<'a>,
+    of: PhantomData<T>,
+    ghost at: { IsAtItem (slice_state reader) },
+    ghost left: { ∥ AreElements T.tag_is T.valid T.contents
+        (rest (slice_state reader)) ∥₁ },
+}
+
+impl<'a, T: Lawful + DecodeValue<SliceReader<'a>>> SequenceOf<'a, T> {
+    /// The SEQUENCE OF with these contents, which are the elements of values of the type, one behind
+    /// the other.
+    ///
+    /// # Errors
+    ///
+    /// - `Overflow` where there are more than 4294967295 octets.
+    /// - Those of the first element that is refused, as by [`decode_tlv`].
+    pub fn new(
+        alloc: Global,
+        octets: &'a [u8],
+    ) -> Result<Self, <T as DecodeValue<SliceReader<'a>>>::Error>
+        ensures ok { IfOk result (λ v. (v.octets.now ≡ octets.now)
+            × AreElements T.tag_is T.valid T.contents octets.now) }
+        ensures complete { length octets.now < 2 ^ 32
+            → AreElements T.tag_is T.valid T.contents octets.now
+            → SucceedsOrLacks T.Error.out_of_memory T.takes_memory result }
+    {
+        check_items::<T>(alloc, octets)?;
+        Ok(SequenceOf {
+            octets,
+            of: PhantomData,
+        })
+    }
+}
+
+impl<'a, T: Lawful> SequenceOf<'a, T> {
+    /// The contents.
+    pub fn octets(&self) -> &'a [u8]
+        ensures value { result.now ≡ self.now.octets.now }
+        ensures checked { ∥ AreElements T.tag_is T.valid T.contents result.now ∥₁ }
+    {
+        self.octets
+    }
+
+    /// A walk over the elements, at the first.
+    pub fn items(&self) -> Items<'a, T>
+        ensures { rest (slice_state result.reader) ≡ self.now.octets.now }
+    {
+        match SliceReader::new(self.octets) {
+            Ok(reader) => Items {
+                reader,
+                of: PhantomData,
+            },
+            Err(_) => unreachable!(),
+        }
+    }
+}
+
+impl<'a, T: Lawful + DecodeValue<SliceReader<'a>>> Items<'a, T> {
+    /// The next element. Where the type takes no memory, there is none only behind the last.
+    pub fn next(&mut self, alloc: Global) -> Option<T>
+        ensures some { IfSome result (λ v. T.valid v
+            × Reads (slice_state self.old.reader) (slice_state self.new.reader)
+            (element_octets T.tag_is (T.contents v))) }
+        ensures none { T.takes_memory ≡ false → result ≡ None
+            → rest (slice_state self.old.reader) ≡ [] }
+    {
+        if self.reader.is_finished() {
+            return None;
+        }
+        let mut reader = self.reader.fork();
+        match next_item::<T>(alloc, &mut reader) {
+            Ok(item) => {
+                self.reader = reader;
+                Some(item)
+            }
+            Err(_) => None,
+        }
+    }
+}
