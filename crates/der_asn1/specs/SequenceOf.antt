@@ -56,8 +56,13 @@ pub list_lawful : {A B : Type 0} (tag : Tag) (valid : A → Type 0) (encoding : 
 list_lawful tag valid encoding contents numbered =
     record {
       exact = λ octets v short. (
-        λ h. ((subst (λ x. ∥ IsListOf valid encoding x ∥₁) (sym h.2) h.0,
-            subst (λ x. length x < 2 ^ 32) (sym h.2) h.1), h.2),
+        λ h. (
+          (
+            subst (λ x. ∥ IsListOf valid encoding x ∥₁) (sym h.2) h.0,
+            subst (λ x. length x < 2 ^ 32) (sym h.2) h.1,
+          ),
+          h.2,
+        ),
         λ h. (subst (λ x. ∥ IsListOf valid encoding x ∥₁) h.1 h.0.0, short, h.1),
       );
       shallow = omega arith;
@@ -67,6 +72,7 @@ list_lawful tag valid encoding contents numbered =
 pub list_holds : {A B : Type 0} (valid : A → Type 0) (encoding : A → List ℕ)
     (contents : B → List ℕ) (v : B) (rules : EncodingRules) (h : Head) (octets : List ℕ)
     → TakesList valid encoding contents v rules h octets → IsList valid encoding contents v
-list_holds valid encoding contents v rules h octets taken =
-    (subst (λ x. ∥ IsListOf valid encoding x ∥₁) (sym taken.2) taken.0,
-    subst (λ x. length x < 2 ^ 32) (sym taken.2) taken.1)
+list_holds valid encoding contents v rules h octets taken = (
+  subst (λ x. ∥ IsListOf valid encoding x ∥₁) (sym taken.2) taken.0,
+  subst (λ x. length x < 2 ^ 32) (sym taken.2) taken.1,
+)

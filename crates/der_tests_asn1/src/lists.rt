@@ -29,8 +29,18 @@ fn integers_of_a_list_are_walked(rt: HostRuntime) {
     let rows: [(&[u8], Option<&[u8]>, Option<&[u8]>, bool); 4] = [
         (&[0x30, 0], None, None, true),
         (&[0x30, 3, 2, 1, 5], Some(&[5]), None, true),
-        (&[0x30, 7, 2, 1, 5, 2, 2, 1, 0], Some(&[5]), Some(&[1, 0]), true),
-        (&[0x30, 9, 2, 1, 5, 2, 1, 6, 2, 1, 7], Some(&[5]), Some(&[6]), false),
+        (
+            &[0x30, 7, 2, 1, 5, 2, 2, 1, 0],
+            Some(&[5]),
+            Some(&[1, 0]),
+            true,
+        ),
+        (
+            &[0x30, 9, 2, 1, 5, 2, 1, 6, 2, 1, 7],
+            Some(&[5]),
+            Some(&[6]),
+            false,
+        ),
     ];
     for (row, (octets, first, second, ends)) in rows.into_iter().enumerate() {
         same_at(
@@ -85,5 +95,8 @@ fn a_list_stands_in_an_element(rt: HostRuntime) {
         tagged(rt.alloc(), &[0xA3, 5, 0x30, 3, 2, 1, 5]),
         Ok(&[2, 1, 5]),
     );
-    holds(&rt, tagged(rt.alloc(), &[0xA3, 5, 0x30, 3, 2, 2, 0]).is_err());
+    holds(
+        &rt,
+        tagged(rt.alloc(), &[0xA3, 5, 0x30, 3, 2, 2, 0]).is_err(),
+    );
 }

@@ -55,8 +55,14 @@ fn a_tag_stands_around_an_element(rt: HostRuntime) {
     let tag = TagNumber(300).context_specific(true);
     let rows: [(&[u8], Result<(&[u8], bool), Error>); 4] = [
         (&[0xBF, 0x82, 0x2C, 3, 2, 1, 5], Ok((&[5], true))),
-        (&[0xA1, 3, 2, 1, 5], Err(unexpected(tag, TagNumber(1).context_specific(true)))),
-        (&[0xBF, 0x82, 0x2C, 2, 5, 0], Err(unexpected(Tag::Integer, Tag::Null))),
+        (
+            &[0xA1, 3, 2, 1, 5],
+            Err(unexpected(tag, TagNumber(1).context_specific(true))),
+        ),
+        (
+            &[0xBF, 0x82, 0x2C, 2, 5, 0],
+            Err(unexpected(Tag::Integer, Tag::Null)),
+        ),
         (
             &[0xBF, 0x82, 0x2C, 4, 2, 1, 5, 0],
             Err(ErrorKind::TrailingData {
