@@ -1,2 +1,3 @@
+pub mod DefaultReadLemmas
 pub mod OptionalReadLemmas
 pub mod SequenceOfLemmas

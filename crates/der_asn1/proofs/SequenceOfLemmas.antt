@@ -1,11 +1,10 @@
 -- Elements of one type, one behind the other, as they are read.
-use Rattle.std.proofs.Common.{◌≡◌, ℕ, ◌+◌, ◌-◌, ◌^◌, ◌<◌, ◌≤◌, Bool, true, false, Result, Ok, Err, IfOk, inl, inr, List, [], ◌∷◌, ◌++◌, length, drop, refl, sym, ap, subst, ◌∙◌, length-append, length-drop, nat_lt, nat_le, take, arith}
+use Rattle.std.proofs.Common.{◌≡◌, ℕ, ◌+◌, ◌-◌, ◌<◌, ◌≤◌, Bool, true, false, Ok, Err, inl, inr, List, [], ◌∷◌, ◌++◌, length, refl, sym, ap, subst, ◌∙◌, length-append, nat_lt, nat_le, take, arith}
 use Rattle.std.proofs.lemmas.Grind.{not_there}
 use Rattle.std.proofs.lemmas.List.{take_all}
-use Rattle.der.specs.Prelude.{Error}
 use Rattle.der.specs.Outcome.{Gives}
 use Rattle.der.specs.Reader.{read_slice_outcome}
-use Rattle.der.specs.HeaderGrammar.{Head, header_octets}
+use Rattle.der.specs.HeaderGrammar.{Head}
 use Rattle.der.specs.Tag.{label, tag_octets}
 use Rattle.der.specs.Length.{length_octets}
 use Rattle.der.specs.Prelude.{Tag}
@@ -21,7 +20,7 @@ use Rattle.der.specs.LawfulLemmas.{elements_are_encodings, passed_encodings}
 use Rattle.der.proofs.StateLemmas.{length-rest, rest_after}
 use Rattle.der.specs.SliceReader.{slice_state}
 use Rattle.der.specs.Prelude.{SliceReader}
-use Rattle.der_asn1.proofs.OptionalReadLemmas.{rest_at_end, rest_before_end}
+use Rattle.der_asn1.proofs.OptionalReadLemmas.{rest_at_end}
 use Rattle.der_asn1.specs.SequenceOf.{IsListOf, IsAtItem, AllValid, joined_encodings}
 
 -- a list that is not empty: one, and others behind it

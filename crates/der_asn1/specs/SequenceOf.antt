@@ -2,7 +2,7 @@
 use Rattle.std.specs.Prelude.{◌≡◌, ℕ, ◌^◌, ◌<◌, false, List, [], ◌∷◌, ◌++◌, length}
 use Rattle.std.specs.Prelude.{Result, Ok, IfOk}
 use Rattle.std.proofs.Common.{arith, subst, sym}
-use Rattle.der.specs.Prelude.{Head, number, Tag, Error, EncodingRules, Der, IsLawful, Gives}
+use Rattle.der.specs.Prelude.{Head, number, Tag, EncodingRules, Der, IsLawful, Gives}
 use Rattle.der.specs.Prelude.{read_slice_outcome, ReaderState, element_octets}
 use Rattle.der.specs.Tag.{label}
 

@@ -1,12 +1,14 @@
 //! A BOOLEAN.
 ghost use Rattle.std.specs.Prelude.{◌≡◌, ◌∷◌, [], true, ◌↔◌};
-ghost use Rattle.std.proofs.Common.{arith};
+ghost use Rattle.std.proofs.Common.{arith, ap};
 ghost use Rattle.der.specs.Prelude.{Boolean as BooleanTag};
-ghost use Rattle.der_asn1.specs.Forms.{boolean_form};
+ghost use Rattle.der_asn1.specs.CheckedLemmas.{one_form};
+ghost use Rattle.der_asn1.specs.Forms.{boolean_form, is_false};
 
 use crate::checked::Checked;
+use crate::defaulted::{DefaultValue, HasDefault};
 use crate::form::Form;
-use der::{FixedTag, Tag};
+use der::{FixedTag, Reader, Tag};
 
 /// The form of a BOOLEAN: octet 00 is false, and FF true (X.690 8.2, 11.1).
 pub struct BooleanForm;
@@ -47,4 +49,24 @@ impl<'a> Checked<'a, BooleanForm> {
             _ => false,
         }
     }
+}
+
+/// The default is false, as in formats that have a BOOLEAN with a default.
+impl<'a> DefaultValue for Checked<'a, BooleanForm> {
+    ghost is_default = { λ v. is_false v.octets.now };
+
+    fn default_value() -> Self {
+        Checked::formed(&[0])
+    }
+
+    fn has_default(&self) -> bool {
+        match self.octets() {
+            [octet, ..] => *octet == 0,
+            [] => false,
+        }
+    }
+}
+
+impl<'a, R: Reader<Lent = &'a [u8]>> HasDefault<R> for Checked<'a, BooleanForm> {
+    ghost told = { λ v w rules octets m n one two. ap is_false (one_form one two) };
 }

@@ -37,6 +37,17 @@ impl<'a, F: Form> Checked<'a, F> {
         }
     }
 
+    // These octets, which have the form.
+    pub(crate) fn formed(octets: &'a [u8]) -> Self
+        requires { F.form octets.now ≡ true }
+        ensures { result.octets.now ≡ octets.now }
+    {
+        Checked {
+            octets,
+            form: PhantomData,
+        }
+    }
+
     /// The octets.
     pub fn octets(&self) -> &'a [u8]
         ensures value { result.now ≡ self.now.octets.now }

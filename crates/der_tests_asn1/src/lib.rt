@@ -5,6 +5,8 @@
 #[cfg(test)]
 mod checks;
 #[cfg(test)]
+mod defaults;
+#[cfg(test)]
 mod fields;
 #[cfg(test)]
 mod forms;

@@ -1,0 +1,42 @@
+-- The laws of fields with a default.
+use Rattle.std.proofs.Common.{inl, inr, ℕ, Bool, List}
+use Rattle.der.specs.Prelude.{Tag, EncodingRules}
+use Rattle.der_asn1.specs.Follow.{either_tags}
+use Rattle.der_asn1.specs.Default.{DefaultAhead, absent, present, IsDefaulted, default_encoding}
+use Rattle.der_asn1.specs.Default.{DefaultPrecedes}
+use Rattle.der_asn1.specs.DefaultLemmas.{defaults_are_fields, default_may_start, default_precedes}
+use Rattle.der_asn1.specs.FieldLaws.{FieldLaws, SomeLaws, seen_laws}
+use Rattle.der_asn1.specs.declared.defaulted.Defaulted.{Defaulted}
+
+pub default_holds : {A : Type 0} (tags : Tag → Type 0) (is_default : A → Bool)
+    {Ahead : A → EncodingRules → List ℕ → ℕ → Type 0} {valid : A → Type 0}
+    → ((v : A) (rules : EncodingRules) (octets : List ℕ) (m : ℕ) → Ahead v rules octets m → valid v)
+    → (v : A) (rules : EncodingRules) (octets : List ℕ) (m : ℕ)
+    → DefaultAhead tags is_default Ahead v rules octets m → IsDefaulted is_default valid v
+default_holds tags is_default holds v rules octets m (absent d e none) = inl d
+default_holds tags is_default holds v rules octets m (present differs h) = inr (holds v rules octets m h)
+
+-- one that is absent where it is the default
+abbrev pub default_laws : {A : Type 0} {Ahead : A → EncodingRules → List ℕ → ℕ → Type 0}
+    {valid : A → Type 0} {encoding : A → List ℕ} (is_default : A → Bool)
+    (one : SomeLaws Ahead valid encoding)
+    → FieldLaws (DefaultAhead one.laws.tags is_default Ahead) (IsDefaulted is_default valid)
+    (default_encoding is_default encoding)
+default_laws {Ahead = Ahead} {valid} is_default one =
+    record {
+      Precedes = DefaultPrecedes one.laws.tags is_default one.laws.Precedes;
+      tags = one.laws.tags;
+      stops = either_tags one.laws.tags one.laws.stops;
+      reads = defaults_are_fields is_default one.laws.reads;
+      starts = default_may_start is_default one.some;
+      precedes = default_precedes one.laws.tags is_default one.laws.precedes;
+      holds = default_holds one.laws.tags is_default one.laws.holds;
+    }
+
+-- and in a `Defaulted`
+abbrev pub default_field : {A : Type 0} {Ahead : A → EncodingRules → List ℕ → ℕ → Type 0}
+    {valid : A → Type 0} {encoding : A → List ℕ} (is_default : A → Bool)
+    (one : SomeLaws Ahead valid encoding)
+    → FieldLaws (λ (p : Defaulted A). DefaultAhead one.laws.tags is_default Ahead p.0)
+    (λ p. IsDefaulted is_default valid p.0) (λ p. default_encoding is_default encoding p.0)
+default_field is_default one = seen_laws (λ p. p.0) (default_laws is_default one)

@@ -1,0 +1,109 @@
+//! Fields with a default.
+ghost use Rattle.std.specs.Prelude.{◌≡◌, ◌↔◌, ℕ, Bool, true, List, IsTrue};
+ghost use Rattle.der.specs.Prelude.{EncodingRules as Rules, Der, map_ok};
+ghost use Rattle.der_asn1.specs.Default.{DefaultAhead, DefaultRead, IsDefaulted, default_encoding};
+ghost use Rattle.der_asn1.specs.Default.{default_size, DefaultWritten};
+
+use crate::choice::Choice;
+use der::{Decode, Encode, EncodingRules, Error, ErrorKind, Length, Reader, ReaderExt, Writer};
+use std::alloc::Global;
+
+/// Types that have a default in a field.
+///
+/// Ghost member: `is_default` says which values are the default.
+pub trait DefaultValue: Sized {
+    ghost is_default: { Self → Bool };
+
+    /// The default.
+    fn default_value() -> Self
+        ensures { is_default result ≡ true };
+
+    /// Whether a value is the default.
+    fn has_default(&self) -> bool
+        ensures { result ≡ is_default self.now };
+}
+
+/// Such types that are decoded.
+///
+/// Ghost member: `told` is the law that the octets decide whether a value is the default.
+pub trait HasDefault<R: Reader>: Choice<R> + DefaultValue {
+    // of two values that stand in the same place both are the default, or neither
+    ghost told: { (v w : Self) (rules : Rules) (octets : List ℕ) (m n : ℕ)
+        → Self.heads v rules octets m → Self.heads w rules octets n
+        → Self.is_default v ≡ Self.is_default w };
+}
+
+// Whether a value that was read is a default that may not be written.
+fn is_written_default<R: Reader, T: HasDefault<R>>(rules: EncodingRules, value: &T) -> bool
+    ensures { IsTrue result ↔ ((rules ≡ Der) × (T.is_default value.now ≡ true)) }
+{
+    rules.is_der() && value.has_default()
+}
+
+/// A DEFAULT field: a value, which is absent where it is the default (X.690 11.5). Under BER the
+/// default may also be written (8.9.3).
+#[derive(Drop)]
+pub struct Defaulted<T>(pub T);
+
+/// # Errors
+///
+/// - Those of [`ReaderExt::peek_tag`], where no tag is read; the reader is unchanged.
+/// - Those of the value.
+/// - `Noncanonical` of the tag at the position behind a default that is written, under DER; the
+///   reader has failed then.
+impl<R: Reader, T: HasDefault<R>> Decode<R> for Defaulted<T> {
+    type Error = <T as Decode<R>>::Error;
+
+    ghost heads = { λ v. DefaultAhead T.chooses T.is_default T.heads v.0 };
+
+    ghost needs = { T.needs };
+
+    ghost takes_memory = { T.takes_memory };
+
+    ghost answers = { λ s result t. DefaultRead T.chooses T.is_default T.Error.from_gives T.answers
+        s (map_ok (λ v. v.0) result) t };
+
+    fn decode(alloc: Global, reader: &mut R) -> Result<Self, <T as Decode<R>>::Error> {
+        if reader.is_finished() {
+            return Ok(Defaulted(T::default_value()));
+        }
+        let tag = reader.peek_tag()?;
+        if !T::can_decode(tag) {
+            return Ok(Defaulted(T::default_value()));
+        }
+        let value = T::decode(alloc, reader)?;
+        if is_written_default(reader.encoding_rules(), &value) {
+            return Err(reader.error(ErrorKind::Noncanonical { tag }).into());
+        }
+        Ok(Defaulted(value))
+    }
+}
+
+/// The default is written as no octets.
+///
+/// # Errors
+///
+/// Those of the value.
+impl<T: Encode + DefaultValue> Encode for Defaulted<T> {
+    ghost encoding = { λ v. default_encoding T.is_default T.encoding v.0 };
+
+    ghost encodable = { λ v. IsDefaulted T.is_default T.encodable v.0 };
+
+    ghost size = { λ v. default_size T.is_default T.size v.0 };
+
+    ghost answers = { λ v. DefaultWritten T.is_default T.answers v.0 };
+
+    fn encoded_len(&self) -> Result<Length, Error> {
+        if self.0.has_default() {
+            return Ok(Length::ZERO);
+        }
+        self.0.encoded_len()
+    }
+
+    fn encode<W: Writer>(&self, writer: &mut W) -> Result<(), Error> {
+        if self.0.has_default() {
+            return Ok(());
+        }
+        self.0.encode(writer)
+    }
+}
