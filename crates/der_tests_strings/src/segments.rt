@@ -50,6 +50,11 @@ fn view(read: &Result<Vec<u8>, Error>) -> Result<&[u8], Error> {
     }
 }
 
+// How many octets there are.
+fn count_of(octets: &[u8]) -> Result<u32, Error> {
+    Ok(u32::from(Length::new_usize(octets.len())?))
+}
+
 // Number 0 of the context.
 fn context_specific(constructed: bool) -> Tag {
     TagNumber::new(0).context_specific(constructed)

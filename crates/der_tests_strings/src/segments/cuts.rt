@@ -37,17 +37,24 @@ fn read(rt: &impl Abort, row: usize, read: &Result<JoinedOctets, Error>, joined:
 }
 
 // The element is joined to these octets, and of each beginning octets are missing.
-fn cut_everywhere(rt: &impl Abort, alloc: Global, octets: &[u8], joined: &[u8], passed: &[Passed]) {
+fn cut_everywhere(
+    rt: &impl Abort,
+    alloc: Global,
+    octets: &[u8],
+    joined: &[u8],
+    passed: &[Passed],
+) -> Result<(), Error> {
     for cut in 0..octets.len() {
         let (beginning, _) = octets.split_at(cut);
         refused(
             rt,
             cut,
             &joined_of_ber(alloc, beginning),
-            missing(passed, cut as u32),
+            missing(passed, count_of(beginning)?),
         );
     }
     read(rt, octets.len(), &joined_of_ber(alloc, octets), joined);
+    Ok(())
 }
 
 #[test]
@@ -64,7 +71,7 @@ fn elements_of_definite_lengths(rt: HostRuntime) -> Result<(), Fail> {
         ),
     ];
     for (octets, joined) in rows {
-        cut_everywhere(&rt, rt.alloc(), octets, joined, &[]);
+        cut_everywhere(&rt, rt.alloc(), octets, joined, &[])?;
     }
     Ok(())
 }
@@ -96,7 +103,7 @@ fn elements_of_indefinite_lengths(rt: HostRuntime) -> Result<(), Fail> {
         ),
     ];
     for (octets, joined, passed) in rows {
-        cut_everywhere(&rt, rt.alloc(), octets, joined, passed);
+        cut_everywhere(&rt, rt.alloc(), octets, joined, passed)?;
     }
     Ok(())
 }
@@ -105,7 +112,7 @@ fn elements_of_indefinite_lengths(rt: HostRuntime) -> Result<(), Fail> {
 fn elements_as_deep_as_they_may_be(rt: HostRuntime) -> Result<(), Fail> {
     for forms in [Forms::Definite, Forms::Indefinite] {
         let octets = nested(rt.alloc(), forms, 64, &[0x04, 0x01, 0x2A])?;
-        cut_everywhere(&rt, rt.alloc(), octets.as_slice(), &[0x2A], &[]);
+        cut_everywhere(&rt, rt.alloc(), octets.as_slice(), &[0x2A], &[])?;
     }
     Ok(())
 }

@@ -103,7 +103,7 @@ fn levels_of_indefinite_lengths(rt: HostRuntime) -> Result<(), Fail> {
 #[test]
 fn levels_of_both_forms(rt: HostRuntime) -> Result<(), Fail> {
     let octets = nested(rt.alloc(), Forms::Alternating, 65, &SEGMENT)?;
-    let headers = octets.len() as u32 - 66 - 3;
+    let headers = count_of(octets.as_slice())?.saturating_sub(66 + 3);
     whole(
         &rt,
         rt.alloc(),
@@ -159,7 +159,7 @@ fn levels_that_are_left(rt: HostRuntime) -> Result<(), Fail> {
     for parts in [0usize, 1, 32, 63, 64] {
         let fitting = nested(alloc, Forms::Definite, 64 - parts, &SEGMENT)?;
         let octets = fitting.as_slice();
-        let end = octets.len() as u32;
+        let end = count_of(octets)?;
         let read = Ok([0x2A].as_slice());
         inside_parts(
             &rt,
@@ -179,7 +179,7 @@ fn levels_that_are_left(rt: HostRuntime) -> Result<(), Fail> {
         )?;
         let deeper = nested(alloc, Forms::Definite, 65 - parts, &SEGMENT)?;
         let octets = deeper.as_slice();
-        let headers = octets.len() as u32 - 3;
+        let headers = count_of(octets)?.saturating_sub(3);
         let refused = Err(too_deep(headers));
         inside_parts(
             &rt,

@@ -95,8 +95,7 @@ fn is_joined_plainly<R: Joins>(
 ) -> Result<bool, Fail> {
     let mut plain = Vec::new(alloc);
     let joinable = join_plainly(octets, levels, &mut plain)?;
-    let count = u32::from(Length::new_usize(octets.len())?);
-    let length = Length::new_indefinite(count);
+    let length = Length::new_indefinite(count_of(octets)?);
     Ok(match reader.join(alloc, length, Tag::OctetString) {
         Ok(joined) => joinable && joined.as_slice() == plain.as_slice(),
         Err(_) => !joinable,

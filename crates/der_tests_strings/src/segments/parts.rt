@@ -123,7 +123,7 @@ fn contents(alloc: Global, reader: &mut SliceReader<'_>) -> Result<BytesOwned, E
 
 // The encrypted octets of a CMS message, whose tag stands in the place of OCTET STRING.
 fn encrypted(rt: &impl Abort, alloc: Global, octets: &[u8]) -> Result<(), Error> {
-    let end = u32::from(Length::new_usize(octets.len())?);
+    let end = count_of(octets)?;
     let mut reader = ber_reader(octets)?;
     let joined = contents(alloc, &mut reader)?;
     let whole = [
