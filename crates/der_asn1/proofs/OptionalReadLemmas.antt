@@ -11,7 +11,8 @@ use Rattle.der.proofs.StateLemmas.{length-rest}
 use Rattle.der_asn1.specs.Follow.{TagIn, NoTagIn, nothing, other}
 use Rattle.der_asn1.specs.Optional.{OptionAhead}
 
-tag_some : (t : Tag) → 1 ≤ length (tag_octets t)
+-- a tag has octets
+pub tag_some : (t : Tag) → 1 ≤ length (tag_octets t)
 tag_some t = go (nat_lt (label t).number 31) refl
   where
     go : (b : Bool) → nat_lt (label t).number 31 ≡ b → 1 ≤ length (tag_octets t)

@@ -20,7 +20,7 @@ use Rattle.der.specs.LawfulLemmas.{elements_are_encodings, passed_encodings}
 use Rattle.der.proofs.StateLemmas.{length-rest, rest_after}
 use Rattle.der.specs.SliceReader.{slice_state}
 use Rattle.der.specs.Prelude.{SliceReader}
-use Rattle.der_asn1.proofs.OptionalReadLemmas.{rest_at_end}
+use Rattle.der_asn1.proofs.OptionalReadLemmas.{rest_at_end, tag_some}
 use Rattle.der_asn1.specs.SequenceOf.{IsListOf, IsAtItem, AllValid, joined_encodings}
 
 -- a list that is not empty: one, and others behind it
@@ -91,13 +91,6 @@ still_at_item at r =
       working = ap (λ (x : ReaderState). x.failed) r.state ∙ at.working;
       outside = ap (λ (x : ReaderState). x.depth) r.state ∙ at.outside;
     }
-
-tag_some : (t : Tag) → 1 ≤ length (tag_octets t)
-tag_some t = go (nat_lt (label t).number 31) refl
-  where
-    go : (b : Bool) → nat_lt (label t).number 31 ≡ b → 1 ≤ length (tag_octets t)
-    go true e = rw e (omega arith)
-    go false e = rw e (omega arith)
 
 -- less is left
 pub item_smaller : (s t : ReaderState) (tag : Tag) (contents : List ℕ) → IsSound t → Reads s t (element_octets tag contents) → t.end - t.position < s.end - s.position

@@ -8,6 +8,11 @@ use Rattle.der_asn1.specs.Default.{DefaultAhead, absent, present, default_encodi
 use Rattle.der_asn1.specs.Default.{DefaultPrecedes}
 use Rattle.der_asn1.specs.FollowLemmas.{fewer_tags}
 
+-- a value that is not the default is valid
+valid_of : {A : Type 0} (valid : A → Type 0) (is_default : A → Bool) (v : A) → (is_default v ≡ true) ⊎ valid v → is_default v ≡ false → valid v
+valid_of valid is_default v (inl e) f = absurd (let no : true ≡ false = sym e ∙ f in cc)
+valid_of valid is_default v (inr is) f = is
+
 module _ {A : Type 0} {tags : Tag → Type 0} {Ahead : A → EncodingRules → List ℕ → ℕ → Type 0} {valid : A → Type 0} {encoding : A → List ℕ} {P : A → List ℕ → Type 0} (is_default : A → Bool) where
   pub defaults_are_fields : ReadsFields Ahead valid encoding P → ReadsFields (DefaultAhead tags is_default Ahead) (IsDefaulted is_default valid) (default_encoding is_default encoding) (DefaultPrecedes tags is_default P)
   defaults_are_fields reads = record { only = from; every = λ octets v m short. to octets v m short (is_default v) refl }
@@ -40,20 +45,12 @@ module _ {A : Type 0} {tags : Tag → Type 0} {Ahead : A → EncodingRules → L
       to octets v m short true d e = absent d (e.whole ∙ ap length (written v true d)) (subst (NoTagIn tags Der) (sym (e.split ∙ ap (λ x. x ++ e.behind) (written v true d))) (e.precedes.0 d))
       to octets v m short false d e =
           present (λ _. d) (reads.every octets v m short (record {
-            is_valid = valid_of e.is_valid;
+            is_valid = valid_of valid is_default v e.is_valid d;
             behind = e.behind;
             split = e.split ∙ ap (λ x. x ++ e.behind) (written v false d);
             whole = e.whole ∙ ap length (written v false d);
             precedes = e.precedes.1 d;
           }))
-        where
-          valid_of : (is_default v ≡ true) ⊎ valid v → valid v
-          valid_of (inl f) = absurd (let no : true ≡ false = sym f ∙ d in cc)
-          valid_of (inr is) = is
-
-valid_of : {A : Type 0} (valid : A → Type 0) (is_default : A → Bool) (v : A) → (is_default v ≡ true) ⊎ valid v → is_default v ≡ false → valid v
-valid_of valid is_default v (inl e) f = absurd (let no : true ≡ false = sym e ∙ f in cc)
-valid_of valid is_default v (inr is) f = is
 
 pub default_may_start : {A : Type 0} {tags : Tag → Type 0} {valid : A → Type 0} {encoding : A → List ℕ} (is_default : A → Bool) → Starts valid encoding tags → MayStart (IsDefaulted is_default valid) (default_encoding is_default encoding) tags
 default_may_start {A} {tags} {valid} {encoding} is_default one = record { starts = λ v is. go v (is_default v) refl is }

@@ -4,6 +4,7 @@ use Rattle.std.specs.Prelude.{Result, Ok, IfOk}
 use Rattle.std.proofs.Common.{arith, subst, sym}
 use Rattle.der.specs.Prelude.{Head, number, Tag, EncodingRules, Der, IsLawful, Gives}
 use Rattle.der.specs.Prelude.{read_slice_outcome, ReaderState, element_octets}
+use Rattle.der.specs.Lawful.{definite_head}
 use Rattle.der.specs.Tag.{label}
 
 -- each is valid, and the encodings one behind the other
@@ -32,47 +33,43 @@ pub record IsAtItem (s : ReaderState) : Type 0 where
   pub working : s.failed ≡ false
   pub outside : s.depth ≡ 0
 
--- contents that are such a list are taken as they stand, whatever the rules
-abbrev pub TakesList : {A B : Type 0} → (A → Type 0) → (A → List ℕ) → (B → List ℕ) → B
+-- contents that are such elements are taken as they stand, whatever the rules
+abbrev pub TakesList : {A B : Type 0} → Tag → (A → Type 0) → (A → List ℕ) → (B → List ℕ) → B
     → EncodingRules → Head → List ℕ → Type 0
-TakesList valid encoding contents v rules h octets =
-    ∥ IsListOf valid encoding octets ∥₁ × (length octets < 2 ^ 32) × (contents v ≡ octets)
+TakesList tag valid contents octets_of v rules h octets =
+    ∥ AreElements tag valid contents octets ∥₁ × (length octets < 2 ^ 32) × (octets_of v ≡ octets)
 
-abbrev pub IsList : {A B : Type 0} → (A → Type 0) → (A → List ℕ) → (B → List ℕ) → B → Type 0
-IsList valid encoding contents v =
-    ∥ IsListOf valid encoding (contents v) ∥₁ × (length (contents v) < 2 ^ 32)
+abbrev pub IsList : {A B : Type 0} → Tag → (A → Type 0) → (A → List ℕ) → (B → List ℕ) → B → Type 0
+IsList tag valid contents octets_of v =
+    ∥ AreElements tag valid contents (octets_of v) ∥₁ × (length (octets_of v) < 2 ^ 32)
 
 -- what is answered is lent
 abbrev pub ListAnswers : {B E : Type 0} → (B → List ℕ) → Head → ReaderState → Result B E
     → ReaderState → Type 0
-ListAnswers contents h s result t =
-    IfOk result (λ v. Gives (read_slice_outcome (number h.length)) s (Ok (contents v)) t)
+ListAnswers octets_of h s result t =
+    IfOk result (λ v. Gives (read_slice_outcome (number h.length)) s (Ok (octets_of v)) t)
+
+-- so the contents of such a value are elements
+pub list_holds : {A B : Type 0} (tag : Tag) (valid : A → Type 0) (contents : A → List ℕ)
+    (octets_of : B → List ℕ) (v : B) (rules : EncodingRules) (h : Head) (octets : List ℕ)
+    → TakesList tag valid contents octets_of v rules h octets
+    → IsList tag valid contents octets_of v
+list_holds tag valid contents octets_of v rules h octets taken = (
+  subst (λ x. ∥ AreElements tag valid contents x ∥₁) (sym taken.2) taken.0,
+  subst (λ x. length x < 2 ^ 32) (sym taken.2) taken.1,
+)
 
 -- it is read as it is written
-pub list_lawful : {A B : Type 0} (tag : Tag) (valid : A → Type 0) (encoding : A → List ℕ)
-    (contents : B → List ℕ) → (label tag).number < 2 ^ 32
-    → IsLawful tag (TakesList valid encoding contents) (IsList valid encoding contents) contents
-    (λ _. 0)
-list_lawful tag valid encoding contents numbered =
+pub list_lawful : {A B : Type 0} (outer tag : Tag) (valid : A → Type 0) (contents : A → List ℕ)
+    (octets_of : B → List ℕ) → (label outer).number < 2 ^ 32
+    → IsLawful outer (TakesList tag valid contents octets_of) (IsList tag valid contents octets_of)
+    octets_of (λ _. 0)
+list_lawful outer tag valid contents octets_of numbered =
     record {
       exact = λ octets v short. (
-        λ h. (
-          (
-            subst (λ x. ∥ IsListOf valid encoding x ∥₁) (sym h.2) h.0,
-            subst (λ x. length x < 2 ^ 32) (sym h.2) h.1,
-          ),
-          h.2,
-        ),
-        λ h. (subst (λ x. ∥ IsListOf valid encoding x ∥₁) h.1 h.0.0, short, h.1),
+        λ h. (list_holds tag valid contents octets_of v Der (definite_head outer 0) octets h, h.2),
+        λ h. (subst (λ x. ∥ AreElements tag valid contents x ∥₁) h.1 h.0.0, short, h.1),
       );
       shallow = omega arith;
       numbered = numbered;
     }
-
-pub list_holds : {A B : Type 0} (valid : A → Type 0) (encoding : A → List ℕ)
-    (contents : B → List ℕ) (v : B) (rules : EncodingRules) (h : Head) (octets : List ℕ)
-    → TakesList valid encoding contents v rules h octets → IsList valid encoding contents v
-list_holds valid encoding contents v rules h octets taken = (
-  subst (λ x. ∥ IsListOf valid encoding x ∥₁) (sym taken.2) taken.0,
-  subst (λ x. length x < 2 ^ 32) (sym taken.2) taken.1,
-)

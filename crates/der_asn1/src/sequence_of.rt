@@ -80,18 +80,15 @@ impl<'a, T: Lawful> FixedTag for SequenceOf<'a, T> {
 }
 
 impl<'a, T: Lawful> ReadValue for SequenceOf<'a, T> {
-    ghost valid = { IsList T.valid (λ v. element_octets T.tag_is (T.contents v))
-        (λ v. v.octets.now) };
+    ghost valid = { IsList T.tag_is T.valid T.contents (λ v. v.octets.now) };
 
-    ghost takes = { TakesList T.valid (λ v. element_octets T.tag_is (T.contents v))
-        (λ v. v.octets.now) };
+    ghost takes = { TakesList T.tag_is T.valid T.contents (λ v. v.octets.now) };
 
     ghost levels = { λ _. 0 };
 
     ghost takes_memory = { T.takes_memory };
 
-    ghost takes_valid = { list_holds T.valid (λ v. element_octets T.tag_is (T.contents v))
-        (λ v. v.octets.now) };
+    ghost takes_valid = { list_holds T.tag_is T.valid T.contents (λ v. v.octets.now) };
 }
 
 /// The contents are lent, and every element in them is read once, under DER.
@@ -127,8 +124,7 @@ impl<'a, T: Lawful + DecodeValue<SliceReader<'a>>, R: Reader<Lent = &'a [u8]>> D
 impl<'a, T: Lawful> WrittenValue for SequenceOf<'a, T> {
     ghost contents = { λ v. v.octets.now };
 
-    ghost writable = { IsList T.valid (λ v. element_octets T.tag_is (T.contents v))
-        (λ v. v.octets.now) };
+    ghost writable = { IsList T.tag_is T.valid T.contents (λ v. v.octets.now) };
 }
 
 /// # Errors
@@ -150,8 +146,8 @@ impl<'a, T: Lawful> EncodeValue for SequenceOf<'a, T> {
 }
 
 impl<'a, T: Lawful> Lawful for SequenceOf<'a, T> {
-    ghost lawful = { list_lawful Sequence T.valid (λ v. element_octets T.tag_is (T.contents v))
-        (λ v. v.octets.now) (Prim.omega arith) };
+    ghost lawful = { list_lawful Sequence T.tag_is T.valid T.contents (λ v. v.octets.now)
+        (Prim.omega arith) };
 }
 
 impl<'a, T: Lawful> Nestable for SequenceOf<'a, T> {

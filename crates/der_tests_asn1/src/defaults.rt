@@ -1,11 +1,16 @@
 //! Fields with a default: BOOLEAN DEFAULT FALSE.
 use crate::checks::same_at;
-use der::{Decode, Encode, EncodingRules, Error, ErrorKind, Length, Reader, SliceReader, Tag};
+use der::{Decode, Encode, Error, ErrorKind, Length, Reader, SliceReader, Tag};
 use der_asn1::{BooleanRef, Defaulted};
+use der_fixtures::readers::{ber_reader, der_reader};
 use std::alloc::Global;
 
 // The value of the field at the front, and the position behind it.
-fn field<'a>(alloc: Global, mut reader: SliceReader<'a>) -> Result<(bool, Length), Error> {
+fn field<'a>(
+    alloc: Global,
+    reader: Result<SliceReader<'a>, Error>,
+) -> Result<(bool, Length), Error> {
+    let mut reader = reader?;
     let field: Defaulted<BooleanRef<'a>> = Defaulted::decode(alloc, &mut reader)?;
     Ok((field.0.is_true(), reader.position()))
 }
@@ -24,21 +29,14 @@ fn a_default_is_absent(rt: HostRuntime) {
         (&[0x1F], Err(ErrorKind::TagNumberInvalid.at(Length::new(1)))),
     ];
     for (row, (octets, expected)) in rows.into_iter().enumerate() {
-        let answer = match SliceReader::new(octets) {
-            Ok(reader) => field(rt.alloc(), reader),
-            Err(error) => Err(error),
-        };
-        same_at(&rt, row, answer, expected);
+        same_at(&rt, row, field(rt.alloc(), der_reader(octets)), expected);
     }
 }
 
 #[test]
 fn a_default_may_be_written_under_ber(rt: HostRuntime) {
     let octets = [1, 1, 0, 5, 0];
-    let answer = match SliceReader::new_with_encoding_rules(&octets, EncodingRules::Ber) {
-        Ok(reader) => field(rt.alloc(), reader),
-        Err(error) => Err(error),
-    };
+    let answer = field(rt.alloc(), ber_reader(&octets));
     same_at(&rt, 0, answer, Ok((false, Length::new(3))));
 }
 

@@ -2,6 +2,7 @@
 use crate::checks::{holds, same_at};
 use der::{Encode, Error, ErrorKind, Length, Tag};
 use der_asn1::key_from_der;
+use der_fixtures::errors::{incomplete, unexpected};
 use std::alloc::Global;
 
 // RSA with 1024 bits.
@@ -101,16 +102,17 @@ fn other_octets_are_refused(rt: HostRuntime) {
     );
     octets = ED25519;
     octets[0] = 0x31;
-    let set = ErrorKind::TagUnexpected {
-        expected: Some(Tag::Sequence),
-        actual: Tag::Set,
-    };
-    same_at(&rt, 2, refusal(rt.alloc(), &octets), Some(set.to_error()));
-    let cut = ErrorKind::Incomplete {
-        expected_len: Length::new(162),
-        actual_len: Length::new(161),
-    };
-    let cut = cut.at(Length::new(161));
-    same_at(&rt, 3, refusal(rt.alloc(), &RSA[..161]), Some(cut));
+    same_at(
+        &rt,
+        2,
+        refusal(rt.alloc(), &octets),
+        Some(unexpected(Tag::Sequence, Tag::Set)),
+    );
+    same_at(
+        &rt,
+        3,
+        refusal(rt.alloc(), &RSA[..161]),
+        Some(incomplete(162, 161, 161)),
+    );
     holds(&rt, refusal(rt.alloc(), &ED25519).is_none());
 }

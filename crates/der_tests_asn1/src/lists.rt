@@ -2,6 +2,7 @@
 use crate::checks::{holds, same_at};
 use der::{Encode, Error, ErrorKind, Length, Tag};
 use der_asn1::{Explicit, IntRef, SequenceOf, lawful_from_der};
+use der_fixtures::errors::{incomplete, unexpected};
 use std::alloc::Global;
 
 // The first two integers of a list, whether that is all, and whether it is written as it was read.
@@ -60,20 +61,12 @@ fn refusal(alloc: Global, contents: &[u8]) -> Option<Error> {
 
 #[test]
 fn elements_of_a_list_are_checked(rt: HostRuntime) {
-    let null = ErrorKind::TagUnexpected {
-        expected: Some(Tag::Integer),
-        actual: Tag::Null,
-    };
-    let cut = ErrorKind::Incomplete {
-        expected_len: Length::new(6),
-        actual_len: Length::new(5),
-    };
     let spare = ErrorKind::Value { tag: Tag::Integer };
     let rows: [(&[u8], Option<Error>); 5] = [
         (&[], None),
         (&[2, 1, 5, 2, 1, 5], None),
-        (&[2, 1, 5, 5, 0], Some(null.to_error())),
-        (&[2, 1, 5, 2, 1], Some(cut.at(Length::new(5)))),
+        (&[2, 1, 5, 5, 0], Some(unexpected(Tag::Integer, Tag::Null))),
+        (&[2, 1, 5, 2, 1], Some(incomplete(6, 5, 5))),
         (&[2, 1, 5, 2, 2, 0, 5], Some(spare.at(Length::new(7)))),
     ];
     for (row, (contents, expected)) in rows.into_iter().enumerate() {

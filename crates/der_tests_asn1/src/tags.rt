@@ -2,6 +2,7 @@
 use crate::checks::same_at;
 use der::{Encode, Error, ErrorKind, Length, Tag, TagNumber};
 use der_asn1::{Explicit, Implicit, IntRef, lawful_from_der};
+use der_fixtures::errors::{trailing, unexpected};
 use std::alloc::Global;
 
 // The contents of an integer behind tag [1], where it is written again as it was read.
@@ -23,11 +24,6 @@ fn explicit_twice<'a>(alloc: Global, octets: &'a [u8]) -> Result<(&'a [u8], bool
     let value: Implicit<Explicit<IntRef<'a>, 1>, 0> = lawful_from_der(alloc, octets)?;
     let written = value.to_der(alloc)?;
     Ok((value.0.0.octets(), written.as_slice() == octets))
-}
-
-fn unexpected(expected: Tag, actual: Tag) -> Error {
-    let expected = Some(expected);
-    ErrorKind::TagUnexpected { expected, actual }.to_error()
 }
 
 #[test]
@@ -63,14 +59,7 @@ fn a_tag_stands_around_an_element(rt: HostRuntime) {
             &[0xBF, 0x82, 0x2C, 2, 5, 0],
             Err(unexpected(Tag::Integer, Tag::Null)),
         ),
-        (
-            &[0xBF, 0x82, 0x2C, 4, 2, 1, 5, 0],
-            Err(ErrorKind::TrailingData {
-                decoded: Length::new(7),
-                remaining: Length::new(1),
-            }
-            .at(Length::new(7))),
-        ),
+        (&[0xBF, 0x82, 0x2C, 4, 2, 1, 5, 0], Err(trailing(7, 1))),
     ];
     for (row, (octets, expected)) in rows.into_iter().enumerate() {
         same_at(&rt, row, explicit(rt.alloc(), octets), expected);
