@@ -5,7 +5,7 @@ use Rattle.der_base.specs.Arithmetic.{sans_eoc}
 use Rattle.der_base.specs.Body.{Body}
 use Rattle.der_base.specs.Length.{number, definite_length, indefinite_length, length_octets}
 use Rattle.der_base.specs.Tag.{label, tag_octets, IsIdentifier, of_tag, of_segments}
-use Rattle.der_base.specs.HeaderGrammar.{header_octets, Head, head, LengthAhead, HeaderAhead, header, definite, indefinite}
+use Rattle.der_base.specs.HeaderGrammar.{header_octets, Head, head, LengthAhead, HeadAhead, header, definite, indefinite}
 use Rattle.der_base.specs.declared.tag.Tag.{Tag}
 use Rattle.der_base.specs.declared.encoding_rules.EncodingRules.{EncodingRules}
 use Rattle.der_base.specs.declared.encoding_rules.EncodingRules.TheVariants.{Ber}
@@ -259,7 +259,7 @@ pub record SegmentAhead (tag : Tag) (b : Bool) (c : List ℕ) (rules : EncodingR
   pub after : List ℕ
   pub tagged : says.tag ≡ tag
   pub bit : says.constructed ≡ b
-  pub ahead : HeaderAhead says rules s count
+  pub ahead : HeadAhead says rules s count
   pub split : drop count s ≡ c ++ after
   pub sized : length c ≡ number (sans_eoc says.length)
 
@@ -273,7 +273,7 @@ module _ (tag : Tag) (rules : EncodingRules) (c behind s : List ℕ) where
         after = behind;
         tagged = refl;
         bit = refl;
-        ahead = subst (λ x. HeaderAhead (head tag (definite_length (length c)) b) rules x (length id + length (length_octets (length c)))) (sym is) (header d (definite (length c) (c ++ behind) small) (λ f. absurd (cc)));
+        ahead = subst (λ x. HeadAhead (head tag (definite_length (length c)) b) rules x (length id + length (length_octets (length c)))) (sym is) (header d (definite (length c) (c ++ behind) small) (λ f. absurd (cc)));
         split =
             ap (drop (length id + length (length_octets (length c)))) (is ∙ sym (append_assoc id (length_octets (length c)) (c ++ behind)))
             ∙ drop_at (id ++ length_octets (length c)) (c ++ behind) (length id + length (length_octets (length c))) (length-append id (length_octets (length c)));
@@ -291,7 +291,7 @@ module _ (tag : Tag) (rules : EncodingRules) (c behind s : List ℕ) where
         after = 0 ∷ 0 ∷ behind;
         tagged = refl;
         bit = refl;
-        ahead = subst (λ x. HeaderAhead (head tag l true) rules x (length id + 1)) (sym is) (header d la (λ f. refl));
+        ahead = subst (λ x. HeadAhead (head tag l true) rules x (length id + 1)) (sym is) (header d la (λ f. refl));
         split =
             ap (drop (length id + 1)) (is ∙ sym (append_assoc id (128 ∷ []) (mark ++ behind))) ∙ drop_at (id ++ 128 ∷ []) (mark ++ behind) (length id + 1) (length-append id (128 ∷ []))
             ∙ append_assoc c (0 ∷ 0 ∷ []) behind;

@@ -11,11 +11,11 @@ use Rattle.der_base.specs.declared.error.Error.{Error}
 use Rattle.der_base.specs.declared.encoding_rules.EncodingRules.{EncodingRules}
 use Rattle.der_base.specs.declared.encoding_rules.EncodingRules.TheVariants.{Ber, Der}
 use Rattle.der_base.proofs.HeaderLemmas.{LengthView, view_definite, view_indefinite, length_view, HeaderView, header_view_of, header_view}
-use Rattle.der_core.specs.ReaderState.{ReaderState, rest, advanced_state, IsSound, Same, Reads}
+use Rattle.der_core.specs.ReaderState.{ReaderState, rest_of, advanced_state, IsSound, Same, Reads}
 use Rattle.der_core.specs.Reader.{VecRefused}
 use Rattle.der_core.specs.Decode.{Passes}
 use Rattle.der_core.specs.Encode.{element_octets}
-use Rattle.der_core.specs.Header.{head_of, IsHeaderAhead}
+use Rattle.der_core.specs.Header.{head_of, HeaderAhead}
 use Rattle.der_core.specs.declared.header.Header.{Header}
 use Rattle.der_core.proofs.StateLemmas.{reads_none, reads_on, reads_front, length-rest, position_on}
 use Rattle.der_core.proofs.TagAssertedLemmas.{tag_asserted}
@@ -23,7 +23,7 @@ use Rattle.der.specs.Joined.{Joined, none}
 use Rattle.der.specs.Joining.{levels_at, levels_left, AppendsOctets, AppendsJoined, PassesTagged, PassesSegmentHeader, RefusesSegment, no_octets, RefusesSegments, behind_segments}
 use Rattle.der.proofs.JoinedLemmas.{IsSegment, primitive_form, segment_some, segment_then, segments_then, joined_more}
 
-pub reads_there : (s u : ReaderState) (x more : List ℕ) (m : ℕ) → rest s ≡ x ++ more → u ≡ advanced_state s m → m ≡ length x → Reads s u x
+pub reads_there : (s u : ReaderState) (x more : List ℕ) (m : ℕ) → rest_of s ≡ x ++ more → u ≡ advanced_state s m → m ≡ length x → Reads s u x
 reads_there s u x more m e leaves same = subst (λ t. Reads s t x) (ap (advanced_state s) (sym same) ∙ sym leaves) (reads_front s x more e)
 
 -- readers with the same rules and depth have as many levels left
@@ -52,14 +52,14 @@ segment_header {tag} {s} {u} h p primitive = go (header_view p.passes.ahead)
     m : ℕ
     m = p.passes.octets
 
-    on : {k : ℕ} (id more : List ℕ) → IsIdentifier s.rules id (head_of h).tag (head_of h).constructed → (is_indefinite (head_of h).length ≡ true → (head_of h).constructed ≡ true) → rest s ≡ id ++ more → m ≡ length id + k
+    on : {k : ℕ} (id more : List ℕ) → IsIdentifier s.rules id (head_of h).tag (head_of h).constructed → (is_indefinite (head_of h).length ≡ true → (head_of h).constructed ≡ true) → rest_of s ≡ id ++ more → m ≡ length id + k
         → LengthView (head_of h).length s.rules more k → SegmentHeader tag s u (number (head_of h).length)
     on id more d ok e c (view_indefinite body behind ber b q says z) = absurd (let no : false ≡ true = sym primitive ∙ ok (ap is_indefinite says) in cc)
     on id more d ok e c (view_definite n behind small q says z) =
         let r = primitive_identifier primitive d in
         let count : n ≡ number (head_of h).length = sym (ap number says) in
         let octets : id ++ length_octets n ≡ header_octets tag (number (head_of h).length) = ap (λ l. l ++ length_octets n) (r.0 ∙ ap tag_octets p.tagged) ∙ ap (header_octets tag) count in
-        let split : rest s ≡ header_octets tag (number (head_of h).length) ++ behind = e ∙ ap (λ l. id ++ l) q ∙ sym (append_assoc id (length_octets n) behind) ∙ ap (λ l. l ++ behind) octets in
+        let split : rest_of s ≡ header_octets tag (number (head_of h).length) ++ behind = e ∙ ap (λ l. id ++ l) q ∙ sym (append_assoc id (length_octets n) behind) ∙ ap (λ l. l ++ behind) octets in
         let long : m ≡ length (header_octets tag (number (head_of h).length)) = c ∙ ap (λ l. length id + l) z ∙ sym (length-append id (length_octets n)) ∙ ap length octets in
         record {
           primitive = ap (λ t. (label t).constructed) (sym p.tagged) ∙ r.1;
@@ -67,14 +67,14 @@ segment_header {tag} {s} {u} h p primitive = go (header_view p.passes.ahead)
           reads = reads_there s u (header_octets tag (number (head_of h).length)) behind m split p.passes.leaves long;
         }
 
-    go : HeaderView (head_of h) s.rules (rest s) m → SegmentHeader tag s u (number (head_of h).length)
+    go : HeaderView (head_of h) s.rules (rest_of s) m → SegmentHeader tag s u (number (head_of h).length)
     go (header_view_of id more d l ok e c) = on id more d ok e c (length_view l)
 
 -- the next octets
-pub reads_next : (n : ℕ) (s t : ReaderState) → IsSound s → s.position + n ≤ s.end → t ≡ advanced_state s n → Reads s t (take n (rest s)) × (length (take n (rest s)) ≡ n)
+pub reads_next : (n : ℕ) (s t : ReaderState) → IsSound s → s.position + n ≤ s.end → t ≡ advanced_state s n → Reads s t (take n (rest_of s)) × (length (take n (rest_of s)) ≡ n)
 reads_next n s t sound there leaves =
-    let long : length (take n (rest s)) ≡ n = length-take-le n (rest s) (omega (arith, length-rest s sound, there)) in
-    (reads_there s t (take n (rest s)) (drop n (rest s)) n (sym (take-append-drop n (rest s))) leaves (sym long), long)
+    let long : length (take n (rest_of s)) ≡ n = length-take-le n (rest_of s) (omega (arith, length-rest s sound, there)) in
+    (reads_there s t (take n (rest_of s)) (drop n (rest_of s)) n (sym (take-append-drop n (rest_of s))) leaves (sym long), long)
 
 -- nothing was appended yet
 pub appends_none : (tag : Tag) (levels : ℕ) (s : ReaderState) (old : List ℕ) → AppendsJoined tag levels s old old s
@@ -119,9 +119,9 @@ segment_appended {e = e} {out = out} form reads joined appended =
     }
 
 -- a header whose tag was compared with the expected one
-pub passes_tagged : {tag t w : Tag} {h : Header} {s u v : ReaderState} (r : Result Tag Error) → Passes (IsHeaderAhead h) s u → t ≡ (head_of h).tag → r ≡ Ok w → (t ≢ tag → r ≡ Err (unexpected_tag tag t)) → v ≡ u
+pub passes_tagged : {tag t w : Tag} {h : Header} {s u v : ReaderState} (r : Result Tag Error) → Passes (HeaderAhead h) s u → t ≡ (head_of h).tag → r ≡ Ok w → (t ≢ tag → r ≡ Err (unexpected_tag tag t)) → v ≡ u
     → PassesTagged tag h s v
-passes_tagged {tag} {t} {w} {h} {s} r passes is ok other unmoved = record { passes = subst (Passes (IsHeaderAhead h) s) (sym unmoved) passes; tagged = sym is ∙ tag_asserted t tag w r ok other }
+passes_tagged {tag} {t} {w} {h} {s} r passes is ok other unmoved = record { passes = subst (Passes (HeaderAhead h) s) (sym unmoved) passes; tagged = sym is ∙ tag_asserted t tag w r ok other }
 
 -- behind the header of a primitive segment of this length
 module _ (tag : Tag) (s u t : ReaderState) (h : Header) (l : Length) (p : PassesSegmentHeader tag h s u) (primitive : (head_of h).constructed ≡ false) (is : l ≡ (head_of h).length) where
@@ -129,7 +129,7 @@ module _ (tag : Tag) (s u t : ReaderState) (h : Header) (l : Length) (p : Passes
   pub octets_appended : {old new : List ℕ} (levels : ℕ) → IsSound u → AppendsOctets (number l) u old new t → AppendsSegment tag levels s old new t
   octets_appended levels sound a =
       let n = number l in
-      let contents = take n (rest u) in
+      let contents = take n (rest_of u) in
       let header = segment_header h p.passes primitive in
       let count : number (head_of h).length ≡ length contents = ap number (sym is) ∙ sym (reads_next n u t sound a.there a.leaves).1 in
       let same : header_octets tag (number (head_of h).length) ++ contents ≡ element_octets tag contents = ap (λ k. header_octets tag k ++ contents) count in
@@ -149,14 +149,14 @@ segments_refuse {u = u} h sound left r = behind_segments u h.octets h.out h.read
 -- what is left was joined
 pub record JoinsRest (tag : Tag) (levels : ℕ) (s : ReaderState) (old new : List ℕ) (t : ReaderState) : Type 0 where
   pub out : List ℕ
-  pub joined : Joined tag levels (rest s) out
-  pub leaves : t ≡ advanced_state s (length (rest s))
+  pub joined : Joined tag levels (rest_of s) out
+  pub leaves : t ≡ advanced_state s (length (rest_of s))
   pub appended : new ≡ old ++ out
 
 pub joins_rest : {tag : Tag} {levels : ℕ} {s t : ReaderState} {old new : List ℕ} → AppendsJoined tag levels s old new t → t.end ≡ t.position → JoinsRest tag levels s old new t
 joins_rest {tag} {levels} {s} {t} h at_end =
     let nothing : t.end - t.position ≡ 0 = omega (arith, at_end) in
-    let all : rest s ≡ h.octets = h.reads.split ∙ ap (λ n. h.octets ++ take n (drop t.position t.input)) nothing ∙ append-nil h.octets in
+    let all : rest_of s ≡ h.octets = h.reads.split ∙ ap (λ n. h.octets ++ take n (drop t.position t.input)) nothing ∙ append-nil h.octets in
     record {
       out = h.out;
       joined = subst (λ x. Joined tag levels x h.out) (sym all) h.joined;

@@ -10,7 +10,7 @@ use Rattle.der_base.specs.declared.tag.Tag.{Tag}
 use Rattle.der_base.specs.declared.error.Error.{Error}
 use Rattle.der_base.specs.declared.encoding_rules.EncodingRules.TheVariants.{Ber}
 use Rattle.der_base.proofs.HeaderLemmas.{LengthView, view_definite, view_indefinite, length_view, HeaderView, header_view_of, header_view}
-use Rattle.der_core.specs.ReaderState.{ReaderState, rest, advanced_state, nested_state, resumed_state, IsSound, Reads}
+use Rattle.der_core.specs.ReaderState.{ReaderState, rest_of, advanced_state, nested_state, resumed_state, IsSound, Reads}
 use Rattle.der_core.specs.Outcome.{Gives}
 use Rattle.der_core.specs.Header.{head_of}
 use Rattle.der_core.specs.Reader.{enter_nested_outcome}
@@ -45,7 +45,7 @@ levels_deeper s i ber rules depth less =
 data ConstructedHeader (tag : Tag) (h : Header) (s u : ReaderState) : Type 0 where
   definite_header : (id : List ℕ) → IsIdentifier Ber id tag true → is_indefinite (head_of h).length ≡ false → contents_number h < 2 ^ 32 → Reads s u (id ++ length_octets (contents_number h)) → ConstructedHeader tag h s u
   indefinite_header : {parts : ℕ} (id c behind : List ℕ) → IsIdentifier Ber id tag true → is_indefinite (head_of h).length ≡ true → Body 1 parts (c ++ 0 ∷ 0 ∷ []) → length c ≡ contents_number h
-      → Reads s u (id ++ 128 ∷ []) → rest u ≡ c ++ (0 ∷ 0 ∷ behind) → ConstructedHeader tag h s u
+      → Reads s u (id ++ 128 ∷ []) → rest_of u ≡ c ++ (0 ∷ 0 ∷ behind) → ConstructedHeader tag h s u
 
 constructed_header : {tag : Tag} {h : Header} {s u : ReaderState} → PassesSegmentHeader tag h s u → (head_of h).constructed ≡ true → ConstructedHeader tag h s u
 constructed_header {tag} {h} {s} {u} p bit = go (header_view p.passes.passes.ahead)
@@ -56,24 +56,24 @@ constructed_header {tag} {h} {s} {u} p bit = go (header_view p.passes.passes.ahe
     ident : {id : List ℕ} → IsIdentifier s.rules id (head_of h).tag (head_of h).constructed → IsIdentifier Ber id tag true
     ident {id} d = subst (λ b. IsIdentifier Ber id tag b) bit (subst (λ t. IsIdentifier Ber id t (head_of h).constructed) p.passes.tagged (subst (λ r. IsIdentifier r id (head_of h).tag (head_of h).constructed) (under_ber p bit) d))
 
-    on : {k : ℕ} (id more : List ℕ) → IsIdentifier s.rules id (head_of h).tag (head_of h).constructed → rest s ≡ id ++ more → m ≡ length id + k → LengthView (head_of h).length s.rules more k → ConstructedHeader tag h s u
+    on : {k : ℕ} (id more : List ℕ) → IsIdentifier s.rules id (head_of h).tag (head_of h).constructed → rest_of s ≡ id ++ more → m ≡ length id + k → LengthView (head_of h).length s.rules more k → ConstructedHeader tag h s u
     on id more d e c (view_definite n behind small q says z) =
         let count : n ≡ contents_number h = sym (ap (λ x. number (sans_eoc x)) says) in
-        let split : rest s ≡ (id ++ length_octets n) ++ behind = e ∙ ap (λ l. id ++ l) q ∙ sym (append_assoc id (length_octets n) behind) in
+        let split : rest_of s ≡ (id ++ length_octets n) ++ behind = e ∙ ap (λ l. id ++ l) q ∙ sym (append_assoc id (length_octets n) behind) in
         let long : m ≡ length (id ++ length_octets n) = c ∙ ap (λ l. length id + l) z ∙ sym (length-append id (length_octets n)) in
         let reads = reads_there s u (id ++ length_octets n) behind m split p.passes.passes.leaves long in
         definite_header id (ident d) (ap is_indefinite says) (subst (λ k. k < 2 ^ 32) count small) (subst (λ k. Reads s u (id ++ length_octets k)) count reads)
     on id more d e c (view_indefinite {parts = parts} body behind ber bd q says z) =
         let end = body_ends bd in
-        let split : rest s ≡ (id ++ 128 ∷ []) ++ (body ++ behind) = e ∙ ap (λ l. id ++ l) q ∙ sym (append_assoc id (128 ∷ []) (body ++ behind)) in
+        let split : rest_of s ≡ (id ++ 128 ∷ []) ++ (body ++ behind) = e ∙ ap (λ l. id ++ l) q ∙ sym (append_assoc id (128 ∷ []) (body ++ behind)) in
         let long : m ≡ length (id ++ 128 ∷ []) = c ∙ ap (λ l. length id + l) z ∙ sym (length-append id (128 ∷ [])) in
         let reads = reads_there s u (id ++ 128 ∷ []) (body ++ behind) m split p.passes.passes.leaves long in
-        let left : rest u ≡ body ++ behind = ap rest reads.state ∙ rest_after s (id ++ 128 ∷ []) (body ++ behind) split in
+        let left : rest_of u ≡ body ++ behind = ap rest_of reads.state ∙ rest_after s (id ++ 128 ∷ []) (body ++ behind) split in
         let count : contents_number h ≡ length body - 2 = ap (λ x. number (sans_eoc x)) says in
         indefinite_header id end.0 behind (ident d) (ap is_indefinite says) (subst (λ b. Body 1 parts b) end.1 bd) (omega (arith, count, ap length end.1, length-append end.0 (0 ∷ 0 ∷ []))) reads
         (left ∙ ap (λ b. b ++ behind) end.1 ∙ append_assoc end.0 (0 ∷ 0 ∷ []) behind)
 
-    go : HeaderView (head_of h) s.rules (rest s) m → ConstructedHeader tag h s u
+    go : HeaderView (head_of h) s.rules (rest_of s) m → ConstructedHeader tag h s u
     go (header_view_of id more d l ok e c) = on id more d e c (length_view l)
 
 -- a constructed segment that was entered: s before its header, u behind it, i inside the part
@@ -101,23 +101,23 @@ module _ {tag : Tag} {s u i : ReaderState} {h : Header} {l : Length} {end depth 
   part_is : i ≡ nested_state u (contents_number h)
   part_is = e.way.state ∙ ap (λ x. nested_state u (number x)) e.length_is
 
-  part_left : contents_number h ≤ length (rest u)
+  part_left : contents_number h ≤ length (rest_of u)
   part_left = omega (arith, length-rest u e.sound, part_can.0)
 
-  part_contents : rest i ≡ take (contents_number h) (rest u)
-  part_contents = ap rest part_is ∙ rest_inside u (contents_number h) part_can.0
+  part_contents : rest_of i ≡ take (contents_number h) (rest_of u)
+  part_contents = ap rest_of part_is ∙ rest_inside u (contents_number h) part_can.0
 
-  part_count : length (rest i) ≡ contents_number h
-  part_count = ap length part_contents ∙ length-take-le (contents_number h) (rest u) part_left
+  part_count : length (rest_of i) ≡ contents_number h
+  part_count = ap length part_contents ∙ length-take-le (contents_number h) (rest_of u) part_left
 
   -- where it goes back to
   back_is : (q : ReaderState) → resumed_state q end depth ≡ resumed_state q u.end u.depth
   back_is q = ap (λ x. resumed_state q x depth) e.way.outer_end ∙ ap (λ x. resumed_state q u.end x) e.way.outer_depth
 
   -- a part that was read to its end is passed
-  part_passes : (q : ReaderState) → q ≡ advanced_state i (length (rest i)) → resumed_state q end depth ≡ advanced_state u (contents_number h)
+  part_passes : (q : ReaderState) → q ≡ advanced_state i (length (rest_of i)) → resumed_state q end depth ≡ advanced_state u (contents_number h)
   part_passes q leaves =
-      let q_is : q ≡ advanced_state (nested_state u (contents_number h)) (contents_number h) = leaves ∙ ap (λ x. advanced_state x (length (rest i))) part_is ∙ ap (advanced_state (nested_state u (contents_number h))) part_count in
+      let q_is : q ≡ advanced_state (nested_state u (contents_number h)) (contents_number h) = leaves ∙ ap (λ x. advanced_state x (length (rest_of i))) part_is ∙ ap (advanced_state (nested_state u (contents_number h))) part_count in
       back_is q ∙ ap (λ x. resumed_state x u.end u.depth) q_is
 
   part_levels : levels_left s ≡ suc (levels_left i)
@@ -129,10 +129,10 @@ module _ {tag : Tag} {s u i : ReaderState} {h : Header} {l : Length} {end depth 
       levels_deeper s i (under_ber e.header e.bit) rules (omega (arith, deeper, depth_is)) (omega (arith, part_can.1, depth_is))
 
   -- behind the contents of an indefinite length stands the end mark
-  mark_there : is_indefinite l ≡ true → (behind : List ℕ) × (rest (advanced_state u (contents_number h)) ≡ 0 ∷ 0 ∷ behind)
+  mark_there : is_indefinite l ≡ true → (behind : List ℕ) × (rest_of (advanced_state u (contents_number h)) ≡ 0 ∷ 0 ∷ behind)
   mark_there flag = go (constructed_header e.header e.bit)
     where
-      go : ConstructedHeader tag h s u → (behind : List ℕ) × (rest (advanced_state u (contents_number h)) ≡ 0 ∷ 0 ∷ behind)
+      go : ConstructedHeader tag h s u → (behind : List ℕ) × (rest_of (advanced_state u (contents_number h)) ≡ 0 ∷ 0 ∷ behind)
       go (definite_header id d f small reads) = absurd (let no : false ≡ true = sym f ∙ sym (flag_stays (head_of h).length) ∙ ap is_indefinite (sym e.length_is) ∙ flag in cc)
       go (indefinite_header id c behind d f body long reads left) =
           (behind, rest_advanced u (contents_number h) part_left ∙ ap (drop (contents_number h)) left ∙ drop_at c (0 ∷ 0 ∷ behind) (contents_number h) long)
@@ -146,15 +146,15 @@ module _ {tag : Tag} (s u i q t : ReaderState) (h : Header) (l : Length) (end de
       n = contents_number h
 
       contents : List ℕ
-      contents = take n (rest u)
+      contents = take n (rest_of u)
 
       long : length contents ≡ n
-      long = length-take-le n (rest u) (part_left e)
+      long = length-take-le n (rest_of u) (part_left e)
 
       flag : is_indefinite l ≡ is_indefinite (head_of h).length
       flag = ap is_indefinite e.length_is ∙ flag_stays (head_of h).length
 
-      appends : {octets : List ℕ} (c : List ℕ) → IsSegment tag true c octets → Reads s t octets → rest i ≡ c → AppendsSegment tag (levels_left s) s old new t
+      appends : {octets : List ℕ} (c : List ℕ) → IsSegment tag true c octets → Reads s t octets → rest_of i ≡ c → AppendsSegment tag (levels_left s) s old new t
       appends {octets} c form reads is =
           let joined : Joined tag (suc (levels_left i)) octets all.out = joined_segments form (subst (λ x. Joined tag (levels_left i) x all.out) is all.joined) in
           segment_appended form reads (subst (λ x. Joined tag x octets all.out) (sym (part_levels e)) joined) all.appended
@@ -168,13 +168,13 @@ module _ {tag : Tag} (s u i q t : ReaderState) (h : Header) (l : Length) (end de
           appends contents (definite_form id refl d (subst (λ k. k < 2 ^ 32) (sym long) small) refl) (subst (Reads s t) same (reads_on reads next.0)) (part_contents e)
       go (indefinite_header id c after d f body count reads left) (behind_mark m r) =
           let mark = c ++ 0 ∷ 0 ∷ [] in
-          let whole_left : rest u ≡ mark ++ after = left ∙ sym (append_assoc c (0 ∷ 0 ∷ []) after) in
+          let whole_left : rest_of u ≡ mark ++ after = left ∙ sym (append_assoc c (0 ∷ 0 ∷ []) after) in
           let there : t ≡ advanced_state (advanced_state u n) 2 = r.leaves ∙ ap (λ x. advanced_state x 2) (part_passes e q all.leaves) in
           let sum : (u.position + n) + 2 ≡ u.position + length mark = omega (arith, count, length-append c (0 ∷ 0 ∷ [])) in
           let leaves : t ≡ advanced_state u (length mark) = there ∙ ap (λ p. record u { position = p }) sum in
           let next = reads_there u t mark after (length mark) whole_left leaves refl in
           let same : (id ++ 128 ∷ []) ++ mark ≡ id ++ 128 ∷ mark = append_assoc id (128 ∷ []) mark in
-          let is : rest i ≡ c = part_contents e ∙ ap (take n) left ∙ take_at c (0 ∷ 0 ∷ after) n count in
+          let is : rest_of i ≡ c = part_contents e ∙ ap (take n) left ∙ take_at c (0 ∷ 0 ∷ after) n count in
           appends c (indefinite_form id refl d body refl) (subst (Reads s t) same (reads_on reads next)) is
 
   -- a segment whose contents were joined and closed
@@ -194,7 +194,7 @@ module _ {tag : Tag} (s u i q t : ReaderState) (h : Header) (l : Length) (end de
       at_end : (v : T) → answer ≡ Ok v → q.end ≡ q.position
       at_end v a = subst (λ z. OnOk z (q.end ≡ q.position)) a ended
 
-      done : (v : T) → answer ≡ Ok v → q ≡ advanced_state i (length (rest i))
+      done : (v : T) → answer ≡ Ok v → q ≡ advanced_state i (length (rest_of i))
       done v a = (joins_rest (subst (λ z. OnOk z (AppendsJoined tag (levels_left i) i old new q)) a appends) (at_end v a)).leaves
 
       closed : (y : Error) → Closes converts answer q end depth (Err y) t → RefusesSegment tag s y t
@@ -214,4 +214,4 @@ module _ {tag : Tag} (s u i q t : ReaderState) (h : Header) (l : Length) (end de
           let there_is : w ≡ advanced_state u (contents_number h) = k.2 ∙ part_passes e q (done v k.0) in
           let mark = mark_there e m in
           let passes = e.header.passes.passes in
-          absurd (no_eoc_fault w t y mark.0 (ap (λ (x : ReaderState). x.failed) there_is ∙ ap (λ (x : ReaderState). x.failed) passes.leaves ∙ passes.working) (ap rest there_is ∙ mark.1) g)
+          absurd (no_eoc_fault w t y mark.0 (ap (λ (x : ReaderState). x.failed) there_is ∙ ap (λ (x : ReaderState). x.failed) passes.leaves ∙ passes.working) (ap rest_of there_is ∙ mark.1) g)

@@ -12,7 +12,7 @@ use Rattle.der_base.specs.declared.error.Error.{Error}
 use Rattle.der_core.specs.DecodeValue.{StandsIn}
 use Rattle.der_core.specs.Outcome.{map_ok}
 use Rattle.der_core.specs.Reader.{read_slice_outcome}
-use Rattle.der_core.specs.ReaderState.{ReaderState, rest, IsSound}
+use Rattle.der_core.specs.ReaderState.{ReaderState, rest_of, IsSound}
 use Rattle.der_core.proofs.StateLemmas.{length-rest}
 use Rattle.der.specs.Joined.{Joined}
 use Rattle.der.specs.JoinedOctets.{joined_levels}
@@ -40,26 +40,26 @@ not_refused Refuses (Ok v) ok = tt
 not_refused Refuses (Err e) ok = absurd (let no : false ≡ true = ok in cc)
 
 -- octets of contents are all there
-all_there : (s : ReaderState) (n : ℕ) → IsSound s → length (rest s) ≡ n → s.position + n ≤ s.end
+all_there : (s : ReaderState) (n : ℕ) → IsSound s → length (rest_of s) ≡ n → s.position + n ≤ s.end
 all_there s n sound sized = omega (arith, length-rest s sound, sized, sound.ordered)
 
 -- what stands inside contents
 module _ {tag : Tag} {h : Head} (s : ReaderState) (stands : StandsIn s (number h.length)) where
   -- contents that were read are taken
-  pub parts_taken : (out : List ℕ) (t : ReaderState) → IsSound s → ReadsParts tag h s out t → TakesParts tag out s.rules h (rest s)
+  pub parts_taken : (out : List ℕ) (t : ReaderState) → IsSound s → ReadsParts tag h s out t → TakesParts tag out s.rules h (rest_of s)
   parts_taken out t sound (reads_octets bit g) =
-      let table : (read_slice_outcome (number h.length) s).answer ≡ Ok (take (number h.length) (rest s)) =
+      let table : (read_slice_outcome (number h.length) s).answer ≡ Ok (take (number h.length) (rest_of s)) =
       rw stands.working (rw (le-leb (s.position + number h.length) s.end (all_there s (number h.length) sound stands.sized)) refl) in
-      let same : Ok out ≡ Ok (take (number h.length) (rest s)) = g.answered ∙ table in
-      let whole : take (number h.length) (rest s) ≡ rest s = take_all (number h.length) (rest s) (omega (arith, stands.sized)) in
-      as_they_stand bit ((let is : out ≡ take (number h.length) (rest s) = cc in is) ∙ whole)
+      let same : Ok out ≡ Ok (take (number h.length) (rest_of s)) = g.answered ∙ table in
+      let whole : take (number h.length) (rest_of s) ≡ rest_of s = take_all (number h.length) (rest_of s) (omega (arith, stands.sized)) in
+      as_they_stand bit ((let is : out ≡ take (number h.length) (rest_of s) = cc in is) ∙ whole)
   parts_taken out t sound (reads_segments has joins) =
       let left : levels_left s ≡ 64 - s.depth = ap (λ r. levels_at r s.depth) has.ber in
       as_segments has (joined_up joins.joined levels_inside (omega (arith, left, stands.nested)))
 
   -- and contents that are taken are refused nothing but memory
-  pub parts_lacking : (out : List ℕ) (t : ReaderState) (e : Error) → IsSound s → s.depth + joined_levels s.rules ≤ 64 → TakesParts tag out s.rules h (rest s) → RefusesParts tag h s e t
-      → ((x : List ℕ) → HasSegments h s.rules → Joined tag (levels_left s) (rest s) x → (false ≡ true) ⊎ (e ≡ error_of_kind OutOfMemory)) → e ≡ error_of_kind OutOfMemory
+  pub parts_lacking : (out : List ℕ) (t : ReaderState) (e : Error) → IsSound s → s.depth + joined_levels s.rules ≤ 64 → TakesParts tag out s.rules h (rest_of s) → RefusesParts tag h s e t
+      → ((x : List ℕ) → HasSegments h s.rules → Joined tag (levels_left s) (rest_of s) x → (false ≡ true) ⊎ (e ≡ error_of_kind OutOfMemory)) → e ≡ error_of_kind OutOfMemory
   parts_lacking out t e sound few (as_they_stand bit same) r complete = go r
     where
       go : RefusesParts tag h s e t → e ≡ error_of_kind OutOfMemory
@@ -75,8 +75,8 @@ module _ {tag : Tag} {h : Head} (s : ReaderState) (stands : StandsIn s (number h
           let wants : joined_levels s.rules ≡ 63 = ap joined_levels has.ber in
           omega (arith, left, wants, few, stands.nested)
 
-      here : Joined tag (levels_left s) (rest s) out
-      here = subst (λ n. Joined tag n (rest s) out) levels joined
+      here : Joined tag (levels_left s) (rest_of s) out
+      here = subst (λ n. Joined tag n (rest_of s) out) levels joined
 
       go : (false ≡ true) ⊎ (e ≡ error_of_kind OutOfMemory) → e ≡ error_of_kind OutOfMemory
       go (inl ok) = absurd (cc)

@@ -16,12 +16,12 @@ use Rattle.der_base.specs.declared.encoding_rules.EncodingRules.{EncodingRules}
 use Rattle.der_base.specs.declared.encoding_rules.EncodingRules.TheVariants.{Ber, Der}
 use Rattle.der_base.proofs.HeaderLemmas.{HeaderView, header_view_of, header_view, one_header, header_grammar}
 use Rattle.der_base.proofs.ScanLemmas.{body_fault_laws}
-use Rattle.der_core.specs.ReaderState.{ReaderState, rest, advanced_state, nested_state, IsSound}
+use Rattle.der_core.specs.ReaderState.{ReaderState, rest_of, advanced_state, nested_state, IsSound}
 use Rattle.der_core.specs.Outcome.{Gives}
 use Rattle.der_core.specs.Reader.{read_slice_outcome}
 use Rattle.der_core.specs.Nested.{CanNest}
 use Rattle.der_core.specs.Decode.{Passes}
-use Rattle.der_core.specs.Header.{head_of, IsHeaderAhead}
+use Rattle.der_core.specs.Header.{head_of, HeaderAhead}
 use Rattle.der_core.specs.declared.header.Header.{Header}
 use Rattle.der_core.proofs.ContentsLemmas.{rest_advanced, rest_inside}
 use Rattle.der_core.proofs.DecodeLemmas.{not_refused}
@@ -33,7 +33,7 @@ use Rattle.der.proofs.JoinedLemmas.{joined_behind, FirstSegment, first_segment, 
 use Rattle.der.proofs.JoiningLemmas.{levels_same}
 
 -- behind octets that were read a reader is sound, and inside a part
-sound_on : {s u : ReaderState} (m : ℕ) → IsSound s → m ≤ length (rest s) → u ≡ advanced_state s m → IsSound u
+sound_on : {s u : ReaderState} (m : ℕ) → IsSound s → m ≤ length (rest_of s) → u ≡ advanced_state s m → IsSound u
 sound_on {s} {u} m sound there leaves =
     subst IsSound (sym leaves)
     (record { ordered = omega (arith, there, length-rest s sound, sound.ordered); in_input = sound.in_input; addressable = sound.addressable; shallow = sound.shallow; marked = sound.marked })
@@ -44,8 +44,8 @@ sound_inside {u} n sound can = record { ordered = omega arith; in_input = omega 
 -- octets that are there are not refused
 pub slice_there : (n : ℕ) (s t : ReaderState) (e : Error) → s.failed ≡ false → s.position + n ≤ s.end → Gives (read_slice_outcome n) s (Err e) t → ⊥
 slice_there n s t e working there g =
-    let table : (read_slice_outcome n s).answer ≡ Ok (take n (rest s)) = rw working (rw (le-leb (s.position + n) s.end there) refl) in
-    let no : Err e ≡ Ok (take n (rest s)) = g.answered ∙ table in
+    let table : (read_slice_outcome n s).answer ≡ Ok (take n (rest_of s)) = rw working (rw (le-leb (s.position + n) s.end there) refl) in
+    let no : Err e ≡ Ok (take n (rest_of s)) = g.answered ∙ table in
     absurd (cc)
 
 -- a level is left under BER alone
@@ -54,7 +54,7 @@ levels_some Ber depth below e = (refl, omega (arith, e))
 levels_some Der depth below e = absurd (omega (arith, e))
 
 -- primitive contents are as many as the header says
-primitive_number : {h : Header} {s u : ReaderState} → Passes (IsHeaderAhead h) s u → (head_of h).constructed ≡ false → contents_number h ≡ number (head_of h).length
+primitive_number : {h : Header} {s u : ReaderState} → Passes (HeaderAhead h) s u → (head_of h).constructed ≡ false → contents_number h ≡ number (head_of h).length
 primitive_number {h} {s} {u} p primitive = go (header_view p.ahead)
   where
     definite_number : (l : Length) → is_indefinite l ≡ false → number (sans_eoc l) ≡ number l
@@ -64,11 +64,11 @@ primitive_number {h} {s} {u} p primitive = go (header_view p.ahead)
     by_flag true f ok = absurd (let no : false ≡ true = sym primitive ∙ ok f in cc)
     by_flag false f ok = definite_number (head_of h).length f
 
-    go : HeaderView (head_of h) s.rules (rest s) p.octets → contents_number h ≡ number (head_of h).length
+    go : HeaderView (head_of h) s.rules (rest_of s) p.octets → contents_number h ≡ number (head_of h).length
     go (header_view_of id more d l ok e c) = by_flag (is_indefinite (head_of h).length) refl ok
 
 -- a segment that stands ahead, and a header that was read there
-module _ {tag : Tag} {b : Bool} {c : List ℕ} (s u : ReaderState) (h : Header) (sound : IsSound s) (a : SegmentAhead tag b c s.rules (rest s)) (p : Passes (IsHeaderAhead h) s u) where
+module _ {tag : Tag} {b : Bool} {c : List ℕ} (s u : ReaderState) (h : Header) (sound : IsSound s) (a : SegmentAhead tag b c s.rules (rest_of s)) (p : Passes (HeaderAhead h) s u) where
   says_so : head_of h ≡ a.says
   says_so = (one_header p.ahead a.ahead).0
 
@@ -78,8 +78,8 @@ module _ {tag : Tag} {b : Bool} {c : List ℕ} (s u : ReaderState) (h : Header) 
   bit_is : (head_of h).constructed ≡ b
   bit_is = ap (λ (x : Head). x.constructed) says_so ∙ a.bit
 
-  contents_ahead : rest u ≡ c ++ a.after
-  contents_ahead = ap rest p.leaves ∙ rest_advanced s p.octets p.there ∙ ap (λ k. drop k (rest s)) (one_header p.ahead a.ahead).1 ∙ a.split
+  contents_ahead : rest_of u ≡ c ++ a.after
+  contents_ahead = ap rest_of p.leaves ∙ rest_advanced s p.octets p.there ∙ ap (λ k. drop k (rest_of s)) (one_header p.ahead a.ahead).1 ∙ a.split
 
   sized : length c ≡ contents_number h
   sized = a.sized ∙ ap (λ (x : Head). number (sans_eoc x.length)) (sym says_so)
@@ -87,17 +87,17 @@ module _ {tag : Tag} {b : Bool} {c : List ℕ} (s u : ReaderState) (h : Header) 
   contents_there : u.position + contents_number h ≤ u.end
   contents_there = omega (arith, length-rest u header_sound, ap length contents_ahead, length-append c a.after, sized, header_sound.ordered)
 
-  contents_are : take (contents_number h) (rest u) ≡ c
+  contents_are : take (contents_number h) (rest_of u) ≡ c
   contents_are = ap (take (contents_number h)) contents_ahead ∙ take_at c a.after (contents_number h) sized
 
 -- the first segment stands ahead
-first_ahead : {tag : Tag} (s : ReaderState) (f : FirstSegment tag (levels_left s) (rest s)) → (label tag).number < 2 ^ 32 → SegmentAhead tag f.constructed f.contents s.rules (rest s)
+first_ahead : {tag : Tag} (s : ReaderState) (f : FirstSegment tag (levels_left s) (rest_of s)) → (label tag).number < 2 ^ 32 → SegmentAhead tag f.constructed f.contents s.rules (rest_of s)
 first_ahead {tag} s f numbered =
-    segment_ahead tag s.rules f.contents f.behind (rest s) f.form f.split numbered (λ set. let w = f.within set in (levels_some s.rules s.depth w.below w.level).0)
+    segment_ahead tag s.rules f.contents f.behind (rest_of s) f.form f.split numbered (λ set. let w = f.within set in (levels_some s.rules s.depth w.below w.level).0)
 
 mutual
   -- a segment that is there
-  segment_refused : {tag : Tag} {s t : ReaderState} {e : Error} → RefusesSegment tag s e t → IsSound s → s.failed ≡ false → (label tag).number < 2 ^ 32 → FirstSegment tag (levels_left s) (rest s) → e ≡ error_of_kind OutOfMemory
+  segment_refused : {tag : Tag} {s t : ReaderState} {e : Error} → RefusesSegment tag s e t → IsSound s → s.failed ≡ false → (label tag).number < 2 ^ 32 → FirstSegment tag (levels_left s) (rest_of s) → e ≡ error_of_kind OutOfMemory
   segment_refused {s = s} (no_segment (no_header r)) sound working numbered f = absurd (not_refused (header_grammar BodyFault body_fault_laws) r working (first_ahead s f numbered).ahead)
   segment_refused {s = s} {t = t} (no_segment (other_tag h p not told)) sound working numbered f =
       let a = first_ahead s f numbered in absurd (not (ap (λ (x : Head). x.tag) (says_so s t h sound a p) ∙ a.tagged))
@@ -130,19 +130,19 @@ mutual
       let level = levels_some s.rules s.depth w.below w.level in
       let left : levels_left (nested_state u n) ≡ 64 - (u.depth + 1) = ap (λ x. levels_at x (u.depth + 1)) (rules ∙ level.0) in
       let same : w.below ≡ levels_left (nested_state u n) = omega (arith, left, level.1, depth) in
-      let contents : rest (nested_state u n) ≡ f.contents = rest_inside u n can.0 ∙ contents_are s u h sound a passes in
-      let here : Joined tag (levels_left (nested_state u n)) (rest (nested_state u n)) w.out =
-      subst (λ x. Joined tag x (rest (nested_state u n)) w.out) same (subst (λ x. Joined tag w.below x w.out) (sym contents) w.joined) in
+      let contents : rest_of (nested_state u n) ≡ f.contents = rest_inside u n can.0 ∙ contents_are s u h sound a passes in
+      let here : Joined tag (levels_left (nested_state u n)) (rest_of (nested_state u n)) w.out =
+      subst (λ x. Joined tag x (rest_of (nested_state u n)) w.out) same (subst (λ x. Joined tag w.below x w.out) (sym contents) w.joined) in
       segments_refused r (sound_inside n (header_sound s u h sound a passes) can) (ap (λ (x : ReaderState). x.failed) passes.leaves ∙ working) numbered w.out here
 
   -- and segments that are all there
   pub segments_refused : {tag : Tag} {s t : ReaderState} {e : Error} → RefusesSegments tag s e t → IsSound s → s.failed ≡ false → (label tag).number < 2 ^ 32
-      → (out : List ℕ) → Joined tag (levels_left s) (rest s) out → e ≡ error_of_kind OutOfMemory
+      → (out : List ℕ) → Joined tag (levels_left s) (rest_of s) out → e ≡ error_of_kind OutOfMemory
   segments_refused {tag} {s = s} (behind_segments u octets before reads joined less r) sound working numbered out all =
-      let b = joined_behind joined (rest u) (rest s) out reads.split all in
-      let there : length octets ≤ length (rest s) = omega (arith, ap length reads.split, length-append octets (rest u)) in
+      let b = joined_behind joined (rest_of u) (rest_of s) out reads.split all in
+      let there : length octets ≤ length (rest_of s) = omega (arith, ap length reads.split, length-append octets (rest_of u)) in
       let sound_u = sound_on (length octets) sound there reads.state in
       let rules : u.rules ≡ s.rules = ap (λ (x : ReaderState). x.rules) reads.state in
       let depth : u.depth ≡ s.depth = ap (λ (x : ReaderState). x.depth) reads.state in
-      let here : Joined tag (levels_left u) (rest u) b.after = subst (λ n. Joined tag n (rest u) b.after) (sym (levels_same s u rules depth)) b.joined in
+      let here : Joined tag (levels_left u) (rest_of u) b.after = subst (λ n. Joined tag n (rest_of u) b.after) (sym (levels_same s u rules depth)) b.joined in
       segment_refused r sound_u (ap (λ (x : ReaderState). x.failed) reads.state ∙ working) numbered (first_segment here (λ nothing. absurd (omega (arith, less, length-rest u sound_u, ap length nothing))))

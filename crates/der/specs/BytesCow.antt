@@ -9,6 +9,6 @@ abbrev pub cow_octets : BytesCow → List ℕ
 cow_octets (Borrowed b) = reference_octets b
 cow_octets (Owned b) = owned_octets b
 
-abbrev pub IsBorrowed : BytesCow → Type 0
-IsBorrowed (Borrowed b) = Unit {0}
-IsBorrowed (Owned b) = ⊥
+abbrev pub IsBorrowedOctets : BytesCow → Type 0
+IsBorrowedOctets (Borrowed b) = Unit {0}
+IsBorrowedOctets (Owned b) = ⊥

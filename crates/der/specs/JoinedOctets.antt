@@ -10,7 +10,7 @@ use Rattle.der_core.specs.Lawful.{IsLawful}
 use Rattle.der_core.specs.ReaderState.{ReaderState}
 use Rattle.der.specs.BytesOwned.{owned_octets}
 use Rattle.der.specs.Octets.{IsCounted}
-use Rattle.der.specs.Parts.{TakesParts, as_they_stand, as_segments, levels_inside, PartsAnswers}
+use Rattle.der.specs.Parts.{TakesParts, as_they_stand, as_segments, levels_inside, PartsRead}
 use Rattle.der.specs.declared.example.joined_octets.JoinedOctets.{JoinedOctets}
 
 abbrev pub joined_octets : JoinedOctets → List ℕ
@@ -20,8 +20,8 @@ abbrev pub TakesJoined : JoinedOctets → EncodingRules → Head → List ℕ �
 TakesJoined v rules h octets =
     IsCounted (joined_octets v) × TakesParts OctetString (joined_octets v) rules h octets
 
-abbrev pub JoinedAnswers : Head → ReaderState → Result JoinedOctets Error → ReaderState → Type 0
-JoinedAnswers h s result t = PartsAnswers OctetString joined_octets h s result t
+abbrev pub JoinedRead : Head → ReaderState → Result JoinedOctets Error → ReaderState → Type 0
+JoinedRead h s result t = PartsRead OctetString joined_octets h s result t
 
 -- how many levels of nesting the contents want: under DER they have no segments
 abbrev pub joined_levels : EncodingRules → ℕ

@@ -2,7 +2,7 @@
 use Rattle.std.specs.Prelude.{◌≡◌, ◌≢◌, ℕ, ◌+◌, ◌-◌, ◌<◌, ◌≤◌, ◌⊎◌, true, false, List, ◌++◌, length, take, Err}
 use Rattle.der_base.specs.Arithmetic.{sans_eoc}
 use Rattle.der_base.specs.ScanGrammar.{BodyFault}
-use Rattle.der_base.specs.Error.{at, error_of_kind, unexpected_tag}
+use Rattle.der_base.specs.Error.{error_at, error_of_kind, unexpected_tag}
 use Rattle.der_base.specs.Length.{number, is_indefinite, definite_length}
 use Rattle.der_base.specs.HeaderGrammar.{HeaderFault}
 use Rattle.der_base.specs.declared.length.Length.{Length}
@@ -11,12 +11,12 @@ use Rattle.der_base.specs.declared.error.Error.{Error}
 use Rattle.der_base.specs.declared.error.ErrorKind.TheVariants.{IndefiniteLength, Noncanonical, OutOfMemory}
 use Rattle.der_base.specs.declared.encoding_rules.EncodingRules.{EncodingRules}
 use Rattle.der_base.specs.declared.encoding_rules.EncodingRules.TheVariants.{Ber, Der}
-use Rattle.der_core.specs.ReaderState.{ReaderState, rest, reader_position, advanced_state, nested_state, resumed_state, stopped_state, Reads}
+use Rattle.der_core.specs.ReaderState.{ReaderState, rest_of, reader_position, advanced_state, nested_state, resumed_state, stopped_state, Reads}
 use Rattle.der_core.specs.Outcome.{Gives}
 use Rattle.der_core.specs.Reader.{VecRefused, enter_nested_outcome}
 use Rattle.der_core.specs.Nested.{CanNest}
 use Rattle.der_core.specs.Decode.{Passes, IsRefusedBy}
-use Rattle.der_core.specs.Header.{head_of, IsHeaderAhead}
+use Rattle.der_core.specs.Header.{head_of, HeaderAhead}
 use Rattle.der_core.specs.declared.header.Header.{Header}
 use Rattle.der.specs.Joined.{Joined}
 
@@ -38,7 +38,7 @@ MayJoin l rules = (rules ≡ Ber) ⊎ (is_indefinite l ≡ true)
 pub record AppendsOctets (n : ℕ) (s : ReaderState) (old new : List ℕ) (t : ReaderState)
     : Type 0 where
   pub there : s.position + n ≤ s.end
-  pub appended : new ≡ old ++ take n (rest s)
+  pub appended : new ≡ old ++ take n (rest_of s)
   pub leaves : t ≡ advanced_state s n
 
 -- segments are read, and what they are joined to is appended
@@ -54,12 +54,12 @@ pub record AppendsJoined (tag : Tag) (levels : ℕ) (s : ReaderState) (old new :
 pub record JoinsAll (l : Length) (tag : Tag) (s : ReaderState) (out : List ℕ) (t : ReaderState)
     : Type 0 where
   pub may_join : MayJoin l s.rules
-  pub joined : Joined tag (levels_left s) (rest s) out
-  pub leaves : t ≡ advanced_state s (length (rest s))
+  pub joined : Joined tag (levels_left s) (rest_of s) out
+  pub leaves : t ≡ advanced_state s (length (rest_of s))
 
 -- the header of an element with this tag is read
 pub record PassesTagged (tag : Tag) (h : Header) (s u : ReaderState) : Type 0 where
-  pub passes : Passes (IsHeaderAhead h) s u
+  pub passes : Passes (HeaderAhead h) s u
   pub tagged : (head_of h).tag ≡ tag
 
 -- the header of a segment is read, which under DER is primitive
@@ -73,7 +73,7 @@ pub record RefusesConstructed (h : Header) (s : ReaderState) (e : Error) (t : Re
     : Type 0 where
   pub under_der : s.rules ≡ Der
   pub bit : (head_of h).constructed ≡ true
-  pub told : e ≡ at (Noncanonical (head_of h).tag) (definite_length (s.position - 1))
+  pub told : e ≡ error_at (Noncanonical (head_of h).tag) (definite_length (s.position - 1))
   pub leaves : t ≡ s
 
 -- the header of a segment is refused: there is none; it has another tag, and the reader stands
@@ -81,7 +81,7 @@ pub record RefusesConstructed (h : Header) (s : ReaderState) (e : Error) (t : Re
 pub data RefusesSegmentHeader (tag : Tag) (s : ReaderState) (e : Error) (t : ReaderState)
     : Type 0 where
   no_header : IsRefusedBy (HeaderFault BodyFault) s e t → RefusesSegmentHeader tag s e t
-  other_tag : (h : Header) → Passes (IsHeaderAhead h) s t → (head_of h).tag ≢ tag
+  other_tag : (h : Header) → Passes (HeaderAhead h) s t → (head_of h).tag ≢ tag
       → e ≡ unexpected_tag tag (head_of h).tag → RefusesSegmentHeader tag s e t
   constructed_segment : (h : Header) (u : ReaderState) → PassesTagged tag h s u
       → RefusesConstructed h u e t → RefusesSegmentHeader tag s e t
@@ -119,7 +119,7 @@ mutual
 pub data RefusesJoining (l : Length) (tag : Tag) (s : ReaderState) (e : Error) (t : ReaderState)
     : Type 0 where
   definite_form : s.rules ≡ Der → is_indefinite l ≡ false
-      → e ≡ at IndefiniteLength (reader_position s) → t ≡ stopped_state s s.position
+      → e ≡ error_at IndefiniteLength (reader_position s) → t ≡ stopped_state s s.position
       → RefusesJoining l tag s e t
   no_memory : MayJoin l s.rules → e ≡ error_of_kind OutOfMemory → t ≡ s
       → RefusesJoining l tag s e t

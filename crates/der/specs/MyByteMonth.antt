@@ -34,15 +34,15 @@ abbrev pub month_outcome : ReaderState → Outcome ℕ
 month_outcome s = chained_outcome (read_byte_outcome s) month_of
 
 -- what reading answers
-abbrev pub MonthAnswers : Head → ReaderState → Result MyByteMonth Error → ReaderState → Type 0
-MonthAnswers h s result t = Gives month_outcome s (map_ok (λ month. month.number) result) t
+abbrev pub MonthRead : Head → ReaderState → Result MyByteMonth Error → ReaderState → Type 0
+MonthRead h s result t = Gives month_outcome s (map_ok (λ month. month.number) result) t
 
 -- how many octets there are, and what writing answers
 abbrev pub month_size : MyByteMonth → Result Length Error
 month_size month = Ok (definite_length 1)
 
-abbrev pub WritesMonth : MyByteMonth → WriterAnswer
-WritesMonth month s result t = Writes (write_outcome (month_contents month) s) result t
+abbrev pub MonthWritten : MyByteMonth → WriterAnswer
+MonthWritten month s result t = Writes (write_outcome (month_contents month) s) result t
 
 -- it is read as it is written
 pub month_lawful : IsLawful OctetString TakesMonth IsMonth month_contents (λ _. 0)

@@ -5,7 +5,7 @@ use Rattle.std.proofs.Common.{arith}
 use Rattle.std.specs.Str.{is_utf8}
 use Rattle.std.specs.Str.Lossy.{utf8_valid_len, utf8_error_len}
 use Rattle.std.specs.declared.str.Utf8Error.{Utf8Error}
-use Rattle.der_base.specs.Error.{at, error_of_kind, error_at_end, kind_of}
+use Rattle.der_base.specs.Error.{error_at, error_of_kind, error_at_end, kind_of}
 use Rattle.der_base.specs.HeaderGrammar.{Head}
 use Rattle.der_base.specs.Length.{number, definite_length}
 use Rattle.der_base.specs.Tag.{label}
@@ -73,23 +73,23 @@ text_outcome n s =
 
 -- what reading answers: octets that are lent, and octets that are copied; a text that is lent, and
 -- one that is copied, for which memory is refused behind the contents
-abbrev pub LentAnswers : {A : Type 0} → (A → List ℕ)
+abbrev pub LentOctetsRead : {A : Type 0} → (A → List ℕ)
     → Head → ReaderState → Result A Error → ReaderState → Type 0
-LentAnswers octets_of h s result t =
+LentOctetsRead octets_of h s result t =
     Gives (read_slice_outcome (number h.length)) s (map_ok octets_of result) t
 
-abbrev pub OwnedAnswers : {A : Type 0} → (A → List ℕ)
+abbrev pub OwnedOctetsRead : {A : Type 0} → (A → List ℕ)
     → Head → ReaderState → Result A Error → ReaderState → Type 0
-OwnedAnswers octets_of h s result t = VecMeets true (number h.length) s (map_ok octets_of result) t
+OwnedOctetsRead octets_of h s result t = VecMeets true (number h.length) s (map_ok octets_of result) t
 
-abbrev pub LentTextAnswers : {A : Type 0} → (A → List ℕ)
+abbrev pub LentTextRead : {A : Type 0} → (A → List ℕ)
     → Head → ReaderState → Result A Error → ReaderState → Type 0
-LentTextAnswers octets_of h s result t =
+LentTextRead octets_of h s result t =
     Gives (text_outcome (number h.length)) s (map_ok octets_of result) t
 
-abbrev pub OwnedTextAnswers : {A : Type 0} → (A → List ℕ)
+abbrev pub OwnedTextRead : {A : Type 0} → (A → List ℕ)
     → Head → ReaderState → Result A Error → ReaderState → Type 0
-OwnedTextAnswers octets_of h s result t =
+OwnedTextRead octets_of h s result t =
     AnswersOrLacks (text_outcome (number h.length) s).answer (map_ok octets_of result)
     × (t ≡ (text_outcome (number h.length) s).after)
 
@@ -104,7 +104,7 @@ EndsTaken {A} IsKind octets_of reliable h s result t =
 
 -- what is lent by a reader that cannot lend: nothing, and it stays
 abbrev pub unlent_outcome : ReaderState → Outcome (List ℕ)
-unlent_outcome s = outcome_of (Err (at Reader (reader_position s))) s
+unlent_outcome s = outcome_of (Err (error_at Reader (reader_position s))) s
 
 -- a type with such a tag is read as it is written
 pub octets_lawful : {A : Type 0} (tag : Tag) (IsKind : List ℕ → Type 0) (octets_of : A → List ℕ)
@@ -121,5 +121,5 @@ octets_lawful tag IsKind octets_of numbered =
 abbrev pub octets_size : {A : Type 0} → (A → List ℕ) → A → Result Length Error
 octets_size octets_of v = Ok (definite_length (length (octets_of v)))
 
-abbrev pub WritesOctets : {A : Type 0} → (A → List ℕ) → A → WriterAnswer
-WritesOctets octets_of v s result t = Writes (write_outcome (octets_of v) s) result t
+abbrev pub OctetsWritten : {A : Type 0} → (A → List ℕ) → A → WriterAnswer
+OctetsWritten octets_of v s result t = Writes (write_outcome (octets_of v) s) result t

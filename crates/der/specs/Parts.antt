@@ -1,6 +1,6 @@
 -- Contents that stand as they are or in segments.
 use Rattle.std.specs.Prelude.{◌≡◌, ℕ, ◌-◌, true, false, List, Result, Ok, Err}
-use Rattle.der_base.specs.Error.{at}
+use Rattle.der_base.specs.Error.{error_at}
 use Rattle.der_base.specs.HeaderGrammar.{Head}
 use Rattle.der_base.specs.Length.{number, definite_length}
 use Rattle.der_base.specs.declared.tag.Tag.{Tag}
@@ -48,11 +48,11 @@ pub data RefusesParts (tag : Tag) (h : Head) (s : ReaderState) (e : Error) (t : 
   no_segments : HasSegments h s.rules → RefusesJoining h.length tag s e t
       → RefusesParts tag h s e t
   not_in_segments : h.constructed ≡ true → s.rules ≡ Der
-      → e ≡ at (Noncanonical h.tag) (definite_length (s.position - 1)) → t ≡ s
+      → e ≡ error_at (Noncanonical h.tag) (definite_length (s.position - 1)) → t ≡ s
       → RefusesParts tag h s e t
 
 -- both
-abbrev pub PartsAnswers : {A : Type 0} → Tag → (A → List ℕ)
+abbrev pub PartsRead : {A : Type 0} → Tag → (A → List ℕ)
     → Head → ReaderState → Result A Error → ReaderState → Type 0
-PartsAnswers tag octets_of h s (Ok v) t = ReadsParts tag h s (octets_of v) t
-PartsAnswers tag octets_of h s (Err e) t = RefusesParts tag h s e t
+PartsRead tag octets_of h s (Ok v) t = ReadsParts tag h s (octets_of v) t
+PartsRead tag octets_of h s (Err e) t = RefusesParts tag h s e t

@@ -9,6 +9,6 @@ abbrev pub cow_text : StringCow → List ℕ
 cow_text (Borrowed t) = reference_text t
 cow_text (Owned t) = owned_text t
 
-abbrev pub IsBorrowed : StringCow → Type 0
-IsBorrowed (Borrowed t) = Unit {0}
-IsBorrowed (Owned t) = ⊥
+abbrev pub IsBorrowedText : StringCow → Type 0
+IsBorrowedText (Borrowed t) = Unit {0}
+IsBorrowedText (Owned t) = ⊥

@@ -1,13 +1,13 @@
 -- What the octets of a whole element say of the input.
 use Rattle.std.proofs.Common.{◌≡◌, ℕ, ◌+◌, ◌^◌, ◌<◌, ◌≤◌, if◌then◌else◌, Bool, true, Result, Ok, Err, IfOk, IfErr, List, length, take, refl, sym, ap, ◌∙◌, subst, ⊎_elim, arith}
 use Rattle.std.proofs.lemmas.Bool.{lt-ltb, le-ltb, cases_lt, lt-leb, le-leb}
-use Rattle.der.specs.Prelude.{error_of_kind, number, Head, HeaderAhead, Error, EncodingRules, ReaderState, rest, map_ok, read_slice_outcome, head_of}
+use Rattle.der.specs.Prelude.{error_of_kind, number, Head, HeadAhead, Error, EncodingRules, ReaderState, rest_of, map_ok, read_slice_outcome, head_of}
 use Rattle.der.specs.Error.{missing_refusal}
 use Rattle.der.specs.ErrorKinds.{Overflow}
 use Rattle.der.specs.ReaderState.{initial_state, advanced_state}
 use Rattle.der.specs.Outcome.{outcome_of, IsBinding}
 use Rattle.der.specs.Reader.{short_outcome, tlv_outcome}
-use Rattle.der.specs.Decode.{TlvAnswers}
+use Rattle.der.specs.Decode.{TlvAnswer}
 use Rattle.der.proofs.DecodeLemmas.{rest-beginning}
 use Rattle.der_answers.specs.Answer.{IsElement, NoElement}
 use Rattle.der_answers.proofs.HeaderLemmas.{fault_refused}
@@ -21,7 +21,7 @@ module _ (rules : EncodingRules) (octets : List ℕ) where
   abbrev begun : ReaderState
   begun = initial_state rules octets
 
-  left : rest begun ≡ octets
+  left : rest_of begun ≡ octets
   left = rest-beginning rules octets
 
   -- the answer of an element of n octets, and what its two tests choose from
@@ -32,7 +32,7 @@ module _ (rules : EncodingRules) (octets : List ℕ) where
   counted n near = (if near then read_slice_outcome n begun else outcome_of (Err (error_of_kind Overflow)) begun).answer
 
   abbrev lent : ℕ → Bool → Result (List ℕ) Error
-  lent n there = (if there then outcome_of (Ok (take n (rest begun))) (advanced_state begun n) else short_outcome (List ℕ) begun n).answer
+  lent n there = (if there then outcome_of (Ok (take n (rest_of begun))) (advanced_state begun n) else short_outcome (List ℕ) begun n).answer
 
   far_answer : (n : ℕ) → 2 ^ 32 ≤ n → whole_answer n ≡ Err (error_of_kind Overflow)
   far_answer n far = ap (counted n) (le-ltb n (2 ^ 32) far)
@@ -48,7 +48,7 @@ module _ (rules : EncodingRules) (octets : List ℕ) where
       ap (counted n) (lt-ltb n (2 ^ 32) near) ∙ ap (lent n) (lt-leb (0 + n) (length octets) (omega (arith, few)))
       ∙ ap (λ k. Err (missing_refusal k (length octets) 0).error) (from_zero n)
 
-  whole_says : (r : Result (List ℕ) Error) (h : Head) (m : ℕ) → length octets < 2 ^ 32 → HeaderAhead h rules octets m → r ≡ whole_answer (m + number h.length) → ElementSays rules octets r
+  whole_says : (r : Result (List ℕ) Error) (h : Head) (m : ℕ) → length octets < 2 ^ 32 → HeadAhead h rules octets m → r ≡ whole_answer (m + number h.length) → ElementSays rules octets r
   whole_says r h m small ahead is =
       let n = m + number h.length in
       ⊎_elim
@@ -59,21 +59,21 @@ module _ (rules : EncodingRules) (octets : List ℕ) where
       (λ far. subst (ElementSays rules octets) (sym (is ∙ far_answer n far)) (NoElement.past_every_length h m small ahead far))
       (cases_lt n (2 ^ 32))
 
-  begun_says : (r : Result (List ℕ) Error) (t : ReaderState) → length octets < 2 ^ 32 → TlvAnswers begun r t → ElementSays rules octets r
-  begun_says r t small (TlvAnswers.no_header e peeked is same) = subst (ElementSays rules octets) (sym is) (NoElement.no_header (fault_refused rules octets e small (peeked.1.refused refl)))
-  begun_says r t small (TlvAnswers.with_header h m ahead working gives) =
-      whole_says r (head_of h) m small (subst (λ o. HeaderAhead (head_of h) rules o m) left ahead) gives.answered
+  begun_says : (r : Result (List ℕ) Error) (t : ReaderState) → length octets < 2 ^ 32 → TlvAnswer begun r t → ElementSays rules octets r
+  begun_says r t small (TlvAnswer.no_header e peeked is same) = subst (ElementSays rules octets) (sym is) (NoElement.no_header (fault_refused rules octets e small (peeked.1.refused refl)))
+  begun_says r t small (TlvAnswer.with_header h m ahead working gives) =
+      whole_says r (head_of h) m small (subst (λ o. HeadAhead (head_of h) rules o m) left ahead) gives.answered
 
-  element_says : (s t : ReaderState) (r : Result (List ℕ) Error) → length octets < 2 ^ 32 → s ≡ begun → TlvAnswers s r t → ElementSays rules octets r
-  element_says s t r small e h = begun_says r t small (subst (λ x. TlvAnswers x r t) e h)
+  element_says : (s t : ReaderState) (r : Result (List ℕ) Error) → length octets < 2 ^ 32 → s ≡ begun → TlvAnswer s r t → ElementSays rules octets r
+  element_says s t r small e h = begun_says r t small (subst (λ x. TlvAnswer x r t) e h)
 
   -- what a reliable reader lends, or the error that it tells
-  pub lent_says : {B : Type 0} (now : B → List ℕ) (s t : ReaderState) (r : Result B Error) → length octets < 2 ^ 32 → s ≡ begun → (IsBinding true r → TlvAnswers s (map_ok now r) t)
+  pub lent_says : {B : Type 0} (now : B → List ℕ) (s t : ReaderState) (r : Result B Error) → length octets < 2 ^ 32 → s ≡ begun → (IsBinding true r → TlvAnswer s (map_ok now r) t)
       → IfOk r (λ e. IsElement rules octets (now e))
   lent_says now s t (Ok e) small is h = element_says s t (Ok (now e)) small is (h tt)
   lent_says now s t (Err e) small is h = tt
 
-  pub told_says : {B : Type 0} (now : B → List ℕ) (s t : ReaderState) (r : Result B Error) → length octets < 2 ^ 32 → s ≡ begun → (IsBinding true r → TlvAnswers s (map_ok now r) t)
+  pub told_says : {B : Type 0} (now : B → List ℕ) (s t : ReaderState) (r : Result B Error) → length octets < 2 ^ 32 → s ≡ begun → (IsBinding true r → TlvAnswer s (map_ok now r) t)
       → IfErr r (NoElement rules octets)
   told_says now s t (Ok e) small is h = tt
   told_says now s t (Err e) small is h = element_says s t (Err e) small is (h refl)

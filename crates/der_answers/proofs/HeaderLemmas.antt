@@ -2,7 +2,7 @@
 use Rattle.std.proofs.Common.{◌≡◌, ℕ, ◌+◌, ◌-◌, ◌^◌, ◌<◌, true, false, Ok, List, length, take, drop, ap, ◌∙◌, subst, inr, length-drop, arith}
 use Rattle.std.proofs.lemmas.List.{take_all}
 use Rattle.der.specs.ScanGrammar.{BodyFault}
-use Rattle.der.specs.Prelude.{HeaderAhead, Error, EncodingRules, ReaderState, rest, head_of, IsHeaderAhead, Header}
+use Rattle.der.specs.Prelude.{HeadAhead, Error, EncodingRules, ReaderState, rest_of, head_of, HeaderAhead, Header}
 use Rattle.der.specs.HeaderGrammar.{HeaderFault}
 use Rattle.der.specs.ReaderState.{initial_state, advanced_state}
 use Rattle.der.specs.Reader.{remaining_answer}
@@ -16,7 +16,7 @@ module _ (rules : EncodingRules) (octets : List ℕ) where
   fault_refused e small (IsRefusedBy.has_failed h told same) = absurd (let no : false ≡ true = h in cc)
   fault_refused e small (IsRefusedBy.at_fault r working fault told leaves) = inr (r, small, subst (λ o. HeaderFault BodyFault rules 0 o r) (rest-beginning rules octets) fault, told)
 
-  rest-advanced : (m : ℕ) → rest (advanced_state (initial_state rules octets) m) ≡ drop m octets
+  rest-advanced : (m : ℕ) → rest_of (advanced_state (initial_state rules octets) m) ≡ drop m octets
   rest-advanced m =
       let passed : 0 + m ≡ m = omega arith in
       ap (λ k. take (length octets - k) (drop k octets)) passed ∙ take_all (length octets - m) (drop m octets) (omega (arith, length-drop m octets))
@@ -26,12 +26,12 @@ module _ (rules : EncodingRules) (octets : List ℕ) where
     refused_header e refused = fault_refused e small (subst (λ x. IsRefusedBy (HeaderFault BodyFault) x e t) begun refused)
 
     -- the octets behind the header are those that are left
-    pub read_header : (h : Header) (left : List ℕ) → Passes (IsHeaderAhead h) s t → Ok left ≡ remaining_answer t → IsHeaderRead rules octets (head_of h) left
+    pub read_header : (h : Header) (left : List ℕ) → Passes (HeaderAhead h) s t → Ok left ≡ remaining_answer t → IsHeaderRead rules octets (head_of h) left
     read_header h left passes is =
-        let passed : Passes (IsHeaderAhead h) (initial_state rules octets) t = subst (λ x. Passes (IsHeaderAhead h) x t) begun passes in
+        let passed : Passes (HeaderAhead h) (initial_state rules octets) t = subst (λ x. Passes (HeaderAhead h) x t) begun passes in
         record {
           countable = small;
           count = passed.octets;
-          ahead = subst (λ o. HeaderAhead (head_of h) rules o passed.octets) (rest-beginning rules octets) passed.ahead;
-          behind = (remaining_ok t left is).1 ∙ ap rest passed.leaves ∙ rest-advanced passed.octets;
+          ahead = subst (λ o. HeadAhead (head_of h) rules o passed.octets) (rest-beginning rules octets) passed.ahead;
+          behind = (remaining_ok t left is).1 ∙ ap rest_of passed.leaves ∙ rest-advanced passed.octets;
         }

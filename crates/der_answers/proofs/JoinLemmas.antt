@@ -4,13 +4,13 @@ use Rattle.std.proofs.lemmas.Bool.{cases_Bool}
 use Rattle.der.specs.HeaderGrammar.{HeaderFault}
 use Rattle.der.specs.ScanGrammar.{BodyFault}
 use Rattle.der.specs.Text.{error_text}
-use Rattle.der.specs.Prelude.{Error, Ber, Length, Tag, OctetString, head_of, ElementAhead, ElementRead, read_slice_outcome, ReaderState, rest}
+use Rattle.der.specs.Prelude.{Error, Ber, Length, Tag, OctetString, head_of, ElementAhead, ElementRead, read_slice_outcome, ReaderState, rest_of}
 use Rattle.der.specs.Decode.{IsRefusedBy, has_failed, at_fault, Whole, WholeAnswer, too_long, decoded}
-use Rattle.der.specs.Element.{contents_head, no_header, other_tag, in_contents}
+use Rattle.der.specs.Element.{head_sans_eoc, no_header, other_tag, in_contents}
 use Rattle.der.specs.Nested.{Closes, handed_on, left_over, whole, ClosesValue, part_refused, without_mark, with_mark, mark_refused, not_opened, opened}
 use Rattle.der.specs.Outcome.{Outcome}
 use Rattle.der.specs.Reader.{enter_nested_outcome, read_eoc_outcome, end_mark_outcome, finish_answer, VecRefused}
-use Rattle.der.specs.JoinedOctets.{joined_octets, TakesJoined, JoinedAnswers}
+use Rattle.der.specs.JoinedOctets.{joined_octets, TakesJoined, JoinedRead}
 use Rattle.der.specs.Joining as joining
 use Rattle.der.specs.Parts as parts
 use Rattle.der.specs.declared.example.joined_octets.JoinedOctets.{JoinedOctets}
@@ -66,8 +66,8 @@ module _ (s : ReaderState) where
       elim (cases_Bool s.failed) [
         | inl failed ↦ rw failed (_, refl)
         | inr working ↦
-            let table : read_eoc_outcome s ≡ end_mark_outcome s (rest s) = rw working refl in
-            subst (λ (o : Outcome (Unit {0})). Prints o.answer) (sym table) (mark_prints (rest s))
+            let table : read_eoc_outcome s ≡ end_mark_outcome s (rest_of s) = rw working refl in
+            subst (λ (o : Outcome (Unit {0})). Prints o.answer) (sym table) (mark_prints (rest_of s))
       ]
 
   finish_prints : Prints (finish_answer s)
@@ -110,7 +110,7 @@ joining_printed (joining.RefusesJoining.definite_form der form told leaves) = rw
 joining_printed (joining.RefusesJoining.no_memory may told same) = rw told (_, refl)
 joining_printed (joining.RefusesJoining.no_segments may r) = segments_printed r
 
-contents_printed : {s t : ReaderState} {e : Error} {h : _} → JoinedAnswers h s (Err e) t → HasText (error_text e)
+contents_printed : {s t : ReaderState} {e : Error} {h : _} → JoinedRead h s (Err e) t → HasText (error_text e)
 contents_printed (parts.RefusesParts.no_octets bit r) = octets_printed _ r
 contents_printed (parts.RefusesParts.no_segments has r) = joining_printed r
 contents_printed (parts.RefusesParts.not_in_segments bit der told same) = rw told (_, refl)
@@ -128,12 +128,12 @@ module _ {A : Type 0} {answer : Result A Error} {q : ReaderState} {end depth : �
   value_printed inside (with_mark v u closes marked mark told) = absurd (cc)
   value_printed inside (mark_refused v u x f closes marked mark given told) = printed told (rw given (printed mark.answered (eoc_prints u)))
 
-element_printed : {s t : ReaderState} {e : Error} → ElementRead OctetString HandsOn JoinedAnswers s (Err e) t → HasText (error_text e)
+element_printed : {s t : ReaderState} {e : Error} → ElementRead OctetString HandsOn JoinedRead s (Err e) t → HasText (error_text e)
 element_printed (no_header x f decodes given told) = printed told (rw given (header_printed (decodes.refused refl)))
 element_printed (other_tag h f passes other given told) = printed told (rw given (_, refl))
 element_printed (in_contents h u passes tagged (not_opened x f enters given told)) = printed told (rw given (printed enters.answered (enter_prints u _)))
 element_printed (in_contents h u passes tagged (opened p answer q can there ran closes)) =
-    value_printed (λ x is. contents_printed (subst (λ r. JoinedAnswers (contents_head (head_of h)) p r q) is ran)) closes
+    value_printed (λ x is. contents_printed (subst (λ r. JoinedRead (head_sans_eoc (head_of h)) p r q) is ran)) closes
 
 refused_printed : (octets : List ℕ) (e : Error) → NotJoined octets e → HasText (error_text e)
 refused_printed octets e (too_long far told) = rw told (_, refl)
@@ -151,7 +151,7 @@ join_refused octets text e refused tells =
 
 -- what was read is joined
 module _ (octets : List ℕ) where
-  counted : (v : JoinedOctets) → WholeAnswer Ber (ElementRead OctetString HandsOn JoinedAnswers) HandsOn octets (Ok v) → length octets < 2 ^ 32
+  counted : (v : JoinedOctets) → WholeAnswer Ber (ElementRead OctetString HandsOn JoinedRead) HandsOn octets (Ok v) → length octets < 2 ^ 32
   counted v (too_long far none) = absurd none
   counted v (decoded answer t small read follows) = small
 
@@ -172,11 +172,11 @@ module _ (octets : List ℕ) where
         taken = e.taken.1;
       }
 
-  pub read_joined : (r : Result JoinedOctets Error) → IfOk r (λ v. Whole (ElementAhead OctetString TakesJoined v) Ber octets) → WholeAnswer Ber (ElementRead OctetString HandsOn JoinedAnswers) HandsOn octets r
+  pub read_joined : (r : Result JoinedOctets Error) → IfOk r (λ v. Whole (ElementAhead OctetString TakesJoined v) Ber octets) → WholeAnswer Ber (ElementRead OctetString HandsOn JoinedRead) HandsOn octets r
       → IfOk r (λ v. IsJoined octets (joined_octets v))
   read_joined (Err e) ok exact = tt
   read_joined (Ok v) ok exact = record { countable = counted v exact; whole = element_joined v ok }
 
-  pub refused_joined : (r : Result JoinedOctets Error) → WholeAnswer Ber (ElementRead OctetString HandsOn JoinedAnswers) HandsOn octets r → IfErr r (NotJoined octets)
+  pub refused_joined : (r : Result JoinedOctets Error) → WholeAnswer Ber (ElementRead OctetString HandsOn JoinedRead) HandsOn octets r → IfErr r (NotJoined octets)
   refused_joined (Ok v) exact = tt
   refused_joined (Err e) exact = exact

@@ -3,11 +3,11 @@ use Rattle.std.proofs.Common.{◌≡◌, ℕ, ◌+◌, ◌-◌, ◌^◌, ◌<◌
 use Rattle.std.proofs.lemmas.Bool.{lt-ltb, le-leb, cases_lt}
 use Rattle.std.proofs.lemmas.List.{take_all, drop_at}
 use Rattle.der.specs.Arithmetic.{sans_eoc}
-use Rattle.der.specs.Prelude.{error_of_kind, Head, HeaderAhead, header_octets, number, definite_length, Error, Length, Der, element_octets, head_of, IsHeaderAhead, Gives, map_ok, read_slice_outcome, ReaderState, rest, Header}
+use Rattle.der.specs.Prelude.{error_of_kind, Head, HeadAhead, header_octets, number, definite_length, Error, Length, Der, element_octets, head_of, HeaderAhead, Gives, map_ok, read_slice_outcome, ReaderState, rest_of, Header}
 use Rattle.der.specs.Error.{end_refusal}
 use Rattle.der.specs.ErrorKinds.{Overflow}
 use Rattle.der.specs.Decode.{Passes}
-use Rattle.der.specs.Nested.{Closes, handed_on, left_over, whole, ClosesValue, part_refused, without_mark, with_mark, mark_refused, ValueAnswers, not_opened, opened}
+use Rattle.der.specs.Nested.{Closes, handed_on, left_over, whole, ClosesValue, part_refused, without_mark, with_mark, mark_refused, ValueAnswer, not_opened, opened}
 use Rattle.der.specs.Reader.{enter_nested_outcome, finish_answer}
 use Rattle.der.specs.ReaderState.{initial_state, advanced_state, nested_state}
 use Rattle.der.proofs.ContentsLemmas.{closes_ok}
@@ -22,10 +22,10 @@ behind octets n = record (initial_state Der octets) { position = n }
 
 -- what is made of the contents of a length by a closure that lends so many octets
 abbrev Lends : {B : Type 0} → (Error → Error → Type 0) → (B → List ℕ) → Length → ReaderState → Result B Error → ReaderState → Type 0
-Lends converts octets_of l = ValueAnswers converts (λ s r q. Gives (read_slice_outcome (number l)) s (map_ok octets_of r) q) (λ p. p) (λ q. q) l
+Lends converts octets_of l = ValueAnswer converts (λ s r q. Gives (read_slice_outcome (number l)) s (map_ok octets_of r) q) (λ p. p) (λ q. q) l
 
 -- a header stands at the front
-module _ (octets : List ℕ) (h : Head) (m : ℕ) (small : length octets < 2 ^ 32) (ahead : HeaderAhead h Der octets m) where
+module _ (octets : List ℕ) (h : Head) (m : ℕ) (small : length octets < 2 ^ 32) (ahead : HeadAhead h Der octets m) where
   abbrev n : ℕ
   n = number h.length
 
@@ -128,11 +128,11 @@ module _ (octets : List ℕ) (h : Head) (m : ℕ) (small : length octets < 2 ^ 3
 
 -- a reader of the octets passes a header, and its contents
 module _ (octets : List ℕ) (s u t : ReaderState) (h : Header) {B : Type 0} (octets_of : B → List ℕ) {converts : Error → Error → Type 0} (handed : (e f : Error) → converts e f → f ≡ e)
-    (begun : s ≡ initial_state Der octets) (small : length octets < 2 ^ 32) (passed : Passes (IsHeaderAhead h) s u) where
-  ahead_of : HeaderAhead (head_of h) Der octets passed.octets
+    (begun : s ≡ initial_state Der octets) (small : length octets < 2 ^ 32) (passed : Passes (HeaderAhead h) s u) where
+  ahead_of : HeadAhead (head_of h) Der octets passed.octets
   ahead_of =
-      let at_front : HeaderAhead (head_of h) Der (rest (initial_state Der octets)) passed.octets = subst (λ (x : ReaderState). HeaderAhead (head_of h) x.rules (rest x) passed.octets) begun passed.ahead in
-      subst (λ o. HeaderAhead (head_of h) Der o passed.octets) (rest-beginning Der octets) at_front
+      let at_front : HeadAhead (head_of h) Der (rest_of (initial_state Der octets)) passed.octets = subst (λ (x : ReaderState). HeadAhead (head_of h) x.rules (rest_of x) passed.octets) begun passed.ahead in
+      subst (λ o. HeadAhead (head_of h) Der o passed.octets) (rest-beginning Der octets) at_front
 
   stands_behind : u ≡ behind octets passed.octets
   stands_behind =

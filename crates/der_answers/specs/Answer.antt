@@ -3,13 +3,13 @@ use Rattle.std.specs.Prelude.{◌≡◌, ℕ, ◌+◌, ◌-◌, ◌^◌, ◌<◌
 use Rattle.std.specs.Io.KnownBytes.{Appends}
 use Rattle.hex.specs.Hex.{decode_of}
 use Rattle.der.specs.ScanGrammar.{BodyFault}
-use Rattle.der.specs.Prelude.{Head, HeaderAhead, number, definite_length, byte_order, at, error_of_kind, Error, EncodingRules, Ber, Der, OctetString, ElementAhead, ElementRead}
+use Rattle.der.specs.Prelude.{Head, HeadAhead, number, definite_length, byte_order, error_at, error_of_kind, Error, EncodingRules, Ber, Der, OctetString, ElementAhead, ElementRead}
 use Rattle.der.specs.HeaderGrammar.{HeaderFault}
 use Rattle.der.specs.Error.{Refusal, missing_refusal, end_refusal}
 use Rattle.der.specs.Text.{error_text}
 use Rattle.der.specs.ErrorKinds.{Overflow, TrailingData}
 use Rattle.der.specs.Decode.{Whole, WholeAnswer}
-use Rattle.der.specs.JoinedOctets.{JoinedAnswers}
+use Rattle.der.specs.JoinedOctets.{JoinedRead}
 use Rattle.der.specs.Parts.{TakesParts}
 use Rattle.der.specs.declared.example.joined_octets.JoinedOctets.{JoinedOctets}
 use Rattle.der_answers.specs.Command.{IsCommand, words_of}
@@ -24,7 +24,7 @@ pub record IsHeaderRead (rules : EncodingRules) (octets : List ℕ) (h : Head) (
     : Type 0 where
   pub countable : length octets < 2 ^ 32
   pub count : ℕ
-  pub ahead : HeaderAhead h rules octets count
+  pub ahead : HeadAhead h rules octets count
   pub behind : rest ≡ drop count octets
 
 -- the octets are more than a length can count, or begin with no header; the error tells which
@@ -37,7 +37,7 @@ IsRefusedFor rules octets e =
 -- so many octets were read, and others are left behind them, up to an end
 abbrev pub trailing_error : ℕ → ℕ → Error
 trailing_error passed end =
-    at (TrailingData (definite_length passed) (definite_length (end - passed)))
+    error_at (TrailingData (definite_length passed) (definite_length (end - passed)))
     (definite_length passed)
 
 -- as many octets as a length can count begin with this element: a header, and as many octets more
@@ -46,7 +46,7 @@ pub record IsElement (rules : EncodingRules) (octets element : List ℕ) : Type 
   pub countable : length octets < 2 ^ 32
   pub head : Head
   pub count : ℕ
-  pub ahead : HeaderAhead head rules octets count
+  pub ahead : HeadAhead head rules octets count
   pub there : count + number head.length ≤ length octets
   pub whole : element ≡ take (count + number head.length) octets
 
@@ -54,9 +54,9 @@ pub record IsElement (rules : EncodingRules) (octets element : List ℕ) : Type 
 pub data NoElement (rules : EncodingRules) (octets : List ℕ) : Error → Type 0 where
   no_header : {e : Error} → IsRefusedFor rules octets e → NoElement rules octets e
   past_every_length : (h : Head) (count : ℕ) → length octets < 2 ^ 32
-      → HeaderAhead h rules octets count → 2 ^ 32 ≤ count + number h.length
+      → HeadAhead h rules octets count → 2 ^ 32 ≤ count + number h.length
       → NoElement rules octets (error_of_kind Overflow)
-  contents_missing : (h : Head) (count : ℕ) → HeaderAhead h rules octets count
+  contents_missing : (h : Head) (count : ℕ) → HeadAhead h rules octets count
       → count + number h.length < 2 ^ 32 → length octets < count + number h.length
       → NoElement rules octets (missing_refusal (count + number h.length) (length octets) 0).error
 
@@ -66,20 +66,20 @@ pub record IsWholeElement (octets : List ℕ) : Type 0 where
   pub countable : length octets < 2 ^ 32
   pub head : Head
   pub count : ℕ
-  pub ahead : HeaderAhead head Der octets count
+  pub ahead : HeadAhead head Der octets count
   pub whole : count + number head.length ≡ length octets
 
 -- the octets are not wholly one element; the error tells why
 pub data NoWholeElement (octets : List ℕ) : Error → Type 0 where
   no_header : {e : Error} → IsRefusedFor Der octets e → NoWholeElement octets e
   past_every_length : (h : Head) (count : ℕ) → length octets < 2 ^ 32
-      → HeaderAhead h Der octets count → 2 ^ 32 ≤ count + number h.length
+      → HeadAhead h Der octets count → 2 ^ 32 ≤ count + number h.length
       → NoWholeElement octets (error_of_kind Overflow)
-  contents_missing : (h : Head) (count : ℕ) → HeaderAhead h Der octets count
+  contents_missing : (h : Head) (count : ℕ) → HeadAhead h Der octets count
       → count + number h.length < 2 ^ 32 → length octets < count + number h.length
       → NoWholeElement octets (end_refusal (length octets)).error
   left_behind : (h : Head) (count : ℕ) → length octets < 2 ^ 32
-      → HeaderAhead h Der octets count → count + number h.length < length octets
+      → HeadAhead h Der octets count → count + number h.length < length octets
       → NoWholeElement octets (trailing_error (count + number h.length) (length octets))
 
 -- one of the two is not wholly an element, the second where the first is one; the error tells why
@@ -101,7 +101,7 @@ HandsOn given e = e ≡ given
 -- was refused
 abbrev pub NotJoined : List ℕ → Error → Type 0
 NotJoined octets e =
-    WholeAnswer {A = JoinedOctets} Ber (ElementRead OctetString HandsOn JoinedAnswers) HandsOn
+    WholeAnswer {A = JoinedOctets} Ber (ElementRead OctetString HandsOn JoinedRead) HandsOn
     octets (Err e)
 
 -- the lines tell the header that the octets begin with

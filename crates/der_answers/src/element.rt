@@ -4,7 +4,7 @@ ghost use Rattle.std.proofs.Common.{refl};
 ghost use Rattle.der.specs.Prelude.{element_octets, Gives, map_ok, read_slice_outcome, Same, slice_state, number};
 ghost use Rattle.der.specs.BytesRef.{reference_octets};
 ghost use Rattle.der.specs.OctetsOrder.{octets_order};
-ghost use Rattle.der.specs.Octets.{IsCounted, octets_size, WritesOctets};
+ghost use Rattle.der.specs.Octets.{IsCounted, octets_size, OctetsWritten};
 ghost use Rattle.der_answers.specs.Answer.{IsWholeElement, NoWholeElement};
 ghost use Rattle.der_answers.specs.Element.{contents_of};
 
@@ -78,7 +78,7 @@ impl<'a> WrittenValue for Element<'a> {
 impl<'a> EncodeValue for Element<'a> {
     ghost value_size = { octets_size contents_of };
 
-    ghost value_answers = { WritesOctets contents_of };
+    ghost encode_value_answers = { OctetsWritten contents_of };
 
     fn value_len(&self) -> Result<Length, Error> {
         self.octets.value_len()

@@ -14,7 +14,7 @@ use Rattle.der.specs.Decode.{Passes, ReadsOrLacks, SucceedsOrLacks}
 use Rattle.der.specs.Element.{ElementAhead, element_levels}
 use Rattle.der.specs.Encode.{element_octets}
 use Rattle.der.specs.Lawful.{IsLawful}
-use Rattle.der.specs.ReaderState.{ReaderState, rest, advanced_state, initial_state, IsSound, Reads}
+use Rattle.der.specs.ReaderState.{ReaderState, rest_of, advanced_state, initial_state, IsSound, Reads}
 use Rattle.der.proofs.DecodeLemmas.{lacks_only, read_on, rest-beginning}
 use Rattle.der.specs.LawfulLemmas.{elements_are_encodings, passed_encodings}
 use Rattle.der.proofs.StateLemmas.{length-rest, rest_after}
@@ -49,25 +49,25 @@ module _ {A : Type 0} {tag : Tag} {takes : A → EncodingRules → Head → List
   pub item_passed : (v : A) (t : ReaderState) → Passes (ElementAhead tag takes v) s t → valid v × Reads s t (element_octets tag (contents v))
   item_passed v t passed = passed_encodings (elements_are_encodings laws) s t v at.der passed
 
-  module _ (l : IsListOf valid (λ v. element_octets tag (contents v)) (rest s)) (some : rest s ≡ [] → ⊥) where
-    pub first : IsCons valid (λ v. element_octets tag (contents v)) (rest s)
+  module _ (l : IsListOf valid (λ v. element_octets tag (contents v)) (rest_of s)) (some : rest_of s ≡ [] → ⊥) where
+    pub first : IsCons valid (λ v. element_octets tag (contents v)) (rest_of s)
     first = uncons l some
 
     -- the first of a list stands ahead
-    pub item_ahead : ElementAhead tag takes first.first s.rules (rest s) (length (element_octets tag (contents first.first)))
+    pub item_ahead : ElementAhead tag takes first.first s.rules (rest_of s) (length (element_octets tag (contents first.first)))
     item_ahead =
-        subst (λ r. ElementAhead tag takes first.first r (rest s) (length (element_octets tag (contents first.first)))) (sym at.der)
-        ((elements_are_encodings laws).every (rest s) first.first (length (element_octets tag (contents first.first))) (omega (arith, length-rest s sound, sound.in_input, sound.addressable)) (record { is_valid = first.is_valid; behind = first.others; split = first.split; whole = refl }))
+        subst (λ r. ElementAhead tag takes first.first r (rest_of s) (length (element_octets tag (contents first.first)))) (sym at.der)
+        ((elements_are_encodings laws).every (rest_of s) first.first (length (element_octets tag (contents first.first))) (omega (arith, length-rest s sound, sound.in_input, sound.addressable)) (record { is_valid = first.is_valid; behind = first.others; split = first.split; whole = refl }))
 
     pub deep_enough : s.depth + element_levels levels s.rules ≤ 64
     deep_enough = omega (arith, laws.shallow, at.outside, ap levels at.der)
 
-    module _ {E : Type 0} (oom : E → Bool) (takes_memory : Bool) (t : ReaderState) where
+    module _ {E : Type 0} (oom : E → Bool) (allocates : Bool) (t : ReaderState) where
       -- a refusal says that memory was refused
-      pub item_lacks : (e : E) → ((v : A) (m : ℕ) → s.failed ≡ false → ElementAhead tag takes v s.rules (rest s) m → s.depth + element_levels levels s.rules ≤ 64 → ReadsOrLacks {A = A} oom takes_memory s m (Err e) t) → SucceedsOrLacks {A = A} oom takes_memory (Err e)
+      pub item_lacks : (e : E) → ((v : A) (m : ℕ) → s.failed ≡ false → ElementAhead tag takes v s.rules (rest_of s) m → s.depth + element_levels levels s.rules ≤ 64 → ReadsOrLacks {A = A} oom allocates s m (Err e) t) → SucceedsOrLacks {A = A} oom allocates (Err e)
       item_lacks e owed = inr (lacks_only A oom s t _ (owed first.first (length (element_octets tag (contents first.first))) at.working item_ahead deep_enough))
 
-      module _ (a : A) (owed : (v : A) (m : ℕ) → s.failed ≡ false → ElementAhead tag takes v s.rules (rest s) m → s.depth + element_levels levels s.rules ≤ 64 → ReadsOrLacks oom takes_memory s m (Ok a) t) where
+      module _ (a : A) (owed : (v : A) (m : ℕ) → s.failed ≡ false → ElementAhead tag takes v s.rules (rest_of s) m → s.depth + element_levels levels s.rules ≤ 64 → ReadsOrLacks oom allocates s m (Ok a) t) where
         there : t ≡ advanced_state s (length (element_octets tag (contents first.first)))
         there = read_on E oom s (length (element_octets tag (contents first.first))) a (owed first.first (length (element_octets tag (contents first.first))) at.working item_ahead deep_enough)
 
@@ -75,9 +75,9 @@ module _ {A : Type 0} {tag : Tag} {takes : A → EncodingRules → Head → List
         pub item_working : t.failed ≡ false
         item_working = ap (λ (x : ReaderState). x.failed) there ∙ at.working
 
-        pub item_keeps : IsListOf valid (λ v. element_octets tag (contents v)) (rest t)
+        pub item_keeps : IsListOf valid (λ v. element_octets tag (contents v)) (rest_of t)
         item_keeps =
-            let left : rest t ≡ first.others = ap rest there ∙ rest_after s (element_octets tag (contents first.first)) first.others first.split in
+            let left : rest_of t ≡ first.others = ap rest_of there ∙ rest_after s (element_octets tag (contents first.first)) first.others first.split in
             subst (IsListOf valid (λ v. element_octets tag (contents v))) (sym left) first.list
 
 pub slice_sound : (r : SliceReader) → IsSound (slice_state r)
@@ -104,12 +104,12 @@ item_smaller s t tag contents sound r =
 -- the state of a walk over a list: what is left is a list where the whole is, and makes it one
 pub record IsWalking {A : Type 0} (valid : A → Type 0) (encoding : A → List ℕ) (octets : List ℕ) (s : ReaderState) : Type 0 where
   pub at : IsAtItem s
-  pub back : IsListOf valid encoding (rest s) → IsListOf valid encoding octets
-  pub on : IsListOf valid encoding octets → IsListOf valid encoding (rest s)
+  pub back : IsListOf valid encoding (rest_of s) → IsListOf valid encoding octets
+  pub on : IsListOf valid encoding octets → IsListOf valid encoding (rest_of s)
 
 pub begins_walking : {A : Type 0} (valid : A → Type 0) (encoding : A → List ℕ) (octets : List ℕ) (s : ReaderState) → s ≡ initial_state Der octets → IsWalking valid encoding octets s
 begins_walking valid encoding octets s e =
-    let left : rest s ≡ octets = ap rest e ∙ rest-beginning Der octets in
+    let left : rest_of s ≡ octets = ap rest_of e ∙ rest-beginning Der octets in
     record {
       at = record { der = ap (λ (x : ReaderState). x.rules) e; working = ap (λ (x : ReaderState). x.failed) e; outside = ap (λ (x : ReaderState). x.depth) e };
       back = subst (IsListOf valid encoding) left;
@@ -117,7 +117,7 @@ begins_walking valid encoding octets s e =
     }
 
 pub goes_on_walking : {A : Type 0} {valid : A → Type 0} {encoding : A → List ℕ} {octets : List ℕ} {s t : ReaderState} (v : A) → IsWalking valid encoding octets s → valid v → Reads s t (encoding v)
-    → (IsListOf valid encoding (rest s) → IsListOf valid encoding (rest t)) → IsWalking valid encoding octets t
+    → (IsListOf valid encoding (rest_of s) → IsListOf valid encoding (rest_of t)) → IsWalking valid encoding octets t
 goes_on_walking v w is r keeps = record { at = still_at_item w.at r; back = λ l. w.back (cons v is r.split l); on = λ l. keeps (w.on l) }
 
 pub ends_walking : {A : Type 0} {valid : A → Type 0} {encoding : A → List ℕ} {octets : List ℕ} (s : ReaderState) → IsWalking valid encoding octets s → s.end ≡ s.position → IsListOf valid encoding octets
@@ -137,10 +137,10 @@ lacks_merely oom takes e t f =
     (stable_true takes (λ no. not_there t (λ p. no (lacks_takes oom takes e (f p)).0)), stable_true (oom e) (λ no. not_there t (λ p. no (lacks_takes oom takes e (f p)).1)))
 
 -- what is lent of all that is left
-pub lent_all : (n : ℕ) (s t : ReaderState) (octets : List ℕ) → Gives (read_slice_outcome n) s (Ok octets) t → length (rest s) ≡ n → octets ≡ rest s
+pub lent_all : (n : ℕ) (s t : ReaderState) (octets : List ℕ) → Gives (read_slice_outcome n) s (Ok octets) t → length (rest_of s) ≡ n → octets ≡ rest_of s
 lent_all n s t octets g size = go s.failed refl (nat_le (s.position + n) s.end) refl
   where
-    go : (f : Bool) → s.failed ≡ f → (b : Bool) → nat_le (s.position + n) s.end ≡ b → octets ≡ rest s
+    go : (f : Bool) → s.failed ≡ f → (b : Bool) → nat_le (s.position + n) s.end ≡ b → octets ≡ rest_of s
     go true e b h = absurd (let a = rw e at g.answered in cc)
     go false e false h = absurd (let a = rw (e, h) at g.answered in cc)
-    go false e true h = let a : Ok octets ≡ Ok (take n (rest s)) = rw (e, h) at g.answered in let one : octets ≡ take n (rest s) = cc in one ∙ take_all n (rest s) (omega (arith, size))
+    go false e true h = let a : Ok octets ≡ Ok (take n (rest_of s)) = rw (e, h) at g.answered in let one : octets ≡ take n (rest_of s) = cc in one ∙ take_all n (rest_of s) (omega (arith, size))

@@ -4,12 +4,12 @@ use Rattle.der.specs.Arithmetic.{sans_eoc}
 use Rattle.der.specs.ScanGrammar.{BodyFault}
 use Rattle.der.specs.Tag.{label}
 use Rattle.der.specs.Prelude.{Head, Tag, Error, EncodingRules, Der, ElementAhead, head_of}
-use Rattle.der.specs.Prelude.{IsHeaderAhead, ReaderState, Header}
+use Rattle.der.specs.Prelude.{HeaderAhead, ReaderState, Header}
 use Rattle.der.specs.HeaderGrammar.{HeaderFault}
 use Rattle.der.specs.Decode.{Passes, Decodes}
-use Rattle.der.specs.Element.{contents_head}
+use Rattle.der.specs.Element.{head_sans_eoc}
 use Rattle.der.specs.Lawful.{definite_head}
-use Rattle.der.specs.Nested.{ValueAnswers}
+use Rattle.der.specs.Nested.{ValueAnswer}
 
 -- an element of some tag, whose contents are taken as the value, with that tag
 pub record AnyElementAhead {A : Type 0} (takes : A → EncodingRules → Head → List ℕ → Type 0) (v : A)
@@ -21,10 +21,10 @@ pub record AnyElementAhead {A : Type 0} (takes : A → EncodingRules → Head �
 pub data AnyElementRead {T E : Type 0} (converts : Error → E → Type 0)
     (answers : Head → ReaderState → Result T E → ReaderState → Type 0)
     (s : ReaderState) (result : Result T E) (t : ReaderState) : Type 0 where
-  no_header : (e : Error) (f : E) → Decodes IsHeaderAhead (HeaderFault BodyFault) true s (Err e) t
+  no_header : (e : Error) (f : E) → Decodes HeaderAhead (HeaderFault BodyFault) true s (Err e) t
       → converts e f → result ≡ Err f → AnyElementRead converts answers s result t
-  in_contents : (h : Header) (u : ReaderState) → Passes (IsHeaderAhead h) s u
-      → ValueAnswers converts (answers (contents_head (head_of h))) (λ s. s) (λ t. t)
+  in_contents : (h : Header) (u : ReaderState) → Passes (HeaderAhead h) s u
+      → ValueAnswer converts (answers (head_sans_eoc (head_of h))) (λ s. s) (λ t. t)
       (sans_eoc (head_of h).length) u result t
       → AnyElementRead converts answers s result t
 

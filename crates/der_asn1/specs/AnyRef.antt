@@ -19,15 +19,15 @@ pub record TakesAny (v : AnyRef) (rules : EncodingRules) (h : Head) (octets : Li
   pub same : any_contents v ≡ octets
   pub numbered : (label v.tag).number < 2 ^ 32
 
-abbrev pub AnyAnswers : Head → ReaderState → Result AnyRef Error → ReaderState → Type 0
-AnyAnswers h s result t =
+abbrev pub AnyRead : Head → ReaderState → Result AnyRef Error → ReaderState → Type 0
+AnyRead h s result t =
     Gives (read_slice_outcome (number h.length)) s (map_ok any_contents result) t
 
 abbrev pub any_size : AnyRef → Result Length Error
 any_size v = checked_length (length (any_contents v))
 
-abbrev pub WritesAny : AnyRef → WriterAnswer
-WritesAny v s result t = Writes (write_outcome (any_contents v) s) result t
+abbrev pub AnyWritten : AnyRef → WriterAnswer
+AnyWritten v s result t = Writes (write_outcome (any_contents v) s) result t
 
 -- it is read as it is written
 pub any_lawful : IsLawfulChoice (λ v. v.tag) TakesAny IsAny any_contents

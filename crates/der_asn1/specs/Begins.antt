@@ -1,12 +1,12 @@
 -- The tag that stands ahead of an element.
 use Rattle.std.proofs.Common.{◌≡◌, ℕ, List, length, sym, subst}
-use Rattle.der.specs.Prelude.{Head, HeaderAhead, Tag, EncodingRules, ElementAhead}
+use Rattle.der.specs.Prelude.{Head, HeadAhead, Tag, EncodingRules, ElementAhead}
 use Rattle.der.specs.HeaderGrammar.{IdentifierAhead, identifier}
 use Rattle.der_base.proofs.HeaderLemmas.{HeaderView, header_view_of, header_view}
 use Rattle.der_asn1.specs.AnyElement.{AnyElementAhead}
 use Rattle.der_asn1.specs.Follow.{TagIn, this_tag, any_tag}
 
-pub header_begins : {rules : EncodingRules} {octets : List ℕ} {h : Head} {m : ℕ} (tag : Tag) → HeaderAhead h rules octets m → h.tag ≡ tag → TagIn (this_tag tag) rules octets
+pub header_begins : {rules : EncodingRules} {octets : List ℕ} {h : Head} {m : ℕ} (tag : Tag) → HeadAhead h rules octets m → h.tag ≡ tag → TagIn (this_tag tag) rules octets
 header_begins {rules} {octets} {h} {m} tag ahead tagged = go (header_view ahead)
   where
     go : HeaderView h rules octets m → TagIn (this_tag tag) rules octets

@@ -25,16 +25,16 @@ form_of form tag octets s =
 abbrev pub form_outcome : (List ℕ → Bool) → Tag → ℕ → ReaderState → Outcome (List ℕ)
 form_outcome form tag n s = chained_outcome (read_slice_outcome n s) (form_of form tag)
 
-abbrev pub FormAnswers : {A : Type 0} → (List ℕ → Bool) → Tag → (A → List ℕ) → Head → ReaderState
+abbrev pub FormRead : {A : Type 0} → (List ℕ → Bool) → Tag → (A → List ℕ) → Head → ReaderState
     → Result A Error → ReaderState → Type 0
-FormAnswers form tag contents h s result t =
+FormRead form tag contents h s result t =
     Gives (form_outcome form tag (number h.length)) s (map_ok contents result) t
 
-abbrev pub octets_size : List ℕ → Result Length Error
-octets_size octets = checked_length (length octets)
+abbrev pub form_size : List ℕ → Result Length Error
+form_size octets = checked_length (length octets)
 
-abbrev pub WritesOctets : List ℕ → WriterAnswer
-WritesOctets octets s result t = Writes (write_outcome octets s) result t
+abbrev pub FormWritten : List ℕ → WriterAnswer
+FormWritten octets s result t = Writes (write_outcome octets s) result t
 
 -- they are read as they are written
 pub form_lawful : {A : Type 0} (tag : Tag) (form : List ℕ → Bool) (contents : A → List ℕ)

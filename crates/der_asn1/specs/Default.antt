@@ -1,7 +1,7 @@
 -- Fields with a default, which are absent exactly where they have it under DER (X.690 11.5).
 use Rattle.std.specs.Prelude.{◌≡◌, ℕ, ◌⊎◌, Bool, true, false, List, [], Result, Ok, Err}
 use Rattle.std.specs.Prelude.{if◌then◌else◌}
-use Rattle.der.specs.Prelude.{Tag, EncodingRules, Der, Error, at, definite_length, Length}
+use Rattle.der.specs.Prelude.{Tag, EncodingRules, Der, Error, error_at, definite_length, Length}
 use Rattle.der.specs.Prelude.{WriterAnswer, ReaderState, reader_position}
 use Rattle.der.specs.ErrorKinds.{Noncanonical}
 use Rattle.der.specs.HeaderGrammar.{TagAhead}
@@ -31,8 +31,8 @@ abbrev pub DefaultPrecedes : {A : Type 0} → (Tag → Type 0) → (A → Bool) 
 DefaultPrecedes tags is_default MayPrecede v behind =
     (is_default v ≡ true → NoTagIn tags Der behind) × (is_default v ≡ false → MayPrecede v behind)
 
--- what reading a default answers: the default at the end, or where another tag stands ahead; else the
--- value, which may not be the default under DER
+-- what reading a default answers: the default at the end, or where another tag stands ahead; else
+-- the value, which may not be the default under DER
 pub data DefaultRead {A E : Type 0} (tags : Tag → Type 0) (is_default : A → Bool)
     (converts : Error → E → Type 0) (answers : ReaderState → Result A E → ReaderState → Type 0)
     (s : ReaderState) (result : Result A E) (t : ReaderState) : Type 0 where
@@ -49,7 +49,7 @@ pub data DefaultRead {A E : Type 0} (tags : Tag → Type 0) (is_default : A → 
       → DefaultRead tags is_default converts answers s result t
   default_written : (u : Tag) (v : A) (r : ReaderState) (e : E)
       → Peeks TagAhead IdentifierFault true s (Ok u) → tags u → answers s (Ok v) r
-      → r.rules ≡ Der → is_default v ≡ true → converts (at (Noncanonical u) (reader_position r)) e
+      → r.rules ≡ Der → is_default v ≡ true → converts (error_at (Noncanonical u) (reader_position r)) e
       → result ≡ Err e → t ≡ stopped_state r r.position
       → DefaultRead tags is_default converts answers s result t
   default_other : (u : Tag) (v : A) → Peeks TagAhead IdentifierFault true s (Ok u) → tags u

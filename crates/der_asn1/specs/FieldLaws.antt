@@ -3,7 +3,7 @@ use Rattle.std.proofs.Common.{inl, ℕ, ◌^◌, ◌<◌, ◌≤◌, List, ◌++
 use Rattle.der.specs.Prelude.{Head, Tag, EncodingRules, Der, ElementAhead, element_octets}
 use Rattle.der.specs.Prelude.{FieldsAhead, TakesWhole, IsLawful}
 use Rattle.der.specs.Tag.{label}
-use Rattle.der.specs.Element.{contents_head}
+use Rattle.der.specs.Element.{head_sans_eoc}
 use Rattle.der.specs.Lawful.{ReadsEncodings}
 use Rattle.der.specs.LawfulLemmas.{elements_are_encodings}
 use Rattle.der_asn1.specs.Follow.{ReadsFields, Anything, Starts, MayStart, PrecedesBut, no_tags}
@@ -66,7 +66,7 @@ abbrev pub element_laws : {A : Type 0} {tag : Tag} {takes : A → EncodingRules 
     → SomeLaws (ElementAhead tag takes) valid (λ v. element_octets tag (contents v))
 element_laws lawful takes_valid =
     encoding_laws (elements_are_encodings lawful) (lawful_starts lawful)
-    (λ v rules octets m e. takes_valid v rules (contents_head e.says) e.contents e.taken)
+    (λ v rules octets m e. takes_valid v rules (head_sans_eoc e.says) e.contents e.taken)
 
 -- an element of a tag of its own
 abbrev pub choice_laws : {A : Type 0} {tag_of : A → Tag} {takes : A → EncodingRules → Head → List ℕ → Type 0}
@@ -76,7 +76,7 @@ abbrev pub choice_laws : {A : Type 0} {tag_of : A → Tag} {takes : A → Encodi
     → SomeLaws (AnyElementAhead takes) valid (λ v. element_octets (tag_of v) (contents v))
 choice_laws tags lawful among takes_valid =
     encoding_laws (choices_are_encodings lawful) (choices_start lawful tags among)
-    (λ v rules octets m e. takes_valid v rules (contents_head e.element.says) e.element.contents
+    (λ v rules octets m e. takes_valid v rules (head_sans_eoc e.element.says) e.element.contents
     e.element.taken)
 
 pub option_holds : {A : Type 0} (tags : Tag → Type 0) {Ahead : A → EncodingRules → List ℕ → ℕ → Type 0}

@@ -44,9 +44,9 @@ IsList tag valid contents octets_of v =
     ∥ AreElements tag valid contents (octets_of v) ∥₁ × (length (octets_of v) < 2 ^ 32)
 
 -- what is answered is lent
-abbrev pub ListAnswers : {B E : Type 0} → (B → List ℕ) → Head → ReaderState → Result B E
+abbrev pub ListRead : {B E : Type 0} → (B → List ℕ) → Head → ReaderState → Result B E
     → ReaderState → Type 0
-ListAnswers octets_of h s result t =
+ListRead octets_of h s result t =
     IfOk result (λ v. Gives (read_slice_outcome (number h.length)) s (Ok (octets_of v)) t)
 
 -- so the contents of such a value are elements

@@ -41,12 +41,12 @@ impl<'a> ReadValue for AlgorithmIdentifier<'a> {
         ⟦<IdentifierFields<'a> as Encode>⟧.encodable (v.algorithm, v.parameters) };
 
     ghost takes = { λ v. TakesWhole
-        ⟦<IdentifierFields<'a> as Decode<SliceReader<'a>>>⟧.heads
+        ⟦<IdentifierFields<'a> as Decode<SliceReader<'a>>>⟧.stands_ahead
         (v.algorithm, v.parameters) };
 
-    ghost levels = { ⟦<IdentifierFields<'a> as Decode<SliceReader<'a>>>⟧.needs };
+    ghost value_levels = { ⟦<IdentifierFields<'a> as Decode<SliceReader<'a>>>⟧.decode_levels };
 
-    ghost takes_memory = { false };
+    ghost allocates = { false };
 
     ghost takes_valid = { λ v rules h octets taken.
         identifier_holds ⟦<ObjectIdentifierRef<'a> as WrittenValue>⟧.contents
@@ -57,8 +57,8 @@ impl<'a> ReadValue for AlgorithmIdentifier<'a> {
 impl<'a, R: Reader<Lent = &'a [u8]>> DecodeValue<R> for AlgorithmIdentifier<'a> {
     type Error = Error;
 
-    ghost value_answers = { λ h s result t.
-        ⟦<IdentifierFields<'a> as Decode<SliceReader<'a>>>⟧.answers s
+    ghost decode_value_answers = { λ h s result t.
+        ⟦<IdentifierFields<'a> as Decode<SliceReader<'a>>>⟧.decode_answers s
         (map_ok (λ v. (v.algorithm, v.parameters)) result) t };
 
     fn decode_value(alloc: Global, reader: &mut R, header: Header) -> Result<Self, Error> {
@@ -91,8 +91,8 @@ impl<'a> EncodeValue for AlgorithmIdentifier<'a> {
     ghost value_size = { λ v.
         ⟦<IdentifierFields<'a> as Encode>⟧.size (v.algorithm, v.parameters) };
 
-    ghost value_answers = { λ v.
-        ⟦<IdentifierFields<'a> as Encode>⟧.answers (v.algorithm, v.parameters) };
+    ghost encode_value_answers = { λ v.
+        ⟦<IdentifierFields<'a> as Encode>⟧.encode_answers (v.algorithm, v.parameters) };
 
     fn value_len(&self) -> Result<Length, Error> {
         (EncodeRef(&self.algorithm), EncodeRef(&self.parameters)).encoded_len()

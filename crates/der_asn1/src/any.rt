@@ -1,8 +1,8 @@
 //! An element of any tag.
 ghost use Rattle.std.specs.Prelude.{◌≡◌, false};
 ghost use Rattle.der.specs.Prelude.{element_levels};
-ghost use Rattle.der_asn1.specs.AnyRef.{IsAny, TakesAny, AnyAnswers, any_contents, any_size};
-ghost use Rattle.der_asn1.specs.AnyRef.{WritesAny};
+ghost use Rattle.der_asn1.specs.AnyRef.{IsAny, TakesAny, AnyRead, any_contents, any_size};
+ghost use Rattle.der_asn1.specs.AnyRef.{AnyWritten};
 ghost use Rattle.der_asn1.specs.AnyElement.{AnyElementAhead, AnyElementRead};
 
 use crate::element::decode_element;
@@ -35,9 +35,9 @@ impl<'a> ReadValue for AnyRef<'a> {
 
     ghost takes = { TakesAny };
 
-    ghost levels = { λ _. 0 };
+    ghost value_levels = { λ _. 0 };
 
-    ghost takes_memory = { false };
+    ghost allocates = { false };
 
     ghost takes_valid = { λ v rules h octets taken. taken.numbered };
 }
@@ -50,7 +50,7 @@ impl<'a> ReadValue for AnyRef<'a> {
 impl<'a, R: Reader<Lent = &'a [u8]>> DecodeValue<R> for AnyRef<'a> {
     type Error = Error;
 
-    ghost value_answers = { AnyAnswers };
+    ghost decode_value_answers = { AnyRead };
 
     fn decode_value(_alloc: Global, reader: &mut R, header: Header) -> Result<Self, Error> {
         let contents = reader.read_slice(header.length())?;
@@ -71,13 +71,13 @@ impl<'a, R: Reader<Lent = &'a [u8]>> DecodeValue<R> for AnyRef<'a> {
 impl<'a, R: Reader<Lent = &'a [u8]>> Decode<R> for AnyRef<'a> {
     type Error = Error;
 
-    ghost heads = { AnyElementAhead TakesAny };
+    ghost stands_ahead = { AnyElementAhead TakesAny };
 
-    ghost needs = { element_levels (λ _. 0) };
+    ghost decode_levels = { element_levels (λ _. 0) };
 
-    ghost takes_memory = { false };
+    ghost allocates = { false };
 
-    ghost answers = { AnyElementRead (λ e f. f ≡ e) AnyAnswers };
+    ghost decode_answers = { AnyElementRead (λ e f. f ≡ e) AnyRead };
 
     fn decode(alloc: Global, reader: &mut R) -> Result<Self, Error> {
         decode_element::<R, AnyRef<'a>>(alloc, reader)
@@ -97,7 +97,7 @@ impl<'a> WrittenValue for AnyRef<'a> {
 impl<'a> EncodeValue for AnyRef<'a> {
     ghost value_size = { any_size };
 
-    ghost value_answers = { WritesAny };
+    ghost encode_value_answers = { AnyWritten };
 
     fn value_len(&self) -> Result<Length, Error> {
         Length::new_usize(self.contents.len())

@@ -1,8 +1,8 @@
 //! Types whose contents are octets of a form, lent by the input.
 ghost use Rattle.std.specs.Prelude.{◌≡◌, true, false, IfSome, IsSome, ◌↔◌};
 ghost use Rattle.std.proofs.Common.{arith, subst, sym};
-ghost use Rattle.der_asn1.specs.Checked.{HasForm, TakesForm, FormAnswers, octets_size};
-ghost use Rattle.der_asn1.specs.Checked.{WritesOctets, form_lawful};
+ghost use Rattle.der_asn1.specs.Checked.{HasForm, TakesForm, FormRead, form_size};
+ghost use Rattle.der_asn1.specs.Checked.{FormWritten, form_lawful};
 
 use crate::explicit::Nestable;
 use crate::form::Form;
@@ -74,9 +74,9 @@ impl<'a, F: Form> ReadValue for Checked<'a, F> {
 
     ghost takes = { TakesForm F.form (λ v. v.octets.now) };
 
-    ghost levels = { λ _. 0 };
+    ghost value_levels = { λ _. 0 };
 
-    ghost takes_memory = { false };
+    ghost allocates = { false };
 
     ghost takes_valid = { λ v rules h octets taken.
         subst (λ x. F.form x ≡ true) (sym taken.1) taken.0 };
@@ -91,7 +91,7 @@ impl<'a, F: Form> ReadValue for Checked<'a, F> {
 impl<'a, F: Form, R: Reader<Lent = &'a [u8]>> DecodeValue<R> for Checked<'a, F> {
     type Error = Error;
 
-    ghost value_answers = { FormAnswers F.form F.tag_is (λ v. v.octets.now) };
+    ghost decode_value_answers = { FormRead F.form F.tag_is (λ v. v.octets.now) };
 
     fn decode_value(_alloc: Global, reader: &mut R, header: Header) -> Result<Self, Error> {
         let octets = reader.read_slice(header.length())?;
@@ -117,9 +117,9 @@ impl<'a, F: Form> WrittenValue for Checked<'a, F> {
 /// - `Overflow` where there are more than 4294967295 octets.
 /// - The writer's errors, as by [`Writer::write`].
 impl<'a, F: Form> EncodeValue for Checked<'a, F> {
-    ghost value_size = { λ v. octets_size v.octets.now };
+    ghost value_size = { λ v. form_size v.octets.now };
 
-    ghost value_answers = { λ v. WritesOctets v.octets.now };
+    ghost encode_value_answers = { λ v. FormWritten v.octets.now };
 
     fn value_len(&self) -> Result<Length, Error> {
         Length::new_usize(self.octets.len())

@@ -20,7 +20,7 @@ pub trait Choice<R: Reader>: Decode<R> {
 
     // a value begins with such a tag
     ghost begins: { (v : Self) (rules : Rules) (octets : List ℕ) (m : ℕ)
-        → Self.heads v rules octets m → TagIn chooses rules octets };
+        → Self.stands_ahead v rules octets m → TagIn chooses rules octets };
 }
 
 impl<R: Reader, T: DecodeValue<R> + FixedTag> Choice<R> for T {

@@ -29,7 +29,7 @@ pub trait DefaultValue: Sized {
 pub trait HasDefault<R: Reader>: Choice<R> + DefaultValue {
     // of two values that stand in the same place both are the default, or neither
     ghost told: { (v w : Self) (rules : Rules) (octets : List ℕ) (m n : ℕ)
-        → Self.heads v rules octets m → Self.heads w rules octets n
+        → Self.stands_ahead v rules octets m → Self.stands_ahead w rules octets n
         → Self.is_default v ≡ Self.is_default w };
 }
 
@@ -54,14 +54,14 @@ pub struct Defaulted<T>(pub T);
 impl<R: Reader, T: HasDefault<R>> Decode<R> for Defaulted<T> {
     type Error = <T as Decode<R>>::Error;
 
-    ghost heads = { λ v. DefaultAhead T.chooses T.is_default T.heads v.0 };
+    ghost stands_ahead = { λ v. DefaultAhead T.chooses T.is_default T.stands_ahead v.0 };
 
-    ghost needs = { T.needs };
+    ghost decode_levels = { T.decode_levels };
 
-    ghost takes_memory = { T.takes_memory };
+    ghost allocates = { T.allocates };
 
-    ghost answers = { λ s result t. DefaultRead T.chooses T.is_default T.Error.from_gives T.answers
-        s (map_ok (λ v. v.0) result) t };
+    ghost decode_answers = { λ s result t. DefaultRead T.chooses T.is_default T.Error.from_gives
+        T.decode_answers s (map_ok (λ v. v.0) result) t };
 
     fn decode(alloc: Global, reader: &mut R) -> Result<Self, <T as Decode<R>>::Error> {
         if reader.is_finished() {
@@ -91,7 +91,7 @@ impl<T: Encode + DefaultValue> Encode for Defaulted<T> {
 
     ghost size = { λ v. default_size T.is_default T.size v.0 };
 
-    ghost answers = { λ v. DefaultWritten T.is_default T.answers v.0 };
+    ghost encode_answers = { λ v. DefaultWritten T.is_default T.encode_answers v.0 };
 
     fn encoded_len(&self) -> Result<Length, Error> {
         if self.0.has_default() {

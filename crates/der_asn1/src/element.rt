@@ -1,6 +1,6 @@
 //! Elements whose tag their contents decide.
 ghost use Rattle.std.specs.Prelude.{◌≡◌, ℕ, ◌+◌, ◌≤◌, true, false, IfOk};
-ghost use Rattle.der.specs.Prelude.{rest, Same, element_levels, head_of};
+ghost use Rattle.der.specs.Prelude.{rest_of, Same, element_levels, head_of};
 ghost use Rattle.der.specs.Decode.{Passes, ReadsOrLacks};
 ghost use Rattle.der.specs.DecodeValue.{ContentsAhead, EndsOrLacks, TakesContents};
 ghost use Rattle.der_asn1.specs.AnyElement.{AnyElementAhead, AnyElementRead};
@@ -8,9 +8,9 @@ ghost use Rattle.der_asn1.specs.AnyElement.{AnyElementAhead, AnyElementRead};
 use der::{DecodeValue, Header, Reader, decode_header, read_value};
 use std::alloc::Global;
 
-/// Decodes an element of any tag that its type takes: its header, then its contents, and where their
-/// length is indefinite the end mark. It is `decode` of a type that has no fixed tag, as of ANY and
-/// of a CHOICE, whose `takes` says with which tags it takes contents.
+/// Decodes an element of any tag that its type takes: its header, then its contents, and where
+/// their length is indefinite the end mark. It is `decode` of a type that has no fixed tag, as of
+/// ANY and of a CHOICE, whose `takes` says with which tags it takes contents.
 ///
 /// # Errors
 ///
@@ -26,12 +26,12 @@ pub fn decode_element<R: Reader, T: DecodeValue<R>>(
         → Passes (AnyElementAhead T.takes v) (R.state reader.old) (R.state reader.new)) }
     ensures complete { (v : T) (m : ℕ) → R.reliable ≡ true
         → (R.state reader.old).failed ≡ false
-        → AnyElementAhead T.takes v (R.state reader.old).rules (rest (R.state reader.old)) m
-        → (R.state reader.old).depth + element_levels T.levels (R.state reader.old).rules ≤ 64
-        → ReadsOrLacks T.Error.out_of_memory T.takes_memory (R.state reader.old) m result
+        → AnyElementAhead T.takes v (R.state reader.old).rules (rest_of (R.state reader.old)) m
+        → (R.state reader.old).depth + element_levels T.value_levels (R.state reader.old).rules ≤ 64
+        → ReadsOrLacks T.Error.out_of_memory T.allocates (R.state reader.old) m result
         (R.state reader.new) }
     ensures exact { R.reliable ≡ true
-        → AnyElementRead T.Error.from_gives T.value_answers (R.state reader.old) result
+        → AnyElementRead T.Error.from_gives T.decode_value_answers (R.state reader.old) result
         (R.state reader.new) }
 {
     let header = decode_header(reader)?;
@@ -44,9 +44,9 @@ pub fn decode_element<R: Reader, T: DecodeValue<R>>(
                 (R.state reader.new) }
             ensures complete { (v : T) → R.reliable ≡ true
                 → ContentsAhead (T.takes v) (head_of header) (R.state reader.old)
-                → (R.state reader.old).depth + T.levels (R.state reader.old).rules ≤ 64
-                → EndsOrLacks T.Error.out_of_memory T.takes_memory result (R.state reader.new) }
-            ensures exact { R.reliable ≡ true → T.value_answers (head_of header)
+                → (R.state reader.old).depth + T.value_levels (R.state reader.old).rules ≤ 64
+                → EndsOrLacks T.Error.out_of_memory T.allocates result (R.state reader.new) }
+            ensures exact { R.reliable ≡ true → T.decode_value_answers (head_of header)
                 (R.state reader.old) result (R.state reader.new) }
         { T::decode_value(alloc, reader, header) },
     )

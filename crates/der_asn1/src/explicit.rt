@@ -2,7 +2,7 @@
 ghost use Rattle.std.specs.Prelude.{◌≡◌, ◌≤◌, true};
 ghost use Rattle.std.proofs.Common.{arith};
 ghost use Rattle.der.specs.Prelude.{Der, ElementAhead, ElementRead, element_levels, map_ok};
-ghost use Rattle.der.specs.Prelude.{element_octets, element_size, ElementAnswers, TakesWhole};
+ghost use Rattle.der.specs.Prelude.{element_octets, element_size, ElementWritten, TakesWhole};
 ghost use Rattle.der_asn1.specs.ContextSpecific.{context_tag, explicit_lawful, explicit_holds};
 
 use der::{
@@ -14,7 +14,7 @@ use std::alloc::Global;
 /// Types whose elements may stand in another element.
 pub trait Nestable: ReadValue {
     // such a value wants at most 62 levels
-    ghost nestable: { Self.levels Der ≤ 62 };
+    ghost nestable: { Self.value_levels Der ≤ 62 };
 }
 
 /// A value whose element stands in one with the context-specific tag of number `N` (X.690 8.14.2).
@@ -44,9 +44,9 @@ impl<T: ReadValue + FixedTag, const N: u32> ReadValue for Explicit<T, N> {
 
     ghost takes = { λ v. TakesWhole (ElementAhead T.tag_is T.takes) v.0 };
 
-    ghost levels = { element_levels T.levels };
+    ghost value_levels = { element_levels T.value_levels };
 
-    ghost takes_memory = { T.takes_memory };
+    ghost allocates = { T.allocates };
 
     ghost takes_valid = { explicit_holds (λ v. v.0) T.takes_valid };
 }
@@ -57,8 +57,8 @@ impl<T: ReadValue + FixedTag, const N: u32> ReadValue for Explicit<T, N> {
 impl<R: Reader, T: DecodeValue<R> + FixedTag, const N: u32> DecodeValue<R> for Explicit<T, N> {
     type Error = <T as DecodeValue<R>>::Error;
 
-    ghost value_answers = { λ h s result t. ElementRead T.tag_is T.Error.from_gives
-        T.value_answers s (map_ok (λ v. v.0) result) t };
+    ghost decode_value_answers = { λ h s result t. ElementRead T.tag_is T.Error.from_gives
+        T.decode_value_answers s (map_ok (λ v. v.0) result) t };
 
     fn decode_value(
         alloc: Global,
@@ -86,7 +86,8 @@ impl<T: WrittenValue + FixedTag, const N: u32> WrittenValue for Explicit<T, N> {
 impl<T: EncodeValue + FixedTag, const N: u32> EncodeValue for Explicit<T, N> {
     ghost value_size = { λ v. element_size T.tag_is (T.value_size v.0) };
 
-    ghost value_answers = { λ v. ElementAnswers T.tag_is (T.value_size v.0) (T.value_answers v.0) };
+    ghost encode_value_answers = { λ v. ElementWritten T.tag_is (T.value_size v.0)
+        (T.encode_value_answers v.0) };
 
     fn value_len(&self) -> Result<Length, Error> {
         self.0.encoded_len()

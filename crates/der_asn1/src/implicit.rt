@@ -41,9 +41,9 @@ impl<T: ReadValue + FixedTag, const N: u32> ReadValue for Implicit<T, N> {
 
     ghost takes = { TakesImplicit T.tag_is T.takes (λ v. v.0) };
 
-    ghost levels = { T.levels };
+    ghost value_levels = { T.value_levels };
 
-    ghost takes_memory = { T.takes_memory };
+    ghost allocates = { T.allocates };
 
     ghost takes_valid = { λ v rules h octets taken. T.takes_valid v.0 rules (retagged T.tag_is h)
         octets taken };
@@ -55,7 +55,7 @@ impl<T: ReadValue + FixedTag, const N: u32> ReadValue for Implicit<T, N> {
 impl<R: Reader, T: DecodeValue<R> + FixedTag, const N: u32> DecodeValue<R> for Implicit<T, N> {
     type Error = <T as DecodeValue<R>>::Error;
 
-    ghost value_answers = { λ h s result t. T.value_answers (retagged T.tag_is h) s
+    ghost decode_value_answers = { λ h s result t. T.decode_value_answers (retagged T.tag_is h) s
         (map_ok (λ v. v.0) result) t };
 
     fn decode_value(
@@ -84,7 +84,7 @@ impl<T: WrittenValue, const N: u32> WrittenValue for Implicit<T, N> {
 impl<T: EncodeValue, const N: u32> EncodeValue for Implicit<T, N> {
     ghost value_size = { λ v. T.value_size v.0 };
 
-    ghost value_answers = { λ v. T.value_answers v.0 };
+    ghost encode_value_answers = { λ v. T.encode_value_answers v.0 };
 
     fn value_len(&self) -> Result<Length, Error> {
         self.0.value_len()

@@ -18,14 +18,14 @@ pub struct Optional<T>(pub Option<T>);
 impl<R: Reader, T: Choice<R>> Decode<R> for Optional<T> {
     type Error = <T as Decode<R>>::Error;
 
-    ghost heads = { λ v. OptionAhead T.chooses T.heads v.0 };
+    ghost stands_ahead = { λ v. OptionAhead T.chooses T.stands_ahead v.0 };
 
-    ghost needs = { T.needs };
+    ghost decode_levels = { T.decode_levels };
 
-    ghost takes_memory = { T.takes_memory };
+    ghost allocates = { T.allocates };
 
-    ghost answers = { λ s result t. OptionRead T.chooses T.Error.from_gives T.answers s
-        (map_ok (λ v. v.0) result) t };
+    ghost decode_answers = { λ s result t. OptionRead T.chooses T.Error.from_gives
+        T.decode_answers s (map_ok (λ v. v.0) result) t };
 
     fn decode(alloc: Global, reader: &mut R) -> Result<Self, <T as Decode<R>>::Error> {
         if reader.is_finished() {
@@ -52,7 +52,7 @@ impl<T: Encode> Encode for Optional<T> {
 
     ghost size = { λ v. option_size T.size v.0 };
 
-    ghost answers = { λ v. OptionWritten T.answers v.0 };
+    ghost encode_answers = { λ v. OptionWritten T.encode_answers v.0 };
 
     fn encoded_len(&self) -> Result<Length, Error> {
         match &self.0 {

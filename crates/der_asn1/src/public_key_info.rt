@@ -43,12 +43,12 @@ impl<'a> ReadValue for SubjectPublicKeyInfo<'a> {
         ⟦<KeyFields<'a> as Encode>⟧.encodable (v.algorithm, v.subject_public_key) };
 
     ghost takes = { λ v. TakesWhole
-        ⟦<KeyFields<'a> as Decode<SliceReader<'a>>>⟧.heads
+        ⟦<KeyFields<'a> as Decode<SliceReader<'a>>>⟧.stands_ahead
         (v.algorithm, v.subject_public_key) };
 
-    ghost levels = { ⟦<KeyFields<'a> as Decode<SliceReader<'a>>>⟧.needs };
+    ghost value_levels = { ⟦<KeyFields<'a> as Decode<SliceReader<'a>>>⟧.decode_levels };
 
-    ghost takes_memory = { false };
+    ghost allocates = { false };
 
     ghost takes_valid = { λ v rules h octets taken.
         key_holds ⟦<ObjectIdentifierRef<'a> as WrittenValue>⟧.contents
@@ -59,8 +59,8 @@ impl<'a> ReadValue for SubjectPublicKeyInfo<'a> {
 impl<'a, R: Reader<Lent = &'a [u8]>> DecodeValue<R> for SubjectPublicKeyInfo<'a> {
     type Error = Error;
 
-    ghost value_answers = { λ h s result t.
-        ⟦<KeyFields<'a> as Decode<SliceReader<'a>>>⟧.answers s
+    ghost decode_value_answers = { λ h s result t.
+        ⟦<KeyFields<'a> as Decode<SliceReader<'a>>>⟧.decode_answers s
         (map_ok (λ v. (v.algorithm, v.subject_public_key)) result) t };
 
     fn decode_value(alloc: Global, reader: &mut R, header: Header) -> Result<Self, Error> {
@@ -91,8 +91,8 @@ impl<'a> EncodeValue for SubjectPublicKeyInfo<'a> {
     ghost value_size = { λ v.
         ⟦<KeyFields<'a> as Encode>⟧.size (v.algorithm, v.subject_public_key) };
 
-    ghost value_answers = { λ v.
-        ⟦<KeyFields<'a> as Encode>⟧.answers (v.algorithm, v.subject_public_key) };
+    ghost encode_value_answers = { λ v.
+        ⟦<KeyFields<'a> as Encode>⟧.encode_answers (v.algorithm, v.subject_public_key) };
 
     fn value_len(&self) -> Result<Length, Error> {
         (
@@ -129,7 +129,7 @@ pub fn key_from_der<'a>(alloc: Global, octets: &'a [u8]) -> Result<SubjectPublic
         → ⟦<SubjectPublicKeyInfo<'a> as Encode>⟧.encodable v
         → octets.now ≡ ⟦<SubjectPublicKeyInfo<'a> as Encode>⟧.encoding v → IsOk result }
     ensures exact { WholeAnswer Der
-        ⟦<SubjectPublicKeyInfo<'a> as Decode<SliceReader<'a>>>⟧.answers (λ e f. f ≡ e)
+        ⟦<SubjectPublicKeyInfo<'a> as Decode<SliceReader<'a>>>⟧.decode_answers (λ e f. f ≡ e)
         octets.now result }
 {
     lawful_from_der(alloc, octets)

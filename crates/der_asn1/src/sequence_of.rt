@@ -1,10 +1,10 @@
 //! SEQUENCE OF, lent by the input: checked once, and then walked without a failure.
 ghost use Rattle.std.specs.Prelude.{◌≡◌, ◌^◌, ◌<◌, false, [], None, length, IfOk, OnOk, IfSome};
 ghost use Rattle.std.proofs.Common.{arith};
-ghost use Rattle.der.specs.Prelude.{Sequence, element_octets, rest, Reads, slice_state};
+ghost use Rattle.der.specs.Prelude.{Sequence, element_octets, rest_of, Reads, slice_state};
 ghost use Rattle.der.specs.Decode.{SucceedsOrLacks};
-ghost use Rattle.der_asn1.specs.Checked.{octets_size, WritesOctets};
-ghost use Rattle.der_asn1.specs.SequenceOf.{AreElements, IsAtItem, TakesList, IsList, ListAnswers};
+ghost use Rattle.der_asn1.specs.Checked.{form_size, FormWritten};
+ghost use Rattle.der_asn1.specs.SequenceOf.{AreElements, IsAtItem, TakesList, IsList, ListRead};
 ghost use Rattle.der_asn1.specs.SequenceOf.{list_lawful, list_holds};
 
 use crate::explicit::Nestable;
@@ -24,13 +24,13 @@ fn next_item<'a, T: Lawful + DecodeValue<SliceReader<'a>>>(
     ensures ok { IfOk result (λ v. T.valid v
         × Reads (slice_state reader.old) (slice_state reader.new)
         (element_octets T.tag_is (T.contents v))) }
-    ensures complete { AreElements T.tag_is T.valid T.contents (rest (slice_state reader.old))
-        → (rest (slice_state reader.old) ≡ [] → ⊥)
-        → SucceedsOrLacks T.Error.out_of_memory T.takes_memory result }
-    ensures keeps { AreElements T.tag_is T.valid T.contents (rest (slice_state reader.old))
-        → (rest (slice_state reader.old) ≡ [] → ⊥)
+    ensures complete { AreElements T.tag_is T.valid T.contents (rest_of (slice_state reader.old))
+        → (rest_of (slice_state reader.old) ≡ [] → ⊥)
+        → SucceedsOrLacks T.Error.out_of_memory T.allocates result }
+    ensures keeps { AreElements T.tag_is T.valid T.contents (rest_of (slice_state reader.old))
+        → (rest_of (slice_state reader.old) ≡ [] → ⊥)
         → IfOk result (λ _. AreElements T.tag_is T.valid T.contents
-        (rest (slice_state reader.new))) }
+        (rest_of (slice_state reader.new))) }
 {
     let value = decode_tlv::<SliceReader<'a>, T>(alloc, reader)?;
     if reader.is_failed() {
@@ -48,7 +48,7 @@ fn check_items<'a, T: Lawful + DecodeValue<SliceReader<'a>>>(
     ensures short { OnOk result (length octets.now < 2 ^ 32) }
     ensures complete { length octets.now < 2 ^ 32
         → AreElements T.tag_is T.valid T.contents octets.now
-        → SucceedsOrLacks T.Error.out_of_memory T.takes_memory result }
+        → SucceedsOrLacks T.Error.out_of_memory T.allocates result }
 {
     let mut reader = SliceReader::new(octets)?;
     'items: while !reader.is_finished() {
@@ -57,8 +57,8 @@ fn check_items<'a, T: Lawful + DecodeValue<SliceReader<'a>>>(
     Ok(())
 }
 
-/// A SEQUENCE OF, lent by the input: its contents are the encodings of values of the type, one behind
-/// the other, which was seen once.
+/// A SEQUENCE OF, lent by the input: its contents are the encodings of values of the type, one
+/// behind the other, which was seen once.
 #[derive(Drop)]
 pub struct SequenceOf<'a, T: Lawful> {
     octets: &'a [u8],
@@ -84,9 +84,9 @@ impl<'a, T: Lawful> ReadValue for SequenceOf<'a, T> {
 
     ghost takes = { TakesList T.tag_is T.valid T.contents (λ v. v.octets.now) };
 
-    ghost levels = { λ _. 0 };
+    ghost value_levels = { λ _. 0 };
 
-    ghost takes_memory = { T.takes_memory };
+    ghost allocates = { T.allocates };
 
     ghost takes_valid = { list_holds T.tag_is T.valid T.contents (λ v. v.octets.now) };
 }
@@ -101,7 +101,7 @@ impl<'a, T: Lawful + DecodeValue<SliceReader<'a>>, R: Reader<Lent = &'a [u8]>> D
     for SequenceOf<'a, T> {
     type Error = <T as DecodeValue<SliceReader<'a>>>::Error;
 
-    ghost value_answers = { ListAnswers (λ v. v.octets.now) };
+    ghost decode_value_answers = { ListRead (λ v. v.octets.now) };
 
     fn decode_value(
         alloc: Global,
@@ -132,9 +132,9 @@ impl<'a, T: Lawful> WrittenValue for SequenceOf<'a, T> {
 /// - `Overflow` where there are more than 4294967295 octets.
 /// - The writer's errors, as by [`Writer::write`].
 impl<'a, T: Lawful> EncodeValue for SequenceOf<'a, T> {
-    ghost value_size = { λ v. octets_size v.octets.now };
+    ghost value_size = { λ v. form_size v.octets.now };
 
-    ghost value_answers = { λ v. WritesOctets v.octets.now };
+    ghost encode_value_answers = { λ v. FormWritten v.octets.now };
 
     fn value_len(&self) -> Result<Length, Error> {
         Length::new_usize(self.octets.len())
@@ -161,12 +161,12 @@ pub struct Items<'a, T: Lawful> {
     of: PhantomData<T>,
     ghost at: { IsAtItem (slice_state reader) },
     ghost left: { ∥ AreElements T.tag_is T.valid T.contents
-        (rest (slice_state reader)) ∥₁ },
+        (rest_of (slice_state reader)) ∥₁ },
 }
 
 impl<'a, T: Lawful + DecodeValue<SliceReader<'a>>> SequenceOf<'a, T> {
-    /// The SEQUENCE OF with these contents, which are the elements of values of the type, one behind
-    /// the other.
+    /// The SEQUENCE OF with these contents, which are the elements of values of the type, one
+    /// behind the other.
     ///
     /// # Errors
     ///
@@ -180,7 +180,7 @@ impl<'a, T: Lawful + DecodeValue<SliceReader<'a>>> SequenceOf<'a, T> {
             × AreElements T.tag_is T.valid T.contents octets.now) }
         ensures complete { length octets.now < 2 ^ 32
             → AreElements T.tag_is T.valid T.contents octets.now
-            → SucceedsOrLacks T.Error.out_of_memory T.takes_memory result }
+            → SucceedsOrLacks T.Error.out_of_memory T.allocates result }
     {
         check_items::<T>(alloc, octets)?;
         Ok(SequenceOf {
@@ -201,7 +201,7 @@ impl<'a, T: Lawful> SequenceOf<'a, T> {
 
     /// A walk over the elements, at the first.
     pub fn items(&self) -> Items<'a, T>
-        ensures { rest (slice_state result.reader) ≡ self.now.octets.now }
+        ensures { rest_of (slice_state result.reader) ≡ self.now.octets.now }
     {
         match SliceReader::new(self.octets) {
             Ok(reader) => Items {
@@ -219,8 +219,8 @@ impl<'a, T: Lawful + DecodeValue<SliceReader<'a>>> Items<'a, T> {
         ensures some { IfSome result (λ v. T.valid v
             × Reads (slice_state self.old.reader) (slice_state self.new.reader)
             (element_octets T.tag_is (T.contents v))) }
-        ensures none { T.takes_memory ≡ false → result ≡ None
-            → rest (slice_state self.old.reader) ≡ [] }
+        ensures none { T.allocates ≡ false → result ≡ None
+            → rest_of (slice_state self.old.reader) ≡ [] }
     {
         if self.reader.is_finished() {
             return None;

@@ -19,8 +19,8 @@ pub fn lawful_from_der<'a, T: Lawful + DecodeValue<SliceReader<'a>>>(
         × (octets.now ≡ element_octets T.tag_is (T.contents v))) }
     ensures complete { (v : T) → length octets.now < 2 ^ 32 → T.valid v
         → octets.now ≡ element_octets T.tag_is (T.contents v)
-        → SucceedsOrLacks T.Error.out_of_memory T.takes_memory result }
-    ensures exact { WholeAnswer Der (ElementRead T.tag_is T.Error.from_gives T.value_answers)
+        → SucceedsOrLacks T.Error.out_of_memory T.allocates result }
+    ensures exact { WholeAnswer Der (ElementRead T.tag_is T.Error.from_gives T.decode_value_answers)
         T.Error.from_gives octets.now result }
 {
     T::from_der(alloc, octets)

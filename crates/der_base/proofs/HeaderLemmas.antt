@@ -5,7 +5,7 @@ use Rattle.der_base.specs.Length.{is_indefinite, definite_length, indefinite_len
 use Rattle.der_base.specs.Tag.{IsIdentifier, IdentifierFault}
 use Rattle.der_base.specs.Body.{Body}
 use Rattle.der_base.specs.Error.{Refusal, refusal}
-use Rattle.der_base.specs.HeaderGrammar.{header_octets, IdentifierAhead, identifier, TagAhead, LengthAhead, definite, indefinite, Head, head, HeaderAhead, header, LengthFault, HeaderFault, no_identifier, no_length, primitive}
+use Rattle.der_base.specs.HeaderGrammar.{header_octets, IdentifierAhead, identifier, TagAhead, LengthAhead, definite, indefinite, Head, head, HeadAhead, header, LengthFault, HeaderFault, no_identifier, no_length, primitive}
 use Rattle.der_base.specs.Laws.{IsGrammar, IsBodyFault}
 use Rattle.der_base.specs.declared.length.Length.{Length}
 use Rattle.der_base.specs.declared.tag.Tag.{Tag}
@@ -74,14 +74,14 @@ one_length {rules} {s} {t} {l} {k} {m} {n} h g e = go (length_view h) (length_vi
 pub data HeaderView (h : Head) (rules : EncodingRules) (s : List ℕ) (m : ℕ) : Type 0 where
   header_view_of : {k : ℕ} (id more : List ℕ) → IsIdentifier rules id h.tag h.constructed → LengthAhead h.length rules more k → (is_indefinite h.length ≡ true → h.constructed ≡ true) → s ≡ id ++ more → m ≡ length id + k → HeaderView h rules s m
 
-pub header_view : {h : Head} {rules : EncodingRules} {s : List ℕ} {m : ℕ} → HeaderAhead h rules s m → HeaderView h rules s m
+pub header_view : {h : Head} {rules : EncodingRules} {s : List ℕ} {m : ℕ} → HeadAhead h rules s m → HeaderView h rules s m
 header_view (header {id = id} {more = more} d l ok) = header_view_of id more d l ok refl refl
 
 same_head : {t u : Tag} {l k : Length} {b c : Bool} → t ≡ u → l ≡ k → b ≡ c → head t l b ≡ head u k c
 same_head {t} {u} {l} {k} {b} {c} p q r = ap (λ x. head x l b) p ∙ ap (λ x. head u x b) q ∙ ap (head u k) r
 
 -- octets begin with one header at most
-pub one_header : {rules : EncodingRules} {s : List ℕ} {h g : Head} {m n : ℕ} → HeaderAhead h rules s m → HeaderAhead g rules s n → (h ≡ g) × (m ≡ n)
+pub one_header : {rules : EncodingRules} {s : List ℕ} {h g : Head} {m n : ℕ} → HeadAhead h rules s m → HeadAhead g rules s n → (h ≡ g) × (m ≡ n)
 one_header {rules} {s} {h} {g} {m} {n} p q = go (header_view p) (header_view q)
   where
     go : HeaderView h rules s m → HeaderView g rules s n → (h ≡ g) × (m ≡ n)
@@ -108,7 +108,7 @@ module _ (Fault : ℕ → List ℕ → Refusal → Type 0) (laws : IsBodyFault F
       go (view_indefinite body rest ber d q c z) = no_open_fault laws d rest ber f (e ∙ q)
 
   -- octets that begin with a header have no fault
-  pub no_header_fault : {rules : EncodingRules} {at m : ℕ} {s t : List ℕ} {r : Refusal} {h : Head} → HeaderFault Fault rules at s r → HeaderAhead h rules t m → s ≡ t → ⊥
+  pub no_header_fault : {rules : EncodingRules} {at m : ℕ} {s t : List ℕ} {r : Refusal} {h : Head} → HeaderFault Fault rules at s r → HeadAhead h rules t m → s ≡ t → ⊥
   no_header_fault {rules = rules} {m = m} {t = t} {h = h} fault ahead e = go fault (header_view ahead) e
     where
       go : {at : ℕ} {s : List ℕ} {r : Refusal} → HeaderFault Fault rules at s r → HeaderView h rules t m → s ≡ t → ⊥
@@ -151,7 +151,7 @@ module _ (Fault : ℕ → List ℕ → Refusal → Type 0) (laws : IsBodyFault F
         never_both = λ rules at octets v m r h f. no_length_fault f h refl;
       }
 
-  pub header_grammar : IsGrammar HeaderAhead (HeaderFault Fault)
+  pub header_grammar : IsGrammar HeadAhead (HeaderFault Fault)
   header_grammar =
       record {
         one = λ rules octets v w m n h g. one_header h g;
@@ -201,5 +201,5 @@ length_definite_form d (definite n rest h) = refl
 length_definite_form d (indefinite {body = body} rest h) = cc
 
 -- a header ahead is within the octets
-pub header_fits : {h : Head} {rules : EncodingRules} {s : List ℕ} {m : ℕ} → HeaderAhead h rules s m → m ≤ length s
+pub header_fits : {h : Head} {rules : EncodingRules} {s : List ℕ} {m : ℕ} → HeadAhead h rules s m → m ≤ length s
 header_fits (header {id = id} {more = more} d l ok) = omega (arith, length-append id more, length_fits l)

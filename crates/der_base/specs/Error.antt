@@ -17,13 +17,13 @@ position_of e = e.position
 abbrev pub error_of_kind : ErrorKind → Error
 error_of_kind k = record { kind = k; position = None }
 
-abbrev pub at : ErrorKind → Length → Error
-at k p = record { kind = k; position = Some p }
+abbrev pub error_at : ErrorKind → Length → Error
+error_at k p = record { kind = k; position = Some p }
 
 -- the input ends after so many octets, and one more is wanted, which 32 bits may not count
 abbrev pub error_at_end : Length → Error
 error_at_end l =
-    at (if number l == 2 ^ 32 - 1 then Overflow
+    error_at (if number l == 2 ^ 32 - 1 then Overflow
     else Incomplete (definite_length (number l + 1)) l) l
 
 -- another tag was expected
@@ -39,7 +39,7 @@ pub record Refusal : Type 0 where
 
 -- of a kind, at a position
 abbrev pub refusal : ErrorKind → ℕ → Refusal
-refusal k p = record { error = at k (definite_length p); position = p; fails = true }
+refusal k p = record { error = error_at k (definite_length p); position = p; fails = true }
 
 -- an input of so many octets would have to have more; where no length can count those, that is an
 -- overflow without a position, and no reader fails by it
@@ -48,7 +48,7 @@ missing_refusal expected actual p =
     record {
       error =
           if nat_lt expected (2 ^ 32)
-          then at (Incomplete (definite_length expected) (definite_length actual))
+          then error_at (Incomplete (definite_length expected) (definite_length actual))
           (definite_length p)
           else record { kind = Overflow; position = None };
       position = p;

@@ -43,11 +43,11 @@ head t l b = record { tag = t; length = l; constructed = b }
 
 -- the first m octets of a list are a header: an identifier and a length, which is indefinite only
 -- where the identifier is constructed (8.1.3.2)
-pub data HeaderAhead (h : Head) (rules : EncodingRules) : List ℕ → ℕ → Type 0 where
+pub data HeadAhead (h : Head) (rules : EncodingRules) : List ℕ → ℕ → Type 0 where
   header : {id more : List ℕ} {m : ℕ} → IsIdentifier rules id h.tag h.constructed
       → LengthAhead h.length rules more m
       → (is_indefinite h.length ≡ true → h.constructed ≡ true)
-      → HeaderAhead h rules (id ++ more) (length id + m)
+      → HeadAhead h rules (id ++ more) (length id + m)
 
 -- octets at a position begin with no length; a spelling that is not the shortest, or has more than
 -- four octets behind the first, is refused as the wrong kind, the first only after it was read; the

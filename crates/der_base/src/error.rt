@@ -20,11 +20,11 @@ pub struct Error {
 }
 
 impl Error {
-    ghost use Rattle.der_base.specs.Error.{at, kind_of, position_of, error_at_end};
+    ghost use Rattle.der_base.specs.Error.{error_at, kind_of, position_of, error_at_end};
 
     /// An error of this kind at this position.
     pub const fn new(kind: ErrorKind, position: Length) -> Self
-        ensures { result ≡ at kind position }
+        ensures { result ≡ error_at kind position }
     {
         Error {
             kind,
@@ -173,11 +173,11 @@ pub enum ErrorKind {
 }
 
 impl ErrorKind {
-    ghost use Rattle.der_base.specs.Error.{error_of_kind, at};
+    ghost use Rattle.der_base.specs.Error.{error_of_kind, error_at};
 
     /// An error of this kind at this position.
     pub const fn at(self, position: Length) -> Error
-        ensures { result ≡ at self position }
+        ensures { result ≡ error_at self position }
     {
         Error::new(self, position)
     }

@@ -2,7 +2,7 @@
 //! contract is a law, whose statement is a word of `specs/Laws.antt` or
 //! `specs/OrderLaws.antt`. Nothing else uses these.
 ghost use Rattle.der_base.specs.ScanGrammar.{BodyAhead, BodyFault};
-ghost use Rattle.der_base.specs.HeaderGrammar.{IdentifierAhead, TagAhead, LengthAhead, LengthFault, HeaderAhead, HeaderFault};
+ghost use Rattle.der_base.specs.HeaderGrammar.{IdentifierAhead, TagAhead, LengthAhead, LengthFault, HeadAhead, HeaderFault};
 ghost use Rattle.der_base.specs.Order.{byte_order};
 ghost use Rattle.der_base.specs.OrderLaws.{IsByteOrder, FrontsDecide, LengthsStandAsNumbers, HeadersStandByTags, TagsDoNotStandAsNumbers};
 ghost use Rattle.der_base.specs.Laws.{OneTagOfALabel, NoTagBeginsAnother, NoIdentifierBeginsAnother, NoLengthBeginsAnother, NoHeaderBeginsAnother, NoBodyBeginsAnother, BodiesOrFaults, NoBodyOutsideLevels, NoItemOutsideLevels, NoItemsOutsideLevels, NothingOpenOutsideLevels, BodiesAtEachLevel, PartsHaveTwoOctets, ExamplesOfParts, IsGrammar, IsBodyFault};
@@ -46,7 +46,7 @@ fn lengths_are_a_grammar()
 {}
 
 fn headers_are_a_grammar()
-    ensures { IsGrammar HeaderAhead (HeaderFault BodyFault) }
+    ensures { IsGrammar HeadAhead (HeaderFault BodyFault) }
 {}
 
 fn bodies_are_a_grammar()

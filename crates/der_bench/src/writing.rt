@@ -31,7 +31,7 @@ impl WrittenValue for Eight {
 impl EncodeValue for Eight {
     ghost value_size = { λ _. Ok (definite_length 8) };
 
-    ghost value_answers = { λ v s r t. Writes (write_outcome v.octets s) r t };
+    ghost encode_value_answers = { λ v s r t. Writes (write_outcome v.octets s) r t };
 
     fn value_len(&self) -> Result<Length, Error> {
         Ok(Length::new(8))
@@ -80,7 +80,8 @@ pub extern "C" fn der_bench_to_slice(numbers: &[u64]) -> Totals {
     totals
 }
 
-// The last octet, or zero. By a call, for which all octets have to be written, and not this one alone.
+// The last octet, or zero. By a call, for which all octets have to be written, and not this one
+// alone.
 #[inline(never)]
 fn last_of(octets: &[u8]) -> u8 {
     octets.last().copied().unwrap_or(0)

@@ -4,20 +4,20 @@ use Rattle.std.proofs.lemmas.List.{take-append-drop}
 use Rattle.der_base.specs.Length.{number, is_indefinite}
 use Rattle.der_base.specs.declared.length.Length.{Length}
 use Rattle.der_base.specs.declared.error.Error.{Error}
-use Rattle.der_core.specs.ReaderState.{ReaderState, rest, advanced_state, nested_state, resumed_state, Same}
+use Rattle.der_core.specs.ReaderState.{ReaderState, rest_of, advanced_state, nested_state, resumed_state, Same}
 use Rattle.der_core.specs.Outcome.{Gives}
 use Rattle.der_core.specs.Reader.{end_mark_outcome, read_eoc_outcome}
-use Rattle.der_core.specs.Nested.{CanNest, Closes, handed_on, left_over, whole, ClosesValue, part_refused, without_mark, with_mark, mark_refused, ValueAnswers, not_opened, opened}
+use Rattle.der_core.specs.Nested.{CanNest, Closes, handed_on, left_over, whole, ClosesValue, part_refused, without_mark, with_mark, mark_refused, ValueAnswer, not_opened, opened}
 use Rattle.der_core.proofs.StateLemmas.{rest_after}
 
 -- behind octets of what is left stands what is left behind them
-pub rest_advanced : (s : ReaderState) (n : ℕ) → n ≤ length (rest s) → rest (advanced_state s n) ≡ drop n (rest s)
+pub rest_advanced : (s : ReaderState) (n : ℕ) → n ≤ length (rest_of s) → rest_of (advanced_state s n) ≡ drop n (rest_of s)
 rest_advanced s n h =
-    let long = length-take-le n (rest s) h in
-    ap (λ k. rest (advanced_state s k)) (sym long) ∙ rest_after s (take n (rest s)) (drop n (rest s)) (sym (take-append-drop n (rest s)))
+    let long = length-take-le n (rest_of s) h in
+    ap (λ k. rest_of (advanced_state s k)) (sym long) ∙ rest_after s (take n (rest_of s)) (drop n (rest_of s)) (sym (take-append-drop n (rest_of s)))
 
 -- nested_state a part there are the next octets
-pub rest_inside : (s : ReaderState) (n : ℕ) → s.position + n ≤ s.end → rest (nested_state s n) ≡ take n (rest s)
+pub rest_inside : (s : ReaderState) (n : ℕ) → s.position + n ≤ s.end → rest_of (nested_state s n) ≡ take n (rest_of s)
 rest_inside s n h =
     let e : (s.position + n) - s.position ≡ n = omega arith in
     let l : n ≤ s.end - s.position = omega arith in
@@ -46,7 +46,7 @@ eoc_front_of s t (suc o ∷ more) h = absurd (let a = h.answered in cc)
 pub record EndMarkRead (s t : ReaderState) : Type 0 where
   pub working : s.failed ≡ false
   pub behind : List ℕ
-  pub front : rest s ≡ 0 ∷ 0 ∷ behind
+  pub front : rest_of s ≡ 0 ∷ 0 ∷ behind
   pub leaves : t ≡ advanced_state s 2
 
 pub end_mark_read : (s t : ReaderState) → Gives read_eoc_outcome s (Ok tt) t → EndMarkRead s t
@@ -55,8 +55,8 @@ end_mark_read s t h = go s.failed refl
     go : (f : Bool) → s.failed ≡ f → EndMarkRead s t
     go true f = absurd (let a = h.answered in grind arith)
     go false f =
-        let table : read_eoc_outcome s ≡ end_mark_outcome s (rest s) = rw f refl in
-        let r = eoc_front_of s t (rest s) (record { answered = h.answered ∙ ap (λ o. o.answer) table; leaves = h.leaves ∙ ap (λ o. o.after) table }) in
+        let table : read_eoc_outcome s ≡ end_mark_outcome s (rest_of s) = rw f refl in
+        let r = eoc_front_of s t (rest_of s) (record { answered = h.answered ∙ ap (λ o. o.answer) table; leaves = h.leaves ∙ ap (λ o. o.after) table }) in
         record { working = f; behind = r.0; front = r.1; leaves = r.2 }
 
 -- a closure that ran to the end of the contents, and the end mark behind them
@@ -99,7 +99,7 @@ value_closed {T = T} {E = E} {converts = converts} {answer = answer} {q = q} {en
     go (mark_refused w u e f c m g told r) same = absurd (cc)
 
 pub value_ran : {P Q T E : Type 0} {converts : Error → E → Type 0} {post : P → Result T E → Q → Type 0} {before : P → ReaderState} {after : Q → ReaderState} {l : Length} {s t : ReaderState} {v : T}
-    → ValueAnswers converts post before after l s (Ok v) t → Ran post before after l s v t
+    → ValueAnswer converts post before after l s (Ok v) t → Ran post before after l s v t
 value_ran (not_opened e f h c r) = absurd (cc)
 value_ran {post = post} (opened p answer q can there ran closes) =
     let k = value_closed closes in record { part = p; last = q; can = can; there = there; ran = subst (λ a. post p a q) k.answered ran; at_end = k.at_end; behind = k.behind }

@@ -2,27 +2,27 @@
 use Rattle.std.proofs.Common.{◌≡◌, ℕ, ◌+◌, ◌≤◌, ◌^◌, ◌<◌, Bool, true, false, Result, Ok, Err, List, length, take, ◌-◌, refl, sym, ap, ◌∙◌, subst, inl, inr, arith}
 use Rattle.std.proofs.lemmas.List.{take_all}
 use Rattle.std.specs.Result.{is_ok}
-use Rattle.der_base.specs.Error.{at, Refusal}
+use Rattle.der_base.specs.Error.{error_at, Refusal}
 use Rattle.der_base.specs.declared.error.Error.{Error}
 use Rattle.der_base.specs.declared.error.ErrorKind.TheVariants.{Failed}
 use Rattle.der_base.specs.declared.encoding_rules.EncodingRules.{EncodingRules}
-use Rattle.der_core.specs.ReaderState.{ReaderState, rest, reader_position, advanced_state, initial_state, Same}
+use Rattle.der_core.specs.ReaderState.{ReaderState, rest_of, reader_position, advanced_state, initial_state, Same}
 use Rattle.der_core.specs.Reader.{remaining_answer}
 use Rattle.der_core.specs.Decode.{Passes, Decodes, Accepts, IsRefusedBy, has_failed, at_fault, ReadsOrLacks, grammar_levels, PartialAnswer, decoded}
 use Rattle.der_core.specs.Outcome.{IsBinding}
 use Rattle.der_base.specs.Laws.{IsGrammar}
 
-pub remaining_ok : (t : ReaderState) (x : List ℕ) → Ok x ≡ remaining_answer t → (t.failed ≡ false) × (x ≡ rest t)
+pub remaining_ok : (t : ReaderState) (x : List ℕ) → Ok x ≡ remaining_answer t → (t.failed ≡ false) × (x ≡ rest_of t)
 remaining_ok t x h = go t.failed refl h
   where
-    go : (f : Bool) → t.failed ≡ f → Ok x ≡ remaining_answer t → (t.failed ≡ false) × (x ≡ rest t)
+    go : (f : Bool) → t.failed ≡ f → Ok x ≡ remaining_answer t → (t.failed ≡ false) × (x ≡ rest_of t)
     go true e h = absurd (grind arith)
     go false e h = (e, grind arith)
 
-pub remaining_err : (t : ReaderState) (e : Error) → Err e ≡ remaining_answer t → (t.failed ≡ true) × (e ≡ at Failed (reader_position t))
+pub remaining_err : (t : ReaderState) (e : Error) → Err e ≡ remaining_answer t → (t.failed ≡ true) × (e ≡ error_at Failed (reader_position t))
 remaining_err t e h = go t.failed refl h
   where
-    go : (f : Bool) → t.failed ≡ f → Err e ≡ remaining_answer t → (t.failed ≡ true) × (e ≡ at Failed (reader_position t))
+    go : (f : Bool) → t.failed ≡ f → Err e ≡ remaining_answer t → (t.failed ≡ true) × (e ≡ error_at Failed (reader_position t))
     go true f h = (f, grind arith)
     go false f h = absurd (grind arith)
 
@@ -55,45 +55,45 @@ module _ {A : Type 0} {Ahead : A → EncodingRules → List ℕ → ℕ → Type
   decodes_bound reliable (Err e) owed h = decodes_reliably owed h
 
   -- what stands ahead is not refused
-  pub not_refused : IsGrammar Ahead Fault → {s t : ReaderState} {e : Error} {v : A} {m : ℕ} → IsRefusedBy Fault s e t → s.failed ≡ false → Ahead v s.rules (rest s) m → ⊥
+  pub not_refused : IsGrammar Ahead Fault → {s t : ReaderState} {e : Error} {v : A} {m : ℕ} → IsRefusedBy Fault s e t → s.failed ≡ false → Ahead v s.rules (rest_of s) m → ⊥
   not_refused laws (has_failed f told leaves) working ahead = (let no : true ≡ false = sym f ∙ working in cc)
-  not_refused laws {s} {v = v} {m = m} (at_fault r w fault told leaves) working ahead = laws.never_both s.rules s.position (rest s) v m r ahead fault
+  not_refused laws {s} {v = v} {m = m} (at_fault r w fault told leaves) working ahead = laws.never_both s.rules s.position (rest_of s) v m r ahead fault
 
   -- what stands ahead is read
   pub accepts : IsGrammar Ahead Fault → Accepts Ahead Fault
   accepts laws s t (Ok w) v m h working ahead =
-      let one = laws.one s.rules (rest s) w v h.ok.octets m h.ok.ahead ahead in
+      let one = laws.one s.rules (rest_of s) w v h.ok.octets m h.ok.ahead ahead in
       (ap Ok one.0, h.ok.leaves ∙ ap (advanced_state s) one.1)
   accepts laws s t (Err e) v m h working ahead = absurd (not_refused laws (h.refused refl) working ahead)
 
   -- so what was promised is not lost
   pub reads : IsGrammar Ahead Fault → {reliable : Bool} {s t : ReaderState} {answer : Result A Error} (oom : Error → Bool) (takes : Bool) (v : A) (m : ℕ) → Decodes Ahead Fault reliable s answer t → reliable ≡ true → s.failed ≡ false
-      → Ahead v s.rules (rest s) m → s.depth + grammar_levels s.rules ≤ 64 → ReadsOrLacks oom takes s m answer t
-  reads laws {s = s} {t} {answer} oom takes v m h reliable working ahead levels =
+      → Ahead v s.rules (rest_of s) m → s.depth + grammar_levels s.rules ≤ 64 → ReadsOrLacks oom takes s m answer t
+  reads laws {s = s} {t} {answer} oom takes v m h reliable working ahead enough =
       let read = accepts laws s t answer v m (decodes_reliably reliable h) working ahead in
       inl (ap is_ok read.0, read.1)
 
-pub rest-beginning : (rules : EncodingRules) (octets : List ℕ) → rest (initial_state rules octets) ≡ octets
+pub rest-beginning : (rules : EncodingRules) (octets : List ℕ) → rest_of (initial_state rules octets) ≡ octets
 rest-beginning rules octets = let e : length octets - 0 ≡ length octets = omega arith in ap (λ n. take n octets) e ∙ take_all (length octets) octets (omega arith)
 
 -- what is promised of a reader at the beginning
-module _ {A E : Type 0} (rules : EncodingRules) (heads : A → EncodingRules → List ℕ → ℕ → Type 0) (needs : EncodingRules → ℕ) (oom : E → Bool) (takes : Bool) where
-  pub promised : (octets : List ℕ) (s t : ReaderState) (v : A) (m : ℕ) (result : Result A E) → s ≡ initial_state rules octets → heads v rules octets m → needs rules ≤ 64
-      → (s.failed ≡ false → heads v s.rules (rest s) m → s.depth + needs s.rules ≤ 64 → ReadsOrLacks oom takes s m result t) → ReadsOrLacks oom takes s m result t
-  promised octets s t v m result e ahead levels complete =
+module _ {A E : Type 0} (rules : EncodingRules) (Ahead : A → EncodingRules → List ℕ → ℕ → Type 0) (levels : EncodingRules → ℕ) (oom : E → Bool) (takes : Bool) where
+  pub promised : (octets : List ℕ) (s t : ReaderState) (v : A) (m : ℕ) (result : Result A E) → s ≡ initial_state rules octets → Ahead v rules octets m → levels rules ≤ 64
+      → (s.failed ≡ false → Ahead v s.rules (rest_of s) m → s.depth + levels s.rules ≤ 64 → ReadsOrLacks oom takes s m result t) → ReadsOrLacks oom takes s m result t
+  promised octets s t v m result e ahead enough complete =
       let working : s.failed ≡ false = ap (λ (x : ReaderState). x.failed) e in
       let same_rules : s.rules ≡ rules = ap (λ (x : ReaderState). x.rules) e in
       let depth : s.depth ≡ 0 = ap (λ (x : ReaderState). x.depth) e in
-      let left : rest s ≡ octets = ap rest e ∙ rest-beginning rules octets in
-      let there : heads v s.rules (rest s) m = subst (λ r. heads v r (rest s) m) (sym same_rules) (subst (λ l. heads v rules l m) (sym left) ahead) in
-      let few : s.depth + needs s.rules ≤ 64 = omega (arith, depth, ap needs same_rules) in
+      let left : rest_of s ≡ octets = ap rest_of e ∙ rest-beginning rules octets in
+      let there : Ahead v s.rules (rest_of s) m = subst (λ r. Ahead v r (rest_of s) m) (sym same_rules) (subst (λ l. Ahead v rules l m) (sym left) ahead) in
+      let few : s.depth + levels s.rules ≤ 64 = omega (arith, depth, ap levels same_rules) in
       complete working there few
 
   -- a value that was promised is not lost behind it
-  pub not_lost : (octets : List ℕ) (s t : ReaderState) (v w : A) (m : ℕ) (e : Error) → s ≡ initial_state rules octets → heads v rules octets m → needs rules ≤ 64
-      → (s.failed ≡ false → heads v s.rules (rest s) m → s.depth + needs s.rules ≤ 64 → ReadsOrLacks oom takes s m (Ok w) t) → Err e ≡ remaining_answer t → ⊥
-  not_lost octets s t v w m e begun ahead levels complete lost =
-      let there : t ≡ advanced_state s m = read_on E oom s m w (promised octets s t v m (Ok w) begun ahead levels complete) in
+  pub not_lost : (octets : List ℕ) (s t : ReaderState) (v w : A) (m : ℕ) (e : Error) → s ≡ initial_state rules octets → Ahead v rules octets m → levels rules ≤ 64
+      → (s.failed ≡ false → Ahead v s.rules (rest_of s) m → s.depth + levels s.rules ≤ 64 → ReadsOrLacks oom takes s m (Ok w) t) → Err e ≡ remaining_answer t → ⊥
+  not_lost octets s t v w m e begun ahead enough complete lost =
+      let there : t ≡ advanced_state s m = read_on E oom s m w (promised octets s t v m (Ok w) begun ahead enough complete) in
       let working : t.failed ≡ false = ap (λ (x : ReaderState). x.failed) there ∙ ap (λ (x : ReaderState). x.failed) begun in
       let failed = remaining_err t e lost in
       (let no : false ≡ true = sym working ∙ failed.0 in cc)

@@ -2,13 +2,13 @@
 use Rattle.std.proofs.Common.{◌≡◌, ℕ, ◌+◌, ◌^◌, ◌<◌, Bool, List, [], ◌++◌, length, refl, sym, ap, subst, ◌∙◌, append_assoc, length-append}
 use Rattle.der_base.specs.Length.{number, definite_length, length_octets}
 use Rattle.der_base.specs.Tag.{label, tag_octets, IsIdentifier, of_tag, of_segments}
-use Rattle.der_base.specs.HeaderGrammar.{Head, head, header_octets, IdentifierAhead, identifier, TagAhead, LengthAhead, definite, HeaderAhead, header}
+use Rattle.der_base.specs.HeaderGrammar.{Head, head, header_octets, IdentifierAhead, identifier, TagAhead, LengthAhead, definite, HeadAhead, header}
 use Rattle.der_base.specs.declared.length.Length.{Length}
 use Rattle.der_base.specs.declared.tag.Tag.{Tag}
 use Rattle.der_base.specs.declared.encoding_rules.EncodingRules.{EncodingRules}
 use Rattle.der_base.specs.declared.encoding_rules.EncodingRules.TheVariants.{Der}
 use Rattle.der_base.proofs.HeaderLemmas.{IdentifierView, identifier_view_of, identifier_view, LengthView, view_definite, view_indefinite, length_view, HeaderView, header_view_of, header_view}
-use Rattle.der_core.specs.Header.{head_of, IsHeaderAhead}
+use Rattle.der_core.specs.Header.{head_of, HeaderAhead}
 use Rattle.der_core.specs.Lawful.{definite_head, EncodingAhead, ReadsEncodings, IsDefinite, IsDefiniteHeader}
 use Rattle.der_core.specs.declared.header.Header.{Header}
 
@@ -48,7 +48,7 @@ pub record HeaderRead (s : List ℕ) (h : Head) (m : ℕ) : Type 0 where
   pub split : s ≡ header_octets h.tag count ++ behind
   pub octets : m ≡ length (header_octets h.tag count)
 
-pub header_read : {s : List ℕ} {h : Head} {m : ℕ} → HeaderAhead h Der s m → HeaderRead s h m
+pub header_read : {s : List ℕ} {h : Head} {m : ℕ} → HeadAhead h Der s m → HeaderRead s h m
 header_read {s} {h} {m} ahead = go (header_view ahead)
   where
     go : HeaderView h Der s m → HeaderRead s h m
@@ -66,12 +66,12 @@ header_read {s} {h} {m} ahead = go (header_view ahead)
         }
 
 -- and such octets are a header
-pub header_written : (t : Tag) (n : ℕ) (behind : List ℕ) → (label t).number < 2 ^ 32 → n < 2 ^ 32 → HeaderAhead (definite_head t n) Der (header_octets t n ++ behind) (length (header_octets t n))
+pub header_written : (t : Tag) (n : ℕ) (behind : List ℕ) → (label t).number < 2 ^ 32 → n < 2 ^ 32 → HeadAhead (definite_head t n) Der (header_octets t n ++ behind) (length (header_octets t n))
 header_written t n behind numbered small =
-    let ahead : HeaderAhead (definite_head t n) Der (tag_octets t ++ (length_octets n ++ behind)) (length (tag_octets t) + length (length_octets n)) =
+    let ahead : HeadAhead (definite_head t n) Der (tag_octets t ++ (length_octets n ++ behind)) (length (tag_octets t) + length (length_octets n)) =
     header (of_tag numbered) (definite n behind small) (λ f. absurd (cc)) in
-    subst (λ m. HeaderAhead (definite_head t n) Der (header_octets t n ++ behind) m) (sym (length-append (tag_octets t) (length_octets n)))
-    (subst (λ x. HeaderAhead (definite_head t n) Der x (length (tag_octets t) + length (length_octets n))) (sym (append_assoc (tag_octets t) (length_octets n) behind)) ahead)
+    subst (λ m. HeadAhead (definite_head t n) Der (header_octets t n ++ behind) m) (sym (length-append (tag_octets t) (length_octets n)))
+    (subst (λ x. HeadAhead (definite_head t n) Der x (length (tag_octets t) + length (length_octets n))) (sym (append_assoc (tag_octets t) (length_octets n) behind)) ahead)
 
 -- a value ahead, at octets and a number that are told otherwise
 at_octets : {A : Type 0} (Ahead : A → EncodingRules → List ℕ → ℕ → Type 0) {v : A} {x y : List ℕ} {m n : ℕ} → x ≡ y → m ≡ n → Ahead v Der x m → Ahead v Der y n
@@ -103,10 +103,10 @@ lengths_are_encodings = record { only = from; every = λ octets l m short e. at_
     to : (octets : List ℕ) (l : Length) (m : ℕ) (e : EncodingAhead IsDefinite (λ x. length_octets (number x)) l octets m) → LengthAhead l Der (length_octets (number l) ++ e.behind) (length (length_octets (number l)))
     to octets l m e = subst (λ x. LengthAhead x Der (length_octets (number l) ++ e.behind) (length (length_octets (number l)))) (sym e.is_valid.0) (definite (number l) e.behind e.is_valid.1)
 
-pub headers_are_encodings : ReadsEncodings IsHeaderAhead IsDefiniteHeader (λ h. header_octets (head_of h).tag (number (head_of h).length))
-headers_are_encodings = record { only = from; every = λ octets h m short e. at_octets IsHeaderAhead (sym e.split) (sym e.whole) (to octets h m e) }
+pub headers_are_encodings : ReadsEncodings HeaderAhead IsDefiniteHeader (λ h. header_octets (head_of h).tag (number (head_of h).length))
+headers_are_encodings = record { only = from; every = λ octets h m short e. at_octets HeaderAhead (sym e.split) (sym e.whole) (to octets h m e) }
   where
-    from : (octets : List ℕ) (h : Header) (m : ℕ) → IsHeaderAhead h Der octets m → EncodingAhead IsDefiniteHeader (λ x. header_octets (head_of x).tag (number (head_of x).length)) h octets m
+    from : (octets : List ℕ) (h : Header) (m : ℕ) → HeaderAhead h Der octets m → EncodingAhead IsDefiniteHeader (λ x. header_octets (head_of x).tag (number (head_of x).length)) h octets m
     from octets h m ahead =
         let r = header_read ahead in
         let count : r.count ≡ number (head_of h).length = sym (ap (λ (x : Head). number x.length) r.says) in
@@ -118,9 +118,9 @@ headers_are_encodings = record { only = from; every = λ octets h m short e. at_
         }
 
     to : (octets : List ℕ) (h : Header) (m : ℕ) (e : EncodingAhead IsDefiniteHeader (λ x. header_octets (head_of x).tag (number (head_of x).length)) h octets m)
-        → IsHeaderAhead h Der (header_octets (head_of h).tag (number (head_of h).length) ++ e.behind) (length (header_octets (head_of h).tag (number (head_of h).length)))
+        → HeaderAhead h Der (header_octets (head_of h).tag (number (head_of h).length) ++ e.behind) (length (header_octets (head_of h).tag (number (head_of h).length)))
     to octets h m e =
-        subst (λ x. HeaderAhead x Der (header_octets (head_of h).tag (number (head_of h).length) ++ e.behind) (length (header_octets (head_of h).tag (number (head_of h).length)))) (sym e.is_valid.says)
+        subst (λ x. HeadAhead x Der (header_octets (head_of h).tag (number (head_of h).length) ++ e.behind) (length (header_octets (head_of h).tag (number (head_of h).length)))) (sym e.is_valid.says)
         (header_written (head_of h).tag (number (head_of h).length) e.behind e.is_valid.numbered e.is_valid.small)
 
 -- no octets are the encoding of nothing

@@ -3,7 +3,7 @@ use Rattle.std.proofs.Common.{◌≡◌, ◌≢◌, ℕ, zero, suc, ◌+◌, ◌
 use Rattle.der_base.specs.Error.{refusal}
 use Rattle.der_base.specs.declared.error.Error.{Error}
 use Rattle.der_base.specs.declared.error.ErrorKind.TheVariants.{IndefiniteLength}
-use Rattle.der_core.specs.ReaderState.{ReaderState, rest, advanced_state, IsSound, Reads}
+use Rattle.der_core.specs.ReaderState.{ReaderState, rest_of, advanced_state, IsSound, Reads}
 use Rattle.der_core.specs.Outcome.{Outcome, Gives, Meets, outcome_of, outcome_following, chained_outcome}
 use Rattle.der_core.specs.Reader.{read_byte_outcome, next_octet_outcome, end_mark_outcome, read_eoc_outcome, zero_octet_outcome, read_zero_octet_outcome, kind_outcome}
 use Rattle.der_core.specs.AfterFirstOctet.{Stops}
@@ -46,18 +46,18 @@ zero_octet {s} {t} r sound h = go (read_byte_outcome s).answer refl
 abbrev both : ReaderState → Outcome (Unit {0})
 both s = chained_outcome (read_zero_octet_outcome s) (λ _ t. read_zero_octet_outcome t)
 
-one_front : (s : ReaderState) (q : List ℕ) → s.failed ≡ false → rest s ≡ q → read_zero_octet_outcome s ≡ chained_outcome (next_octet_outcome s q) zero_octet_outcome
+one_front : (s : ReaderState) (q : List ℕ) → s.failed ≡ false → rest_of s ≡ q → read_zero_octet_outcome s ≡ chained_outcome (next_octet_outcome s q) zero_octet_outcome
 one_front s q w e = ap (λ o. chained_outcome o zero_octet_outcome) (by_front s w ∙ ap (next_octet_outcome s) e)
 
 two_on : (s : ReaderState) → advanced_state (advanced_state s 1) 1 ≡ advanced_state s 2
 two_on s = (let sum : s.position + 1 + 1 ≡ s.position + 2 = omega arith in ap (λ p. record s { position = p }) sum)
 
-second : (s : ReaderState) (q : List ℕ) → s.failed ≡ false → rest (advanced_state s 1) ≡ q → read_zero_octet_outcome (advanced_state s 1) ≡ end_mark_outcome s (zero ∷ q)
+second : (s : ReaderState) (q : List ℕ) → s.failed ≡ false → rest_of (advanced_state s 1) ≡ q → read_zero_octet_outcome (advanced_state s 1) ≡ end_mark_outcome s (zero ∷ q)
 second s [] w e = one_front (advanced_state s 1) [] w e
 second s (zero ∷ more) w e = one_front (advanced_state s 1) (zero ∷ more) w e ∙ ap (λ t. zero_octet_outcome zero t) (two_on s)
 second s (suc o ∷ more) w e = one_front (advanced_state s 1) (suc o ∷ more) w e ∙ ap (λ t. zero_octet_outcome (suc o) t) (two_on s) ∙ not_zero o (advanced_state s 2)
 
-both_of : (s : ReaderState) (q : List ℕ) → s.failed ≡ false → rest s ≡ q → both s ≡ end_mark_outcome s q
+both_of : (s : ReaderState) (q : List ℕ) → s.failed ≡ false → rest_of s ≡ q → both s ≡ end_mark_outcome s q
 both_of s [] w e = ap (λ o. chained_outcome o (λ _ t. read_zero_octet_outcome t)) (one_front s [] w e)
 both_of s (suc o ∷ more) w e =
     ap (λ o. chained_outcome o (λ _ t. read_zero_octet_outcome t)) (one_front s (suc o ∷ more) w e ∙ not_zero o (advanced_state s 1))
@@ -70,7 +70,7 @@ eoc_is s = go s.failed refl
   where
     go : (f : Bool) → s.failed ≡ f → both s ≡ read_eoc_outcome s
     go true f = rw f refl
-    go false f = both_of s (rest s) f refl ∙ rw f refl
+    go false f = both_of s (rest_of s) f refl ∙ rw f refl
 
 through : {s u : ReaderState} → Gives read_zero_octet_outcome s (Ok tt) u → both s ≡ read_zero_octet_outcome u
 through {s} {u} h =

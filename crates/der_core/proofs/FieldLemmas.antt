@@ -1,7 +1,7 @@
 -- Fields, one behind the other.
 use Rattle.std.proofs.Common.{◌≡◌, ◌||◌, ℕ, ◌+◌, ◌≤◌, Bool, true, false, IsTrue, Result, Ok, Err, List, length, drop, inr, inl, refl, sym, ap, ◌∙◌, subst, length-drop, arith}
 use Rattle.der_base.specs.declared.encoding_rules.EncodingRules.{EncodingRules}
-use Rattle.der_core.specs.ReaderState.{ReaderState, rest, advanced_state, IsSound, Same}
+use Rattle.der_core.specs.ReaderState.{ReaderState, rest_of, advanced_state, IsSound, Same}
 use Rattle.der_core.specs.Decode.{Passes, ReadsOrLacks}
 use Rattle.der_core.specs.Fields.{FieldsAhead, fields_levels}
 use Rattle.der_core.proofs.ContentsLemmas.{rest_advanced}
@@ -17,8 +17,8 @@ working_before {s} {t} same w = go s.failed refl
     go true e = (let f : IsTrue t.failed = same.failed (rw e refl) in let no : false ≡ true = sym w ∙ f in cc)
 
 -- behind a value that was passed stands what stood behind it
-pub rest_passed : {Ahead : EncodingRules → List ℕ → ℕ → Type 0} {s t : ReaderState} → (p : Passes Ahead s t) → rest t ≡ drop p.octets (rest s)
-rest_passed {s = s} p = ap rest p.leaves ∙ rest_advanced s p.octets p.there
+pub rest_passed : {Ahead : EncodingRules → List ℕ → ℕ → Type 0} {s t : ReaderState} → (p : Passes Ahead s t) → rest_of t ≡ drop p.octets (rest_of s)
+rest_passed {s = s} p = ap rest_of p.leaves ∙ rest_advanced s p.octets p.there
 
 module _ {A B : Type 0} {First : A → EncodingRules → List ℕ → ℕ → Type 0} {Second : B → EncodingRules → List ℕ → ℕ → Type 0} {s u t : ReaderState} where
   -- two values that were passed stand one behind the other
@@ -33,10 +33,10 @@ module _ {A B : Type 0} {First : A → EncodingRules → List ℕ → ℕ → Ty
           first = p.octets;
           second = q.octets;
           ahead = p.ahead;
-          behind = subst (λ x. Second b s.rules x q.octets) (rest_passed p) (subst (λ r. Second b r (rest u) q.octets) rules_are q.ahead);
+          behind = subst (λ x. Second b s.rules x q.octets) (rest_passed p) (subst (λ r. Second b r (rest_of u) q.octets) rules_are q.ahead);
           whole = refl;
         };
-        there = omega (arith, p.there, q.there, ap length (rest_passed p), length-drop p.octets (rest s));
+        there = omega (arith, p.there, q.there, ap length (rest_passed p), length-drop p.octets (rest_of s));
         leaves = q.leaves ∙ ap (λ x. advanced_state x q.octets) p.leaves ∙ ap (λ n. record s { position = n }) sum;
       }
 
@@ -48,37 +48,37 @@ module _ {A B : Type 0} {First : A → EncodingRules → List ℕ → ℕ → Ty
 module _ {A B E : Type 0} (First : A → EncodingRules → List ℕ → ℕ → Type 0) (Second : B → EncodingRules → List ℕ → ℕ → Type 0) (needs_first needs_second : EncodingRules → ℕ)
     (out_of_memory : E → Bool) (takes_first takes_second : Bool) (s u : ReaderState) (v : A × B) (m : ℕ) where
   -- the first stands ahead
-  first_ahead : (answer : Result A E) → s.failed ≡ false → (ahead : FieldsAhead First Second v s.rules (rest s) m) → s.depth + fields_levels needs_first needs_second s.rules ≤ 64
-      → ((w : A) (n : ℕ) → s.failed ≡ false → First w s.rules (rest s) n → s.depth + needs_first s.rules ≤ 64 → ReadsOrLacks out_of_memory takes_first s n answer u)
+  first_ahead : (answer : Result A E) → s.failed ≡ false → (ahead : FieldsAhead First Second v s.rules (rest_of s) m) → s.depth + fields_levels needs_first needs_second s.rules ≤ 64
+      → ((w : A) (n : ℕ) → s.failed ≡ false → First w s.rules (rest_of s) n → s.depth + needs_first s.rules ≤ 64 → ReadsOrLacks out_of_memory takes_first s n answer u)
       → ReadsOrLacks out_of_memory takes_first s ahead.first answer u
   first_ahead answer working ahead deep complete = complete v.0 ahead.first working ahead.ahead (omega (arith, deep))
 
-  pub first_lacks : (e : E) → s.failed ≡ false → FieldsAhead First Second v s.rules (rest s) m → s.depth + fields_levels needs_first needs_second s.rules ≤ 64
-      → ((w : A) (n : ℕ) → s.failed ≡ false → First w s.rules (rest s) n → s.depth + needs_first s.rules ≤ 64 → ReadsOrLacks {A = A} out_of_memory takes_first s n (Err e) u)
+  pub first_lacks : (e : E) → s.failed ≡ false → FieldsAhead First Second v s.rules (rest_of s) m → s.depth + fields_levels needs_first needs_second s.rules ≤ 64
+      → ((w : A) (n : ℕ) → s.failed ≡ false → First w s.rules (rest_of s) n → s.depth + needs_first s.rules ≤ 64 → ReadsOrLacks {A = A} out_of_memory takes_first s n (Err e) u)
       → ReadsOrLacks {A = A × B} out_of_memory (takes_first || takes_second) s m (Err e) u
   first_lacks e working ahead deep complete =
       let lacks = lacks_only A out_of_memory s u ahead.first (first_ahead (Err e) working ahead deep complete) in
       inr (rw lacks.0 refl, lacks.1)
 
   -- and the second behind it
-  module _ (a : A) (t : ReaderState) (sound : IsSound s) (same : Same s u) (working : s.failed ≡ false) (ahead : FieldsAhead First Second v s.rules (rest s) m)
+  module _ (a : A) (t : ReaderState) (sound : IsSound s) (same : Same s u) (working : s.failed ≡ false) (ahead : FieldsAhead First Second v s.rules (rest_of s) m)
       (deep : s.depth + fields_levels needs_first needs_second s.rules ≤ 64)
-      (complete : (w : A) (n : ℕ) → s.failed ≡ false → First w s.rules (rest s) n → s.depth + needs_first s.rules ≤ 64 → ReadsOrLacks out_of_memory takes_first s n (Ok a) u) where
+      (complete : (w : A) (n : ℕ) → s.failed ≡ false → First w s.rules (rest_of s) n → s.depth + needs_first s.rules ≤ 64 → ReadsOrLacks out_of_memory takes_first s n (Ok a) u) where
     between : u ≡ advanced_state s ahead.first
     between = read_on E out_of_memory s ahead.first a (first_ahead (Ok a) working ahead deep complete)
 
-    second_ahead : (other : Result B E) → ((w : B) (n : ℕ) → u.failed ≡ false → Second w u.rules (rest u) n → u.depth + needs_second u.rules ≤ 64 → ReadsOrLacks out_of_memory takes_second u n other t)
+    second_ahead : (other : Result B E) → ((w : B) (n : ℕ) → u.failed ≡ false → Second w u.rules (rest_of u) n → u.depth + needs_second u.rules ≤ 64 → ReadsOrLacks out_of_memory takes_second u n other t)
         → ReadsOrLacks out_of_memory takes_second u ahead.second other t
     second_ahead other next =
         let place : u.position ≡ s.position + ahead.first = ap (λ (x : ReaderState). x.position) between in
-        let fits : ahead.first ≤ length (rest s) = omega (arith, place, same.within, same.end, length-rest s sound) in
-        let left : rest u ≡ drop ahead.first (rest s) = ap rest between ∙ rest_advanced s ahead.first fits in
+        let fits : ahead.first ≤ length (rest_of s) = omega (arith, place, same.within, same.end, length-rest s sound) in
+        let left : rest_of u ≡ drop ahead.first (rest_of s) = ap rest_of between ∙ rest_advanced s ahead.first fits in
         let rules_are : u.rules ≡ s.rules = ap (λ (x : ReaderState). x.rules) between in
         let depth_is : u.depth ≡ s.depth = ap (λ (x : ReaderState). x.depth) between in
-        let behind : Second v.1 u.rules (rest u) ahead.second = subst (λ x. Second v.1 u.rules x ahead.second) (sym left) (subst (λ r. Second v.1 r (drop ahead.first (rest s)) ahead.second) (sym rules_are) ahead.behind) in
+        let behind : Second v.1 u.rules (rest_of u) ahead.second = subst (λ x. Second v.1 u.rules x ahead.second) (sym left) (subst (λ r. Second v.1 r (drop ahead.first (rest_of s)) ahead.second) (sym rules_are) ahead.behind) in
         next v.1 ahead.second (ap (λ (x : ReaderState). x.failed) between ∙ working) behind (omega (arith, deep, depth_is, ap needs_second rules_are))
 
-    pub second_lacks : (e : E) → ((w : B) (n : ℕ) → u.failed ≡ false → Second w u.rules (rest u) n → u.depth + needs_second u.rules ≤ 64 → ReadsOrLacks {A = B} out_of_memory takes_second u n (Err e) t)
+    pub second_lacks : (e : E) → ((w : B) (n : ℕ) → u.failed ≡ false → Second w u.rules (rest_of u) n → u.depth + needs_second u.rules ≤ 64 → ReadsOrLacks {A = B} out_of_memory takes_second u n (Err e) t)
         → ReadsOrLacks {A = A × B} out_of_memory (takes_first || takes_second) s m (Err e) t
     second_lacks e next =
         let lacks = lacks_only B out_of_memory u t ahead.second (second_ahead (Err e) next) in
@@ -88,7 +88,7 @@ module _ {A B E : Type 0} (First : A → EncodingRules → List ℕ → ℕ → 
         either true y h = refl
         either false y h = h
 
-    pub both_complete : (b : B) → ((w : B) (n : ℕ) → u.failed ≡ false → Second w u.rules (rest u) n → u.depth + needs_second u.rules ≤ 64 → ReadsOrLacks out_of_memory takes_second u n (Ok b) t)
+    pub both_complete : (b : B) → ((w : B) (n : ℕ) → u.failed ≡ false → Second w u.rules (rest_of u) n → u.depth + needs_second u.rules ≤ 64 → ReadsOrLacks out_of_memory takes_second u n (Ok b) t)
         → ReadsOrLacks {A = A × B} {E = E} out_of_memory (takes_first || takes_second) s m (Ok (a, b)) t
     both_complete b next =
         let there : t ≡ advanced_state u ahead.second = read_on E out_of_memory u ahead.second b (second_ahead (Ok b) next) in

@@ -1,10 +1,10 @@
 -- Headers, by their tag and their length.
 use Rattle.std.proofs.Common.{◌≡◌, ℕ, ◌+◌, ◌%◌, ◌≤◌, Bool, true, false, Option, Some, Ok, Err, List, [], ◌∷◌, ◌++◌, length, take, refl, sym, ap, ◌∙◌, subst, length-append, arith}
-use Rattle.der_base.specs.Error.{at as error_at, refusal}
+use Rattle.der_base.specs.Error.{error_at, refusal}
 use Rattle.der_base.specs.Length.{definite_length, is_indefinite}
 use Rattle.der_base.specs.Tag.{IsIdentifier, IdentifierFault, is_constructed}
 use Rattle.der_base.specs.ScanGrammar.{BodyFault}
-use Rattle.der_base.specs.HeaderGrammar.{Head, head, IdentifierAhead, LengthAhead, HeaderAhead, header, LengthFault, HeaderFault, no_identifier, no_length, primitive}
+use Rattle.der_base.specs.HeaderGrammar.{Head, head, IdentifierAhead, LengthAhead, HeadAhead, header, LengthFault, HeaderFault, no_identifier, no_length, primitive}
 use Rattle.der_base.specs.Laws.{IsGrammar}
 use Rattle.der_base.specs.declared.length.Length.{Length}
 use Rattle.der_base.specs.declared.tag.Tag.{Tag}
@@ -13,12 +13,12 @@ use Rattle.der_base.specs.declared.error.ErrorKind.{ErrorKind}
 use Rattle.der_base.specs.declared.error.ErrorKind.TheVariants.{IndefiniteLength, Length as IncorrectLength}
 use Rattle.der_base.proofs.HeaderLemmas.{IdentifierView, identifier_view_of, identifier_view, header_grammar}
 use Rattle.der_base.proofs.ScanLemmas.{body_fault_laws}
-use Rattle.der_core.specs.ReaderState.{ReaderState, rest, reader_position, advanced_state, stopped_state, IsSound, Reads}
-use Rattle.der_core.specs.AfterFirstOctet.{Stops, AreAhead, ToldHeaderAhead, identifier_tag}
+use Rattle.der_core.specs.ReaderState.{ReaderState, rest_of, reader_position, advanced_state, stopped_state, IsSound, Reads}
+use Rattle.der_core.specs.AfterFirstOctet.{Stops, AreAhead, ToldHeadAhead, identifier_tag}
 use Rattle.der_core.specs.Outcome.{Outcome, Gives, outcome_of}
 use Rattle.der_core.specs.Reader.{read_slice_outcome}
 use Rattle.der_core.specs.Decode.{Passes, IsRefusedBy, at_fault, has_failed}
-use Rattle.der_core.specs.Header.{head_of, IsHeaderAhead}
+use Rattle.der_core.specs.Header.{head_of, HeaderAhead}
 use Rattle.der_core.specs.declared.header.Header.{Header}
 use Rattle.der_core.proofs.StateLemmas.{reads_front, rest_after, length-rest, position_on, failed_on, rules_on, stops_on}
 use Rattle.der_core.proofs.TagReadLemmas.{found_alone, tag_found}
@@ -33,24 +33,24 @@ pub record IdentifierRead (a b : ReaderState) (x : Tag × Bool) : Type 0 where
 pub identifier_read : {a b : ReaderState} {x : Tag × Bool} → Passes (IdentifierAhead x) a b → IdentifierRead a b x
 identifier_read {a} {b} {x} h = go (identifier_view h.ahead)
   where
-    go : IdentifierView x a.rules (rest a) h.octets → IdentifierRead a b x
+    go : IdentifierView x a.rules (rest_of a) h.octets → IdentifierRead a b x
     go (identifier_view_of id more d q c) =
         let there : advanced_state a (length id) ≡ b = ap (advanced_state a) (sym c) ∙ sym h.leaves in
         record { octets = id; is_identifier = d; reads = subst (λ t. Reads a t id) there (reads_front a id more q) }
 
 -- a header was read
 pub passed_header : {a b t : ReaderState} {x : Tag} {bit : Bool} {l : Length} → Passes (IdentifierAhead (x, bit)) a b
-    → Passes (LengthAhead l) b t → (is_indefinite l ≡ true → bit ≡ true) → Passes (HeaderAhead (head x l bit)) a t
+    → Passes (LengthAhead l) b t → (is_indefinite l ≡ true → bit ≡ true) → Passes (HeadAhead (head x l bit)) a t
 passed_header {a} {b} {t} {x} {bit} {l} h g ok =
     let id = identifier_read h in
-    let behind : LengthAhead l a.rules (rest b) g.octets = subst (λ rules. LengthAhead l rules (rest b) g.octets) (rules_on id.reads) g.ahead in
-    let ahead : HeaderAhead (head x l bit) a.rules (id.octets ++ rest b) (length id.octets + g.octets) = header id.is_identifier behind ok in
+    let behind : LengthAhead l a.rules (rest_of b) g.octets = subst (λ rules. LengthAhead l rules (rest_of b) g.octets) (rules_on id.reads) g.ahead in
+    let ahead : HeadAhead (head x l bit) a.rules (id.octets ++ rest_of b) (length id.octets + g.octets) = header id.is_identifier behind ok in
     let sum : a.position + length id.octets + g.octets ≡ a.position + (length id.octets + g.octets) = omega arith in
     record {
       octets = length id.octets + g.octets;
       working = h.working;
-      ahead = subst (λ s. HeaderAhead (head x l bit) a.rules s (length id.octets + g.octets)) (sym id.reads.split) ahead;
-      there = omega (arith, ap length id.reads.split, length-append id.octets (rest b), g.there);
+      ahead = subst (λ s. HeadAhead (head x l bit) a.rules s (length id.octets + g.octets)) (sym id.reads.split) ahead;
+      there = omega (arith, ap length id.reads.split, length-append id.octets (rest_of b), g.there);
       leaves = g.leaves ∙ ap (λ s. advanced_state s g.octets) id.reads.state ∙ ap (λ p. record a { position = p }) sum;
     }
 
@@ -67,27 +67,27 @@ header_length_refused h same (has_failed f p q) =
 header_length_refused {a} {b} {t} {x} {e = e} {wrong} h same (at_fault r w fault told leaves) =
     let id = identifier_read h in
     let here : b.position ≡ a.position + length id.octets = position_on id.reads in
-    let moved : LengthFault BodyFault (IncorrectLength x) a.rules (a.position + length id.octets) (rest b) r =
-    subst (λ n. LengthFault BodyFault (IncorrectLength x) a.rules n (rest b) r) here
-    (subst (λ rules. LengthFault BodyFault (IncorrectLength x) rules b.position (rest b) r) (rules_on id.reads)
-    (subst (λ k. LengthFault BodyFault k b.rules b.position (rest b) r) same fault)) in
+    let moved : LengthFault BodyFault (IncorrectLength x) a.rules (a.position + length id.octets) (rest_of b) r =
+    subst (λ n. LengthFault BodyFault (IncorrectLength x) a.rules n (rest_of b) r) here
+    (subst (λ rules. LengthFault BodyFault (IncorrectLength x) rules b.position (rest_of b) r) (rules_on id.reads)
+    (subst (λ k. LengthFault BodyFault k b.rules b.position (rest_of b) r) same fault)) in
     let stops : Stops b r e t = record { told = told; leaves = leaves } in
     at_fault r h.working (subst (λ s. HeaderFault BodyFault a.rules a.position s r) (sym id.reads.split) (no_length id.is_identifier moved))
     told (stops_on id.reads stops).leaves
 
 -- a header of two octets is there, and was read at once
-slice_fits : (s : ReaderState) (n : ℕ) → s.failed ≡ false → s.position + n ≤ s.end → read_slice_outcome n s ≡ outcome_of (Ok (take n (rest s))) (advanced_state s n)
+slice_fits : (s : ReaderState) (n : ℕ) → s.failed ≡ false → s.position + n ≤ s.end → read_slice_outcome n s ≡ outcome_of (Ok (take n (rest_of s))) (advanced_state s n)
 slice_fits s n working fits = grind arith
 
-fits_two : {s : ReaderState} {o p : ℕ} {more : List ℕ} → IsSound s → rest s ≡ o ∷ p ∷ more → s.position + 2 ≤ s.end
+fits_two : {s : ReaderState} {o p : ℕ} {more : List ℕ} → IsSound s → rest_of s ≡ o ∷ p ∷ more → s.position + 2 ≤ s.end
 fits_two {s} sound split = omega (arith, length-rest s sound, ap length split, sound.ordered)
 
 pub short_passed : {s t : ReaderState} {x : Option (ℕ × ℕ)} {o p n : ℕ} {l : List ℕ} {count : Length} → IsSound s → AreAhead s x → x ≡ Some (o, p) → n ≡ 2 → count ≡ definite_length p
-    → Gives (read_slice_outcome n) s (Ok l) t → Passes (ToldHeaderAhead (o, o % 32, count)) s t
+    → Gives (read_slice_outcome n) s (Ok l) t → Passes (ToldHeadAhead (o, o % 32, count)) s t
 short_passed {s} {t} {x} {o} {p} {count = count} sound there is two counted h =
     let a : AreAhead s (Some (o, p)) = subst (AreAhead s) is there in
     let more = a.3.0 in
-    let split : rest s ≡ o ∷ p ∷ more = a.3.1 in
+    let split : rest_of s ≡ o ∷ p ∷ more = a.3.1 in
     let b = advanced_state s 1 in
     let first : Reads s b (o ∷ []) = reads_front s (o ∷ []) (p ∷ more) split in
     let second : Reads b (advanced_state b 1) (p ∷ []) = reads_front b (p ∷ []) more (rest_after s (o ∷ []) (p ∷ more) split) in
@@ -96,20 +96,20 @@ short_passed {s} {t} {x} {o} {p} {count = count} sound there is two counted h =
     let length_read = passed_short {l = definite_length p} a.0 second a.2 refl in
     let sum : s.position + 1 + 1 ≡ s.position + 2 = omega arith in
     let after : t ≡ advanced_state b 1 = h.leaves ∙ ap (λ n. (read_slice_outcome n s).after) two ∙ ap (λ (q : Outcome (List ℕ)). q.after) (slice_fits s 2 a.0 (fits_two sound split)) ∙ ap (λ n. record s { position = n }) (sym sum) in
-    subst (λ c. Passes (ToldHeaderAhead (o, o % 32, c)) s t) (sym counted)
-    (subst (Passes (ToldHeaderAhead (o, o % 32, definite_length p)) s) (sym after) (passed_header tag length_read (λ flagged. absurd (let no : false ≡ true = flagged in cc))))
+    subst (λ c. Passes (ToldHeadAhead (o, o % 32, c)) s t) (sym counted)
+    (subst (Passes (ToldHeadAhead (o, o % 32, definite_length p)) s) (sym after) (passed_header tag length_read (λ flagged. absurd (let no : false ≡ true = flagged in cc))))
 
 pub short_granted : {s t : ReaderState} {x : Option (ℕ × ℕ)} {o p n : ℕ} {e : Error} → IsSound s → AreAhead s x → x ≡ Some (o, p) → n ≡ 2 → Gives (read_slice_outcome n) s (Err e) t → ⊥
 short_granted {s} {x = x} {o} {p} {e = e} sound there is two h =
     let a : AreAhead s (Some (o, p)) = subst (AreAhead s) is there in
     let fits = fits_two sound a.3.1 in
-    let no : Err e ≡ Ok (take 2 (rest s)) = h.answered ∙ ap (λ n. (read_slice_outcome n s).answer) two ∙ ap (λ (q : Outcome (List ℕ)). q.answer) (slice_fits s 2 a.0 fits) in
+    let no : Err e ≡ Ok (take 2 (rest_of s)) = h.answered ∙ ap (λ n. (read_slice_outcome n s).answer) two ∙ ap (λ (q : Outcome (List ℕ)). q.answer) (slice_fits s 2 a.0 fits) in
     cc
 
 -- a header whose identifier was told
 pub told_passed : {s t : ReaderState} {l : Length} {h : Header} (o n : ℕ) → head_of h ≡ head (identifier_tag o n) l (is_constructed o)
-    → Passes (ToldHeaderAhead (o, n, l)) s t → Passes (IsHeaderAhead h) s t
-told_passed {s} {t} o n told h = subst (λ x. Passes (HeaderAhead x) s t) (sym told) h
+    → Passes (ToldHeadAhead (o, n, l)) s t → Passes (HeaderAhead h) s t
+told_passed {s} {t} o n told h = subst (λ x. Passes (HeadAhead x) s t) (sym told) h
 
 -- an indefinite length behind a primitive identifier
 pub header_primitive : {a b c t : ReaderState} {x : Tag} {bit : Bool} {l : Length} {e : Error} → Passes (IdentifierAhead (x, bit)) a b → bit ≡ false
@@ -118,7 +118,7 @@ header_primitive {a} {b} {c} {t} {x} {bit} {l} {e} h primitive_bit g flag told l
     let id = identifier_read h in
     let m = g.octets in
     let is : IsIdentifier a.rules id.octets x false = subst (IsIdentifier a.rules id.octets x) primitive_bit id.is_identifier in
-    let behind : LengthAhead l a.rules (rest b) m = subst (λ rules. LengthAhead l rules (rest b) m) (rules_on id.reads) g.ahead in
+    let behind : LengthAhead l a.rules (rest_of b) m = subst (λ rules. LengthAhead l rules (rest_of b) m) (rules_on id.reads) g.ahead in
     let here : c.position ≡ a.position + length id.octets + m = omega (arith, ap (λ (s : ReaderState). s.position) g.leaves, position_on id.reads) in
     let there : c ≡ record a { position = a.position + length id.octets + m } = g.leaves ∙ ap (λ s. advanced_state s m) id.reads.state in
     at_fault (refusal IndefiniteLength (a.position + length id.octets + m)) h.working
@@ -134,7 +134,7 @@ unfolding header_saying
 same_header h g e = ap header_saying e
 
 -- the grammar of headers, as a decoder answers them
-pub decoded_header_grammar : IsGrammar IsHeaderAhead (HeaderFault BodyFault)
+pub decoded_header_grammar : IsGrammar HeaderAhead (HeaderFault BodyFault)
 decoded_header_grammar =
     let laws = header_grammar BodyFault body_fault_laws in
     record {

@@ -3,18 +3,18 @@ use Rattle.std.proofs.Common.{◌≡◌, ℕ, ◌^◌, ◌<◌, ◌≤◌, Bool,
 use Rattle.std.proofs.lemmas.List.{drop_at}
 use Rattle.der_base.specs.Length.{number, is_indefinite}
 use Rattle.der_base.specs.Tag.{label}
-use Rattle.der_base.specs.HeaderGrammar.{Head, HeaderAhead, header_octets}
+use Rattle.der_base.specs.HeaderGrammar.{Head, HeadAhead, header_octets}
 use Rattle.der_base.specs.declared.tag.Tag.{Tag}
 use Rattle.der_base.specs.declared.encoding_rules.EncodingRules.{EncodingRules}
 use Rattle.der_base.specs.declared.encoding_rules.EncodingRules.TheVariants.{Der}
 use Rattle.der_base.proofs.DigitLemmas.{same_length_front}
 use Rattle.der_base.proofs.HeaderLemmas.{header_front}
 use Rattle.der_core.specs.Decode.{Whole}
-use Rattle.der_core.specs.Element.{IsEndMark, contents_head, ElementAhead}
+use Rattle.der_core.specs.Element.{IsEndMark, head_sans_eoc, ElementAhead}
 use Rattle.der_core.specs.Encode.{element_octets}
 use Rattle.der_core.specs.Fields.{FieldsAhead, TakesWhole}
 use Rattle.der_core.specs.Lawful.{definite_head, IsLawful, EncodingAhead, ReadsEncodings, ReadsWholeEncodings, PassesEncodings, ReadsWritten}
-use Rattle.der_core.specs.ReaderState.{rest, advanced_state}
+use Rattle.der_core.specs.ReaderState.{rest_of, advanced_state}
 use Rattle.der_core.proofs.FieldLemmas.{rest_passed}
 use Rattle.der_core.proofs.DerLemmas.{header_read, header_written}
 
@@ -37,9 +37,9 @@ der_element {A} {tag} {takes} {octets} {v} {m} e =
     let definite_form : is_indefinite e.says.length ≡ false = ap (λ (x : Head). is_indefinite x.length) h.says in
     let mark : e.mark ≡ [] = no_mark (is_indefinite e.says.length) e.mark e.marked definite_form in
     let behind : h.behind ≡ e.contents ++ e.behind = sym (drop_at (header_octets e.says.tag h.count) h.behind e.header (sym h.octets)) ∙ ap (drop e.header) (sym h.split) ∙ e.split ∙ ap (λ x. e.contents ++ (x ++ e.behind)) mark in
-    let counted : contents_head e.says ≡ definite_head e.says.tag h.count = ap contents_head h.says in
+    let counted : head_sans_eoc e.says ≡ definite_head e.says.tag h.count = ap head_sans_eoc h.says in
     let count : h.count ≡ length e.contents = sym (e.sized ∙ ap (λ (x : Head). number x.length) counted) in
-    let says : contents_head e.says ≡ definite_head tag (length e.contents) = counted ∙ ap (λ x. definite_head x h.count) e.tagged ∙ ap (definite_head tag) count in
+    let says : head_sans_eoc e.says ≡ definite_head tag (length e.contents) = counted ∙ ap (λ x. definite_head x h.count) e.tagged ∙ ap (definite_head tag) count in
     let same_header : header_octets e.says.tag h.count ≡ header_octets tag (length e.contents) = ap (λ x. header_octets x h.count) e.tagged ∙ ap (header_octets tag) count in
     record {
       contents = e.contents;
@@ -61,7 +61,7 @@ element_der tag takes contents behind v numbered small taken =
       contents = contents;
       mark = [];
       behind = behind;
-      ahead = subst (λ x. HeaderAhead (definite_head tag n) Der x (length (header_octets tag n))) (sym (append_assoc (header_octets tag n) contents behind)) (header_written tag n (contents ++ behind) numbered small);
+      ahead = subst (λ x. HeadAhead (definite_head tag n) Der x (length (header_octets tag n))) (sym (append_assoc (header_octets tag n) contents behind)) (header_written tag n (contents ++ behind) numbered small);
       tagged = refl;
       split = ap (drop (length (header_octets tag n))) (append_assoc (header_octets tag n) contents behind) ∙ drop_at (header_octets tag n) (contents ++ behind) (length (header_octets tag n)) refl;
       sized = refl;
@@ -132,8 +132,8 @@ whole_encodings {A} {Ahead} {valid} {encoding} reads = record { only = from; eve
 -- a reader that has passed a value has passed its encoding
 pub passed_encodings : {A : Type 0} {Ahead : A → EncodingRules → List ℕ → ℕ → Type 0} {valid : A → Type 0} {encoding : A → List ℕ} → ReadsEncodings Ahead valid encoding → PassesEncodings Ahead valid encoding
 passed_encodings {Ahead = Ahead} {encoding = encoding} reads s t v der passed =
-    let e = reads.only (rest s) v passed.octets (subst (λ r. Ahead v r (rest s) passed.octets) der passed.ahead) in
-    let left : rest t ≡ e.behind = rest_passed passed ∙ ap (drop passed.octets) e.split ∙ drop_at (encoding v) e.behind passed.octets (sym e.whole) in
+    let e = reads.only (rest_of s) v passed.octets (subst (λ r. Ahead v r (rest_of s) passed.octets) der passed.ahead) in
+    let left : rest_of t ≡ e.behind = rest_passed passed ∙ ap (drop passed.octets) e.split ∙ drop_at (encoding v) e.behind passed.octets (sym e.whole) in
     (e.is_valid, record { split = e.split ∙ ap (λ x. encoding v ++ x) (sym left); state = passed.leaves ∙ ap (advanced_state s) e.whole })
 
 -- fields whose elements are encodings are the encodings one behind the other

@@ -3,7 +3,7 @@ use Rattle.std.proofs.Common.{◌≡◌, ℕ, max, ◌+◌, ◌-◌, ◌*◌, �
 use Rattle.std.specs.Int.Digits.{number_from_digits, AllBelowBase}
 use Rattle.std.proofs.lemmas.Int.Digits.{number_push, number_lt}
 use Rattle.std.proofs.Math.Nat.{pow-le-pow_right}
-use Rattle.der_base.specs.Error.{at as error_at, Refusal, refusal, end_refusal}
+use Rattle.der_base.specs.Error.{error_at, Refusal, refusal, end_refusal}
 use Rattle.der_base.specs.Length.{definite_length, indefinite_length, length_octets}
 use Rattle.der_base.specs.ScanGrammar.{NoBodyFault, BodyFault}
 use Rattle.der_base.specs.HeaderGrammar.{LengthAhead, definite, indefinite, LengthFault, nothing, few, far, longer, indefinite_form, no_body}
@@ -15,7 +15,7 @@ use Rattle.der_base.specs.declared.encoding_rules.EncodingRules.{EncodingRules}
 use Rattle.der_base.specs.declared.encoding_rules.EncodingRules.TheVariants.{Ber, Der}
 use Rattle.der_base.proofs.DigitLemmas.{all_below_push, number_small}
 use Rattle.der_base.proofs.LengthLemmas.{length_small, octet_shortest, octet_cut, octet_longer}
-use Rattle.der_core.specs.ReaderState.{ReaderState, rest, reader_position, stopped_state, Same, Reads}
+use Rattle.der_core.specs.ReaderState.{ReaderState, rest_of, reader_position, stopped_state, Same, Reads}
 use Rattle.der_core.specs.Decode.{Passes, Decodes, IsRefusedBy, at_fault, has_failed}
 use Rattle.der_core.specs.AfterFirstOctet.{IsIndefiniteForm, RefusesIndefinite, RefusesLongLength, Stops}
 use Rattle.der_core.specs.Scan.{ScansAhead}
@@ -60,14 +60,14 @@ digits_whole {a} {b} {n} i o e h = subst (λ k. DigitsSoFar a b k n) e h
 pub refused_far : {wrong : ErrorKind} {a t : ReaderState} {o : ℕ} {e : Error} → 133 ≤ o → e ≡ error_at wrong (reader_position a) → t ≡ stopped_state a a.position → RefusesLongLength wrong o a e t
 refused_far {wrong} {a} {t} {o} {e} high told leaves at here working = (
   refusal wrong (at + 1),
-  far o (rest a) high,
+  far o (rest_of a) high,
   subst (λ n. Stops a (refusal wrong n) e t) here (error_stops a t wrong e told leaves),
 )
 
 pub refused_cut : {wrong : ErrorKind} {a b t : ReaderState} {o i value : ℕ} {e : Error} → DigitsSoFar a b i value → 128 ≤ o → o < 133 → i < o - 128
-    → (rest b ≡ []) × Stops b (end_refusal b.position) e t → (at : ℕ) → a.position ≡ at + 1 → (r : Refusal) × LengthFault NoBodyFault wrong a.rules at (o ∷ rest a) r × Stops a r e t
+    → (rest_of b ≡ []) × Stops b (end_refusal b.position) e t → (at : ℕ) → a.position ≡ at + 1 → (r : Refusal) × LengthFault NoBodyFault wrong a.rules at (o ∷ rest_of a) r × Stops a r e t
 refused_cut {wrong} {a} {b} {t} {o} {e = e} h low high short g at here =
-    let whole : h.digits ≡ rest a = sym (h.reads.split ∙ ap (λ l. h.digits ++ l) g.0 ∙ append-nil h.digits) in
+    let whole : h.digits ≡ rest_of a = sym (h.reads.split ∙ ap (λ l. h.digits ++ l) g.0 ∙ append-nil h.digits) in
     let end : at + 1 + length h.digits ≡ b.position = omega (arith, position_on h.reads) in (
       end_refusal (at + 1 + length h.digits),
       subst (λ l. LengthFault NoBodyFault wrong a.rules at (o ∷ l) (end_refusal (at + 1 + length h.digits))) whole (octet_cut at o h.digits low high (omega (arith, h.count))),
@@ -80,7 +80,7 @@ refused_longer {wrong} {a} {b} {t} {o} {value} {least} {e} h low high is small t
     let below : number_from_digits 256 h.digits < max 128 (256 ^ (o - 128 - 1)) = omega (arith, h.is) in
     let there : at + 1 + (o - 128) ≡ b.position = omega (arith, position_on h.reads, h.count) in (
       refusal wrong (at + 1 + (o - 128)),
-      subst (λ l. LengthFault NoBodyFault wrong a.rules at (o ∷ l) (refusal wrong (at + 1 + (o - 128)))) (sym h.reads.split) (octet_longer at o h.digits (rest b) low high h.count below),
+      subst (λ l. LengthFault NoBodyFault wrong a.rules at (o ∷ l) (refusal wrong (at + 1 + (o - 128)))) (sym h.reads.split) (octet_longer at o h.digits (rest_of b) low high h.count below),
       subst (λ n. Stops a (refusal wrong n) e t) (sym there) (stops_on h.reads (error_stops b t wrong e told leaves)),
     )
 
@@ -96,8 +96,8 @@ passed_octets {a} {t} {n} working h small =
     record {
       octets = length (length_octets n);
       working = working;
-      ahead = subst (λ l. LengthAhead (definite_length n) a.rules l (length (length_octets n))) (sym h.split) (definite n (rest t) small);
-      there = omega (arith, ap length h.split, length-append (length_octets n) (rest t));
+      ahead = subst (λ l. LengthAhead (definite_length n) a.rules l (length (length_octets n))) (sym h.split) (definite n (rest_of t) small);
+      there = omega (arith, ap length h.split, length-append (length_octets n) (rest_of t));
       leaves = h.state;
     }
 
@@ -121,15 +121,15 @@ length_ends {wrong} {a} (byte_cut working none stops) =
 looks_for_no_body : {F : ℕ → List ℕ → Refusal → Type 0} {wrong : ErrorKind} {rules : EncodingRules} {at : ℕ} {q : List ℕ} {r : Refusal} → LengthFault NoBodyFault wrong rules at q r → LengthFault F wrong rules at q r
 looks_for_no_body nothing = nothing
 looks_for_no_body (few k ds most short) = few k ds most short
-looks_for_no_body (far o rest large) = far o rest large
-looks_for_no_body (longer k ds rest some most sized never) = longer k ds rest some most sized never
+looks_for_no_body (far o rest_of large) = far o rest_of large
+looks_for_no_body (longer k ds rest_of some most sized never) = longer k ds rest_of some most sized never
 looks_for_no_body (indefinite_form der rest) = indefinite_form der rest
-looks_for_no_body (no_body ber rest f) = absurd f
+looks_for_no_body (no_body ber rest_of f) = absurd f
 
-behind_octet : {wrong : ErrorKind} {a b t : ReaderState} {o : ℕ} {e : Error} → a.failed ≡ false → Reads a b (o ∷ []) → (r : Refusal) × LengthFault BodyFault wrong b.rules a.position (o ∷ rest b) r × Stops b r e t
+behind_octet : {wrong : ErrorKind} {a b t : ReaderState} {o : ℕ} {e : Error} → a.failed ≡ false → Reads a b (o ∷ []) → (r : Refusal) × LengthFault BodyFault wrong b.rules a.position (o ∷ rest_of b) r × Stops b r e t
     → IsRefusedBy (LengthFault BodyFault wrong) a e t
 behind_octet {wrong} {a} {b} {t} {o} {e} working h r =
-    let fault : LengthFault BodyFault wrong a.rules a.position (o ∷ rest b) r.0 = subst (λ rules. LengthFault BodyFault wrong rules a.position (o ∷ rest b) r.0) (rules_on h) r.1 in
+    let fault : LengthFault BodyFault wrong a.rules a.position (o ∷ rest_of b) r.0 = subst (λ rules. LengthFault BodyFault wrong rules a.position (o ∷ rest_of b) r.0) (rules_on h) r.1 in
     at_fault r.0 working (subst (λ l. LengthFault BodyFault wrong a.rules a.position l r.0) (sym h.split) fault) (stops_on h r.2).told (stops_on h r.2).leaves
 
 pub length_refused : {wrong : ErrorKind} {a b t : ReaderState} {o : ℕ} {e : Error} → a.failed ≡ false → Reads a b (o ∷ []) → RefusesLongLength wrong o b e t
@@ -147,7 +147,7 @@ not_der {rules = Der} h e = absurd (let no : false ≡ true = sym e ∙ h.1 refl
 pub refused_under_der : {s t : ReaderState} {e : Error} → s.rules ≡ Der → e ≡ error_at IndefiniteLength (reader_position s) → t ≡ stopped_state s s.position → RefusesIndefinite s e t
 refused_under_der {s} {t} {e} der told leaves wrong at here working = (
   refusal IndefiniteLength (at + 1),
-  indefinite_form der (rest s),
+  indefinite_form der (rest_of s),
   subst (λ n. Stops s (refusal IndefiniteLength n) e t) here (error_stops s t IndefiniteLength e told leaves),
 )
 
@@ -155,7 +155,7 @@ refused_by_scan : {s t : ReaderState} {e : Error} → s.rules ≡ Ber → IsRefu
 refused_by_scan ber (has_failed f told leaves) wrong at here working = absurd (let no : true ≡ false = sym f ∙ working in cc)
 refused_by_scan {s} ber (at_fault r w fault told leaves) wrong at here working = (
   record r { position = at + 1; fails = false },
-  no_body ber (rest s) (subst (λ n. BodyFault n (rest s) r) here fault),
+  no_body ber (rest_of s) (subst (λ n. BodyFault n (rest_of s) r) here fault),
   record { told = told; leaves = ap (λ p. record s { position = p }) here },
 )
 
@@ -168,13 +168,13 @@ scanned (Err e) reliable s ber h = (tt, λ is. refused_by_scan ber (h.1.refused 
 passed_indefinite : {a b t : ReaderState} {o : ℕ} {l : Length} → o ≡ 128 → a.failed ≡ false → Reads a b (o ∷ []) → IsIndefiniteForm l b t → Passes (LengthAhead l) a t
 passed_indefinite {a} {b} {t} {o} {l} is working h form =
     let body = form.ahead in
-    let octets : 128 ∷ (body.body ++ body.behind) ≡ rest a = ap (λ x. 128 ∷ x) (sym body.split) ∙ ap (λ x. x ∷ rest b) (sym is) ∙ sym h.split in
+    let octets : 128 ∷ (body.body ++ body.behind) ≡ rest_of a = ap (λ x. 128 ∷ x) (sym body.split) ∙ ap (λ x. x ∷ rest_of b) (sym is) ∙ sym h.split in
     let counts : indefinite_length (length body.body) ≡ l = ap indefinite_length (sym body.sized) ∙ sym body.counts in
     let ahead : LengthAhead (indefinite_length (length body.body)) Ber (128 ∷ (body.body ++ body.behind)) 1 = indefinite body.behind body.is_body in
     record {
       octets = 1;
       working = working;
-      ahead = subst (λ x. LengthAhead x a.rules (rest a) 1) counts (subst (λ s. LengthAhead (indefinite_length (length body.body)) a.rules s 1) octets (subst (λ rules. LengthAhead (indefinite_length (length body.body)) rules (128 ∷ (body.body ++ body.behind)) 1) (sym (sym (rules_on h) ∙ form.under_ber)) ahead));
+      ahead = subst (λ x. LengthAhead x a.rules (rest_of a) 1) counts (subst (λ s. LengthAhead (indefinite_length (length body.body)) a.rules s 1) octets (subst (λ rules. LengthAhead (indefinite_length (length body.body)) rules (128 ∷ (body.body ++ body.behind)) 1) (sym (sym (rules_on h) ∙ form.under_ber)) ahead));
       there = omega (arith, ap length h.split);
       leaves = form.leaves ∙ h.state;
     }
@@ -185,4 +185,4 @@ length_by_form (Ok l) is working h p q found refused = decoded_ok (same_trans p 
 length_by_form {wrong} {a = a} {b} {t} {o} (Err e) is working h p q found refused =
     decoded_err (same_trans p q) (λ reliable.
     let r = refused reliable wrong a.position (position_on h) (failed_on h ∙ working) in
-    behind_octet working h (r.0, subst (λ x. LengthFault BodyFault wrong b.rules a.position (x ∷ rest b) r.0) (sym is) r.1, r.2))
+    behind_octet working h (r.0, subst (λ x. LengthFault BodyFault wrong b.rules a.position (x ∷ rest_of b) r.0) (sym is) r.1, r.2))

@@ -1,6 +1,6 @@
 -- Parts, entered and left.
 use Rattle.std.proofs.Common.{◌≡◌, ◌≢◌, ℕ, ◌+◌, ◌-◌, ◌^◌, ◌≤◌, Bool, true, false, IsTrue, Result, Ok, Err, length, nat_lt, refl, sym, ap, ◌∙◌, subst, arith}
-use Rattle.der_base.specs.Error.{at}
+use Rattle.der_base.specs.Error.{error_at}
 use Rattle.der_base.specs.Length.{number, is_indefinite, definite_length}
 use Rattle.der_base.specs.declared.length.Length.{Length}
 use Rattle.der_base.specs.declared.error.Error.{Error}
@@ -9,7 +9,7 @@ use Rattle.der_core.specs.ReaderState.{ReaderState, reader_position, nested_stat
 use Rattle.der_core.specs.Outcome.{Gives}
 use Rattle.der_core.proofs.StateLemmas.{same_trans}
 use Rattle.der_core.specs.Reader.{enter_nested_outcome}
-use Rattle.der_core.specs.Nested.{CanNest, CanLeave, Closes, left_over, whole, NestedAnswers, entered, ClosesValue, ValueAnswers, opened, not_opened}
+use Rattle.der_core.specs.Nested.{CanNest, CanLeave, Closes, left_over, whole, NestedAnswer, entered, ClosesValue, ValueAnswer, opened, not_opened}
 
 -- what entering gives: the part, and what to go back to
 pub record Entered (s : ReaderState) (n : ℕ) (e d : ℕ) (t : ReaderState) : Type 0 where
@@ -67,14 +67,14 @@ same_closed way same closed = same_trans (same_behind way same) closed
 -- octets that were left, told as the code tells them
 module _ {T E : Type 0} {converts : Error → E → Type 0} {answer result : Result T E} (s u : ReaderState) {end depth : ℕ} (zero : Bool) (left : Length) (v : T) where
   pub close_left_over : (t : ReaderState) (e : E) (x : Error) (position : Length) → answer ≡ Ok v → u ≡ resumed_state s end depth → left ≡ definite_length (s.end - s.position)
-      → (number left ≡ 0 → IsTrue zero) → zero ≡ false → position ≡ reader_position u → x ≡ at (TrailingData position left) (reader_position u) → t ≡ stopped_state u u.position → converts x e
+      → (number left ≡ 0 → IsTrue zero) → zero ≡ false → position ≡ reader_position u → x ≡ error_at (TrailingData position left) (reader_position u) → t ≡ stopped_state u u.position → converts x e
       → result ≡ Err e → Closes converts answer s end depth result t
   close_left_over t e x position is leaves l f z p told stopped_at converted q =
       let here_is : reader_position u ≡ reader_position s = ap reader_position leaves in
       let some : s.end - s.position ≢ 0 = λ none. (let w : false ≡ true = sym z ∙ f (ap number l ∙ none) in cc) in
-      let same : x ≡ at (TrailingData (reader_position s) (definite_length (s.end - s.position))) (reader_position s) =
-      told ∙ ap (λ k. at (TrailingData k left) (reader_position u)) (p ∙ here_is) ∙ ap (λ k. at (TrailingData (reader_position s) k) (reader_position u)) l
-      ∙ ap (λ k. at (TrailingData (reader_position s) (definite_length (s.end - s.position))) k) here_is in
+      let same : x ≡ error_at (TrailingData (reader_position s) (definite_length (s.end - s.position))) (reader_position s) =
+      told ∙ ap (λ k. error_at (TrailingData k left) (reader_position u)) (p ∙ here_is) ∙ ap (λ k. error_at (TrailingData (reader_position s) k) (reader_position u)) l
+      ∙ ap (λ k. error_at (TrailingData (reader_position s) (definite_length (s.end - s.position))) k) here_is in
       left_over v e is (omega arith) (subst (λ y. converts y e) same converted) q (stopped_at ∙ ap (λ x. stopped_state x x.position) leaves)
 
   pub close_whole : s.position ≤ s.end → answer ≡ Ok v → u ≡ resumed_state s end depth → left ≡ definite_length (s.end - s.position) → (IsTrue zero → number left ≡ 0) → zero ≡ true
@@ -86,7 +86,7 @@ module _ {T E : Type 0} {converts : Error → E → Type 0} {answer result : Res
 -- what a closure made of a part, in the end
 pub nested_entered : {P Q T E : Type 0} {converts : Error → E → Type 0} {post : P → Result T E → Q → Type 0} {before : P → ReaderState} {after : Q → ReaderState} (s : ReaderState) {n : ℕ} {end depth : ℕ}
     {inner t : ReaderState} (p : P) (answer : Result T E) (q : Q) (closed result : Result T E) → Entered s n end depth inner → before p ≡ inner → post p answer q
-    → Closes converts answer (after q) end depth closed t → result ≡ closed → NestedAnswers converts post before after n s result t
+    → Closes converts answer (after q) end depth closed t → result ≡ closed → NestedAnswer converts post before after n s result t
 nested_entered {converts = converts} {post = post} {before = before} {after = after} s {n} {depth = depth} {t = t} p answer q closed result way reader_position ran closes e =
     let same_end = subst (λ x. Closes converts answer (after q) x depth closed t) way.outer_end closes in
     let same_depth = subst (λ x. Closes converts answer (after q) s.end x closed t) way.outer_depth same_end in
@@ -95,7 +95,7 @@ nested_entered {converts = converts} {post = post} {before = before} {after = af
 -- what a closure made of the contents of a length, in the end
 pub value_opened : {P Q T E : Type 0} {converts : Error → E → Type 0} {post : P → Result T E → Q → Type 0} {before : P → ReaderState} {after : Q → ReaderState} (s : ReaderState) {end depth : ℕ}
     {inner t : ReaderState} (of l : Length) (p : P) (answer : Result T E) (q : Q) (result : Result T E) → Entered s (number l) end depth inner → before p ≡ inner → post p answer q
-    → l ≡ of → ClosesValue converts answer (after q) end depth (is_indefinite l) result t → ValueAnswers converts post before after of s result t
+    → l ≡ of → ClosesValue converts answer (after q) end depth (is_indefinite l) result t → ValueAnswer converts post before after of s result t
 value_opened {converts = converts} {after = after} s {depth = depth} {t = t} of l p answer q result way there ran e closes =
     let same_end = subst (λ x. ClosesValue converts answer (after q) x depth (is_indefinite l) result t) way.outer_end closes in
     let same_depth = subst (λ x. ClosesValue converts answer (after q) s.end x (is_indefinite l) result t) way.outer_depth same_end in
@@ -103,10 +103,10 @@ value_opened {converts = converts} {after = after} s {depth = depth} {t = t} of 
     (subst (λ x. ClosesValue converts answer (after q) s.end s.depth (is_indefinite x) result t) e same_depth)
 
 pub value_not_opened : {P Q T E : Type 0} {converts : Error → E → Type 0} {post : P → Result T E → Q → Type 0} {before : P → ReaderState} {after : Q → ReaderState} (s t : ReaderState) (of l : Length) (e : Error)
-    (f : E) → l ≡ of → Gives (enter_nested_outcome (number l)) s (Err e) t → converts e f → ValueAnswers converts post before after of s (Err f) t
+    (f : E) → l ≡ of → Gives (enter_nested_outcome (number l)) s (Err e) t → converts e f → ValueAnswer converts post before after of s (Err f) t
 value_not_opened s t of l e f same h told = not_opened e f (subst (λ x. Gives (enter_nested_outcome (number x)) s (Err e) t) same h) told refl
 
 -- contents of a length that is told otherwise
 pub value_at : {P Q T E : Type 0} {converts : Error → E → Type 0} {post : P → Result T E → Q → Type 0} {before : P → ReaderState} {after : Q → ReaderState} {s t : ReaderState} {of l : Length}
-    {result : Result T E} → l ≡ of → ValueAnswers converts post before after l s result t → ValueAnswers converts post before after of s result t
-value_at {converts = converts} {post = post} {before = before} {after = after} {s = s} {t = t} {result = result} e h = subst (λ x. ValueAnswers converts post before after x s result t) e h
+    {result : Result T E} → l ≡ of → ValueAnswer converts post before after l s result t → ValueAnswer converts post before after of s result t
+value_at {converts = converts} {post = post} {before = before} {after = after} {s = s} {t = t} {result = result} e h = subst (λ x. ValueAnswer converts post before after x s result t) e h

@@ -13,7 +13,7 @@ use Rattle.der_base.proofs.DelimitedLemmas.{element_parts}
 use Rattle.der_base.proofs.HeaderLemmas.{header_front}
 use Rattle.der_base.proofs.OrderLemmas.{same_octets}
 use Rattle.der_core.specs.DerOrd.{Compared, then_compared, element_order, AreOrderly}
-use Rattle.der_core.specs.Encode.{element_octets, Counts, HeaderOf, HeaderAnswers}
+use Rattle.der_core.specs.Encode.{element_octets, Counts, HeaderOf, HeaderAnswer}
 use Rattle.der_core.specs.Header.{head_of}
 use Rattle.der_core.specs.declared.header.Header.{Header}
 
@@ -48,12 +48,12 @@ element_sorted t u c d (Ok m) (Err e) v h k orderly = tt
 element_sorted t u c d (Err e) q v h k orderly = tt
 
 -- the header of a value says how many octets its contents have
-counted_by : (t : Tag) (c : List ℕ) (p : Result Length Error) (h : Header) → HeaderAnswers t p (Ok h) → HeaderOf t c (Ok h) → Counts c p
+counted_by : (t : Tag) (c : List ℕ) (p : Result Length Error) (h : Header) → HeaderAnswer t p (Ok h) → HeaderOf t c (Ok h) → Counts c p
 counted_by t c (Ok l) h a o = ap (λ (x : Head). number x.length) (sym a) ∙ o.1
 counted_by t c (Err e) h a o = let wrong : Ok h ≡ Err e = a in cc
 
 -- where both headers are there, what they answer and the contents behind them is the order
-headers_decide : (t u : Tag) (p q : Result Length Error) (h g : Header) (o : Ordering) (v : Compared) → HeaderAnswers t p (Ok h) → HeaderAnswers u q (Ok g)
+headers_decide : (t u : Tag) (p q : Result Length Error) (h g : Header) (o : Ordering) (v : Compared) → HeaderAnswer t p (Ok h) → HeaderAnswer u q (Ok g)
     → o ≡ byte_order (header_octets (head_of h).tag (number (head_of h).length)) (header_octets (head_of g).tag (number (head_of g).length))
     → then_compared o v ≡ element_order t u p q v
 headers_decide t u (Ok m) (Ok n) h g o v a b e =
@@ -72,7 +72,7 @@ Decides t u c d p q v result = record {
 }
 
 pub decided : (t u : Tag) (c d : List ℕ) (p q : Result Length Error) (h g : Header) (o : Ordering) (v result : Compared)
-    → HeaderAnswers t p (Ok h) → HeaderOf t c (Ok h) → HeaderAnswers u q (Ok g) → HeaderOf u d (Ok g)
+    → HeaderAnswer t p (Ok h) → HeaderOf t c (Ok h) → HeaderAnswer u q (Ok g) → HeaderOf u d (Ok g)
     → o ≡ byte_order (header_octets (head_of h).tag (number (head_of h).length)) (header_octets (head_of g).tag (number (head_of g).length))
     → result ≡ then_compared o v → Decides t u c d p q v result
 decided t u c d p q h g o v result a i b j e r =

@@ -7,12 +7,12 @@ use Rattle.der_base.specs.declared.length.Length.{Length}
 use Rattle.der_base.specs.declared.error.Error.{Error}
 use Rattle.der_base.specs.declared.error.ErrorKind.TheVariants.{Overflow}
 use Rattle.der_base.specs.declared.encoding_rules.EncodingRules.{EncodingRules}
-use Rattle.der_core.specs.ReaderState.{ReaderState, rest}
+use Rattle.der_core.specs.ReaderState.{ReaderState, rest_of}
 use Rattle.der_base.specs.Arithmetic.{checked_length}
 use Rattle.der_core.specs.Outcome.{Outcome, Gives, Meets, IsBinding, map_ok}
 use Rattle.der_core.specs.Reader.{read_slice_outcome, tlv_outcome}
-use Rattle.der_core.specs.Header.{head_of, IsHeaderAhead}
-use Rattle.der_core.specs.Decode.{Passes, Decodes, Peeks, TlvAnswers, with_header}
+use Rattle.der_core.specs.Header.{head_of, HeaderAhead}
+use Rattle.der_core.specs.Decode.{Passes, Decodes, Peeks, TlvAnswer, with_header}
 use Rattle.der_core.specs.declared.header.Header.{Header}
 use Rattle.der_core.proofs.DecodeLemmas.{decodes_bound}
 
@@ -30,9 +30,9 @@ peeks_reliably {reliable = reliable} answer owed h = (h.0, decodes_bound reliabl
 tlv_near : (n : ℕ) (s : ReaderState) → n < 2 ^ 32 → tlv_outcome n s ≡ read_slice_outcome n s
 tlv_near n s l = rw (lt-ltb n (2 ^ 32) l) refl
 
-module _ (s f t : ReaderState) (h : Header) (same : f ≡ s) (p : Passes (IsHeaderAhead h) f t) where
-  here : IsHeaderAhead h s.rules (rest s) p.octets
-  here = subst (λ x. IsHeaderAhead h x.rules (rest x) p.octets) same p.ahead
+module _ (s f t : ReaderState) (h : Header) (same : f ≡ s) (p : Passes (HeaderAhead h) f t) where
+  here : HeaderAhead h s.rules (rest_of s) p.octets
+  here = subst (λ x. HeaderAhead h x.rules (rest_of x) p.octets) same p.ahead
 
   working : s.failed ≡ false
   working = ap (λ (x : ReaderState). x.failed) (sym same) ∙ p.working
@@ -41,13 +41,13 @@ module _ (s f t : ReaderState) (h : Header) (same : f ≡ s) (p : Passes (IsHead
   header_octets_are = omega (arith, ap (λ (x : ReaderState). x.position) p.leaves, ap (λ (x : ReaderState). x.position) same)
 
   pub tlv_read : (n : ℕ) (answer : Result (List ℕ) Error) (u : ReaderState) → n ≡ p.octets + number (head_of h).length → n < 2 ^ 32 → Gives (read_slice_outcome n) s answer u
-      → TlvAnswers s answer u
+      → TlvAnswer s answer u
   tlv_read n answer u sum small g =
       let near : read_slice_outcome n s ≡ tlv_outcome (p.octets + number (head_of h).length) s = sym (tlv_near n s small) ∙ ap (λ k. tlv_outcome k s) sum in
       with_header h p.octets here working
       (record { answered = g.answered ∙ ap (λ x. x.answer) near; leaves = g.leaves ∙ ap (λ x. x.after) near })
 
-  pub tlv_far : (n : ℕ) (e : Error) → n ≡ p.octets + number (head_of h).length → 2 ^ 32 ≤ n → e ≡ error_of_kind Overflow → TlvAnswers s (Err e) s
+  pub tlv_far : (n : ℕ) (e : Error) → n ≡ p.octets + number (head_of h).length → 2 ^ 32 ≤ n → e ≡ error_of_kind Overflow → TlvAnswer s (Err e) s
   tlv_far n e sum far told =
       let over : tlv_outcome (p.octets + number (head_of h).length) s ≡ record { answer = Err (error_of_kind Overflow); after = s } = ap (λ k. tlv_outcome k s) (sym sum) ∙ rw (le-ltb n (2 ^ 32) far) refl in
       with_header h p.octets here working (record { answered = ap Err told ∙ sym (ap (λ x. x.answer) over); leaves = sym (ap (λ x. x.after) over) })

@@ -7,7 +7,7 @@ use Rattle.der_base.specs.declared.error.Error.{Error}
 use Rattle.der_base.specs.declared.length.Length.{Length}
 use Rattle.der_base.proofs.IdentifierLemmas.{identifier_some}
 use Rattle.der_base.proofs.GrowthLemmas.{open_item, open_deeper, open_ends, body_from_open, item_parts, open_parts}
-use Rattle.der_core.specs.ReaderState.{ReaderState, rest, IsSound, Same, Reads}
+use Rattle.der_core.specs.ReaderState.{ReaderState, rest_of, IsSound, Same, Reads}
 use Rattle.der_core.specs.Decode.{Passes, IsRefusedBy, at_fault, has_failed}
 use Rattle.der_core.specs.AfterFirstOctet.{Stops}
 use Rattle.der_core.specs.Turn.{PartOctets, PartRead, RefusesPart}
@@ -35,12 +35,12 @@ module _ {a b : ReaderState} {level parts : ℕ} (h : Reached a b level parts) w
   reached_refused {t} {e} (has_failed f told leaves) =
       ⊎_elim (λ start. subst (λ s. IsRefusedBy (λ rules. BodyFault) s e t) start (has_failed f told leaves)) (λ w. absurd (let no : true ≡ false = sym f ∙ failed_on h.reads ∙ w in cc)) h.working
   reached_refused {t} {e} (at_fault r w fault told leaves) =
-      let there : ScanFault level (a.position + length h.passed) (rest b) r = subst (λ n. ScanFault level n (rest b) r) (position_on h.reads) fault in
+      let there : ScanFault level (a.position + length h.passed) (rest_of b) r = subst (λ n. ScanFault level n (rest_of b) r) (position_on h.reads) fault in
       let stops : Stops b r e t = record { told = told; leaves = leaves } in
-      at_fault r (reached_working w) (record { level = level; parts = parts; passed = h.passed; left = rest b; split = h.reads.split; reached = h.is_open; stops = there }) told (stops_on h.reads stops).leaves
+      at_fault r (reached_working w) (record { level = level; parts = parts; passed = h.passed; left = rest_of b; split = h.reads.split; reached = h.is_open; stops = there }) told (stops_on h.reads stops).leaves
 
-  pub reached_turns : parts ≤ length (rest a) / 2
-  reached_turns = omega (arith, open_parts h.is_open, ap length h.reads.split, length-append h.passed (rest b))
+  pub reached_turns : parts ≤ length (rest_of a) / 2
+  reached_turns = omega (arith, open_parts h.is_open, ap length h.reads.split, length-append h.passed (rest_of b))
 
 module _ {a b c : ReaderState} {level parts : ℕ} (h : Reached a b level parts) where
   reached_on : {k n : ℕ} {x : List ℕ} → b.failed ≡ false → Open k n (h.passed ++ x) → Reads b c x → Same b c → Reached a c k n
@@ -60,8 +60,8 @@ module _ {a b c : ReaderState} {level parts : ℕ} (h : Reached a b level parts)
       (h.passed ++ 0 ∷ 0 ∷ [], body_from_open (subst (λ k. Open k parts h.passed) one h.is_open), subst (λ x. Reads a c (h.passed ++ x)) g.is_part (reads_on h.reads g.reads))
 
   -- the last end mark closes the body
-  pub reached_parts : level ≡ 1 → PartRead level Ends b c → PartsAhead (parts + 1) (rest a)
-  reached_parts one g = let (body, is, reads) = body_read one g in (body, rest c, is, reads.split)
+  pub reached_parts : level ≡ 1 → PartRead level Ends b c → PartsAhead (parts + 1) (rest_of a)
+  reached_parts one g = let (body, is, reads) = body_read one g in (body, rest_of c, is, reads.split)
 
   pub reached_last : level ≡ 1 → PartRead level Ends b c → (l : Length) → l ≡ indefinite_length (c.position - a.position) → Passes (BodyAhead l) a c
   reached_last one g l counts =
@@ -70,8 +70,8 @@ module _ {a b c : ReaderState} {level parts : ℕ} (h : Reached a b level parts)
       record {
         octets = length body;
         working = reached_working h g.working;
-        ahead = record { parts = parts + 1; body = body; behind = rest c; is_body = is; split = reads.split; sized = refl; counts = counts ∙ ap indefinite_length size };
-        there = omega (arith, ap length reads.split, length-append body (rest c));
+        ahead = record { parts = parts + 1; body = body; behind = rest_of c; is_body = is; split = reads.split; sized = refl; counts = counts ∙ ap indefinite_length size };
+        there = omega (arith, ap length reads.split, length-append body (rest_of c));
         leaves = reads.state;
       }
 

@@ -3,7 +3,7 @@ use Rattle.std.proofs.Common.{◌≡◌, ◌≢◌, ℕ, ◌+◌, ◌*◌, ◌/�
 use Rattle.std.specs.Int.Bits.{and_zero_r}
 use Rattle.std.proofs.lemmas.Nat.{and_mask, and_block, shr_split}
 use Rattle.der_base.specs.Length.{digits}
-use Rattle.der_base.specs.Error.{at as error_at, Refusal, refusal, end_refusal}
+use Rattle.der_base.specs.Error.{error_at, Refusal, refusal, end_refusal}
 use Rattle.der_base.specs.Tag.{universal_tag, other_tag, is_constructed, continuation_octets, IsIdentifier, IdentifierFault, identifier_kind}
 use Rattle.der_base.specs.HeaderGrammar.{IdentifierAhead, identifier}
 use Rattle.der_base.specs.declared.tag.Tag.{Tag}
@@ -15,7 +15,7 @@ use Rattle.der_base.specs.declared.encoding_rules.EncodingRules.TheVariants.{Ber
 use Rattle.der_base.proofs.LongNumberLemmas.{SoFar, so_far_none as none_so_far, so_far_more, number_found as found, number_cut, number_refused_first, number_refused_few, number_refused_many}
 use Rattle.der_base.proofs.IdentifierLemmas.{identifier_at, segments_identifier, universal_identifier, short_identifier, long_identifier, fault_nothing, fault_universal}
 use Rattle.der_base.proofs.TagLemmas.{universal_constructed, universal_class, universal_octets, universal_found}
-use Rattle.der_core.specs.ReaderState.{ReaderState, rest, reader_position, stopped_state, Reads}
+use Rattle.der_core.specs.ReaderState.{ReaderState, rest_of, reader_position, stopped_state, Reads}
 use Rattle.der_core.specs.Decode.{Passes, IsRefusedBy, at_fault, has_failed}
 use Rattle.der_core.specs.AfterFirstOctet.{IdentifierBehind, IsAlone, RefusesIdentifier, RefusesNumber, Stops, tag_or_segments, identifier_tag}
 use Rattle.der_core.proofs.StateLemmas.{reads_none, reads_on, position_on, failed_on, rules_on, stops_on, error_stops, ByteRefused, byte_failed, byte_cut}
@@ -45,9 +45,9 @@ number_found {a} {b} {c} {v} {p} h g low large =
     let r = found h.0 v p h.2 low large in
     (subst (Reads a c) r.0 (reads_on h.1 g), large, r.1)
 
-pub number_ends : {a b t : ReaderState} {v : ℕ} {e : Error} → NumberSoFar a b v → (rest b ≡ []) × Stops b (end_refusal b.position) e t → RefusesNumber a e t
+pub number_ends : {a b t : ReaderState} {v : ℕ} {e : Error} → NumberSoFar a b v → (rest_of b ≡ []) × Stops b (end_refusal b.position) e t → RefusesNumber a e t
 number_ends {a} {b} {t} {v} {e} h g at o here working low high all =
-    let whole : h.0 ≡ rest a = sym (h.1.split ∙ ap (λ l. h.0 ++ l) g.0 ∙ append-nil h.0) in
+    let whole : h.0 ≡ rest_of a = sym (h.1.split ∙ ap (λ l. h.0 ++ l) g.0 ∙ append-nil h.0) in
     let end : at + length (o ∷ h.0) ≡ b.position = omega (arith, position_on h.1) in (
       end_refusal (at + length (o ∷ h.0)),
       subst (λ l. IdentifierFault a.rules at (o ∷ l) (end_refusal (at + length (o ∷ h.0)))) whole (number_cut at o v h.0 low high all h.2),
@@ -55,10 +55,10 @@ number_ends {a} {b} {t} {v} {e} h g at o here working low high all =
     )
 
 number_refuses : {a b c t : ReaderState} {s : List ℕ} {p : ℕ} {e : Error} (at o : ℕ) → Reads a b s → Reads b c (p ∷ []) → a.position ≡ at + 1
-    → IdentifierFault a.rules at (o ∷ (s ++ p ∷ rest c)) (refusal TagNumberInvalid (at + length (o ∷ s) + 1)) → e ≡ error_at TagNumberInvalid (reader_position c) → t ≡ stopped_state c c.position
-    → (r : Refusal) × IdentifierFault a.rules at (o ∷ rest a) r × Stops a r e t
+    → IdentifierFault a.rules at (o ∷ (s ++ p ∷ rest_of c)) (refusal TagNumberInvalid (at + length (o ∷ s) + 1)) → e ≡ error_at TagNumberInvalid (reader_position c) → t ≡ stopped_state c c.position
+    → (r : Refusal) × IdentifierFault a.rules at (o ∷ rest_of a) r × Stops a r e t
 number_refuses {a} {b} {c} {t} {s} {p} {e} at o h g here fault told leaves =
-    let whole : s ++ p ∷ rest c ≡ rest a = sym (h.split ∙ ap (λ l. s ++ l) g.split) in
+    let whole : s ++ p ∷ rest_of c ≡ rest_of a = sym (h.split ∙ ap (λ l. s ++ l) g.split) in
     let there : at + length (o ∷ s) + 1 ≡ c.position = omega (arith, position_on h, position_on g) in (
       refusal TagNumberInvalid (at + length (o ∷ s) + 1),
       subst (λ l. IdentifierFault a.rules at (o ∷ l) (refusal TagNumberInvalid (at + length (o ∷ s) + 1))) whole fault,
@@ -68,17 +68,17 @@ number_refuses {a} {b} {c} {t} {s} {p} {e} at o h g here fault told leaves =
 pub refused_first : {a b c t : ReaderState} {v p : ℕ} {e : Error} → NumberSoFar a b v → Reads b c (p ∷ []) → v ≡ 0 → p % 128 ≡ 0
     → e ≡ error_at TagNumberInvalid (reader_position c) → t ≡ stopped_state c c.position → RefusesNumber a e t
 refused_first {c = c} {v = v} {p = p} h g z q told leaves at o here working low high all =
-    number_refuses at o h.1 g here (number_refused_first at o v p h.0 (rest c) low high all h.2 z q) told leaves
+    number_refuses at o h.1 g here (number_refused_first at o v p h.0 (rest_of c) low high all h.2 z q) told leaves
 
 pub refused_few : {a b c t : ReaderState} {v p : ℕ} {e : Error} → NumberSoFar a b v → Reads b c (p ∷ []) → p < 128 → v * 128 + p % 128 < 31
     → e ≡ error_at TagNumberInvalid (reader_position c) → t ≡ stopped_state c c.position → RefusesNumber a e t
 refused_few {c = c} {v = v} {p = p} h g l few told leaves at o here working low high all =
-    number_refuses at o h.1 g here (number_refused_few at o v p h.0 (rest c) low high all h.2 l few) told leaves
+    number_refuses at o h.1 g here (number_refused_few at o v p h.0 (rest_of c) low high all h.2 l few) told leaves
 
 pub refused_many : {a b c t : ReaderState} {v p : ℕ} {e : Error} → NumberSoFar a b v → Reads b c (p ∷ []) → 128 ≤ p → p < 256 → 2 ^ 25 ≤ v * 128 + p % 128
     → e ≡ error_at TagNumberInvalid (reader_position c) → t ≡ stopped_state c c.position → RefusesNumber a e t
 refused_many {c = c} {v = v} {p = p} h g l m many told leaves at o here working low high all =
-    number_refuses at o h.1 g here (number_refused_many at o v p h.0 (rest c) low high all h.2 l m many) told leaves
+    number_refuses at o h.1 g here (number_refused_many at o v p h.0 (rest_of c) low high all h.2 l m many) told leaves
 
 -- which rules they are
 pub is_ber : {b : Bool} {rules : EncodingRules} → IsTrue b ↔ (rules ≡ Ber) → b ≡ true → rules ≡ Ber
@@ -95,8 +95,8 @@ passed_tag {a} {t} {id} {x} working h is =
     record {
       octets = length id;
       working = working;
-      ahead = subst (λ l. IdentifierAhead x a.rules l (length id)) (sym h.split) (identifier (rest t) is);
-      there = omega (arith, ap length h.split, length-append id (rest t));
+      ahead = subst (λ l. IdentifierAhead x a.rules l (length id)) (sym h.split) (identifier (rest_of t) is);
+      there = omega (arith, ap length h.split, length-append id (rest_of t));
       leaves = h.state;
     }
 
@@ -175,7 +175,7 @@ pub refused_unknown : {s t : ReaderState} {o : ℕ} {e : Error} → o < 64 → u
     → e ≡ error_at (identifier_kind [] o) (reader_position s) → t ≡ stopped_state s s.position → RefusesIdentifier o s e t
 refused_unknown {s} {t} {o} {e} low none other told leaves at here working = (
   refusal (identifier_kind [] o) (at + 1),
-  fault_universal at o (rest s) low none other,
+  fault_universal at o (rest_of s) low none other,
   subst (λ n. Stops s (refusal (identifier_kind [] o) n) e t) here (error_stops s t (identifier_kind [] o) e told leaves),
 )
 
@@ -196,7 +196,7 @@ tag_ends {a} (byte_cut working none stops) =
 pub behind_refused : {a b t : ReaderState} {o : ℕ} {e : Error} → a.failed ≡ false → Reads a b (o ∷ []) → RefusesIdentifier o b e t → IsRefusedBy IdentifierFault a e t
 behind_refused {a} {b} {t} {o} {e} working h n =
     let r = n a.position (position_on h) (failed_on h ∙ working) in
-    let fault : IdentifierFault a.rules a.position (o ∷ rest b) r.0 = subst (λ rules. IdentifierFault rules a.position (o ∷ rest b) r.0) (rules_on h) r.1 in
+    let fault : IdentifierFault a.rules a.position (o ∷ rest_of b) r.0 = subst (λ rules. IdentifierFault rules a.position (o ∷ rest_of b) r.0) (rules_on h) r.1 in
     at_fault r.0 working (subst (λ l. IdentifierFault a.rules a.position l r.0) (sym h.split) fault) (stops_on h r.2).told (stops_on h r.2).leaves
 
 -- so an identifier is decoded

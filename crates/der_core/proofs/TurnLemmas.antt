@@ -3,7 +3,7 @@ use Rattle.std.proofs.Common.{◌≡◌, ◌≢◌, ℕ, ◌+◌, ◌-◌, ◌^�
 use Rattle.std.proofs.lemmas.List.{take-append-drop}
 use Rattle.std.proofs.lemmas.Bool.{le-leb, lt-leb, ne_eqb, cases_lt, cases_eq}
 use Rattle.std.proofs.Math.Nat.{min-eq_left, min-eq_right}
-use Rattle.der_base.specs.Error.{at as error_at, Refusal, refusal, end_refusal, missing_refusal}
+use Rattle.der_base.specs.Error.{error_at, Refusal, refusal, end_refusal, missing_refusal}
 use Rattle.der_base.specs.Length.{definite_length, length_octets}
 use Rattle.der_base.specs.Tag.{IsIdentifier, IdentifierFault, cut, refused}
 use Rattle.der_base.specs.Body.{IsLevel, Item, definite}
@@ -14,7 +14,7 @@ use Rattle.der_base.specs.declared.tag.Tag.{Tag}
 use Rattle.der_base.specs.declared.error.Error.{Error}
 use Rattle.der_base.specs.declared.error.ErrorKind.TheVariants.{Failed, IndefiniteLength, NestingDepth, Length as IncorrectLength}
 use Rattle.der_base.specs.declared.encoding_rules.EncodingRules.TheVariants.{Ber}
-use Rattle.der_core.specs.ReaderState.{ReaderState, rest, reader_position, advanced_state, stopped_state, IsSound, Reads}
+use Rattle.der_core.specs.ReaderState.{ReaderState, rest_of, reader_position, advanced_state, stopped_state, IsSound, Reads}
 use Rattle.der_core.specs.Outcome.{Gives, outcome_of, refused_outcome}
 use Rattle.der_core.specs.Reader.{drain_outcome, emptied_outcome, read_slice_outcome, short_outcome, whole_steps}
 use Rattle.der_core.specs.Decode.{at_fault, has_failed}
@@ -50,7 +50,7 @@ drain_step s n working some l = working_table s n working ∙ rw (ne_eqb n 0 som
     working_table s n working = ap (λ b. if (n == 0) && true then outcome_of (Ok tt) s else if b then outcome_of (Err (error_at Failed (reader_position s))) s else if nat_le (s.position + n) s.end then outcome_of (Ok tt) (advanced_state s n) else emptied_outcome (read_slice_outcome (min 16 (n - whole_steps s)) (advanced_state s (whole_steps s)))) working
 
 drain_short : (s : ReaderState) (n : ℕ) → IsSound s → s.failed ≡ false → n ≢ 0 → s.end < s.position + n
-    → drain_outcome (definite_length n) s ≡ refused_outcome (Unit {0}) s (short_refusal n (length (rest s)) s.position)
+    → drain_outcome (definite_length n) s ≡ refused_outcome (Unit {0}) s (short_refusal n (length (rest_of s)) s.position)
 drain_short s n sound working some l =
     let w = whole_steps s in
     let k = min 16 (n - whole_steps s) in
@@ -61,16 +61,16 @@ drain_short s n sound working some l =
     ∙ ap (λ m. refused_outcome (Unit {0}) s (short_refusal n m s.position)) (sym (length-rest s sound))
 
 module _ (s : ReaderState) (n : ℕ) (sound : IsSound s) (working : s.failed ≡ false) where
-  pub drain_refused : {t : ReaderState} {e : Error} → Gives (drain_outcome (definite_length n)) s (Err e) t → (length (rest s) < n) × Stops s (short_refusal n (length (rest s)) s.position) e t
+  pub drain_refused : {t : ReaderState} {e : Error} → Gives (drain_outcome (definite_length n)) s (Err e) t → (length (rest_of s) < n) × Stops s (short_refusal n (length (rest_of s)) s.position) e t
   drain_refused {t} {e} h =
       ⊎_elim (λ none. absurd (let a = h.answered ∙ ap (λ o. o.answer) (drain_none s n none) in cc)) (λ some. ⊎_elim
       (λ few. let table = drain_short s n sound working some few in
-      let told : Err e ≡ Err (short_refusal n (length (rest s)) s.position).error = h.answered ∙ ap (λ o. o.answer) table in
+      let told : Err e ≡ Err (short_refusal n (length (rest_of s)) s.position).error = h.answered ∙ ap (λ o. o.answer) table in
       (omega (arith, length-rest s sound), record { told = cc; leaves = h.leaves ∙ ap (λ o. o.after) table }))
       (λ enough. absurd (let a = h.answered ∙ ap (λ o. o.answer) (drain_enough s n working some enough) in cc))
       (cases_lt s.end (s.position + n))) (cases_eq n 0)
 
-  drain_passed : {t : ReaderState} {v : Unit {0}} → Gives (drain_outcome (definite_length n)) s (Ok v) t → (n ≤ length (rest s)) × (t ≡ advanced_state s n)
+  drain_passed : {t : ReaderState} {v : Unit {0}} → Gives (drain_outcome (definite_length n)) s (Ok v) t → (n ≤ length (rest_of s)) × (t ≡ advanced_state s n)
   drain_passed {t} h =
       ⊎_elim (λ none. (omega arith, h.leaves ∙ ap (λ o. o.after) (drain_none s n none) ∙ ap (λ p. record s { position = p }) (omega arith))) (λ some. ⊎_elim
       (λ few. absurd (let a = h.answered ∙ ap (λ o. o.answer) (drain_short s n sound working some few) in cc))
@@ -112,11 +112,11 @@ length_passed {a} {k = k} {id = id} i j sized g few = record { working = i.worki
 
 module _ (level : ℕ) {a : ReaderState} where
   -- a fault that is told
-  stops_at : {t : ReaderState} {e : Error} {q : List ℕ} {r : Refusal} → a.failed ≡ false → rest a ≡ q → ScanFault level a.position q r → Stops a r e t → RefusesPart level a e t
+  stops_at : {t : ReaderState} {e : Error} {q : List ℕ} {r : Refusal} → a.failed ≡ false → rest_of a ≡ q → ScanFault level a.position q r → Stops a r e t → RefusesPart level a e t
   stops_at {r = r} working octets fault stops = at_fault r working (subst (λ l. ScanFault level a.position l r) (sym octets) fault) stops.told stops.leaves
 
   -- the same, told at the position where a reader stands behind some of the octets
-  stops_there : {b t : ReaderState} {x : List ℕ} {e : Error} {q : List ℕ} {n : ℕ} (f : ℕ → Refusal) → a.failed ≡ false → Reads a b x → n ≡ b.position → rest a ≡ q
+  stops_there : {b t : ReaderState} {x : List ℕ} {e : Error} {q : List ℕ} {n : ℕ} (f : ℕ → Refusal) → a.failed ≡ false → Reads a b x → n ≡ b.position → rest_of a ≡ q
       → ScanFault level a.position q (f n) → Stops b (f b.position) e t → RefusesPart level a e t
   stops_there {t = t} {e = e} f working h here octets fault stops = stops_at working octets fault (subst (λ k. Stops a (f k) e t) (sym here) (stops_on h stops))
 
@@ -136,13 +136,13 @@ module _ (level : ℕ) {a : ReaderState} where
         stops_there end_refusal working h (sym (position_on h)) (h.split ∙ ap (λ l. o ∷ l) r.0 ∙ ap (λ x. x ∷ []) is) half_mark r.1
     part_no_mark is (other_read {c = c} second w g other stops) =
         let both = reads_on h g in
-        stops_there (refusal IndefiniteLength) working both (sym (position_on both)) (both.split ∙ ap (λ x. x ∷ second ∷ rest c) is) (no_mark second (rest c) other) stops
+        stops_there (refusal IndefiniteLength) working both (sym (position_on both)) (both.split ∙ ap (λ x. x ∷ second ∷ rest_of c) is) (no_mark second (rest_of c) other) stops
 
     -- another octet that begins no identifier
     pub part_refused : {t : ReaderState} {e : Error} → a.rules ≡ Ber → o ≢ 0 → RefusesIdentifier o b e t → RefusesPart level a e t
     part_refused {t} {e} ber other n =
         let r = n a.position (position_on h) (failed_on h ∙ working) in
-        let fault : IdentifierFault Ber a.position (o ∷ rest b) r.0 = subst (λ rules. IdentifierFault rules a.position (o ∷ rest b) r.0) (rules_on h ∙ ber) r.1 in
+        let fault : IdentifierFault Ber a.position (o ∷ rest_of b) r.0 = subst (λ rules. IdentifierFault rules a.position (o ∷ rest_of b) r.0) (rules_on h ∙ ber) r.1 in
         stops_at working h.split (identifier_stops other fault refl) (stops_on h r.2)
 
   -- behind an identifier
@@ -156,13 +156,13 @@ module _ (level : ℕ) {a : ReaderState} where
     module _ {f : ReaderState} {octet : ℕ} (j : Reads c f (octet ∷ [])) (opens : octet ≡ 128) where
       pub part_primitive : {t : ReaderState} {e : Error} → bit ≡ false → e ≡ error_at IndefiniteLength (reader_position f) → t ≡ stopped_state f f.position → RefusesPart level a e t
       part_primitive {t} {e} plain told leaves =
-          stops_there (refusal IndefiniteLength) i.working (reads_on i.read j) (omega (arith, position_on i.read, position_on j)) (i.read.split ∙ ap (λ q. id ++ q) (j.split ∙ ap (λ p. p ∷ rest f) opens))
-          (primitive (rest f) (subst (IsIdentifier Ber id x) plain i.is)) (error_stops f t IndefiniteLength e told leaves)
+          stops_there (refusal IndefiniteLength) i.working (reads_on i.read j) (omega (arith, position_on i.read, position_on j)) (i.read.split ∙ ap (λ q. id ++ q) (j.split ∙ ap (λ p. p ∷ rest_of f) opens))
+          (primitive (rest_of f) (subst (IsIdentifier Ber id x) plain i.is)) (error_stops f t IndefiniteLength e told leaves)
 
       pub part_too_deep : {t : ReaderState} {e : Error} → bit ≡ true → level ≡ 64 → e ≡ error_at NestingDepth (reader_position f) → t ≡ stopped_state f f.position → RefusesPart level a e t
       part_too_deep {t} {e} constructed deep told leaves =
-          stops_there (refusal NestingDepth) i.working (reads_on i.read j) (omega (arith, position_on i.read, position_on j)) (i.read.split ∙ ap (λ q. id ++ q) (j.split ∙ ap (λ p. p ∷ rest f) opens))
-          (too_deep (rest f) deep (subst (IsIdentifier Ber id x) constructed i.is)) (error_stops f t NestingDepth e told leaves)
+          stops_there (refusal NestingDepth) i.working (reads_on i.read j) (omega (arith, position_on i.read, position_on j)) (i.read.split ∙ ap (λ q. id ++ q) (j.split ∙ ap (λ p. p ∷ rest_of f) opens))
+          (too_deep (rest_of f) deep (subst (IsIdentifier Ber id x) constructed i.is)) (error_stops f t NestingDepth e told leaves)
 
       pub part_opens : bit ≡ true → level < 64 → PartRead level Opens a f
       part_opens constructed few =
@@ -173,8 +173,8 @@ module _ (level : ℕ) {a : ReaderState} where
     part_wrong_length {f} {octet = octet} j n =
         let whole = reads_on i.read j in
         let r = n c.position (position_on j) (failed_on whole ∙ i.working) in
-        let fault : LengthFault NoBodyFault (IncorrectLength x) Ber c.position (octet ∷ rest f) r.0 = subst (λ rules. LengthFault NoBodyFault (IncorrectLength x) rules c.position (octet ∷ rest f) r.0) (rules_on whole ∙ i.ber) r.1 in
-        stops_at i.working (i.read.split ∙ ap (λ q. id ++ q) j.split) (no_length i.is (subst (λ p. LengthFault NoBodyFault (IncorrectLength x) Ber p (octet ∷ rest f) r.0) (position_on i.read) fault)) (stops_on whole r.2)
+        let fault : LengthFault NoBodyFault (IncorrectLength x) Ber c.position (octet ∷ rest_of f) r.0 = subst (λ rules. LengthFault NoBodyFault (IncorrectLength x) rules c.position (octet ∷ rest_of f) r.0) (rules_on whole ∙ i.ber) r.1 in
+        stops_at i.working (i.read.split ∙ ap (λ q. id ++ q) j.split) (no_length i.is (subst (λ p. LengthFault NoBodyFault (IncorrectLength x) Ber p (octet ∷ rest_of f) r.0) (position_on i.read) fault)) (stops_on whole r.2)
 
   -- behind a definite length
   module _ {k : ReaderState} {id : List ℕ} {n : ℕ} {x : Tag} {bit : Bool} (i : LengthPassed a k id n x bit) where
@@ -182,13 +182,13 @@ module _ (level : ℕ) {a : ReaderState} where
     part_short {t} {l} {e} is sound h =
         let r = drain_refused k n sound (failed_on i.read ∙ i.working) (drained_as is h) in
         let there : a.position + length id + length (length_octets n) ≡ k.position = omega (arith, position_on i.read, length-append id (length_octets n)) in
-        stops_there (short_refusal n (length (rest k))) i.working i.read there (i.read.split ∙ append_assoc id (length_octets n) (rest k)) (short n (rest k) i.is i.few r.0) r.1
+        stops_there (short_refusal n (length (rest_of k))) i.working i.read there (i.read.split ∙ append_assoc id (length_octets n) (rest_of k)) (short n (rest_of k) i.is i.few r.0) r.1
 
     pub part_passes : {t : ReaderState} {l : Length} {v : Unit {0}} → l ≡ definite_length n → IsLevel level → IsSound k → Gives (drain_outcome l) k (Ok v) t → PartRead level Passes a t
     part_passes {t} is at sound h =
         let r = drain_passed k n sound (failed_on i.read ∙ i.working) (drained_as is h) in
-        let contents = take n (rest k) in
-        let long : length contents ≡ n = length-take-le n (rest k) r.0 in
-        let passed : Reads k t contents = subst (λ u. Reads k u contents) (ap (advanced_state k) long ∙ sym r.1) (reads_front k contents (drop n (rest k)) (sym (take-append-drop n (rest k)))) in
+        let contents = take n (rest_of k) in
+        let long : length contents ≡ n = length-take-le n (rest_of k) r.0 in
+        let passed : Reads k t contents = subst (λ u. Reads k u contents) (ap (advanced_state k) long ∙ sym r.1) (reads_front k contents (drop n (rest_of k)) (sym (take-append-drop n (rest_of k)))) in
         let item : Item level 1 (id ++ (length_octets n ++ contents)) = subst (λ q. Item level 1 (id ++ (length_octets q ++ contents))) long (definite at i.is contents (omega (arith, long, i.few))) in
         record { octets = id ++ (length_octets n ++ contents); working = i.working; is_part = item; reads = subst (Reads a t) (append_assoc id (length_octets n) contents) (reads_on i.read passed) }

@@ -8,7 +8,7 @@ use Rattle.der_base.specs.ScanGrammar.{BodyAhead, BodyFault, short_refusal}
 use Rattle.der_base.specs.declared.error.Error.{Error}
 use Rattle.der_base.specs.declared.length.Length.{Length}
 use Rattle.der_base.specs.declared.encoding_rules.EncodingRules.TheVariants.{Ber}
-use Rattle.der_core.specs.ReaderState.{ReaderState, rest, stopped_state, state_after, advanced_state, IsSound, Same, Reads}
+use Rattle.der_core.specs.ReaderState.{ReaderState, rest_of, stopped_state, state_after, advanced_state, IsSound, Same, Reads}
 use Rattle.der_core.specs.Outcome.{Gives}
 use Rattle.der_core.specs.Reader.{drain_outcome}
 use Rattle.der_core.specs.Decode.{Passes, IsRefusedBy, has_failed, at_fault}
@@ -21,7 +21,7 @@ use Rattle.der_core.proofs.DecodeLemmas.{decoded_ok, decoded_err}
 use Rattle.der_core.proofs.TurnLemmas.{drain_refused}
 
 -- what is left of the octets
-pub walked_rest : (octets : List ℕ) (start index : ℕ) → rest (walked_state octets start index) ≡ drop index octets
+pub walked_rest : (octets : List ℕ) (start index : ℕ) → rest_of (walked_state octets start index) ≡ drop index octets
 walked_rest octets start index =
     let behind : drop (start + index) (replicate start 0 ++ octets) ≡ drop index octets =
     ap (λ n. drop (n + index) (replicate start 0 ++ octets)) (sym (length-replicate start 0)) ∙ drop-append-add (replicate start 0) octets index in
@@ -58,7 +58,7 @@ after_same s sound r forward within = record { input = refl; rules = refl; end =
     kept false f = f
 
 -- no octet is left
-pub cut_told : (w : Walk) {e : Error} → rest (walk_state w) ≡ [] → e ≡ (end_refusal (walk_state w).position).error → IsToldBy ByteRefused (walk_state w) e
+pub cut_told : (w : Walk) {e : Error} → rest_of (walk_state w) ≡ [] → e ≡ (end_refusal (walk_state w).position).error → IsToldBy ByteRefused (walk_state w) e
 cut_told w none told =
     let s = walk_state w in
     let sound = walk_sound w in
@@ -84,34 +84,34 @@ short_told w n {e} told =
     let gives : Gives (drain_outcome (definite_length n)) s (Err e) (drain_outcome (definite_length n) s).after = record { answered = told; leaves = refl } in
     let r = drain_refused s n sound refl gives in
     let left = length-rest s sound in
-    let same : Same s (state_after s (short_refusal n (length (rest s)) s.position)) =
-    after_same s sound (short_refusal n (length (rest s)) s.position) (omega arith) (omega (arith, left, sound.ordered)) in
+    let same : Same s (state_after s (short_refusal n (length (rest_of s)) s.position)) =
+    after_same s sound (short_refusal n (length (rest_of s)) s.position) (omega arith) (omega (arith, left, sound.ordered)) in
     ((drain_outcome (definite_length n) s).after, subst (Same s) (sym r.1.leaves) same, gives)
 
 -- a scan of the octets ahead of a reader is a scan ahead of it
 pub scans_rest : (s : ReaderState) (reliable : Bool) (result : Result Length Error) → IsSound s → s.failed ≡ false → s.rules ≡ Ber
-    → ScansAhead true (walked_state (rest s) s.position 0) result → ScansAhead reliable s result
+    → ScansAhead true (walked_state (rest_of s) s.position 0) result → ScansAhead reliable s result
 scans_rest s reliable (Ok l) sound working ber (t, h) =
-    let w = walked_state (rest s) s.position 0 in
-    let all : rest w ≡ rest s = walked_rest (rest s) s.position 0 in
+    let w = walked_state (rest_of s) s.position 0 in
+    let all : rest_of w ≡ rest_of s = walked_rest (rest_of s) s.position 0 in
     let m = h.ok.octets in
-    let there : m ≤ length (rest s) = omega (arith, h.ok.there, ap length all) in
-    let ahead : BodyAhead l s.rules (rest s) m = subst (λ q. BodyAhead l s.rules q m) all (subst (λ rules. BodyAhead l rules (rest w) m) (sym ber) h.ok.ahead) in
+    let there : m ≤ length (rest_of s) = omega (arith, h.ok.there, ap length all) in
+    let ahead : BodyAhead l s.rules (rest_of s) m = subst (λ q. BodyAhead l s.rules q m) all (subst (λ rules. BodyAhead l rules (rest_of w) m) (sym ber) h.ok.ahead) in
     let passes : Passes (BodyAhead l) s (advanced_state s m) = record { octets = m; working = working; ahead = ahead; there = there; leaves = refl } in
     let same : Same s (advanced_state s m) = record { input = refl; rules = refl; end = refl; depth = refl; marks = refl; forward = omega arith; within = omega (arith, there, length-rest s sound, sound.ordered); failed = λ f. f } in
     (advanced_state s m, decoded_ok same passes)
 scans_rest s reliable (Err e) sound working ber (t, h) = refused_so (h.refused refl)
   where
     w : ReaderState
-    w = walked_state (rest s) s.position 0
+    w = walked_state (rest_of s) s.position 0
 
     refused_so : IsRefusedBy (λ rules. BodyFault) w e t → ScansAhead reliable s (Err e)
     refused_so (has_failed f told leaves) = absurd (let no : false ≡ true = f in cc)
     refused_so (at_fault r w' fault told leaves) =
-        let all : rest w ≡ rest s = walked_rest (rest s) s.position 0 in
+        let all : rest_of w ≡ rest_of s = walked_rest (rest_of s) s.position 0 in
         let here : w.position ≡ s.position = omega arith in
         let there : t.position ≡ r.position = ap (λ (x : ReaderState). x.position) leaves in
-        let end : t.end ≡ s.position + length (rest s) = h.same.end in
+        let end : t.end ≡ s.position + length (rest_of s) = h.same.end in
         let same : Same s (state_after s r) = after_same s sound r (omega (arith, h.same.forward, there)) (omega (arith, h.same.within, there, end, length-rest s sound, sound.ordered)) in
-        let stands : BodyFault s.position (rest s) r = subst (λ q. BodyFault s.position q r) all (subst (λ n. BodyFault n (rest w) r) here fault) in
+        let stands : BodyFault s.position (rest_of s) r = subst (λ q. BodyFault s.position q r) all (subst (λ n. BodyFault n (rest_of w) r) here fault) in
         (state_after s r, decoded_err same (λ reliable. at_fault r working stands told refl))

@@ -1,12 +1,12 @@
 -- Values of all the octets.
 use Rattle.std.proofs.Common.{◌≡◌, ℕ, ◌-◌, ◌^◌, ◌<◌, ◌≤◌, ◌⊎◌, inl, inr, Bool, true, false, Result, Ok, Err, List, length, refl, sym, ap, ◌∙◌, subst, arith}
 use Rattle.std.proofs.lemmas.Bool.{lt-ltb, le-ltb, cases_lt}
-use Rattle.der_base.specs.Error.{at}
+use Rattle.der_base.specs.Error.{error_at}
 use Rattle.der_base.specs.Length.{definite_length}
 use Rattle.der_base.specs.declared.error.Error.{Error}
 use Rattle.der_base.specs.declared.error.ErrorKind.TheVariants.{Failed, TrailingData}
 use Rattle.der_base.specs.declared.encoding_rules.EncodingRules.{EncodingRules}
-use Rattle.der_core.specs.ReaderState.{ReaderState, rest, reader_position, advanced_state, initial_state}
+use Rattle.der_core.specs.ReaderState.{ReaderState, rest_of, reader_position, advanced_state, initial_state}
 use Rattle.der_core.specs.Reader.{finish_answer}
 use Rattle.der_core.specs.Decode.{Passes, Whole, WholeAnswer, decoded}
 use Rattle.der_core.proofs.DecodeLemmas.{rest-beginning}
@@ -16,8 +16,8 @@ pub finish_ok : (t : ReaderState) → finish_answer t ≡ Ok tt → (t.failed �
 finish_ok t h = go t.failed refl (cases_lt t.position t.end)
   where
     go : (f : Bool) → t.failed ≡ f → (t.position < t.end) ⊎ (t.end ≤ t.position) → (t.failed ≡ false) × (t.end ≤ t.position)
-    go true f l = absurd (let no : finish_answer t ≡ Err (at Failed (reader_position t)) = rw f refl in let w : Err (at Failed (reader_position t)) ≡ Ok tt = sym no ∙ h in cc)
-    go false f (inl l) = absurd (let no : finish_answer t ≡ Err (at (TrailingData (reader_position t) (definite_length (t.end - t.position))) (reader_position t)) = rw f (rw (lt-ltb t.position t.end l) refl) in let w : Err (at (TrailingData (reader_position t) (definite_length (t.end - t.position))) (reader_position t)) ≡ Ok tt = sym no ∙ h in cc)
+    go true f l = absurd (let no : finish_answer t ≡ Err (error_at Failed (reader_position t)) = rw f refl in let w : Err (error_at Failed (reader_position t)) ≡ Ok tt = sym no ∙ h in cc)
+    go false f (inl l) = absurd (let no : finish_answer t ≡ Err (error_at (TrailingData (reader_position t) (definite_length (t.end - t.position))) (reader_position t)) = rw f (rw (lt-ltb t.position t.end l) refl) in let w : Err (error_at (TrailingData (reader_position t) (definite_length (t.end - t.position))) (reader_position t)) ≡ Ok tt = sym no ∙ h in cc)
     go false f (inr l) = (f, l)
 
 pub finishes : (t : ReaderState) → t.failed ≡ false → t.end ≤ t.position → finish_answer t ≡ Ok tt
@@ -25,16 +25,16 @@ finishes t f l = rw f (rw (le-ltb t.position t.end l) refl)
 
 -- all the octets
 module _ (rules : EncodingRules) (octets : List ℕ) (s t : ReaderState) (begun : s ≡ initial_state rules octets) where
-  pub wholly : {A : Type 0} (heads : A → EncodingRules → List ℕ → ℕ → Type 0) (v : A) → (s.failed ≡ false → t.failed ≡ false → Passes (heads v) s t) → finish_answer t ≡ Ok tt
-      → Whole (heads v) rules octets
-  wholly {A} heads v ok finished =
+  pub wholly : {A : Type 0} (Ahead : A → EncodingRules → List ℕ → ℕ → Type 0) (v : A) → (s.failed ≡ false → t.failed ≡ false → Passes (Ahead v) s t) → finish_answer t ≡ Ok tt
+      → Whole (Ahead v) rules octets
+  wholly {A} Ahead v ok finished =
       let f = finish_ok t finished in
       let passed = ok (ap (λ (x : ReaderState). x.failed) begun) f.0 in
-      let left : rest s ≡ octets = ap rest begun ∙ rest-beginning rules octets in
-      let here : heads v rules octets passed.octets = subst (λ l. heads v rules l passed.octets) left (subst (λ r. heads v r (rest s) passed.octets) (ap (λ (x : ReaderState). x.rules) begun) passed.ahead) in
+      let left : rest_of s ≡ octets = ap rest_of begun ∙ rest-beginning rules octets in
+      let here : Ahead v rules octets passed.octets = subst (λ l. Ahead v rules l passed.octets) left (subst (λ r. Ahead v r (rest_of s) passed.octets) (ap (λ (x : ReaderState). x.rules) begun) passed.ahead) in
       let all : passed.octets ≡ length octets =
       omega (arith, f.1, passed.there, ap length left, ap (λ (x : ReaderState). x.position) passed.leaves, ap (λ (x : ReaderState). x.end) passed.leaves, ap (λ (x : ReaderState). x.position) begun, ap (λ (x : ReaderState). x.end) begun) in
-      subst (heads v rules octets) all here
+      subst (Ahead v rules octets) all here
 
   pub whole_finishes : t ≡ advanced_state s (length octets) → finish_answer t ≡ Ok tt
   whole_finishes there =

@@ -4,7 +4,7 @@ use Rattle.std.specs.Borrow.{MutBor}
 use Rattle.std.proofs.lemmas.List.{take-append-drop, take-append-le, drop-drop}
 use Rattle.std.proofs.Math.Seq.{take-append_seam, drop-append-add, drop-append_seam}
 use Rattle.std.proofs.lemmas.Bool.Decides.{nat_tests}
-use Rattle.der_base.specs.Error.{at}
+use Rattle.der_base.specs.Error.{error_at}
 use Rattle.der_base.specs.Length.{definite_length}
 use Rattle.der_base.specs.declared.error.Error.{Error}
 use Rattle.der_base.specs.declared.error.ErrorKind.TheVariants.{Failed, Length as IncorrectLength}
@@ -12,7 +12,7 @@ use Rattle.der_base.specs.declared.tag.Tag.TheVariants.{Sequence}
 use Rattle.der_core.specs.Writer.{WriterState, Keeps, Writes, room_outcome, written_count, writer_position, appended_state}
 use Rattle.der_core.specs.SliceWriter.{slice_writer_state}
 use Rattle.der_core.specs.Encode.{header_outcome}
-use Rattle.der_core.specs.WrittenSequence.{Condition, Run, part_state, outer_state, headed_state, HandsBackPart, Abandons, ClosesPart, handed_on, failed, unfilled, filled, IsFilledBy, Runs, PartAnswer, WritesSequence, with_header}
+use Rattle.der_core.specs.WrittenSequence.{Condition, Run, part_state, outer_state, headed_state, HandsBackPart, Abandons, ClosesPart, handed_on, failed, unfilled, filled, IsFilledBy, Runs, PartAnswer, SequenceAnswer, with_header}
 use Rattle.der_core.specs.declared.writer.slice.SliceWriter.{SliceWriter}
 use Rattle.der_core.proofs.EncodeLemmas.{appended_both}
 
@@ -78,20 +78,20 @@ module _ (v : SliceWriter) (start stop : ℕ) (before : start ≤ v.start) (behi
   pub closed_refused : (answer : Result (Unit {0}) Error) (e : Error) → answer ≡ Err e → ClosesPart outer size inner (behind_part v start stop true) answer (Err e)
   closed_refused answer e is = subst (λ a. ClosesPart outer size inner (behind_part v start stop true) a (Err e)) (sym is) (handed_on e (abandoned _ refl))
 
-  pub closed_failed : (answer : Result (Unit {0}) Error) (e : Error) → answer ≡ Ok tt → v.failed ≡ true → e ≡ at Failed (definite_length v.position)
+  pub closed_failed : (answer : Result (Unit {0}) Error) (e : Error) → answer ≡ Ok tt → v.failed ≡ true → e ≡ error_at Failed (definite_length v.position)
       → ClosesPart outer size inner (behind_part v start stop v.failed) answer (Err e)
   closed_failed answer e is failing told =
-      let told_here : e ≡ at Failed (writer_position inner) = told ∙ ap (λ k. at Failed (definite_length k)) (omega (arith, stands_at v)) in
+      let told_here : e ≡ error_at Failed (writer_position inner) = told ∙ ap (λ k. error_at Failed (definite_length k)) (omega (arith, stands_at v)) in
       let gone = abandoned (behind_part v start stop v.failed) (ap (behind_part v start stop) failing) in
       subst (λ a. ClosesPart outer size inner (behind_part v start stop v.failed) a (Err e)) (sym is)
       (subst (λ x. ClosesPart outer size inner (behind_part v start stop v.failed) (Ok tt) (Err x)) (sym told_here) (failed failing gone))
 
   pub closed_unfilled : (answer : Result (Unit {0}) Error) (e : Error) → answer ≡ Ok tt → v.failed ≡ false → v.position < v.stop - v.start
-      → e ≡ at (IncorrectLength Sequence) (definite_length (v.stop - start)) → ClosesPart outer size inner (behind_part v start stop true) answer (Err e)
+      → e ≡ error_at (IncorrectLength Sequence) (definite_length (v.stop - start)) → ClosesPart outer size inner (behind_part v start stop true) answer (Err e)
   closed_unfilled answer e is alive short told =
       let few : length inner.octets < length outer.octets + size = omega (arith, stands_at v, begins, short) in
       let place : v.stop - start ≡ length outer.octets - start + size = omega (arith, begins, before, v.ordered) in
-      let told_behind : e ≡ at (IncorrectLength Sequence) (definite_length (written_count outer + size)) = told ∙ ap (λ k. at (IncorrectLength Sequence) (definite_length k)) place in
+      let told_behind : e ≡ error_at (IncorrectLength Sequence) (definite_length (written_count outer + size)) = told ∙ ap (λ k. error_at (IncorrectLength Sequence) (definite_length k)) place in
       subst (λ a. ClosesPart outer size inner (behind_part v start stop true) a (Err e)) (sym is)
       (subst (λ x. ClosesPart outer size inner (behind_part v start stop true) (Ok tt) (Err x)) (sym told_behind) (unfilled alive few (abandoned _ refl)))
 
@@ -190,7 +190,7 @@ fills run s t n r did = go did.given did.after did.answer r did.over_part did.ra
     go g q a r over did (filled alive full leaves) = record { given = g; after = q; over_part = over; ran = did; working = alive; full = full; leaves = leaves }
 
 -- a part behind the header
-pub behind_header : (run : Run) (s t u : WriterState) (n : ℕ) (r : Result (Unit {0}) Error) → u ≡ headed_state s n → Writes (header_outcome Sequence n s) (Ok tt) u → PartAnswer run u n r t → WritesSequence run s n r t
+pub behind_header : (run : Run) (s t u : WriterState) (n : ℕ) (r : Result (Unit {0}) Error) → u ≡ headed_state s n → Writes (header_outcome Sequence n s) (Ok tt) u → PartAnswer run u n r t → SequenceAnswer run s n r t
 behind_header run s t u n r same wrote answer =
     with_header (subst (λ v. Writes (header_outcome Sequence n s) (Ok tt) v) same wrote) (subst (λ v. PartAnswer run v n r t) same answer)
 

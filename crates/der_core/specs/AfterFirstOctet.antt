@@ -4,7 +4,7 @@ use Rattle.der_base.specs.Error.{Refusal}
 use Rattle.der_base.specs.Tag.{IsIdentifier, IdentifierFault, universal_tag, other_tag, is_constructed}
 use Rattle.der_base.specs.Length.{length_octets}
 use Rattle.der_base.specs.ScanGrammar.{NoBodyFault, BodyAhead, BodyFault}
-use Rattle.der_base.specs.HeaderGrammar.{LengthFault, HeaderAhead, head}
+use Rattle.der_base.specs.HeaderGrammar.{LengthFault, HeadAhead, head}
 use Rattle.der_base.specs.declared.error.Error.{Error}
 use Rattle.der_base.specs.declared.error.ErrorKind.{ErrorKind}
 use Rattle.der_base.specs.declared.error.ErrorKind.TheVariants.{Overlength, Length as IncorrectLength}
@@ -13,7 +13,7 @@ use Rattle.der_base.specs.declared.encoding_rules.EncodingRules.TheVariants.{Ber
 use Rattle.der_base.specs.declared.length.Length.{Length}
 use Rattle.der_base.specs.declared.tag.Tag.{Tag}
 use Rattle.der_base.specs.declared.tag.Tag.TheVariants.{OctetString}
-use Rattle.der_core.specs.ReaderState.{ReaderState, rest, state_after, Reads, Same}
+use Rattle.der_core.specs.ReaderState.{ReaderState, rest_of, state_after, Reads, Same}
 
 -- a refusal is told as its error, and leaves the reader so
 pub record Stops (s : ReaderState) (r : Refusal) (e : Error) (t : ReaderState) : Type 0 where
@@ -47,19 +47,19 @@ abbrev pub AreAhead : ReaderState → Option (ℕ × ℕ) → Type 0
 AreAhead s None = Unit {0}
 AreAhead s (Some x) =
     (s.failed ≡ false) × IsAlone x.0 × (x.1 < 128)
-    × ((more : List ℕ) × (rest s ≡ x.0 ∷ x.1 ∷ more))
+    × ((more : List ℕ) × (rest_of s ≡ x.0 ∷ x.1 ∷ more))
 
 -- a header whose identifier is told by its first octet and number
-abbrev pub ToldHeaderAhead : ℕ × ℕ × Length → EncodingRules → List ℕ → ℕ → Type 0
-ToldHeaderAhead x =
-    HeaderAhead (head (identifier_tag x.0 x.1) x.2 (is_constructed x.0))
+abbrev pub ToldHeadAhead : ℕ × ℕ × Length → EncodingRules → List ℕ → ℕ → Type 0
+ToldHeadAhead x =
+    HeadAhead (head (identifier_tag x.0 x.1) x.2 (is_constructed x.0))
 
 -- a long tag number, behind any first octet that one follows
 abbrev pub RefusesNumber : ReaderState → Error → ReaderState → Type 0
 RefusesNumber s e t =
     (at first : ℕ) → s.position ≡ at + 1 → s.failed ≡ false → 64 ≤ first → first < 256
     → first % 32 ≡ 31
-    → (r : Refusal) × IdentifierFault s.rules at (first ∷ rest s) r × Stops s r e t
+    → (r : Refusal) × IdentifierFault s.rules at (first ∷ rest_of s) r × Stops s r e t
 
 -- an identifier of a tag and a constructed bit, behind this first octet
 abbrev pub IdentifierBehind : ℕ → Tag → Bool → ReaderState → ReaderState → Type 0
@@ -70,7 +70,7 @@ IdentifierBehind first t b s u =
 abbrev pub RefusesIdentifier : ℕ → ReaderState → Error → ReaderState → Type 0
 RefusesIdentifier first s e t =
     (at : ℕ) → s.position ≡ at + 1 → s.failed ≡ false
-    → (r : Refusal) × IdentifierFault s.rules at (first ∷ rest s) r × Stops s r e t
+    → (r : Refusal) × IdentifierFault s.rules at (first ∷ rest_of s) r × Stops s r e t
 
 -- the tag of an identifier that is known by its first octet and number, if it is
 abbrev pub told_tag : Option (ℕ × ℕ) → Option Tag
@@ -92,17 +92,17 @@ DefiniteBehind first n s t =
 abbrev pub RefusesLongLength : ErrorKind → ℕ → ReaderState → Error → ReaderState → Type 0
 RefusesLongLength wrong first s e t =
     (at : ℕ) → s.position ≡ at + 1 → s.failed ≡ false
-    → (r : Refusal) × LengthFault NoBodyFault wrong s.rules at (first ∷ rest s) r × Stops s r e t
+    → (r : Refusal) × LengthFault NoBodyFault wrong s.rules at (first ∷ rest_of s) r × Stops s r e t
 
 -- the indefinite form, behind its octet: a body stands ahead, and the reader stays
 pub record IsIndefiniteForm (l : Length) (s t : ReaderState) : Type 0 where
   pub octets : ℕ
   pub under_ber : s.rules ≡ Ber
-  pub ahead : BodyAhead l s.rules (rest s) octets
+  pub ahead : BodyAhead l s.rules (rest_of s) octets
   pub leaves : t ≡ s
 
 -- and its refusal there
 abbrev pub RefusesIndefinite : ReaderState → Error → ReaderState → Type 0
 RefusesIndefinite s e t =
     (wrong : ErrorKind) (at : ℕ) → s.position ≡ at + 1 → s.failed ≡ false
-    → (r : Refusal) × LengthFault BodyFault wrong s.rules at (128 ∷ rest s) r × Stops s r e t
+    → (r : Refusal) × LengthFault BodyFault wrong s.rules at (128 ∷ rest_of s) r × Stops s r e t

@@ -7,12 +7,12 @@ use Rattle.der_core.specs.ReaderState.{ReaderState}
 
 -- a value is read, and then memory is asked for; where that is refused the reader stays behind the
 -- contents
-pub data BoxedAnswers {A B E : Type 0} (unboxed : B → A)
+pub data BoxedRead {A B E : Type 0} (unboxed : B → A)
     (answers : ReaderState → Result A E → ReaderState → Type 0) (converts : Error → E → Type 0)
     (s : ReaderState) (result : Result B E) (t : ReaderState) : Type 0 where
   boxed : (b : B) → answers s (Ok (unboxed b)) t → result ≡ Ok b
-      → BoxedAnswers unboxed answers converts s result t
+      → BoxedRead unboxed answers converts s result t
   not_read : (e : E) → answers s (Err e) t → result ≡ Err e
-      → BoxedAnswers unboxed answers converts s result t
+      → BoxedRead unboxed answers converts s result t
   no_memory : (v : A) (e : E) → answers s (Ok v) t → converts (error_of_kind OutOfMemory) e
-      → result ≡ Err e → BoxedAnswers unboxed answers converts s result t
+      → result ≡ Err e → BoxedRead unboxed answers converts s result t

@@ -1,6 +1,6 @@
 -- What decoding answers.
 use Rattle.std.specs.Prelude.{◌≡◌, ℕ, ◌^◌, ◌<◌, ◌≤◌, ◌⊎◌, Bool, true, false, List, length, Result, Ok, Err, IsOk, IfOk, IsErr, IfErr, IsErrAnd, IsTrue, ◌↔◌, ◌+◌}
-use Rattle.der_base.specs.Error.{at, error_of_kind, Refusal}
+use Rattle.der_base.specs.Error.{error_at, error_of_kind, Refusal}
 use Rattle.der_base.specs.Length.{number, definite_length}
 use Rattle.der_base.specs.Tag.{label, IdentifierFault}
 use Rattle.der_base.specs.ScanGrammar.{BodyFault}
@@ -10,10 +10,10 @@ use Rattle.der_base.specs.declared.error.Error.{Error}
 use Rattle.der_base.specs.declared.error.ErrorKind.{ErrorKind}
 use Rattle.der_base.specs.declared.error.ErrorKind.TheVariants.{Failed, Overflow, OutOfMemory}
 use Rattle.der_base.specs.declared.encoding_rules.EncodingRules.{EncodingRules}
-use Rattle.der_core.specs.ReaderState.{ReaderState, initial_state, rest, reader_position, advanced_state, stopped_state, state_after, Same}
+use Rattle.der_core.specs.ReaderState.{ReaderState, initial_state, rest_of, reader_position, advanced_state, stopped_state, state_after, Same}
 use Rattle.der_core.specs.Outcome.{Gives}
 use Rattle.der_core.specs.Reader.{finish_answer, tlv_outcome}
-use Rattle.der_core.specs.Header.{head_of, IsHeaderAhead}
+use Rattle.der_core.specs.Header.{head_of, HeaderAhead}
 use Rattle.der_core.specs.declared.header.Header.{Header}
 
 -- whether a kind says that memory was refused
@@ -25,16 +25,16 @@ is_out_of_memory_kind _ = false
 pub record Passes (Ahead : EncodingRules → List ℕ → ℕ → Type 0) (s t : ReaderState) : Type 0 where
   pub octets : ℕ
   pub working : s.failed ≡ false
-  pub ahead : Ahead s.rules (rest s) octets
-  pub there : octets ≤ length (rest s)
+  pub ahead : Ahead s.rules (rest_of s) octets
+  pub there : octets ≤ length (rest_of s)
   pub leaves : t ≡ record s { position = s.position + octets }
 
 -- a reader that had failed is left as it is; on another the rest has a fault, which is told
 pub data IsRefusedBy (Fault : EncodingRules → ℕ → List ℕ → Refusal → Type 0) (s : ReaderState)
     (e : Error) (t : ReaderState) : Type 0 where
-  has_failed : s.failed ≡ true → e ≡ at Failed (definite_length s.position) → t ≡ s
+  has_failed : s.failed ≡ true → e ≡ error_at Failed (definite_length s.position) → t ≡ s
       → IsRefusedBy Fault s e t
-  at_fault : (r : Refusal) → s.failed ≡ false → Fault s.rules s.position (rest s) r → e ≡ r.error
+  at_fault : (r : Refusal) → s.failed ≡ false → Fault s.rules s.position (rest_of s) r → e ≡ r.error
       → t ≡ state_after s r → IsRefusedBy Fault s e t
 
 -- a decoder of a grammar, by what stands ahead and by its faults: it hands back the same reader;
@@ -57,7 +57,7 @@ abbrev pub Accepts : {A : Type 0} → (A → EncodingRules → List ℕ → ℕ 
 Accepts {A} Ahead Fault =
     (s t : ReaderState) (answer : Result A Error) (v : A) (m : ℕ)
     → Decodes Ahead Fault true s answer t → s.failed ≡ false
-    → Ahead v s.rules (rest s) m → (answer ≡ Ok v) × (t ≡ advanced_state s m)
+    → Ahead v s.rules (rest_of s) m → (answer ≡ Ok v) × (t ≡ advanced_state s m)
 
 -- how many levels of nesting tags, lengths and headers want: none, since a body is scanned without
 -- entering it
@@ -66,15 +66,15 @@ grammar_levels rules = 0
 
 -- a decoder succeeds, or it takes memory and was refused it
 abbrev pub SucceedsOrLacks : {A E : Type 0} → (E → Bool) → Bool → Result A E → Type 0
-SucceedsOrLacks out_of_memory takes_memory result =
-    IsOk result ⊎ ((takes_memory ≡ true) × IsErrAnd result (λ e. out_of_memory e ≡ true))
+SucceedsOrLacks out_of_memory allocates result =
+    IsOk result ⊎ ((allocates ≡ true) × IsErrAnd result (λ e. out_of_memory e ≡ true))
 
 -- a decoder succeeds and passes m octets, or it takes memory and was refused it
 abbrev pub ReadsOrLacks : {A E : Type 0}
     → (E → Bool) → Bool → ReaderState → ℕ → Result A E → ReaderState → Type 0
-ReadsOrLacks out_of_memory takes_memory s m result t =
+ReadsOrLacks out_of_memory allocates s m result t =
     (IsOk result × (t ≡ advanced_state s m))
-    ⊎ ((takes_memory ≡ true) × IsErrAnd result (λ e. out_of_memory e ≡ true))
+    ⊎ ((allocates ≡ true) × IsErrAnd result (λ e. out_of_memory e ≡ true))
 
 -- a value of octets: too many of them are an overflow; else what follows the decoder's answer
 pub data BytesAnswer {A B E : Type 0} (rules : EncodingRules)
@@ -93,8 +93,8 @@ abbrev pub PartialThen : {A E : Type 0}
     → (Error → E → Type 0) → Result A E → ReaderState → Result (A × List ℕ) E → Type 0
 PartialThen converts (Err e) t result = result ≡ Err e
 PartialThen converts (Ok v) t result =
-    ((t.failed ≡ false) × (result ≡ Ok (v, rest t)))
-    ⊎ ((t.failed ≡ true) × IsErrAnd result (λ e. converts (at Failed (reader_position t)) e))
+    ((t.failed ≡ false) × (result ≡ Ok (v, rest_of t)))
+    ⊎ ((t.failed ≡ true) × IsErrAnd result (λ e. converts (error_at Failed (reader_position t)) e))
 
 -- what follows that of a decoder which has to read all: its error, or that of finishing, or the
 -- value
@@ -122,13 +122,13 @@ Whole Ahead rules octets = Ahead rules octets (length octets)
 
 -- the octets of a whole element: its header is looked at first, which leaves the reader; header and
 -- contents together are then lent, or pass every length
-pub data TlvAnswers (s : ReaderState) (answer : Result (List ℕ) Error) (t : ReaderState)
+pub data TlvAnswer (s : ReaderState) (answer : Result (List ℕ) Error) (t : ReaderState)
     : Type 0 where
-  no_header : (e : Error) → Peeks IsHeaderAhead (HeaderFault BodyFault) true s (Err e)
+  no_header : (e : Error) → Peeks HeaderAhead (HeaderFault BodyFault) true s (Err e)
       → answer ≡ Err e → t ≡ s
-      → TlvAnswers s answer t
-  with_header : (h : Header) (m : ℕ) → IsHeaderAhead h s.rules (rest s) m → s.failed ≡ false
-      → Gives (tlv_outcome (m + number (head_of h).length)) s answer t → TlvAnswers s answer t
+      → TlvAnswer s answer t
+  with_header : (h : Header) (m : ℕ) → HeaderAhead h s.rules (rest_of s) m → s.failed ≡ false
+      → Gives (tlv_outcome (m + number (head_of h).length)) s answer t → TlvAnswer s answer t
 
 -- a reader decodes: one that has failed refuses, and any refusal leaves it failed; a reliable one
 -- owes the decoder's answer too
@@ -136,7 +136,8 @@ pub data ReaderDecodes {A E : Type 0} (reliable : Bool)
     (answers : ReaderState → Result A E → ReaderState → Type 0) (converts : Error → E → Type 0)
     (s : ReaderState)
     (result : Result A E) (t : ReaderState) : Type 0 where
-  had_failed : s.failed ≡ true → IsErrAnd result (λ e. converts (at Failed (reader_position s)) e)
+  had_failed : s.failed ≡ true
+      → IsErrAnd result (λ e. converts (error_at Failed (reader_position s)) e)
       → t ≡ stopped_state s s.position → ReaderDecodes reliable answers converts s result t
   decodes : s.failed ≡ false → IsOk result → (reliable ≡ true → answers s result t)
       → ReaderDecodes reliable answers converts s result t
@@ -145,12 +146,12 @@ pub data ReaderDecodes {A E : Type 0} (reliable : Bool)
       → t ≡ stopped_state u u.position → ReaderDecodes reliable answers converts s result t
 
 -- whether the tag ahead has this class and number: none is ahead of a finished reader
-pub data MatchAnswers (class number : ℕ) (s : ReaderState) (answer : Result Bool Error)
+pub data MatchAnswer (class number : ℕ) (s : ReaderState) (answer : Result Bool Error)
     : Type 0 where
-  finished : s.position ≡ s.end → answer ≡ Ok false → MatchAnswers class number s answer
+  finished : s.position ≡ s.end → answer ≡ Ok false → MatchAnswer class number s answer
   tag_ahead_is : (t : Tag) (matches : Bool) → Peeks TagAhead IdentifierFault true s (Ok t)
       → answer ≡ Ok matches
       → (IsTrue matches ↔ (((label t).class ≡ class) × ((label t).number ≡ number)))
-      → MatchAnswers class number s answer
+      → MatchAnswer class number s answer
   no_tag : (e : Error) → s.position < s.end → Peeks TagAhead IdentifierFault true s (Err e)
-      → answer ≡ Err e → MatchAnswers class number s answer
+      → answer ≡ Err e → MatchAnswer class number s answer

@@ -3,13 +3,13 @@ use Rattle.std.specs.Prelude.{◌≡◌, ℕ, ◌≤◌, ◌⊎◌, Bool, true, 
 use Rattle.der_base.specs.Length.{number}
 use Rattle.der_base.specs.HeaderGrammar.{Head}
 use Rattle.der_base.specs.declared.encoding_rules.EncodingRules.{EncodingRules}
-use Rattle.der_core.specs.ReaderState.{ReaderState, rest}
+use Rattle.der_core.specs.ReaderState.{ReaderState, rest_of}
 
 -- a reader that has not failed stands inside a part, of which so many octets are left
 pub record StandsIn (s : ReaderState) (n : ℕ) : Type 0 where
   pub working : s.failed ≡ false
   pub nested : 1 ≤ s.depth
-  pub sized : length (rest s) ≡ n
+  pub sized : length (rest_of s) ≡ n
 
 -- a part was read to its end, without a fault
 pub record IsAtEnd (t : ReaderState) : Type 0 where
@@ -17,20 +17,20 @@ pub record IsAtEnd (t : ReaderState) : Type 0 where
   pub working : t.failed ≡ false
 
 -- the contents behind a header, inside which a reader stands, are taken
-pub record ContentsAhead (Takes : EncodingRules → Head → List ℕ → Type 0) (h : Head)
+pub record ContentsAhead (Fits : EncodingRules → Head → List ℕ → Type 0) (h : Head)
     (s : ReaderState) : Type 0 where
   pub stands : StandsIn s (number h.length)
-  pub taken : Takes s.rules h (rest s)
+  pub taken : Fits s.rules h (rest_of s)
 
 -- contents that were read to their end are taken as the value that was answered
 abbrev pub TakesContents : {A E : Type 0} → (A → EncodingRules → Head → List ℕ → Type 0)
     → Head → ReaderState → Result A E → ReaderState → Type 0
 TakesContents takes h s result t =
-    IfOk result (λ v. StandsIn s (number h.length) → IsAtEnd t → takes v s.rules h (rest s))
+    IfOk result (λ v. StandsIn s (number h.length) → IsAtEnd t → takes v s.rules h (rest_of s))
 
 -- contents are read to their end, or their reading takes memory and was refused it
 abbrev pub EndsOrLacks : {A E : Type 0}
     → (E → Bool) → Bool → Result A E → ReaderState → Type 0
-EndsOrLacks out_of_memory takes_memory result t =
+EndsOrLacks out_of_memory allocates result t =
     (IsOk result × IsAtEnd t)
-    ⊎ ((takes_memory ≡ true) × IsErrAnd result (λ e. out_of_memory e ≡ true))
+    ⊎ ((allocates ≡ true) × IsErrAnd result (λ e. out_of_memory e ≡ true))

@@ -4,19 +4,19 @@ use Rattle.der_base.specs.Arithmetic.{sans_eoc}
 use Rattle.der_base.specs.ScanGrammar.{BodyFault}
 use Rattle.der_base.specs.Error.{unexpected_tag}
 use Rattle.der_base.specs.Length.{number, is_indefinite}
-use Rattle.der_base.specs.HeaderGrammar.{Head, head, HeaderAhead, HeaderFault}
+use Rattle.der_base.specs.HeaderGrammar.{Head, head, HeadAhead, HeaderFault}
 use Rattle.der_base.specs.declared.tag.Tag.{Tag}
 use Rattle.der_base.specs.declared.error.Error.{Error}
 use Rattle.der_base.specs.declared.encoding_rules.EncodingRules.{EncodingRules}
 use Rattle.der_core.specs.ReaderState.{ReaderState}
 use Rattle.der_core.specs.Decode.{Passes, Decodes}
-use Rattle.der_core.specs.Header.{head_of, IsHeaderAhead}
-use Rattle.der_core.specs.Nested.{ValueAnswers}
+use Rattle.der_core.specs.Header.{head_of, HeaderAhead}
+use Rattle.der_core.specs.Nested.{ValueAnswer}
 use Rattle.der_core.specs.declared.header.Header.{Header}
 
 -- the header of the contents alone, without the end mark
-abbrev pub contents_head : Head → Head
-contents_head h = head h.tag (sans_eoc h.length) h.constructed
+abbrev pub head_sans_eoc : Head → Head
+head_sans_eoc h = head h.tag (sans_eoc h.length) h.constructed
 
 -- two zero octets close contents of an indefinite length (8.1.5), nothing those of a definite one
 abbrev pub IsEndMark : Bool → List ℕ → Type 0
@@ -32,13 +32,13 @@ pub record ElementAhead {A : Type 0} (tag : Tag)
   pub contents : List ℕ
   pub mark : List ℕ
   pub behind : List ℕ
-  pub ahead : HeaderAhead says rules octets header
+  pub ahead : HeadAhead says rules octets header
   pub tagged : says.tag ≡ tag
   pub split : drop header octets ≡ contents ++ (mark ++ behind)
   pub sized : length contents ≡ number (sans_eoc says.length)
   pub marked : IsEndMark (is_indefinite says.length) mark
   pub whole : m ≡ header + (length contents + length mark)
-  pub taken : takes v rules (contents_head says) contents
+  pub taken : takes v rules (head_sans_eoc says) contents
 
 -- how many levels of nesting an element wants: its own, and those of its contents
 abbrev pub element_levels : (EncodingRules → ℕ) → EncodingRules → ℕ
@@ -49,14 +49,14 @@ pub data ElementReadBy {P Q T E : Type 0} (tag : Tag) (converts : Error → E �
     (post : Head → P → Result T E → Q → Type 0) (before : P → ReaderState)
     (after : Q → ReaderState) (s : ReaderState) (result : Result T E) (t : ReaderState)
     : Type 0 where
-  no_header : (e : Error) (f : E) → Decodes IsHeaderAhead (HeaderFault BodyFault) true s (Err e) t
+  no_header : (e : Error) (f : E) → Decodes HeaderAhead (HeaderFault BodyFault) true s (Err e) t
       → converts e f → result ≡ Err f → ElementReadBy tag converts post before after s result t
-  other_tag : (h : Header) (f : E) → Passes (IsHeaderAhead h) s t
+  other_tag : (h : Header) (f : E) → Passes (HeaderAhead h) s t
       → (head_of h).tag ≢ tag → converts (unexpected_tag tag (head_of h).tag) f
       → result ≡ Err f → ElementReadBy tag converts post before after s result t
   in_contents : (h : Header) (u : ReaderState)
-      → Passes (IsHeaderAhead h) s u → (head_of h).tag ≡ tag
-      → ValueAnswers converts (post (contents_head (head_of h))) before after
+      → Passes (HeaderAhead h) s u → (head_of h).tag ≡ tag
+      → ValueAnswer converts (post (head_sans_eoc (head_of h))) before after
       (sans_eoc (head_of h).length) u result t
       → ElementReadBy tag converts post before after s result t
 

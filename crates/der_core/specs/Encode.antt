@@ -3,7 +3,7 @@ use Rattle.std.specs.Prelude.{◌≡◌, ℕ, ◌+◌, ◌^◌, ◌<◌, ◌≤�
 use Rattle.std.specs.Int.Digits.{digits_of}
 use Rattle.der_base.specs.Length.{number, is_indefinite, definite_length, length_octets}
 use Rattle.der_base.specs.Tag.{label, tag_octets}
-use Rattle.der_base.specs.Error.{at, error_of_kind, kind_of, position_of}
+use Rattle.der_base.specs.Error.{error_at, error_of_kind, kind_of, position_of}
 use Rattle.der_base.specs.HeaderGrammar.{head, header_octets}
 use Rattle.der_base.specs.Arithmetic.{checked_length, element_count}
 use Rattle.der_base.specs.declared.length.Length.{Length}
@@ -12,7 +12,7 @@ use Rattle.der_base.specs.declared.error.Error.{Error}
 use Rattle.der_base.specs.declared.error.ErrorKind.TheVariants.{Failed, Overflow, OutOfMemory}
 use Rattle.der_core.specs.Header.{head_of}
 use Rattle.der_core.specs.Outcome.{map_ok}
-use Rattle.der_core.specs.Writer.{WriterState, WriterOutcome, Takes, fresh_state, writer_position, failed_state, write_pieces, chained_write}
+use Rattle.der_core.specs.Writer.{WriterState, WriterOutcome, Fits, fresh_state, writer_position, failed_state, write_pieces, chained_write}
 use Rattle.der_core.specs.declared.header.Header.{Header}
 
 abbrev pub WriterAnswer : Type 1
@@ -27,8 +27,8 @@ abbrev pub HasSize : {A : Type 0} → List ℕ → Result A Error → Type 0
 HasSize octets result = length octets < 2 ^ 32 → IsOk result
 
 -- octets that a length can count are taken by a writer that has not failed and has room for them
-abbrev pub TakesCounted : WriterState → List ℕ → Result (Unit {0}) Error → Type 0
-TakesCounted s octets result = length octets < 2 ^ 32 → Takes s octets result
+abbrev pub FitsCounted : WriterState → List ℕ → Result (Unit {0}) Error → Type 0
+FitsCounted s octets result = length octets < 2 ^ 32 → Fits s octets result
 
 -- octets that a length can count are taken by a buffer that is not shorter
 abbrev pub FitsInto : {A E : Type 0} → List ℕ → ℕ → Result A E → Type 0
@@ -71,9 +71,9 @@ header_outcome t n s = chained_write (tag_outcome t s).answer (tag_outcome t s).
     (length_outcome n)
 
 -- after an answer, the rest, if it is no error
-abbrev pub ThenAnswers : Result (Unit {0}) Error → WriterState → WriterAnswer → WriterAnswer
-ThenAnswers (Ok _) u next s r t = next u r t
-ThenAnswers (Err e) u next s r t = (r ≡ Err e) × (t ≡ u)
+abbrev pub ThenAnswer : Result (Unit {0}) Error → WriterState → WriterAnswer → WriterAnswer
+ThenAnswer (Ok _) u next s r t = next u r t
+ThenAnswer (Err e) u next s r t = (r ≡ Err e) × (t ≡ u)
 
 -- what a header says of contents
 abbrev pub HeaderOf : Tag → List ℕ → Result Header Error → Type 0
@@ -81,10 +81,10 @@ HeaderOf t contents result =
     IfOk result (λ h. ((head_of h).tag ≡ t) × (number (head_of h).length ≡ length contents))
 
 -- the header of a value, by its tag and the number of octets of its contents
-abbrev pub HeaderAnswers : Tag → Result Length Error → Result Header Error → Type 0
-HeaderAnswers t (Ok l) (Ok h) = head_of h ≡ head t l ((label t).constructed || is_indefinite l)
-HeaderAnswers t (Ok l) (Err e) = ⊥
-HeaderAnswers t (Err e) r = r ≡ Err e
+abbrev pub HeaderAnswer : Tag → Result Length Error → Result Header Error → Type 0
+HeaderAnswer t (Ok l) (Ok h) = head_of h ≡ head t l ((label t).constructed || is_indefinite l)
+HeaderAnswer t (Ok l) (Err e) = ⊥
+HeaderAnswer t (Err e) r = r ≡ Err e
 
 -- the octets of an element, by its tag and the number of octets of its contents
 abbrev pub element_size : Tag → Result Length Error → Result Length Error
@@ -93,15 +93,15 @@ element_size t (Err e) = Err e
 
 -- an element is written: where the number of octets is refused, nothing is; else the header and
 -- then the contents
-abbrev pub ElementAnswers : Tag → Result Length Error → WriterAnswer → WriterAnswer
-ElementAnswers t (Ok l) contents s r u =
-    ThenAnswers (header_outcome t (number l) s).answer (header_outcome t (number l) s).after
+abbrev pub ElementWritten : Tag → Result Length Error → WriterAnswer → WriterAnswer
+ElementWritten t (Ok l) contents s r u =
+    ThenAnswer (header_outcome t (number l) s).answer (header_outcome t (number l) s).after
     contents s r u
-ElementAnswers t (Err e) contents s r u = (r ≡ Err e) × (u ≡ s)
+ElementWritten t (Err e) contents s r u = (r ≡ Err e) × (u ≡ s)
 
 -- what a finished writer answers: the octets written, where it has not failed
 abbrev pub finished_answer : WriterState → Result (List ℕ) Error
-finished_answer t = if t.failed then Err (at Failed (writer_position t)) else Ok t.octets
+finished_answer t = if t.failed then Err (error_at Failed (writer_position t)) else Ok t.octets
 
 -- the octets written fill the beginning of a buffer
 abbrev pub Begins : {E : Type 0} → List ℕ → Result (Unit {0}) E → List ℕ → Type 0
@@ -141,7 +141,7 @@ pub data VecAnswer (size : Result Length Error) (answers : WriterAnswer) (before
 
 -- an error's position, or this one where it has none
 abbrev pub placed_error : Option Length → Length → Error → Error
-placed_error None p e = at (kind_of e) p
+placed_error None p e = error_at (kind_of e) p
 placed_error (Some _) p e = e
 
 -- an error's position, or the writer's where it has none
@@ -159,7 +159,7 @@ writer_after (Err e) t = failed_state t
 
 -- a writer that has failed is left as it is
 abbrev pub RefusesFailed : WriterAnswer
-RefusesFailed s result u = s.failed ≡ true → (result ≡ Err (at Failed (writer_position s)))
+RefusesFailed s result u = s.failed ≡ true → (result ≡ Err (error_at Failed (writer_position s)))
     × (u ≡ s)
 
 -- what a slice writer that has not failed answers to a value, and how it is left

@@ -1,6 +1,6 @@
 -- Reading a part by a closure.
 use Rattle.std.specs.Prelude.{◌≡◌, ℕ, ◌+◌, ◌-◌, ◌<◌, ◌≤◌, Bool, true, false, length, Result, Ok, Err}
-use Rattle.der_base.specs.Error.{at}
+use Rattle.der_base.specs.Error.{error_at}
 use Rattle.der_base.specs.Length.{number, is_indefinite, definite_length}
 use Rattle.der_base.specs.declared.length.Length.{Length}
 use Rattle.der_base.specs.declared.error.Error.{Error}
@@ -20,7 +20,7 @@ pub data Closes {T E : Type 0} (converts : Error → E → Type 0) (answer : Res
   handed_on : (e : E) → answer ≡ Err e → result ≡ Err e → t ≡ resumed_state s end depth
       → Closes converts answer s end depth result t
   left_over : (v : T) (e : E) → answer ≡ Ok v → s.position < s.end
-      → converts (at (TrailingData (reader_position s) (definite_length (s.end - s.position)))
+      → converts (error_at (TrailingData (reader_position s) (definite_length (s.end - s.position)))
       (reader_position s)) e
       → result ≡ Err e → t ≡ stopped_state (resumed_state s end depth) s.position
       → Closes converts answer s end depth result t
@@ -43,15 +43,15 @@ pub record HandsBack {P Q A : Type 0} (pre : P → Type 0) (post : P → A → Q
       → Same (before p) (after q)
 
 -- the closure ran inside the part of n octets, and this is made of what it answered
-pub data NestedAnswers {P Q T E : Type 0} (converts : Error → E → Type 0)
+pub data NestedAnswer {P Q T E : Type 0} (converts : Error → E → Type 0)
     (post : P → Result T E → Q → Type 0) (before : P → ReaderState) (after : Q → ReaderState)
     (n : ℕ)
     (s : ReaderState) (result : Result T E) (t : ReaderState) : Type 0 where
   not_entered : (e : Error) (f : E) → Gives (enter_nested_outcome n) s (Err e) t → converts e f
-      → result ≡ Err f → NestedAnswers converts post before after n s result t
+      → result ≡ Err f → NestedAnswer converts post before after n s result t
   entered : (p : P) (answer : Result T E) (q : Q) → CanNest s n → before p ≡ nested_state s n
       → post p answer q → Closes converts answer (after q) s.end s.depth result t
-      → NestedAnswers converts post before after n s result t
+      → NestedAnswer converts post before after n s result t
 
 -- a part and the end mark that closes it, where its length was read in the indefinite form
 pub data ClosesValue {T E : Type 0} (converts : Error → E → Type 0) (answer : Result T E)
@@ -71,13 +71,13 @@ pub data ClosesValue {T E : Type 0} (converts : Error → E → Type 0) (answer 
       → ClosesValue converts answer s end depth marked result t
 
 -- the closure ran inside the contents of a length, and this is made of what it answered
-pub data ValueAnswers {P Q T E : Type 0} (converts : Error → E → Type 0)
+pub data ValueAnswer {P Q T E : Type 0} (converts : Error → E → Type 0)
     (post : P → Result T E → Q → Type 0) (before : P → ReaderState) (after : Q → ReaderState)
     (length : Length)
     (s : ReaderState) (result : Result T E) (t : ReaderState) : Type 0 where
   not_opened : (e : Error) (f : E) → Gives (enter_nested_outcome (number length)) s (Err e) t
-      → converts e f → result ≡ Err f → ValueAnswers converts post before after length s result t
+      → converts e f → result ≡ Err f → ValueAnswer converts post before after length s result t
   opened : (p : P) (answer : Result T E) (q : Q) → CanNest s (number length)
       → before p ≡ nested_state s (number length) → post p answer q
       → ClosesValue converts answer (after q) s.end s.depth (is_indefinite length) result t
-      → ValueAnswers converts post before after length s result t
+      → ValueAnswer converts post before after length s result t

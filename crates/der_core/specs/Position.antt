@@ -1,7 +1,7 @@
 -- What a `Position` means, and the tables of its calls.
 use Rattle.std.specs.Prelude.{◌≡◌, ℕ, ◌+◌, ◌^◌, Result, Ok, Err, if◌then◌else◌, nat_lt, not}
 use Rattle.der_base.specs.Length.{definite_length}
-use Rattle.der_base.specs.Error.{at, error_of_kind, end_refusal}
+use Rattle.der_base.specs.Error.{error_at, error_of_kind, end_refusal}
 use Rattle.der_base.specs.declared.length.Length.{Length}
 use Rattle.der_base.specs.declared.error.Error.{Error}
 use Rattle.der_base.specs.declared.error.ErrorKind.TheVariants.{Overflow, Incomplete, NestingDepth}
@@ -37,7 +37,7 @@ advance_outcome n s =
     if not (nat_lt (s.position + n) (2 ^ 32)) then place_outcome (Err (error_of_kind Overflow)) s
     else if nat_lt s.end (s.position + n) then
     place_outcome
-    (Err (at (Incomplete (definite_length (s.position + n)) (definite_length s.end))
+    (Err (error_at (Incomplete (definite_length (s.position + n)) (definite_length s.end))
     (definite_length s.position))) s
     else place_outcome (Ok (definite_length (s.position + n)))
     (place_at s.end (s.position + n) s.depth)
@@ -61,7 +61,7 @@ nested_place s end = place_at end s.position (s.depth + 1)
 abbrev pub split_nested_outcome : ℕ → Place → PlaceOutcome (ℕ × ℕ)
 split_nested_outcome n s =
     if not (nat_lt s.depth 64) then place_outcome
-    (Err (at NestingDepth (definite_length s.position))) s
+    (Err (error_at NestingDepth (definite_length s.position))) s
     else if not (nat_lt (s.position + n) (2 ^ 32))
     then place_outcome (Err (error_of_kind Overflow)) s
     else if nat_lt s.end (s.position + n) then place_outcome (Err (end_refusal s.end).error) s

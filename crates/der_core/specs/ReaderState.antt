@@ -30,8 +30,8 @@ initial_state rules input =
     }
 
 -- what is left up to the present end
-abbrev pub rest : ReaderState → List ℕ
-rest s = take (s.end - s.position) (drop s.position s.input)
+abbrev pub rest_of : ReaderState → List ℕ
+rest_of s = take (s.end - s.position) (drop s.position s.input)
 
 -- the position as a length
 abbrev pub reader_position : ReaderState → Length
@@ -78,5 +78,5 @@ pub record Same (s t : ReaderState) : Type 0 where
 
 -- these octets were read, and nothing else changed
 pub record Reads (s t : ReaderState) (octets : List ℕ) : Type 0 where
-  pub split : rest s ≡ octets ++ rest t
+  pub split : rest_of s ≡ octets ++ rest_of t
   pub state : t ≡ advanced_state s (length octets)

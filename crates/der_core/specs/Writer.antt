@@ -1,7 +1,7 @@
 -- What a writer means, and what a write answers and leaves.
 use Rattle.std.specs.Prelude.{◌≡◌, ℕ, ◌+◌, ◌-◌, ◌^◌, Bool, true, false, List, [], ◌∷◌, ◌++◌, length, take, drop, Result, Ok, Err, OnOk, IsOk, ◌≤◌, min, nat_lt, if◌then◌else◌}
 use Rattle.der_base.specs.Length.{definite_length}
-use Rattle.der_base.specs.Error.{at}
+use Rattle.der_base.specs.Error.{error_at}
 use Rattle.der_base.specs.declared.length.Length.{Length}
 use Rattle.der_base.specs.declared.error.Error.{Error}
 use Rattle.der_base.specs.declared.error.ErrorKind.TheVariants.{Failed, Overflow, Overlength}
@@ -67,8 +67,8 @@ abbrev pub Appends : WriterState → List ℕ → Result (Unit {0}) Error → Wr
 Appends s octets result t = OnOk result (t ≡ appended_state s octets)
 
 -- a call on a writer that has not failed and has room for the octets succeeds
-abbrev pub Takes : WriterState → List ℕ → Result (Unit {0}) Error → Type 0
-Takes s octets result = s.failed ≡ false → length s.octets + length octets ≤ s.stop → IsOk result
+abbrev pub Fits : WriterState → List ℕ → Result (Unit {0}) Error → Type 0
+Fits s octets result = s.failed ≡ false → length s.octets + length octets ≤ s.stop → IsOk result
 
 -- what a call answers, and how it leaves the writer
 pub record WriterOutcome : Type 0 where
@@ -90,12 +90,13 @@ refusal_outcome e t = record { answer = Err e; after = t }
 -- n octets more, for which there has to be room; each refusal leaves the writer failed
 abbrev pub room_outcome : ℕ → WriterState → WriterState → WriterOutcome
 room_outcome n s granted =
-    if s.failed then refusal_outcome (at Failed (writer_position s)) s
+    if s.failed then refusal_outcome (error_at Failed (writer_position s)) s
     else if nat_lt (written_count s + n) (2 ^ 32) then (
     if nat_lt s.stop (length s.octets + n)
-    then refusal_outcome (at Overlength (definite_length (written_count s + n))) (failed_state s)
+    then refusal_outcome (error_at Overlength (definite_length (written_count s + n)))
+    (failed_state s)
     else success_outcome granted)
-    else refusal_outcome (at Overflow (writer_position s)) (failed_state s)
+    else refusal_outcome (error_at Overflow (writer_position s)) (failed_state s)
 
 -- n octets more are granted
 abbrev pub HasRoom : WriterState → ℕ → Type 0
@@ -104,9 +105,9 @@ HasRoom s n = (room_outcome n s s).answer ≡ Ok tt
 -- what n octets are refused by where the writer stands at a position, by whether it has failed
 abbrev pub room_error : Bool → ℕ → ℕ → Error
 room_error failed position n =
-    if failed then at Failed (definite_length position)
-    else if nat_lt (position + n) (2 ^ 32) then at Overlength (definite_length (position + n))
-    else at Overflow (definite_length position)
+    if failed then error_at Failed (definite_length position)
+    else if nat_lt (position + n) (2 ^ 32) then error_at Overlength (definite_length (position + n))
+    else error_at Overflow (definite_length position)
 
 abbrev pub write_outcome : List ℕ → WriterState → WriterOutcome
 write_outcome octets s = room_outcome (length octets) s (appended_state s octets)

@@ -4,7 +4,7 @@ use Rattle.std.specs.Prelude.{◌≡◌, ℕ, ◌+◌, ◌<◌, ◌≤◌, true,
 use Rattle.std.specs.Borrow.{MutBor}
 use Rattle.der_base.specs.Length.{definite_length}
 use Rattle.der_base.specs.HeaderGrammar.{header_octets}
-use Rattle.der_base.specs.Error.{at}
+use Rattle.der_base.specs.Error.{error_at}
 use Rattle.der_base.specs.declared.tag.Tag.TheVariants.{Sequence}
 use Rattle.der_base.specs.declared.error.Error.{Error}
 use Rattle.der_base.specs.declared.error.ErrorKind.TheVariants.{Failed, Length as IncorrectLength}
@@ -56,10 +56,10 @@ pub data ClosesPart (s : WriterState) (n : ℕ) (q t : WriterState)
     : Result (Unit {0}) Error → Result (Unit {0}) Error → Type 0 where
   handed_on : (e : Error) → Abandons s n q t → ClosesPart s n q t (Err e) (Err e)
   failed : q.failed ≡ true → Abandons s n q t → ClosesPart s n q t (Ok tt)
-      (Err (at Failed (writer_position q)))
+      (Err (error_at Failed (writer_position q)))
   unfilled : q.failed ≡ false → length q.octets < length s.octets + n → Abandons s n q t
       → ClosesPart s n q t (Ok tt)
-      (Err (at (IncorrectLength Sequence) (definite_length (written_count s + n))))
+      (Err (error_at (IncorrectLength Sequence) (definite_length (written_count s + n))))
   filled : q.failed ≡ false → length q.octets ≡ length s.octets + n
       → t ≡ record s { octets = q.octets; behind = q.behind } → ClosesPart s n q t (Ok tt) (Ok tt)
 
@@ -103,9 +103,9 @@ pub data PartAnswer (run : Run) (s : WriterState) (n : ℕ) (result : Result (Un
   ran : (room_outcome n s s).answer ≡ Ok tt → Runs run s n result t → PartAnswer run s n result t
 
 -- the rows of `sequence`: no room for the header; else the part behind it
-pub data WritesSequence (run : Run) (s : WriterState) (n : ℕ) (result : Result (Unit {0}) Error)
+pub data SequenceAnswer (run : Run) (s : WriterState) (n : ℕ) (result : Result (Unit {0}) Error)
     (t : WriterState) : Type 0 where
   no_header : (e : Error) → (header_outcome Sequence n s).answer ≡ Err e
-      → Writes (header_outcome Sequence n s) result t → WritesSequence run s n result t
+      → Writes (header_outcome Sequence n s) result t → SequenceAnswer run s n result t
   with_header : Writes (header_outcome Sequence n s) (Ok tt) (headed_state s n)
-      → PartAnswer run (headed_state s n) n result t → WritesSequence run s n result t
+      → PartAnswer run (headed_state s n) n result t → SequenceAnswer run s n result t

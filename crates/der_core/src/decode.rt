@@ -5,7 +5,7 @@ ghost use Rattle.der_base.specs.Error.{kind_of};
 ghost use Rattle.der_base.specs.declared.error.Error.{Error as AnError};
 ghost use Rattle.der_base.specs.declared.encoding_rules.EncodingRules.{EncodingRules as Rules};
 ghost use Rattle.der_base.specs.declared.encoding_rules.EncodingRules.TheVariants.{Ber, Der};
-ghost use Rattle.der_core.specs.ReaderState.{ReaderState, rest, Same};
+ghost use Rattle.der_core.specs.ReaderState.{ReaderState, rest_of, Same};
 ghost use Rattle.der_core.specs.Outcome.{map_ok};
 ghost use Rattle.der_core.specs.Decode.{is_out_of_memory_kind, Passes, ReadsOrLacks, SucceedsOrLacks, PartialAnswer, Whole, WholeAnswer};
 
@@ -54,46 +54,47 @@ impl DecodeError for Error {
 ///
 /// Ghost members:
 ///
-/// - `heads` says which values stand at the front of octets, and in how many of them; it is a
-///   relation over all that is left, since an indefinite length depends on what follows.
-/// - `needs` is how many levels of nesting decoding wants under these rules.
-/// - `takes_memory` says whether decoding takes memory.
-/// - `answers` is the exact outcome on a reliable reader, refusals and their states included.
+/// - `stands_ahead` says which values stand at the front of octets, and in how many of them; it is
+///   a relation over all that is left, since an indefinite length depends on what follows.
+/// - `decode_levels` is how many levels of nesting decoding wants under these rules.
+/// - `allocates` says whether decoding takes memory.
+/// - `decode_answers` is the exact outcome on a reliable reader, refusals and their states
+///   included.
 pub trait Decode<R: Reader>: Sized + Drop {
     /// The error of decoding.
     type Error: DecodeError;
 
-    ghost heads: { Self → Rules → List ℕ → ℕ → Type 0 };
+    ghost stands_ahead: { Self → Rules → List ℕ → ℕ → Type 0 };
 
-    ghost needs: { Rules → ℕ };
+    ghost decode_levels: { Rules → ℕ };
 
-    ghost takes_memory: { Bool };
+    ghost allocates: { Bool };
 
-    ghost answers: { ReaderState → AResult Self Self.Error → ReaderState → Type 0 };
+    ghost decode_answers: { ReaderState → AResult Self Self.Error → ReaderState → Type 0 };
 
     /// Decodes a value from the front of the reader's rest, and passes its octets.
     ///
-    /// A reliable reader that has not failed, with `needs` levels of nesting left, gives the value
-    /// that stands ahead, or an error that says that memory was refused.
+    /// A reliable reader that has not failed, with `decode_levels` levels of nesting left, gives
+    /// the value that stands ahead, or an error that says that memory was refused.
     ///
     /// # Errors
     ///
     /// - One that says that memory was refused, where the type takes memory.
-    /// - Those of the type: `answers` says which there are, at which positions, and whether the
-    ///   reader has failed then.
+    /// - Those of the type: `decode_answers` says which there are, at which positions, and whether
+    ///   the reader has failed then.
     fn decode(alloc: Global, reader: &mut R) -> Result<Self, Self::Error>
         ensures same { Same (R.state reader.old) (R.state reader.new) }
         ensures ok { IfOk result (λ v. (R.state reader.old).failed ≡ false
             → (R.state reader.new).failed ≡ false
-            → Passes (heads v) (R.state reader.old) (R.state reader.new)) }
+            → Passes (stands_ahead v) (R.state reader.old) (R.state reader.new)) }
         ensures complete { (v : Self) (m : ℕ) → R.reliable ≡ true
             → (R.state reader.old).failed ≡ false
-            → heads v (R.state reader.old).rules (rest (R.state reader.old)) m
-            → (R.state reader.old).depth + needs (R.state reader.old).rules ≤ 64
-            → ReadsOrLacks Self.Error.out_of_memory takes_memory (R.state reader.old) m result
+            → stands_ahead v (R.state reader.old).rules (rest_of (R.state reader.old)) m
+            → (R.state reader.old).depth + decode_levels (R.state reader.old).rules ≤ 64
+            → ReadsOrLacks Self.Error.out_of_memory allocates (R.state reader.old) m result
             (R.state reader.new) }
         ensures exact { R.reliable ≡ true
-            → answers (R.state reader.old) result (R.state reader.new) };
+            → decode_answers (R.state reader.old) result (R.state reader.new) };
 }
 
 /// Decoding from octets in memory, for every type that is decoded from a [`SliceReader`].
@@ -112,11 +113,11 @@ pub trait DecodeBytes<'a>: Decode<SliceReader<'a>> {
         alloc: Global,
         bytes: &'a [u8],
     ) -> Result<Self, <Self as Decode<SliceReader<'a>>>::Error>
-        ensures ok { IfOk result (λ v. Whole (Self.heads v) Der bytes.now) }
+        ensures ok { IfOk result (λ v. Whole (Self.stands_ahead v) Der bytes.now) }
         ensures complete { (v : Self) → length bytes.now < 2 ^ 32
-            → Whole (Self.heads v) Der bytes.now → Self.needs Der ≤ 64
-            → SucceedsOrLacks Self.Error.out_of_memory Self.takes_memory result }
-        ensures exact { WholeAnswer Der Self.answers Self.Error.from_gives bytes.now result }
+            → Whole (Self.stands_ahead v) Der bytes.now → Self.decode_levels Der ≤ 64
+            → SucceedsOrLacks Self.Error.out_of_memory Self.allocates result }
+        ensures exact { WholeAnswer Der Self.decode_answers Self.Error.from_gives bytes.now result }
     {
         decode_whole(alloc, bytes, EncodingRules::Der)
     }
@@ -134,11 +135,11 @@ pub trait DecodeBytes<'a>: Decode<SliceReader<'a>> {
         alloc: Global,
         bytes: &'a [u8],
     ) -> Result<Self, <Self as Decode<SliceReader<'a>>>::Error>
-        ensures ok { IfOk result (λ v. Whole (Self.heads v) Ber bytes.now) }
+        ensures ok { IfOk result (λ v. Whole (Self.stands_ahead v) Ber bytes.now) }
         ensures complete { (v : Self) → length bytes.now < 2 ^ 32
-            → Whole (Self.heads v) Ber bytes.now → Self.needs Ber ≤ 64
-            → SucceedsOrLacks Self.Error.out_of_memory Self.takes_memory result }
-        ensures exact { WholeAnswer Ber Self.answers Self.Error.from_gives bytes.now result }
+            → Whole (Self.stands_ahead v) Ber bytes.now → Self.decode_levels Ber ≤ 64
+            → SucceedsOrLacks Self.Error.out_of_memory Self.allocates result }
+        ensures exact { WholeAnswer Ber Self.decode_answers Self.Error.from_gives bytes.now result }
     {
         decode_whole(alloc, bytes, EncodingRules::Ber)
     }
@@ -156,12 +157,12 @@ pub trait DecodeBytes<'a>: Decode<SliceReader<'a>> {
         alloc: Global,
         bytes: &'a [u8],
     ) -> Result<(Self, &'a [u8]), <Self as Decode<SliceReader<'a>>>::Error>
-        ensures ok { IfOk result (λ p. (m : ℕ) × Self.heads p.0 Der bytes.now m
+        ensures ok { IfOk result (λ p. (m : ℕ) × Self.stands_ahead p.0 Der bytes.now m
             × (m ≤ length bytes.now) × (p.1.now ≡ drop m bytes.now)) }
         ensures complete { (v : Self) (m : ℕ) → length bytes.now < 2 ^ 32
-            → Self.heads v Der bytes.now m → Self.needs Der ≤ 64
-            → SucceedsOrLacks Self.Error.out_of_memory Self.takes_memory result }
-        ensures exact { PartialAnswer Der Self.answers Self.Error.from_gives bytes.now
+            → Self.stands_ahead v Der bytes.now m → Self.decode_levels Der ≤ 64
+            → SucceedsOrLacks Self.Error.out_of_memory Self.allocates result }
+        ensures exact { PartialAnswer Der Self.decode_answers Self.Error.from_gives bytes.now
             (map_ok (λ p. (p.0, p.1.now)) result) }
     {
         let mut reader = SliceReader::new(bytes)?;
@@ -179,11 +180,12 @@ fn decode_whole<'a, T: Decode<SliceReader<'a>>>(
     bytes: &'a [u8],
     encoding_rules: EncodingRules,
 ) -> Result<T, <T as Decode<SliceReader<'a>>>::Error>
-    ensures ok { IfOk result (λ v. Whole (T.heads v) encoding_rules bytes.now) }
+    ensures ok { IfOk result (λ v. Whole (T.stands_ahead v) encoding_rules bytes.now) }
     ensures complete { (v : T) → length bytes.now < 2 ^ 32
-        → Whole (T.heads v) encoding_rules bytes.now → T.needs encoding_rules ≤ 64
-        → SucceedsOrLacks T.Error.out_of_memory T.takes_memory result }
-    ensures exact { WholeAnswer encoding_rules T.answers T.Error.from_gives bytes.now result }
+        → Whole (T.stands_ahead v) encoding_rules bytes.now → T.decode_levels encoding_rules ≤ 64
+        → SucceedsOrLacks T.Error.out_of_memory T.allocates result }
+    ensures exact { WholeAnswer encoding_rules T.decode_answers T.Error.from_gives bytes.now
+        result }
 {
     let mut reader = SliceReader::new_with_encoding_rules(bytes, encoding_rules)?;
     let value = T::decode(alloc, &mut reader)?;

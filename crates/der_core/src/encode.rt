@@ -5,7 +5,7 @@ ghost use Rattle.der_base.specs.declared.error.Error.{Error as AnError};
 ghost use Rattle.der_base.specs.declared.length.Length.{Length as ALength};
 ghost use Rattle.der_core.specs.Outcome.{map_ok};
 ghost use Rattle.der_core.specs.Writer.{WriterState, Keeps, Appends};
-ghost use Rattle.der_core.specs.Encode.{Counts, HasSize, TakesCounted, FitsInto, GrowsBy, element_octets, element_size, ElementAnswers, SliceAnswer, VecAnswer};
+ghost use Rattle.der_core.specs.Encode.{Counts, HasSize, FitsCounted, FitsInto, GrowsBy, element_octets, element_size, ElementWritten, SliceAnswer, VecAnswer};
 
 mod boxed;
 mod fields;
@@ -27,8 +27,8 @@ pub use vec::{encode_to_vec_in, to_der_in};
 /// - `encoding` is the octets of a value.
 /// - `encodable` says whether a value can be written at all.
 /// - `size` is the exact answer of [`Encode::encoded_len`], refusals included.
-/// - `answers` is the exact outcome of [`Encode::encode`] on a reliable writer, refusals and their
-///   states included.
+/// - `encode_answers` is the exact outcome of [`Encode::encode`] on a reliable writer, refusals and
+///   their states included.
 pub trait Encode {
     ghost encoding: { Self → List ℕ };
 
@@ -36,7 +36,8 @@ pub trait Encode {
 
     ghost size: { Self → AResult ALength AnError };
 
-    ghost answers: { Self → WriterState → AResult (Unit {0}) AnError → WriterState → Type 0 };
+    ghost encode_answers: { Self → WriterState → AResult (Unit {0}) AnError → WriterState
+        → Type 0 };
 
     /// How many octets the encoding has.
     ///
@@ -53,7 +54,7 @@ pub trait Encode {
     ///
     /// # Errors
     ///
-    /// What was written before stands after each; `answers` says how the writer is left.
+    /// What was written before stands after each; `encode_answers` says how the writer is left.
     ///
     /// - Those of the type.
     /// - `Failed`, `Overflow` and `Overlength` of the writer, as by [`Writer::write`].
@@ -61,11 +62,11 @@ pub trait Encode {
         ensures kept { Keeps (W.state writer.old) (W.state writer.new) }
         ensures ok { Appends (W.state writer.old) (encoding self.now) result (W.state writer.new) }
         ensures succeeds { encodable self.now
-            → TakesCounted (W.state writer.old) (encoding self.now) result }
+            → FitsCounted (W.state writer.old) (encoding self.now) result }
         ensures exact { W.reliable ≡ true
-            → answers self.now (W.state writer.old) result (W.state writer.new) };
+            → encode_answers self.now (W.state writer.old) result (W.state writer.new) };
 
-    /// Writes the encoding to the beginning of the buffer, and answers it. Takes no memory.
+    /// Writes the encoding to the beginning of the buffer, and answers it. Fits no memory.
     ///
     /// # Errors
     ///
@@ -79,7 +80,7 @@ pub trait Encode {
         ensures ok { IfOk result (λ r. r.now ≡ Self.encoding self.now) }
         ensures succeeds { Self.encodable self.now
             → FitsInto (Self.encoding self.now) (length buf.old) result }
-        ensures exact { SliceAnswer (Self.answers self.now) buf.old
+        ensures exact { SliceAnswer (Self.encode_answers self.now) buf.old
             (map_ok (λ r. r.now) result) }
     {
         let mut writer = SliceWriter::new(buf);
@@ -105,7 +106,7 @@ pub trait Encode {
         ensures refused { OnErr result (out.new.items ≡ out.old.items) }
         ensures succeeds { Self.encodable self.now
             → GrowsBy (Self.encoding self.now) (length out.old.items) result }
-        ensures exact { VecAnswer (Self.size self.now) (Self.answers self.now)
+        ensures exact { VecAnswer (Self.size self.now) (Self.encode_answers self.now)
             (length out.old.items) result }
     {
         encode_to_vec_in(self, out)
@@ -125,7 +126,7 @@ pub trait Encode {
     final fn to_der(&self, alloc: Global) -> Result<Vec<u8>, Error>
         ensures ok { IfOk result (λ v. v.items ≡ Self.encoding self.now) }
         ensures succeeds { Self.encodable self.now → GrowsBy (Self.encoding self.now) 0 result }
-        ensures exact { VecAnswer (Self.size self.now) (Self.answers self.now) 0
+        ensures exact { VecAnswer (Self.size self.now) (Self.encode_answers self.now) 0
             (map_ok (λ v. definite_length (length v.items)) result) }
     {
         to_der_in(alloc, self)
@@ -144,7 +145,8 @@ impl<T: EncodeValue + Tagged> Encode for T {
 
     ghost size = { λ v. element_size (T.tag_of v) (T.value_size v) };
 
-    ghost answers = { λ v. ElementAnswers (T.tag_of v) (T.value_size v) (T.value_answers v) };
+    ghost encode_answers = { λ v. ElementWritten (T.tag_of v) (T.value_size v)
+        (T.encode_value_answers v) };
 
     fn encoded_len(&self) -> Result<Length, Error> {
         encoded_len_tlv(self)
@@ -190,10 +192,10 @@ pub fn encode_tlv<T: EncodeValue + Tagged, W: Writer>(
     ensures kept { Keeps (W.state writer.old) (W.state writer.new) }
     ensures ok { Appends (W.state writer.old)
         (element_octets (T.tag_of value.now) (T.contents value.now)) result (W.state writer.new) }
-    ensures succeeds { T.writable value.now → TakesCounted (W.state writer.old)
+    ensures succeeds { T.writable value.now → FitsCounted (W.state writer.old)
         (element_octets (T.tag_of value.now) (T.contents value.now)) result }
-    ensures exact { W.reliable ≡ true → ElementAnswers (T.tag_of value.now) (T.value_size value.now)
-        (T.value_answers value.now) (W.state writer.old) result (W.state writer.new) }
+    ensures exact { W.reliable ≡ true → ElementWritten (T.tag_of value.now) (T.value_size value.now)
+        (T.encode_value_answers value.now) (W.state writer.old) result (W.state writer.new) }
 {
     let header = value.header()?;
     // an answer is matched where it is made: `?` and a last call would move all of its octets first

@@ -33,7 +33,7 @@ impl<'a, T: Encode> Encode for EncodeRef<'a, T> {
 
     ghost size = { λ v. T.size v.0.now };
 
-    ghost answers = { λ v. T.answers v.0.now };
+    ghost encode_answers = { λ v. T.encode_answers v.0.now };
 
     fn encoded_len(&self) -> Result<Length, Error> {
         self.0.encoded_len()

@@ -4,10 +4,10 @@ ghost use Rattle.der_base.specs.ScanGrammar.{BodyFault};
 ghost use Rattle.der_base.specs.HeaderGrammar.{HeaderFault, head, header_octets};
 ghost use Rattle.der_base.specs.Length.{number, is_indefinite, definite_length};
 ghost use Rattle.der_base.specs.Tag.{label, is_constructed};
-ghost use Rattle.der_core.specs.AfterFirstOctet.{IsGuess, AreAhead, ToldHeaderAhead, identifier_tag};
+ghost use Rattle.der_core.specs.AfterFirstOctet.{IsGuess, AreAhead, ToldHeadAhead, identifier_tag};
 ghost use Rattle.der_core.specs.Decode.{Decodes, Peeks, grammar_levels};
-ghost use Rattle.der_core.specs.Encode.{TakesCounted, header_outcome};
-ghost use Rattle.der_core.specs.Header.{head_of, IsHeaderAhead};
+ghost use Rattle.der_core.specs.Encode.{FitsCounted, header_outcome};
+ghost use Rattle.der_core.specs.Header.{head_of, HeaderAhead};
 ghost use Rattle.der_core.specs.Writer.{Keeps, Appends, Writes};
 
 use crate::decode::Decode;
@@ -31,7 +31,7 @@ pub struct Header {
 }
 
 impl Header {
-    ghost use Rattle.der_core.specs.Header.{contents_header};
+    ghost use Rattle.der_core.specs.Header.{header_sans_eoc};
 
     /// The header of a tag and a length: constructed where the tag is, or the length was read in
     /// the indefinite form.
@@ -82,7 +82,7 @@ impl Header {
 
     // The header with the length of the contents alone, without the end mark.
     pub(crate) fn contents(self) -> Self
-        ensures { result ≡ contents_header self }
+        ensures { result ≡ header_sans_eoc self }
     {
         self.with_length(self.length.sans_eoc())
     }
@@ -96,22 +96,22 @@ impl Header {
 /// `Length`, as by [`Header::decode`].
 #[inline(always)]
 pub fn decode_header<R: Reader>(reader: &mut R) -> Result<Header, Error>
-    ensures { Decodes IsHeaderAhead (HeaderFault BodyFault) R.reliable (R.state reader.old) result
+    ensures { Decodes HeaderAhead (HeaderFault BodyFault) R.reliable (R.state reader.old) result
         (R.state reader.new) }
 {
     let (first, number, length) = decode_parts(reader)?;
     Ok(told_header(first, number, length, None))
 }
 
-// The same with a guess at the tag, and in pieces always: where a value is decoded by it, all of that
-// stays small enough to be part of its caller.
+// The same with a guess at the tag, and in pieces always: where a value is decoded by it, all of
+// that stays small enough to be part of its caller.
 #[inline(always)]
 pub(crate) fn decode_guessed_header<R: Reader>(
     reader: &mut R,
     guess: Option<(u8, Tag)>,
 ) -> Result<Header, Error>
     requires { IsGuess guess }
-    ensures { Decodes IsHeaderAhead (HeaderFault BodyFault) R.reliable (R.state reader.old) result
+    ensures { Decodes HeaderAhead (HeaderFault BodyFault) R.reliable (R.state reader.old) result
         (R.state reader.new) }
 {
     let (first, number, length) = decode_in_pieces(reader)?;
@@ -136,7 +136,7 @@ fn told_header(first: u8, number: u32, length: Length, guess: Option<(u8, Tag)>)
 // 40 or more. An identifier and a length of one octet each are read at once where they are lent.
 #[inline(always)]
 fn decode_parts<R: Reader>(reader: &mut R) -> Result<(u8, u32, Length), Error>
-    ensures { Decodes ToldHeaderAhead (HeaderFault BodyFault) R.reliable (R.state reader.old)
+    ensures { Decodes ToldHeadAhead (HeaderFault BodyFault) R.reliable (R.state reader.old)
         result (R.state reader.new) }
 {
     if let Some((first, count)) = short_header(reader) {
@@ -149,7 +149,7 @@ fn decode_parts<R: Reader>(reader: &mut R) -> Result<(u8, u32, Length), Error>
 // The same octet by octet.
 #[inline(always)]
 fn decode_in_pieces<R: Reader>(reader: &mut R) -> Result<(u8, u32, Length), Error>
-    ensures { Decodes ToldHeaderAhead (HeaderFault BodyFault) R.reliable (R.state reader.old)
+    ensures { Decodes ToldHeadAhead (HeaderFault BodyFault) R.reliable (R.state reader.old)
         result (R.state reader.new) }
 {
     let (first, number) = decode_identifier(reader)?;
@@ -183,13 +183,13 @@ fn short_header<R: Reader>(reader: &R) -> Option<(u8, u8)>
 impl<R: Reader> Decode<R> for Header {
     type Error = Error;
 
-    ghost heads = { IsHeaderAhead };
+    ghost stands_ahead = { HeaderAhead };
 
-    ghost needs = { grammar_levels };
+    ghost decode_levels = { grammar_levels };
 
-    ghost takes_memory = { false };
+    ghost allocates = { false };
 
-    ghost answers = { Decodes IsHeaderAhead (HeaderFault BodyFault) true };
+    ghost decode_answers = { Decodes HeaderAhead (HeaderFault BodyFault) true };
 
     /// Decodes a header (X.690 8.1.2, 8.1.3, 10.1). Under the Basic Encoding Rules octet 24 is an
     /// identifier too, and octet 80 a length behind a constructed one: it counts the octets of the
@@ -209,8 +209,8 @@ impl<R: Reader> Decode<R> for Header {
     /// - `TagNumberInvalid` behind octet 1F where it is the first, or behind an octet with which no
     ///   tag number goes on (X.690 8.1.2.4).
     /// - `IndefiniteLength` behind an octet 80 where the length begins, under the Distinguished
-    ///   Encoding Rules; under the Basic Encoding Rules where the identifier is primitive and a body
-    ///   stands ahead.
+    ///   Encoding Rules; under the Basic Encoding Rules where the identifier is primitive and a
+    ///   body stands ahead.
     /// - Those of the scan behind octet 80, as by
     ///   [`decode_indefinite_length`](crate::decode_indefinite_length), under the Basic Encoding
     ///   Rules; the reader stands behind octet 80 and has not failed.
@@ -218,7 +218,7 @@ impl<R: Reader> Decode<R> for Header {
     ///   first of them where it announces more than four.
     #[inline(always)]
     fn decode(_alloc: Global, reader: &mut R) -> Result<Header, Error>
-        ensures { Decodes IsHeaderAhead (HeaderFault BodyFault) R.reliable (R.state reader.old)
+        ensures { Decodes HeaderAhead (HeaderFault BodyFault) R.reliable (R.state reader.old)
             result (R.state reader.new) }
     {
         decode_header(reader)
@@ -234,7 +234,7 @@ impl Header {
     /// `Length`, where and with the positions that [`Header::decode`] says; the reader is
     /// unchanged.
     pub fn peek<R: Reader>(reader: &R) -> Result<Self, Error>
-        ensures { Peeks IsHeaderAhead (HeaderFault BodyFault) R.reliable (R.state reader.now)
+        ensures { Peeks HeaderAhead (HeaderFault BodyFault) R.reliable (R.state reader.now)
             result }
     {
         reader.peek_header()
@@ -249,7 +249,7 @@ impl Header {
         ensures ok { Appends (W.state writer.old)
             (header_octets (head_of self.now).tag (number (head_of self.now).length)) result
             (W.state writer.new) }
-        ensures succeeds { TakesCounted (W.state writer.old)
+        ensures succeeds { FitsCounted (W.state writer.old)
             (header_octets (head_of self.now).tag (number (head_of self.now).length)) result }
         ensures exact { W.reliable ≡ true → Writes
             (header_outcome (head_of self.now).tag (number (head_of self.now).length)
@@ -275,7 +275,7 @@ impl Encode for Header {
     ghost size = { λ h. Ok (definite_length (length
         (header_octets (head_of h).tag (number (head_of h).length)))) };
 
-    ghost answers = { λ h s r t.
+    ghost encode_answers = { λ h s r t.
         Writes (header_outcome (head_of h).tag (number (head_of h).length) s) r t };
 
     fn encoded_len(&self) -> Result<Length, Error> {

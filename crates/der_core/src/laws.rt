@@ -10,7 +10,7 @@ ghost use Rattle.der_core.specs.Decode.{Accepts};
 ghost use Rattle.der_core.specs.Element.{ElementAhead};
 ghost use Rattle.der_core.specs.DerOrd.{NoElementBeginsAnother, PaddingNeverDecides};
 ghost use Rattle.der_core.specs.Encode.{element_octets};
-ghost use Rattle.der_core.specs.Header.{head_of, IsHeaderAhead};
+ghost use Rattle.der_core.specs.Header.{head_of, HeaderAhead};
 ghost use Rattle.der_core.specs.Lawful.{IsDefinite, IsDefiniteHeader, PassesEncodings, ReadsEncodings, ReadsWholeEncodings, ReadsWritten};
 
 use crate::decode::Lawful;
@@ -22,7 +22,7 @@ fn what_stands_ahead_is_read()
     ensures identifiers { Accepts IdentifierAhead IdentifierFault }
     ensures tags { Accepts TagAhead IdentifierFault }
     ensures lengths { (wrong : ErrorKind) → Accepts LengthAhead (LengthFault BodyFault wrong) }
-    ensures headers { Accepts IsHeaderAhead (HeaderFault BodyFault) }
+    ensures headers { Accepts HeaderAhead (HeaderFault BodyFault) }
 {}
 
 /// Under DER tags, lengths and headers stand at the front of octets exactly where their encodings
@@ -30,7 +30,7 @@ fn what_stands_ahead_is_read()
 fn grammars_read_encodings<T>()
     ensures tags { ReadsEncodings TagAhead (λ t. (label t).number < 2 ^ 32) tag_octets }
     ensures lengths { ReadsEncodings LengthAhead IsDefinite (λ l. length_octets (number l)) }
-    ensures headers { ReadsEncodings IsHeaderAhead IsDefiniteHeader
+    ensures headers { ReadsEncodings HeaderAhead IsDefiniteHeader
         (λ h. header_octets (head_of h).tag (number (head_of h).length)) }
     ensures nothing { ReadsEncodings (λ (v : PhantomData T) _ _ m. m ≡ 0) (λ _. Unit {0})
         (λ _. []) }

@@ -39,8 +39,8 @@ pub fn decode_length<R: Reader>(reader: &mut R) -> Result<Length, Error>
     decode_length_behind(reader, None)
 }
 
-// The same behind an identifier of this first octet and number, with whose tag a length is told that
-// is not spelled as it has to be.
+// The same behind an identifier of this first octet and number, with whose tag a length is told
+// that is not spelled as it has to be.
 #[inline(always)]
 pub(crate) fn decode_length_behind<R: Reader>(
     reader: &mut R,
@@ -137,13 +137,13 @@ fn least_of(count: u8) -> u32
 impl<R: Reader> Decode<R> for Length {
     type Error = Error;
 
-    ghost heads = { LengthAhead };
+    ghost stands_ahead = { LengthAhead };
 
-    ghost needs = { grammar_levels };
+    ghost decode_levels = { grammar_levels };
 
-    ghost takes_memory = { false };
+    ghost allocates = { false };
 
-    ghost answers = { Decodes LengthAhead (LengthFault BodyFault Overlength) true };
+    ghost decode_answers = { Decodes LengthAhead (LengthFault BodyFault Overlength) true };
 
     /// Decodes a length (X.690 8.1.3, 10.1). Under the Basic Encoding Rules octet 80 is one too: it
     /// counts the octets of the body ahead, with the end mark that closes it, and the reader stays
@@ -187,7 +187,7 @@ impl Encode for Length {
 
     ghost size = { λ l. Ok (definite_length (length (length_octets (number l)))) };
 
-    ghost answers = { λ l s r t. Writes (length_outcome (number l) s) r t };
+    ghost encode_answers = { λ l s r t. Writes (length_outcome (number l) s) r t };
 
     fn encoded_len(&self) -> Result<Length, Error> {
         Ok(Length::new(self.octet_count()))

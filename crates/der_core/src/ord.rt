@@ -47,7 +47,7 @@ pub trait DerOrd {
 
     ghost delimited: { delimits → AreDelimited octets };
 
-    /// Compares two values. Takes no memory.
+    /// Compares two values. Fits no memory.
     ///
     /// # Errors
     ///

@@ -1,6 +1,6 @@
 //! Readers of octets.
 ghost use Rattle.std.specs.Prelude.{◌≡◌, ℕ, Bool, true, false, List, length, Ok, Err, IfOk, OnOk, OnErr};
-ghost use Rattle.der_base.specs.Error.{at};
+ghost use Rattle.der_base.specs.Error.{error_at};
 ghost use Rattle.der_base.specs.Length.{number, definite_length};
 ghost use Rattle.der_base.specs.declared.error.ErrorKind.TheVariants.{Reader as CannotRead};
 ghost use Rattle.der_core.specs.ReaderState.{ReaderState, reader_position, stopped_state, resumed_state, Same, IsSound};
@@ -53,7 +53,7 @@ impl<'a> Octets for &'a [u8] {
 ///   keeps a failed state; see `specs/ReaderState.antt`.
 /// - `reliable` says whether its refusals are those of the tables too.
 /// - `lends` says whether it can lend octets.
-/// - `lawful` is the law of every state: the position lies within the end, the end within the
+/// - `sound_state` is the law of every state: the position lies within the end, the end within the
 ///   input, of at most 4294967295 octets; the depth is at most 64; and only a reader that keeps a
 ///   failed state fails.
 /// - `lending` is the law that a reliable reader lends.
@@ -105,7 +105,7 @@ pub trait Reader: Sized + Drop {
             (map_ok Self.Lent.octets result) (state self.new) }
         ensures unlent { lends ≡ false
             → map_ok Self.Lent.octets result ≡ Err
-            (at CannotRead (reader_position (state self.old))) }
+            (error_at CannotRead (reader_position (state self.old))) }
         ensures unmoved { lends ≡ false → state self.new ≡ state self.old };
 
     /// Fills the buffer with the next octets.
@@ -129,7 +129,7 @@ pub trait Reader: Sized + Drop {
     /// The error of this kind at the position; the reader has failed, where it keeps such a state.
     fn error(&mut self, kind: ErrorKind) -> Error
         ensures same { Same (state self.old) (state self.new) }
-        ensures at_position { result ≡ at kind (reader_position (state self.old)) }
+        ensures at_position { result ≡ error_at kind (reader_position (state self.old)) }
         ensures failed { state self.new ≡ stopped_state (state self.old)
             (state self.old).position };
 
@@ -146,7 +146,7 @@ pub trait Reader: Sized + Drop {
             → map_ok Self.Lent.octets result ≡ remaining_answer (state self.now) }
         ensures unlent { lends ≡ false
             → map_ok Self.Lent.octets result ≡ Err
-            (at CannotRead (reader_position (state self.now))) };
+            (error_at CannotRead (reader_position (state self.now))) };
 
     /// An equal reader; it takes no memory, and what is read by it leaves this one as it is.
     fn fork(&self) -> Self
@@ -231,7 +231,7 @@ pub trait Reader: Sized + Drop {
             (outer_depth resumption) };
 
     // what is so of every reader
-    ghost lawful: { (s : Self) → IsSound (state s) };
+    ghost sound_state: { (s : Self) → IsSound (state s) };
 
     // a reliable reader lends
     ghost lending: { reliable ≡ true → lends ≡ true };

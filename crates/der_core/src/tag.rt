@@ -7,7 +7,7 @@ ghost use Rattle.der_core.specs.AfterFirstOctet.{IdentifierBehind, IsAlone, IsGu
 ghost use Rattle.der_core.specs.Decode.{Decodes, grammar_levels};
 ghost use Rattle.der_core.specs.Encode.{single_octets, high_digits, tag_outcome};
 ghost use Rattle.der_core.specs.ReaderState.{Same, Reads};
-ghost use Rattle.der_core.specs.Writer.{Writes, Keeps, Appends, Takes, write_pieces};
+ghost use Rattle.der_core.specs.Writer.{Writes, Keeps, Appends, Fits, write_pieces};
 
 pub mod fixed;
 mod peek;
@@ -264,13 +264,13 @@ pub(crate) fn decode_tag<R: Reader>(reader: &mut R) -> Result<Tag, Error>
 impl<R: Reader> Decode<R> for Tag {
     type Error = Error;
 
-    ghost heads = { TagAhead };
+    ghost stands_ahead = { TagAhead };
 
-    ghost needs = { grammar_levels };
+    ghost decode_levels = { grammar_levels };
 
-    ghost takes_memory = { false };
+    ghost allocates = { false };
 
-    ghost answers = { Decodes TagAhead IdentifierFault true };
+    ghost decode_answers = { Decodes TagAhead IdentifierFault true };
 
     /// Decodes a tag (X.690 8.1.2). Under the Basic Encoding Rules octet 24 is read as the tag
     /// OCTET STRING too (X.690 8.7.1).
@@ -309,7 +309,7 @@ impl Encode for Tag {
 
     ghost size = { λ t. Ok (definite_length (length (tag_octets t))) };
 
-    ghost answers = { λ t s r u. Writes (tag_outcome t s) r u };
+    ghost encode_answers = { λ t s r u. Writes (tag_outcome t s) r u };
 
     fn encoded_len(&self) -> Result<Length, Error> {
         Ok(Length::new(self.octet_count()))
@@ -342,7 +342,7 @@ pub(crate) fn first_octet_of(tag: Tag, low: u8) -> u8
 fn encode_high_digits<W: Writer>(number: u32, writer: &mut W) -> Result<(), Error>
     ensures kept { Keeps (W.state writer.old) (W.state writer.new) }
     ensures ok { Appends (W.state writer.old) (high_digits number) result (W.state writer.new) }
-    ensures succeeds { Takes (W.state writer.old) (high_digits number) result }
+    ensures succeeds { Fits (W.state writer.old) (high_digits number) result }
     ensures exact { W.reliable ≡ true → Writes
         (write_pieces (single_octets (high_digits number)) (W.state writer.old)) result
         (W.state writer.new) }

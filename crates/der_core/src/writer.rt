@@ -1,6 +1,6 @@
 //! Writers of octets.
 ghost use Rattle.std.specs.Prelude.{◌≡◌, Bool, true, false, [], ◌∷◌};
-ghost use Rattle.der_core.specs.Writer.{WriterState, Keeps, Appends, Takes, Writes, HasRoom, write_outcome};
+ghost use Rattle.der_core.specs.Writer.{WriterState, Keeps, Appends, Fits, Writes, HasRoom, write_outcome};
 
 pub mod slice;
 
@@ -39,12 +39,12 @@ pub trait Writer {
     fn write(&mut self, octets: &[u8]) -> Result<(), Error>
         ensures kept { Keeps (state self.old) (state self.new) }
         ensures ok { Appends (state self.old) octets.now result (state self.new) }
-        ensures succeeds { Takes (state self.old) octets.now result }
+        ensures succeeds { Fits (state self.old) octets.now result }
         ensures exact { reliable ≡ true
             → Writes (write_outcome octets.now (state self.old)) result (state self.new) };
 
-    /// Whether a write of so many octets is known to succeed. Where a writer answers so, a header is
-    /// written at once, and otherwise piece by piece; one that does not say answers `false`.
+    /// Whether a write of so many octets is known to succeed. Where a writer answers so, a header
+    /// is written at once, and otherwise piece by piece; one that does not say answers `false`.
     fn has_room(&self, _count: usize) -> bool
         ensures { result ≡ true → HasRoom (state self.now) _count }
     {
@@ -60,7 +60,7 @@ pub trait Writer {
     final fn write_byte(&mut self, octet: u8) -> Result<(), Error>
         ensures kept { Keeps (Self.state self.old) (Self.state self.new) }
         ensures ok { Appends (Self.state self.old) (octet ∷ []) result (Self.state self.new) }
-        ensures succeeds { Takes (Self.state self.old) (octet ∷ []) result }
+        ensures succeeds { Fits (Self.state self.old) (octet ∷ []) result }
         ensures exact { Self.reliable ≡ true
             → Writes (write_outcome (octet ∷ []) (Self.state self.old)) result
             (Self.state self.new) }

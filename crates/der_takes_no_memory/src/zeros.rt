@@ -28,7 +28,7 @@ impl WrittenValue for Zeros {
 impl EncodeValue for Zeros {
     ghost value_size = { λ zeros. Ok (definite_length zeros.count) };
 
-    ghost value_answers = { λ _ s r t. (r ≡ Err (error_of_kind Overlength)) × (t ≡ s) };
+    ghost encode_value_answers = { λ _ s r t. (r ≡ Err (error_of_kind Overlength)) × (t ≡ s) };
 
     fn value_len(&self) -> Result<Length, Error> {
         Ok(Length::new(self.count))

@@ -1,6 +1,6 @@
 -- SETs OF OCTET STRINGs that are read.
 use Rattle.std.proofs.Common.{◌≡◌, ◌≢◌, ℕ, ◌+◌, ◌-◌, ◌^◌, ◌<◌, ◌≤◌, Bool, true, false, Result, Ok, Err, IfOk, OnOk, IsOk, IsTrue, List, [], ◌∷◌, ◌++◌, length, Bor, take, drop, take_at, refl, sym, ap, subst, ◌∙◌, append-nil, append_assoc, length-append, ◌⊎◌, ⊎_elim, arith}
-use Rattle.der.specs.Prelude.{at, number, definite_length, IsBefore, Error, OctetString, Set, header_octets, Der, ElementAhead, ElementRead, head_of, IsHeaderAhead, Gives, Header, read_slice_outcome, ReaderState, rest, reader_position, Reads, slice_state}
+use Rattle.der.specs.Prelude.{error_at, number, definite_length, IsBefore, Error, OctetString, Set, header_octets, Der, ElementAhead, ElementRead, head_of, HeaderAhead, Gives, Header, read_slice_outcome, ReaderState, rest_of, reader_position, Reads, slice_state}
 use Rattle.der.specs.Tag.{label}
 use Rattle.der.specs.ErrorKinds.{SetOrdering}
 use Rattle.std.proofs.lemmas.List.{take-append-drop}
@@ -9,7 +9,7 @@ use Rattle.der.proofs.DelimitedLemmas.{element_front}
 use Rattle.der.proofs.HeaderLemmas.{header_front}
 use Rattle.der.specs.Decode.{Passes, ReadsOrLacks, ReaderDecodes, had_failed, decodes, refuses}
 use Rattle.der.specs.Element.{no_header, other_tag, in_contents}
-use Rattle.der.specs.Nested.{CanNest, Closes, handed_on, left_over, whole, NestedAnswers, not_entered, entered}
+use Rattle.der.specs.Nested.{CanNest, Closes, handed_on, left_over, whole, NestedAnswer, not_entered, entered}
 use Rattle.der.specs.Outcome.{IsBinding}
 use Rattle.der.proofs.DecodeLemmas.{remaining_ok, rest-beginning}
 use Rattle.der.proofs.WholeLemmas.{finish_ok, finishes}
@@ -22,7 +22,7 @@ use Rattle.der.proofs.ElementLemmas.{entered_part}
 use Rattle.der.proofs.LawfulLemmas.{elements_are_encodings, passed_encodings}
 use Rattle.der.proofs.StateLemmas.{length-rest, position_on, reads_none, reads_on, reads_front, rules_on, failed_on}
 use Rattle.der.specs.BorrowedOctets.{borrowed_octets, borrowed_lawful}
-use Rattle.der.specs.Octets.{IsCounted, TakesOctets, LentAnswers}
+use Rattle.der.specs.Octets.{IsCounted, TakesOctets, LentRead}
 use Rattle.der.specs.declared.example.borrowed_octets.BorrowedOctets.{BorrowedOctets}
 use Rattle.der_uses.specs.SetOf.{string_octets, joined_strings, MayFollow, set_octets, Ascend, IsReady, PassesStrings, ReadsAscending, OrderAnswer, ascending, falling}
 
@@ -41,7 +41,7 @@ closed_working : {marked : Bool} (q t : ReaderState) (end depth : ℕ) → Behin
 closed_working q t end depth (unmarked m e) w = ap (λ (x : ReaderState). x.failed) e ∙ w
 closed_working q t end depth (behind_mark m e) w = ap (λ (x : ReaderState). x.failed) e.leaves ∙ w
 
-element_working : {converts : Error → Error → Type 0} {s t : ReaderState} {v : BorrowedOctets} → ElementRead OctetString converts (LentAnswers borrowed_octets) s (Ok v) t → t.failed ≡ false
+element_working : {converts : Error → Error → Type 0} {s t : ReaderState} {v : BorrowedOctets} → ElementRead OctetString converts (LentRead borrowed_octets) s (Ok v) t → t.failed ≡ false
 element_working (no_header e f d told r) = absurd (cc)
 element_working (other_tag h f passed tagged told r) = absurd (cc)
 element_working {t = t} {v = v} (in_contents h u passed tagged answers) =
@@ -49,7 +49,7 @@ element_working {t = t} {v = v} (in_contents h u passed tagged answers) =
     closed_working ran.last t u.end u.depth ran.behind (lent_working _ ran.part ran.last (borrowed_octets v) ran.ran)
 
 -- a reader that has answered an OCTET STRING has not failed
-pub decoded_working : {converts : Error → Error → Type 0} {s t : ReaderState} {v : BorrowedOctets} → ReaderDecodes true (ElementRead OctetString converts (LentAnswers borrowed_octets)) converts s (Ok v) t → t.failed ≡ false
+pub decoded_working : {converts : Error → Error → Type 0} {s t : ReaderState} {v : BorrowedOctets} → ReaderDecodes true (ElementRead OctetString converts (LentRead borrowed_octets)) converts s (Ok v) t → t.failed ≡ false
 decoded_working (had_failed f refused leaves) = absurd refused
 decoded_working (decodes w ok answers) = element_working (answers refl)
 decoded_working (refuses u w refused answers leaves) = absurd (let no : false ≡ true = refused in cc)
@@ -57,21 +57,21 @@ decoded_working (refuses u w refused answers leaves) = absurd (let no : false �
 -- and has read its encoding
 pub string_read : {converts : Error → Error → Type 0} {s t : ReaderState} (result : Result BorrowedOctets Error) → s.rules ≡ Der
     → IfOk result (λ v. t.failed ≡ false → Passes (ElementAhead OctetString (TakesOctets IsCounted borrowed_octets) v) s t)
-    → ReaderDecodes true (ElementRead OctetString converts (LentAnswers borrowed_octets)) converts s result t → IfOk result (λ v. Reads s t (string_octets (borrowed_octets v)))
+    → ReaderDecodes true (ElementRead OctetString converts (LentRead borrowed_octets)) converts s result t → IfOk result (λ v. Reads s t (string_octets (borrowed_octets v)))
 string_read (Err e) der ok exact = tt
 string_read {s = s} {t = t} (Ok v) der ok exact = (passed_encodings (elements_are_encodings borrowed_lawful) s t v der (ok (decoded_working exact))).1
 
 -- an OCTET STRING that stands ahead can be counted
-pub string_counted : (s : ReaderState) (x more : List ℕ) → IsSound s → rest s ≡ string_octets x ++ more → length x < 2 ^ 32
+pub string_counted : (s : ReaderState) (x more : List ℕ) → IsSound s → rest_of s ≡ string_octets x ++ more → length x < 2 ^ 32
 string_counted s x more sound ahead = omega (arith, length-rest s sound, sound.in_input, sound.addressable, ap length ahead, length-append (string_octets x) more, length-append (header_octets OctetString (length x)) x)
 
 -- and is an element
-pub string_ahead : (s : ReaderState) (v : BorrowedOctets) (more : List ℕ) → IsSound s → s.rules ≡ Der → rest s ≡ string_octets (borrowed_octets v) ++ more
-    → ElementAhead OctetString (TakesOctets IsCounted borrowed_octets) v s.rules (rest s) (length (string_octets (borrowed_octets v)))
+pub string_ahead : (s : ReaderState) (v : BorrowedOctets) (more : List ℕ) → IsSound s → s.rules ≡ Der → rest_of s ≡ string_octets (borrowed_octets v) ++ more
+    → ElementAhead OctetString (TakesOctets IsCounted borrowed_octets) v s.rules (rest_of s) (length (string_octets (borrowed_octets v)))
 string_ahead s v more sound der ahead =
     let m = length (string_octets (borrowed_octets v)) in
-    subst (λ r. ElementAhead OctetString (TakesOctets IsCounted borrowed_octets) v r (rest s) m) (sym der)
-    ((elements_are_encodings borrowed_lawful).every (rest s) v m (omega (arith, length-rest s sound, sound.in_input, sound.addressable)) (record { is_valid = v.octets.counted; behind = more; split = ahead; whole = refl }))
+    subst (λ r. ElementAhead OctetString (TakesOctets IsCounted borrowed_octets) v r (rest_of s) m) (sym der)
+    ((elements_are_encodings borrowed_lawful).every (rest_of s) v m (omega (arith, length-rest s sound, sound.in_input, sound.addressable)) (record { is_valid = v.octets.counted; behind = more; split = ahead; whole = refl }))
 
 -- reading that takes no memory is not refused it
 pub not_lacking : {A E : Type 0} (oom : E → Bool) (s t : ReaderState) (m : ℕ) (result : Result A E) → ReadsOrLacks oom false s m result t → IsOk result
@@ -124,7 +124,7 @@ one_split (x ∷ front) (y ∷ strings) behind e =
     let further = one_split front strings behind same.2 in
     record { more = further.more; split = ap (λ z. z ∷ strings) (sym same.1) ∙ ap (λ l. x ∷ l) further.split; left = further.left }
 
-nothing_left : (s : ReaderState) → s.end ≤ s.position → rest s ≡ []
+nothing_left : (s : ReaderState) → s.end ≤ s.position → rest_of s ≡ []
 nothing_left s end = let none : s.end - s.position ≡ 0 = omega (arith, end) in ap (λ n. take n (drop s.position s.input)) none
 
 empty : (strings : List (List ℕ)) → joined_strings strings ≡ [] → strings ≡ []
@@ -143,15 +143,15 @@ passed_none s end =
 pub passed_all : {s t : ReaderState} (x : List ℕ) → PassedTo s t x → t.end ≡ t.position → PassesStrings s (Ok tt) t
 passed_all {s} {t} x p end = record { ok = (record { strings = p.front ++ x ∷ []; ascend = p.ascend; reads = p.reads }, end); exact = alone }
   where
-    alone : (strings : List (List ℕ)) → rest s ≡ joined_strings strings → OrderAnswer {A = Unit {0}} s.position strings tt (Ok tt)
+    alone : (strings : List (List ℕ)) → rest_of s ≡ joined_strings strings → OrderAnswer {A = Unit {0}} s.position strings tt (Ok tt)
     alone strings are =
-        let split = one_split (p.front ++ x ∷ []) strings (rest t) (sym p.reads.split ∙ are) in
+        let split = one_split (p.front ++ x ∷ []) strings (rest_of t) (sym p.reads.split ∙ are) in
         let none = empty split.more (sym split.left ∙ nothing_left t (omega (arith, end))) in
         ascending (subst Ascend (sym (split.split ∙ ap (λ l. (p.front ++ x ∷ []) ++ l) none ∙ append-nil _)) p.ascend) refl
 
 -- the OCTET STRING that was read is the one that stood ahead
-pub string_is : {s t : ReaderState} (x y more : List ℕ) → Reads s t (string_octets y) → rest s ≡ string_octets x ++ more → x ≡ y
-string_is {t = t} x y more reads ahead = (element_front OctetString OctetString x y more (rest t) (sym ahead ∙ reads.split)).1
+pub string_is : {s t : ReaderState} (x y more : List ℕ) → Reads s t (string_octets y) → rest_of s ≡ string_octets x ++ more → x ≡ y
+string_is {t = t} x y more reads ahead = (element_front OctetString OctetString x y more (rest_of t) (sym ahead ∙ reads.split)).1
 
 not_both : {A : Type 0} (result : Result A Error) (e : Error) → result ≡ Err e → IsOk result → ⊥
 not_both result e was ok = cc
@@ -159,7 +159,7 @@ not_both result e was ok = cc
 same_error : {A : Type 0} (result : Result A Error) (e f : Error) → result ≡ Err e → result ≡ Err f → e ≡ f
 same_error result e f was is = cc
 
-something_left : (s : ReaderState) → IsSound s → s.end ≢ s.position → rest s ≢ []
+something_left : (s : ReaderState) → IsSound s → s.end ≢ s.position → rest_of s ≢ []
 something_left s sound unfinished none = unfinished (omega (arith, length-rest s sound, ap length none, sound.ordered))
 
 -- a reader that says that it is not finished is not at its end
@@ -167,49 +167,49 @@ pub unfinished_at : {b : Bool} (s : ReaderState) → b ≡ false → (s.end ≡ 
 unfinished_at s said told end = let no = told end in cc
 
 -- the first is not refused
-pub first_refused : (s : ReaderState) (strings : List (List ℕ)) (result : Result BorrowedOctets Error) (e : Error) → result ≡ Err e → IsSound s → s.end ≢ s.position → rest s ≡ joined_strings strings
-    → ((x more : List ℕ) → rest s ≡ string_octets x ++ more → IsOk result) → ⊥
+pub first_refused : (s : ReaderState) (strings : List (List ℕ)) (result : Result BorrowedOctets Error) (e : Error) → result ≡ Err e → IsSound s → s.end ≢ s.position → rest_of s ≡ joined_strings strings
+    → ((x more : List ℕ) → rest_of s ≡ string_octets x ++ more → IsOk result) → ⊥
 first_refused s [] result e was sound unfinished are complete = something_left s sound unfinished are
 first_refused s (x ∷ more) result e was sound unfinished are complete = not_both result e was (complete x (joined_strings more) are)
 
 -- another is refused where it comes before the one ahead of it
-pub next_refused : {s t : ReaderState} (x : List ℕ) (strings : List (List ℕ)) (result : Result BorrowedOctets Error) (e : Error) → result ≡ Err e → IsSound t → t.end ≢ t.position → PassedTo s t x → rest s ≡ joined_strings strings
-    → ((y more : List ℕ) → rest t ≡ string_octets y ++ more
-    → IsOk result ⊎ (IsBefore (string_octets y) (string_octets x) × (result ≡ Err (at SetOrdering (reader_position t)))))
+pub next_refused : {s t : ReaderState} (x : List ℕ) (strings : List (List ℕ)) (result : Result BorrowedOctets Error) (e : Error) → result ≡ Err e → IsSound t → t.end ≢ t.position → PassedTo s t x → rest_of s ≡ joined_strings strings
+    → ((y more : List ℕ) → rest_of t ≡ string_octets y ++ more
+    → IsOk result ⊎ (IsBefore (string_octets y) (string_octets x) × (result ≡ Err (error_at SetOrdering (reader_position t)))))
     → OrderAnswer {A = Unit {0}} s.position strings tt (Err e)
 next_refused {s} {t} x strings result e was sound unfinished p are exact =
-    let split = one_split (p.front ++ x ∷ []) strings (rest t) (sym p.reads.split ∙ are) in
+    let split = one_split (p.front ++ x ∷ []) strings (rest_of t) (sym p.reads.split ∙ are) in
     go split.more split.split split.left
   where
-    go : (more : List (List ℕ)) → strings ≡ (p.front ++ x ∷ []) ++ more → rest t ≡ joined_strings more → OrderAnswer {A = Unit {0}} s.position strings tt (Err e)
+    go : (more : List (List ℕ)) → strings ≡ (p.front ++ x ∷ []) ++ more → rest_of t ≡ joined_strings more → OrderAnswer {A = Unit {0}} s.position strings tt (Err e)
     go [] split left = absurd (something_left t sound unfinished left)
     go (y ∷ more) split left =
         ⊎_elim
         (λ ok. absurd (not_both result e was ok))
         (λ h. falling p.front more x y (split ∙ append_assoc p.front (x ∷ []) (y ∷ more)) p.ascend h.0
-        (let told : e ≡ at SetOrdering (reader_position t) = same_error result e _ was h.1 in ap Err (told ∙ ap (λ n. at SetOrdering (definite_length n)) (position_on p.reads))))
+        (let told : e ≡ error_at SetOrdering (reader_position t) = same_error result e _ was h.1 in ap Err (told ∙ ap (λ n. error_at SetOrdering (definite_length n)) (position_on p.reads))))
         (exact y (joined_strings more) left)
 
 -- the header of a SET that was read
-pub set_read : {s t : ReaderState} (h : Header) → s.rules ≡ Der → Passes (IsHeaderAhead h) s t → (head_of h).tag ≡ Set → Reads s t (header_octets Set (number (head_of h).length))
+pub set_read : {s t : ReaderState} (h : Header) → s.rules ≡ Der → Passes (HeaderAhead h) s t → (head_of h).tag ≡ Set → Reads s t (header_octets Set (number (head_of h).length))
 set_read {s} {t} h der passed tagged = subst (λ tag. Reads s t (header_octets tag (number (head_of h).length))) tagged (passed_encodings headers_are_encodings s t h der passed).1
 
 -- the header of a SET that stands ahead
 abbrev pub header_of_set : ℕ → Header
 header_of_set n = record { tag = Set; length = definite_length n; constructed = (label Set).constructed }
 
-pub set_ahead : (s : ReaderState) (n : ℕ) (more : List ℕ) → IsSound s → s.rules ≡ Der → n < 2 ^ 32 → rest s ≡ header_octets Set n ++ more
-    → IsHeaderAhead (header_of_set n) s.rules (rest s) (length (header_octets Set n))
+pub set_ahead : (s : ReaderState) (n : ℕ) (more : List ℕ) → IsSound s → s.rules ≡ Der → n < 2 ^ 32 → rest_of s ≡ header_octets Set n ++ more
+    → HeaderAhead (header_of_set n) s.rules (rest_of s) (length (header_octets Set n))
 set_ahead s n more sound der small ahead =
-    subst (λ r. IsHeaderAhead (header_of_set n) r (rest s) (length (header_octets Set n))) (sym der)
-    (headers_are_encodings.every (rest s) (header_of_set n) _ (omega (arith, length-rest s sound, sound.in_input, sound.addressable))
+    subst (λ r. HeaderAhead (header_of_set n) r (rest_of s) (length (header_octets Set n))) (sym der)
+    (headers_are_encodings.every (rest_of s) (header_of_set n) _ (omega (arith, length-rest s sound, sound.in_input, sound.addressable))
     (record { is_valid = record { says = refl; numbered = omega arith; small = small }; behind = more; split = ahead; whole = refl }))
 
 -- and nothing else is read then
-pub set_alone : {s t : ReaderState} (h : Header) (n : ℕ) (more : List ℕ) → s.rules ≡ Der → Passes (IsHeaderAhead h) s t → rest s ≡ header_octets Set n ++ more → (head_of h).tag ≡ Set
+pub set_alone : {s t : ReaderState} (h : Header) (n : ℕ) (more : List ℕ) → s.rules ≡ Der → Passes (HeaderAhead h) s t → rest_of s ≡ header_octets Set n ++ more → (head_of h).tag ≡ Set
 set_alone {s} {t} h n more der passed ahead =
     let reads = (passed_encodings headers_are_encodings s t h der passed).1 in
-    (header_front (head_of h).tag Set (number (head_of h).length) n (rest t) more (sym reads.split ∙ ahead)).0
+    (header_front (head_of h).tag Set (number (head_of h).length) n (rest_of t) more (sym reads.split ∙ ahead)).0
 
 -- contents that are elements and nothing else
 behind_part : (n : ℕ) (s t q : ReaderState) → s.position + n ≤ s.end → ReadsAscending (nested_state s n) q → q.end ≡ q.position → t ≡ resumed_state q s.end s.depth → ReadsAscending s t × (t.position ≡ s.position + n)
@@ -218,21 +218,21 @@ behind_part n s t q within r at_end leaves =
     let count : n ≡ length all = omega (arith, at_end, ap (λ (x : ReaderState). x.end) r.reads.state, ap (λ (x : ReaderState). x.position) r.reads.state) in
     let inside = sym (rest_inside s n within) ∙ r.reads.split ∙ ap (λ l. all ++ l) (nothing_left q (omega (arith, at_end))) ∙ append-nil all in
     let there = leaves ∙ ap (λ x. resumed_state x s.end s.depth) r.reads.state in (
-      record { strings = r.strings; ascend = r.ascend; reads = subst (λ x. Reads s x all) (sym there) (reads_front s all (drop n (rest s)) (sym (take-append-drop n (rest s)) ∙ ap (λ l. l ++ drop n (rest s)) inside)) },
+      record { strings = r.strings; ascend = r.ascend; reads = subst (λ x. Reads s x all) (sym there) (reads_front s all (drop n (rest_of s)) (sym (take-append-drop n (rest_of s)) ∙ ap (λ l. l ++ drop n (rest_of s)) inside)) },
       omega (arith, count, ap (λ (x : ReaderState). x.position) there),
     )
 
 -- a part that was read by a closure
 module _ {P Q : Type 0} {converts : Error → Error → Type 0} {post : P → Result (Unit {0}) Error → Q → Type 0} (before : P → ReaderState) (after : Q → ReaderState) (n : ℕ) (s t : ReaderState)
     (result : Result (Unit {0}) Error) (ran : (p : P) (a : Result (Unit {0}) Error) (q : Q) → before p ≡ nested_state s n → post p a q → PassesStrings (before p) a (after q)) where
-  passed_part : (v : Unit {0}) → result ≡ Ok v → NestedAnswers converts post before after n s result t → ReadsAscending s t × (t.position ≡ s.position + n)
+  passed_part : (v : Unit {0}) → result ≡ Ok v → NestedAnswer converts post before after n s result t → ReadsAscending s t × (t.position ≡ s.position + n)
   passed_part v is (not_entered e f h c r) = absurd (cc)
   passed_part v is (entered p answer q can there h closes) =
       let k = closes_ok (subst (λ x. Closes converts answer (after q) s.end s.depth x t) is closes) in
       let r = subst (λ a. OnOk a (ReadsAscending (before p) (after q) × ((after q).end ≡ (after q).position))) k.0 (ran p answer q there h).ok in
       behind_part n s t (after q) can.0 (subst (λ x. ReadsAscending x (after q)) there r.0) r.1 k.2
 
-  pub part_read : (IsBinding true result → NestedAnswers converts post before after n s result t) → OnOk result (ReadsAscending s t × (t.position ≡ s.position + n))
+  pub part_read : (IsBinding true result → NestedAnswer converts post before after n s result t) → OnOk result (ReadsAscending s t × (t.position ≡ s.position + n))
   part_read answers = go result refl
     where
       go : (x : Result (Unit {0}) Error) → result ≡ x → OnOk x (ReadsAscending s t × (t.position ≡ s.position + n))
@@ -240,14 +240,14 @@ module _ {P Q : Type 0} {converts : Error → Error → Type 0} {post : P → Re
       go (Err e) is = tt
 
   -- the elements in it are judged
-  pub part_judged : (strings : List (List ℕ)) (more : List ℕ) → IsSound s → s.depth < 64 → rest s ≡ joined_strings strings ++ more → n ≡ length (joined_strings strings)
-      → NestedAnswers converts post before after n s result t → OrderAnswer {A = Unit {0}} s.position strings tt result
+  pub part_judged : (strings : List (List ℕ)) (more : List ℕ) → IsSound s → s.depth < 64 → rest_of s ≡ joined_strings strings ++ more → n ≡ length (joined_strings strings)
+      → NestedAnswer converts post before after n s result t → OrderAnswer {A = Unit {0}} s.position strings tt result
   part_judged strings more sound shallow are count answers = go answers
     where
       can : CanNest s n
       can = (omega (arith, length-rest s sound, ap length are, length-append (joined_strings strings) more, count, sound.ordered), shallow)
 
-      inside : rest (nested_state s n) ≡ joined_strings strings
+      inside : rest_of (nested_state s n) ≡ joined_strings strings
       inside = rest_inside s n can.0 ∙ ap (take n) are ∙ take_at (joined_strings strings) more n (sym count)
 
       closed : {p : P} {answer : Result (Unit {0}) Error} {q : Q} → before p ≡ nested_state s n → post p answer q → OrderAnswer {A = Unit {0}} s.position strings tt answer
@@ -257,19 +257,19 @@ module _ {P Q : Type 0} {converts : Error → Error → Type 0} {post : P → Re
           absurd (let w = subst (λ x. OnOk x (ReadsAscending (before p) (after q) × ((after q).end ≡ (after q).position))) a (ran p answer q there h).ok in omega (arith, less, w.1))
       closed there h order (whole v a at r l) = subst (OrderAnswer s.position strings tt) (a ∙ sym r) order
 
-      go : NestedAnswers converts post before after n s result t → OrderAnswer {A = Unit {0}} s.position strings tt result
+      go : NestedAnswer converts post before after n s result t → OrderAnswer {A = Unit {0}} s.position strings tt result
       go (not_entered e f h c r) = absurd (let no = h.answered ∙ entered_part s n sound can in cc)
       go (entered p answer q it there h closes) =
-          closed there h (subst (λ (x : ReaderState). OrderAnswer {A = Unit {0}} x.position strings tt answer) there ((ran p answer q there h).exact strings (ap rest there ∙ inside))) closes
+          closed there h (subst (λ (x : ReaderState). OrderAnswer {A = Unit {0}} x.position strings tt answer) there ((ran p answer q there h).exact strings (ap rest_of there ∙ inside))) closes
 
 -- a SET that is all of some octets, behind its header
 module _ (octets : List ℕ) (s t : ReaderState) (n : ℕ) (begun : s ≡ initial_state Der octets) (reads : Reads s t (header_octets Set n)) where
-  whole_octets : octets ≡ header_octets Set n ++ rest t
-  whole_octets = sym (ap rest begun ∙ rest-beginning Der octets) ∙ reads.split
+  whole_octets : octets ≡ header_octets Set n ++ rest_of t
+  whole_octets = sym (ap rest_of begun ∙ rest-beginning Der octets) ∙ reads.split
 
-  pub header_count : (strings : List (List ℕ)) → octets ≡ set_octets strings → (n ≡ length (joined_strings strings)) × (rest t ≡ joined_strings strings)
+  pub header_count : (strings : List (List ℕ)) → octets ≡ set_octets strings → (n ≡ length (joined_strings strings)) × (rest_of t ≡ joined_strings strings)
   header_count strings e =
-      let one = header_front Set Set n (length (joined_strings strings)) (rest t) (joined_strings strings) (sym whole_octets ∙ e) in
+      let one = header_front Set Set n (length (joined_strings strings)) (rest_of t) (joined_strings strings) (sym whole_octets ∙ e) in
       (one.1, one.2)
 
   pub header_position : (strings : List (List ℕ)) → octets ≡ set_octets strings → t.position ≡ length (header_octets Set (length (joined_strings strings)))
@@ -296,7 +296,7 @@ pub order_refused : {begins : ℕ} (at_position : ℕ) (strings : List (List ℕ
     → OrderAnswer begins strings tt result → OrderAnswer at_position strings octets (Err e)
 order_refused at_position strings octets result e is begins (ascending up r) = absurd (cc)
 order_refused at_position strings octets result e is begins (falling front behind x y split up before r) =
-    falling front behind x y split up before (ap Err (same_error result e _ is r ∙ ap (λ b. at SetOrdering (definite_length (b + length (joined_strings (front ++ x ∷ []))))) begins))
+    falling front behind x y split up before (ap Err (same_error result e _ is r ∙ ap (λ b. error_at SetOrdering (definite_length (b + length (joined_strings (front ++ x ∷ []))))) begins))
 
 pub order_lent : {begins : ℕ} (at_position : ℕ) (strings : List (List ℕ)) (octets contents : List ℕ) (result : Result (Unit {0}) Error) (v : Unit {0}) → result ≡ Ok v → contents ≡ octets
     → OrderAnswer begins strings tt result → OrderAnswer at_position strings octets (Ok contents)

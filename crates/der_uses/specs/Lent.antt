@@ -14,16 +14,16 @@ IsLent lent = Unit {0}
 abbrev pub TakesLent : Lent → EncodingRules → Head → List ℕ → Type 0
 TakesLent lent rules h octets = lent_contents lent ≡ octets
 
-abbrev pub LentAnswers : Head → ReaderState → Result Lent Error → ReaderState → Type 0
-LentAnswers h s result t =
+abbrev pub LentRead : Head → ReaderState → Result Lent Error → ReaderState → Type 0
+LentRead h s result t =
     Gives (read_slice_outcome (number h.length)) s (map_ok lent_contents result) t
 
 -- how many octets there are, and what writing answers
 abbrev pub lent_size : Lent → Result Length Error
 lent_size lent = checked_length (length (lent_contents lent))
 
-abbrev pub WritesLent : Lent → WriterAnswer
-WritesLent lent s result t = Writes (write_outcome (lent_contents lent) s) result t
+abbrev pub LentWritten : Lent → WriterAnswer
+LentWritten lent s result t = Writes (write_outcome (lent_contents lent) s) result t
 
 -- they are compared octet by octet, which is never refused
 abbrev pub lent_order : Lent → Lent → Compared

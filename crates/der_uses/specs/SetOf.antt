@@ -1,7 +1,7 @@
 -- A SET OF OCTET STRING, whose elements stand in the order of their encodings (X.690 8.12, 11.6).
 use Rattle.std.specs.Prelude.{◌≡◌, ℕ, ◌+◌, ◌≤◌, false, List, [], ◌∷◌, ◌++◌, length, map, Result, Ok, Err, OnOk}
 use Rattle.std.specs.List.{flat_map}
-use Rattle.der.specs.Prelude.{at, definite_length, IsBefore, Der, Error, OctetString, Set, element_octets, ReaderState, Reads, rest}
+use Rattle.der.specs.Prelude.{error_at, definite_length, IsBefore, Der, Error, OctetString, Set, element_octets, ReaderState, Reads, rest_of}
 use Rattle.der.specs.ErrorKinds.{SetOrdering}
 use Rattle.der.specs.BorrowedOctets.{borrowed_octets}
 use Rattle.der.specs.declared.example.borrowed_octets.BorrowedOctets.{BorrowedOctets}
@@ -39,7 +39,7 @@ pub data OrderAnswer {A : Type 0} (begins : ℕ) (strings : List (List ℕ)) (an
   ascending : Ascend strings → result ≡ Ok answer → OrderAnswer begins strings answer result
   falling : (front behind : List (List ℕ)) (x y : List ℕ) → strings ≡ front ++ x ∷ y ∷ behind
       → Ascend (front ++ x ∷ []) → IsBefore (string_octets y) (string_octets x)
-      → result ≡ Err (at SetOrdering
+      → result ≡ Err (error_at SetOrdering
       (definite_length (begins + length (joined_strings (front ++ x ∷ [])))))
       → OrderAnswer begins strings answer result
 
@@ -61,5 +61,5 @@ pub record ReadsAscending (s t : ReaderState) : Type 0 where
 pub record PassesStrings (s : ReaderState) (result : Result (Unit {0}) Error) (t : ReaderState)
     : Type 0 where
   pub ok : OnOk result (ReadsAscending s t × (t.end ≡ t.position))
-  pub exact : (strings : List (List ℕ)) → rest s ≡ joined_strings strings
+  pub exact : (strings : List (List ℕ)) → rest_of s ≡ joined_strings strings
       → OrderAnswer s.position strings tt result

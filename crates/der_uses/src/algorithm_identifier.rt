@@ -1,7 +1,7 @@
 //! A SEQUENCE of two fields, as an algorithm and its parameter are written in a certificate.
 ghost use Rattle.std.specs.Prelude.{◌≡◌, false};
 ghost use Rattle.der.specs.Prelude.{Sequence};
-ghost use Rattle.der_uses.specs.AlgorithmIdentifier.{IsIdentifier, TakesIdentifier, IdentifierAnswers, identifier_contents, identifier_levels, identifier_size, WritesIdentifier, identifier_lawful};
+ghost use Rattle.der_uses.specs.AlgorithmIdentifier.{IsAlgorithm, TakesAlgorithm, AlgorithmRead, algorithm_contents, algorithm_levels, algorithm_size, AlgorithmWritten, algorithm_lawful};
 
 use crate::lent::Lent;
 use der::example::MyByteMonth;
@@ -33,13 +33,13 @@ impl<'a> FixedTag for AlgorithmIdentifier<'a> {
 }
 
 impl<'a> ReadValue for AlgorithmIdentifier<'a> {
-    ghost valid = { IsIdentifier };
+    ghost valid = { IsAlgorithm };
 
-    ghost takes = { TakesIdentifier };
+    ghost takes = { TakesAlgorithm };
 
-    ghost levels = { identifier_levels };
+    ghost value_levels = { algorithm_levels };
 
-    ghost takes_memory = { false };
+    ghost allocates = { false };
 
     ghost takes_valid = { λ v rules h octets taken. (tt, taken.behind.taken.0) };
 }
@@ -47,7 +47,7 @@ impl<'a> ReadValue for AlgorithmIdentifier<'a> {
 impl<'a, R: Reader<Lent = &'a [u8]>> DecodeValue<R> for AlgorithmIdentifier<'a> {
     type Error = Error;
 
-    ghost value_answers = { IdentifierAnswers };
+    ghost decode_value_answers = { AlgorithmRead };
 
     fn decode_value(alloc: Global, reader: &mut R, header: Header) -> Result<Self, Error> {
         let (algorithm, month) = decode_contents::<R, (Lent<'a>, MyByteMonth)>(
@@ -60,15 +60,15 @@ impl<'a, R: Reader<Lent = &'a [u8]>> DecodeValue<R> for AlgorithmIdentifier<'a> 
 }
 
 impl<'a> WrittenValue for AlgorithmIdentifier<'a> {
-    ghost contents = { identifier_contents };
+    ghost contents = { algorithm_contents };
 
-    ghost writable = { IsIdentifier };
+    ghost writable = { IsAlgorithm };
 }
 
 impl<'a> EncodeValue for AlgorithmIdentifier<'a> {
-    ghost value_size = { identifier_size };
+    ghost value_size = { algorithm_size };
 
-    ghost value_answers = { WritesIdentifier };
+    ghost encode_value_answers = { AlgorithmWritten };
 
     fn value_len(&self) -> Result<Length, Error> {
         (EncodeRef(&self.algorithm), EncodeRef(&self.month)).encoded_len()
@@ -80,5 +80,5 @@ impl<'a> EncodeValue for AlgorithmIdentifier<'a> {
 }
 
 impl<'a> Lawful for AlgorithmIdentifier<'a> {
-    ghost lawful = { identifier_lawful };
+    ghost lawful = { algorithm_lawful };
 }

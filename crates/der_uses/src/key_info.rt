@@ -1,7 +1,7 @@
 //! A SEQUENCE with another one inside it, as a key stands in a certificate.
 ghost use Rattle.std.specs.Prelude.{◌≡◌, ◌<◌, ◌^◌, false, length, IfOk, IsOk};
 ghost use Rattle.der.specs.Prelude.{Sequence, element_octets};
-ghost use Rattle.der_uses.specs.KeyInfo.{IsKeyInfo, TakesKeyInfo, KeyInfoAnswers, key_info_contents, key_info_levels, key_info_size, WritesKeyInfo, key_info_lawful};
+ghost use Rattle.der_uses.specs.KeyInfo.{IsKeyInfo, TakesKeyInfo, KeyInfoRead, key_info_contents, key_info_levels, key_info_size, KeyInfoWritten, key_info_lawful};
 
 use crate::algorithm_identifier::AlgorithmIdentifier;
 use crate::lent::Lent;
@@ -37,9 +37,9 @@ impl<'a> ReadValue for KeyInfo<'a> {
 
     ghost takes = { TakesKeyInfo };
 
-    ghost levels = { key_info_levels };
+    ghost value_levels = { key_info_levels };
 
-    ghost takes_memory = { false };
+    ghost allocates = { false };
 
     ghost takes_valid = { λ v rules h octets taken.
         ((tt, taken.ahead.taken.behind.taken.0), tt) };
@@ -48,7 +48,7 @@ impl<'a> ReadValue for KeyInfo<'a> {
 impl<'a, R: Reader<Lent = &'a [u8]>> DecodeValue<R> for KeyInfo<'a> {
     type Error = Error;
 
-    ghost value_answers = { KeyInfoAnswers };
+    ghost decode_value_answers = { KeyInfoRead };
 
     fn decode_value(alloc: Global, reader: &mut R, header: Header) -> Result<Self, Error> {
         let (algorithm, key) = decode_contents::<R, (AlgorithmIdentifier<'a>, Lent<'a>)>(
@@ -69,7 +69,7 @@ impl<'a> WrittenValue for KeyInfo<'a> {
 impl<'a> EncodeValue for KeyInfo<'a> {
     ghost value_size = { key_info_size };
 
-    ghost value_answers = { WritesKeyInfo };
+    ghost encode_value_answers = { KeyInfoWritten };
 
     fn value_len(&self) -> Result<Length, Error> {
         (EncodeRef(&self.algorithm), EncodeRef(&self.key)).encoded_len()

@@ -2,7 +2,7 @@
 ghost use Rattle.std.specs.Prelude.{◌≡◌, false, length};
 ghost use Rattle.std.proofs.Common.{refl};
 ghost use Rattle.der.specs.Prelude.{OctetString};
-ghost use Rattle.der_uses.specs.Lent.{IsLent, TakesLent, LentAnswers, WritesLent, lent_contents, lent_size, lent_lawful, lent_order};
+ghost use Rattle.der_uses.specs.Lent.{IsLent, TakesLent, LentRead, LentWritten, lent_contents, lent_size, lent_lawful, lent_order};
 
 use der::{
     DecodeValue, EncodeValue, Error, FixedTag, Header, Lawful, Length, Orderly, ReadValue, Reader,
@@ -35,9 +35,9 @@ impl<'a> ReadValue for Lent<'a> {
 
     ghost takes = { TakesLent };
 
-    ghost levels = { λ _. 0 };
+    ghost value_levels = { λ _. 0 };
 
-    ghost takes_memory = { false };
+    ghost allocates = { false };
 
     ghost takes_valid = { λ v rules h octets taken. tt };
 }
@@ -55,7 +55,7 @@ impl<'a> Lawful for Lent<'a> {
 impl<'a, R: Reader<Lent = &'a [u8]>> DecodeValue<R> for Lent<'a> {
     type Error = Error;
 
-    ghost value_answers = { LentAnswers };
+    ghost decode_value_answers = { LentRead };
 
     fn decode_value(_alloc: Global, reader: &mut R, header: Header) -> Result<Self, Error> {
         let octets = reader.read_slice(header.length())?;
@@ -68,7 +68,7 @@ impl<'a, R: Reader<Lent = &'a [u8]>> DecodeValue<R> for Lent<'a> {
 impl<'a> EncodeValue for Lent<'a> {
     ghost value_size = { lent_size };
 
-    ghost value_answers = { WritesLent };
+    ghost encode_value_answers = { LentWritten };
 
     fn value_len(&self) -> Result<Length, Error> {
         Length::new_usize(self.octets.len())

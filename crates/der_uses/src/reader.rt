@@ -1,7 +1,7 @@
 //! A reader of a user's own, as one over a connection would be: it hands out copies, lends nothing,
 //! and one of its reads may fail.
 ghost use Rattle.std.specs.Prelude.{◌≡◌, false};
-ghost use Rattle.der.specs.Prelude.{at, reader_position, slice_state};
+ghost use Rattle.der.specs.Prelude.{error_at, reader_position, slice_state};
 ghost use Rattle.der.specs.ErrorKinds.{Reader as CannotRead};
 
 use der::{EncodingRules, Error, ErrorKind, Length, Reader, Resumption, SliceReader};
@@ -46,7 +46,7 @@ impl<'a> CopyingReader<'a> {
 
     // What is refused that the reader does not do, or cannot.
     fn unsupported(&self) -> Error
-        ensures { result ≡ at CannotRead (reader_position (slice_state self.now.inner)) }
+        ensures { result ≡ error_at CannotRead (reader_position (slice_state self.now.inner)) }
     {
         ErrorKind::Reader.at(self.inner.position())
     }
@@ -149,7 +149,7 @@ impl<'a> Reader for CopyingReader<'a> {
     }
 
     // the laws: those of the reader below, and that a reader which lends nothing is not reliable
-    ghost lawful = { λ r. record {
+    ghost sound_state = { λ r. record {
       ordered = r.inner.ordered;
       in_input = r.inner.in_input;
       addressable = r.inner.addressable;

@@ -1,6 +1,6 @@
 //! A SET OF OCTET STRING: its elements stand in the order of their encodings (X.690 11.6).
 ghost use Rattle.std.specs.Prelude.{◌≡◌, ◌+◌, ◌++◌, ◌^◌, ◌<◌, ◌≤◌, ◌⊎◌, ℕ, List, length, Err, IfOk, IsOk, IsErrAnd, OnOk, IsPermutation};
-ghost use Rattle.der.specs.Prelude.{checked_length, at, error_of_kind, header_octets, number, IsBefore, byte_order, Set, map_ok, Reads, Same, reader_position, rest, slice_state};
+ghost use Rattle.der.specs.Prelude.{checked_length, error_at, error_of_kind, header_octets, number, IsBefore, byte_order, Set, map_ok, Reads, Same, reader_position, rest_of, slice_state};
 ghost use Rattle.der.specs.ErrorKinds.{Overflow, OutOfMemory, SetOrdering};
 ghost use Rattle.der.specs.BorrowedOctets.{borrowed_octets};
 ghost use Rattle.der_uses.specs.SetOf.{string_octets, octets_of, joined_strings, set_octets, Ascend, IsReady, MayFollow, OrderAnswer, PassesStrings, ReadsAscending};
@@ -83,7 +83,7 @@ fn write_all(elements: &[BorrowedOctets<'_>], out: &mut Vec<u8>) -> Result<(), E
     Ok(())
 }
 
-/// The contents of the SET OF OCTET STRING whose encoding the octets are, all of them. Takes no
+/// The contents of the SET OF OCTET STRING whose encoding the octets are, all of them. Fits no
 /// memory.
 ///
 /// # Errors
@@ -120,7 +120,7 @@ fn set_header(reader: &mut SliceReader<'_>) -> Result<Length, Error>
     ensures ok { IfOk result (λ l. Reads (slice_state reader.old) (slice_state reader.new)
         (header_octets Set (number l))) }
     ensures complete { (n : ℕ) (more : List ℕ) → n < 2 ^ 32
-        → rest (slice_state reader.old) ≡ header_octets Set n ++ more → IsOk result }
+        → rest_of (slice_state reader.old) ≡ header_octets Set n ++ more → IsOk result }
 {
     let header = decode_header(reader)?;
     header.tag().assert_eq(Tag::Set)?;
@@ -136,7 +136,7 @@ fn pass_contents(alloc: Global, reader: &mut SliceReader<'_>, len: Length) -> Re
         × ((slice_state reader.new).position
         ≡ (slice_state reader.old).position + number len)) }
     ensures exact { (strings : List (List ℕ)) (more : List ℕ)
-        → rest (slice_state reader.old) ≡ joined_strings strings ++ more
+        → rest_of (slice_state reader.old) ≡ joined_strings strings ++ more
         → number len ≡ length (joined_strings strings)
         → OrderAnswer (slice_state reader.old).position strings tt result }
 {
@@ -173,10 +173,10 @@ fn next_behind<'a>(
         (string_octets (borrowed_octets v))
         × MayFollow (borrowed_octets ahead.now) (borrowed_octets v)) }
     ensures exact { (x more : List ℕ)
-        → rest (slice_state reader.old) ≡ string_octets x ++ more
+        → rest_of (slice_state reader.old) ≡ string_octets x ++ more
         → IsOk result
         ⊎ (IsBefore (string_octets x) (string_octets (borrowed_octets ahead.now))
-        × (result ≡ Err (at SetOrdering (reader_position (slice_state reader.old))))) }
+        × (result ≡ Err (error_at SetOrdering (reader_position (slice_state reader.old))))) }
 {
     let begins = reader.position();
     let element = next_element(alloc, reader)?;
@@ -196,7 +196,7 @@ fn next_element<'a>(
     ensures ok { IfOk result (λ v. Reads (slice_state reader.old) (slice_state reader.new)
         (string_octets (borrowed_octets v))) }
     ensures complete { (x more : List ℕ)
-        → rest (slice_state reader.old) ≡ string_octets x ++ more → IsOk result }
+        → rest_of (slice_state reader.old) ≡ string_octets x ++ more → IsOk result }
 {
     reader.decode(alloc)
 }

@@ -3,8 +3,8 @@ ghost use Rattle.std.specs.Prelude.{◌≡◌, ◌↔◌, false, true, IfOk, IsO
 ghost use Rattle.der_core.specs.DecodeValue.{TakesContents};
 ghost use Rattle.der_core.specs.Header.{head_of};
 ghost use Rattle.der_core.specs.ReaderState.{Same};
-ghost use Rattle.der.specs.Octets.{IsCounted, TakesOctets, EndsTaken, LentAnswers, octets_size, WritesOctets};
-ghost use Rattle.der.specs.BytesCow.{cow_octets, IsBorrowed};
+ghost use Rattle.der.specs.Octets.{IsCounted, TakesOctets, EndsTaken, LentOctetsRead, octets_size, OctetsWritten};
+ghost use Rattle.der.specs.BytesCow.{cow_octets, IsBorrowedOctets};
 
 use crate::bytes::{BytesOwned, BytesRef};
 use der_base::{Error, Length};
@@ -37,10 +37,10 @@ impl<'a> ReadValue for BytesCow<'a> {
 
     ghost takes = { TakesOctets IsCounted cow_octets };
 
-    ghost levels = { λ _. 0 };
+    ghost value_levels = { λ _. 0 };
 
     // a reliable reader lends, so none is taken
-    ghost takes_memory = { false };
+    ghost allocates = { false };
 
     ghost takes_valid = { λ b rules h octets taken. taken.0 };
 }
@@ -55,7 +55,7 @@ impl<'a> ReadValue for BytesCow<'a> {
 impl<'a, R: Reader<Lent = &'a [u8]>> DecodeValue<R> for BytesCow<'a> {
     type Error = Error;
 
-    ghost value_answers = { LentAnswers cow_octets };
+    ghost decode_value_answers = { LentOctetsRead cow_octets };
 
     fn decode_value(alloc: Global, reader: &mut R, header: Header) -> Result<Self, Error>
         ensures same { Same (R.state reader.old) (R.state reader.new) }
@@ -63,11 +63,11 @@ impl<'a, R: Reader<Lent = &'a [u8]>> DecodeValue<R> for BytesCow<'a> {
             (R.state reader.old) result (R.state reader.new) }
         ensures complete { EndsTaken IsCounted cow_octets R.reliable (head_of header)
             (R.state reader.old) result (R.state reader.new) }
-        ensures exact { R.reliable ≡ true → LentAnswers cow_octets (head_of header)
+        ensures exact { R.reliable ≡ true → LentOctetsRead cow_octets (head_of header)
             (R.state reader.old) result (R.state reader.new) }
-        ensures ok { IsOk result → LentAnswers cow_octets (head_of header) (R.state reader.old)
+        ensures ok { IsOk result → LentOctetsRead cow_octets (head_of header) (R.state reader.old)
             result (R.state reader.new) }
-        ensures borrowed { IfOk result (λ b. IsBorrowed b ↔ (R.lends ≡ true)) }
+        ensures borrowed { IfOk result (λ b. IsBorrowedOctets b ↔ (R.lends ≡ true)) }
     {
         if R::can_lend() {
             Ok(BytesCow::Borrowed(BytesRef::decode_value(alloc, reader, header)?))
@@ -92,7 +92,7 @@ impl<'a> WrittenValue for BytesCow<'a> {
 impl<'a> EncodeValue for BytesCow<'a> {
     ghost value_size = { octets_size cow_octets };
 
-    ghost value_answers = { WritesOctets cow_octets };
+    ghost encode_value_answers = { OctetsWritten cow_octets };
 
     fn value_len(&self) -> Result<Length, Error> {
         self.as_bytes_ref().value_len()

@@ -3,7 +3,7 @@ ghost use Rattle.std.specs.Prelude.{◌≡◌, false};
 ghost use Rattle.der_base.specs.declared.tag.Tag.TheVariants.{OctetString};
 ghost use Rattle.std.proofs.Common.{refl};
 ghost use Rattle.der.specs.OctetsOrder.{octets_order};
-ghost use Rattle.der.specs.Octets.{IsCounted, TakesOctets, LentAnswers, octets_size, WritesOctets};
+ghost use Rattle.der.specs.Octets.{IsCounted, TakesOctets, LentOctetsRead, octets_size, OctetsWritten};
 ghost use Rattle.der.specs.BorrowedOctets.{borrowed_octets, borrowed_lawful};
 
 use crate::bytes::BytesRef;
@@ -39,9 +39,9 @@ impl<'a> ReadValue for BorrowedOctets<'a> {
 
     ghost takes = { TakesOctets IsCounted borrowed_octets };
 
-    ghost levels = { λ _. 0 };
+    ghost value_levels = { λ _. 0 };
 
-    ghost takes_memory = { false };
+    ghost allocates = { false };
 
     ghost takes_valid = { λ b rules h octets taken. taken.0 };
 }
@@ -54,7 +54,7 @@ impl<'a> ReadValue for BorrowedOctets<'a> {
 impl<'a, R: Reader<Lent = &'a [u8]>> DecodeValue<R> for BorrowedOctets<'a> {
     type Error = Error;
 
-    ghost value_answers = { LentAnswers borrowed_octets };
+    ghost decode_value_answers = { LentOctetsRead borrowed_octets };
 
     fn decode_value(alloc: Global, reader: &mut R, header: Header) -> Result<Self, Error> {
         let octets = BytesRef::decode_value(alloc, reader, header)?;
@@ -77,7 +77,7 @@ impl<'a> WrittenValue for BorrowedOctets<'a> {
 impl<'a> EncodeValue for BorrowedOctets<'a> {
     ghost value_size = { octets_size borrowed_octets };
 
-    ghost value_answers = { WritesOctets borrowed_octets };
+    ghost encode_value_answers = { OctetsWritten borrowed_octets };
 
     fn value_len(&self) -> Result<Length, Error> {
         self.octets.value_len()

@@ -3,8 +3,8 @@ ghost use Rattle.std.specs.Prelude.{true};
 ghost use Rattle.der_base.specs.declared.tag.Tag.TheVariants.{OctetString};
 ghost use Rattle.std.proofs.Common.{refl};
 ghost use Rattle.der.specs.OctetsOrder.{octets_order};
-ghost use Rattle.der.specs.Octets.{IsCounted, octets_size, WritesOctets};
-ghost use Rattle.der.specs.JoinedOctets.{joined_octets, joined_levels, TakesJoined, JoinedAnswers, joined_lawful};
+ghost use Rattle.der.specs.Octets.{IsCounted, octets_size, OctetsWritten};
+ghost use Rattle.der.specs.JoinedOctets.{joined_octets, joined_levels, TakesJoined, JoinedRead, joined_lawful};
 
 use crate::bytes::BytesOwned;
 use der_base::{Error, Length, Tag};
@@ -37,9 +37,9 @@ impl ReadValue for JoinedOctets {
 
     ghost takes = { TakesJoined };
 
-    ghost levels = { joined_levels };
+    ghost value_levels = { joined_levels };
 
-    ghost takes_memory = { true };
+    ghost allocates = { true };
 
     ghost takes_valid = { λ v rules h octets taken. taken.0 };
 }
@@ -52,7 +52,7 @@ impl ReadValue for JoinedOctets {
 impl<R: Reader> DecodeValue<R> for JoinedOctets {
     type Error = Error;
 
-    ghost value_answers = { JoinedAnswers };
+    ghost decode_value_answers = { JoinedRead };
 
     fn decode_value(alloc: Global, reader: &mut R, header: Header) -> Result<Self, Error> {
         let octets = BytesOwned::decode_value_parts(alloc, reader, header, Tag::OctetString)?;
@@ -75,7 +75,7 @@ impl WrittenValue for JoinedOctets {
 impl EncodeValue for JoinedOctets {
     ghost value_size = { octets_size joined_octets };
 
-    ghost value_answers = { WritesOctets joined_octets };
+    ghost encode_value_answers = { OctetsWritten joined_octets };
 
     fn value_len(&self) -> Result<Length, Error> {
         self.octets.value_len()

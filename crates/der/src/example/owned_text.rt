@@ -3,7 +3,7 @@ ghost use Rattle.std.specs.Prelude.{true};
 ghost use Rattle.der_base.specs.declared.tag.Tag.TheVariants.{Utf8String};
 ghost use Rattle.std.proofs.Common.{refl};
 ghost use Rattle.der.specs.OctetsOrder.{octets_order};
-ghost use Rattle.der.specs.Octets.{IsText, TakesOctets, OwnedTextAnswers, octets_size, WritesOctets};
+ghost use Rattle.der.specs.Octets.{IsText, TakesOctets, OwnedTextRead, octets_size, OctetsWritten};
 ghost use Rattle.der.specs.OwnedText.{owned_text_octets, owned_text_lawful};
 
 use crate::string::StringOwned;
@@ -37,9 +37,9 @@ impl ReadValue for OwnedText {
 
     ghost takes = { TakesOctets IsText owned_text_octets };
 
-    ghost levels = { λ _. 0 };
+    ghost value_levels = { λ _. 0 };
 
-    ghost takes_memory = { true };
+    ghost allocates = { true };
 
     ghost takes_valid = { λ t rules h octets taken. taken.0 };
 }
@@ -52,7 +52,7 @@ impl ReadValue for OwnedText {
 impl<R: Reader> DecodeValue<R> for OwnedText {
     type Error = Error;
 
-    ghost value_answers = { OwnedTextAnswers owned_text_octets };
+    ghost decode_value_answers = { OwnedTextRead owned_text_octets };
 
     fn decode_value(alloc: Global, reader: &mut R, header: Header) -> Result<Self, Error> {
         let text = StringOwned::decode_value(alloc, reader, header)?;
@@ -75,7 +75,7 @@ impl WrittenValue for OwnedText {
 impl EncodeValue for OwnedText {
     ghost value_size = { octets_size owned_text_octets };
 
-    ghost value_answers = { WritesOctets owned_text_octets };
+    ghost encode_value_answers = { OctetsWritten owned_text_octets };
 
     fn value_len(&self) -> Result<Length, Error> {
         self.text.value_len()

@@ -6,7 +6,7 @@ ghost use Rattle.der_base.specs.Tag.{label};
 ghost use Rattle.der_base.specs.declared.error.ErrorKind.TheVariants.{OutOfMemory as NoMemory};
 ghost use Rattle.der_core.specs.AfterFirstOctet.{Stops};
 ghost use Rattle.der_core.specs.Reader.{VecRefused};
-ghost use Rattle.der_core.specs.ReaderState.{rest, Same};
+ghost use Rattle.der_core.specs.ReaderState.{rest_of, Same};
 ghost use Rattle.der.specs.Joined.{Joined};
 ghost use Rattle.der.specs.Joining.{levels_left, AppendsJoined, AppendsOctets, JoinsAll, MayJoin, PassesSegmentHeader, RefusesJoining, RefusesSegmentHeader, RefusesSegments};
 
@@ -16,9 +16,9 @@ use std::alloc::Global;
 
 /// Joins the segments up to the end (X.690 8.7.3) into memory of their own: elements with this tag,
 /// one behind the other. A primitive one of definite length gives its contents. Under the Basic
-/// Encoding Rules a constructed one, of either form of length, gives what the segments inside it are
-/// joined to; they are entered as any part, with at most 64 parts inside each other. `length` is
-/// that of the segments' element; the end mark is not read.
+/// Encoding Rules a constructed one, of either form of length, gives what the segments inside it
+/// are joined to; they are entered as any part, with at most 64 parts inside each other. `length`
+/// is that of the segments' element; the end mark is not read.
 ///
 /// # Errors
 ///
@@ -33,8 +33,8 @@ use std::alloc::Global;
 /// - `Noncanonical` with the tag, one before the position behind the header of a segment that is
 ///   constructed, under the Distinguished Encoding Rules; the reader stands behind the header and
 ///   has not failed.
-/// - `Overflow`, `Incomplete` and `NestingDepth` of a constructed segment that cannot be entered, as
-///   by [`Reader::enter_nested`]; the reader stands behind its header.
+/// - `Overflow`, `Incomplete` and `NestingDepth` of a constructed segment that cannot be entered,
+///   as by [`Reader::enter_nested`]; the reader stands behind its header.
 /// - `Overflow` without a position, where fewer octets are left than a primitive segment has, and
 ///   its end would pass 4294967295; the reader stands behind its header and has not failed.
 /// - `Incomplete` at the position, where fewer octets are left than a primitive segment has; the
@@ -42,8 +42,8 @@ use std::alloc::Global;
 /// - `OutOfMemory` without a position, where memory for a segment's octets is refused; the reader
 ///   stands behind its header and has not failed.
 ///
-/// Where segments inside a segment are refused, the reader stands where that leaves it, with its own
-/// end and depth.
+/// Where segments inside a segment are refused, the reader stands where that leaves it, with its
+/// own end and depth.
 pub fn read_constructed_vec<R: Reader>(
     alloc: Global,
     reader: &mut R,
@@ -55,7 +55,7 @@ pub fn read_constructed_vec<R: Reader>(
         (R.state reader.new)) }
     ensures complete { (out : List ℕ) → R.reliable ≡ true → (R.state reader.old).failed ≡ false
         → MayJoin length (R.state reader.old).rules
-        → Joined inner_tag (levels_left (R.state reader.old)) (rest (R.state reader.old)) out
+        → Joined inner_tag (levels_left (R.state reader.old)) (rest_of (R.state reader.old)) out
         → IsOk result ⊎ IsErrAnd result (λ e. e ≡ error_of_kind NoMemory) }
     ensures exact { R.reliable ≡ true
         → IfErr result (λ e. RefusesJoining length inner_tag (R.state reader.old) e

@@ -4,8 +4,8 @@ ghost use Rattle.der_core.specs.DecodeValue.{TakesContents};
 ghost use Rattle.der_core.specs.Header.{head_of};
 ghost use Rattle.der_core.specs.Outcome.{Gives, map_ok};
 ghost use Rattle.der_core.specs.ReaderState.{Same};
-ghost use Rattle.der.specs.Octets.{IsText, TakesOctets, EndsTaken, LentTextAnswers, octets_size, WritesOctets, unlent_outcome};
-ghost use Rattle.der.specs.StringCow.{cow_text, IsBorrowed};
+ghost use Rattle.der.specs.Octets.{IsText, TakesOctets, EndsTaken, LentTextRead, octets_size, OctetsWritten, unlent_outcome};
+ghost use Rattle.der.specs.StringCow.{cow_text, IsBorrowedText};
 
 use crate::string::{StringOwned, StringRef};
 use der_base::{Error, Length};
@@ -38,10 +38,10 @@ impl<'a> ReadValue for StringCow<'a> {
 
     ghost takes = { TakesOctets IsText cow_text };
 
-    ghost levels = { λ _. 0 };
+    ghost value_levels = { λ _. 0 };
 
     // a reliable reader lends, so none is taken
-    ghost takes_memory = { false };
+    ghost allocates = { false };
 
     ghost takes_valid = { λ t rules h octets taken. taken.0 };
 }
@@ -58,7 +58,7 @@ impl<'a> ReadValue for StringCow<'a> {
 impl<'a, R: Reader<Lent = &'a [u8]>> DecodeValue<R> for StringCow<'a> {
     type Error = Error;
 
-    ghost value_answers = { LentTextAnswers cow_text };
+    ghost decode_value_answers = { LentTextRead cow_text };
 
     fn decode_value(alloc: Global, reader: &mut R, header: Header) -> Result<Self, Error>
         ensures same { Same (R.state reader.old) (R.state reader.new) }
@@ -66,13 +66,13 @@ impl<'a, R: Reader<Lent = &'a [u8]>> DecodeValue<R> for StringCow<'a> {
             (R.state reader.old) result (R.state reader.new) }
         ensures complete { EndsTaken IsText cow_text R.reliable (head_of header)
             (R.state reader.old) result (R.state reader.new) }
-        ensures exact { R.reliable ≡ true → LentTextAnswers cow_text (head_of header)
+        ensures exact { R.reliable ≡ true → LentTextRead cow_text (head_of header)
             (R.state reader.old) result (R.state reader.new) }
-        ensures ok { IsOk result → LentTextAnswers cow_text (head_of header) (R.state reader.old)
+        ensures ok { IsOk result → LentTextRead cow_text (head_of header) (R.state reader.old)
             result (R.state reader.new) }
         ensures unlent { R.lends ≡ false → Gives unlent_outcome (R.state reader.old)
             (map_ok cow_text result) (R.state reader.new) }
-        ensures borrowed { IfOk result (λ t. IsBorrowed t ↔ (R.lends ≡ true)) }
+        ensures borrowed { IfOk result (λ t. IsBorrowedText t ↔ (R.lends ≡ true)) }
     {
         if R::can_lend() {
             Ok(StringCow::Borrowed(StringRef::decode_value(alloc, reader, header)?))
@@ -97,7 +97,7 @@ impl<'a> WrittenValue for StringCow<'a> {
 impl<'a> EncodeValue for StringCow<'a> {
     ghost value_size = { octets_size cow_text };
 
-    ghost value_answers = { WritesOctets cow_text };
+    ghost encode_value_answers = { OctetsWritten cow_text };
 
     fn value_len(&self) -> Result<Length, Error> {
         self.as_string_ref().value_len()

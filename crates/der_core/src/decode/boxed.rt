@@ -1,6 +1,6 @@
 //! Values in memory of their own.
 ghost use Rattle.std.specs.Prelude.{true};
-ghost use Rattle.der_core.specs.Boxed.{BoxedAnswers};
+ghost use Rattle.der_core.specs.Boxed.{BoxedRead};
 
 use crate::decode::{DecodeValue, Lawful, ReadValue};
 use crate::header::Header;
@@ -13,9 +13,9 @@ impl<T: ReadValue> ReadValue for Box<T> {
 
     ghost takes = { λ v. T.takes v.value };
 
-    ghost levels = { T.levels };
+    ghost value_levels = { T.value_levels };
 
-    ghost takes_memory = { true };
+    ghost allocates = { true };
 
     ghost takes_valid = { λ v rules h octets taken. T.takes_valid v.value rules h octets taken };
 }
@@ -30,7 +30,7 @@ impl<T: ReadValue> ReadValue for Box<T> {
 impl<R: Reader, T: DecodeValue<R>> DecodeValue<R> for Box<T> {
     type Error = <T as DecodeValue<R>>::Error;
 
-    ghost value_answers = { λ h. BoxedAnswers (λ b. b.value) (T.value_answers h)
+    ghost decode_value_answers = { λ h. BoxedRead (λ b. b.value) (T.decode_value_answers h)
         T.Error.from_gives };
 
     fn decode_value(

@@ -1,6 +1,6 @@
 //! Fields, one behind the other.
 ghost use Rattle.std.specs.Prelude.{◌≡◌, ◌||◌, ℕ, ◌+◌, ◌≤◌, ◌⊎◌, true, false, IfOk, IsOk, IsErrAnd};
-ghost use Rattle.der_core.specs.ReaderState.{Same, rest};
+ghost use Rattle.der_core.specs.ReaderState.{Same, rest_of};
 ghost use Rattle.der_core.specs.Decode.{Passes, ReadsOrLacks};
 ghost use Rattle.der_core.specs.DecodeValue.{ContentsAhead, EndsOrLacks, TakesContents};
 ghost use Rattle.der_core.specs.Fields.{FieldsAhead, FieldsRead, TakesWhole, fields_levels};
@@ -20,13 +20,13 @@ use std::alloc::Global;
 impl<R: Reader, A: Decode<R>, B: Decode<R, Error = <A as Decode<R>>::Error>> Decode<R> for (A, B) {
     type Error = <A as Decode<R>>::Error;
 
-    ghost heads = { FieldsAhead A.heads B.heads };
+    ghost stands_ahead = { FieldsAhead A.stands_ahead B.stands_ahead };
 
-    ghost needs = { fields_levels A.needs B.needs };
+    ghost decode_levels = { fields_levels A.decode_levels B.decode_levels };
 
-    ghost takes_memory = { A.takes_memory || B.takes_memory };
+    ghost allocates = { A.allocates || B.allocates };
 
-    ghost answers = { FieldsRead A.answers B.answers };
+    ghost decode_answers = { FieldsRead A.decode_answers B.decode_answers };
 
     #[inline(always)]
     fn decode(alloc: Global, reader: &mut R) -> Result<(A, B), <A as Decode<R>>::Error> {
@@ -51,13 +51,13 @@ pub fn decode_contents<R: Reader, T: Decode<R>>(
     header: Header,
 ) -> Result<T, <T as Decode<R>>::Error>
     ensures same { Same (R.state reader.old) (R.state reader.new) }
-    ensures sound { TakesContents (TakesWhole T.heads) (head_of header) (R.state reader.old) result
-        (R.state reader.new) }
+    ensures sound { TakesContents (TakesWhole T.stands_ahead) (head_of header) (R.state reader.old)
+        result (R.state reader.new) }
     ensures complete { (v : T) → R.reliable ≡ true
-        → ContentsAhead (TakesWhole T.heads v) (head_of header) (R.state reader.old)
-        → (R.state reader.old).depth + T.needs (R.state reader.old).rules ≤ 64
-        → EndsOrLacks T.Error.out_of_memory T.takes_memory result (R.state reader.new) }
-    ensures exact { R.reliable ≡ true → T.answers (R.state reader.old) result
+        → ContentsAhead (TakesWhole T.stands_ahead v) (head_of header) (R.state reader.old)
+        → (R.state reader.old).depth + T.decode_levels (R.state reader.old).rules ≤ 64
+        → EndsOrLacks T.Error.out_of_memory T.allocates result (R.state reader.new) }
+    ensures exact { R.reliable ≡ true → T.decode_answers (R.state reader.old) result
         (R.state reader.new) }
 {
     T::decode(alloc, reader)

@@ -13,5 +13,5 @@ use crate::tag::fixed::FixedTag;
 /// [`from_der_partial`](crate::DecodeBytes::from_der_partial) and
 /// [`decode`](crate::ReaderExt::decode) read exactly the encodings.
 pub trait Lawful: ReadValue + WrittenValue + FixedTag {
-    ghost lawful: { IsLawful Self.tag_is Self.takes Self.valid Self.contents Self.levels };
+    ghost lawful: { IsLawful Self.tag_is Self.takes Self.valid Self.contents Self.value_levels };
 }

@@ -11,13 +11,13 @@ use std::marker::PhantomData;
 impl<R: Reader, T> Decode<R> for PhantomData<T> {
     type Error = Error;
 
-    ghost heads = { λ _ _ _ m. m ≡ 0 };
+    ghost stands_ahead = { λ _ _ _ m. m ≡ 0 };
 
-    ghost needs = { λ _. 0 };
+    ghost decode_levels = { λ _. 0 };
 
-    ghost takes_memory = { false };
+    ghost allocates = { false };
 
-    ghost answers = { λ s result t. IsOk result × (t ≡ s) };
+    ghost decode_answers = { λ s result t. IsOk result × (t ≡ s) };
 
     fn decode(_alloc: Global, _reader: &mut R) -> Result<Self, Error> {
         Ok(PhantomData)

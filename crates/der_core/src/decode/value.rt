@@ -2,7 +2,7 @@
 ghost use Rattle.std.specs.Prelude.{◌≡◌, ℕ, ◌+◌, ◌≤◌, Bool, true, false, List, IfOk, Result as AResult};
 ghost use Rattle.der_base.specs.HeaderGrammar.{Head};
 ghost use Rattle.der_base.specs.declared.encoding_rules.EncodingRules.{EncodingRules as Rules};
-ghost use Rattle.der_core.specs.ReaderState.{ReaderState, rest, Same};
+ghost use Rattle.der_core.specs.ReaderState.{ReaderState, rest_of, Same};
 ghost use Rattle.der_core.specs.Decode.{Passes, ReadsOrLacks};
 ghost use Rattle.der_core.specs.DecodeValue.{ContentsAhead, EndsOrLacks, TakesContents};
 ghost use Rattle.der_core.specs.Element.{ElementAhead, ElementRead, element_levels};
@@ -23,17 +23,17 @@ use std::alloc::Global;
 /// - `valid` says which models are values of the type.
 /// - `takes` says which value the contents behind a header are read as, under either rules; the
 ///   header's length is that of the contents alone.
-/// - `levels` is how many levels of nesting the contents want under each of the rules.
-/// - `takes_memory` says whether reading takes memory.
+/// - `value_levels` is how many levels of nesting the contents want under each of the rules.
+/// - `allocates` says whether reading takes memory.
 /// - `takes_valid` is the law that only values are read.
 pub trait ReadValue: Sized {
     ghost valid: { Self → Type 0 };
 
     ghost takes: { Self → Rules → Head → List ℕ → Type 0 };
 
-    ghost levels: { Rules → ℕ };
+    ghost value_levels: { Rules → ℕ };
 
-    ghost takes_memory: { Bool };
+    ghost allocates: { Bool };
 
     // only values are read
     ghost takes_valid: { (v : Self) (rules : Rules) (h : Head) (octets : List ℕ)
@@ -43,36 +43,37 @@ pub trait ReadValue: Sized {
 /// Types whose values are decoded from contents, which stand behind a header. Such a type that
 /// also has a fixed tag is decoded by [`Decode`]: its header, and then its contents.
 ///
-/// Ghost member: `value_answers` is the exact outcome on a reliable reader, refusals and their
-/// states included: of the header, the reader before, the answer, and the reader afterwards.
+/// Ghost member: `decode_value_answers` is the exact outcome on a reliable reader, refusals and
+/// their states included: of the header, the reader before, the answer, and the reader afterwards.
 pub trait DecodeValue<R: Reader>: ReadValue + Drop {
     /// The error of decoding.
     type Error: DecodeError;
 
-    ghost value_answers: { Head → ReaderState → AResult Self Self.Error → ReaderState → Type 0 };
+    ghost decode_value_answers: { Head → ReaderState → AResult Self Self.Error → ReaderState
+        → Type 0 };
 
     /// Decodes a value from contents: the reader stands inside them, and the header has their
     /// length. An `Ok` that leaves octets of them, or a reader that has failed, is no reading.
     ///
-    /// A reliable reader that has not failed and stands inside a part, with `levels` of nesting
-    /// left, gives a value where the contents are taken as one, or an error that says that memory
-    /// was refused.
+    /// A reliable reader that has not failed and stands inside a part, with `value_levels` of
+    /// nesting left, gives a value where the contents are taken as one, or an error that says that
+    /// memory was refused.
     ///
     /// # Errors
     ///
     /// - One that says that memory was refused, where the type takes memory.
-    /// - Those of the type: `value_answers` says which there are, at which positions, and whether
-    ///   the reader has failed then.
+    /// - Those of the type: `decode_value_answers` says which there are, at which positions, and
+    ///   whether the reader has failed then.
     fn decode_value(alloc: Global, reader: &mut R, header: Header) -> Result<Self, Self::Error>
         ensures same { Same (R.state reader.old) (R.state reader.new) }
         ensures sound { TakesContents Self.takes (head_of header) (R.state reader.old) result
             (R.state reader.new) }
         ensures complete { (v : Self) → R.reliable ≡ true
             → ContentsAhead (Self.takes v) (head_of header) (R.state reader.old)
-            → (R.state reader.old).depth + Self.levels (R.state reader.old).rules ≤ 64
-            → EndsOrLacks Self.Error.out_of_memory Self.takes_memory result (R.state reader.new) }
-        ensures exact { R.reliable ≡ true → value_answers (head_of header) (R.state reader.old)
-            result (R.state reader.new) };
+            → (R.state reader.old).depth + Self.value_levels (R.state reader.old).rules ≤ 64
+            → EndsOrLacks Self.Error.out_of_memory Self.allocates result (R.state reader.new) }
+        ensures exact { R.reliable ≡ true → decode_value_answers (head_of header)
+            (R.state reader.old) result (R.state reader.new) };
 
     /// A law without an answer: what is in hand is a value.
     fn is_value(&self)
@@ -104,12 +105,13 @@ pub fn decode_tlv<R: Reader, T: DecodeValue<R> + FixedTag>(
         → Passes (ElementAhead T.tag_is T.takes v) (R.state reader.old) (R.state reader.new)) }
     ensures complete { (v : T) (m : ℕ) → R.reliable ≡ true
         → (R.state reader.old).failed ≡ false
-        → ElementAhead T.tag_is T.takes v (R.state reader.old).rules (rest (R.state reader.old)) m
-        → (R.state reader.old).depth + element_levels T.levels (R.state reader.old).rules ≤ 64
-        → ReadsOrLacks T.Error.out_of_memory T.takes_memory (R.state reader.old) m result
+        → ElementAhead T.tag_is T.takes v (R.state reader.old).rules
+        (rest_of (R.state reader.old)) m
+        → (R.state reader.old).depth + element_levels T.value_levels (R.state reader.old).rules ≤ 64
+        → ReadsOrLacks T.Error.out_of_memory T.allocates (R.state reader.old) m result
         (R.state reader.new) }
     ensures exact { R.reliable ≡ true
-        → ElementRead T.tag_is T.Error.from_gives T.value_answers (R.state reader.old) result
+        → ElementRead T.tag_is T.Error.from_gives T.decode_value_answers (R.state reader.old) result
         (R.state reader.new) }
 {
     let expected = T::fixed_tag();
@@ -124,9 +126,9 @@ pub fn decode_tlv<R: Reader, T: DecodeValue<R> + FixedTag>(
                 (R.state reader.new) }
             ensures complete { (v : T) → R.reliable ≡ true
                 → ContentsAhead (T.takes v) (head_of header) (R.state reader.old)
-                → (R.state reader.old).depth + T.levels (R.state reader.old).rules ≤ 64
-                → EndsOrLacks T.Error.out_of_memory T.takes_memory result (R.state reader.new) }
-            ensures exact { R.reliable ≡ true → T.value_answers (head_of header)
+                → (R.state reader.old).depth + T.value_levels (R.state reader.old).rules ≤ 64
+                → EndsOrLacks T.Error.out_of_memory T.allocates result (R.state reader.new) }
+            ensures exact { R.reliable ≡ true → T.decode_value_answers (head_of header)
                 (R.state reader.old) result (R.state reader.new) }
         { T::decode_value(alloc, reader, header) },
     )
@@ -135,13 +137,13 @@ pub fn decode_tlv<R: Reader, T: DecodeValue<R> + FixedTag>(
 impl<R: Reader, T: DecodeValue<R> + FixedTag> Decode<R> for T {
     type Error = <T as DecodeValue<R>>::Error;
 
-    ghost heads = { ElementAhead T.tag_is T.takes };
+    ghost stands_ahead = { ElementAhead T.tag_is T.takes };
 
-    ghost needs = { element_levels T.levels };
+    ghost decode_levels = { element_levels T.value_levels };
 
-    ghost takes_memory = { T.takes_memory };
+    ghost allocates = { T.allocates };
 
-    ghost answers = { ElementRead T.tag_is T.Error.from_gives T.value_answers };
+    ghost decode_answers = { ElementRead T.tag_is T.Error.from_gives T.decode_value_answers };
 
     #[inline(always)]
     fn decode(alloc: Global, reader: &mut R) -> Result<T, <T as DecodeValue<R>>::Error> {

@@ -17,7 +17,7 @@ impl<T: WrittenValue> WrittenValue for Box<T> {
 impl<T: EncodeValue> EncodeValue for Box<T> {
     ghost value_size = { λ v. T.value_size v.value };
 
-    ghost value_answers = { λ v. T.value_answers v.value };
+    ghost encode_value_answers = { λ v. T.encode_value_answers v.value };
 
     fn value_len(&self) -> Result<Length, Error> {
         (**self).value_len()

@@ -20,7 +20,7 @@ impl<A: Encode, B: Encode> Encode for (A, B) {
 
     ghost size = { λ v. fields_size (A.size v.0) (B.size v.1) };
 
-    ghost answers = { λ v. FieldsWritten (A.answers v.0) (B.answers v.1) };
+    ghost encode_answers = { λ v. FieldsWritten (A.encode_answers v.0) (B.encode_answers v.1) };
 
     fn encoded_len(&self) -> Result<Length, Error> {
         self.0.encoded_len()? + self.1.encoded_len()?

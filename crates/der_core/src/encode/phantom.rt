@@ -15,7 +15,7 @@ impl<T> Encode for PhantomData<T> {
 
     ghost size = { λ _. Ok (definite_length 0) };
 
-    ghost answers = { λ _ s result t. (result ≡ Ok tt) × (t ≡ s) };
+    ghost encode_answers = { λ _ s result t. (result ≡ Ok tt) × (t ≡ s) };
 
     fn encoded_len(&self) -> Result<Length, Error> {
         Ok(Length::ZERO)

@@ -4,7 +4,7 @@ ghost use Rattle.der_base.specs.declared.error.Error.{Error as AnError};
 ghost use Rattle.der_base.specs.declared.length.Length.{Length as ALength};
 ghost use Rattle.der_core.specs.Outcome.{map_ok};
 ghost use Rattle.der_core.specs.Writer.{WriterState, Keeps, Appends};
-ghost use Rattle.der_core.specs.Encode.{Counts, HasSize, TakesCounted, FitsInto, HeaderOf, HeaderAnswers, SliceAnswer};
+ghost use Rattle.der_core.specs.Encode.{Counts, HasSize, FitsCounted, FitsInto, HeaderOf, HeaderAnswer, SliceAnswer};
 
 use crate::header::Header;
 use crate::tag::fixed::Tagged;
@@ -29,8 +29,8 @@ pub trait WrittenValue {
 /// Ghost members:
 ///
 /// - `value_size` is the exact answer of [`EncodeValue::value_len`], refusals included.
-/// - `value_answers` is the exact outcome of [`EncodeValue::encode_value`] on a reliable writer,
-///   refusals and their states included.
+/// - `encode_value_answers` is the exact outcome of [`EncodeValue::encode_value`] on a reliable
+///   writer, refusals and their states included.
 ///
 /// A month as an `OCTET STRING` of one octet:
 ///
@@ -88,7 +88,8 @@ pub trait WrittenValue {
 pub trait EncodeValue: WrittenValue {
     ghost value_size: { Self → AResult ALength AnError };
 
-    ghost value_answers: { Self → WriterState → AResult (Unit {0}) AnError → WriterState → Type 0 };
+    ghost encode_value_answers: { Self → WriterState → AResult (Unit {0}) AnError → WriterState
+        → Type 0 };
 
     /// The header of the value's element: its tag, and the number of octets of its contents.
     ///
@@ -101,7 +102,7 @@ pub trait EncodeValue: WrittenValue {
         Self: Tagged,
         ensures ok { HeaderOf (Self.tag_of self.now) (Self.contents self.now) result }
         ensures succeeds { Self.writable self.now → HasSize (Self.contents self.now) result }
-        ensures exact { HeaderAnswers (Self.tag_of self.now) (value_size self.now) result }
+        ensures exact { HeaderAnswer (Self.tag_of self.now) (value_size self.now) result }
     {
         let len = self.value_len()?;
         Ok(Header::new(self.tag(), len))
@@ -121,7 +122,8 @@ pub trait EncodeValue: WrittenValue {
     ///
     /// # Errors
     ///
-    /// What was written before stands after each; `value_answers` says how the writer is left.
+    /// What was written before stands after each; `encode_value_answers` says how the writer is
+    /// left.
     ///
     /// - Those of the type.
     /// - `Failed`, `Overflow` and `Overlength` of the writer, as by [`Writer::write`].
@@ -130,12 +132,12 @@ pub trait EncodeValue: WrittenValue {
         ensures ok { Appends (W.state writer.old) (Self.contents self.now) result
             (W.state writer.new) }
         ensures succeeds { Self.writable self.now
-            → TakesCounted (W.state writer.old) (Self.contents self.now) result }
+            → FitsCounted (W.state writer.old) (Self.contents self.now) result }
         ensures exact { W.reliable ≡ true
-            → value_answers self.now (W.state writer.old) result (W.state writer.new) };
+            → encode_value_answers self.now (W.state writer.old) result (W.state writer.new) };
 }
 
-/// Writes the contents to the beginning of the buffer, and answers them. Takes no memory.
+/// Writes the contents to the beginning of the buffer, and answers them. Fits no memory.
 ///
 /// # Errors
 ///
@@ -151,7 +153,7 @@ pub fn encode_value_to_slice<'a, T: EncodeValue>(
     ensures ok { IfOk result (λ r. r.now ≡ T.contents value.now) }
     ensures succeeds { T.writable value.now
         → FitsInto (T.contents value.now) (length buf.old) result }
-    ensures exact { SliceAnswer (T.value_answers value.now) buf.old
+    ensures exact { SliceAnswer (T.encode_value_answers value.now) buf.old
         (map_ok (λ r. r.now) result) }
 {
     let mut writer = SliceWriter::new(buf);

@@ -20,7 +20,7 @@ use std::alloc::Allocator;
 pub fn to_der_in<T: Encode, A: Allocator>(alloc: A, value: &T) -> Result<Vec<u8, A>, Error>
     ensures ok { IfOk result (λ v. v.items ≡ T.encoding value.now) }
     ensures succeeds { T.encodable value.now → GrowsBy (T.encoding value.now) 0 result }
-    ensures exact { VecAnswer (T.size value.now) (T.answers value.now) 0
+    ensures exact { VecAnswer (T.size value.now) (T.encode_answers value.now) 0
         (map_ok (λ v. definite_length (length v.items)) result) }
 {
     let mut out = Vec::new(alloc);
@@ -44,7 +44,7 @@ pub fn encode_to_vec_in<T: Encode, A: Allocator>(
     ensures refused { OnErr result (out.new.items ≡ out.old.items) }
     ensures succeeds { T.encodable value.now
         → GrowsBy (T.encoding value.now) (length out.old.items) result }
-    ensures exact { VecAnswer (T.size value.now) (T.answers value.now) (length out.old.items)
+    ensures exact { VecAnswer (T.size value.now) (T.encode_answers value.now) (length out.old.items)
         result }
 {
     let before = out.len();
@@ -71,7 +71,7 @@ fn fill<T: Encode>(value: &T, buf: &mut [u8]) -> Result<(), Error>
     ensures ok { Begins (T.encoding value.now) result buf.new }
     ensures succeeds { T.encodable value.now
         → FitsInto (T.encoding value.now) (length buf.old) result }
-    ensures exact { FreshAnswer (T.answers value.now) buf.old result }
+    ensures exact { FreshAnswer (T.encode_answers value.now) buf.old result }
 {
     let mut writer = SliceWriter::new(buf);
     value.encode(&mut writer)

@@ -33,7 +33,7 @@ impl<'a, T: WrittenValue> WrittenValue for EncodeValueRef<'a, T> {
 impl<'a, T: EncodeValue> EncodeValue for EncodeValueRef<'a, T> {
     ghost value_size = { λ v. T.value_size v.0.now };
 
-    ghost value_answers = { λ v. T.value_answers v.0.now };
+    ghost encode_value_answers = { λ v. T.encode_value_answers v.0.now };
 
     fn value_len(&self) -> Result<Length, Error> {
         self.0.value_len()

@@ -3,7 +3,7 @@ ghost use Rattle.std.specs.Prelude.{◌≡◌, ◌≢◌, ◌≤◌, true, IfOk,
 ghost use Rattle.der_base.specs.declared.encoding_rules.EncodingRules.TheVariants.{Ber};
 ghost use Rattle.der_base.specs.declared.error.ErrorKind.TheVariants.{Length as IncorrectLength};
 ghost use Rattle.der_core.specs.AfterFirstOctet.{DefiniteBehind, RefusesLongLength, identifier_tag};
-ghost use Rattle.der_core.specs.ReaderState.{rest, Same};
+ghost use Rattle.der_core.specs.ReaderState.{rest_of, Same};
 ghost use Rattle.der_core.specs.Scan.{Scans, ScansAhead, IsTurned};
 ghost use Rattle.der_core.specs.Turn.{PartRead, RefusesPart};
 
@@ -60,7 +60,7 @@ pub fn decode_indefinite_length<R: Reader, L: Ledger>(
 ) -> Result<Length, Error>
     requires ber { (R.state reader.old).rules ≡ Ber }
     ensures scans { Scans R.reliable (R.state reader.old) result (R.state reader.new) }
-    ensures turned { IsTurned (rest (R.state reader.old)) result turns.old turns.new }
+    ensures turned { IsTurned (rest_of (R.state reader.old)) result turns.old turns.new }
 {
     let start = reader.position();
     let mut level = 1;
@@ -143,7 +143,7 @@ pub(crate) fn scan_ahead<R: Reader, L: Ledger>(
 ) -> Result<Length, Error>
     requires ber { (R.state reader.now).rules ≡ Ber }
     ensures scans { ScansAhead R.reliable (R.state reader.now) result }
-    ensures turned { IsTurned (rest (R.state reader.now)) result turns.old turns.new }
+    ensures turned { IsTurned (rest_of (R.state reader.now)) result turns.old turns.new }
 {
     match reader.remaining() {
         Ok(lent) => Walk::scan(lent.as_slice(), reader.position(), turns),
@@ -157,7 +157,7 @@ pub(crate) fn scan_ahead<R: Reader, L: Ledger>(
 fn scan_fork<R: Reader, L: Ledger>(fork: R, turns: &mut Turns<L>) -> Result<Length, Error>
     requires ber { (R.state fork).rules ≡ Ber }
     ensures scans { ScansAhead R.reliable (R.state fork) result }
-    ensures turned { IsTurned (rest (R.state fork)) result turns.old turns.new }
+    ensures turned { IsTurned (rest_of (R.state fork)) result turns.old turns.new }
 {
     let mut fork = fork;
     decode_indefinite_length(&mut fork, turns)

@@ -11,7 +11,7 @@ pub use owned::iter_cmp_owned;
 use std::cmp::Ordering;
 
 /// Compares the values that two iterators refer to, place by place: the first two that are refused
-/// or not equal decide, else the iterator that ends first is the smaller. Takes no memory but what
+/// or not equal decide, else the iterator that ends first is the smaller. Fits no memory but what
 /// the iterators take.
 ///
 /// # Errors

@@ -4,18 +4,18 @@ ghost use Rattle.der_base.specs.ScanGrammar.{BodyFault};
 ghost use Rattle.der_base.specs.HeaderGrammar.{TagAhead, HeaderFault};
 ghost use Rattle.der_base.specs.Tag.{IdentifierFault};
 ghost use Rattle.der_base.specs.Length.{number, definite_length};
-ghost use Rattle.der_core.specs.ReaderState.{ReaderState, rest, Same, resumed_state};
+ghost use Rattle.der_core.specs.ReaderState.{ReaderState, rest_of, Same, resumed_state};
 ghost use Rattle.der_core.specs.Outcome.{Meets, AnswersAs, PeeksAs, IsBinding, map_ok};
 ghost use Rattle.der_core.specs.Reader.{read_byte_outcome, read_into_outcome};
 ghost use Rattle.der_core.specs.Resumption.{outer_end, outer_depth};
-ghost use Rattle.der_core.specs.Decode.{Passes, Peeks, TlvAnswers, ReaderDecodes, ReadsOrLacks};
-ghost use Rattle.der_core.specs.Header.{head_of, IsHeaderAhead};
+ghost use Rattle.der_core.specs.Decode.{Passes, Peeks, TlvAnswer, ReaderDecodes, ReadsOrLacks};
+ghost use Rattle.der_core.specs.Header.{head_of, HeaderAhead};
 ghost use Rattle.der_core.specs.declared.header.Header.{Header as AHeader};
 ghost use Rattle.der_base.specs.Arithmetic.{sans_eoc};
 ghost use Rattle.der_base.specs.declared.tag.Tag.TheVariants.{Sequence};
 ghost use Rattle.der_base.specs.declared.encoding_rules.EncodingRules.TheVariants.{Ber};
 ghost use Rattle.der_core.specs.Scan.{ScansAhead, IsTurned};
-ghost use Rattle.der_core.specs.Nested.{CanLeave, Closes, HandsBack, NestedAnswers};
+ghost use Rattle.der_core.specs.Nested.{CanLeave, Closes, HandsBack, NestedAnswer};
 ghost use Rattle.der_core.specs.Element.{ElementReadBy};
 
 use crate::decode::Decode;
@@ -143,7 +143,7 @@ pub trait ReaderExt: Reader {
             (Self.state self.old) (number len) }
         ensures same { Same (Self.state self.old) (Self.state self.new) }
         ensures exact { IsBinding Self.reliable result
-            → NestedAnswers E.from_gives (F.post f) (λ p. Self.state p.now) (λ q. Self.state q.now)
+            → NestedAnswer E.from_gives (F.post f) (λ p. Self.state p.now) (λ q. Self.state q.now)
             (number len) (Self.state self.old) result (Self.state self.new) }
     {
         let outer = self.enter_nested(len)?;
@@ -182,7 +182,7 @@ pub trait ReaderExt: Reader {
     /// `Length`, where and with the positions that [`Header::decode`] says; the reader is
     /// unchanged.
     final fn peek_header(&self) -> Result<Header, Error>
-        ensures { Peeks IsHeaderAhead (HeaderFault BodyFault) Self.reliable (Self.state self.now)
+        ensures { Peeks HeaderAhead (HeaderFault BodyFault) Self.reliable (Self.state self.now)
             result }
     {
         let mut fork = self.fork();
@@ -203,20 +203,21 @@ pub trait ReaderExt: Reader {
     }
 
     /// How many octets the body of an indefinite length ahead has, with the end mark that closes it
-    /// (X.690 8.1.3.6), as [`decode_indefinite_length`](crate::decode_indefinite_length) would answer;
-    /// the reader stays. `turns` counts each identifier and each end mark that was looked at. Where
-    /// [`Reader::remaining`] lends the octets ahead, they are scanned by an index, and none is read.
+    /// (X.690 8.1.3.6), as [`decode_indefinite_length`](crate::decode_indefinite_length) would
+    /// answer; the reader stays. `turns` counts each identifier and each end mark that was looked
+    /// at. Where [`Reader::remaining`] lends the octets ahead, they are scanned by an index, and
+    /// none is read.
     ///
     /// The caller sees to it that the reader reads by the Basic Encoding Rules.
     ///
     /// # Errors
     ///
-    /// Those of [`decode_indefinite_length`](crate::decode_indefinite_length), with their positions;
-    /// the reader is unchanged.
+    /// Those of [`decode_indefinite_length`](crate::decode_indefinite_length), with their
+    /// positions; the reader is unchanged.
     final fn scan_indefinite<L: Ledger>(&self, turns: &mut Turns<L>) -> Result<Length, Error>
         requires ber { (Self.state self.now).rules ≡ Ber }
         ensures scans { ScansAhead Self.reliable (Self.state self.now) result }
-        ensures turned { IsTurned (rest (Self.state self.now)) result turns.old turns.new }
+        ensures turned { IsTurned (rest_of (Self.state self.now)) result turns.old turns.new }
     {
         scan_ahead(self, turns)
     }
@@ -234,7 +235,7 @@ pub trait ReaderExt: Reader {
     final fn tlv_bytes(&mut self) -> Result<Self::Lent, Error>
         ensures same { Same (Self.state self.old) (Self.state self.new) }
         ensures exact { IsBinding Self.reliable result
-            → TlvAnswers (Self.state self.old) (map_ok Self.Lent.octets result)
+            → TlvAnswer (Self.state self.old) (map_ok Self.Lent.octets result)
             (Self.state self.new) }
     {
         let mut fork = self.fork();
@@ -258,14 +259,14 @@ pub trait ReaderExt: Reader {
     ) -> Result<T, <T as Decode<Self>>::Error>
         ensures same { Same (Self.state self.old) (Self.state self.new) }
         ensures ok { IfOk result (λ v. (Self.state self.new).failed ≡ false
-            → Passes (T.heads v) (Self.state self.old) (Self.state self.new)) }
+            → Passes (T.stands_ahead v) (Self.state self.old) (Self.state self.new)) }
         ensures complete { (v : T) (m : ℕ) → Self.reliable ≡ true
             → (Self.state self.old).failed ≡ false
-            → T.heads v (Self.state self.old).rules (rest (Self.state self.old)) m
-            → (Self.state self.old).depth + T.needs (Self.state self.old).rules ≤ 64
-            → ReadsOrLacks T.Error.out_of_memory T.takes_memory (Self.state self.old) m result
+            → T.stands_ahead v (Self.state self.old).rules (rest_of (Self.state self.old)) m
+            → (Self.state self.old).depth + T.decode_levels (Self.state self.old).rules ≤ 64
+            → ReadsOrLacks T.Error.out_of_memory T.allocates (Self.state self.old) m result
             (Self.state self.new) }
-        ensures exact { ReaderDecodes Self.reliable T.answers T.Error.from_gives
+        ensures exact { ReaderDecodes Self.reliable T.decode_answers T.Error.from_gives
             (Self.state self.old) result (Self.state self.new) }
     {
         if self.is_failed() {
@@ -305,7 +306,7 @@ pub trait ReaderExt: Reader {
         f: F,
     ) -> Result<T, E>
         requires { (h : AHeader) (s : ReaderState)
-            → Passes (IsHeaderAhead h) (Self.state self.old) s
+            → Passes (HeaderAhead h) (Self.state self.old) s
             → (head_of h).tag ≡ Sequence
             → HandsBack (F.pre f) (F.post f) (λ p. Self.state p.now) (λ q. Self.state q.now) s
             (number (sans_eoc (head_of h).length)) }

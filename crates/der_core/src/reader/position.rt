@@ -37,7 +37,7 @@ impl Clone for Position {
 
 impl Position {
     ghost use Rattle.std.specs.Prelude.{◌-◌};
-    ghost use Rattle.der_base.specs.Error.{at};
+    ghost use Rattle.der_base.specs.Error.{error_at};
     ghost use Rattle.der_base.specs.Length.{number, definite_length};
     ghost use Rattle.der_core.specs.Outcome.{map_ok};
     ghost use Rattle.der_core.specs.Position.{position_place, place_at, Moves, advance_outcome, part_end, part_error, nested_place, split_nested_outcome};
@@ -85,7 +85,7 @@ impl Position {
 
     /// The error of this kind at the position.
     pub fn error(&self, kind: ErrorKind) -> Error
-        ensures { result ≡ at kind (definite_length (position_place self.now).position) }
+        ensures { result ≡ error_at kind (definite_length (position_place self.now).position) }
     {
         kind.at(self.current())
     }

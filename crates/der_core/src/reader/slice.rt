@@ -34,7 +34,7 @@ impl Drop for SliceReader<'_> {
 }
 
 impl<'a> SliceReader<'a> {
-    ghost use Rattle.der_base.specs.Error.{at, error_of_kind, missing_refusal};
+    ghost use Rattle.der_base.specs.Error.{error_at, error_of_kind, missing_refusal};
     ghost use Rattle.der_base.specs.declared.error.ErrorKind.TheVariants.{Failed, Overflow};
     ghost use Rattle.der_base.specs.declared.encoding_rules.EncodingRules.TheVariants.{Der};
     ghost use Rattle.der_base.specs.Length.{number};
@@ -79,7 +79,7 @@ impl<'a> SliceReader<'a> {
     // the error of a reader that has failed
     #[inline(always)]
     fn has_failed(&self) -> Error
-        ensures { result ≡ at Failed (reader_position (slice_state self.now)) }
+        ensures { result ≡ error_at Failed (reader_position (slice_state self.now)) }
     {
         self.place.error(ErrorKind::Failed)
     }
@@ -251,7 +251,7 @@ impl<'a> Reader for SliceReader<'a> {
         self.place.resume_nested(resumption);
     }
 
-    ghost lawful = { λ s. record {
+    ghost sound_state = { λ s. record {
       ordered = s.ordered;
       in_input = s.in_input;
       addressable = s.addressable;

@@ -6,8 +6,8 @@ ghost use Rattle.der_core.specs.ReaderState.{Same, resumed_state};
 ghost use Rattle.der_core.specs.Outcome.{Meets, IsBinding};
 ghost use Rattle.der_core.specs.Reader.{read_eoc_outcome, read_zero_octet_outcome};
 ghost use Rattle.der_core.specs.Resumption.{outer_end, outer_depth};
-ghost use Rattle.der_core.specs.Header.{head_of, contents_header};
-ghost use Rattle.der_core.specs.Nested.{CanLeave, ClosesValue, HandsBack, ValueAnswers};
+ghost use Rattle.der_core.specs.Header.{head_of, header_sans_eoc};
+ghost use Rattle.der_core.specs.Nested.{CanLeave, ClosesValue, HandsBack, ValueAnswer};
 
 use crate::header::Header;
 use crate::reader::{Reader, ReaderExt, Resumption};
@@ -107,13 +107,13 @@ pub fn read_value<
     E: From<Error> + Drop,
     F: FnOnce(&mut R, Header) -> Result<T, E>,
 >(reader: &mut R, header: Header, f: F) -> Result<T, E>
-    requires { HandsBack (λ p. F.pre f p (contents_header header)) (λ p a q. (h : _)
-        × (h ≡ contents_header header)
+    requires { HandsBack (λ p. F.pre f p (header_sans_eoc header)) (λ p a q. (h : _)
+        × (h ≡ header_sans_eoc header)
         × F.post f p h a q) (λ p. R.state p.now) (λ q. R.state q.now) (R.state reader.old)
         (number (sans_eoc (head_of header).length)) }
     ensures same { Same (R.state reader.old) (R.state reader.new) }
     ensures exact { IsBinding R.reliable result
-        → ValueAnswers E.from_gives (λ p a q. (h : _) × (h ≡ contents_header header)
+        → ValueAnswer E.from_gives (λ p a q. (h : _) × (h ≡ header_sans_eoc header)
         × F.post f p h a q) (λ p. R.state p.now) (λ q. R.state q.now)
         (sans_eoc (head_of header).length) (R.state reader.old) result (R.state reader.new) }
 {
@@ -136,7 +136,7 @@ pub(crate) fn read_contents<
         (R.state reader.old) (number length) }
     ensures same { Same (R.state reader.old) (R.state reader.new) }
     ensures exact { IsBinding R.reliable result
-        → ValueAnswers E.from_gives (F.post f) (λ p. R.state p.now) (λ q. R.state q.now) length
+        → ValueAnswer E.from_gives (F.post f) (λ p. R.state p.now) (λ q. R.state q.now) length
         (R.state reader.old) result (R.state reader.new) }
 {
     let outer = reader.enter_nested(length)?;

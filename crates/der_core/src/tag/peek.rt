@@ -3,7 +3,7 @@ ghost use Rattle.std.specs.Prelude.{◌≡◌, ◌↔◌, true, IsTrue};
 ghost use Rattle.der_base.specs.Class.{class_number};
 ghost use Rattle.der_base.specs.HeaderGrammar.{IdentifierAhead, TagAhead};
 ghost use Rattle.der_base.specs.Tag.{label, IdentifierFault};
-ghost use Rattle.der_core.specs.Decode.{Decodes, Peeks, MatchAnswers};
+ghost use Rattle.der_core.specs.Decode.{Decodes, Peeks, MatchAnswer};
 ghost use Rattle.der_core.specs.Outcome.{IsBinding};
 
 use crate::reader::{Reader, ReaderExt};
@@ -56,7 +56,7 @@ impl TagPeek for Tag {
     ) -> Result<bool, Error>
         ensures stays { R.state reader.new ≡ R.state reader.old }
         ensures exact { IsBinding R.reliable result
-            → MatchAnswers (class_number expected_class) expected_tag_number.0 (R.state reader.old)
+            → MatchAnswer (class_number expected_class) expected_tag_number.0 (R.state reader.old)
             result }
     {
         if reader.is_finished() {

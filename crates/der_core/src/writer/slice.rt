@@ -1,6 +1,6 @@
 //! Writers into a slice.
 ghost use Rattle.std.specs.Prelude.{◌≡◌, ◌+◌, ◌-◌, ◌^◌, ◌<◌, ◌≤◌, true, length, Err, IfOk, OnErr};
-ghost use Rattle.der_base.specs.Error.{at, position_of};
+ghost use Rattle.der_base.specs.Error.{error_at, position_of};
 ghost use Rattle.der_base.specs.Length.{definite_length};
 ghost use Rattle.der_base.specs.declared.error.ErrorKind.TheVariants.{Failed, Length as IncorrectLength};
 ghost use Rattle.der_base.specs.declared.tag.Tag.TheVariants.{Sequence};
@@ -34,9 +34,9 @@ impl<'a> SliceWriter<'a> {
     ghost use Rattle.der_base.specs.Length.{number};
     ghost use Rattle.der_core.specs.Outcome.{map_ok};
     ghost use Rattle.der_core.specs.Writer.{Keeps, Appends, Writes, fresh_state, writer_position, failed_state, room_outcome};
-    ghost use Rattle.der_core.specs.Encode.{TakesCounted, RefusesFailed, PlacesErrors, finished_answer};
+    ghost use Rattle.der_core.specs.Encode.{FitsCounted, RefusesFailed, PlacesErrors, finished_answer};
     ghost use Rattle.der_core.specs.SliceWriter.{slice_writer_state};
-    ghost use Rattle.der_core.specs.WrittenSequence.{HandsBackPart, ClosesPart, Fills, RunsInRoom, PartAnswer, WritesSequence, headed_state, part_state, outer_state};
+    ghost use Rattle.der_core.specs.WrittenSequence.{HandsBackPart, ClosesPart, Fills, RunsInRoom, PartAnswer, SequenceAnswer, headed_state, part_state, outer_state};
 
     /// A writer into these octets, at their beginning.
     pub fn new(bytes: &'a mut [u8]) -> Self
@@ -73,7 +73,7 @@ impl<'a> SliceWriter<'a> {
     /// - This kind at the position, always; the writer has failed then.
     pub fn error<T>(&mut self, kind: ErrorKind) -> Result<T, Error>
         ensures at_position { result ≡ Err
-            (at kind (writer_position (slice_writer_state self.old))) }
+            (error_at kind (writer_position (slice_writer_state self.old))) }
         ensures failed { slice_writer_state self.new ≡ failed_state (slice_writer_state self.old) }
     {
         self.failed = true;
@@ -109,11 +109,11 @@ impl<'a> SliceWriter<'a> {
         ensures ok { Appends (slice_writer_state self.old) (T.encoding value.now) result
             (slice_writer_state self.new) }
         ensures succeeds { T.encodable value.now
-            → TakesCounted (slice_writer_state self.old) (T.encoding value.now) result }
+            → FitsCounted (slice_writer_state self.old) (T.encoding value.now) result }
         ensures was_failed { RefusesFailed (slice_writer_state self.old) result
             (slice_writer_state self.new) }
-        ensures exact { PlacesErrors (T.answers value.now) (slice_writer_state self.old) result
-            (slice_writer_state self.new) }
+        ensures exact { PlacesErrors (T.encode_answers value.now) (slice_writer_state self.old)
+            result (slice_writer_state self.new) }
     {
         if self.failed {
             return Err(failed_at(self.position));
@@ -163,7 +163,7 @@ impl<'a> SliceWriter<'a> {
         ensures runs { RunsInRoom (F.post f)
             (headed_state (slice_writer_state self.old) (number len)) (number len) result
             (slice_writer_state self.new) }
-        ensures exact { WritesSequence (F.post f) (slice_writer_state self.old)
+        ensures exact { SequenceAnswer (F.post f) (slice_writer_state self.old)
             (number len) result (slice_writer_state self.new) }
     {
         Header::new(Tag::Sequence, len).encode(self)?;
@@ -308,7 +308,7 @@ fn refusal(failed: bool, position: u32, count: usize) -> Error
 #[cold]
 #[inline(never)]
 fn failed_at(position: u32) -> Error
-    ensures { result ≡ at Failed (definite_length position) }
+    ensures { result ≡ error_at Failed (definite_length position) }
 {
     ErrorKind::Failed.at(Length::new(position))
 }
@@ -317,7 +317,7 @@ fn failed_at(position: u32) -> Error
 #[cold]
 #[inline(never)]
 fn unfilled_at(position: u32) -> Error
-    ensures { result ≡ at (IncorrectLength Sequence) (definite_length position) }
+    ensures { result ≡ error_at (IncorrectLength Sequence) (definite_length position) }
 {
     Tag::Sequence.length_error().at(Length::new(position))
 }

@@ -2,7 +2,7 @@
 ghost use Rattle.std.specs.Prelude.{◌≡◌, [], ◌∷◌, Ok, Err};
 ghost use Rattle.der.specs.Prelude.{definite_length, error_of_kind, write_outcome};
 ghost use Rattle.der.specs.ErrorKinds.{Overflow};
-ghost use Rattle.der.specs.Encode.{ThenAnswers};
+ghost use Rattle.der.specs.Encode.{ThenAnswer};
 
 use super::*;
 use crate::checks::{holds, same};
@@ -18,8 +18,9 @@ impl Encode for Wrong {
 
     ghost size = { λ _. Ok (definite_length 1) };
 
-    ghost answers = { λ _ s r t. ThenAnswers (write_outcome (170 ∷ []) s).answer
-        (write_outcome (170 ∷ []) s).after (λ u r t. (r ≡ Err (error_of_kind Overflow)) × (t ≡ u)) s r t };
+    ghost encode_answers = { λ _ s r t. ThenAnswer (write_outcome (170 ∷ []) s).answer
+        (write_outcome (170 ∷ []) s).after (λ u r t. (r ≡ Err (error_of_kind Overflow)) × (t ≡ u))
+        s r t };
 
     fn encoded_len(&self) -> Result<Length, Error> {
         Ok(Length::ONE)

@@ -1,7 +1,7 @@
 //! A type with contents of any length.
 ghost use Rattle.std.specs.Prelude.{◌≡◌, ◌+◌, ◌≤◌, false, Ok, IsOk, OnOk, length, replicate};
 ghost use Rattle.der.specs.Prelude.{definite_length, OctetString, Keeps, Appends};
-ghost use Rattle.der.specs.Writer.{Takes};
+ghost use Rattle.der.specs.Writer.{Fits};
 
 use super::*;
 use crate::checks::same;
@@ -32,7 +32,7 @@ impl EncodeValue for Zeros {
     ghost value_size = { λ zeros. Ok (definite_length zeros.count) };
 
     // what its refusals are is left open
-    ghost value_answers = { λ _ _ _ _. Unit {0} };
+    ghost encode_value_answers = { λ _ _ _ _. Unit {0} };
 
     fn value_len(&self) -> Result<Length, Error> {
         Ok(Length::new(self.count))
@@ -46,7 +46,7 @@ impl EncodeValue for Zeros {
 fn write_zeros<W: Writer>(writer: &mut W, count: u32) -> Result<(), Error>
     ensures kept { Keeps (W.state writer.old) (W.state writer.new) }
     ensures ok { Appends (W.state writer.old) (replicate count 0) result (W.state writer.new) }
-    ensures succeeds { Takes (W.state writer.old) (replicate count 0) result }
+    ensures succeeds { Fits (W.state writer.old) (replicate count 0) result }
 {
     if count == 0 {
         return Ok(());

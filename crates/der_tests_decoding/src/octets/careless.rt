@@ -27,9 +27,9 @@ impl ReadValue for Hasty {
 
     ghost takes = { λ _ _ _ _. ⊥ };
 
-    ghost levels = { λ _. 0 };
+    ghost value_levels = { λ _. 0 };
 
-    ghost takes_memory = { false };
+    ghost allocates = { false };
 
     ghost takes_valid = { λ v rules h octets taken. tt };
 }
@@ -37,7 +37,7 @@ impl ReadValue for Hasty {
 impl<R: Reader> DecodeValue<R> for Hasty {
     type Error = Error;
 
-    ghost value_answers = { λ _ _ _ _. Unit {0} };
+    ghost decode_value_answers = { λ _ _ _ _. Unit {0} };
 
     fn decode_value(_alloc: Global, reader: &mut R, _header: Header) -> Result<Self, Error> {
         let octet = reader.read_byte()?;
@@ -100,9 +100,9 @@ impl ReadValue for Unread {
     // there has to be nothing to read
     ghost takes = { λ _ _ _ octets. octets ≡ [] };
 
-    ghost levels = { λ _. 0 };
+    ghost value_levels = { λ _. 0 };
 
-    ghost takes_memory = { false };
+    ghost allocates = { false };
 
     ghost takes_valid = { λ v rules h octets taken. tt };
 }
@@ -110,7 +110,7 @@ impl ReadValue for Unread {
 impl<R: Reader> DecodeValue<R> for Unread {
     type Error = Error;
 
-    ghost value_answers = { λ _ _ _ _. Unit {0} };
+    ghost decode_value_answers = { λ _ _ _ _. Unit {0} };
 
     fn decode_value(_alloc: Global, _reader: &mut R, _header: Header) -> Result<Self, Error> {
         Ok(Unread)

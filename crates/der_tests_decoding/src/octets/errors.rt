@@ -52,9 +52,9 @@ impl ReadValue for Octet {
 
     ghost takes = { λ v _ _ octets. v.number ∷ [] ≡ octets };
 
-    ghost levels = { λ _. 0 };
+    ghost value_levels = { λ _. 0 };
 
-    ghost takes_memory = { false };
+    ghost allocates = { false };
 
     ghost takes_valid = { λ v rules h octets taken. tt };
 }
@@ -62,7 +62,7 @@ impl ReadValue for Octet {
 impl<R: Reader> DecodeValue<R> for Octet {
     type Error = OctetError;
 
-    ghost value_answers = { λ _ _ _ _. Unit {0} };
+    ghost decode_value_answers = { λ _ _ _ _. Unit {0} };
 
     fn decode_value(_alloc: Global, reader: &mut R, _header: Header) -> Result<Self, OctetError> {
         let number = reader.read_byte()?;

@@ -26,9 +26,9 @@ impl<const LEVELS: u8> ReadValue for Nest<LEVELS> {
     ghost takes = { λ _ _ _ _. Unit {0} };
 
     // it is promised at no depth that it is read
-    ghost levels = { λ _. 64 };
+    ghost value_levels = { λ _. 64 };
 
-    ghost takes_memory = { false };
+    ghost allocates = { false };
 
     ghost takes_valid = { λ v rules h octets taken. tt };
 }
@@ -36,7 +36,7 @@ impl<const LEVELS: u8> ReadValue for Nest<LEVELS> {
 impl<const LEVELS: u8, R: Reader> DecodeValue<R> for Nest<LEVELS> {
     type Error = Error;
 
-    ghost value_answers = { λ _ _ _ _. Unit {0} };
+    ghost decode_value_answers = { λ _ _ _ _. Unit {0} };
 
     fn decode_value(_alloc: Global, reader: &mut R, _header: Header) -> Result<Self, Error> {
         match pass_inside(reader, LEVELS) {

@@ -100,7 +100,7 @@ impl<'a> Reader for LendingReader<'a> {
         self.inner.leave_nested(resumption);
     }
 
-    ghost lawful = { λ r. record {
+    ghost sound_state = { λ r. record {
       ordered = r.inner.ordered;
       in_input = r.inner.in_input;
       addressable = r.inner.addressable;

@@ -3,7 +3,7 @@ ghost use Rattle.std.specs.Prelude.{◌≡◌, false};
 ghost use Rattle.std.proofs.Common.{arith};
 ghost use Rattle.der.specs.Prelude.{OctetString};
 ghost use Rattle.der.specs.BytesCow.{cow_octets};
-ghost use Rattle.der.specs.Octets.{IsCounted, TakesOctets, LentAnswers, octets_lawful, octets_size, WritesOctets};
+ghost use Rattle.der.specs.Octets.{IsCounted, TakesOctets, LentOctetsRead, octets_lawful, octets_size, OctetsWritten};
 
 use super::*;
 use crate::checks::{holds, same};
@@ -31,9 +31,9 @@ impl<'a> ReadValue for CowOctets<'a> {
 
     ghost takes = { TakesOctets IsCounted (λ v. cow_octets v.octets) };
 
-    ghost levels = { λ _. 0 };
+    ghost value_levels = { λ _. 0 };
 
-    ghost takes_memory = { false };
+    ghost allocates = { false };
 
     ghost takes_valid = { λ v rules h octets taken. taken.0 };
 }
@@ -41,7 +41,7 @@ impl<'a> ReadValue for CowOctets<'a> {
 impl<'a, R: Reader<Lent = &'a [u8]>> DecodeValue<R> for CowOctets<'a> {
     type Error = Error;
 
-    ghost value_answers = { LentAnswers (λ v. cow_octets v.octets) };
+    ghost decode_value_answers = { LentOctetsRead (λ v. cow_octets v.octets) };
 
     fn decode_value(alloc: Global, reader: &mut R, header: Header) -> Result<Self, Error> {
         let octets = BytesCow::decode_value(alloc, reader, header)?;
@@ -60,7 +60,7 @@ impl<'a> WrittenValue for CowOctets<'a> {
 impl<'a> EncodeValue for CowOctets<'a> {
     ghost value_size = { octets_size (λ v. cow_octets v.octets) };
 
-    ghost value_answers = { WritesOctets (λ v. cow_octets v.octets) };
+    ghost encode_value_answers = { OctetsWritten (λ v. cow_octets v.octets) };
 
     fn value_len(&self) -> Result<Length, Error> {
         self.octets.value_len()

@@ -33,7 +33,7 @@ impl WrittenValue for Day {
 impl EncodeValue for Day {
     ghost value_size = { λ _. Ok (definite_length 1) };
 
-    ghost value_answers = { λ day s r t. Writes (write_outcome (day.number ∷ []) s) r t };
+    ghost encode_value_answers = { λ day s r t. Writes (write_outcome (day.number ∷ []) s) r t };
 
     fn value_len(&self) -> Result<Length, Error> {
         Ok(Length::ONE)

@@ -30,7 +30,7 @@ impl WrittenValue for Told {
 impl EncodeValue for Told {
     ghost value_size = { λ v. map_ok (λ _. definite_length 0) v.size };
 
-    ghost value_answers = { λ _ s result t. (result ≡ Ok tt) × (t ≡ s) };
+    ghost encode_value_answers = { λ _ s result t. (result ≡ Ok tt) × (t ≡ s) };
 
     fn value_len(&self) -> Result<Length, Error> {
         match self.size {

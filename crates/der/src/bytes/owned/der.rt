@@ -6,7 +6,7 @@ ghost use Rattle.der_core.specs.Outcome.{IsBinding, map_ok};
 ghost use Rattle.der_core.specs.Reader.{VecMeets};
 ghost use Rattle.der_core.specs.ReaderState.{Same};
 ghost use Rattle.der.specs.OctetsOrder.{octets_order};
-ghost use Rattle.der.specs.Octets.{IsCounted, TakesOctets, OwnedAnswers, octets_size, WritesOctets};
+ghost use Rattle.der.specs.Octets.{IsCounted, TakesOctets, OwnedOctetsRead, octets_size, OctetsWritten};
 ghost use Rattle.der.specs.BytesOwned.{owned_octets};
 
 use crate::bytes::BytesOwned;
@@ -20,9 +20,9 @@ impl ReadValue for BytesOwned {
 
     ghost takes = { TakesOctets IsCounted owned_octets };
 
-    ghost levels = { λ _. 0 };
+    ghost value_levels = { λ _. 0 };
 
-    ghost takes_memory = { true };
+    ghost allocates = { true };
 
     ghost takes_valid = { λ b rules h octets taken. taken.0 };
 }
@@ -36,11 +36,11 @@ impl ReadValue for BytesOwned {
 impl<R: Reader> DecodeValue<R> for BytesOwned {
     type Error = Error;
 
-    ghost value_answers = { OwnedAnswers owned_octets };
+    ghost decode_value_answers = { OwnedOctetsRead owned_octets };
 
     fn decode_value(alloc: Global, reader: &mut R, header: Header) -> Result<Self, Error>
         ensures same { Same (R.state reader.old) (R.state reader.new) }
-        ensures exact { IsBinding R.reliable result → OwnedAnswers owned_octets (head_of header)
+        ensures exact { IsBinding R.reliable result → OwnedOctetsRead owned_octets (head_of header)
             (R.state reader.old) result (R.state reader.new) }
     {
         read_owned(alloc, reader, header.length())
@@ -76,7 +76,7 @@ impl WrittenValue for BytesOwned {
 impl EncodeValue for BytesOwned {
     ghost value_size = { octets_size owned_octets };
 
-    ghost value_answers = { WritesOctets owned_octets };
+    ghost encode_value_answers = { OctetsWritten owned_octets };
 
     fn value_len(&self) -> Result<Length, Error> {
         Ok(self.len())

@@ -3,7 +3,7 @@ ghost use Rattle.std.specs.Prelude.{◌≡◌, ◌⊎◌, ℕ, List, true, false
 ghost use Rattle.der_base.specs.Error.{error_of_kind};
 ghost use Rattle.der_base.specs.declared.error.ErrorKind.TheVariants.{OutOfMemory as NoMemory};
 ghost use Rattle.der_core.specs.Header.{head_of};
-ghost use Rattle.der_core.specs.ReaderState.{rest, Same};
+ghost use Rattle.der_core.specs.ReaderState.{rest_of, Same};
 ghost use Rattle.der.specs.BytesOwned.{owned_octets};
 ghost use Rattle.der.specs.Joined.{Joined};
 ghost use Rattle.der.specs.Joining.{levels_left};
@@ -38,7 +38,7 @@ impl BytesOwned {
         ensures complete { (out : List ℕ) → R.reliable ≡ true
             → (R.state reader.old).failed ≡ false
             → HasSegments (head_of header) (R.state reader.old).rules
-            → Joined inner_tag (levels_left (R.state reader.old)) (rest (R.state reader.old)) out
+            → Joined inner_tag (levels_left (R.state reader.old)) (rest_of (R.state reader.old)) out
             → IsOk result ⊎ IsErrAnd result (λ e. e ≡ error_of_kind NoMemory) }
         ensures exact { R.reliable ≡ true
             → IfErr result (λ e. RefusesParts inner_tag (head_of header) (R.state reader.old) e

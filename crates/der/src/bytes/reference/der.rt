@@ -5,7 +5,7 @@ ghost use Rattle.der_core.specs.Header.{head_of};
 ghost use Rattle.der_core.specs.Outcome.{Gives, map_ok};
 ghost use Rattle.der_core.specs.ReaderState.{Same};
 ghost use Rattle.der.specs.OctetsOrder.{octets_order};
-ghost use Rattle.der.specs.Octets.{IsCounted, TakesOctets, EndsTaken, LentAnswers, octets_size, WritesOctets, unlent_outcome};
+ghost use Rattle.der.specs.Octets.{IsCounted, TakesOctets, EndsTaken, LentOctetsRead, octets_size, OctetsWritten, unlent_outcome};
 ghost use Rattle.der.specs.BytesRef.{reference_octets};
 
 use crate::bytes::BytesRef;
@@ -19,9 +19,9 @@ impl<'a> ReadValue for BytesRef<'a> {
 
     ghost takes = { TakesOctets IsCounted reference_octets };
 
-    ghost levels = { λ _. 0 };
+    ghost value_levels = { λ _. 0 };
 
-    ghost takes_memory = { false };
+    ghost allocates = { false };
 
     ghost takes_valid = { λ b rules h octets taken. taken.0 };
 }
@@ -35,7 +35,7 @@ impl<'a> ReadValue for BytesRef<'a> {
 impl<'a, R: Reader<Lent = &'a [u8]>> DecodeValue<R> for BytesRef<'a> {
     type Error = Error;
 
-    ghost value_answers = { LentAnswers reference_octets };
+    ghost decode_value_answers = { LentOctetsRead reference_octets };
 
     fn decode_value(_alloc: Global, reader: &mut R, header: Header) -> Result<Self, Error>
         ensures same { Same (R.state reader.old) (R.state reader.new) }
@@ -43,9 +43,9 @@ impl<'a, R: Reader<Lent = &'a [u8]>> DecodeValue<R> for BytesRef<'a> {
             (R.state reader.old) result (R.state reader.new) }
         ensures complete { EndsTaken IsCounted reference_octets R.reliable (head_of header)
             (R.state reader.old) result (R.state reader.new) }
-        ensures exact { R.reliable ≡ true → LentAnswers reference_octets (head_of header)
+        ensures exact { R.reliable ≡ true → LentOctetsRead reference_octets (head_of header)
             (R.state reader.old) result (R.state reader.new) }
-        ensures ok { IsOk result → LentAnswers reference_octets (head_of header)
+        ensures ok { IsOk result → LentOctetsRead reference_octets (head_of header)
             (R.state reader.old) result (R.state reader.new) }
         ensures unlent { R.lends ≡ false → Gives unlent_outcome (R.state reader.old)
             (map_ok reference_octets result) (R.state reader.new) }
@@ -69,7 +69,7 @@ impl<'a> WrittenValue for BytesRef<'a> {
 impl<'a> EncodeValue for BytesRef<'a> {
     ghost value_size = { octets_size reference_octets };
 
-    ghost value_answers = { WritesOctets reference_octets };
+    ghost encode_value_answers = { OctetsWritten reference_octets };
 
     fn value_len(&self) -> Result<Length, Error> {
         Ok(self.len())

@@ -3,7 +3,7 @@ ghost use Rattle.std.specs.Prelude.{◌≡◌, false};
 ghost use Rattle.der_base.specs.declared.tag.Tag.TheVariants.{OctetString};
 ghost use Rattle.std.proofs.Common.{refl};
 ghost use Rattle.der.specs.OctetsOrder.{octets_order};
-ghost use Rattle.der.specs.MyByteMonth.{IsMonth, TakesMonth, MonthAnswers, WritesMonth, month_contents, month_size, month_lawful};
+ghost use Rattle.der.specs.MyByteMonth.{IsMonth, TakesMonth, MonthRead, MonthWritten, month_contents, month_size, month_lawful};
 
 use crate::example::MyByteMonth;
 use der_base::{Error, ErrorKind, Length, Tag};
@@ -29,9 +29,9 @@ impl ReadValue for MyByteMonth {
 
     ghost takes = { TakesMonth };
 
-    ghost levels = { λ _. 0 };
+    ghost value_levels = { λ _. 0 };
 
-    ghost takes_memory = { false };
+    ghost allocates = { false };
 
     ghost takes_valid = { λ month rules h octets taken. taken.0 };
 }
@@ -45,7 +45,7 @@ impl ReadValue for MyByteMonth {
 impl<R: Reader> DecodeValue<R> for MyByteMonth {
     type Error = Error;
 
-    ghost value_answers = { MonthAnswers };
+    ghost decode_value_answers = { MonthRead };
 
     fn decode_value(_alloc: Global, reader: &mut R, _header: Header) -> Result<Self, Error> {
         let octet = reader.read_byte()?;
@@ -71,7 +71,7 @@ impl WrittenValue for MyByteMonth {
 impl EncodeValue for MyByteMonth {
     ghost value_size = { month_size };
 
-    ghost value_answers = { WritesMonth };
+    ghost encode_value_answers = { MonthWritten };
 
     fn value_len(&self) -> Result<Length, Error> {
         Ok(Length::ONE)

@@ -3,7 +3,7 @@ ghost use Rattle.std.specs.Prelude.{◌≡◌, false, true};
 ghost use Rattle.der_core.specs.Header.{head_of};
 ghost use Rattle.der_core.specs.Outcome.{Gives, IsBinding, map_ok};
 ghost use Rattle.der_core.specs.ReaderState.{Same};
-ghost use Rattle.der.specs.Octets.{IsText, TakesOctets, OwnedTextAnswers, octets_size, WritesOctets, unlent_outcome};
+ghost use Rattle.der.specs.Octets.{IsText, TakesOctets, OwnedTextRead, octets_size, OctetsWritten, unlent_outcome};
 ghost use Rattle.der.specs.StringOwned.{owned_text};
 
 use crate::string::StringOwned;
@@ -16,9 +16,9 @@ impl ReadValue for StringOwned {
 
     ghost takes = { TakesOctets IsText owned_text };
 
-    ghost levels = { λ _. 0 };
+    ghost value_levels = { λ _. 0 };
 
-    ghost takes_memory = { true };
+    ghost allocates = { true };
 
     ghost takes_valid = { λ t rules h octets taken. taken.0 };
 }
@@ -35,11 +35,11 @@ impl ReadValue for StringOwned {
 impl<R: Reader> DecodeValue<R> for StringOwned {
     type Error = Error;
 
-    ghost value_answers = { OwnedTextAnswers owned_text };
+    ghost decode_value_answers = { OwnedTextRead owned_text };
 
     fn decode_value(alloc: Global, reader: &mut R, header: Header) -> Result<Self, Error>
         ensures same { Same (R.state reader.old) (R.state reader.new) }
-        ensures exact { IsBinding R.reliable result → OwnedTextAnswers owned_text (head_of header)
+        ensures exact { IsBinding R.reliable result → OwnedTextRead owned_text (head_of header)
             (R.state reader.old) result (R.state reader.new) }
         ensures unlent { R.lends ≡ false → Gives unlent_outcome (R.state reader.old)
             (map_ok owned_text result) (R.state reader.new) }
@@ -64,7 +64,7 @@ impl WrittenValue for StringOwned {
 impl EncodeValue for StringOwned {
     ghost value_size = { octets_size owned_text };
 
-    ghost value_answers = { WritesOctets owned_text };
+    ghost encode_value_answers = { OctetsWritten owned_text };
 
     fn value_len(&self) -> Result<Length, Error> {
         Ok(self.len())

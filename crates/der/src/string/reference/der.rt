@@ -4,7 +4,7 @@ ghost use Rattle.der_core.specs.DecodeValue.{TakesContents};
 ghost use Rattle.der_core.specs.Header.{head_of};
 ghost use Rattle.der_core.specs.Outcome.{Gives, map_ok};
 ghost use Rattle.der_core.specs.ReaderState.{Same};
-ghost use Rattle.der.specs.Octets.{IsText, TakesOctets, EndsTaken, LentTextAnswers, octets_size, WritesOctets, unlent_outcome};
+ghost use Rattle.der.specs.Octets.{IsText, TakesOctets, EndsTaken, LentTextRead, octets_size, OctetsWritten, unlent_outcome};
 ghost use Rattle.der.specs.StringRef.{reference_text};
 
 use crate::string::StringRef;
@@ -17,9 +17,9 @@ impl<'a> ReadValue for StringRef<'a> {
 
     ghost takes = { TakesOctets IsText reference_text };
 
-    ghost levels = { λ _. 0 };
+    ghost value_levels = { λ _. 0 };
 
-    ghost takes_memory = { false };
+    ghost allocates = { false };
 
     ghost takes_valid = { λ t rules h octets taken. taken.0 };
 }
@@ -35,7 +35,7 @@ impl<'a> ReadValue for StringRef<'a> {
 impl<'a, R: Reader<Lent = &'a [u8]>> DecodeValue<R> for StringRef<'a> {
     type Error = Error;
 
-    ghost value_answers = { LentTextAnswers reference_text };
+    ghost decode_value_answers = { LentTextRead reference_text };
 
     fn decode_value(_alloc: Global, reader: &mut R, header: Header) -> Result<Self, Error>
         ensures same { Same (R.state reader.old) (R.state reader.new) }
@@ -43,9 +43,9 @@ impl<'a, R: Reader<Lent = &'a [u8]>> DecodeValue<R> for StringRef<'a> {
             (R.state reader.old) result (R.state reader.new) }
         ensures complete { EndsTaken IsText reference_text R.reliable (head_of header)
             (R.state reader.old) result (R.state reader.new) }
-        ensures exact { R.reliable ≡ true → LentTextAnswers reference_text (head_of header)
+        ensures exact { R.reliable ≡ true → LentTextRead reference_text (head_of header)
             (R.state reader.old) result (R.state reader.new) }
-        ensures ok { IsOk result → LentTextAnswers reference_text (head_of header)
+        ensures ok { IsOk result → LentTextRead reference_text (head_of header)
             (R.state reader.old) result (R.state reader.new) }
         ensures unlent { R.lends ≡ false → Gives unlent_outcome (R.state reader.old)
             (map_ok reference_text result) (R.state reader.new) }
@@ -69,7 +69,7 @@ impl<'a> WrittenValue for StringRef<'a> {
 impl<'a> EncodeValue for StringRef<'a> {
     ghost value_size = { octets_size reference_text };
 
-    ghost value_answers = { WritesOctets reference_text };
+    ghost encode_value_answers = { OctetsWritten reference_text };
 
     fn value_len(&self) -> Result<Length, Error> {
         Ok(self.len())

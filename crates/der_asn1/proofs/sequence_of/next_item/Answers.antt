@@ -7,11 +7,11 @@ use Rattle.der_asn1.proofs.sequence_of.next_item.Goals as goal
 pub returns-in_err-value-clause-complete : goal.returns-in_err-value-clause-complete
 returns-in_err-value-clause-complete g c l some =
     let p = err_from_is_err_and c.from_residual.result c.from_residual.ensures.1 in
-    rw (p.1, p.2) (item_lacks g.met.T.Lawful.lawful (slice_state c.args.reader.now) (slice_sound c.args.reader.now) c.requires l some g.T.Error.DecodeError.out_of_memory g.T.ReadValue.takes_memory (slice_state c.decode_tlv.new.reader) c.in_err-value.field-0.0 (λ v m. c.in_err-value.ensures.complete v m refl))
+    rw (p.1, p.2) (item_lacks g.met.T.Lawful.lawful (slice_state c.args.reader.now) (slice_sound c.args.reader.now) c.requires l some g.T.Error.DecodeError.out_of_memory g.T.ReadValue.allocates (slice_state c.decode_tlv.new.reader) c.in_err-value.field-0.0 (λ v m. c.in_err-value.ensures.complete v m refl))
 
 pub returns-then-is_failed-clause-complete : goal.returns-then-is_failed-clause-complete
 returns-then-is_failed-clause-complete g c l some =
-    let works = item_working g.met.T.Lawful.lawful (slice_state c.args.reader.now) (slice_sound c.args.reader.now) c.requires l some g.T.Error.DecodeError.out_of_memory g.T.ReadValue.takes_memory (slice_state c.decode_tlv.new.reader) c.in_ok-value.value (λ v m. c.in_ok-value.ensures.complete v m refl) in
+    let works = item_working g.met.T.Lawful.lawful (slice_state c.args.reader.now) (slice_sound c.args.reader.now) c.requires l some g.T.Error.DecodeError.out_of_memory g.T.ReadValue.allocates (slice_state c.decode_tlv.new.reader) c.in_ok-value.value (λ v m. c.in_ok-value.ensures.complete v m refl) in
     absurd (let failed = c.if-is_failed.true in let is = c.is_failed.ensures in cc)
 
 pub returns-clause-ok : goal.returns-clause-ok
@@ -19,4 +19,4 @@ returns-clause-ok g c = item_passed g.met.T.Lawful.lawful (slice_state c.args.re
 
 pub returns-clause-keeps : goal.returns-clause-keeps
 returns-clause-keeps g c l some =
-    item_keeps g.met.T.Lawful.lawful (slice_state c.args.reader.now) (slice_sound c.args.reader.now) c.requires l some g.T.Error.DecodeError.out_of_memory g.T.ReadValue.takes_memory (slice_state c.decode_tlv.new.reader) c.in_ok-value.value (λ v m. c.in_ok-value.ensures.complete v m refl)
+    item_keeps g.met.T.Lawful.lawful (slice_state c.args.reader.now) (slice_sound c.args.reader.now) c.requires l some g.T.Error.DecodeError.out_of_memory g.T.ReadValue.allocates (slice_state c.decode_tlv.new.reader) c.in_ok-value.value (λ v m. c.in_ok-value.ensures.complete v m refl)

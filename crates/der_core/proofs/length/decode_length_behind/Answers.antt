@@ -8,7 +8,7 @@ pub returns-in_err-first : goal.returns-in_err-first
 returns-in_err-first g c =
     let p = err_from_is_err_and c.from_residual.result c.from_residual.ensures.1 in
     rw (p.1, p.2) (decoded_err c.in_err-first.ensures.same
-    (λ reliable. length_ends (byte_refused (g.met.R.Reader.lawful c.args.reader.now) (c.in_err-first.ensures.exact reliable))))
+    (λ reliable. length_ends (byte_refused (g.met.R.Reader.sound_state c.args.reader.now) (c.in_err-first.ensures.exact reliable))))
 
 pub returns-then-first-lt-INDEFINITE : goal.returns-then-first-lt-INDEFINITE
 returns-then-first-lt-INDEFINITE g c =

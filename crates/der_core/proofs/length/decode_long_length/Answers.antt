@@ -13,7 +13,7 @@ returns-in_err-octet-clause-exact g c =
     let p = err_from_is_err_and c.from_residual.result c.from_residual.ensures.1 in
     rw (p.1, p.2) (λ reliable at here working.
     let so_far = c.loop-i.invariant in
-    let refused = byte_refused (g.met.R.Reader.lawful c.loop-i.reader) (c.in_err-octet.ensures.exact reliable) in
+    let refused = byte_refused (g.met.R.Reader.sound_state c.loop-i.reader) (c.in_err-octet.ensures.exact reliable) in
     refused_cut so_far (omega arith) (omega arith) (omega arith) (cut_refused (failed_on so_far.reads ∙ working) refused) at here)
 
 pub overflow_mul-number : goal.overflow_mul-number

@@ -9,7 +9,7 @@ returns-in_err-octet-clause-exact g c =
     let p = err_from_is_err_and c.from_residual.result c.from_residual.ensures.1 in
     rw (p.1, p.2) (λ reliable at first here working.
     let so_far = c.octets.invariant in
-    let refused = byte_refused (g.met.R.Reader.lawful c.octets.reader) (c.in_err-octet.ensures.exact reliable) in
+    let refused = byte_refused (g.met.R.Reader.sound_state c.octets.reader) (c.in_err-octet.ensures.exact reliable) in
     number_ends so_far (cut_refused (failed_on so_far.1 ∙ working) refused) at first here working)
 
 pub returns-then-digit-eq0-clause-exact : goal.returns-then-digit-eq0-clause-exact

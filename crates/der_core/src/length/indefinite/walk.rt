@@ -21,14 +21,14 @@ pub(super) struct Walk<'a> {
 }
 
 impl<'a> Walk<'a> {
-    ghost use Rattle.der_base.specs.Error.{at, end_refusal, missing_refusal};
+    ghost use Rattle.der_base.specs.Error.{error_at, end_refusal, missing_refusal};
     ghost use Rattle.der_base.specs.Length.{definite_length, digits, number};
     ghost use Rattle.der_base.specs.Tag.{continuation_octets, is_constructed};
     ghost use Rattle.der_base.specs.declared.error.ErrorKind.TheVariants.{Length as IncorrectLength};
     ghost use Rattle.der_core.specs.AfterFirstOctet.{DefiniteBehind, IdentifierBehind, IsToldBy, RefusesIdentifier, RefusesLongLength, RefusesNumber, identifier_tag};
     ghost use Rattle.der_core.specs.Outcome.{Gives};
     ghost use Rattle.der_core.specs.Reader.{drain_outcome};
-    ghost use Rattle.der_core.specs.ReaderState.{rest, reader_position, Reads};
+    ghost use Rattle.der_core.specs.ReaderState.{rest_of, reader_position, Reads};
     ghost use Rattle.der_core.specs.Scan.{ScansAhead, IsTurned};
     ghost use Rattle.der_core.specs.Turn.{PartRead, RefusesPart};
     ghost use Rattle.der_core.specs.Walk.{walked_state, walk_state};
@@ -87,7 +87,7 @@ impl<'a> Walk<'a> {
     // The error of this kind at the position.
     #[inline(always)]
     fn error(&self, kind: ErrorKind) -> Error
-        ensures { result ≡ at kind (reader_position (walk_state self.now)) }
+        ensures { result ≡ error_at kind (reader_position (walk_state self.now)) }
     {
         kind.at(Length::new(self.position() as u32))
     }
@@ -97,7 +97,7 @@ impl<'a> Walk<'a> {
     fn read_byte(&mut self) -> Result<u8, Error>
         ensures ok { IfOk result (λ o. Reads (walk_state self.old) (walk_state self.new)
             (o ∷ [])) }
-        ensures none { IfErr result (λ _. rest (walk_state self.old) ≡ []) }
+        ensures none { IfErr result (λ _. rest_of (walk_state self.old) ≡ []) }
         ensures exact { IfErr result
             (λ e. e ≡ (end_refusal (walk_state self.old).position).error) }
     {

@@ -1,6 +1,6 @@
 use Rattle.std.proofs.Common.{◌≡◌, ℕ, ◌+◌, ◌/◌, ◌≤◌, Result, Ok, Err, List, length, ap, ◌∙◌, length-append, arith}
 use Rattle.der.proofs.GrowthLemmas.{body_parts}
-use Rattle.der.specs.Prelude.{Length, Error, Ber, rest}
+use Rattle.der.specs.Prelude.{Length, Error, Ber, rest_of}
 use Rattle.der.specs.Scan.{IsTurned}
 use Rattle.der.proofs.DecodeLemmas.{rest-beginning}
 use Rattle.der_uses.proofs.message.indefinite_len.Goals as goal
@@ -11,4 +11,4 @@ bounded octets all (Ok l) before after e (parts, (body, behind, is, split), coun
 bounded octets all (Err x) before after e h = omega (arith, h.1, ap length e)
 
 pub returns : goal.returns
-returns g c = bounded _ c.args.octets.now c.scan_indefinite.result _ _ (ap rest c.in_ok-reader.ensures.ok ∙ rest-beginning Ber c.args.octets.now) c.scan_indefinite.ensures.turned
+returns g c = bounded _ c.args.octets.now c.scan_indefinite.result _ _ (ap rest_of c.in_ok-reader.ensures.ok ∙ rest-beginning Ber c.args.octets.now) c.scan_indefinite.ensures.turned

@@ -12,5 +12,5 @@ pub returns-in_err-check_items-clause-complete : goal.returns-in_err-check_items
 returns-in_err-check_items-clause-complete g c v reliable there deep =
     let p = err_from_is_err_and c.from_residual-in_err-check_items.result c.from_residual-in_err-check_items.ensures.1 in
     let lent = lent_all (number c.args.header.length) (g.R.Reader.state c.args.reader.now) (g.R.Reader.state c.read_slice.new.self) c.in_ok-octets.octets.now (subst (λ l. Gives (read_slice_outcome (number l)) (g.R.Reader.state c.args.reader.now) (Ok c.in_ok-octets.octets.now) (g.R.Reader.state c.read_slice.new.self)) c.length.ensures c.in_ok-octets.ensures.exact) there.stands.sized in
-    rw (p.1, p.2) (inr (lacks_merely g.T.Error.DecodeError.out_of_memory g.T.ReadValue.takes_memory c.in_err-check_items.field-0.0 there.taken.0
+    rw (p.1, p.2) (inr (lacks_merely g.T.Error.DecodeError.out_of_memory g.T.ReadValue.allocates c.in_err-check_items.field-0.0 there.taken.0
     (λ l. c.in_err-check_items.ensures.complete (subst (λ x. length x < 2 ^ 32) (sym lent) there.taken.1) (subst (IsListOf g.T.ReadValue.valid (λ w. element_octets g.T.FixedTag.tag_is (g.T.WrittenValue.contents w))) (sym lent) l))))

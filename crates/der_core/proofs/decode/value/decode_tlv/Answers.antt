@@ -36,20 +36,20 @@ pub returns-clause-ok : goal.returns-clause-ok
 returns-clause-ok g c =
     let tagged : c.in_ok-header.header.tag ≡ g.T.FixedTag.tag_is = sym c.tag.ensures ∙ tag_asserted c.tag.result c.fixed_tag-expected.result c.in_ok-assert_eq.field-0 c.assert_eq.result c.in_ok-assert_eq.was c.assert_eq.ensures.other_tag ∙ c.fixed_tag-expected.ensures in
     element_ok g.T.FixedTag.tag_is g.T.ReadValue.takes (g.R.Reader.state c.args.reader.now) (g.R.Reader.state c.decode_guessed_header.new.reader) (g.R.Reader.state c.read_value.new.reader) c.in_ok-header.header g.R.Reader.reliable
-    c.read_value.result (g.met.R.Reader.lawful c.decode_guessed_header.new.reader) c.in_ok-header.ensures.ok tagged (λ p a q r. r.2.1.0)
+    c.read_value.result (g.met.R.Reader.sound_state c.decode_guessed_header.new.reader) c.in_ok-header.ensures.ok tagged (λ p a q r. r.2.1.0)
     (λ p v q r. at_contents c.in_ok-header.header (Tells g.T.ReadValue.takes (g.R.Reader.state p.now) v (g.R.Reader.state q.now)) r.1 r.2.1.1.0) c.read_value.ensures.exact
 
 pub returns-clause-complete : goal.returns-clause-complete
 returns-clause-complete g c v m reliable working e deep =
     let tagged : c.in_ok-header.header.tag ≡ g.T.FixedTag.tag_is = sym c.tag.ensures ∙ tag_asserted c.tag.result c.fixed_tag-expected.result c.in_ok-assert_eq.field-0 c.assert_eq.result c.in_ok-assert_eq.was c.assert_eq.ensures.other_tag ∙ c.fixed_tag-expected.ensures in
-    element_complete g.T.FixedTag.tag_is g.T.ReadValue.takes g.T.Error.DecodeError.out_of_memory g.T.ReadValue.takes_memory g.T.ReadValue.levels (g.R.Reader.state c.args.reader.now) (g.R.Reader.state c.decode_guessed_header.new.reader) (g.R.Reader.state c.read_value.new.reader) c.in_ok-header.header
-    g.T.Error.From.from_gives c.read_value.result v m (g.met.R.Reader.lawful c.decode_guessed_header.new.reader) c.in_ok-header.ensures.ok tagged (λ p a q r. r.2.1.0)
+    element_complete g.T.FixedTag.tag_is g.T.ReadValue.takes g.T.Error.DecodeError.out_of_memory g.T.ReadValue.allocates g.T.ReadValue.value_levels (g.R.Reader.state c.args.reader.now) (g.R.Reader.state c.decode_guessed_header.new.reader) (g.R.Reader.state c.read_value.new.reader) c.in_ok-header.header
+    g.T.Error.From.from_gives c.read_value.result v m (g.met.R.Reader.sound_state c.decode_guessed_header.new.reader) c.in_ok-header.ensures.ok tagged (λ p a q r. r.2.1.0)
     (λ p v q r. at_contents c.in_ok-header.header (Tells g.T.ReadValue.takes (g.R.Reader.state p.now) v (g.R.Reader.state q.now)) r.1 r.2.1.1.0)
-    (λ p a q r. at_contents c.in_ok-header.header (Vows g.T.ReadValue.takes g.T.Error.DecodeError.out_of_memory g.T.ReadValue.takes_memory g.T.ReadValue.levels (g.R.Reader.state p.now) a (g.R.Reader.state q.now)) r.1 (λ w. r.2.1.1.1.0 w reliable))
+    (λ p a q r. at_contents c.in_ok-header.header (Vows g.T.ReadValue.takes g.T.Error.DecodeError.out_of_memory g.T.ReadValue.allocates g.T.ReadValue.value_levels (g.R.Reader.state p.now) a (g.R.Reader.state q.now)) r.1 (λ w. r.2.1.1.1.0 w reliable))
     e (let d = deep in omega arith) (c.read_value.ensures.exact (reliable_owes g.R.Reader.reliable c.read_value.result reliable))
 
 pub returns-clause-exact : goal.returns-clause-exact
 returns-clause-exact g c reliable =
     let tagged : c.in_ok-header.header.tag ≡ g.T.FixedTag.tag_is = sym c.tag.ensures ∙ tag_asserted c.tag.result c.fixed_tag-expected.result c.in_ok-assert_eq.field-0 c.assert_eq.result c.in_ok-assert_eq.was c.assert_eq.ensures.other_tag ∙ c.fixed_tag-expected.ensures in
     in_contents c.in_ok-header.header _ c.in_ok-header.ensures.ok tagged
-    (value_told (λ p a q r. at_contents c.in_ok-header.header (λ h. g.T.DecodeValue.value_answers h (g.R.Reader.state p.now) a (g.R.Reader.state q.now)) r.1 (r.2.1.1.1.1 reliable)) (c.read_value.ensures.exact (reliable_owes g.R.Reader.reliable c.read_value.result reliable)))
+    (value_told (λ p a q r. at_contents c.in_ok-header.header (λ h. g.T.DecodeValue.decode_value_answers h (g.R.Reader.state p.now) a (g.R.Reader.state q.now)) r.1 (r.2.1.1.1.1 reliable)) (c.read_value.ensures.exact (reliable_owes g.R.Reader.reliable c.read_value.result reliable)))

@@ -7,7 +7,7 @@ use Rattle.der_core.proofs.DecodeLemmas.{decoded_ok, decoded_err}
 use Rattle.der_core.proofs.length.indefinite.decode_indefinite_length.Goals as goal
 
 pub turns-init : goal.turns-init
-turns-init g c = record { low = omega arith; high = omega arith; parts = 0; reached = reached_none _ (g.met.R.Reader.lawful c.args.reader.now); counted = sym (add-zero c.args.turns.now) }
+turns-init g c = record { low = omega arith; high = omega arith; parts = 0; reached = reached_none _ (g.met.R.Reader.sound_state c.args.reader.now); counted = sym (add-zero c.args.turns.now) }
 
 pub returns-in_err-part-clause-scans : goal.returns-in_err-part-clause-scans
 returns-in_err-part-clause-scans g c =
@@ -48,7 +48,7 @@ turns-preserved-else-level-eq0 g c =
     }
 
 pub turns-smaller-in-Passes : goal.turns-smaller-in-Passes
-turns-smaller-in-Passes g c = part_progress c.turns.level c.in_ok-part.part (g.met.R.Reader.lawful c.next_part.new.reader) c.in_ok-part.ensures.ok
+turns-smaller-in-Passes g c = part_progress c.turns.level c.in_ok-part.part (g.met.R.Reader.sound_state c.next_part.new.reader) c.in_ok-part.ensures.ok
 
 pub turns-preserved-in-Passes : goal.turns-preserved-in-Passes
 turns-preserved-in-Passes g c =

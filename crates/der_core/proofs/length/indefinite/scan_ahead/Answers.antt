@@ -10,6 +10,6 @@ pub returns-in-Ok-clause-scans : goal.returns-in-Ok-clause-scans
 returns-in-Ok-clause-scans g c =
     let s = g.R.Reader.state c.args.reader.now in
     let lent = remaining_ok s (g.R.Lent.Octets.octets c.in-Ok.lent) c.in-Ok.ensures.ok in
-    scans_rest s g.R.Reader.reliable c.scan.result (g.met.R.Reader.lawful c.args.reader.now) lent.0 c.requires.ber
+    scans_rest s g.R.Reader.reliable c.scan.result (g.met.R.Reader.sound_state c.args.reader.now) lent.0 c.requires.ber
     (subst (λ q. ScansAhead true (walked_state q s.position 0) c.scan.result) (c.as_slice.ensures ∙ lent.1)
     (subst (λ p. ScansAhead true (walked_state c.as_slice.result.now p 0) c.scan.result) (ap number c.position.ensures) c.scan.ensures.scans))

@@ -23,7 +23,7 @@ pub close_value-requires : goal.close_value-requires
 close_value-requires g c =
     let way : Entered (g.R.Reader.state c.args.reader.now) (number (sans_eoc c.args.header.length)) _ _ (g.R.Reader.state c.enter_nested.new.self) =
     entered_at (c.length-length.ensures ∙ ap (λ (h : Header). h.length) c.contents-contents.ensures) (enter_ok c.in_ok-outer.ensures.exact) in
-    can_leave way (g.met.R.Reader.lawful c.args.reader.now) (c.requires.same _ _ _ way.can way.state (c.contents-contents.result, c.contents-contents.ensures, c.f-answer.ensures))
+    can_leave way (g.met.R.Reader.sound_state c.args.reader.now) (c.requires.same _ _ _ way.can way.state (c.contents-contents.result, c.contents-contents.ensures, c.f-answer.ensures))
 
 pub returns-clause-same : goal.returns-clause-same
 returns-clause-same g c =

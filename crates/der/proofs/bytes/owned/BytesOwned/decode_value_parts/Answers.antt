@@ -17,8 +17,8 @@ returns-in_err-octets-clause-exact g c =
 
 pub returns-then-is_ber-clause-complete : goal.returns-then-is_ber-clause-complete
 returns-then-is_ber-clause-complete g c out reliable working segments joined =
-    inl (joined_made owned_octets c.from_vec.result c.from_vec.ensures.exact c.in_ok-octets.ensures.ok (g.met.R.Reader.lawful c.args.reader.now))
+    inl (joined_made owned_octets c.from_vec.result c.from_vec.ensures.exact c.in_ok-octets.ensures.ok (g.met.R.Reader.sound_state c.args.reader.now))
 
 pub returns-then-is_ber-clause-exact : goal.returns-then-is_ber-clause-exact
 returns-then-is_ber-clause-exact g c reliable =
-    not_refused _ c.from_vec.result (joined_made owned_octets c.from_vec.result c.from_vec.ensures.exact c.in_ok-octets.ensures.ok (g.met.R.Reader.lawful c.args.reader.now))
+    not_refused _ c.from_vec.result (joined_made owned_octets c.from_vec.result c.from_vec.ensures.exact c.in_ok-octets.ensures.ok (g.met.R.Reader.sound_state c.args.reader.now))

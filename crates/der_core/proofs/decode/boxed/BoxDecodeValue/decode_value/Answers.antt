@@ -12,7 +12,7 @@ returns-in_err-value-clause-exact g c =
 pub returns-in-Ok-clause-exact : goal.returns-in-Ok-clause-exact
 returns-in-Ok-clause-exact g c reliable =
     boxed c.in-Ok.boxed
-    (subst (λ v. g.T.DecodeValue.value_answers (head_of c.args.header) (g.R.Reader.state c.args.reader.now) (Ok v) (g.R.Reader.state c.decode_value.new.reader)) (sym c.in-Ok.ensures.ok)
+    (subst (λ v. g.T.DecodeValue.decode_value_answers (head_of c.args.header) (g.R.Reader.state c.args.reader.now) (Ok v) (g.R.Reader.state c.decode_value.new.reader)) (sym c.in-Ok.ensures.ok)
     (c.in_ok-value.ensures.exact reliable)) refl
 
 pub returns-clause-exact : goal.returns-clause-exact

@@ -12,8 +12,8 @@ returns-in_err-first-clause-exact g c =
 pub returns-in_err-second-clause-complete : goal.returns-in_err-second-clause-complete
 returns-in_err-second-clause-complete g c v m reliable working ahead deep =
     let p = err_from_is_err_and c.from_residual-in_err-second.result c.from_residual-in_err-second.ensures.1 in
-    rw (p.1, p.2) (second_lacks g.A.Decode.heads g.B.Decode.heads g.A.Decode.needs g.B.Decode.needs g.A.Error.DecodeError.out_of_memory g.A.Decode.takes_memory g.B.Decode.takes_memory
-    (g.R.Reader.state c.args.reader.now) (g.R.Reader.state c.decode.new.reader) v m c.in_ok-first.first (g.R.Reader.state c.decode-2.new.reader) (g.met.R.Reader.lawful c.args.reader.now) c.decode.ensures.same working ahead deep
+    rw (p.1, p.2) (second_lacks g.A.Decode.stands_ahead g.B.Decode.stands_ahead g.A.Decode.decode_levels g.B.Decode.decode_levels g.A.Error.DecodeError.out_of_memory g.A.Decode.allocates g.B.Decode.allocates
+    (g.R.Reader.state c.args.reader.now) (g.R.Reader.state c.decode.new.reader) v m c.in_ok-first.first (g.R.Reader.state c.decode-2.new.reader) (g.met.R.Reader.sound_state c.args.reader.now) c.decode.ensures.same working ahead deep
     (λ w n. c.in_ok-first.ensures.complete w n reliable) c.in_err-second.field-0.0 (λ w n. c.in_err-second.ensures.complete w n reliable))
 
 pub returns-in_err-second-clause-exact : goal.returns-in_err-second-clause-exact
@@ -26,8 +26,8 @@ returns-clause-ok g c = fields_pass c.in_ok-first.ensures.ok c.in_ok-second.ensu
 
 pub returns-clause-complete : goal.returns-clause-complete
 returns-clause-complete g c v m reliable working ahead deep =
-    both_complete g.A.Decode.heads g.B.Decode.heads g.A.Decode.needs g.B.Decode.needs g.A.Error.DecodeError.out_of_memory g.A.Decode.takes_memory g.B.Decode.takes_memory
-    (g.R.Reader.state c.args.reader.now) (g.R.Reader.state c.decode.new.reader) v m c.in_ok-first.first (g.R.Reader.state c.decode-2.new.reader) (g.met.R.Reader.lawful c.args.reader.now) c.decode.ensures.same working ahead deep
+    both_complete g.A.Decode.stands_ahead g.B.Decode.stands_ahead g.A.Decode.decode_levels g.B.Decode.decode_levels g.A.Error.DecodeError.out_of_memory g.A.Decode.allocates g.B.Decode.allocates
+    (g.R.Reader.state c.args.reader.now) (g.R.Reader.state c.decode.new.reader) v m c.in_ok-first.first (g.R.Reader.state c.decode-2.new.reader) (g.met.R.Reader.sound_state c.args.reader.now) c.decode.ensures.same working ahead deep
     (λ w n. c.in_ok-first.ensures.complete w n reliable) c.in_ok-second.second (λ w n. c.in_ok-second.ensures.complete w n reliable)
 
 pub returns-clause-exact : goal.returns-clause-exact

@@ -13,6 +13,6 @@ returns-then-not-is_zero-clause-exact g c =
 
 pub returns-clause-exact : goal.returns-clause-exact
 returns-clause-exact g c =
-    let law = g.met.Self.Reader.lawful c.args.self.now in
+    let law = g.met.Self.Reader.sound_state c.args.self.now in
     close_whole (g.Self.Reader.state c.args.self.now) (g.Self.Reader.state c.leave_nested-2.new.self) c.is_zero.result c.remaining_len-left.result c.in-Ok.value law.ordered c.in-Ok.is
     c.leave_nested-2.ensures c.remaining_len-left.ensures c.is_zero.ensures.0 c.if-not-is_zero.false refl

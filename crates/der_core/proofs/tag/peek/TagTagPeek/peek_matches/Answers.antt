@@ -9,7 +9,7 @@ returns-clause-exact g c owed = tag_ahead_is c.in_ok-tag.tag c.has.result (peeks
 
 pub returns-in_err-tag-clause-exact : goal.returns-in_err-tag-clause-exact
 returns-in_err-tag-clause-exact g c =
-    let law = g.met.R.Reader.lawful c.args.reader.now in
+    let law = g.met.R.Reader.sound_state c.args.reader.now in
     let p = err_from_is_err_and c.from_residual.result c.from_residual.ensures.1 in
     let some : (g.R.Reader.state c.args.reader.now).end ≢ (g.R.Reader.state c.args.reader.now).position =
     λ none. (let no : false ≡ true = sym c.if-is_finished.false ∙ c.is_finished.ensures.1 none in cc) in
