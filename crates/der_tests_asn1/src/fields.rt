@@ -1,5 +1,5 @@
 //! Fields that may be absent, and elements of any tag.
-use crate::checks::{holds, same_at};
+use der_fixtures::checks::{holds, same_at};
 use der::{
     Decode, DecodeBytes, Encode, Error, ErrorKind, Length, Reader, SliceReader, Tag, TagNumber,
 };

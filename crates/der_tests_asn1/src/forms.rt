@@ -1,5 +1,5 @@
 //! Contents that have a form of X.690, and contents that have it not.
-use crate::checks::same_at;
+use der_fixtures::checks::same_at;
 use der::{DecodeBytes, Error, ErrorKind, Length, Tag};
 use der_asn1::{
     BitStringRef, BooleanRef, Ia5StringRef, IntRef, Null, ObjectIdentifierRef, OctetStringRef,

@@ -2,6 +2,6 @@
 #![tactic(auto)]
 
 #[cfg(test)]
-mod checks;
+mod basic;
 #[cfg(test)]
-mod octets;
+mod distinguished;

@@ -1,12 +1,16 @@
-//! Tests of the values of `der_base`, of orders by encodings, and of writing by `der_core`, made from
-//! outside as a user makes them.
+//! Tests of the values of `der_base` and of their printed texts, which no clause compares with outside
+//! examples.
 #![tactic(auto)]
 
 #[cfg(test)]
-mod checks;
+mod class;
 #[cfg(test)]
-mod octets;
+mod error;
 #[cfg(test)]
-mod orders;
+mod length;
 #[cfg(test)]
-mod values;
+mod names;
+#[cfg(test)]
+mod recorder;
+#[cfg(test)]
+mod tag;

@@ -1,6 +1,6 @@
 //! Elements of indefinite lengths, cut behind each of their octets.
 use super::*;
-use crate::checks::{same, same_at};
+use der_fixtures::checks::{same, same_at};
 use crate::readers::next_element;
 use std::process::Abort;
 

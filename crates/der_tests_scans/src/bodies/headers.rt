@@ -1,6 +1,6 @@
 //! Headers with lengths of the indefinite form, and those that are refused before or behind a scan.
 use super::*;
-use crate::checks::{same, same_at};
+use der_fixtures::checks::{same, same_at};
 use crate::readers::{next_header, next_length};
 use std::process::Abort;
 

@@ -3,7 +3,7 @@ ghost use Rattle.std.specs.Prelude.{◌≡◌};
 ghost use Rattle.der.specs.Prelude.{Same};
 
 use super::*;
-use crate::checks::{same, same_at};
+use der_fixtures::checks::{same, same_at};
 use crate::readers::next_element;
 use der::close_value;
 use std::process::Abort;

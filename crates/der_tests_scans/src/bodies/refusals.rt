@@ -5,7 +5,7 @@ ghost use Rattle.der.specs.Prelude.{Ber};
 
 use super::scans::{body_ahead, pass_body};
 use super::*;
-use crate::checks::same_at;
+use der_fixtures::checks::same_at;
 use crate::readers::next_element;
 use std::process::Abort;
 

@@ -1,7 +1,7 @@
 //! Every beginning of elements in segments: each is refused where it was cut.
 use super::levels::{Forms, nested};
 use super::*;
-use crate::checks::same_at;
+use der_fixtures::checks::same_at;
 use crate::elements::joined_of_ber;
 use der::example::JoinedOctets;
 use std::process::Abort;

@@ -1,6 +1,6 @@
 //! Contents that stand as they are or in segments.
 use super::*;
-use crate::checks::{same, same_at};
+use der_fixtures::checks::{same, same_at};
 use der::close_value;
 use std::process::Abort;
 

@@ -1,6 +1,6 @@
 //! Octets and texts that are borrowed where the reader lends.
 use super::*;
-use crate::checks::{holds, same};
+use der_fixtures::checks::{holds, same};
 use der::encode_value_to_slice;
 use std::process::Abort;
 

@@ -1,6 +1,6 @@
 //! The types of `example` over octets and texts.
 use super::*;
-use crate::checks::{holds, same};
+use der_fixtures::checks::{holds, same};
 use crate::elements::{borrowed_of_der, borrowed_to_der, text_of_der, text_to_der};
 use std::process::Abort;
 

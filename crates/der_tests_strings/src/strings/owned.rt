@@ -1,6 +1,6 @@
 //! Octets and texts in memory of their own.
 use super::*;
-use crate::checks::{holds, same};
+use der_fixtures::checks::{holds, same};
 use der::{box_to_ref, slice_to_owned};
 use std::process::Abort;
 

@@ -6,7 +6,7 @@ ghost use Rattle.der.specs.BytesCow.{cow_octets};
 ghost use Rattle.der.specs.Octets.{IsCounted, TakesOctets, LentOctetsRead, octets_lawful, octets_size, OctetsWritten};
 
 use super::*;
-use crate::checks::{holds, same};
+use der_fixtures::checks::{holds, same};
 use der::{FixedTag, Lawful, ReadValue, Writer, WrittenValue};
 
 #[derive(Drop)]

@@ -1,7 +1,0 @@
-//! Tests of reading by `der_core`, made from outside as a user makes them.
-#![tactic(auto)]
-
-#[cfg(test)]
-mod checks;
-#[cfg(test)]
-mod octets;

@@ -1,7 +1,0 @@
-//! Tests of the Basic Encoding Rules, made from outside as a user makes them.
-#![tactic(auto)]
-
-#[cfg(test)]
-mod checks;
-#[cfg(test)]
-mod octets;

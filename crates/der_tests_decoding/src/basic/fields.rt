@@ -1,0 +1,132 @@
+//! A SEQUENCE of two fields, of which each length may have either form.
+use super::*;
+use der_fixtures::checks::{same, same_at, same_octets};
+use der::Encode;
+use der_uses::algorithm_identifier::AlgorithmIdentifier;
+use der_uses::lent::Lent;
+
+fn identifier_of(alloc: Global, octets: &[u8]) -> Result<AlgorithmIdentifier<'_>, Error> {
+    AlgorithmIdentifier::from_ber(alloc, octets)
+}
+
+// Four spellings of one value, of which the Distinguished Encoding Rules have the first alone.
+#[test]
+fn spellings_of_an_identifier(rt: HostRuntime) -> Result<(), Fail> {
+    let der: &[u8] = &[0x30, 0x06, 0x04, 0x01, 0x2A, 0x04, 0x01, 0x09];
+    let spellings: [&[u8]; 4] = [
+        der,
+        &[0x30, 0x06, 0x24, 0x01, 0x2A, 0x24, 0x01, 0x09],
+        &[0x30, 0x80, 0x04, 0x01, 0x2A, 0x04, 0x01, 0x09, 0x00, 0x00],
+        &[0x30, 0x80, 0x24, 0x01, 0x2A, 0x04, 0x01, 0x09, 0x00, 0x00],
+    ];
+    for octets in spellings {
+        let identifier = identifier_of(rt.alloc(), octets)?;
+        same_octets(&rt, identifier.algorithm.octets, &[0x2A]);
+        same(&rt, identifier.month.month(), 9);
+        let written = identifier.to_der(rt.alloc())?;
+        same_octets(&rt, written.as_slice(), der);
+    }
+    Ok(())
+}
+
+#[test]
+fn an_identifier_among_others(rt: HostRuntime) -> Result<(), Fail> {
+    let octets = [
+        0x30, 0x80, 0x04, 0x00, 0x04, 0x01, 0x0B, 0x00, 0x00, 0x04, 0x01, 0x02,
+    ];
+    let mut reader = ber_reader(&octets)?;
+    let identifier: AlgorithmIdentifier<'_> = reader.decode(rt.alloc())?;
+    same_octets(&rt, identifier.algorithm.octets, &[]);
+    same(&rt, identifier.month.month(), 11);
+    same(&rt, reader.place(), (9, 12, false));
+    same(&rt, next_month(rt.alloc(), &mut reader), Ok(2));
+    same(&rt, finished(reader), Ok(()));
+    Ok(())
+}
+
+// The segments of a string are lent as they stand, without the end mark behind them.
+#[test]
+fn segments_that_are_lent(rt: HostRuntime) -> Result<(), Fail> {
+    let rows: [(&[u8], &[u8]); 2] = [
+        (
+            &[0x24, 0x80, 0x04, 0x02, 0xAA, 0xBB, 0x04, 0x00, 0x00, 0x00],
+            &[0x04, 0x02, 0xAA, 0xBB, 0x04, 0x00],
+        ),
+        (&[0x24, 0x80, 0x00, 0x00], &[]),
+    ];
+    for (octets, segments) in rows {
+        let lent = Lent::from_ber(rt.alloc(), octets)?;
+        same_octets(&rt, lent.octets, segments);
+    }
+    Ok(())
+}
+
+#[test]
+fn fields_that_are_refused(rt: HostRuntime) {
+    let rows: [(&[u8], Error); 5] = [
+        (
+            // a field is missing
+            &[0x30, 0x80, 0x04, 0x01, 0x2A, 0x00, 0x00],
+            incomplete(6, 5, 5),
+        ),
+        (
+            // octets are left inside
+            &[
+                0x30, 0x80, 0x04, 0x01, 0x2A, 0x04, 0x01, 0x09, 0x05, 0x00, 0x00, 0x00,
+            ],
+            trailing(8, 2),
+        ),
+        (
+            // octets are left behind
+            &[
+                0x30, 0x80, 0x04, 0x01, 0x2A, 0x04, 0x01, 0x09, 0x00, 0x00, 0x00,
+            ],
+            trailing(10, 1),
+        ),
+        (
+            // the end mark is missing
+            &[0x30, 0x80, 0x04, 0x01, 0x2A, 0x04, 0x01, 0x09],
+            incomplete(9, 8, 8),
+        ),
+        (
+            // a field has another tag
+            &[0x30, 0x80, 0x04, 0x01, 0x2A, 0x02, 0x01, 0x09, 0x00, 0x00],
+            unexpected(Tag::OctetString, Tag::Integer),
+        ),
+    ];
+    for (octets, error) in rows {
+        let refused = identifier_of(rt.alloc(), octets).err();
+        same_at(&rt, error, refused, Some(error));
+    }
+}
+
+#[test]
+fn spellings_under_der(rt: HostRuntime) {
+    let rows: [(&[u8], Error); 2] = [
+        (
+            &[0x30, 0x80, 0x04, 0x01, 0x2A, 0x04, 0x01, 0x09, 0x00, 0x00],
+            indefinite(2),
+        ),
+        (
+            &[0x30, 0x06, 0x24, 0x01, 0x2A, 0x04, 0x01, 0x09],
+            unknown(0x24, 3),
+        ),
+    ];
+    for (octets, error) in rows {
+        let refused = AlgorithmIdentifier::from_der(rt.alloc(), octets).err();
+        same_at(&rt, error, refused, Some(error));
+    }
+}
+
+#[test]
+fn a_field_without_lending(rt: HostRuntime) -> Result<(), Fail> {
+    let mut reader = ber_unlent(&[0x24, 0x80, 0x04, 0x00, 0x00, 0x00])?;
+    let refused = Lent::decode(rt.alloc(), &mut reader).err();
+    same(&rt, refused, Some(ErrorKind::Reader.at(Length::new(2))));
+    same(&rt, reader.place(), (2, 6, false));
+    let mut reader = ber_unlent(&[0x24, 0x01, 0x09])?;
+    let month = MyByteMonth::decode(rt.alloc(), &mut reader)?;
+    same(&rt, month.month(), 9);
+    same(&rt, reader.place(), (3, 3, false));
+    Ok(())
+}

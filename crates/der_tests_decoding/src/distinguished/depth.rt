@@ -1,0 +1,44 @@
+//! Values inside as many parts as there may be.
+use super::*;
+use der_fixtures::checks::same;
+
+// A reader of three octets inside so many parts, each of them all.
+fn reader_inside(octets: &[u8; 3], parts: u8) -> Result<SliceReader<'_>, Error> {
+    let mut reader = der_reader(octets)?;
+    for _ in 0..parts {
+        reader.enter_nested(Length::new(3))?;
+    }
+    Ok(reader)
+}
+
+#[test]
+fn a_month_inside_63_parts(rt: HostRuntime) -> Result<(), Fail> {
+    let octets = [0x04, 0x01, 0x09];
+    let mut reader = reader_inside(&octets, 63)?;
+    same(&rt, decoded_month(rt.alloc(), &mut reader), Ok(9));
+    same(&rt, reader.place(), (3, 3, false));
+    Ok(())
+}
+
+#[test]
+fn a_month_inside_64_parts(rt: HostRuntime) -> Result<(), Fail> {
+    let octets = [0x04, 0x01, 0x09];
+    let mut reader = reader_inside(&octets, 64)?;
+    let too_deep = ErrorKind::NestingDepth.at(Length::new(2));
+    let month = decoded_month(rt.alloc(), &mut reader);
+    same(&rt, month, Err(too_deep));
+    same(&rt, reader.place(), (2, 3, true));
+    Ok(())
+}
+
+#[test]
+fn a_tag_inside_64_parts(rt: HostRuntime) -> Result<(), Fail> {
+    let octets = [0x04, 0x01, 0x09];
+    let mut reader = reader_inside(&octets, 64)?;
+    same(
+        &rt,
+        Tag::decode(rt.alloc(), &mut reader),
+        Ok(Tag::OctetString),
+    );
+    Ok(())
+}

@@ -1,0 +1,58 @@
+//! Contents whose lengths have each of the forms.
+use super::*;
+use der_fixtures::checks::same_at;
+use der_uses::lent::Lent;
+use std::process::Abort;
+
+// The contents whose encoding all the octets are.
+fn contents_of(alloc: Global, octets: &[u8]) -> Result<&[u8], Error> {
+    let lent: Lent<'_> = value_of(alloc, octets)?;
+    Ok(lent.octets)
+}
+
+// The contents at the front, and the octets behind them.
+fn contents_at_front(alloc: Global, octets: &[u8]) -> Result<(&[u8], &[u8]), Error> {
+    let (lent, rest): (Lent<'_>, &[u8]) = front_of(alloc, octets)?;
+    Ok((lent.octets, rest))
+}
+
+// The second octets behind the first.
+fn joined(alloc: Global, first: &[u8], second: &[u8]) -> Result<Vec<u8>, Fail> {
+    let mut octets = Vec::from_slice(alloc, first)?;
+    octets.extend_from_slice(second)?;
+    Ok(octets)
+}
+
+// The contents are written behind this header, and are read behind it, whether or not an octet
+// follows.
+fn both_ways(rt: &impl Abort, alloc: Global, header: &[u8], contents: &[u8]) -> Result<(), Fail> {
+    let count = contents.len();
+    let want = joined(alloc, header, contents)?;
+    let written = der_of(alloc, &Lent { octets: contents })?;
+    same_at(rt, count, written.as_slice(), want.as_slice());
+    same_at(rt, count, contents_of(alloc, want.as_slice()), Ok(contents));
+    let more = joined(alloc, written.as_slice(), &[0xFF])?;
+    let rest: &[u8] = &[0xFF];
+    let read = contents_at_front(alloc, more.as_slice());
+    same_at(rt, count, read, Ok((contents, rest)));
+    Ok(())
+}
+
+#[test]
+fn contents_of_each_form_both_ways(rt: HostRuntime) -> Result<(), Fail> {
+    let rows: [(usize, &[u8]); 8] = [
+        (0, &[0x04, 0x00]),
+        (1, &[0x04, 0x01]),
+        (127, &[0x04, 0x7F]),
+        (128, &[0x04, 0x81, 0x80]),
+        (255, &[0x04, 0x81, 0xFF]),
+        (256, &[0x04, 0x82, 0x01, 0x00]),
+        (65535, &[0x04, 0x82, 0xFF, 0xFF]),
+        (65536, &[0x04, 0x83, 0x01, 0x00, 0x00]),
+    ];
+    for (count, header) in rows {
+        let contents = vec![in rt.alloc(); 0x2Au8; count]?;
+        both_ways(&rt, rt.alloc(), header, contents.as_slice())?;
+    }
+    Ok(())
+}

@@ -1,0 +1,44 @@
+//! Lengths that are all the octets.
+use super::*;
+use der_fixtures::checks::{same, same_at};
+use der_fixtures::errors::indefinite;
+
+// The length that all the octets are.
+fn length_of(alloc: Global, bytes: &[u8]) -> Result<Length, Error> {
+    value_of(alloc, bytes)
+}
+
+#[test]
+fn lengths_both_ways(rt: HostRuntime) -> Result<(), Fail> {
+    let rows: [(u32, &[u8]); 8] = [
+        (0, &[0x00]),
+        (127, &[0x7F]),
+        (128, &[0x81, 0x80]),
+        (255, &[0x81, 0xFF]),
+        (256, &[0x82, 0x01, 0x00]),
+        (43707, &[0x82, 0xAA, 0xBB]),
+        (65536, &[0x83, 0x01, 0x00, 0x00]),
+        (4294967295, &[0x84, 0xFF, 0xFF, 0xFF, 0xFF]),
+    ];
+    for (number, octets) in rows {
+        let length = length_of(rt.alloc(), octets)?;
+        same_at(&rt, number, length, Length::new(number));
+        let der = der_of(rt.alloc(), &length)?;
+        same_at(&rt, number, der.as_slice(), octets);
+    }
+    Ok(())
+}
+
+#[test]
+fn lengths_that_are_refused(rt: HostRuntime) {
+    let rows: [(&[u8], Error); 5] = [
+        (&[0x81, 0x7F], ErrorKind::Overlength.at(Length::new(2))),
+        (&[0x80, 0x00, 0x00], indefinite(1)),
+        (&[], incomplete(1, 0, 0)),
+        (&[0x81], incomplete(2, 1, 1)),
+        (&[0x81, 0x80, 0x05], trailing(2, 1)),
+    ];
+    for (octets, error) in rows {
+        same_at(&rt, error, length_of(rt.alloc(), octets), Err(error));
+    }
+}

@@ -1,0 +1,79 @@
+//! Tags that are all the octets.
+use super::*;
+use der_fixtures::checks::{same, same_at};
+use der_fixtures::errors::{invalid_number, unknown};
+
+// The tag that all the octets are.
+fn tag_of(alloc: Global, bytes: &[u8]) -> Result<Tag, Error> {
+    value_of(alloc, bytes)
+}
+
+#[test]
+fn tags_both_ways(rt: HostRuntime) -> Result<(), Fail> {
+    let rows: [(Tag, &[u8]); 8] = [
+        (Tag::OctetString, &[0x04]),
+        (Tag::Sequence, &[0x30]),
+        (TagNumber(33).application(true), &[0x7F, 0x21]),
+        (
+            TagNumber(16385).application(false),
+            &[0x5F, 0x81, 0x80, 0x01],
+        ),
+        (
+            TagNumber(16383).context_specific(false),
+            &[0x9F, 0xFF, 0x7F],
+        ),
+        (
+            TagNumber(16384).context_specific(false),
+            &[0x9F, 0x81, 0x80, 0x00],
+        ),
+        (
+            TagNumber(2097153).context_specific(false),
+            &[0x9F, 0x81, 0x80, 0x80, 0x01],
+        ),
+        (
+            TagNumber(4294967295).private(false),
+            &[0xDF, 0x8F, 0xFF, 0xFF, 0xFF, 0x7F],
+        ),
+    ];
+    for (tag, octets) in rows {
+        same_at(&rt, tag, tag_of(rt.alloc(), octets), Ok(tag));
+        let der = der_of(rt.alloc(), &tag)?;
+        same_at(&rt, tag, der.as_slice(), octets);
+    }
+    Ok(())
+}
+
+#[test]
+fn numbers_that_are_refused(rt: HostRuntime) {
+    let rows: [(&[u8], u32); 6] = [
+        (&[0xDF, 0x9F, 0x8F, 0x8F, 0x8F, 0x0F], 5),
+        (&[0x7F, 0x90, 0x80, 0x80, 0x80, 0x00], 5),
+        (&[0xBF, 0x8F, 0xFF, 0xFF, 0xFF, 0xFF, 0x7F], 6),
+        (&[0xFF, 0x03], 2),
+        (&[0x5F, 0x80, 0x20], 2),
+        (&[0x1F, 0xFF], 1),
+    ];
+    for (octets, position) in rows {
+        let invalid = Err(invalid_number(position));
+        same_at(&rt, position, tag_of(rt.alloc(), octets), invalid);
+    }
+}
+
+#[test]
+fn tags_that_are_unknown_or_cut(rt: HostRuntime) {
+    let alloc = rt.alloc();
+    for byte in [0x3F, 0x21] {
+        same(&rt, tag_of(alloc, &[byte]), Err(unknown(byte, 1)));
+    }
+    same(&rt, tag_of(alloc, &[0x5F, 0x9E]), Err(incomplete(3, 2, 2)));
+    same(&rt, tag_of(alloc, &[]), Err(incomplete(1, 0, 0)));
+}
+
+#[test]
+fn octets_behind_a_tag(rt: HostRuntime) {
+    same(
+        &rt,
+        tag_of(rt.alloc(), &[0x7F, 0x21, 0x00]),
+        Err(trailing(2, 1)),
+    );
+}

@@ -1,0 +1,114 @@
+//! Octet 24: the identifier of a string of segments, which the Basic Encoding Rules alone know.
+use super::*;
+use der_fixtures::checks::{same, same_at, same_octets};
+use der::{Encode, TagPeek};
+
+fn tag_under_ber(alloc: Global, octets: &[u8]) -> Result<Tag, Error> {
+    Tag::from_ber(alloc, octets)
+}
+
+fn tag_under_der(alloc: Global, octets: &[u8]) -> Result<Tag, Error> {
+    Tag::from_der(alloc, octets)
+}
+
+#[test]
+fn a_constructed_string(rt: HostRuntime) -> Result<(), Fail> {
+    let mut reader = ber_reader(&[0x24, 0x01, 0x09])?;
+    let header = next_header(&mut reader)?;
+    same(&rt, header.tag(), Tag::OctetString);
+    same(&rt, header.is_constructed(), true);
+    same(&rt, header.length(), Length::ONE);
+    same(&rt, reader.place(), (2, 3, false));
+    let mut unlent = ber_unlent(&[0x24, 0x01, 0x09])?;
+    same(&rt, decode_header(&mut unlent), Ok(header));
+    same(&rt, unlent.place(), (2, 3, false));
+    Ok(())
+}
+
+// The constructed bit tells two headers apart that say the same else.
+#[test]
+fn a_primitive_string(rt: HostRuntime) -> Result<(), Fail> {
+    let primitive = header_of(rt.alloc(), &[0x04, 0x00])?;
+    same(&rt, primitive, Header::new(Tag::OctetString, Length::ZERO));
+    let constructed = header_of(rt.alloc(), &[0x24, 0x00])?;
+    same(&rt, constructed == primitive, false);
+    same(&rt, constructed.is_constructed(), true);
+    Ok(())
+}
+
+#[test]
+fn a_string_of_segments(rt: HostRuntime) -> Result<(), Fail> {
+    let octets = [0x24, 0x80, 0x04, 0x01, 0xAA, 0x04, 0x00, 0x00, 0x00];
+    let mut reader = ber_reader(&octets)?;
+    let segments = Header::new(Tag::OctetString, Length::new_indefinite(7));
+    same(&rt, next_header(&mut reader), Ok(segments));
+    same(&rt, reader.place(), (2, 9, false));
+    Ok(())
+}
+
+#[test]
+fn the_tag_alone(rt: HostRuntime) -> Result<(), Fail> {
+    let alloc = rt.alloc();
+    same(&rt, tag_under_ber(alloc, &[0x24]), Ok(Tag::OctetString));
+    same(&rt, tag_under_ber(alloc, &[0x04]), Ok(Tag::OctetString));
+    same(&rt, tag_under_der(alloc, &[0x24]), Err(unknown(0x24, 1)));
+    same(
+        &rt,
+        tag_under_ber(alloc, &[0x24, 0x00]),
+        Err(trailing(1, 1)),
+    );
+    let mut reader = ber_reader(&[0x24, 0x04])?;
+    let constructed = Tag::decode_with_constructed_bit(&mut reader);
+    same(&rt, constructed, Ok((Tag::OctetString, true)));
+    let primitive = Tag::decode_with_constructed_bit(&mut reader);
+    same(&rt, primitive, Ok((Tag::OctetString, false)));
+    Ok(())
+}
+
+// What was read of it is written without the constructed bit, and a length in the definite form.
+#[test]
+fn what_is_written(rt: HostRuntime) -> Result<(), Fail> {
+    let tag = tag_under_ber(rt.alloc(), &[0x24])?;
+    same_octets(&rt, tag.to_der(rt.alloc())?.as_slice(), &[0x04]);
+    let mut reader = ber_reader(&[0x24, 0x80, 0x00, 0x00])?;
+    let rows: [(Header, &[u8]); 2] = [
+        (header_of(rt.alloc(), &[0x24, 0x01])?, &[0x04, 0x01]),
+        (next_header(&mut reader)?, &[0x04, 0x02]),
+    ];
+    for (header, der) in rows {
+        same_octets(&rt, header.to_der(rt.alloc())?.as_slice(), der);
+    }
+    Ok(())
+}
+
+// No other octet is read as another tag than under the Distinguished Encoding Rules.
+#[test]
+fn octets_that_both_rules_read_alike(rt: HostRuntime) {
+    let alloc = rt.alloc();
+    let refused = [
+        0x00, 0x07, 0x08, 0x0B, 0x0E, 0x0F, 0x10, 0x11, 0x20, 0x21, 0x22, 0x23, 0x25, 0x26, 0x2C,
+        0x32, 0x33, 0x36, 0x3A, 0x3E, 0x3F,
+    ];
+    for octet in refused {
+        let error = unknown(octet, 1);
+        same_at(&rt, error, tag_under_ber(alloc, &[octet]), Err(error));
+        same_at(&rt, error, tag_under_der(alloc, &[octet]), Err(error));
+    }
+    let invalid = invalid_number(1);
+    same(&rt, tag_under_ber(alloc, &[0x1F]), Err(invalid));
+    same(&rt, tag_under_der(alloc, &[0x1F]), Err(invalid));
+    for octet in 0..=255u8 {
+        if octet != 0x24 {
+            let under_der = tag_under_der(alloc, &[octet]);
+            same_at(&rt, octet, tag_under_ber(alloc, &[octet]), under_der);
+        }
+    }
+}
+
+#[test]
+fn a_constructed_string_under_der(rt: HostRuntime) -> Result<(), Fail> {
+    let mut reader = der_reader(&[0x24, 0x01, 0x09])?;
+    same(&rt, next_header(&mut reader), Err(unknown(0x24, 1)));
+    same(&rt, reader.place(), (1, 3, true));
+    Ok(())
+}

@@ -1,0 +1,89 @@
+//! Whole elements whose lengths have the indefinite form.
+ghost use Rattle.std.specs.Prelude.{◌≡◌};
+ghost use Rattle.der.specs.Prelude.{Same, slice_state};
+
+use super::*;
+use der_fixtures::checks::{same, same_at, same_octets};
+use der::TagNumber;
+use der_fixtures::bodies::ENCRYPTED_CONTENT_INFO;
+
+#[test]
+fn an_element_among_others(rt: HostRuntime) -> Result<(), Fail> {
+    let octets = [0x30, 0x80, 0x05, 0x00, 0x00, 0x00, 0x02, 0x01, 0x2A];
+    let mut reader = ber_reader(&octets)?;
+    let null = [0x30, 0x80, 0x05, 0x00, 0x00, 0x00];
+    same_octets(&rt, next_element(&mut reader)?, &null);
+    same(&rt, reader.place(), (6, 9, false));
+    same_octets(&rt, next_element(&mut reader)?, &[0x02, 0x01, 0x2A]);
+    same(&rt, finished(reader), Ok(()));
+    Ok(())
+}
+
+// An element is as long as what was read of it says, also where its number would take more octets
+// in the definite form than the one octet 80.
+#[test]
+fn elements_of_each_length(rt: HostRuntime) -> Result<(), Fail> {
+    for count in [0u8, 1, 122, 123, 124, 125, 126, 127] {
+        let element = around_contents(rt.alloc(), count)?;
+        let octets = element.as_slice();
+        let end = count as u32 + 6;
+        let mut reader = ber_reader(octets)?;
+        same_at(&rt, count, next_element(&mut reader)?, octets);
+        same_at(&rt, count, reader.place(), (end, end, false));
+    }
+    Ok(())
+}
+
+#[test]
+fn an_element_without_lending(rt: HostRuntime) -> Result<(), Fail> {
+    let mut reader = ber_unlent(&[0x30, 0x80, 0x00, 0x00])?;
+    let refused = ErrorKind::Reader.at(Length::ZERO);
+    same(&rt, reader.tlv_bytes().err(), Some(refused));
+    same(&rt, reader.place(), (0, 4, false));
+    Ok(())
+}
+
+#[test]
+fn a_primitive_identifier_before_octet_80(rt: HostRuntime) -> Result<(), Fail> {
+    let mut reader = ber_reader(&[0x04, 0x80, 0x00, 0x00])?;
+    same(&rt, refused_element(&mut reader), Some(indefinite(2)));
+    same(&rt, reader.place(), (0, 4, false));
+    Ok(())
+}
+
+#[test]
+fn encrypted_contents(rt: HostRuntime) -> Result<(), Fail> {
+    let mut reader = ber_reader(&ENCRYPTED_CONTENT_INFO)?;
+    let header = next_header(&mut reader)?;
+    let info = Header::new(Tag::Sequence, Length::new_indefinite(66));
+    same(&rt, header, info);
+    same(&rt, reader.place(), (2, 68, false));
+    same(&rt, next_element(&mut reader)?.len(), 11);
+    same(&rt, next_element(&mut reader)?.len(), 31);
+    same(&rt, reader.place(), (44, 68, false));
+    let header = Header::decode(rt.alloc(), &mut reader)?;
+    same(&rt, header.tag(), TagNumber(0).context_specific(true));
+    same(&rt, header.length(), Length::new_indefinite(20));
+    same(&rt, reader.place(), (46, 68, false));
+    Ok(())
+}
+
+// The last of three elements, and how many octets each of them has.
+fn read_three<'a>(reader: &mut SliceReader<'a>) -> Result<(&'a [u8], usize, usize), Error>
+    ensures { Same (slice_state reader.old) (slice_state reader.new) }
+{
+    let first = reader.tlv_bytes()?.len();
+    let second = reader.tlv_bytes()?.len();
+    Ok((reader.tlv_bytes()?, first, second))
+}
+
+#[test]
+fn encrypted_contents_in_their_sequence(rt: HostRuntime) -> Result<(), Fail> {
+    let mut reader = ber_reader(&ENCRYPTED_CONTENT_INFO)?;
+    let (contents, first, second) = reader.sequence(read_three)?;
+    same(&rt, (first, second), (11, 31));
+    same_octets(&rt, contents, &ENCRYPTED_CONTENT_INFO[44..66]);
+    same(&rt, reader.place(), (68, 68, false));
+    same(&rt, finished(reader), Ok(()));
+    Ok(())
+}

@@ -1,0 +1,16 @@
+//! Whether a reader lends, by its constant and by its function.
+use super::*;
+use der_fixtures::checks::same;
+use der_uses::reader::CopyingReader;
+use std::process::Abort;
+
+fn lending_agrees<R: Reader>(rt: &impl Abort, lends: bool) {
+    same(rt, R::CAN_READ_SLICE, lends);
+    same(rt, R::can_lend(), lends);
+}
+
+#[test]
+fn lending(rt: HostRuntime) {
+    lending_agrees::<SliceReader>(&rt, true);
+    lending_agrees::<CopyingReader>(&rt, false);
+}

@@ -1,0 +1,8 @@
+//! Tests of readers, and of the tags, lengths and headers that are read by them, made from outside
+//! as a user makes them.
+#![tactic(auto)]
+
+#[cfg(test)]
+mod basic;
+#[cfg(test)]
+mod distinguished;

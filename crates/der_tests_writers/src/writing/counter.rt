@@ -1,0 +1,85 @@
+//! A writer that counts its writes, through which the generic calls run a second time.
+ghost use Rattle.std.specs.Prelude.{true, false, []};
+
+use super::month::september;
+use super::*;
+use der_fixtures::checks::same;
+use der::{Encode, EncodeValue, Writer, encode_tlv};
+
+#[derive(Drop)]
+struct Counter {
+    octets: Vec<u8>,
+    writes: u32,
+}
+
+impl Writer for Counter {
+    // it vows nothing of the memory that is left, and so counts as failed
+    ghost state = { λ w. record {
+      octets = w.octets.items;
+      behind = [];
+      start = 0;
+      stop = 0;
+      capacity = 0;
+      failed = true;
+      reference = 0;
+    } };
+
+    ghost reliable = { false };
+
+    fn write(&mut self, octets: &[u8]) -> Result<(), Error> {
+        self.writes = self.writes.saturating_add(1);
+        match self.octets.extend_from_slice(octets) {
+            Ok(()) => Ok(()),
+            Err(_) => Err(ErrorKind::OutOfMemory.to_error()),
+        }
+    }
+}
+
+fn make_counter(alloc: Global) -> Counter {
+    Counter {
+        octets: Vec::new(alloc),
+        writes: 0,
+    }
+}
+
+#[test]
+fn the_writes_of_a_header(rt: HostRuntime) {
+    let header = Header::new(Tag::Sequence, Length::new(256));
+    let mut counter = make_counter(rt.alloc());
+    same(&rt, header.encode(&mut counter), Ok(()));
+    same(
+        &rt,
+        counter.octets.as_slice(),
+        [0x30, 0x82, 0x01, 0x00].as_slice(),
+    );
+    same(&rt, counter.writes, 3);
+}
+
+#[test]
+fn the_writes_of_a_long_tag(rt: HostRuntime) {
+    let mut counter = make_counter(rt.alloc());
+    let tag = TagNumber(16385).application(false);
+    same(&rt, tag.encode(&mut counter), Ok(()));
+    same(
+        &rt,
+        counter.octets.as_slice(),
+        [0x5F, 0x81, 0x80, 0x01].as_slice(),
+    );
+    same(&rt, counter.writes, 4);
+}
+
+#[test]
+fn the_writes_of_an_element(rt: HostRuntime) -> Result<(), Fail> {
+    let month = september()?;
+    let mut counter = make_counter(rt.alloc());
+    same(&rt, encode_tlv(&month, &mut counter), Ok(()));
+    same(
+        &rt,
+        counter.octets.as_slice(),
+        [0x04, 0x01, 0x09].as_slice(),
+    );
+    same(&rt, counter.writes, 3);
+    same(&rt, month.encode_value(&mut counter), Ok(()));
+    same(&rt, counter.writes, 4);
+    Ok(())
+}

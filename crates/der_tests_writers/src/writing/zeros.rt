@@ -1,0 +1,120 @@
+//! A type with contents of any length.
+ghost use Rattle.std.specs.Prelude.{◌≡◌, ◌+◌, ◌≤◌, false, Ok, IsOk, OnOk, length, replicate};
+ghost use Rattle.der.specs.Prelude.{definite_length, OctetString, Keeps, Appends};
+ghost use Rattle.der.specs.Writer.{Fits};
+
+use super::*;
+use der_fixtures::checks::same;
+use der::{Encode, EncodeValue, Tagged, Writer, WrittenValue, encoded_len_tlv, to_der_in};
+use linked_list_allocator::LocalHeap;
+
+// An OCTET STRING of so many zero octets.
+#[derive(Clone, Copy)]
+struct Zeros {
+    count: u32,
+}
+
+impl Tagged for Zeros {
+    ghost tag_of = { λ _. OctetString };
+
+    fn tag(&self) -> Tag {
+        Tag::OctetString
+    }
+}
+
+impl WrittenValue for Zeros {
+    ghost contents = { λ zeros. replicate zeros.count 0 };
+
+    ghost writable = { λ _. Unit {0} };
+}
+
+impl EncodeValue for Zeros {
+    ghost value_size = { λ zeros. Ok (definite_length zeros.count) };
+
+    // what its refusals are is left open
+    ghost encode_value_answers = { λ _ _ _ _. Unit {0} };
+
+    fn value_len(&self) -> Result<Length, Error> {
+        Ok(Length::new(self.count))
+    }
+
+    fn encode_value<W: Writer>(&self, writer: &mut W) -> Result<(), Error> {
+        write_zeros(writer, self.count)
+    }
+}
+
+fn write_zeros<W: Writer>(writer: &mut W, count: u32) -> Result<(), Error>
+    ensures kept { Keeps (W.state writer.old) (W.state writer.new) }
+    ensures ok { Appends (W.state writer.old) (replicate count 0) result (W.state writer.new) }
+    ensures succeeds { Fits (W.state writer.old) (replicate count 0) result }
+{
+    if count == 0 {
+        return Ok(());
+    }
+    write_zeros(writer, count - 1)?;
+    writer.write_byte(0)
+}
+
+#[test]
+fn elements_as_octets(rt: HostRuntime) -> Result<(), Fail> {
+    let none = Zeros { count: 0 }.to_der(rt.alloc())?;
+    same(&rt, none.as_slice(), [0x04, 0x00].as_slice());
+    let three = Zeros { count: 3 }.to_der(rt.alloc())?;
+    same(
+        &rt,
+        three.as_slice(),
+        [0x04, 0x03, 0x00, 0x00, 0x00].as_slice(),
+    );
+    let mut buf = [0xAA; 131];
+    let long = Zeros { count: 128 }.encode_to_slice(&mut buf)?;
+    same(&rt, long.len(), 131);
+    same(&rt, &long[..4], [0x04, 0x81, 0x80, 0x00].as_slice());
+    same(&rt, &long[127..], [0x00; 4].as_slice());
+    Ok(())
+}
+
+#[test]
+fn the_longest_element(rt: HostRuntime) {
+    let longest = Zeros { count: 4294967289 };
+    same(&rt, longest.encoded_len(), Ok(Length::MAX));
+}
+
+#[test]
+fn elements_that_are_too_long(rt: HostRuntime) -> Result<(), Fail> {
+    let zeros = Zeros { count: 4294967290 };
+    let overflow = ErrorKind::Overflow.to_error();
+    same(&rt, zeros.encoded_len(), Err(overflow));
+    same(&rt, encoded_len_tlv(&zeros), Err(overflow));
+    same(&rt, zeros.to_der(rt.alloc()).err(), Some(overflow));
+    Ok(())
+}
+
+// The refusal asks for no memory: none is left.
+#[test]
+fn an_element_that_is_too_long_for_any_memory(rt: HostRuntime) -> Result<(), Fail> {
+    let heap = LocalHeap::new(rt.alloc(), 32)?;
+    let _all = Vec::from_slice(&heap, &[0u8; 20])?;
+    let zeros = Zeros { count: 4294967290 };
+    let overflow = ErrorKind::Overflow.to_error();
+    same(&rt, to_der_in(&heap, &zeros).err(), Some(overflow));
+    let refused = to_der_in(&heap, &Zeros { count: 0 }).err();
+    same(&rt, refused, Some(ErrorKind::OutOfMemory.to_error()));
+    Ok(())
+}
+
+#[test]
+fn an_element_that_is_too_long_for_a_vector(rt: HostRuntime) -> Result<(), Fail> {
+    let mut out = Vec::from_slice(rt.alloc(), &[0xBBu8])?;
+    let overflow = ErrorKind::Overflow.to_error();
+    let zeros = Zeros { count: 4294967290 };
+    same(&rt, zeros.encode_to_vec(&mut out), Err(overflow));
+    same(&rt, out.as_slice(), [0xBB].as_slice());
+    Ok(())
+}
+
+#[test]
+fn contents_for_which_there_is_no_room(rt: HostRuntime) {
+    let mut buf = [0; 4];
+    let refused = Zeros { count: 3 }.encode_to_slice(&mut buf).err();
+    same(&rt, refused, Some(ErrorKind::Overlength.at(Length::new(5))));
+}
