@@ -9,10 +9,13 @@ ghost use Rattle.der_core.specs.Decode.{Decodes, Peeks, grammar_levels};
 ghost use Rattle.der_core.specs.Encode.{FitsCounted, header_outcome};
 ghost use Rattle.der_core.specs.Header.{head_of, HeaderAhead};
 ghost use Rattle.der_core.specs.Writer.{Keeps, Appends, Writes};
+ghost use Rattle.der_base.specs.Order.{byte_order};
+ghost use Rattle.der_base.proofs.DelimitedLemmas.{headers_delimited};
 
 use crate::decode::Decode;
 use crate::encode::Encode;
 use crate::length::{INDEFINITE, decode_length_behind};
+use crate::ord::DerOrd;
 use crate::reader::{Octets, Reader, ReaderExt};
 use crate::tag::{
     decode_identifier, first_octet_of, guessed_tag, has_constructed_bit, is_identifier,
@@ -20,6 +23,7 @@ use crate::tag::{
 use crate::writer::Writer;
 use der_base::{Error, ErrorKind, Length, Tag};
 use std::alloc::Global;
+use std::cmp::Ordering;
 
 /// The header of an element: its tag, the length of its contents, and whether the identifier has
 /// the constructed bit (X.690 8.1.2, 8.1.3).
@@ -302,5 +306,32 @@ impl Encode for Header {
             }
         }
         self.encode_in_pieces(writer)
+    }
+}
+
+/// The tags decide, and then the lengths; neither the constructed bit of the header nor whether its
+/// length was read in the indefinite form plays a part. It is never refused.
+impl DerOrd for Header {
+    ghost order = { λ h g. Ok (byte_order
+        (header_octets (head_of h).tag (number (head_of h).length))
+        (header_octets (head_of g).tag (number (head_of g).length))) };
+
+    ghost octets = { λ h. header_octets (head_of h).tag (number (head_of h).length) };
+
+    ghost by_octets = { λ _ _. Unit {0} };
+
+    ghost has_header = { λ _. Unit {0} };
+
+    ghost delimits = { Unit {0} };
+
+    ghost delimited = { λ _. headers_delimited head_of };
+
+    #[inline]
+    #[tactic(auto, using(der_base::proofs::OrderLemmas::header_order))]
+    fn der_cmp(&self, other: &Self) -> Result<Ordering, Error> {
+        match self.tag().der_cmp(&other.tag())? {
+            Ordering::Equal => self.length().der_cmp(&other.length()),
+            ordering => Ok(ordering),
+        }
     }
 }

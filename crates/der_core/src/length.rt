@@ -9,6 +9,8 @@ ghost use Rattle.der_core.specs.Decode.{Decodes, grammar_levels};
 ghost use Rattle.der_core.specs.Encode.{length_outcome};
 ghost use Rattle.der_core.specs.ReaderState.{Same};
 ghost use Rattle.der_core.specs.Writer.{Writes};
+ghost use Rattle.std.specs.Ordering.{nat_cmp};
+ghost use Rattle.der_base.proofs.DelimitedLemmas.{lengths_delimited};
 
 pub mod indefinite;
 pub mod turns;
@@ -16,11 +18,13 @@ pub mod turns;
 use crate::decode::Decode;
 use crate::encode::Encode;
 use crate::length::indefinite::scan_uncounted;
+use crate::ord::DerOrd;
 use crate::reader::{Reader, ReaderExt};
 use crate::tag::tag_of_identifier;
 use crate::writer::Writer;
 use der_base::{Error, ErrorKind, Length};
 use std::alloc::Global;
+use std::cmp::Ordering;
 
 // the octet of the indefinite form
 pub(crate) const INDEFINITE: u8 = 0x80;
@@ -202,5 +206,27 @@ impl Encode for Length {
         }
         writer.write_byte(0x80 + digits as u8)?;
         writer.write(&number.to_be_bytes()[4 - digits as usize..])
+    }
+}
+
+/// The numbers decide, as their octets do (X.690 8.1.3); whether a length was read in the
+/// indefinite form plays no part. It is never refused.
+impl DerOrd for Length {
+    ghost order = { λ l k. Ok (nat_cmp (number l) (number k)) };
+
+    ghost octets = { λ l. length_octets (number l) };
+
+    ghost by_octets = { λ _ _. Unit {0} };
+
+    ghost has_header = { λ _. Unit {0} };
+
+    ghost delimits = { Unit {0} };
+
+    ghost delimited = { λ _. lengths_delimited };
+
+    #[inline]
+    #[tactic(auto, using(der_base::proofs::OrderLemmas::length_order))]
+    fn der_cmp(&self, other: &Self) -> Result<Ordering, Error> {
+        Ok(u32::from(*self).cmp(&u32::from(*other)))
     }
 }

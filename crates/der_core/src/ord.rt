@@ -7,12 +7,9 @@ ghost use Rattle.der_core.specs.Encode.{element_octets};
 
 mod boxed;
 mod element;
-mod header;
 mod items;
-mod length;
 mod phantom;
 mod reference;
-mod tag;
 mod value;
 
 use crate::encode::EncodeValue;

@@ -22,7 +22,7 @@ use Rattle.der.proofs.ElementLemmas.{entered_part}
 use Rattle.der.proofs.LawfulLemmas.{elements_are_encodings, passed_encodings}
 use Rattle.der.proofs.StateLemmas.{length-rest, position_on, reads_none, reads_on, reads_front, rules_on, failed_on}
 use Rattle.der.specs.BorrowedOctets.{borrowed_octets, borrowed_lawful}
-use Rattle.der.specs.Octets.{IsCounted, TakesOctets, LentRead}
+use Rattle.der.specs.Octets.{IsCounted, TakesOctets, LentOctetsRead}
 use Rattle.der.specs.declared.example.borrowed_octets.BorrowedOctets.{BorrowedOctets}
 use Rattle.der_uses.specs.SetOf.{string_octets, joined_strings, MayFollow, set_octets, Ascend, IsReady, PassesStrings, ReadsAscending, OrderAnswer, ascending, falling}
 
@@ -41,7 +41,7 @@ closed_working : {marked : Bool} (q t : ReaderState) (end depth : ℕ) → Behin
 closed_working q t end depth (unmarked m e) w = ap (λ (x : ReaderState). x.failed) e ∙ w
 closed_working q t end depth (behind_mark m e) w = ap (λ (x : ReaderState). x.failed) e.leaves ∙ w
 
-element_working : {converts : Error → Error → Type 0} {s t : ReaderState} {v : BorrowedOctets} → ElementRead OctetString converts (LentRead borrowed_octets) s (Ok v) t → t.failed ≡ false
+element_working : {converts : Error → Error → Type 0} {s t : ReaderState} {v : BorrowedOctets} → ElementRead OctetString converts (LentOctetsRead borrowed_octets) s (Ok v) t → t.failed ≡ false
 element_working (no_header e f d told r) = absurd (cc)
 element_working (other_tag h f passed tagged told r) = absurd (cc)
 element_working {t = t} {v = v} (in_contents h u passed tagged answers) =
@@ -49,7 +49,7 @@ element_working {t = t} {v = v} (in_contents h u passed tagged answers) =
     closed_working ran.last t u.end u.depth ran.behind (lent_working _ ran.part ran.last (borrowed_octets v) ran.ran)
 
 -- a reader that has answered an OCTET STRING has not failed
-pub decoded_working : {converts : Error → Error → Type 0} {s t : ReaderState} {v : BorrowedOctets} → ReaderDecodes true (ElementRead OctetString converts (LentRead borrowed_octets)) converts s (Ok v) t → t.failed ≡ false
+pub decoded_working : {converts : Error → Error → Type 0} {s t : ReaderState} {v : BorrowedOctets} → ReaderDecodes true (ElementRead OctetString converts (LentOctetsRead borrowed_octets)) converts s (Ok v) t → t.failed ≡ false
 decoded_working (had_failed f refused leaves) = absurd refused
 decoded_working (decodes w ok answers) = element_working (answers refl)
 decoded_working (refuses u w refused answers leaves) = absurd (let no : false ≡ true = refused in cc)
@@ -57,7 +57,7 @@ decoded_working (refuses u w refused answers leaves) = absurd (let no : false �
 -- and has read its encoding
 pub string_read : {converts : Error → Error → Type 0} {s t : ReaderState} (result : Result BorrowedOctets Error) → s.rules ≡ Der
     → IfOk result (λ v. t.failed ≡ false → Passes (ElementAhead OctetString (TakesOctets IsCounted borrowed_octets) v) s t)
-    → ReaderDecodes true (ElementRead OctetString converts (LentRead borrowed_octets)) converts s result t → IfOk result (λ v. Reads s t (string_octets (borrowed_octets v)))
+    → ReaderDecodes true (ElementRead OctetString converts (LentOctetsRead borrowed_octets)) converts s result t → IfOk result (λ v. Reads s t (string_octets (borrowed_octets v)))
 string_read (Err e) der ok exact = tt
 string_read {s = s} {t = t} (Ok v) der ok exact = (passed_encodings (elements_are_encodings borrowed_lawful) s t v der (ok (decoded_working exact))).1
 

@@ -1,6 +1,6 @@
 use Rattle.std.proofs.Common.{arith, ℕ, ◌*◌, ◌+◌, ◌/◌, ◌%◌, ◌∙◌, sym, ap}
 use Rattle.der_core.proofs.TagOrderLemmas.{high_number_fits, long_number}
-use Rattle.der_core.proofs.ord.tag.octets_number.Goals as goal
+use Rattle.der_core.proofs.tag.octets_number.Goals as goal
 
 pub overflow_mul-result : goal.overflow_mul-result
 overflow_mul-result c =

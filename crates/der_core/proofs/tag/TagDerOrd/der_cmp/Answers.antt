@@ -5,7 +5,7 @@ use Rattle.der_base.specs.Order.{byte_order}
 use Rattle.der_base.specs.Tag.{tag_octets}
 use Rattle.der_core.specs.DerOrd.{six_octets}
 use Rattle.der_core.proofs.TagOrderLemmas.{tag_order}
-use Rattle.der_core.proofs.ord.tag.TagDerOrd.der_cmp.Goals as goal
+use Rattle.der_core.proofs.tag.TagDerOrd.der_cmp.Goals as goal
 
 pub returns : goal.returns
 returns c =

@@ -2,7 +2,7 @@ use Rattle.std.proofs.Common.{ℕ, ◌*◌, ◌-◌, ◌^◌, ◌%◌, ◌∙◌
 use Rattle.std.specs.Int.Digits.{number_from_digits}
 use Rattle.der_base.specs.Tag.{tag_octets}
 use Rattle.der_core.proofs.TagOrderLemmas.{number_filled, tag_below}
-use Rattle.der_core.proofs.ord.tag.left_aligned.Goals as goal
+use Rattle.der_core.proofs.tag.left_aligned.Goals as goal
 
 pub returns-clause-number : goal.returns-clause-number
 returns-clause-number c =
