@@ -1,0 +1,457 @@
+//! A safe reader and writer of DER (ITU-T X.690), and a reader of BER, over the proved library `libder_c.a`. No call
+//! allocates. Lengths and positions are in octets.
+#![no_std]
+
+mod sys;
+
+use core::cmp::Ordering;
+use core::fmt;
+use core::marker::PhantomData;
+pub use sys::Node;
+use sys::{RawElement, RawError, RawHeader, RawReader, RawWriter};
+
+/// Why octets are refused. It is `Copy`, and holds no octets.
+#[derive(Clone, Copy, PartialEq, Eq, Debug)]
+pub struct Error(RawError);
+
+/// The kinds of error, as numbered in `der.h`.
+#[derive(Clone, Copy, PartialEq, Eq, Debug)]
+#[non_exhaustive]
+pub enum ErrorKind {
+    /// The reader does not read by the rules that the call wants.
+    EncodingRules,
+    /// The reader or writer had failed before.
+    Failed,
+    /// The input ends too early.
+    Incomplete {
+        /// How many octets the input would have to have.
+        expected: u32,
+        /// How many it has.
+        actual: u32,
+    },
+    /// An indefinite length where none may stand, or one that is not closed rightly.
+    IndefiniteLength,
+    /// The length of an element with this tag is not spelled as it has to be.
+    Length(Tag),
+    /// Elements stand inside each other too deeply.
+    NestingDepth,
+    /// A number of octets passes 4294967295.
+    Overflow,
+    /// There is no room for so many octets.
+    Overlength,
+    /// The element was not read by this reader.
+    Reader,
+    /// A tag number is not spelled as it has to be, or a [`Tag`] is none.
+    TagNumberInvalid,
+    /// Another tag was expected.
+    TagUnexpected {
+        /// The tag that was asked for.
+        expected: Tag,
+        /// The tag that stands there.
+        actual: Tag,
+    },
+    /// No universal tag has this first octet.
+    TagUnknown(u8),
+    /// Octets are left at the end.
+    TrailingData {
+        /// How many are read.
+        decoded: u32,
+        /// How many are left.
+        remaining: u32,
+    },
+    /// Another kind, by its number in `der.h`.
+    Other(u8),
+}
+
+impl Error {
+    /// What went wrong, with its tags and numbers.
+    pub fn kind(&self) -> ErrorKind {
+        let RawError { first, second, .. } = self.0;
+        let expected = Tag(self.0.expected as u64 + 256 * first as u64);
+        let actual = Tag(self.0.actual as u64 + 256 * second as u64);
+        match self.0.kind {
+            2 => ErrorKind::EncodingRules,
+            3 => ErrorKind::Failed,
+            4 => ErrorKind::Incomplete {
+                expected: first,
+                actual: second,
+            },
+            5 => ErrorKind::IndefiniteLength,
+            6 => ErrorKind::Length(actual),
+            7 => ErrorKind::NestingDepth,
+            12 => ErrorKind::Overflow,
+            13 => ErrorKind::Overlength,
+            14 => ErrorKind::Reader,
+            16 => ErrorKind::TagNumberInvalid,
+            17 => ErrorKind::TagUnexpected { expected, actual },
+            18 => ErrorKind::TagUnknown((first % 256) as u8),
+            19 => ErrorKind::TrailingData {
+                decoded: first,
+                remaining: second,
+            },
+            other => ErrorKind::Other(other),
+        }
+    }
+
+    /// The position, where one is known.
+    pub fn position(&self) -> Option<u32> {
+        self.0.has_position.then_some(self.0.position)
+    }
+}
+
+impl fmt::Display for Error {
+    fn fmt(&self, f: &mut fmt::Formatter<'_>) -> fmt::Result {
+        let mut text = [0; 160];
+        // SAFETY: pointer and length are those of an array that the call only writes.
+        let count = unsafe { sys::der_error_text(self.0, text.as_mut_ptr(), text.len()) };
+        f.write_str(core::str::from_utf8(&text[..count]).unwrap_or("error"))
+    }
+}
+
+impl core::error::Error for Error {}
+
+#[inline(always)]
+fn answer(error: RawError) -> Result<(), Error> {
+    if error.kind == 0 { Ok(()) } else { Err(Error(error)) }
+}
+
+/// A tag: the first octet of its identifier, and 256 times its number where that is 31 or more.
+#[derive(Clone, Copy, PartialEq, Eq, Hash, Debug)]
+pub struct Tag(pub u64);
+
+/// The universal tags that the library knows are constants.
+#[allow(missing_docs)]
+impl Tag {
+    pub const BOOLEAN: Tag = Tag(0x01);
+    pub const INTEGER: Tag = Tag(0x02);
+    pub const BIT_STRING: Tag = Tag(0x03);
+    pub const OCTET_STRING: Tag = Tag(0x04);
+    pub const NULL: Tag = Tag(0x05);
+    pub const OBJECT_IDENTIFIER: Tag = Tag(0x06);
+    pub const UTF8_STRING: Tag = Tag(0x0C);
+    pub const PRINTABLE_STRING: Tag = Tag(0x13);
+    pub const UTC_TIME: Tag = Tag(0x17);
+    pub const GENERALIZED_TIME: Tag = Tag(0x18);
+    pub const SEQUENCE: Tag = Tag(0x30);
+    pub const SET: Tag = Tag(0x31);
+    pub const REAL: Tag = Tag(0x09);
+    pub const ENUMERATED: Tag = Tag(0x0A);
+    pub const RELATIVE_OID: Tag = Tag(0x0D);
+    pub const NUMERIC_STRING: Tag = Tag(0x12);
+    pub const TELETEX_STRING: Tag = Tag(0x14);
+    pub const VIDEOTEX_STRING: Tag = Tag(0x15);
+    pub const IA5_STRING: Tag = Tag(0x16);
+    pub const VISIBLE_STRING: Tag = Tag(0x1A);
+    pub const GENERAL_STRING: Tag = Tag(0x1B);
+    pub const BMP_STRING: Tag = Tag(0x1E);
+
+    /// `[number]`, constructed or not.
+    pub const fn context(number: u32, constructed: bool) -> Tag {
+        Self::of_class(0x80, number, constructed)
+    }
+
+    /// `[APPLICATION number]`, constructed or not.
+    pub const fn application(number: u32, constructed: bool) -> Tag {
+        Self::of_class(0x40, number, constructed)
+    }
+
+    /// `[PRIVATE number]`, constructed or not.
+    pub const fn private(number: u32, constructed: bool) -> Tag {
+        Self::of_class(0xC0, number, constructed)
+    }
+
+    // the tag of a class, whose first octet begins so
+    const fn of_class(class: u64, number: u32, constructed: bool) -> Tag {
+        let first = class + if constructed { 0x20 } else { 0 };
+        Tag(if number < 31 {
+            first + number as u64
+        } else {
+            first + 31 + 256 * number as u64
+        })
+    }
+}
+
+/// What a header says.
+#[derive(Clone, Copy, PartialEq, Eq, Debug)]
+pub struct Header {
+    /// The tag.
+    pub tag: Tag,
+    /// How many octets of contents there are, with the end mark where the length is indefinite.
+    pub length: u32,
+    /// Whether the identifier has the constructed bit.
+    pub constructed: bool,
+    /// Whether the length was read in the indefinite form.
+    pub indefinite: bool,
+}
+
+/// An element that a reader lent.
+#[derive(Clone, Copy)]
+pub struct Element<'a>(RawElement<'a>);
+
+// SAFETY: an element is numbers and a `&[u8]`, which may be sent.
+unsafe impl Send for Element<'_> {}
+// SAFETY: as above.
+unsafe impl Sync for Element<'_> {}
+
+impl<'a> Element<'a> {
+    /// The tag.
+    #[inline]
+    pub fn tag(&self) -> Tag {
+        Tag(self.0.tag)
+    }
+
+    /// The contents, without an end mark.
+    #[inline]
+    pub fn contents(&self) -> &'a [u8] {
+        // SAFETY: proved: they are a part of the reader's octets, which live for 'a.
+        unsafe { core::slice::from_raw_parts(self.0.contents, self.0.length) }
+    }
+
+    /// Whether the identifier has the constructed bit.
+    #[inline]
+    pub fn is_constructed(&self) -> bool {
+        self.0.constructed
+    }
+
+    /// Whether the length was read in the indefinite form.
+    #[inline]
+    pub fn is_indefinite(&self) -> bool {
+        self.0.indefinite
+    }
+
+    /// Where the header begins, and where the contents do.
+    #[inline]
+    pub fn positions(&self) -> (u32, u32) {
+        (self.0.start, self.0.contents_start)
+    }
+}
+
+impl fmt::Debug for Element<'_> {
+    fn fmt(&self, f: &mut fmt::Formatter<'_>) -> fmt::Result {
+        f.debug_struct("Element")
+            .field("tag", &self.tag())
+            .field("start", &self.0.start)
+            .field("contents", &self.contents())
+            .finish()
+    }
+}
+
+/// A reader of octets. It is a small value: a copy reads on by itself.
+#[derive(Clone, Copy)]
+pub struct Reader<'a>(RawReader<'a>);
+
+// SAFETY: a reader is numbers and a `&[u8]`.
+unsafe impl Send for Reader<'_> {}
+// SAFETY: as above.
+unsafe impl Sync for Reader<'_> {}
+
+impl<'a> Reader<'a> {
+    /// Under the Distinguished Encoding Rules.
+    pub fn der(octets: &'a [u8]) -> Result<Self, Error> {
+        Self::new(octets, false)
+    }
+
+    /// Under the Basic Encoding Rules.
+    pub fn ber(octets: &'a [u8]) -> Result<Self, Error> {
+        Self::new(octets, true)
+    }
+
+    fn new(octets: &'a [u8], ber: bool) -> Result<Self, Error> {
+        let mut raw = RawReader::EMPTY;
+        // SAFETY: pointer and length are those of a slice, which the reader borrows for 'a.
+        answer(unsafe { sys::der_reader_init(octets.as_ptr(), octets.len(), ber, &mut raw) })?;
+        Ok(Reader(raw))
+    }
+
+    /// The next header.
+    #[inline]
+    pub fn header(&mut self) -> Result<Header, Error> {
+        let mut raw = RawHeader::default();
+        answer(sys::der_read_header(&mut self.0, &mut raw))?;
+        let RawHeader {
+            tag,
+            length,
+            constructed,
+            indefinite,
+        } = raw;
+        Ok(Header {
+            tag: Tag(tag),
+            length,
+            constructed,
+            indefinite,
+        })
+    }
+
+    /// Passes the next element.
+    #[inline]
+    pub fn skip(&mut self) -> Result<(), Error> {
+        answer(sys::der_skip(&mut self.0))
+    }
+
+    /// Passes the body of an indefinite length, behind octet 80, and tells how many octets it has, with its end mark.
+    pub fn scan(&mut self) -> Result<u32, Error> {
+        let mut count = 0;
+        answer(sys::der_scan(&mut self.0, &mut count))?;
+        Ok(count)
+    }
+
+    /// The next element.
+    #[inline]
+    pub fn read(&mut self) -> Result<Element<'a>, Error> {
+        let mut element = RawElement::EMPTY;
+        answer(sys::der_read_element(&mut self.0, &mut element))?;
+        Ok(Element(element))
+    }
+
+    /// The next element, with this tag; another leaves the reader as it was.
+    #[inline]
+    pub fn expect(&mut self, tag: Tag) -> Result<Element<'a>, Error> {
+        let mut element = RawElement::EMPTY;
+        answer(sys::der_expect(&mut self.0, tag.0, &mut element))?;
+        Ok(Element(element))
+    }
+
+    /// The next element, if there is one and it has this tag.
+    pub fn optional(&mut self, tag: Tag) -> Result<Option<Element<'a>>, Error> {
+        if self.is_finished() {
+            return Ok(None);
+        }
+        match self.expect(tag) {
+            Ok(element) => Ok(Some(element)),
+            Err(error) if error.0.kind == sys::TAG_UNEXPECTED => Ok(None),
+            Err(error) => Err(error),
+        }
+    }
+
+    /// Passes an element with this tag, and reads its contents.
+    #[inline]
+    pub fn enter(&mut self, tag: Tag) -> Result<Reader<'a>, Error> {
+        let mut inside = RawReader::EMPTY;
+        answer(sys::der_enter(&mut self.0, tag.0, &mut inside))?;
+        Ok(Reader(inside))
+    }
+
+    /// Reads the contents of an element of this reader.
+    #[inline]
+    pub fn open(&self, element: &Element<'a>) -> Result<Reader<'a>, Error> {
+        let mut inside = RawReader::EMPTY;
+        answer(sys::der_open(&self.0, &element.0, &mut inside))?;
+        Ok(Reader(inside))
+    }
+
+    /// Whether nothing is left.
+    #[inline]
+    pub fn is_finished(&self) -> bool {
+        // what der_is_finished answers; the fields are private, so no call is needed for it
+        self.0.position == self.0.end as usize
+    }
+
+    /// Refuses octets that are left.
+    pub fn finish(self) -> Result<(), Error> {
+        answer(sys::der_finish(&self.0))
+    }
+
+    /// The elements that are left.
+    pub fn elements(self) -> Elements<'a> {
+        Elements {
+            reader: self,
+            is_refused: false,
+        }
+    }
+
+    /// All elements that are left and what is inside them, each before its parts: how many there were.
+    pub fn tree(mut self, nodes: &mut [Node]) -> Result<usize, Error> {
+        let mut count = 0;
+        // SAFETY: pointer and length are those of a slice that the call only writes.
+        answer(unsafe { sys::der_read_tree(&mut self.0, nodes.as_mut_ptr(), nodes.len(), &mut count) })?;
+        Ok(count)
+    }
+}
+
+/// The elements that a reader had left; behind an error there is nothing.
+pub struct Elements<'a> {
+    reader: Reader<'a>,
+    is_refused: bool,
+}
+
+impl<'a> Iterator for Elements<'a> {
+    type Item = Result<Element<'a>, Error>;
+
+    #[inline]
+    fn next(&mut self) -> Option<Self::Item> {
+        if self.is_refused || self.reader.is_finished() {
+            return None;
+        }
+        let answer = self.reader.read();
+        self.is_refused = answer.is_err();
+        Some(answer)
+    }
+}
+
+impl core::iter::FusedIterator for Elements<'_> {}
+
+/// The order of two whole elements in a SET OF (X.690 11.6).
+pub fn compare(first: &[u8], second: &[u8]) -> Result<Ordering, Error> {
+    let mut order = 0;
+    // SAFETY: pointers and lengths are those of slices, which the call only reads.
+    answer(unsafe { sys::der_compare(first.as_ptr(), first.len(), second.as_ptr(), second.len(), &mut order) })?;
+    Ok(order.cmp(&0))
+}
+
+/// A writer into octets of the caller's.
+pub struct Writer<'a>(RawWriter<'a>);
+
+impl<'a> Writer<'a> {
+    /// A writer into these octets, at their beginning.
+    pub fn new(octets: &'a mut [u8]) -> Self {
+        let mut raw = RawWriter {
+            octets: core::ptr::NonNull::dangling().as_ptr(),
+            length: 0,
+            position: 0,
+            failed: false,
+            lent: PhantomData,
+        };
+        // SAFETY: pointer and length are those of a slice, which the writer borrows for 'a.
+        unsafe { sys::der_writer_init(octets.as_mut_ptr(), octets.len(), &mut raw) };
+        Writer(raw)
+    }
+
+    /// Writes the header of a tag and of so many octets of contents.
+    #[inline]
+    pub fn header(&mut self, tag: Tag, length: u32) -> Result<(), Error> {
+        answer(sys::der_write_header(&mut self.0, tag.0, length))
+    }
+
+    /// Writes an element.
+    #[inline]
+    pub fn element(&mut self, tag: Tag, contents: &[u8]) -> Result<(), Error> {
+        // SAFETY: pointer and length are those of a slice, which the call only reads.
+        answer(unsafe { sys::der_write_element(&mut self.0, tag.0, contents.as_ptr(), contents.len()) })
+    }
+
+    /// Writes octets as they stand.
+    #[inline]
+    pub fn write(&mut self, octets: &[u8]) -> Result<(), Error> {
+        // SAFETY: as above.
+        answer(unsafe { sys::der_write(&mut self.0, octets.as_ptr(), octets.len()) })
+    }
+
+    /// How many octets are written.
+    pub fn written(&self) -> usize {
+        sys::der_written(&self.0)
+    }
+
+    /// The octets that were written; refused where the writer had failed.
+    pub fn finish(self) -> Result<&'a [u8], Error> {
+        answer(sys::der_writer_finish(&self.0))?;
+        // SAFETY: proved: so many octets of the slice are written, and it is borrowed for 'a.
+        Ok(unsafe { core::slice::from_raw_parts(self.0.octets, self.0.position) })
+    }
+}
+
+/// How many octets an element has, of a tag and so many octets of contents.
+pub fn element_length(tag: Tag, length: u32) -> Result<u32, Error> {
+    let mut count = 0;
+    answer(sys::der_element_length(tag.0, length, &mut count))?;
+    Ok(count)
+}

@@ -1,0 +1,158 @@
+//! The structs and calls of `der.h`, as they are. A reference in a call is never null, never leads to what another
+//! one of the call leads to, and holds a value that Rust made: so the calls whose other parameters are numbers are
+//! safe. Those with a pointer and a length are not: the caller sees to it that they are those of a slice.
+use core::marker::PhantomData;
+
+#[repr(C)]
+#[derive(Clone, Copy, Default, PartialEq, Eq, Debug)]
+pub struct RawError {
+    pub kind: u8,
+    pub has_position: bool,
+    pub expected: u8,
+    pub actual: u8,
+    pub position: u32,
+    pub first: u32,
+    pub second: u32,
+}
+
+#[repr(C)]
+#[derive(Clone, Copy)]
+pub struct RawReader<'a> {
+    pub octets: *const u8,
+    pub length: usize,
+    pub position: usize,
+    pub end: u32,
+    pub depth: u8,
+    pub ber: bool,
+    pub failed: bool,
+    pub lent: PhantomData<&'a [u8]>,
+}
+
+#[repr(C)]
+#[derive(Clone, Copy)]
+pub struct RawElement<'a> {
+    pub contents: *const u8,
+    pub length: usize,
+    pub tag: u64,
+    pub start: u32,
+    pub contents_start: u32,
+    pub constructed: bool,
+    pub indefinite: bool,
+    pub lent: PhantomData<&'a [u8]>,
+}
+
+#[repr(C)]
+#[derive(Clone, Copy, Default, PartialEq, Eq, Debug)]
+pub struct RawHeader {
+    pub tag: u64,
+    pub length: u32,
+    pub constructed: bool,
+    pub indefinite: bool,
+}
+
+#[repr(C)]
+pub struct RawWriter<'a> {
+    pub octets: *mut u8,
+    pub length: usize,
+    pub position: usize,
+    pub failed: bool,
+    pub lent: PhantomData<&'a mut [u8]>,
+}
+
+/// An element of a tree, by positions in octets from the beginning of the input.
+#[repr(C)]
+#[derive(Clone, Copy, Default, Debug, PartialEq, Eq)]
+pub struct Node {
+    /// The tag, as [`Tag`](crate::Tag) has it.
+    pub tag: u64,
+    /// Where the header begins.
+    pub start: u32,
+    /// Where the contents begin.
+    pub contents_start: u32,
+    /// Where the contents end.
+    pub end: u32,
+    /// How many elements of the tree stand around it.
+    pub depth: u8,
+    /// Whether the identifier has the constructed bit.
+    pub constructed: bool,
+    /// Whether the length was read in the indefinite form.
+    pub indefinite: bool,
+}
+
+// The shapes that the library was made for.
+const _: () = {
+    use core::mem::{offset_of, size_of};
+    assert!(size_of::<usize>() == 8);
+    assert!(size_of::<RawError>() == 16 && offset_of!(RawError, position) == 4);
+    assert!(offset_of!(RawError, first) == 8 && offset_of!(RawError, second) == 12);
+    assert!(size_of::<RawReader>() == 32 && offset_of!(RawReader, position) == 16);
+    assert!(offset_of!(RawReader, end) == 24 && offset_of!(RawReader, depth) == 28);
+    assert!(offset_of!(RawReader, ber) == 29 && offset_of!(RawReader, failed) == 30);
+    assert!(size_of::<RawHeader>() == 16 && offset_of!(RawHeader, length) == 8);
+    assert!(offset_of!(RawHeader, constructed) == 12 && offset_of!(RawHeader, indefinite) == 13);
+    assert!(size_of::<RawElement>() == 40 && offset_of!(RawElement, tag) == 16);
+    assert!(offset_of!(RawElement, start) == 24 && offset_of!(RawElement, contents_start) == 28);
+    assert!(offset_of!(RawElement, constructed) == 32 && offset_of!(RawElement, indefinite) == 33);
+    assert!(size_of::<Node>() == 24 && offset_of!(Node, start) == 8);
+    assert!(offset_of!(Node, contents_start) == 12 && offset_of!(Node, end) == 16);
+    assert!(offset_of!(Node, depth) == 20 && offset_of!(Node, constructed) == 21);
+    assert!(size_of::<RawWriter>() == 32 && offset_of!(RawWriter, position) == 16);
+    assert!(offset_of!(RawWriter, failed) == 24);
+};
+
+/// The number of a kind that the wrapper looks at.
+pub const TAG_UNEXPECTED: u8 = 17;
+
+impl RawReader<'_> {
+    pub const EMPTY: Self = RawReader {
+        octets: core::ptr::NonNull::dangling().as_ptr(),
+        length: 0,
+        position: 0,
+        end: 0,
+        depth: 0,
+        ber: false,
+        failed: false,
+        lent: PhantomData,
+    };
+}
+
+impl RawElement<'_> {
+    pub const EMPTY: Self = RawElement {
+        contents: core::ptr::NonNull::dangling().as_ptr(),
+        length: 0,
+        tag: 0,
+        start: 0,
+        contents_start: 0,
+        constructed: false,
+        indefinite: false,
+        lent: PhantomData,
+    };
+}
+
+unsafe extern "C" {
+    pub fn der_reader_init<'a>(octets: *const u8, length: usize, ber: bool, reader: &mut RawReader<'a>) -> RawError;
+    pub safe fn der_finish(reader: &RawReader) -> RawError;
+    pub safe fn der_read_element<'a>(reader: &mut RawReader<'a>, element: &mut RawElement<'a>) -> RawError;
+    pub safe fn der_expect<'a>(reader: &mut RawReader<'a>, tag: u64, element: &mut RawElement<'a>) -> RawError;
+    pub safe fn der_enter<'a>(reader: &mut RawReader<'a>, tag: u64, inside: &mut RawReader<'a>) -> RawError;
+    pub safe fn der_skip(reader: &mut RawReader) -> RawError;
+    pub safe fn der_scan(reader: &mut RawReader, count: &mut u32) -> RawError;
+    pub safe fn der_open<'a>(reader: &RawReader<'a>, element: &RawElement<'a>, inside: &mut RawReader<'a>) -> RawError;
+    pub fn der_read_tree(reader: &mut RawReader, nodes: *mut Node, room: usize, count: &mut usize) -> RawError;
+    pub fn der_compare(
+        first: *const u8,
+        first_length: usize,
+        second: *const u8,
+        second_length: usize,
+        order: &mut i32,
+    ) -> RawError;
+    pub safe fn der_read_header(reader: &mut RawReader, header: &mut RawHeader) -> RawError;
+    pub fn der_error_text(error: RawError, text: *mut u8, room: usize) -> usize;
+    pub fn der_writer_init<'a>(octets: *mut u8, length: usize, writer: &mut RawWriter<'a>);
+    pub safe fn der_written(writer: &RawWriter) -> usize;
+    pub safe fn der_writer_finish(writer: &RawWriter) -> RawError;
+    pub safe fn der_element_length(tag: u64, length: u32, count: &mut u32) -> RawError;
+    pub safe fn der_write_header(writer: &mut RawWriter, tag: u64, length: u32) -> RawError;
+    pub fn der_write_element(writer: &mut RawWriter, tag: u64, contents: *const u8, length: usize) -> RawError;
+    pub fn der_write(writer: &mut RawWriter, octets: *const u8, length: usize) -> RawError;
+}

@@ -1,0 +1,4 @@
+pub mod CompareLemmas
+pub mod TagWordLemmas
+pub mod WordLemmas
+pub mod WriterCallLemmas

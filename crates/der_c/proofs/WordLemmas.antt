@@ -1,0 +1,90 @@
+-- The word of a tag, by the first octet of its identifier.
+use Rattle.std.proofs.Common.{◌≡◌, ◌≢◌, ℕ, ◌+◌, ◌*◌, ◌%◌, ◌<◌, Bool, true, false, Option, Some, Ok, take, List, [], ◌∷◌, ◌++◌, refl, sym, ap, ◌∙◌, subst, ⊎_elim, arith}
+use Rattle.std.proofs.lemmas.Bool.{cases_lt, lt-ltb}
+use Rattle.der_base.specs.Length.{digits}
+use Rattle.der_base.specs.Tag.{label, leading_octet, tag_octets, continuation_octets, IsIdentifier}
+use Rattle.der_base.specs.HeaderGrammar.{Head, HeadAhead}
+use Rattle.der_base.specs.declared.encoding_rules.EncodingRules.{EncodingRules}
+use Rattle.der_base.specs.declared.tag.Tag.{Tag}
+use Rattle.der_base.proofs.TagLemmas.{label_small, label_large, tag_begins, constructed_bit}
+use Rattle.der_base.proofs.IdentifierLemmas.{tagged, segmented, identifier_view}
+use Rattle.der_base.proofs.HeaderLemmas.{header_view_of, header_view}
+use Rattle.der_core.specs.ReaderState.{ReaderState, rest_of}
+use Rattle.der_core.specs.Decode.{Passes}
+use Rattle.der_core.specs.ReaderState.{IsSound}
+use Rattle.der_core.specs.AfterFirstOctet.{AreAhead, identifier_tag}
+use Rattle.der_core.specs.Outcome.{Gives}
+use Rattle.der_core.specs.Reader.{read_slice_outcome}
+use Rattle.der_core.specs.Header.{head_of, HeaderAhead}
+use Rattle.der_core.specs.declared.header.Header.{Header}
+use Rattle.der_core.proofs.HeaderReadLemmas.{short_passed}
+use Rattle.der_base.specs.Tag.{is_constructed}
+use Rattle.der_base.specs.Length.{definite_length}
+use Rattle.der_c.specs.Error.{no_error}
+use Rattle.der_c.specs.TagWord.{tag_word}
+use Rattle.der_c.specs.declared.element.DerElement.{DerElement}
+use Rattle.der_c.specs.Element.{IsFirstAhead, TellsTag, ReadsElement, behind, there}
+
+-- an octet with five low bits that are not all set begins no long number
+short_octet : (b : Bool) (k o : ℕ) → 64 * k + constructed_bit b + 31 ≡ o → o % 32 < 31 → ⊥
+short_octet true k o e h = omega arith
+short_octet false k o e h = omega arith
+
+-- so it is the word of its tag
+tag_short : (t : Tag) (o : ℕ) (more : List ℕ) → tag_octets t ≡ o ∷ more → o % 32 < 31 → o ≡ tag_word t
+tag_short t o more e h =
+    ⊎_elim
+    (λ a. let v : leading_octet (label t) (label t).number ∷ [] ≡ o ∷ more = sym (label_small (label t) a) ∙ e in
+    let w : leading_octet (label t) (label t).number ≡ o = cc in
+    rw (lt-ltb (label t).number 31 a) (omega arith))
+    (λ a. let v : leading_octet (label t) 31 ∷ continuation_octets (digits 128 (label t).number) ≡ o ∷ more = sym (label_large (label t) a) ∙ e in
+    let w : leading_octet (label t) 31 ≡ o = cc in
+    absurd (short_octet (label t).constructed (label t).class o w h))
+    (cases_lt (label t).number 31)
+
+identifier_short : (rules : EncodingRules) (id : List ℕ) (t : Tag) (b : Bool) (o : ℕ) (more : List ℕ) → IsIdentifier rules id t b → id ≡ o ∷ more → o % 32 < 31 → o ≢ 36 → o ≡ tag_word t
+identifier_short rules id t b o more h e small other =
+    elim (identifier_view h) [
+      | tagged n s c ↦ tag_short t o more (sym s ∙ e) small
+      | segmented r s p c ↦ absurd (other (let v : o ∷ more ≡ 36 ∷ [] = sym e ∙ s in cc))
+    ]
+
+-- some octet begins an identifier
+identifier_some : (rules : EncodingRules) (id : List ℕ) (t : Tag) (b : Bool) → IsIdentifier rules id t b → (o : ℕ) × (more : List ℕ) × (id ≡ o ∷ more)
+identifier_some rules id t b h =
+    elim (identifier_view h) [
+      | tagged n s c ↦ (let p = tag_begins t in (p.0, p.1, s ∙ p.2))
+      | segmented r s p c ↦ (36, [], s)
+    ]
+
+-- the first octet of a header tells its tag
+pub header_told : (h : Head) (s t : ReaderState) (o : ℕ) → Passes (HeadAhead h) s t → IsFirstAhead s o → TellsTag o h.tag
+header_told h s t o passed first small other =
+    elim (header_view passed.ahead) [
+      | header_view_of id more d l ok e c ↦
+          (let p = identifier_some s.rules id h.tag h.constructed d in
+          let whole : rest_of s ≡ p.0 ∷ (p.1 ++ more) = e ∙ ap (λ x. x ++ more) p.2 in
+          let same : o ≡ p.0 = first passed.working p.0 (p.1 ++ more) whole in
+          let below : p.0 % 32 < 31 = subst (λ x. x % 32 < 31) same small in
+          let apart : p.0 ≢ 36 = λ q. other (same ∙ q) in
+          same ∙ identifier_short s.rules id h.tag h.constructed p.0 p.1 d p.2 below apart)
+    ]
+
+-- an element with a header of two octets is read
+pub short_element : {s u t : ReaderState} {x : Option (ℕ × ℕ)} {o p : ℕ} {two contents : List ℕ} {e : DerElement} → IsSound s → AreAhead s x → x ≡ Some (o, p)
+    → Gives (read_slice_outcome 2) s (Ok two) u → Gives (read_slice_outcome p) u (Ok contents) t → o % 32 < 31 → o ≢ 36
+    → e.contents.now ≡ take p contents → e.tag ≡ o → e.start ≡ s.position → e.contents_start ≡ u.position → e.constructed ≡ is_constructed o → e.indefinite ≡ false → ReadsElement s no_error e t
+short_element {s} {u} {t} {x} {o} {p} {two} {contents} {e} sound ahead is first second small other c g f k b i =
+    let h : Header = record { tag = identifier_tag o (o % 32); length = definite_length p; constructed = is_constructed o } in
+    let passed : Passes (HeaderAhead h) s u = short_passed sound ahead is refl refl first in
+    let a : AreAhead s (Some (o, p)) = subst (AreAhead s) is ahead in
+    let at_front : IsFirstAhead s o = λ working q more split. (let v : o ∷ p ∷ a.3.0 ≡ q ∷ more = sym a.3.1 ∙ split in cc) in
+    let word : o ≡ tag_word (identifier_tag o (o % 32)) = header_told (head_of h) s u o passed at_front small other in
+    behind h u passed (there contents second refl (record {
+      contents = c;
+      tag = g ∙ word;
+      start = f;
+      contents_start = k;
+      constructed = b;
+      indefinite = i;
+    }))

@@ -1,0 +1,113 @@
+-- What reading an element tells C.
+use Rattle.std.specs.Prelude.{◌≡◌, ◌≢◌, ℕ, ◌∷◌, ◌+◌, ◌<◌, ◌/◌, ◌%◌, ◌^◌, List, length, take, false, Ok, Err}
+use Rattle.der_base.specs.Arithmetic.{sans_eoc}
+use Rattle.der_base.specs.Length.{number, is_indefinite}
+use Rattle.der_base.specs.HeaderGrammar.{Head, HeaderFault}
+use Rattle.der_base.specs.ScanGrammar.{BodyFault}
+use Rattle.der_base.specs.declared.tag.Tag.{Tag}
+use Rattle.der_base.specs.declared.error.Error.{Error}
+use Rattle.der_core.specs.ReaderState.{ReaderState, rest_of, advanced_state, nested_state}
+use Rattle.der_core.specs.Outcome.{Gives}
+use Rattle.der_core.specs.Reader.{read_slice_outcome, enter_nested_outcome}
+use Rattle.der_core.specs.Nested.{CanNest}
+use Rattle.der_core.specs.Decode.{Passes, IsRefusedBy}
+use Rattle.der_core.specs.Header.{head_of, HeaderAhead}
+use Rattle.der_core.specs.declared.header.Header.{Header}
+use Rattle.der_c.specs.Error.{no_error, error_code, coded}
+use Rattle.der_c.specs.TagWord.{tag_word}
+use Rattle.der_c.specs.Reader.{reader_state}
+use Rattle.der_c.specs.declared.reader.DerReader.{DerReader}
+use Rattle.der_c.specs.declared.error.DerError.{DerError}
+use Rattle.der_c.specs.declared.element.DerElement.{DerElement}
+
+-- the element of a header that begins at a position, with what it counts behind another
+pub record IsElement (h : Head) (octets : List ℕ) (from behind : ℕ) (e : DerElement) : Type 0 where
+  pub contents : e.contents.now ≡ take (number (sans_eoc h.length)) octets
+  pub tag : e.tag ≡ tag_word h.tag
+  pub start : e.start ≡ from
+  pub contents_start : e.contents_start ≡ behind
+  pub constructed : e.constructed ≡ h.constructed
+  pub indefinite : e.indefinite ≡ is_indefinite h.length
+
+-- the contents of a header that began at a position are told and passed, with the end mark; or they are
+-- not all there, which is told
+pub data ReadsContents (h : Head) (from : ℕ) (s : ReaderState) (result : DerError) (e : DerElement)
+    (t : ReaderState) : Type 0 where
+  there : (octets : List ℕ) → Gives (read_slice_outcome (number h.length)) s (Ok octets) t
+      → result ≡ no_error → IsElement h octets from s.position e
+      → ReadsContents h from s result e t
+  missing : (error : Error) → Gives (read_slice_outcome (number h.length)) s (Err error) t
+      → result ≡ error_code error → ReadsContents h from s result e t
+
+-- an element is read: its header has a fault, or it stood ahead and the contents are read
+pub data ReadsElement (s : ReaderState) (result : DerError) (e : DerElement) (t : ReaderState)
+    : Type 0 where
+  no_header : (error : Error) → IsRefusedBy (HeaderFault BodyFault) s error t
+      → result ≡ error_code error → ReadsElement s result e t
+  behind : (h : Header) (u : ReaderState) → Passes (HeaderAhead h) s u
+      → ReadsContents (head_of h) s.position u result e t → ReadsElement s result e t
+
+-- an element is passed: one is read, and not told
+abbrev pub SkipsElement : ReaderState → DerError → ReaderState → Type 0
+SkipsElement s result t = (e : DerElement) × ReadsElement s result e t
+
+-- another tag was expected than this one, in words; only 32 bits of a number are told
+abbrev pub unexpected_code : ℕ → ℕ → DerError
+unexpected_code expected actual =
+    coded 17 (expected % 256) (actual % 256) (expected / 256 % 2 ^ 32) (actual / 256 % 2 ^ 32)
+
+-- an element with a tag is read: one with another tag is told, and the reader stays
+pub data ExpectsElement (word : ℕ) (s : ReaderState) (result : DerError) (e : DerElement)
+    (t : ReaderState) : Type 0 where
+  no_header : (error : Error) → IsRefusedBy (HeaderFault BodyFault) s error t
+      → result ≡ error_code error → ExpectsElement word s result e t
+  other_tag : (h : Header) (u : ReaderState) → Passes (HeaderAhead h) s u
+      → tag_word (head_of h).tag ≢ word
+      → result ≡ unexpected_code word (tag_word (head_of h).tag) → t ≡ s
+      → ExpectsElement word s result e t
+  behind : (h : Header) (u : ReaderState) → Passes (HeaderAhead h) s u
+      → tag_word (head_of h).tag ≡ word
+      → ReadsContents (head_of h) s.position u result e t → ExpectsElement word s result e t
+
+-- contents are passed, and the other reader is inside them; or they cannot be entered, which is told
+pub data EntersContents (h : Head) (s : ReaderState) (result : DerError) (old new : DerReader)
+    (t : ReaderState) : Type 0 where
+  refused : (error : Error) → Gives (enter_nested_outcome (number h.length)) s (Err error) t
+      → result ≡ error_code error → new ≡ old → EntersContents h s result old new t
+  entered : CanNest s (number h.length) → result ≡ no_error
+      → reader_state new ≡ nested_state s (number (sans_eoc h.length))
+      → t ≡ advanced_state s (number h.length) → EntersContents h s result old new t
+
+-- an element with a tag is passed, and the other reader is inside its contents
+pub data EntersElement (word : ℕ) (s : ReaderState) (result : DerError) (old new : DerReader)
+    (t : ReaderState) : Type 0 where
+  no_header : (error : Error) → IsRefusedBy (HeaderFault BodyFault) s error t
+      → result ≡ error_code error → new ≡ old → EntersElement word s result old new t
+  other_tag : (h : Header) (u : ReaderState) → Passes (HeaderAhead h) s u
+      → tag_word (head_of h).tag ≢ word
+      → result ≡ unexpected_code word (tag_word (head_of h).tag) → t ≡ s → new ≡ old
+      → EntersElement word s result old new t
+  behind : (h : Header) (u : ReaderState) → Passes (HeaderAhead h) s u
+      → tag_word (head_of h).tag ≡ word → EntersContents (head_of h) u result old new t
+      → EntersElement word s result old new t
+
+-- a reader inside the contents of an element, which lie in the input; or nothing, which is told
+pub data OpensElement (s : ReaderState) (e : DerElement) (result : DerError) (old new : ReaderState)
+    : Type 0 where
+  opened : result ≡ no_error
+      → new ≡ record s {
+        end = e.contents_start + length e.contents.now;
+        position = e.contents_start;
+        depth = s.depth + 1;
+        failed = false;
+      } → OpensElement s e result old new
+  refused : (error : Error) → result ≡ error_code error → new ≡ old → OpensElement s e result old new
+
+-- the octet that is ahead of a reader that has not failed, if there is one
+abbrev pub IsFirstAhead : ReaderState → ℕ → Type 0
+IsFirstAhead s o =
+    s.failed ≡ false → (p : ℕ) (more : List ℕ) → rest_of s ≡ p ∷ more → o ≡ p
+
+-- an octet is the word of a tag, unless it is that of segments or begins a long number
+abbrev pub TellsTag : ℕ → Tag → Type 0
+TellsTag o t = o % 32 < 31 → o ≢ 36 → o ≡ tag_word t

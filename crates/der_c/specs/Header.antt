@@ -1,0 +1,32 @@
+-- What reading a header tells C.
+use Rattle.std.specs.Prelude.{◌≡◌}
+use Rattle.der_base.specs.Length.{number, is_indefinite}
+use Rattle.der_base.specs.HeaderGrammar.{Head, HeaderFault}
+use Rattle.der_base.specs.ScanGrammar.{BodyFault}
+use Rattle.der_base.specs.declared.error.Error.{Error}
+use Rattle.der_core.specs.ReaderState.{ReaderState}
+use Rattle.der_core.specs.Decode.{Passes, IsRefusedBy}
+use Rattle.der_core.specs.Header.{head_of, HeaderAhead}
+use Rattle.der_core.specs.declared.header.Header.{Header}
+use Rattle.der_c.specs.Error.{no_error, error_code}
+use Rattle.der_c.specs.TagWord.{tag_word}
+use Rattle.der_c.specs.declared.error.DerError.{DerError}
+use Rattle.der_c.specs.declared.header.DerHeader.{DerHeader}
+
+abbrev pub header_record : Head → DerHeader
+header_record h =
+    record {
+      tag = tag_word h.tag;
+      length = number h.length;
+      constructed = h.constructed;
+      indefinite = is_indefinite h.length;
+    }
+
+-- a header stood ahead, is told and passed; or the octets have a fault, which is told, and nothing is
+-- written
+pub data ReadsHeader (s : ReaderState) (result : DerError) (old new : DerHeader) (t : ReaderState)
+    : Type 0 where
+  read : (h : Header) → Passes (HeaderAhead h) s t → result ≡ no_error
+      → new ≡ header_record (head_of h) → ReadsHeader s result old new t
+  refused : (e : Error) → IsRefusedBy (HeaderFault BodyFault) s e t → result ≡ error_code e
+      → new ≡ old → ReadsHeader s result old new t

@@ -1,0 +1,9 @@
+pub mod Compare
+pub mod Element
+pub mod Error
+pub mod Header
+pub mod Reader
+pub mod Scan
+pub mod TagWord
+pub mod Writer
+pub mod WriterCalls

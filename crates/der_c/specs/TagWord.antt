@@ -1,0 +1,30 @@
+-- Tags as words of C: the first octet of an identifier, and behind it a number that does not stand
+-- there.
+use Rattle.std.specs.Prelude.{◌≡◌, ℕ, ◌+◌, ◌*◌, ◌%◌, ◌^◌, ◌<◌, Option, Some, nat_lt, if◌then◌else◌}
+use Rattle.der_base.specs.Tag.{label, leading_octet, universal_tag, other_tag}
+use Rattle.der_base.specs.declared.tag.Tag.{Tag}
+
+-- the first octet of a tag's identifier
+abbrev pub tag_octet : Tag → ℕ
+tag_octet t = leading_octet (label t) (if nat_lt (label t).number 31 then (label t).number else 31)
+
+-- its number, where that does not stand in the first octet
+abbrev pub long_number : Tag → ℕ
+long_number t = if nat_lt (label t).number 31 then 0 else (label t).number
+
+-- both in one word: of a short tag it is the octet
+abbrev pub tag_word : Tag → ℕ
+tag_word t = tag_octet t + 256 * long_number t
+
+-- a word is that of a tag, and one that is none's
+abbrev pub IsTagWord : ℕ → Tag → Type 0
+IsTagWord word t = ((label t).number < 2 ^ 32) × (tag_word t ≡ word)
+
+abbrev pub NoTagWord : ℕ → Type 0
+NoTagWord word = (t : Tag) → IsTagWord word t → ⊥
+
+-- the tag that a first octet says, with a number behind it where its five low bits are set
+abbrev pub said_tag : ℕ → ℕ → Option Tag
+said_tag octet long =
+    if nat_lt octet 64 then universal_tag octet
+    else Some (other_tag octet (if nat_lt (octet % 32) 31 then octet % 32 else long))

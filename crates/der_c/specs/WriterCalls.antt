@@ -1,0 +1,58 @@
+-- What the calls on a writer tell C.
+use Rattle.std.specs.Prelude.{◌≡◌, ℕ, ◌^◌, ◌<◌, ◌≤◌, List, length, Result, Ok}
+use Rattle.der_base.specs.Length.{definite_length}
+use Rattle.der_base.specs.Error.{error_of_kind}
+use Rattle.der_base.specs.Arithmetic.{element_count}
+use Rattle.der_base.specs.declared.tag.Tag.{Tag}
+use Rattle.der_base.specs.declared.error.Error.{Error}
+use Rattle.der_base.specs.declared.error.ErrorKind.{ErrorKind}
+use Rattle.der_base.specs.declared.error.ErrorKind.TheVariants.{Overflow, TagNumberInvalid}
+use Rattle.der_core.specs.Writer.{WriterState, Writes, failed_state, write_outcome}
+use Rattle.der_core.specs.Encode.{ElementWritten, header_outcome}
+use Rattle.der_c.specs.Error.{no_error, error_code}
+use Rattle.der_c.specs.Reader.{answer_code}
+use Rattle.der_c.specs.TagWord.{IsTagWord, NoTagWord}
+use Rattle.der_c.specs.declared.error.DerError.{DerError}
+
+-- a call is refused by a kind without a position, and the writer has failed
+pub record RefusesBy (kind : ErrorKind) (s : WriterState) (result : DerError) (t : WriterState)
+    : Type 0 where
+  pub told : result ≡ error_code (error_of_kind kind)
+  pub leaves : t ≡ failed_state s
+
+-- octets are written
+pub record WritesOctets (octets : List ℕ) (s : WriterState) (result : DerError) (t : WriterState)
+    : Type 0 where
+  pub answer : Result (Unit {0}) Error
+  pub writes : Writes (write_outcome octets s) answer t
+  pub told : result ≡ answer_code answer
+
+-- the header of the tag that a word is, and of n octets, is written; or the word is no tag's
+pub data WritesHeader (word n : ℕ) (s : WriterState) (result : DerError) (t : WriterState)
+    : Type 0 where
+  no_tag : NoTagWord word → RefusesBy TagNumberInvalid s result t → WritesHeader word n s result t
+  of_tag : (tag : Tag) (answer : Result (Unit {0}) Error) → IsTagWord word tag
+      → Writes (header_outcome tag n s) answer t → result ≡ answer_code answer
+      → WritesHeader word n s result t
+
+-- the same of an element
+pub data WritesElement (word : ℕ) (contents : List ℕ) (s : WriterState) (result : DerError)
+    (t : WriterState) : Type 0 where
+  too_long : 2 ^ 32 ≤ length contents → RefusesBy Overflow s result t
+      → WritesElement word contents s result t
+  no_tag : NoTagWord word → length contents < 2 ^ 32 → RefusesBy TagNumberInvalid s result t
+      → WritesElement word contents s result t
+  of_tag : (tag : Tag) (answer : Result (Unit {0}) Error) → IsTagWord word tag
+      → length contents < 2 ^ 32
+      → ElementWritten tag (Ok (definite_length (length contents)))
+      (λ u. Writes (write_outcome contents u)) s answer t
+      → result ≡ answer_code answer → WritesElement word contents s result t
+
+-- how many octets an element has, of a tag and of n octets of contents
+pub data Measures (word n : ℕ) (result : DerError) (old new : ℕ) : Type 0 where
+  no_tag : NoTagWord word → result ≡ error_code (error_of_kind TagNumberInvalid) → new ≡ old
+      → Measures word n result old new
+  too_long : (tag : Tag) → IsTagWord word tag → 2 ^ 32 ≤ element_count tag n
+      → result ≡ error_code (error_of_kind Overflow) → new ≡ old → Measures word n result old new
+  measured : (tag : Tag) → IsTagWord word tag → element_count tag n < 2 ^ 32 → result ≡ no_error
+      → new ≡ element_count tag n → Measures word n result old new

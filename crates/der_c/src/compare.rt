@@ -1,0 +1,62 @@
+//! The order of elements, in C.
+ghost use Rattle.std.specs.Prelude.{IfOk, IfErr};
+ghost use Rattle.der_c.specs.Compare.{IsWholeElement, RefusesWhole, RefusesEither, Compares};
+
+use crate::error::{DerError, told};
+use der_base::Error;
+use der_core::{Reader, SliceReader, decode_header};
+use std::cmp::Ordering;
+
+/// Compares two whole elements under the Distinguished Encoding Rules by their octets, as a SET OF is
+/// sorted (X.690 11.6): -1, 0 or 1.
+///
+/// Refused where the first, or else the second, is not wholly an element, as by a reader of it: as
+/// `der_read_element`, by `Overflow` without a position where it has more than 4294967295 octets, and by
+/// `TrailingData` where octets stand behind the element. The order is unchanged then.
+#[unsafe(no_mangle)]
+pub extern "C" fn der_compare(first: &[u8], second: &[u8], order: &mut i32) -> DerError
+    ensures { Compares first.now second.now result order.old order.new }
+{
+    match both_whole(first, second) {
+        Ok(()) => {
+            *order = match first.cmp(second) {
+                Ordering::Less => -1,
+                Ordering::Equal => 0,
+                Ordering::Greater => 1,
+            };
+            DerError::NONE
+        }
+        Err(error) => told(error),
+    }
+}
+
+// Whether both are wholly elements.
+fn both_whole(first: &[u8], second: &[u8]) -> Result<(), Error>
+    ensures first { IfOk result (λ _. IsWholeElement first.now) }
+    ensures second { IfOk result (λ _. IsWholeElement second.now) }
+    ensures refused { IfErr result (RefusesEither first.now second.now) }
+{
+    match whole(first) {
+        Ok(()) => whole(second),
+        Err(error) => Err(error),
+    }
+}
+
+// Whether the octets are wholly an element.
+fn whole(octets: &[u8]) -> Result<(), Error>
+    ensures ok { IfOk result (λ _. IsWholeElement octets.now) }
+    ensures refused { IfErr result (RefusesWhole octets.now) }
+{
+    let mut reader = match SliceReader::new(octets) {
+        Ok(reader) => reader,
+        Err(error) => return Err(error),
+    };
+    let header = match decode_header(&mut reader) {
+        Ok(header) => header,
+        Err(error) => return Err(error),
+    };
+    match reader.read_slice(header.length()) {
+        Ok(_) => reader.finish(),
+        Err(error) => Err(error),
+    }
+}

@@ -1,0 +1,310 @@
+//! Elements in C.
+ghost use Rattle.std.specs.Prelude.{◌≡◌, true};
+ghost use Rattle.der_core.specs.ReaderState.{Same};
+ghost use Rattle.der_core.specs.Header.{head_of};
+ghost use Rattle.der_c.specs.Element.{ReadsContents, ReadsElement, ExpectsElement, EntersElement, EntersContents, OpensElement, SkipsElement, unexpected_code};
+ghost use Rattle.der_core.specs.AfterFirstOctet.{AreAhead, IsAlone};
+ghost use Rattle.der_c.specs.Reader.{reader_state};
+
+use crate::error::{DerError, told};
+use crate::reader::DerReader;
+use crate::tag::{universal, word_of};
+use der_base::{ErrorKind, Length};
+use der_core::{Header, Reader, decode_header};
+
+/// An element: a header and its contents.
+#[repr(C)]
+#[derive(Clone, Copy)]
+pub struct DerElement<'a> {
+    /// The contents, without the end mark of an indefinite length.
+    pub contents: &'a [u8],
+    /// The tag, as in a header.
+    pub tag: u64,
+    /// Where the header begins.
+    pub start: u32,
+    /// Where the contents begin.
+    pub contents_start: u32,
+    /// Whether the identifier has the constructed bit.
+    pub constructed: bool,
+    /// Whether the length was read in the indefinite form.
+    pub indefinite: bool,
+}
+
+impl DerElement<'_> {
+    // no element
+    pub(crate) const NONE: DerElement<'static> = DerElement {
+        contents: &[],
+        tag: 0,
+        start: 0,
+        contents_start: 0,
+        constructed: false,
+        indefinite: false,
+    };
+}
+
+// Reads the contents behind a header that began at a position.
+#[inline(always)]
+fn read_contents<'a>(
+    reader: &mut DerReader<'a>,
+    start: u32,
+    header: Header,
+    element: &mut DerElement<'a>,
+) -> DerError
+    ensures same { Same (reader_state reader.old) (reader_state reader.new) }
+    ensures reads { ReadsContents (head_of header) start (reader_state reader.old) result element.new
+        (reader_state reader.new) }
+{
+    let contents_start = reader.position as u32;
+    let length = header.length();
+    match reader.read_slice(length) {
+        Ok(octets) => {
+            *element = DerElement {
+                contents: &octets[..u32::from(length.sans_eoc()) as usize],
+                tag: word_of(header.tag()),
+                start,
+                contents_start,
+                constructed: header.is_constructed(),
+                indefinite: length.is_indefinite(),
+            };
+            DerError::NONE
+        }
+        Err(error) => told(error),
+    }
+}
+
+/// Reads an element: its header, its contents, and the end mark of an indefinite length.
+///
+/// Refused as [`der_read_header`](crate::der_read_header), and by `Incomplete` and `Overflow` where the
+/// contents are not all there.
+#[unsafe(no_mangle)]
+pub extern "C" fn der_read_element<'a>(
+    reader: &mut DerReader<'a>,
+    element: &mut DerElement<'a>,
+) -> DerError
+    ensures same { Same (reader_state reader.old) (reader_state reader.new) }
+    ensures reads { ReadsElement (reader_state reader.old) result element.new
+        (reader_state reader.new) }
+{
+    read_element(reader, element)
+}
+
+/// Passes an element, and the end mark of an indefinite length.
+///
+/// Refused as [`der_read_element`].
+#[unsafe(no_mangle)]
+pub extern "C" fn der_skip(reader: &mut DerReader<'_>) -> DerError
+    ensures same { Same (reader_state reader.old) (reader_state reader.new) }
+    ensures skips { SkipsElement (reader_state reader.old) result (reader_state reader.new) }
+{
+    let mut element = DerElement::NONE;
+    read_element(reader, &mut element)
+}
+
+// The identifier and the length ahead, where each has one octet.
+#[inline(always)]
+fn short_header(reader: &DerReader<'_>) -> Option<(u8, u8)>
+    ensures { AreAhead (reader_state reader.now) result }
+{
+    let Ok(ahead) = reader.remaining() else {
+        return None;
+    };
+    if ahead.len() < 2 {
+        return None;
+    }
+    let (first, count) = (ahead[0], ahead[1]);
+    if count < 128 && is_identifier(first) {
+        Some((first, count))
+    } else {
+        None
+    }
+}
+
+// Whether this octet is an identifier by itself, under any rules.
+#[inline(always)]
+fn is_identifier(octet: u8) -> bool
+    ensures { result ≡ true → IsAlone octet }
+{
+    universal(octet).is_some() || octet >= 0x40 && octet % 32 < 31
+}
+
+// Reads an element. One with a header of two octets is read here, any other by a function of its own, so that
+// nothing is kept for that one.
+#[inline(always)]
+pub(crate) fn read_element<'a>(reader: &mut DerReader<'a>, element: &mut DerElement<'a>) -> DerError
+    ensures same { Same (reader_state reader.old) (reader_state reader.new) }
+    ensures reads { ReadsElement (reader_state reader.old) result element.new
+        (reader_state reader.new) }
+{
+    let before = reader.fork();
+    let start = reader.position as u32;
+    if let Some((first, count)) = short_header(reader) {
+        if first % 32 < 31 && first != 36 {
+            if let Ok(_) = reader.read_slice(Length::new(2)) {
+                let contents_start = reader.position as u32;
+                if let Ok(octets) = reader.read_slice(Length::new(count as u32)) {
+                    *element = DerElement {
+                        contents: &octets[..count as usize],
+                        tag: first as u64,
+                        start,
+                        contents_start,
+                        constructed: first / 32 % 2 == 1,
+                        indefinite: false,
+                    };
+                    return DerError::NONE;
+                }
+            }
+        }
+    }
+    *reader = before;
+    read_slowly(reader, element)
+}
+
+// The same with each error looked at.
+#[inline(never)]
+fn read_slowly<'a>(reader: &mut DerReader<'a>, element: &mut DerElement<'a>) -> DerError
+    ensures same { Same (reader_state reader.old) (reader_state reader.new) }
+    ensures reads { ReadsElement (reader_state reader.old) result element.new
+        (reader_state reader.new) }
+{
+    let start = reader.position as u32;
+    match decode_header(reader) {
+        Ok(header) => read_contents(reader, start, header, element),
+        Err(error) => told(error),
+    }
+}
+
+// Another tag was expected.
+#[cold]
+#[inline(never)]
+fn unexpected(expected: u64, actual: u64) -> DerError
+    ensures { result ≡ unexpected_code expected actual }
+{
+    DerError {
+        kind: 17,
+        has_position: false,
+        expected: (expected % 256) as u8,
+        actual: (actual % 256) as u8,
+        position: 0,
+        first: (expected / 256 % (1 << 32)) as u32,
+        second: (actual / 256 % (1 << 32)) as u32,
+    }
+}
+
+/// Reads an element with this tag.
+///
+/// Refused as [`der_read_element`], and by `TagUnexpected` without a position where another tag stands
+/// ahead; the reader is unchanged then.
+#[unsafe(no_mangle)]
+pub extern "C" fn der_expect<'a>(
+    reader: &mut DerReader<'a>,
+    tag: u64,
+    element: &mut DerElement<'a>,
+) -> DerError
+    ensures same { Same (reader_state reader.old) (reader_state reader.new) }
+    ensures reads { ExpectsElement tag (reader_state reader.old) result element.new
+        (reader_state reader.new) }
+{
+    let start = reader.position;
+    match decode_header(reader) {
+        Ok(header) => {
+            let met = word_of(header.tag());
+            if met != tag {
+                reader.position = start;
+                return unexpected(tag, met);
+            }
+            read_contents(reader, start as u32, header, element)
+        }
+        Err(error) => told(error),
+    }
+}
+
+/// Passes an element with this tag, and makes a reader of its contents.
+///
+/// Refused as [`der_expect`], and by `NestingDepth` inside 64 others; `inside` is unchanged then.
+#[unsafe(no_mangle)]
+pub extern "C" fn der_enter<'a>(
+    reader: &mut DerReader<'a>,
+    tag: u64,
+    inside: &mut DerReader<'a>,
+) -> DerError
+    ensures same { Same (reader_state reader.old) (reader_state reader.new) }
+    ensures enters { EntersElement tag (reader_state reader.old) result inside.old inside.new
+        (reader_state reader.new) }
+{
+    let start = reader.position;
+    match decode_header(reader) {
+        Ok(header) => {
+            let met = word_of(header.tag());
+            if met != tag {
+                reader.position = start;
+                return unexpected(tag, met);
+            }
+            enter(reader, header, inside)
+        }
+        Err(error) => told(error),
+    }
+}
+
+// Passes the contents behind a header, and makes a reader of them.
+#[inline(always)]
+fn enter<'a>(reader: &mut DerReader<'a>, header: Header, inside: &mut DerReader<'a>) -> DerError
+    ensures same { Same (reader_state reader.old) (reader_state reader.new) }
+    ensures enters { EntersContents (head_of header) (reader_state reader.old) result inside.old
+        inside.new (reader_state reader.new) }
+{
+    let length = header.length();
+    match reader.enter_nested(length) {
+        Ok(outer) => {
+            let contents = u32::from(length.sans_eoc());
+            *inside = DerReader {
+                octets: reader.octets,
+                position: reader.position,
+                end: reader.position as u32 + contents,
+                depth: reader.depth,
+                ber: reader.ber,
+                failed: reader.failed,
+            };
+            reader.position = reader.end as usize;
+            reader.leave_nested(outer);
+            DerError::NONE
+        }
+        Err(error) => told(error),
+    }
+}
+
+/// Makes a reader of the contents of an element that this reader, or one like it, has read.
+///
+/// Refused by `Reader` without a position, where the element is not one of these octets, by `Failed` where
+/// the reader has failed, and by `NestingDepth` at the contents inside 64 others; `inside` is unchanged
+/// then.
+#[unsafe(no_mangle)]
+pub extern "C" fn der_open<'a>(
+    reader: &DerReader<'a>,
+    element: &DerElement<'a>,
+    inside: &mut DerReader<'a>,
+) -> DerError
+    ensures { OpensElement (reader_state reader.now) element.now result (reader_state inside.old)
+        (reader_state inside.new) }
+{
+    let start = element.contents_start;
+    let length = element.contents.len();
+    let room = reader.octets.len();
+    if start as usize > room || length > room - start as usize {
+        return told(ErrorKind::Reader.to_error());
+    }
+    if reader.failed {
+        return told(ErrorKind::Failed.to_error());
+    }
+    if reader.depth >= 64 {
+        return told(ErrorKind::NestingDepth.at(Length::new(start)));
+    }
+    *inside = DerReader {
+        octets: reader.octets,
+        position: start as usize,
+        end: start + length as u32,
+        depth: reader.depth + 1,
+        ber: reader.ber,
+        failed: false,
+    };
+    DerError::NONE
+}

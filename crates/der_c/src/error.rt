@@ -1,0 +1,131 @@
+//! Errors as C sees them.
+ghost use Rattle.std.specs.Prelude.{◌≡◌};
+ghost use Rattle.der_c.specs.Error.{error_code, kind_code, tag_code, coded as coded_error};
+
+use crate::tag::{first_octet, number_behind};
+use der_base::{Error, ErrorKind, Tag};
+
+/// An error, in 16 octets that two registers hold. Kind 0 is none.
+#[repr(C)]
+#[derive(Clone, Copy)]
+pub struct DerError {
+    /// Which kind, or 0.
+    pub kind: u8,
+    /// Whether a position is known.
+    pub has_position: bool,
+    /// The first octet of the tag that was expected, or 0.
+    pub expected: u8,
+    /// The first octet of the tag that was met, or 0.
+    pub actual: u8,
+    /// The position, or 0.
+    pub position: u32,
+    /// The number of octets that was expected or read; the octet that is no tag; the number of the tag
+    /// that was expected, where it is 31 or more.
+    pub first: u32,
+    /// The number of octets that there are, or that are left; the number of the tag that was met,
+    /// where it is 31 or more.
+    pub second: u32,
+}
+
+impl DerError {
+    // no error
+    pub(crate) const NONE: DerError = DerError {
+        kind: 0,
+        has_position: false,
+        expected: 0,
+        actual: 0,
+        position: 0,
+        first: 0,
+        second: 0,
+    };
+}
+
+// An error of a kind, of two tags and of two numbers.
+fn coded(kind: u8, expected: u8, actual: u8, first: u32, second: u32) -> DerError
+    ensures { result ≡ coded_error kind expected actual first second }
+{
+    DerError {
+        kind,
+        has_position: false,
+        expected,
+        actual,
+        position: 0,
+        first,
+        second,
+    }
+}
+
+// An error of a kind and of a tag.
+fn coded_tag(kind: u8, tag: Tag) -> DerError
+    ensures { result ≡ tag_code kind tag }
+{
+    coded(kind, 0, first_octet(tag), 0, number_behind(tag))
+}
+
+// The kind, as C sees it.
+fn coded_kind(kind: ErrorKind) -> DerError
+    ensures { result ≡ kind_code kind }
+{
+    match kind {
+        ErrorKind::DateTime => coded(1, 0, 0, 0, 0),
+        ErrorKind::EncodingRules => coded(2, 0, 0, 0, 0),
+        ErrorKind::Failed => coded(3, 0, 0, 0, 0),
+        ErrorKind::Incomplete {
+            expected_len,
+            actual_len,
+        } => coded(4, 0, 0, u32::from(expected_len), u32::from(actual_len)),
+        ErrorKind::IndefiniteLength => coded(5, 0, 0, 0, 0),
+        ErrorKind::Length { tag } => coded_tag(6, tag),
+        ErrorKind::NestingDepth => coded(7, 0, 0, 0, 0),
+        ErrorKind::Noncanonical { tag } => coded_tag(8, tag),
+        ErrorKind::OidMalformed => coded(9, 0, 0, 0, 0),
+        ErrorKind::SetDuplicate => coded(10, 0, 0, 0, 0),
+        ErrorKind::SetOrdering => coded(11, 0, 0, 0, 0),
+        ErrorKind::Overflow => coded(12, 0, 0, 0, 0),
+        ErrorKind::Overlength => coded(13, 0, 0, 0, 0),
+        ErrorKind::Reader => coded(14, 0, 0, 0, 0),
+        ErrorKind::TagModeUnknown => coded(15, 0, 0, 0, 0),
+        ErrorKind::TagNumberInvalid => coded(16, 0, 0, 0, 0),
+        ErrorKind::TagUnexpected { expected, actual } => coded_tags(expected, actual),
+        ErrorKind::TagUnknown { byte } => coded(18, 0, 0, byte as u32, 0),
+        ErrorKind::TrailingData { decoded, remaining } => {
+            coded(19, 0, 0, u32::from(decoded), u32::from(remaining))
+        }
+        ErrorKind::Utf8(_) => coded(20, 0, 0, 0, 0),
+        ErrorKind::Value { tag } => coded_tag(21, tag),
+        ErrorKind::OutOfMemory => coded(22, 0, 0, 0, 0),
+    }
+}
+
+// Another tag was expected.
+fn coded_tags(expected: Option<Tag>, actual: Tag) -> DerError
+    ensures { result ≡ kind_code (ErrorKind.TagUnexpected expected actual) }
+{
+    match expected {
+        Some(tag) => coded(
+            17,
+            first_octet(tag),
+            first_octet(actual),
+            number_behind(tag),
+            number_behind(actual),
+        ),
+        None => coded_tag(17, actual),
+    }
+}
+
+/// The error, as C sees it.
+#[cold]
+#[inline(never)]
+pub(crate) fn told(error: Error) -> DerError
+    ensures { result ≡ error_code error }
+{
+    let code = coded_kind(error.kind());
+    match error.position() {
+        Some(position) => DerError {
+            has_position: true,
+            position: u32::from(position),
+            ..code
+        },
+        None => code,
+    }
+}

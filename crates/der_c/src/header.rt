@@ -1,0 +1,58 @@
+//! Headers in C.
+ghost use Rattle.std.specs.Prelude.{◌≡◌};
+ghost use Rattle.der_core.specs.ReaderState.{Same};
+ghost use Rattle.der_core.specs.Header.{head_of};
+ghost use Rattle.der_c.specs.Header.{ReadsHeader, header_record};
+ghost use Rattle.der_c.specs.Reader.{reader_state};
+
+use crate::error::{DerError, told};
+use crate::reader::DerReader;
+use crate::tag::word_of;
+use der_core::{Header, decode_header};
+
+/// The header of an element.
+#[repr(C)]
+#[derive(Clone, Copy)]
+pub struct DerHeader {
+    /// The tag: the first octet of its identifier, and 256 times its number, where that is 31 or more.
+    pub tag: u64,
+    /// How many octets of contents there are, with the end mark where the length is indefinite.
+    pub length: u32,
+    /// Whether the identifier has the constructed bit.
+    pub constructed: bool,
+    /// Whether the length was read in the indefinite form.
+    pub indefinite: bool,
+}
+
+// The header, as C sees it.
+#[inline(always)]
+fn told_header(header: Header) -> DerHeader
+    ensures { result ≡ header_record (head_of header) }
+{
+    let length = header.length();
+    DerHeader {
+        tag: word_of(header.tag()),
+        length: u32::from(length),
+        constructed: header.is_constructed(),
+        indefinite: length.is_indefinite(),
+    }
+}
+
+/// Reads a header, as `decode_header` does.
+///
+/// Refused by `Failed`, `Overflow`, `Incomplete`, `TagUnknown`, `TagNumberInvalid`, `IndefiniteLength`
+/// and `Length`; the header is unchanged then.
+#[unsafe(no_mangle)]
+pub extern "C" fn der_read_header(reader: &mut DerReader<'_>, header: &mut DerHeader) -> DerError
+    ensures same { Same (reader_state reader.old) (reader_state reader.new) }
+    ensures reads { ReadsHeader (reader_state reader.old) result header.old header.new
+        (reader_state reader.new) }
+{
+    match decode_header(reader) {
+        Ok(read) => {
+            *header = told_header(read);
+            DerError::NONE
+        }
+        Err(error) => told(error),
+    }
+}

@@ -1,0 +1,32 @@
+//! The readers and writers of `der_core` for programs in C, and in any language that calls C: see
+//! `bindings/c/der.h`.
+//!
+//! No call takes memory, and none asks anything of its caller but that a pointer and a length are
+//! those of octets, and that a struct was made by the calls here.
+#![tactic(auto)]
+
+mod compare;
+mod element;
+mod error;
+mod header;
+mod reader;
+mod scan;
+mod tag;
+mod text;
+mod tree;
+mod writer;
+
+pub use compare::der_compare;
+pub use element::{DerElement, der_enter, der_expect, der_open, der_read_element, der_skip};
+pub use error::DerError;
+pub use header::{DerHeader, der_read_header};
+pub use reader::DerReader;
+pub use reader::calls::{der_finish, der_is_finished, der_reader_init};
+pub use scan::der_scan;
+pub use text::der_error_text;
+pub use tree::{DerNode, der_read_tree};
+pub use writer::DerWriter;
+pub use writer::calls::{
+    der_element_length, der_write, der_write_element, der_write_header, der_writer_finish,
+    der_writer_init, der_written,
+};

@@ -1,0 +1,47 @@
+//! Counting bodies of indefinite lengths, in C.
+ghost use Rattle.std.specs.Prelude.{◌≡◌, true};
+ghost use Rattle.der_base.specs.declared.encoding_rules.EncodingRules.TheVariants.{Ber};
+ghost use Rattle.der_core.specs.Scan.{Scans};
+ghost use Rattle.der_c.specs.Reader.{reader_state};
+ghost use Rattle.der_c.specs.Scan.{ScansBody};
+
+use crate::error::{DerError, told};
+use crate::reader::DerReader;
+use der_base::{Error, ErrorKind, Length};
+use der_core::{Turns, decode_indefinite_length};
+use std::marker::Brand;
+use std::sync::ledger::{Blank, Ledger};
+
+/// Passes the body of an indefinite length, and tells how many octets it has, with the end mark that
+/// closes it (X.690 8.1.3.6). The reader stands behind octet 80 before, and behind the mark then.
+///
+/// Refused by `EncodingRules` without a position, where the reader does not read by the Basic Encoding
+/// Rules, which leaves it as it is, and as by `decode_indefinite_length`; `count` is unchanged then.
+#[unsafe(no_mangle)]
+pub extern "C" fn der_scan(reader: &mut DerReader<'_>, count: &mut u32) -> DerError
+    ensures { ScansBody (reader_state reader.old) result count.old count.new
+        (reader_state reader.new) }
+{
+    if !reader.ber {
+        return told(ErrorKind::EncodingRules.to_error());
+    }
+    match scan_counted::<Brand>(reader, Blank::new(1)) {
+        Ok(length) => {
+            *count = u32::from(length);
+            DerError::NONE
+        }
+        Err(error) => told(error),
+    }
+}
+
+// The same with a counter of turns, which takes no memory.
+fn scan_counted<L: Ledger>(reader: &mut DerReader<'_>, blank: Blank) -> Result<Length, Error>
+    requires name { blank.name ≡ L.name }
+    requires parts { blank.parts ≡ L.parts }
+    requires whole { blank.parts ≡ 1 }
+    requires ber { (reader_state reader.old).rules ≡ Ber }
+    ensures { Scans true (reader_state reader.old) result (reader_state reader.new) }
+{
+    let mut turns = Turns::<L>::new(blank);
+    decode_indefinite_length(reader, &mut turns)
+}

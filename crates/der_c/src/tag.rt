@@ -1,0 +1,118 @@
+//! Tags as words of C.
+ghost use Rattle.std.specs.Prelude.{◌≡◌, IfSome, None};
+ghost use Rattle.der_base.specs.Tag.{universal_tag};
+ghost use Rattle.der_c.specs.TagWord.{IsTagWord, NoTagWord, said_tag, tag_octet, long_number, tag_word};
+
+use der_base::{Class, Tag, TagNumber};
+
+/// The tag that a word is, if it is one's.
+#[inline(always)]
+pub(crate) fn tag_of_word(word: u64) -> Option<Tag>
+    ensures is { IfSome result (λ t. IsTagWord word t) }
+    ensures none { result ≡ None → NoTagWord word }
+{
+    let (octet, long) = ((word % 256) as u8, word / 256);
+    if long > u32::MAX as u64 {
+        return None;
+    }
+    let tag = tag_of(octet, long as u32)?;
+    if word_of(tag) == word {
+        Some(tag)
+    } else {
+        None
+    }
+}
+
+/// The tag that a first octet says, with a number behind it where that is long.
+pub(crate) fn tag_of(octet: u8, long: u32) -> Option<Tag>
+    ensures { result ≡ said_tag octet long }
+{
+    if octet < 64 {
+        return universal(octet);
+    }
+    let constructed = octet / 32 % 2 == 1;
+    let low = octet % 32;
+    let number = TagNumber(if low < 31 { low as u32 } else { long });
+    Some(if octet < 128 {
+        Tag::Application {
+            constructed,
+            number,
+        }
+    } else if octet < 192 {
+        Tag::ContextSpecific {
+            constructed,
+            number,
+        }
+    } else {
+        Tag::Private {
+            constructed,
+            number,
+        }
+    })
+}
+
+/// The universal tag whose only octet this is (X.680 8.6).
+#[inline(always)]
+pub(crate) fn universal(octet: u8) -> Option<Tag>
+    ensures { result ≡ universal_tag octet }
+{
+    match octet {
+        0x01 => Some(Tag::Boolean),
+        0x02 => Some(Tag::Integer),
+        0x03 => Some(Tag::BitString),
+        0x04 => Some(Tag::OctetString),
+        0x05 => Some(Tag::Null),
+        0x06 => Some(Tag::ObjectIdentifier),
+        0x09 => Some(Tag::Real),
+        0x0A => Some(Tag::Enumerated),
+        0x0C => Some(Tag::Utf8String),
+        0x0D => Some(Tag::RelativeOid),
+        0x12 => Some(Tag::NumericString),
+        0x13 => Some(Tag::PrintableString),
+        0x14 => Some(Tag::TeletexString),
+        0x15 => Some(Tag::VideotexString),
+        0x16 => Some(Tag::Ia5String),
+        0x17 => Some(Tag::UtcTime),
+        0x18 => Some(Tag::GeneralizedTime),
+        0x1A => Some(Tag::VisibleString),
+        0x1B => Some(Tag::GeneralString),
+        0x1E => Some(Tag::BmpString),
+        0x30 => Some(Tag::Sequence),
+        0x31 => Some(Tag::Set),
+        _ => None,
+    }
+}
+
+/// The first octet of a tag's identifier.
+#[inline(always)]
+pub(crate) fn first_octet(tag: Tag) -> u8
+    ensures { result ≡ tag_octet tag }
+{
+    let number = tag.number().0;
+    let low = if number < 31 { number as u8 } else { 31 };
+    let class = match tag.class() {
+        Class::Universal => 0u8,
+        Class::Application => 64,
+        Class::ContextSpecific => 128,
+        Class::Private => 192,
+    };
+    let form = if tag.is_constructed() { 32u8 } else { 0 };
+    class + form + low
+}
+
+/// A tag's number, where it does not stand in the first octet.
+#[inline(always)]
+pub(crate) fn number_behind(tag: Tag) -> u32
+    ensures { result ≡ long_number tag }
+{
+    let number = tag.number().0;
+    if number < 31 { 0 } else { number }
+}
+
+/// Both in one word: of a short tag it is the octet.
+#[inline(always)]
+pub(crate) fn word_of(tag: Tag) -> u64
+    ensures { result ≡ tag_word tag }
+{
+    first_octet(tag) as u64 + 256 * number_behind(tag) as u64
+}

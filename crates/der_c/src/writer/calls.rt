@@ -1,0 +1,139 @@
+//! Writing, in C.
+ghost use Rattle.std.specs.Prelude.{◌≡◌, length};
+ghost use Rattle.der_core.specs.Writer.{fresh_state};
+ghost use Rattle.der_core.specs.Encode.{finished_answer};
+ghost use Rattle.der_c.specs.Reader.{answer_code};
+ghost use Rattle.der_c.specs.Writer.{writer_state};
+ghost use Rattle.der_c.specs.WriterCalls.{RefusesBy, WritesOctets, WritesHeader, WritesElement, Measures};
+
+use crate::error::{DerError, told};
+use crate::tag::tag_of_word;
+use crate::writer::DerWriter;
+use der_base::{Error, ErrorKind, Length};
+use der_core::{Encode, Header, Writer};
+
+/// Makes a writer into these octets, at their beginning. It takes at most 4294967295.
+#[unsafe(no_mangle)]
+pub extern "C" fn der_writer_init<'a>(octets: &'a mut [u8], writer: &mut DerWriter<'a>)
+    ensures { writer_state writer.new ≡ fresh_state octets.old octets.entry.ghost_name }
+{
+    *writer = DerWriter {
+        octets,
+        position: 0,
+        failed: false,
+    };
+}
+
+/// How many octets are written.
+#[unsafe(no_mangle)]
+pub extern "C" fn der_written(writer: &DerWriter<'_>) -> usize
+    ensures { result ≡ length (writer_state writer.now).octets }
+{
+    writer.position
+}
+
+/// Whether the writer has not failed.
+///
+/// Refused by `Failed`, at the position.
+#[unsafe(no_mangle)]
+pub extern "C" fn der_writer_finish(writer: &DerWriter<'_>) -> DerError
+    ensures { result ≡ answer_code (finished_answer (writer_state writer.now)) }
+{
+    if writer.failed {
+        return told(ErrorKind::Failed.at(Length::new(writer.position as u32)));
+    }
+    DerError::NONE
+}
+
+/// Writes octets as they stand.
+///
+/// Refused by `Failed`, `Overflow` and `Overlength`, as by `Writer::write`; nothing is written, and the
+/// writer has failed.
+#[unsafe(no_mangle)]
+pub extern "C" fn der_write(writer: &mut DerWriter<'_>, octets: &[u8]) -> DerError
+    ensures { WritesOctets octets.now (writer_state writer.old) result (writer_state writer.new) }
+{
+    code(writer.write(octets))
+}
+
+/// Writes the header of a tag and of so many octets of contents.
+///
+/// Refused by `TagNumberInvalid` without a position, where the word is no tag's, and as [`der_write`];
+/// octets of the header that were written stand, and the writer has failed.
+#[unsafe(no_mangle)]
+pub extern "C" fn der_write_header(writer: &mut DerWriter<'_>, tag: u64, length: u32) -> DerError
+    ensures { WritesHeader tag length (writer_state writer.old) result (writer_state writer.new) }
+{
+    let Some(tag) = tag_of_word(tag) else {
+        return refuse(writer, ErrorKind::TagNumberInvalid);
+    };
+    let header = Header::new(tag, Length::new(length));
+    code(header.encode(writer))
+}
+
+/// Writes an element: the header of a tag, and the contents.
+///
+/// Refused by `Overflow` without a position, where there are more than 4294967295 octets of contents,
+/// and as [`der_write_header`] and [`der_write`].
+#[unsafe(no_mangle)]
+pub extern "C" fn der_write_element(
+    writer: &mut DerWriter<'_>,
+    tag: u64,
+    contents: &[u8],
+) -> DerError
+    ensures { WritesElement tag contents.now (writer_state writer.old) result
+        (writer_state writer.new) }
+{
+    if contents.len() > u32::MAX as usize {
+        return refuse(writer, ErrorKind::Overflow);
+    }
+    let Some(tag) = tag_of_word(tag) else {
+        return refuse(writer, ErrorKind::TagNumberInvalid);
+    };
+    let header = Header::new(tag, Length::new(contents.len() as u32));
+    match header.encode(writer) {
+        Ok(()) => code(writer.write(contents)),
+        Err(error) => told(error),
+    }
+}
+
+/// How many octets an element has, of a tag and of so many octets of contents.
+///
+/// Refused by `TagNumberInvalid` without a position, where the word is no tag's, and by `Overflow`
+/// without one, where there are more than 4294967295; `count` is unchanged then.
+#[unsafe(no_mangle)]
+pub extern "C" fn der_element_length(tag: u64, length: u32, count: &mut u32) -> DerError
+    ensures { Measures tag length result count.old count.new }
+{
+    let Some(tag) = tag_of_word(tag) else {
+        return told(ErrorKind::TagNumberInvalid.to_error());
+    };
+    match Length::new(length).for_tlv(tag) {
+        Ok(whole) => {
+            *count = u32::from(whole);
+            DerError::NONE
+        }
+        Err(error) => told(error),
+    }
+}
+
+// An answer, as C sees it.
+#[inline(always)]
+fn code(answer: Result<(), Error>) -> DerError
+    ensures { result ≡ answer_code answer }
+{
+    match answer {
+        Ok(()) => DerError::NONE,
+        Err(error) => told(error),
+    }
+}
+
+// Refused by a kind without a position; the writer has failed.
+#[cold]
+#[inline(never)]
+fn refuse(writer: &mut DerWriter<'_>, kind: ErrorKind) -> DerError
+    ensures { RefusesBy kind (writer_state writer.old) result (writer_state writer.new) }
+{
+    writer.failed = true;
+    told(kind.to_error())
+}
