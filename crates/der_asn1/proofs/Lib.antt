@@ -1,3 +1,5 @@
 pub mod DefaultReadLemmas
 pub mod OptionalReadLemmas
 pub mod SequenceOfLemmas
+pub mod IntegerLemmas
+pub mod IntegerReadLemmas

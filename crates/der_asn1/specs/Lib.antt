@@ -12,6 +12,7 @@ pub mod Checked
 pub mod CheckedLemmas
 pub mod ContextSpecific
 pub mod Forms
+pub mod Integer
 pub mod SequenceOf
 pub mod FieldLaws
 pub mod DefaultLaws

@@ -13,4 +13,6 @@ mod keys;
 #[cfg(test)]
 mod lists;
 #[cfg(test)]
+mod numbers;
+#[cfg(test)]
 mod tags;

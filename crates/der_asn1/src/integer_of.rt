@@ -1,0 +1,115 @@
+//! INTEGERs of a range, as numbers.
+ghost use Rattle.std.specs.Prelude.{◌≡◌, ◌<◌, ◌↔◌, true, false, IsSome, IfSome};
+ghost use Rattle.std.proofs.Common.{arith, subst, sym};
+ghost use Rattle.der.specs.Prelude.{Integer as IntegerTag};
+ghost use Rattle.der_asn1.specs.Checked.{HasForm, TakesForm, FormAnswers, octets_size};
+ghost use Rattle.der_asn1.specs.Checked.{WritesOctets, form_lawful};
+
+use crate::explicit::Nestable;
+use crate::integer::IntRef;
+use crate::integer_number::IntegerNumber;
+use der::{
+    DecodeValue, EncodeValue, Error, FixedTag, Header, Lawful, Length, ReadValue, Reader, Tag,
+    Writer, WrittenValue,
+};
+use std::alloc::Global;
+
+/// An INTEGER that is a number of this type: `u8`, `u32`, `u64` or `i64`.
+#[derive(Clone, Copy)]
+pub struct IntegerOf<N: IntegerNumber> {
+    /// The number.
+    pub number: N,
+}
+
+impl<'a> IntRef<'a> {
+    /// The number, where it is one of this type.
+    pub fn to_number<N: IntegerNumber>(&self) -> Option<N>
+        ensures some { IsSome result ↔ (N.form self.now.octets.now ≡ true) }
+        ensures same { IfSome result (λ v. N.contents_of v ≡ self.now.octets.now) }
+    {
+        N::from_contents(self.octets())
+    }
+}
+
+impl<N: IntegerNumber> FixedTag for IntegerOf<N> {
+    ghost tag_is = { IntegerTag };
+
+    const TAG: Tag = Tag::Integer;
+
+    fn fixed_tag() -> Tag
+        ensures { result ≡ IntegerTag }
+    {
+        Tag::Integer
+    }
+}
+
+impl<N: IntegerNumber> ReadValue for IntegerOf<N> {
+    ghost valid = { HasForm N.form (λ v. N.contents_of v.number) };
+
+    ghost takes = { TakesForm N.form (λ v. N.contents_of v.number) };
+
+    ghost levels = { λ _. 0 };
+
+    ghost takes_memory = { false };
+
+    ghost takes_valid = { λ v rules h octets taken.
+        subst (λ x. N.form x ≡ true) (sym taken.1) taken.0 };
+}
+
+/// Under BER too the contents are as short as can be (X.690 8.3.2).
+///
+/// # Errors
+///
+/// - `Failed`, `Overflow` and `Incomplete`, as by [`Reader::read_slice`].
+/// - `Value` of an INTEGER behind contents of no number of the type, or that are not as short as can
+///   be; the reader has failed then.
+impl<'a, N: IntegerNumber, R: Reader<Lent = &'a [u8]>> DecodeValue<R> for IntegerOf<N> {
+    type Error = Error;
+
+    ghost value_answers = { FormAnswers N.form IntegerTag (λ v. N.contents_of v.number) };
+
+    fn decode_value(_alloc: Global, reader: &mut R, header: Header) -> Result<Self, Error> {
+        let octets = reader.read_slice(header.length())?;
+        match N::from_contents(octets) {
+            Some(number) => Ok(IntegerOf { number }),
+            None => Err(reader.error(Tag::Integer.value_error())),
+        }
+    }
+
+    fn is_value(&self) {
+        let _contents = self.number.to_contents();
+    }
+}
+
+impl<N: IntegerNumber> WrittenValue for IntegerOf<N> {
+    ghost contents = { λ v. N.contents_of v.number };
+
+    ghost writable = { HasForm N.form (λ v. N.contents_of v.number) };
+}
+
+/// # Errors
+///
+/// The number of octets is never refused. Writing hands on the writer's errors, as by
+/// [`Writer::write`].
+impl<N: IntegerNumber> EncodeValue for IntegerOf<N> {
+    ghost value_size = { λ v. octets_size (N.contents_of v.number) };
+
+    ghost value_answers = { λ v. WritesOctets (N.contents_of v.number) };
+
+    fn value_len(&self) -> Result<Length, Error> {
+        Length::new_usize(self.number.to_contents().as_slice().len())
+    }
+
+    fn encode_value<W: Writer>(&self, writer: &mut W) -> Result<(), Error> {
+        writer.write(self.number.to_contents().as_slice())
+    }
+}
+
+impl<N: IntegerNumber> Lawful for IntegerOf<N> {
+    ghost lawful = { form_lawful IntegerTag N.form (λ v. N.contents_of v.number)
+        (Prim.omega arith) };
+}
+
+impl<N: IntegerNumber> Nestable for IntegerOf<N> {
+    ghost nestable = { Prim.omega arith };
+}
