@@ -1,11 +1,11 @@
 -- Elements of one type, one behind the other, as they are read.
-use Rattle.std.proofs.Common.{◌≡◌, ℕ, ◌+◌, ◌-◌, ◌<◌, ◌≤◌, Bool, true, false, Ok, Err, inl, inr, List, [], ◌∷◌, ◌++◌, length, refl, sym, ap, subst, ◌∙◌, length-append, nat_lt, nat_le, take, arith}
+use Rattle.std.proofs.Common.{◌≡◌, ℕ, ◌+◌, ◌-◌, ◌<◌, ◌≤◌, Bool, true, false, Ok, Err, inl, inr, List, [], ◌∷◌, ◌++◌, length, refl, sym, ap, subst, ◌∙◌, length-append, nat_le, take, arith}
 use Rattle.std.proofs.lemmas.Grind.{not_there}
 use Rattle.std.proofs.lemmas.List.{take_all}
 use Rattle.der.specs.Outcome.{Gives}
 use Rattle.der.specs.Reader.{read_slice_outcome}
 use Rattle.der.specs.HeaderGrammar.{Head}
-use Rattle.der.specs.Tag.{label, tag_octets}
+use Rattle.der.specs.Tag.{tag_octets}
 use Rattle.der.specs.Length.{length_octets}
 use Rattle.der.specs.Prelude.{Tag}
 use Rattle.der.specs.Prelude.{EncodingRules}

@@ -28,6 +28,7 @@ mod optional;
 mod printable_string;
 mod public_key_info;
 mod sequence_of;
+mod utf8_string;
 mod whole;
 
 pub use algorithm_identifier::{AlgorithmIdentifier, IdentifierFields};
@@ -53,4 +54,5 @@ pub use optional::Optional;
 pub use printable_string::{PrintableStringForm, PrintableStringRef};
 pub use public_key_info::{KeyFields, SubjectPublicKeyInfo, key_from_der};
 pub use sequence_of::{Items, SequenceOf};
+pub use utf8_string::{Utf8StringForm, Utf8StringRef};
 pub use whole::lawful_from_der;

@@ -16,3 +16,5 @@ mod lists;
 mod numbers;
 #[cfg(test)]
 mod tags;
+#[cfg(test)]
+mod texts;

@@ -1,0 +1,51 @@
+//! A UTF8String.
+ghost use Rattle.std.specs.Prelude.{◌≡◌};
+ghost use Rattle.std.proofs.Common.{arith};
+ghost use Rattle.std.specs.Str.{is_utf8};
+ghost use Rattle.der.specs.Prelude.{Utf8String as Utf8Tag};
+
+use crate::checked::Checked;
+use crate::form::Form;
+use der::{FixedTag, Tag};
+
+/// The form of a UTF8String: characters of ISO/IEC 10646 in UTF-8, each as short as can be
+/// (X.690 8.23.10).
+pub struct Utf8StringForm;
+
+/// A UTF8String, lent by the input.
+pub type Utf8StringRef<'a> = Checked<'a, Utf8StringForm>;
+
+impl FixedTag for Utf8StringForm {
+    ghost tag_is = { Utf8Tag };
+
+    const TAG: Tag = Tag::Utf8String;
+
+    fn fixed_tag() -> Tag {
+        Self::TAG
+    }
+}
+
+impl Form for Utf8StringForm {
+    ghost form = { is_utf8 };
+
+    fn has_form(octets: &[u8]) -> bool {
+        match std::str::from_utf8(octets) {
+            Ok(_) => true,
+            Err(_) => false,
+        }
+    }
+
+    ghost numbered = { Prim.omega arith };
+}
+
+impl<'a> Checked<'a, Utf8StringForm> {
+    /// The text.
+    pub fn as_str(&self) -> &'a str
+        ensures { result.now ≡ self.now.octets.now }
+    {
+        match std::str::from_utf8(self.octets()) {
+            Ok(text) => text,
+            Err(_) => unreachable!(),
+        }
+    }
+}
