@@ -2,8 +2,8 @@
 ghost use Rattle.std.specs.Prelude.{◌≡◌, ◌<◌, ◌↔◌, true, false, IsSome, IfSome};
 ghost use Rattle.std.proofs.Common.{arith, subst, sym};
 ghost use Rattle.der.specs.Prelude.{Integer as IntegerTag};
-ghost use Rattle.der_asn1.specs.Checked.{HasForm, TakesForm, FormAnswers, octets_size};
-ghost use Rattle.der_asn1.specs.Checked.{WritesOctets, form_lawful};
+ghost use Rattle.der_asn1.specs.Checked.{HasForm, TakesForm, FormRead, form_size};
+ghost use Rattle.der_asn1.specs.Checked.{FormWritten, form_lawful};
 
 use crate::explicit::Nestable;
 use crate::integer::IntRef;
@@ -48,9 +48,9 @@ impl<N: IntegerNumber> ReadValue for IntegerOf<N> {
 
     ghost takes = { TakesForm N.form (λ v. N.contents_of v.number) };
 
-    ghost levels = { λ _. 0 };
+    ghost value_levels = { λ _. 0 };
 
-    ghost takes_memory = { false };
+    ghost allocates = { false };
 
     ghost takes_valid = { λ v rules h octets taken.
         subst (λ x. N.form x ≡ true) (sym taken.1) taken.0 };
@@ -66,7 +66,7 @@ impl<N: IntegerNumber> ReadValue for IntegerOf<N> {
 impl<'a, N: IntegerNumber, R: Reader<Lent = &'a [u8]>> DecodeValue<R> for IntegerOf<N> {
     type Error = Error;
 
-    ghost value_answers = { FormAnswers N.form IntegerTag (λ v. N.contents_of v.number) };
+    ghost decode_value_answers = { FormRead N.form IntegerTag (λ v. N.contents_of v.number) };
 
     fn decode_value(_alloc: Global, reader: &mut R, header: Header) -> Result<Self, Error> {
         let octets = reader.read_slice(header.length())?;
@@ -92,9 +92,9 @@ impl<N: IntegerNumber> WrittenValue for IntegerOf<N> {
 /// The number of octets is never refused. Writing hands on the writer's errors, as by
 /// [`Writer::write`].
 impl<N: IntegerNumber> EncodeValue for IntegerOf<N> {
-    ghost value_size = { λ v. octets_size (N.contents_of v.number) };
+    ghost value_size = { λ v. form_size (N.contents_of v.number) };
 
-    ghost value_answers = { λ v. WritesOctets (N.contents_of v.number) };
+    ghost encode_value_answers = { λ v. FormWritten (N.contents_of v.number) };
 
     fn value_len(&self) -> Result<Length, Error> {
         Length::new_usize(self.number.to_contents().as_slice().len())

@@ -1,5 +1,5 @@
 //! INTEGERs as numbers.
-use crate::checks::same_at;
+use der_fixtures::checks::same_at;
 use der::{Encode, Error, ErrorKind, Length, Tag};
 use der_asn1::{IntRef, IntegerNumber, IntegerOf, lawful_from_der};
 use std::alloc::Global;

@@ -1,5 +1,5 @@
 //! Texts in UTF-8.
-use crate::checks::same_at;
+use der_fixtures::checks::same_at;
 use der::{Encode, Error, ErrorKind, Length, Tag};
 use der_asn1::{Utf8StringRef, lawful_from_der};
 use std::alloc::Global;
