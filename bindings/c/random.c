@@ -1,0 +1,185 @@
+/* Reads random octets by the library and by a parser of its own, written after X.690 alone, and stops where they
+ * answer differently: random COUNT. What is read is written again, and walked as a tree. */
+#include <der.h>
+#include <stdio.h>
+#include <stdlib.h>
+#include <string.h>
+
+typedef struct {
+    der_error error;
+    der_tag tag;
+    uint32_t head, length;
+} answer;
+
+static uint64_t state = 0x9E3779B97F4A7C15;
+
+static uint32_t draw(uint32_t below)
+{
+    state ^= state << 13;
+    state ^= state >> 7;
+    state ^= state << 17;
+    return (uint32_t)(state >> 32) % below;
+}
+
+static answer refuse(uint8_t kind, uint32_t position)
+{
+    answer it = {{kind, true, 0, 0, position, 0, 0}, 0, 0, 0};
+    return it;
+}
+
+static answer cut(uint64_t expected, uint32_t count, uint32_t position)
+{
+    answer it = refuse(DER_INCOMPLETE, position);
+    it.error.first = (uint32_t)expected;
+    it.error.second = count;
+    if (expected > UINT32_MAX)
+        it.error = (der_error){DER_OVERFLOW, false, 0, 0, 0, 0, 0};
+    return it;
+}
+
+/* the first element of the octets under DER */
+static answer by_hand(const uint8_t *octets, uint32_t count)
+{
+    static const char universal[] = "\1\2\3\4\5\6\11\12\14\15\22\23\24\25\26\27\30\32\33\36\60\61";
+    uint64_t number = 0, length = 0, least;
+    uint32_t at = 1, k;
+    if (count == 0)
+        return cut(1, 0, 0);
+    if (octets[0] < 64 && (octets[0] == 0 || !strchr(universal, octets[0]))) {
+        answer it = refuse(octets[0] == 31 ? DER_TAG_NUMBER_INVALID : DER_TAG_UNKNOWN, 1);
+        it.error.first = octets[0] == 31 ? 0 : octets[0];
+        return it;
+    }
+    if (octets[0] % 32 == 31) {
+        for (;;) {
+            if (at == count)
+                return cut((uint64_t)count + 1, count, count);
+            number = number * 128 + octets[at] % 128;
+            /* the least number that goes on so, and the only one that ends so */
+            if (octets[at] < 128 ? number < 31 || number > UINT32_MAX : number == 0 || number * 128 > UINT32_MAX)
+                return refuse(DER_TAG_NUMBER_INVALID, at + 1);
+            if (octets[at++] < 128)
+                break;
+        }
+    }
+    if (at == count)
+        return cut((uint64_t)count + 1, count, count);
+    answer wrong = refuse(DER_LENGTH, at + 1);
+    wrong.error.actual = octets[0];
+    wrong.error.second = (uint32_t)number;
+    k = octets[at++];
+    if (k == 128)
+        return refuse(DER_INDEFINITE_LENGTH, at);
+    if (k > 132)
+        return wrong;
+    if (k < 128) {
+        length = k;
+    } else {
+        k -= 128;
+        least = k == 1 ? 128 : (uint64_t)1 << 8 * (k - 1);
+        for (; k; k--) {
+            if (at == count)
+                return cut((uint64_t)count + 1, count, count);
+            length = length * 256 + octets[at++];
+        }
+        wrong.error.position = at;
+        if (length < least)
+            return wrong;
+    }
+    if (at + length > count)
+        return cut(at + length, count, at);
+    answer it = {{0, false, 0, 0, 0, 0, 0}, octets[0] + 256 * number, at, (uint32_t)length};
+    return it;
+}
+
+static void stop(const char *why, const uint8_t *octets, uint32_t count)
+{
+    fprintf(stderr, "random: %s:", why);
+    for (uint32_t i = 0; i < count; i++)
+        fprintf(stderr, " %02X", octets[i]);
+    fprintf(stderr, "\n");
+    exit(1);
+}
+
+static size_t walk(der_reader *reader, int depth, der_node *nodes, size_t at, bool *is_refused)
+{
+    while (!*is_refused && !der_is_finished(reader)) {
+        der_element element = DER_ELEMENT;
+        der_reader inside = DER_READER;
+        if (der_read_element(reader, &element).kind) {
+            *is_refused = true;
+            break;
+        }
+        nodes[at++] = (der_node){element.tag, element.start, element.contents_start,
+                                 element.contents_start + (uint32_t)element.length, (uint8_t)depth,
+                                 element.constructed, element.indefinite};
+        if (element.constructed && depth < 32) {
+            if (der_open(reader, &element, &inside).kind)
+                *is_refused = true;
+            else
+                at = walk(&inside, depth + 1, nodes, at, is_refused);
+        }
+    }
+    return at;
+}
+
+static bool is_same(const der_node *a, const der_node *b)
+{
+    return a->tag == b->tag && a->start == b->start && a->contents_start == b->contents_start && a->end == b->end &&
+           a->depth == b->depth && a->constructed == b->constructed && a->indefinite == b->indefinite;
+}
+
+static void see_tree(const uint8_t *octets, uint32_t count, bool ber)
+{
+    static der_node nodes[128], others[128];
+    der_reader reader = DER_READER, copy = DER_READER;
+    size_t number = 0;
+    bool is_refused = false;
+    der_reader_init(octets, count, ber, &reader);
+    der_reader_init(octets, count, ber, &copy);
+    der_error error = der_read_tree(&reader, nodes, 128, &number);
+    size_t wanted = walk(&copy, 0, others, 0, &is_refused);
+    if ((error.kind != 0) != is_refused || number != wanted)
+        stop("a tree", octets, count);
+    for (size_t i = 0; i < number; i++)
+        if (!is_same(&nodes[i], &others[i]))
+            stop("a node", octets, count);
+}
+
+int main(int argc, char **argv)
+{
+    static const uint8_t often[] = {0x30, 0x31, 0x24, 0x80, 0x81, 0x82, 0x84, 0x85, 0x02, 0x04, 0x05, 0x1F,
+                                    0x9F, 0xBF, 0xA0, 0x00, 0x00, 0x01, 0x03, 0x7F, 0xFF};
+    uint8_t octets[64], written[64];
+    long elements = 0, number = argc > 1 ? atol(argv[1]) : 1000000;
+    for (long i = 0; i < number; i++) {
+        uint32_t count = draw(24);
+        for (uint32_t j = 0; j < count; j++)
+            octets[j] = draw(3) ? often[draw(sizeof often)] : (uint8_t)draw(256);
+        der_reader reader = DER_READER;
+        der_element element = DER_ELEMENT;
+        der_reader_init(octets, count, false, &reader);
+        der_error error = der_read_element(&reader, &element);
+        answer wanted = by_hand(octets, count);
+        if (memcmp(&error, &wanted.error, sizeof error))
+            stop("an error", octets, count);
+        if (!error.kind) {
+            elements++;
+            if (element.tag != wanted.tag || element.contents_start != wanted.head || element.length != wanted.length ||
+                element.contents != octets + wanted.head || element.constructed != octets[0] / 32 % 2)
+                stop("an element", octets, count);
+            der_writer writer = DER_WRITER;
+            uint32_t whole = 0;
+            der_writer_init(written, sizeof written, &writer);
+            der_write_element(&writer, element.tag, element.contents, element.length);
+            der_element_length(element.tag, (uint32_t)element.length, &whole);
+            if (der_writer_finish(&writer).kind || der_written(&writer) != wanted.head + wanted.length ||
+                whole != wanted.head + wanted.length || memcmp(written, octets, whole))
+                stop("an element that was written", octets, count);
+        }
+        see_tree(octets, count, false);
+        see_tree(octets, count, true);
+    }
+    printf("%ld inputs, %ld with an element\n", number, elements);
+    return 0;
+}
