@@ -16,6 +16,12 @@ pub mod Integer
 pub mod SequenceOf
 pub mod FieldLaws
 pub mod DefaultLaws
+pub mod TagSets
+pub mod TagSetLemmas
+pub mod SetLaws
+pub mod PairLaws
+pub mod SameLaws
+pub mod Sequence
 pub mod ElementLaws
 pub mod AlgorithmIdentifier
 pub mod SubjectPublicKeyInfo
