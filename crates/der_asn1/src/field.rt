@@ -56,7 +56,8 @@ pub trait DecodeField<R: Reader>: Decode<R> + Field {
     ghost same_heads: { (v : Self) (rules : Rules) (octets : List ℕ) (m : ℕ)
         → Self.Decode.stands_ahead v rules octets m ↔ Self.Field.stands v rules octets m };
 
-    ghost same_needs: { (rules : Rules) → Self.Decode.decode_levels rules ≡ Self.Field.nests rules };
+    ghost same_needs: { (rules : Rules)
+        → Self.Decode.decode_levels rules ≡ Self.Field.nests rules };
 
     ghost same_memory: { Self.Decode.allocates ≡ Self.Field.wants_memory };
 }

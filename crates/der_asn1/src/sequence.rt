@@ -52,10 +52,11 @@ pub trait Record: Fields + Drop {
     /// Those of the fields, one behind the other; what was written before stands.
     fn encode_fields<W: Writer>(&self, writer: &mut W) -> Result<(), Error>
         ensures kept { Keeps (W.state writer.old) (W.state writer.new) }
-        ensures ok { Appends (W.state writer.old) (Self.Members.encoding (Self.members self.now)) result
-            (W.state writer.new) }
+        ensures ok { Appends (W.state writer.old)
+            (Self.Members.encoding (Self.members self.now)) result (W.state writer.new) }
         ensures succeeds { Self.Members.encodable (Self.members self.now)
-            → FitsCounted (W.state writer.old) (Self.Members.encoding (Self.members self.now)) result }
+            → FitsCounted (W.state writer.old)
+            (Self.Members.encoding (Self.members self.now)) result }
         ensures exact { W.reliable ≡ true → Self.Members.encode_answers (Self.members self.now)
             (W.state writer.old) result (W.state writer.new) };
 }
@@ -140,7 +141,8 @@ impl<T: Record> EncodeValue for Sequence<T> {
 }
 
 impl<T: Fields> Lawful for Sequence<T> {
-    ghost lawful = { sequence_lawful T.Members.nests (λ v. T.members v.0) T.together T.Members.laws };
+    ghost lawful = { sequence_lawful T.Members.nests (λ v. T.members v.0) T.together
+        T.Members.laws };
 }
 
 impl<T: Fields> Nestable for Sequence<T> {
