@@ -12,7 +12,7 @@ use Rattle.der_core.specs.Reader.{read_slice_outcome, finish_answer}
 use Rattle.der_core.specs.Decode.{Passes, IsRefusedBy}
 use Rattle.der_core.specs.Header.{head_of, HeaderAhead}
 use Rattle.der_core.specs.declared.header.Header.{Header}
-use Rattle.der_c.specs.Compare.{IsWholeElement, RefusesWhole, RefusesEither, no_header, cut, left_over}
+use Rattle.der_c.specs.Compare.{IsOneElement, RefusesWhole, RefusesEither, no_header, cut, left_over}
 
 pub header_refused : {octets : List ℕ} {s t : ReaderState} {e : Error} → s ≡ initial_state Der octets
     → IsRefusedBy (HeaderFault BodyFault) s e t → RefusesWhole octets e
@@ -30,6 +30,6 @@ octets_left {contents = contents} {u = u} {t = t} {h = h} (Err e) new passed sam
     left_over h u t contents (subst (λ s. Passes (HeaderAhead h) s u) new passed) (subst (λ l. Gives (read_slice_outcome (number l)) u (Ok contents) t) same g) (sym is)
 
 -- the first is wholly an element, and the second alone may be refused
-pub second_refused : {first : List ℕ} (second : List ℕ) (r : Result (Unit {0}) Error) → IsWholeElement first → IfErr r (RefusesWhole second) → IfErr r (RefusesEither first second)
+pub second_refused : {first : List ℕ} (second : List ℕ) (r : Result (Unit {0}) Error) → IsOneElement first → IfErr r (RefusesWhole second) → IfErr r (RefusesEither first second)
 second_refused second (Ok _) whole h = tt
 second_refused second (Err e) whole h = inr (whole, h)

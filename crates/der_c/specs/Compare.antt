@@ -20,7 +20,7 @@ use Rattle.der_c.specs.Error.{no_error, error_code}
 use Rattle.der_c.specs.declared.error.DerError.{DerError}
 
 -- octets are wholly one element under DER: a header, and as many octets more as its length says
-pub record IsWholeElement (octets : List ℕ) : Type 0 where
+pub record IsOneElement (octets : List ℕ) : Type 0 where
   pub head : Head
   pub count : ℕ
   pub ahead : HeadAhead head Der octets count
@@ -42,7 +42,7 @@ pub data RefusesWhole (octets : List ℕ) (e : Error) : Type 0 where
 -- the first of two is not, or the second alone
 abbrev pub RefusesEither : List ℕ → List ℕ → Error → Type 0
 RefusesEither first second e =
-    RefusesWhole first e ⊎ (IsWholeElement first × RefusesWhole second e)
+    RefusesWhole first e ⊎ (IsOneElement first × RefusesWhole second e)
 
 abbrev pub order_number : Ordering → ℤ
 order_number Less = negsuc 0
@@ -51,7 +51,7 @@ order_number Greater = pos 1
 
 -- both are elements, and their byte order is told; or one is not, which is told
 pub data Compares (first second : List ℕ) (result : DerError) (old new : ℤ) : Type 0 where
-  compared : IsWholeElement first → IsWholeElement second → result ≡ no_error
+  compared : IsOneElement first → IsOneElement second → result ≡ no_error
       → new ≡ order_number (byte_order first second) → Compares first second result old new
   refused : (e : Error) → RefusesEither first second e → result ≡ error_code e → new ≡ old
       → Compares first second result old new

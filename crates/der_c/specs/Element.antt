@@ -21,7 +21,7 @@ use Rattle.der_c.specs.declared.error.DerError.{DerError}
 use Rattle.der_c.specs.declared.element.DerElement.{DerElement}
 
 -- the element of a header that begins at a position, with what it counts behind another
-pub record IsElement (h : Head) (octets : List ℕ) (from behind : ℕ) (e : DerElement) : Type 0 where
+pub record IsToldElement (h : Head) (octets : List ℕ) (from behind : ℕ) (e : DerElement) : Type 0 where
   pub contents : e.contents.now ≡ take (number (sans_eoc h.length)) octets
   pub tag : e.tag ≡ tag_word h.tag
   pub start : e.start ≡ from
@@ -34,7 +34,7 @@ pub record IsElement (h : Head) (octets : List ℕ) (from behind : ℕ) (e : Der
 pub data ReadsContents (h : Head) (from : ℕ) (s : ReaderState) (result : DerError) (e : DerElement)
     (t : ReaderState) : Type 0 where
   there : (octets : List ℕ) → Gives (read_slice_outcome (number h.length)) s (Ok octets) t
-      → result ≡ no_error → IsElement h octets from s.position e
+      → result ≡ no_error → IsToldElement h octets from s.position e
       → ReadsContents h from s result e t
   missing : (error : Error) → Gives (read_slice_outcome (number h.length)) s (Err error) t
       → result ≡ error_code error → ReadsContents h from s result e t

@@ -1,6 +1,6 @@
 //! The order of elements, in C.
 ghost use Rattle.std.specs.Prelude.{IfOk, IfErr};
-ghost use Rattle.der_c.specs.Compare.{IsWholeElement, RefusesWhole, RefusesEither, Compares};
+ghost use Rattle.der_c.specs.Compare.{IsOneElement, RefusesWhole, RefusesEither, Compares};
 
 use crate::error::{DerError, told};
 use der_base::Error;
@@ -32,8 +32,8 @@ pub extern "C" fn der_compare(first: &[u8], second: &[u8], order: &mut i32) -> D
 
 // Whether both are wholly elements.
 fn both_whole(first: &[u8], second: &[u8]) -> Result<(), Error>
-    ensures first { IfOk result (λ _. IsWholeElement first.now) }
-    ensures second { IfOk result (λ _. IsWholeElement second.now) }
+    ensures first { IfOk result (λ _. IsOneElement first.now) }
+    ensures second { IfOk result (λ _. IsOneElement second.now) }
     ensures refused { IfErr result (RefusesEither first.now second.now) }
 {
     match whole(first) {
@@ -44,7 +44,7 @@ fn both_whole(first: &[u8], second: &[u8]) -> Result<(), Error>
 
 // Whether the octets are wholly an element.
 fn whole(octets: &[u8]) -> Result<(), Error>
-    ensures ok { IfOk result (λ _. IsWholeElement octets.now) }
+    ensures ok { IfOk result (λ _. IsOneElement octets.now) }
     ensures refused { IfErr result (RefusesWhole octets.now) }
 {
     let mut reader = match SliceReader::new(octets) {
