@@ -23,5 +23,3 @@ pub mod PairLaws
 pub mod SameLaws
 pub mod Sequence
 pub mod ElementLaws
-pub mod AlgorithmIdentifier
-pub mod SubjectPublicKeyInfo
