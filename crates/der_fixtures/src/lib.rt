@@ -1,9 +1,8 @@
-//! What the tests of several crates share: assertions, readers and calls of them, octets that they
-//! read, and errors.
+//! What the tests of several crates share: readers and calls of them, octets that they read, and
+//! errors.
 #![tactic(auto)]
 
 pub mod bodies;
 pub mod calls;
-pub mod checks;
 pub mod errors;
 pub mod readers;

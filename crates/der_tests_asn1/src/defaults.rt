@@ -1,7 +1,7 @@
 //! Fields with a default: BOOLEAN DEFAULT FALSE.
+use crate::checks::same_at;
 use der::{Decode, Encode, Error, ErrorKind, Length, Reader, SliceReader, Tag};
 use der_asn1::{BooleanRef, Defaulted};
-use der_fixtures::checks::same_at;
 use der_fixtures::readers::{ber_reader, der_reader};
 use std::alloc::Global;
 

@@ -1,9 +1,9 @@
 //! Fields that may be absent, and elements of any tag.
+use crate::checks::{holds, same_at};
 use der::{
     Decode, DecodeBytes, Encode, Error, ErrorKind, Length, Reader, SliceReader, Tag, TagNumber,
 };
 use der_asn1::{AnyRef, IntRef, Optional};
-use der_fixtures::checks::{holds, same_at};
 use std::alloc::Global;
 
 // The integer that may stand at the front of the octets, and the position behind it.

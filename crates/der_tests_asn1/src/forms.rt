@@ -1,10 +1,10 @@
 //! Contents that have a form of X.690, and contents that have it not.
+use crate::checks::same_at;
 use der::{DecodeBytes, Error, ErrorKind, Length, Tag};
 use der_asn1::{
     BitStringRef, BooleanRef, Ia5StringRef, IntRef, Null, ObjectIdentifierRef, OctetStringRef,
     PrintableStringRef, lawful_from_der,
 };
-use der_fixtures::checks::same_at;
 use std::alloc::Global;
 
 // The contents that these octets are the element of.

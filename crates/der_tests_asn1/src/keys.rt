@@ -1,7 +1,7 @@
 //! Public keys.
+use crate::checks::{holds, same_at};
 use der::{Encode, Error, ErrorKind, Length, Tag};
 use der_asn1::key_from_der;
-use der_fixtures::checks::{holds, same_at};
 use der_fixtures::errors::{incomplete, unexpected};
 use std::alloc::Global;
 

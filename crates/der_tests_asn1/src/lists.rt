@@ -1,7 +1,7 @@
 //! SEQUENCE OF INTEGER.
+use crate::checks::{holds, same_at};
 use der::{Encode, Error, ErrorKind, Length, Tag};
 use der_asn1::{Explicit, IntRef, SequenceOf, lawful_from_der};
-use der_fixtures::checks::{holds, same_at};
 use der_fixtures::errors::{incomplete, unexpected};
 use std::alloc::Global;
 

@@ -1,7 +1,7 @@
 //! INTEGERs as numbers.
+use crate::checks::same_at;
 use der::{Encode, Error, ErrorKind, Length, Tag};
 use der_asn1::{IntRef, IntegerNumber, IntegerOf, lawful_from_der};
-use der_fixtures::checks::same_at;
 use std::alloc::Global;
 
 // The number that these octets are the element of, and whether it is written as it was read.

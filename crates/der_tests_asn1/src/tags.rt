@@ -1,7 +1,7 @@
 //! Context-specific tags in the place of others, and around elements.
+use crate::checks::same_at;
 use der::{Encode, Error, ErrorKind, Length, Tag, TagNumber};
 use der_asn1::{Explicit, Implicit, IntRef, lawful_from_der};
-use der_fixtures::checks::same_at;
 use der_fixtures::errors::{trailing, unexpected};
 use std::alloc::Global;
 

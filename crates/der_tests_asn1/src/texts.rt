@@ -1,7 +1,7 @@
 //! Texts in UTF-8.
+use crate::checks::same_at;
 use der::{Encode, Error, ErrorKind, Length, Tag};
 use der_asn1::{Utf8StringRef, lawful_from_der};
-use der_fixtures::checks::same_at;
 use std::alloc::Global;
 
 // The text that these octets are the element of, and whether it is written as it was read.

@@ -5,4 +5,6 @@
 #[cfg(test)]
 mod basic;
 #[cfg(test)]
+mod checks;
+#[cfg(test)]
 mod distinguished;

@@ -1,9 +1,9 @@
 //! Classes of tags.
+use crate::checks::{holds, same, same_at};
 use der::{
     CLASS_APPLICATION, CLASS_CONTEXT_SPECIFIC, CLASS_PRIVATE, CLASS_UNIVERSAL, Class, Tag,
     TagNumber,
 };
-use der_fixtures::checks::{holds, same, same_at};
 use std::test::Fail;
 
 #[test]

@@ -1,6 +1,6 @@
 //! Errors and their printed texts.
+use crate::checks::{holds, same, same_at};
 use der::{Error, ErrorKind, Length, Tag};
-use der_fixtures::checks::{holds, same, same_at};
 use std::alloc::Global;
 use std::process::Abort;
 use std::str;

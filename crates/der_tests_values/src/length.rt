@@ -1,6 +1,6 @@
 //! Lengths.
+use crate::checks::{holds, same, same_at};
 use der::{Error, ErrorKind, Length, Result, Tag, TagNumber};
-use der_fixtures::checks::{holds, same, same_at};
 use std::cmp::Ordering;
 use std::hash::{DefaultHasher, Hash, Hasher};
 use std::test::Fail;

@@ -1,6 +1,6 @@
 //! Names of tagging modes and of encoding rules.
+use crate::checks::{holds, same, same_at};
 use der::{EncodingRules, Error, ErrorKind, TagMode};
-use der_fixtures::checks::{holds, same, same_at};
 use std::str::FromStr;
 use std::test::Fail;
 

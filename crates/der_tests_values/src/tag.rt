@@ -1,7 +1,7 @@
 //! Tags and tag numbers.
+use crate::checks::{holds, same, same_at};
 use crate::recorder::recorded;
 use der::{Class, ErrorKind, Tag, TagNumber};
-use der_fixtures::checks::{holds, same, same_at};
 use std::alloc::Global;
 use std::cmp::Ordering;
 use std::process::Abort;

@@ -1,7 +1,7 @@
 //! A SEQUENCE of two fields, of which each length may have either form.
 use super::*;
+use crate::checks::{same, same_at, same_octets};
 use der::Encode;
-use der_fixtures::checks::{same, same_at, same_octets};
 use der_uses::algorithm_identifier::AlgorithmIdentifier;
 use der_uses::lent::Lent;
 

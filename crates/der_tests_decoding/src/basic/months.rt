@@ -1,6 +1,6 @@
 //! A month, which takes one octet: as a string that is constructed too, and never as segments.
 use super::*;
-use der_fixtures::checks::{same, same_at};
+use crate::checks::{same, same_at};
 
 // The number of the month that all the octets are.
 fn month(alloc: Global, octets: &[u8]) -> Result<u8, Error> {

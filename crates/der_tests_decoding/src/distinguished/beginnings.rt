@@ -2,10 +2,10 @@
 use super::nests::Nest;
 use super::rows::{Kind, ROWS};
 use super::*;
+use crate::checks::same_at;
 use der::EncodingRules;
 use der::example::{BorrowedOctets, JoinedOctets, OwnedText};
 use der_fixtures::bodies::{around_contents, around_null, first_octets};
-use der_fixtures::checks::same_at;
 use std::process::Abort;
 
 // How many octets are passed, or nothing where they are refused.

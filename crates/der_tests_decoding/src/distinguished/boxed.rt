@@ -1,7 +1,7 @@
 //! A month in memory of its own.
 use super::*;
+use crate::checks::{same, same_octets};
 use der::{EncodeValue, Tagged};
-use der_fixtures::checks::{same, same_octets};
 use der_uses::lent::Lent;
 
 // The month that all the octets are.

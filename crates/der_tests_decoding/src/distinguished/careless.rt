@@ -3,8 +3,8 @@ ghost use Rattle.std.specs.Prelude.{◌≡◌, [], false};
 ghost use Rattle.der.specs.Prelude.{OctetString};
 
 use super::*;
+use crate::checks::{holds, same};
 use der::{DecodeValue, FixedTag, ReadValue};
-use der_fixtures::checks::{holds, same};
 
 // An octet, answered although the one behind it was refused; so no contents are read as it.
 #[derive(Clone, Copy)]

@@ -1,7 +1,7 @@
 //! The constants of types, which no clause can name, and the functions that say the same.
 use super::*;
+use crate::checks::same;
 use der::{FixedTag, IsConstructed};
-use der_fixtures::checks::same;
 use der_uses::algorithm_identifier::AlgorithmIdentifier;
 use der_uses::key_info::KeyInfo;
 use der_uses::lent::Lent;

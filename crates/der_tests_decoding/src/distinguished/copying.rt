@@ -1,6 +1,6 @@
 //! Values from a reader that cannot lend.
 use super::*;
-use der_fixtures::checks::{holds, same};
+use crate::checks::{holds, same};
 use der_uses::algorithm_identifier::AlgorithmIdentifier;
 use der_uses::lent::Lent;
 use der_uses::reader::CopyingReader;

@@ -1,6 +1,6 @@
 //! Values inside as many parts as there may be.
 use super::*;
-use der_fixtures::checks::same;
+use crate::checks::same;
 
 // A reader of three octets inside so many parts, each of them all.
 fn reader_inside(octets: &[u8; 3], parts: u8) -> Result<SliceReader<'_>, Error> {

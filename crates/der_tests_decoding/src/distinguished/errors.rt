@@ -5,8 +5,8 @@ ghost use Rattle.der.specs.Prelude.{kind_of, OctetString};
 ghost use Rattle.der.specs.Decode.{is_out_of_memory_kind};
 
 use super::*;
+use crate::checks::{holds, same, same_at};
 use der::{DecodeError, DecodeValue, FixedTag, ReadValue};
-use der_fixtures::checks::{holds, same, same_at};
 
 #[derive(Clone, Copy, Debug, PartialEq, Eq)]
 struct OctetError {

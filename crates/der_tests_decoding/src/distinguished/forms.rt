@@ -1,6 +1,6 @@
 //! Contents whose lengths have each of the forms.
 use super::*;
-use der_fixtures::checks::same_at;
+use crate::checks::same_at;
 use der_uses::lent::Lent;
 use std::process::Abort;
 

@@ -1,6 +1,6 @@
 //! Headers that are all the octets.
 use super::*;
-use der_fixtures::checks::{same, same_at, same_octets};
+use crate::checks::{same, same_at, same_octets};
 use der_fixtures::errors::{incorrect, indefinite};
 
 // The header that all the octets are.

@@ -1,6 +1,6 @@
 //! A SEQUENCE of two fields.
 use super::*;
-use der_fixtures::checks::{same, same_octets};
+use crate::checks::{same, same_octets};
 use der_uses::algorithm_identifier::AlgorithmIdentifier;
 
 // The identifier that all the octets are.

@@ -1,6 +1,6 @@
 //! A SEQUENCE with another one inside it.
 use super::*;
-use der_fixtures::checks::{same, same_at, same_octets};
+use crate::checks::{same, same_at, same_octets};
 use der_uses::key_info::{KeyInfo, key_info_der, key_info_from_der};
 
 // The key that all the octets are.

@@ -1,6 +1,6 @@
 //! Lengths that are all the octets.
 use super::*;
-use der_fixtures::checks::{same, same_at};
+use crate::checks::{same, same_at};
 use der_fixtures::errors::indefinite;
 
 // The length that all the octets are.

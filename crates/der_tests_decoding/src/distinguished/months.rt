@@ -1,6 +1,6 @@
 //! A month as one octet.
 use super::*;
-use der_fixtures::checks::{same, same_at, same_octets};
+use crate::checks::{same, same_at, same_octets};
 
 // The month that all the octets are.
 fn month_of(alloc: Global, bytes: &[u8]) -> Result<MyByteMonth, Error> {

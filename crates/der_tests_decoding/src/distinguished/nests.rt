@@ -3,8 +3,8 @@ ghost use Rattle.std.specs.Prelude.{false};
 ghost use Rattle.der.specs.Prelude.{OctetString, Same};
 
 use super::*;
+use crate::checks::{holds, same};
 use der::{DecodeValue, FixedTag, ReadValue};
-use der_fixtures::checks::{holds, same};
 use der_fixtures::errors::too_deep;
 
 #[derive(Clone, Copy)]

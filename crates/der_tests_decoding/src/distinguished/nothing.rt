@@ -1,6 +1,6 @@
 //! Nothing, which is read from no octets.
 use super::*;
-use der_fixtures::checks::{holds, same, same_octets};
+use crate::checks::{holds, same, same_octets};
 use std::marker::PhantomData;
 
 // Nothing, where that is what all the octets are.

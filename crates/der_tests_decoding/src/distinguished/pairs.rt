@@ -1,6 +1,6 @@
 //! Values one behind the other.
 use super::*;
-use der_fixtures::checks::{same, same_at, same_octets};
+use crate::checks::{same, same_at, same_octets};
 use std::marker::PhantomData;
 
 // The two months that all the octets are.

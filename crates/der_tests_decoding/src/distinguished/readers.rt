@@ -1,7 +1,7 @@
 //! Values decoded by a type from a reader, and by the reader, which then has failed.
 use super::*;
+use crate::checks::{holds, same};
 use der::{DecodeValue, decode_contents, decode_tlv};
-use der_fixtures::checks::{holds, same};
 
 // The number of the month that the reader decodes.
 fn next_month(alloc: Global, reader: &mut SliceReader<'_>) -> Result<u8, Error> {

@@ -1,8 +1,8 @@
 //! A SET OF OCTET STRING: sorted and written, and read in order.
 use super::*;
+use crate::checks::{same, same_at, same_octets};
 use der::BytesRef;
 use der::example::BorrowedOctets;
-use der_fixtures::checks::{same, same_at, same_octets};
 use der_uses::set_of::{set_of_contents, set_of_der};
 use std::process::Abort;
 

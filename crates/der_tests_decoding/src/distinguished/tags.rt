@@ -1,6 +1,6 @@
 //! Tags that are all the octets.
 use super::*;
-use der_fixtures::checks::{same, same_at};
+use crate::checks::{same, same_at};
 use der_fixtures::errors::{invalid_number, unknown};
 
 // The tag that all the octets are.

@@ -1,7 +1,7 @@
 //! What is ahead of a reader under the Basic Encoding Rules; the reader stays.
 use super::*;
+use crate::checks::{holds, same, same_octets};
 use der::{Class, TagNumber, TagPeek};
-use der_fixtures::checks::{holds, same, same_octets};
 use std::process::Abort;
 
 fn tag_ahead(reader: &SliceReader<'_>) -> Result<Tag, Error> {

@@ -1,7 +1,7 @@
 //! Octet 24: the identifier of a string of segments, which the Basic Encoding Rules alone know.
 use super::*;
+use crate::checks::{same, same_at, same_octets};
 use der::{Encode, TagPeek};
-use der_fixtures::checks::{same, same_at, same_octets};
 
 fn tag_under_ber(alloc: Global, octets: &[u8]) -> Result<Tag, Error> {
     Tag::from_ber(alloc, octets)

@@ -3,9 +3,9 @@ ghost use Rattle.std.specs.Prelude.{◌≡◌};
 ghost use Rattle.der.specs.Prelude.{Same, slice_state};
 
 use super::*;
+use crate::checks::{same, same_at, same_octets};
 use der::TagNumber;
 use der_fixtures::bodies::ENCRYPTED_CONTENT_INFO;
-use der_fixtures::checks::{same, same_at, same_octets};
 
 #[test]
 fn an_element_among_others(rt: HostRuntime) -> Result<(), Fail> {

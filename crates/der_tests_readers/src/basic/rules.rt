@@ -1,7 +1,7 @@
 //! What both rules answer alike, and what the Distinguished Encoding Rules refuse.
 use super::*;
+use crate::checks::{same, same_at, same_octets};
 use der::TagNumber;
-use der_fixtures::checks::{same, same_at, same_octets};
 
 fn length_under_ber(alloc: Global, octets: &[u8]) -> Result<Length, Error> {
     Length::from_ber(alloc, octets)

@@ -3,8 +3,8 @@ ghost use Rattle.std.specs.Prelude.{◌≡◌};
 ghost use Rattle.der.specs.Prelude.{Same, slice_state};
 
 use super::*;
+use crate::checks::{same, same_at, same_octets};
 use der::{close_value, read_value};
-use der_fixtures::checks::{same, same_at, same_octets};
 
 fn read_header<R: Reader>(reader: &mut R) -> Result<Header, Error>
     ensures { Same (R.state reader.old) (R.state reader.new) }

@@ -1,7 +1,7 @@
 //! What is ahead of a reader, whole elements, and octets that are passed.
 use super::*;
+use crate::checks::{holds, same, same_at};
 use der::{Class, TagPeek};
-use der_fixtures::checks::{holds, same, same_at};
 use der_fixtures::errors::{invalid_number, unknown};
 
 #[test]

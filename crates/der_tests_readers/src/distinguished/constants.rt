@@ -1,6 +1,6 @@
 //! Whether a reader lends, by its constant and by its function.
 use super::*;
-use der_fixtures::checks::same;
+use crate::checks::same;
 use der_uses::reader::CopyingReader;
 use std::process::Abort;
 

@@ -2,8 +2,8 @@
 ghost use Rattle.der.specs.Prelude.{slice_state, Same};
 
 use super::*;
+use crate::checks::{same, same_at};
 use der::{Resumption, close_value};
-use der_fixtures::checks::{same, same_at};
 use der_fixtures::errors::too_deep;
 
 // So many empty parts inside each other.

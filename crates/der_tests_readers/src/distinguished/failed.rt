@@ -2,7 +2,7 @@
 ghost use Rattle.der.specs.Prelude.{Same};
 
 use super::*;
-use der_fixtures::checks::same;
+use crate::checks::same;
 use der_fixtures::readers::place_of;
 use std::process::Abort;
 

@@ -1,7 +1,7 @@
 //! Headers that are read.
 use super::*;
+use crate::checks::{holds, same, same_at};
 use der_fixtures::bodies::first_octets;
-use der_fixtures::checks::{holds, same, same_at};
 use der_fixtures::errors::{incorrect, indefinite};
 
 fn header(alloc: Global, bytes: &[u8]) -> Result<(Header, usize), Error> {

@@ -1,6 +1,6 @@
 //! Lengths that are read.
 use super::*;
-use der_fixtures::checks::{same, same_at};
+use crate::checks::{same, same_at};
 use der_fixtures::errors::indefinite;
 
 fn length(alloc: Global, bytes: &[u8]) -> Result<(Length, usize), Error> {

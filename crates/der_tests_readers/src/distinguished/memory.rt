@@ -1,6 +1,6 @@
 //! Memory that is refused where octets are copied from a reader.
 use super::*;
-use der_fixtures::checks::{holds_at, same, same_at};
+use crate::checks::{holds_at, same, same_at};
 use linked_list_allocator::LocalHeap;
 use std::process::Abort;
 use std::test::Fail;

@@ -2,8 +2,8 @@
 ghost use Rattle.der.specs.Prelude.{slice_state, Same};
 
 use super::*;
+use crate::checks::{same, same_at};
 use der::{Position, read_eoc, read_value};
-use der_fixtures::checks::{same, same_at};
 use der_fixtures::errors::{indefinite, unexpected};
 
 fn read_one(reader: &mut SliceReader<'_>) -> Result<u8, Error>

@@ -1,7 +1,7 @@
 //! A reader of a slice: what it tells of itself, what it lends, and what it refuses.
 use super::*;
+use crate::checks::{holds, same};
 use der::DecodeError;
-use der_fixtures::checks::{holds, same};
 
 fn octets_of<'a>(reader: &mut SliceReader<'a>, length: Length) -> Result<&'a [u8], Error> {
     reader.read_slice(length)

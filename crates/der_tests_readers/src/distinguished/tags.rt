@@ -1,6 +1,6 @@
 //! Tags that are read.
 use super::*;
-use der_fixtures::checks::{same, same_at};
+use crate::checks::{same, same_at};
 use der_fixtures::errors::{invalid_number, unknown};
 
 fn tag(alloc: Global, bytes: &[u8]) -> Result<(Tag, usize), Error> {

@@ -2,8 +2,8 @@
 ghost use Rattle.der.specs.Prelude.{Same};
 
 use super::*;
+use crate::checks::{holds, same};
 use der::read_eoc;
-use der_fixtures::checks::{holds, same};
 use der_fixtures::errors::incorrect;
 
 fn read_header<R: Reader>(reader: &mut R) -> Result<Header, Error>

@@ -2,8 +2,8 @@
 ghost use Rattle.der.specs.Prelude.{Same};
 
 use super::*;
+use crate::checks::same;
 use der::{close_value, read_value};
-use der_fixtures::checks::same;
 
 fn read_one<R: Reader>(reader: &mut R) -> Result<u8, Error>
     ensures { Same (R.state reader.old) (R.state reader.new) }

@@ -1,7 +1,7 @@
 //! What is ahead of a reader that cannot lend, and what it decodes.
 use super::*;
+use crate::checks::{holds, same};
 use der::{Class, TagPeek};
-use der_fixtures::checks::{holds, same};
 use der_fixtures::errors::unknown;
 
 #[test]

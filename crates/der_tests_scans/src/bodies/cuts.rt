@@ -1,7 +1,7 @@
 //! Elements of indefinite lengths, cut behind each of their octets.
 use super::*;
+use crate::checks::{same, same_at};
 use crate::readers::next_element;
-use der_fixtures::checks::{same, same_at};
 use std::process::Abort;
 
 // The header of octets that are cut is refused so. A reader fails only where the cut is in the

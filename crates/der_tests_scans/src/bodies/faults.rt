@@ -5,7 +5,7 @@ ghost use Rattle.der.specs.Prelude.{Same};
 
 use super::scans::{body_ahead, pass_body};
 use super::*;
-use der_fixtures::checks::same_at;
+use crate::checks::same_at;
 use std::process::Abort;
 
 // What is answered for a header where the read of this number fails, and the place then.

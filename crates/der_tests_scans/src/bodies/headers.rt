@@ -1,7 +1,7 @@
 //! Headers with lengths of the indefinite form, and those that are refused before or behind a scan.
 use super::*;
+use crate::checks::{same, same_at};
 use crate::readers::{next_header, next_length};
-use der_fixtures::checks::{same, same_at};
 use std::process::Abort;
 
 // A SEQUENCE whose body has so many octets, with its end mark.

@@ -3,9 +3,9 @@ ghost use Rattle.std.specs.Prelude.{◌≡◌};
 ghost use Rattle.der.specs.Prelude.{Same};
 
 use super::*;
+use crate::checks::{same, same_at};
 use crate::readers::next_element;
 use der::close_value;
-use der_fixtures::checks::{same, same_at};
 use std::process::Abort;
 
 fn read_header<R: Reader>(reader: &mut R) -> Result<Header, Error>

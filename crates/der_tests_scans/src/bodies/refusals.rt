@@ -5,8 +5,8 @@ ghost use Rattle.der.specs.Prelude.{Ber};
 
 use super::scans::{body_ahead, pass_body};
 use super::*;
+use crate::checks::same_at;
 use crate::readers::next_element;
-use der_fixtures::checks::same_at;
 use std::process::Abort;
 
 // The body behind the first two octets is refused so, by every call and on both readers.

@@ -3,9 +3,9 @@ ghost use Rattle.std.specs.Prelude.{◌≡◌};
 ghost use Rattle.der.specs.Prelude.{Ber, Same};
 
 use super::*;
+use crate::checks::{same, same_at};
 use crate::readers::{next_header, ruled_behind};
 use der::{Turns, decode_indefinite_length};
-use der_fixtures::checks::{same, same_at};
 use std::marker::Brand;
 use std::process::Abort;
 use std::sync::ledger::{Blank, Ledger};

@@ -1,7 +1,7 @@
 //! Bodies behind the two octets of a header, and each beginning of them.
 use super::scans::{Answer, answer_between};
 use super::*;
-use der_fixtures::checks::same;
+use crate::checks::same;
 use std::process::Abort;
 
 // A body of so many octets, with its end mark.

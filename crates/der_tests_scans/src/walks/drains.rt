@@ -1,6 +1,6 @@
 //! Octets that a slice drains at once, and a reader that lends nothing in steps.
 use super::*;
-use der_fixtures::checks::{same, same_at};
+use crate::checks::{same, same_at};
 use std::process::Abort;
 
 // Both readers answer the same, and stand at the same place.

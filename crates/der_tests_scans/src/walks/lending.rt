@@ -2,7 +2,7 @@
 use super::lending_reader::ber_lending;
 use super::scans::scans;
 use super::*;
-use der_fixtures::checks::same;
+use crate::checks::same;
 
 // The scan ahead walks what is lent. One that passes the body has to read it.
 #[test]

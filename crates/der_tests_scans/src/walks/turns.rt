@@ -3,7 +3,7 @@ ghost use Rattle.std.specs.Prelude.{◌≡◌, ◌+◌, Ok};
 ghost use Rattle.der.specs.Prelude.{indefinite_length};
 
 use super::*;
-use der_fixtures::checks::same;
+use crate::checks::same;
 use std::marker::Brand;
 use std::sync::ledger::{Blank, Ledger};
 

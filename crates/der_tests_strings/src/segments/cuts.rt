@@ -1,9 +1,9 @@
 //! Every beginning of elements in segments: each is refused where it was cut.
 use super::levels::{Forms, nested};
 use super::*;
+use crate::checks::same_at;
 use crate::elements::joined_of_ber;
 use der::example::JoinedOctets;
-use der_fixtures::checks::same_at;
 use std::process::Abort;
 
 // Where contents stand that a scan passes at once, and how many octets they have, 16 at most.

@@ -1,7 +1,7 @@
 //! Readers one of whose reads fails, for each read in turn until none does.
 use super::joined::decoding;
 use super::*;
-use der_fixtures::checks::same_at;
+use crate::checks::same_at;
 
 // The body is scanned ahead, so what fails in it fails behind octet 80.
 #[test]

@@ -1,8 +1,8 @@
 //! Elements whose octets may stand in segments.
 use super::*;
+use crate::checks::{same, same_at};
 use crate::elements::{joined_of_ber, joined_of_der, joined_to_der};
 use der::example::JoinedOctets;
-use der_fixtures::checks::{same, same_at};
 use std::process::Abort;
 
 // What an element gives, and where the reader stands then.

@@ -1,6 +1,6 @@
 //! Segments behind lengths of each form, with other tags, inside parts, and of a failed reader.
 use super::*;
-use der_fixtures::checks::{same, same_at};
+use crate::checks::{same, same_at};
 use std::process::Abort;
 
 // Two segments behind a length of the indefinite form, whatever its number.

@@ -1,7 +1,7 @@
 //! Segments inside segments, as deep as they may stand and one deeper.
 use super::*;
+use crate::checks::{same, same_at};
 use crate::elements::joined_of_ber;
-use der_fixtures::checks::{same, same_at};
 use der_fixtures::errors::too_deep;
 use std::process::Abort;
 

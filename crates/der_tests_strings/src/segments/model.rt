@@ -1,7 +1,7 @@
 //! All lists of a few octets, joined by a plain function that goes down into segments, and by the
 //! library.
 use super::*;
-use der_fixtures::checks::{holds_at, same, same_at};
+use crate::checks::{holds_at, same, same_at};
 use std::alloc::AllocError;
 use std::process::Abort;
 

@@ -1,7 +1,7 @@
 //! Contents that stand as they are or in segments.
 use super::*;
+use crate::checks::{same, same_at};
 use der::close_value;
-use der_fixtures::checks::{same, same_at};
 use std::process::Abort;
 
 // Readers that contents are read by, without saying all that they are.

@@ -1,6 +1,6 @@
 //! Segments up to the end.
 use super::*;
-use der_fixtures::checks::same_at;
+use crate::checks::same_at;
 use std::process::Abort;
 
 // What segments are joined to, or why they are refused, and where the reader stands then.

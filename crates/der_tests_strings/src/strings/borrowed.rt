@@ -1,6 +1,6 @@
 //! Octets and texts that are borrowed.
 use super::*;
-use der_fixtures::checks::{holds, same};
+use crate::checks::{holds, same};
 
 #[test]
 fn octets_that_are_borrowed(rt: HostRuntime) -> Result<(), Fail> {

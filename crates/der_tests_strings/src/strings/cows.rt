@@ -1,7 +1,7 @@
 //! Octets and texts that are borrowed where the reader lends.
 use super::*;
+use crate::checks::{holds, same};
 use der::encode_value_to_slice;
-use der_fixtures::checks::{holds, same};
 use std::process::Abort;
 
 // Contents that a reader cannot lend.

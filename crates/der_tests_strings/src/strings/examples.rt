@@ -1,7 +1,7 @@
 //! The types of `example` over octets and texts.
 use super::*;
+use crate::checks::{holds, same};
 use crate::elements::{borrowed_of_der, borrowed_to_der, text_of_der, text_to_der};
-use der_fixtures::checks::{holds, same};
 use std::process::Abort;
 
 #[test]

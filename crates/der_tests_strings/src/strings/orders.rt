@@ -1,6 +1,6 @@
 //! Equality and orders.
 use super::*;
-use der_fixtures::checks::{holds, same};
+use crate::checks::{holds, same};
 use std::cmp::Ordering;
 
 fn borrowed_order(a: &[u8], b: &[u8]) -> Result<Ordering, Error> {

@@ -1,7 +1,7 @@
 //! Octets and texts in memory of their own.
 use super::*;
+use crate::checks::{holds, same};
 use der::{box_to_ref, slice_to_owned};
-use der_fixtures::checks::{holds, same};
 use std::process::Abort;
 
 fn three(alloc: Global) -> Result<BytesOwned, Error> {

@@ -1,10 +1,10 @@
 //! Contents of every form of length.
 use super::*;
+use crate::checks::{holds, holds_at, same, same_at};
 use crate::elements::{
     borrowed_of_der, borrowed_to_der, joined_of_ber, joined_to_der, text_of_der, text_to_der,
 };
 use crate::readers::next_header;
-use der_fixtures::checks::{holds, holds_at, same, same_at};
 
 const COUNTS: [usize; 5] = [0, 1, 127, 128, 65536];
 

@@ -6,8 +6,8 @@ ghost use Rattle.der.specs.BytesCow.{cow_octets};
 ghost use Rattle.der.specs.Octets.{IsCounted, TakesOctets, LentOctetsRead, octets_lawful, octets_size, OctetsWritten};
 
 use super::*;
+use crate::checks::{holds, same};
 use der::{FixedTag, Lawful, ReadValue, Writer, WrittenValue};
-use der_fixtures::checks::{holds, same};
 
 #[derive(Drop)]
 struct CowOctets<'a> {

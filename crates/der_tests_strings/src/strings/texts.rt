@@ -1,6 +1,6 @@
 //! Octets that are texts, and those that are not.
 use super::*;
-use der_fixtures::checks::{holds_at, same_at};
+use crate::checks::{holds_at, same_at};
 use std::process::Abort;
 
 // These octets are a text, borrowed, copied, or read.

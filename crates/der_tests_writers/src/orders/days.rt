@@ -6,7 +6,7 @@ ghost use Rattle.der.specs.Prelude.{definite_length, byte_order, Integer, Writes
 ghost use Rattle.der_base.proofs.OrderLemmas.{then_equal};
 
 use super::*;
-use der_fixtures::checks::same;
+use crate::checks::same;
 
 // A day, whose derived order is that of its octet.
 #[derive(Clone, Copy, Debug, PartialEq, Eq, PartialOrd, Ord)]

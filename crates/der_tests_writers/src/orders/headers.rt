@@ -1,6 +1,6 @@
 //! Orders of headers.
 use super::*;
-use der_fixtures::checks::{same, same_at};
+use crate::checks::{same, same_at};
 
 fn order(this: Header, that: Header) -> Result<Ordering, Error> {
     this.der_cmp(&that)

@@ -1,6 +1,6 @@
 //! Orders of lists.
 use super::*;
-use der_fixtures::checks::same;
+use crate::checks::same;
 
 fn order(these: &[BorrowedOctets<'_>], those: &[BorrowedOctets<'_>]) -> Result<Ordering, Error> {
     iter_cmp(these.iter(), those.iter())

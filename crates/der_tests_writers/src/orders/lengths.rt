@@ -1,6 +1,6 @@
 //! Orders of lengths.
 use super::*;
-use der_fixtures::checks::{same, same_at};
+use crate::checks::{same, same_at};
 
 /// Numbers that ascend, at the edges of the forms of lengths (X.690 8.1.3).
 const ASCENDING: [u32; 12] = [

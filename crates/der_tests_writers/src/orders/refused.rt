@@ -3,7 +3,7 @@ ghost use Rattle.std.specs.Prelude.{◌≡◌, [], Ok, IsOk};
 ghost use Rattle.der.specs.Prelude.{definite_length, map_ok};
 
 use super::*;
-use der_fixtures::checks::same;
+use crate::checks::same;
 
 // A value without contents, whose length may be refused, and whose comparison is told.
 #[derive(Clone, Copy)]

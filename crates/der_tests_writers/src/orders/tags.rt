@@ -1,6 +1,6 @@
 //! Orders of tags.
 use super::*;
-use der_fixtures::checks::{holds, same, same_at};
+use crate::checks::{holds, same, same_at};
 
 fn application(constructed: bool, number: u32) -> Tag {
     TagNumber::new(number).application(constructed)

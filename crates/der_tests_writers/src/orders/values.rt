@@ -1,6 +1,6 @@
 //! Orders of values.
 use super::*;
-use der_fixtures::checks::{same, same_at};
+use crate::checks::{same, same_at};
 
 /// Contents that ascend where a header stands before them: fewer octets have the smaller length.
 const ASCENDING: [&[u8]; 6] = [

@@ -1,9 +1,9 @@
 //! The constants of types, which no clause can name, and the functions that say the same.
 use super::month::Months;
 use super::*;
+use crate::checks::same;
 use der::example::MyByteMonth;
 use der::{FixedTag, IsConstructed};
-use der_fixtures::checks::same;
 use std::process::Abort;
 
 fn tags_agree<T: FixedTag>(rt: &impl Abort, tag: Tag, constructed: bool) {

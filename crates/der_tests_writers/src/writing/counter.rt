@@ -3,8 +3,8 @@ ghost use Rattle.std.specs.Prelude.{true, false, []};
 
 use super::month::september;
 use super::*;
+use crate::checks::same;
 use der::{Encode, EncodeValue, Writer, encode_tlv};
-use der_fixtures::checks::same;
 
 #[derive(Drop)]
 struct Counter {

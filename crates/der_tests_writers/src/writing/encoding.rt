@@ -1,8 +1,8 @@
 //! Headers, lengths, tags and elements as octets.
 use super::month::september;
 use super::*;
+use crate::checks::{holds, holds_at, same, same_at};
 use der::{Encode, SliceWriter, encode_tlv, encoded_len_tlv};
-use der_fixtures::checks::{holds, holds_at, same, same_at};
 use der_fixtures::readers::front;
 
 #[test]

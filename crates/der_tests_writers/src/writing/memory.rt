@@ -1,7 +1,7 @@
 //! Memory that is refused where octets are written to a vector.
 use super::*;
+use crate::checks::{holds, same, same_at};
 use der::{encode_to_vec_in, to_der_in};
-use der_fixtures::checks::{holds, same, same_at};
 use linked_list_allocator::LocalHeap;
 
 const SIZES: [usize; 8] = [32, 48, 64, 80, 96, 128, 160, 256];

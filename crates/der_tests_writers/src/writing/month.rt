@@ -3,9 +3,9 @@ ghost use Rattle.std.specs.Prelude.{◌≡◌, [], ◌∷◌, ◌++◌, IfOk, On
 ghost use Rattle.der.specs.Prelude.{definite_length, Sequence};
 
 use super::*;
+use crate::checks::same;
 use der::example::MyByteMonth;
 use der::{Encode, EncodeValue, FixedTag, Tagged};
-use der_fixtures::checks::same;
 
 pub fn september() -> Result<MyByteMonth, Error> {
     MyByteMonth::new(9).ok_or(ErrorKind::DateTime.to_error())

@@ -1,8 +1,8 @@
 //! References, which are encoded as what they refer to.
 use super::month::september;
 use super::*;
+use crate::checks::{holds, same};
 use der::{Encode, EncodeRef, EncodeValue, EncodeValueRef, Tagged, encode_value_to_slice};
-use der_fixtures::checks::{holds, same};
 
 #[test]
 fn references_are_encoded_as_their_values(rt: HostRuntime) -> Result<(), Fail> {

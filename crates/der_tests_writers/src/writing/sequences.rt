@@ -4,8 +4,8 @@ ghost use Rattle.der.specs.Prelude.{number, header_octets, Sequence, Keeps, Appe
 ghost use Rattle.der.specs.WrittenSequence.{headed_state};
 
 use super::*;
+use crate::checks::{holds, same, same_at};
 use der::{Encode, SliceWriter, Writer};
-use der_fixtures::checks::{holds, same, same_at};
 
 // Any value in a SEQUENCE of its own.
 fn encode_in_sequence<T: Encode>(

@@ -1,8 +1,8 @@
 //! What a writer into a slice takes, and what it refuses.
 use super::month::september;
 use super::*;
+use crate::checks::{holds, same};
 use der::{Encode, SliceWriter, Writer, encode_value_to_slice};
-use der_fixtures::checks::{holds, same};
 
 #[test]
 fn octets_are_written_to_the_end_of_the_room(rt: HostRuntime) -> Result<(), Fail> {

@@ -5,8 +5,8 @@ ghost use Rattle.der.specs.ErrorKinds.{Overflow};
 ghost use Rattle.der.specs.Encode.{ThenAnswer};
 
 use super::*;
+use crate::checks::{holds, same};
 use der::{Encode, SliceWriter, Writer};
-use der_fixtures::checks::{holds, same};
 
 #[derive(Clone, Copy)]
 pub struct Wrong;

@@ -4,8 +4,8 @@ ghost use Rattle.der.specs.Prelude.{definite_length, OctetString, Keeps, Appends
 ghost use Rattle.der.specs.Writer.{Fits};
 
 use super::*;
+use crate::checks::same;
 use der::{Encode, EncodeValue, Tagged, Writer, WrittenValue, encoded_len_tlv, to_der_in};
-use der_fixtures::checks::same;
 use linked_list_allocator::LocalHeap;
 
 // An OCTET STRING of so many zero octets.
