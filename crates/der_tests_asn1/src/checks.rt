@@ -3,7 +3,7 @@
 use std::fmt::{Debug, Display};
 use std::process::Abort;
 
-/// Likewise, and says at which row.
+/// Ends the test where the answer is not what is expected, and says at which row.
 pub fn same_at<K: Display + Drop, T: PartialEq + Debug + Drop>(
     rt: &impl Abort,
     row: K,
