@@ -23,3 +23,5 @@ pub mod PairLaws
 pub mod SameLaws
 pub mod Sequence
 pub mod ElementLaws
+pub mod AlgorithmIdentifier
+pub mod SubjectPublicKeyInfo

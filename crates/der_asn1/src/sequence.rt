@@ -11,29 +11,28 @@ use der::{
     Tag, Writer, WrittenValue, decode_contents,
 };
 use std::alloc::Global;
-use std::marker::PhantomData;
 
 /// Types that are the fields of a SEQUENCE, in their order.
-///
-/// `M` is a [`Pair`](crate::Pair) of the fields, or of pairs of them. Ghost members: `members` is
-/// those of a value; `together` is the law that they may stand so.
-pub trait Fields<M: Field>: Sized {
-    ghost members: { Self → M };
+pub trait Fields: Sized {
+    /// The fields, as a [`Pair`](crate::Pair) of pairs.
+    type Members: Field;
+
+    ghost members: { Self → Self.Members };
 
     // no field may begin with a tag that decides whether one before it is absent, and the fields
     // nest at most 62 levels
-    ghost together: { (M.fits && nat_lt (M.nests Der) 63) ≡ true };
+    ghost together: { (Self.Members.fits && nat_lt (Self.Members.nests Der) 63) ≡ true };
 }
 
 /// Such types, made of their fields and written as them.
-pub trait Record<M: Field>: Fields<M> + Drop {
+pub trait Record: Fields + Drop {
     /// A value of these fields.
-    fn from_members(parts: M) -> Self
+    fn from_members(parts: Self::Members) -> Self
         ensures { Self.members result ≡ parts };
 
     /// A law without an answer: each field in hand is a value.
     fn are_held(&self)
-        ensures { M.is_field (Self.members self.now) };
+        ensures { Self.Members.is_field (Self.members self.now) };
 
     /// How many octets the fields have.
     ///
@@ -41,10 +40,10 @@ pub trait Record<M: Field>: Fields<M> + Drop {
     ///
     /// Those of the fields, one behind the other, and `Overflow` without a position.
     fn fields_len(&self) -> Result<Length, Error>
-        ensures ok { Counts (M.encoding (Self.members self.now)) result }
-        ensures succeeds { M.encodable (Self.members self.now)
-            → HasSize (M.encoding (Self.members self.now)) result }
-        ensures exact { result ≡ M.size (Self.members self.now) };
+        ensures ok { Counts (Self.Members.encoding (Self.members self.now)) result }
+        ensures succeeds { Self.Members.encodable (Self.members self.now)
+            → HasSize (Self.Members.encoding (Self.members self.now)) result }
+        ensures exact { result ≡ Self.Members.size (Self.members self.now) };
 
     /// Writes the fields.
     ///
@@ -53,28 +52,20 @@ pub trait Record<M: Field>: Fields<M> + Drop {
     /// Those of the fields, one behind the other; what was written before stands.
     fn encode_fields<W: Writer>(&self, writer: &mut W) -> Result<(), Error>
         ensures kept { Keeps (W.state writer.old) (W.state writer.new) }
-        ensures ok { Appends (W.state writer.old) (M.encoding (Self.members self.now)) result
-            (W.state writer.new) }
-        ensures succeeds { M.encodable (Self.members self.now)
-            → FitsCounted (W.state writer.old) (M.encoding (Self.members self.now)) result }
-        ensures exact { W.reliable ≡ true → M.encode_answers (Self.members self.now)
+        ensures ok { Appends (W.state writer.old)
+            (Self.Members.encoding (Self.members self.now)) result (W.state writer.new) }
+        ensures succeeds { Self.Members.encodable (Self.members self.now)
+            → FitsCounted (W.state writer.old)
+            (Self.Members.encoding (Self.members self.now)) result }
+        ensures exact { W.reliable ≡ true → Self.Members.encode_answers (Self.members self.now)
             (W.state writer.old) result (W.state writer.new) };
 }
 
 /// A SEQUENCE of these fields (X.690 8.9).
 #[derive(Drop)]
-pub struct Sequence<T, M>(pub T, pub PhantomData<M>);
+pub struct Sequence<T>(pub T);
 
-impl<T, M> Sequence<T, M> {
-    /// The SEQUENCE of these fields.
-    pub fn new(fields: T) -> Self
-        ensures { result.0 ≡ fields }
-    {
-        Sequence(fields, PhantomData)
-    }
-}
-
-impl<T, M> FixedTag for Sequence<T, M> {
+impl<T> FixedTag for Sequence<T> {
     ghost tag_is = { SequenceTag };
 
     const TAG: Tag = Tag::Sequence;
@@ -86,14 +77,14 @@ impl<T, M> FixedTag for Sequence<T, M> {
     }
 }
 
-impl<M: Field, T: Fields<M>> ReadValue for Sequence<T, M> {
-    ghost valid = { λ v. M.is_field (T.members v.0) };
+impl<T: Fields> ReadValue for Sequence<T> {
+    ghost valid = { λ v. T.Members.is_field (T.members v.0) };
 
-    ghost takes = { λ v. TakesFields M.stands M.is_field (T.members v.0) };
+    ghost takes = { λ v. TakesFields T.Members.stands T.Members.is_field (T.members v.0) };
 
-    ghost value_levels = { M.nests };
+    ghost value_levels = { T.Members.nests };
 
-    ghost allocates = { M.wants_memory };
+    ghost allocates = { T.Members.wants_memory };
 
     ghost takes_valid = { λ v rules h octets taken. taken.1 };
 }
@@ -101,10 +92,13 @@ impl<M: Field, T: Fields<M>> ReadValue for Sequence<T, M> {
 /// # Errors
 ///
 /// Those of the fields, one behind the other.
-impl<R: Reader, M: DecodeField<R>, T: Record<M>> DecodeValue<R> for Sequence<T, M> {
-    type Error = <M as Decode<R>>::Error;
+impl<R: Reader, T: Record> DecodeValue<R> for Sequence<T>
+where
+    <T as Fields>::Members: DecodeField<R>,
+{
+    type Error = <<T as Fields>::Members as Decode<R>>::Error;
 
-    ghost decode_value_answers = { λ h s result t. M.decode_answers s
+    ghost decode_value_answers = { λ h s result t. T.Members.decode_answers s
         (map_ok (λ v. T.members v.0) result) t };
 
     #[inline(always)]
@@ -112,9 +106,9 @@ impl<R: Reader, M: DecodeField<R>, T: Record<M>> DecodeValue<R> for Sequence<T, 
         alloc: Global,
         reader: &mut R,
         header: Header,
-    ) -> Result<Self, <M as Decode<R>>::Error> {
-        let members = decode_contents::<R, M>(alloc, reader, header)?;
-        Ok(Sequence::new(T::from_members(members)))
+    ) -> Result<Self, <<T as Fields>::Members as Decode<R>>::Error> {
+        let members = decode_contents::<R, <T as Fields>::Members>(alloc, reader, header)?;
+        Ok(Sequence(T::from_members(members)))
     }
 
     fn is_value(&self) {
@@ -122,19 +116,19 @@ impl<R: Reader, M: DecodeField<R>, T: Record<M>> DecodeValue<R> for Sequence<T, 
     }
 }
 
-impl<M: Field, T: Fields<M>> WrittenValue for Sequence<T, M> {
-    ghost contents = { λ v. M.encoding (T.members v.0) };
+impl<T: Fields> WrittenValue for Sequence<T> {
+    ghost contents = { λ v. T.Members.encoding (T.members v.0) };
 
-    ghost writable = { λ v. M.encodable (T.members v.0) };
+    ghost writable = { λ v. T.Members.encodable (T.members v.0) };
 }
 
 /// # Errors
 ///
 /// Those of the fields, one behind the other, and `Overflow` without a position.
-impl<M: Field, T: Record<M>> EncodeValue for Sequence<T, M> {
-    ghost value_size = { λ v. M.size (T.members v.0) };
+impl<T: Record> EncodeValue for Sequence<T> {
+    ghost value_size = { λ v. T.Members.size (T.members v.0) };
 
-    ghost encode_value_answers = { λ v. M.encode_answers (T.members v.0) };
+    ghost encode_value_answers = { λ v. T.Members.encode_answers (T.members v.0) };
 
     fn value_len(&self) -> Result<Length, Error> {
         self.0.fields_len()
@@ -146,10 +140,11 @@ impl<M: Field, T: Record<M>> EncodeValue for Sequence<T, M> {
     }
 }
 
-impl<M: Field, T: Fields<M>> Lawful for Sequence<T, M> {
-    ghost lawful = { sequence_lawful M.nests (λ v. T.members v.0) T.together M.laws };
+impl<T: Fields> Lawful for Sequence<T> {
+    ghost lawful = { sequence_lawful T.Members.nests (λ v. T.members v.0) T.together
+        T.Members.laws };
 }
 
-impl<M: Field, T: Fields<M>> Nestable for Sequence<T, M> {
-    ghost nestable = { nested_sequence M.fits M.nests T.together };
+impl<T: Fields> Nestable for Sequence<T> {
+    ghost nestable = { nested_sequence T.Members.fits T.Members.nests T.together };
 }
