@@ -1,5 +1,5 @@
 use Rattle.std.proofs.Common.{◌*◌, ◌+◌}
-use Rattle.der_tests_decoding.proofs.octets.nests.+nest.Given as goal
+use Rattle.der_tests_decoding.proofs.distinguished.nests.+nest.Given as goal
 
 -- the closure stands between two calls of the function
 abbrev pub decreases-pass_inside : goal.decreases-pass_inside

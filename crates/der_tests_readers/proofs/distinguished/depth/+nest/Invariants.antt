@@ -1,5 +1,5 @@
 use Rattle.std.proofs.Common.{◌*◌, ◌+◌}
-use Rattle.der_tests_readers.proofs.octets.depth.+nest.Given as goal
+use Rattle.der_tests_readers.proofs.distinguished.depth.+nest.Given as goal
 
 -- the closure stands between two calls of the function
 abbrev pub decreases-nest : goal.decreases-nest

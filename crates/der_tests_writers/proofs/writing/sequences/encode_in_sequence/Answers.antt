@@ -4,7 +4,7 @@ use Rattle.der.specs.Writer.{WriterState, appended_state}
 use Rattle.der.specs.Encode.{FitsCounted}
 use Rattle.der.proofs.WriterLemmas.{filled_appends}
 use Rattle.der.specs.WrittenSequence.{ClosesPart, handed_on, failed, unfilled, filled, part_state, headed_state}
-use Rattle.der_tests_writers.proofs.octets.sequences.encode_in_sequence.Goals as goal
+use Rattle.der_tests_writers.proofs.writing.sequences.encode_in_sequence.Goals as goal
 
 -- a part that is filled is not refused
 not_refused : (s p q t : WriterState) (n : ℕ) (octets : List ℕ) (answer result : Result (Unit {0}) Error) (e : Error) → p ≡ part_state s n → length octets ≡ n → n < 2 ^ 32

@@ -3,7 +3,7 @@ use Rattle.std.proofs.lemmas.List.{replicate_more, length-replicate}
 use Rattle.std.proofs.lemmas.Result.{err_from_is_err_and}
 use Rattle.der.specs.Writer.{appended_state}
 use Rattle.der.proofs.EncodeLemmas.{appended_twice, room_then}
-use Rattle.der_tests_writers.proofs.octets.zeros.+write_zeros.Goals as goal
+use Rattle.der_tests_writers.proofs.writing.zeros.+write_zeros.Goals as goal
 
 pub returns-clause-ok : goal.returns-clause-ok
 returns-clause-ok g t c =
