@@ -25,7 +25,7 @@ seen : {A : Type 0} {tags : Tag → Type 0} {is_default : A → Bool} {Ahead : A
 seen (absent d e none) = record { value = None; ahead = (e, none) }
 seen {v = v} (present differs h) = record { value = Some v; ahead = h }
 
-tag_not_absent : (tags : Tag → Type 0) (s : ReaderState) {reliable : Bool} {t : Tag} → Peeks TagAhead IdentifierFault reliable s (Ok t) → tags t → NoTagIn tags s.rules (rest_of s) → ⊥
+pub tag_not_absent : (tags : Tag → Type 0) (s : ReaderState) {reliable : Bool} {t : Tag} → Peeks TagAhead IdentifierFault reliable s (Ok t) → tags t → NoTagIn tags s.rules (rest_of s) → ⊥
 tag_not_absent tags s p is (nothing e) = no_tag_in_nothing (peeked p) e
 tag_not_absent tags s p is (other u n ahead apart) = apart (subst tags (sym (one_tag ahead (peeked p)).0) is)
 

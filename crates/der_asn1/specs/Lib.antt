@@ -21,7 +21,7 @@ pub mod TagSetLemmas
 pub mod SetLaws
 pub mod PairLaws
 pub mod SameLaws
+pub mod Either
+pub mod EitherLaws
 pub mod Sequence
 pub mod ElementLaws
-pub mod AlgorithmIdentifier
-pub mod SubjectPublicKeyInfo

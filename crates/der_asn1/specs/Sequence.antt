@@ -4,6 +4,7 @@ use Rattle.der.specs.Prelude.{Head, Tag, Sequence, EncodingRules, Der, TakesWhol
 use Rattle.der_asn1.specs.FieldLaws.{contents_laws, contents_hold}
 use Rattle.der_asn1.specs.SetLaws.{SetLaws, laws_of}
 use Rattle.der_asn1.specs.TagSetLemmas.{both_true}
+use Rattle.der_asn1.specs.declared.pair.Pair.{Pair}
 
 -- contents are taken where they are wholly valid fields
 abbrev pub TakesFields : {A : Type 0} → (A → EncodingRules → List ℕ → ℕ → Type 0) → (A → Type 0)
@@ -39,3 +40,7 @@ module _ {A : Type 0} {fits always : Bool} {first stops : List (Option Tag)}
         shallow = whole.shallow;
         numbered = whole.numbered;
       }
+
+-- two fields, one behind the other
+abbrev pub pair_of : {A B : Type 0} → A → B → Pair A B
+pair_of a b = record { 0 = a; 1 = b }

@@ -7,7 +7,7 @@ ghost use Rattle.der_asn1.specs.Follow.{this_tag, Anything};
 ghost use Rattle.der_asn1.specs.SetLaws.{SetLaws, ToldLaws, element_told, told_set};
 
 use crate::choice::Choice;
-use der::{Decode, DecodeValue, Encode, EncodeValue, Lawful, Reader};
+use der::{Decode, DecodeValue, Encode, EncodeValue, Lawful, Reader, SliceReader};
 
 /// What a field means, whatever reads it.
 ///
@@ -120,4 +120,11 @@ impl<T: Lawful + EncodeValue> Alternative for T {
 
 impl<R: Reader, T: Lawful + EncodeValue + DecodeValue<R>> DecodeAlternative<R> for T {
     ghost same_tags = { λ t. (λ h. h, λ h. h) };
+}
+
+/// A law without an answer: a field in hand, which octets in memory can be read as, is a value.
+pub fn held<'a, T: DecodeField<SliceReader<'a>>>(field: &T)
+    ensures { T.is_field field.now }
+{
+    field.is_held()
 }

@@ -1,17 +1,17 @@
 //! Types of ASN.1 above the crate `der`: fields that may be absent, elements of any tag, contents
-//! of a form, and public keys of RFC 5280.
+//! of a form, lists, and SEQUENCEs of named fields.
 //!
 //! `specs/Follow.antt` says what may follow a field, and `specs/FieldLaws.antt` puts fields
 //! together: a SEQUENCE of fields that are read as they are written is lawful.
 #![tactic(auto)]
 
-mod algorithm_identifier;
 mod any;
 mod bit_string;
 mod boolean;
 mod checked;
 mod choice;
 mod defaulted;
+mod either;
 mod element;
 mod explicit;
 mod field;
@@ -28,22 +28,21 @@ mod octet_string;
 mod optional;
 mod pair;
 mod printable_string;
-mod public_key_info;
 mod sequence;
 mod sequence_of;
 mod utf8_string;
 mod whole;
 
-pub use algorithm_identifier::{AlgorithmIdentifier, IdentifierFields};
 pub use any::AnyRef;
 pub use bit_string::{BitStringForm, BitStringRef};
 pub use boolean::{BooleanForm, BooleanRef};
 pub use checked::Checked;
 pub use choice::Choice;
 pub use defaulted::{DefaultValue, Defaulted, HasDefault};
+pub use either::Either;
 pub use element::decode_element;
 pub use explicit::{Explicit, Nestable};
-pub use field::{Alternative, DecodeAlternative, DecodeField, Field};
+pub use field::{Alternative, DecodeAlternative, DecodeField, Field, held};
 pub use form::Form;
 pub use ia5_string::{Ia5StringForm, Ia5StringRef};
 pub use implicit::Implicit;
@@ -57,7 +56,6 @@ pub use octet_string::{OctetStringForm, OctetStringRef};
 pub use optional::Optional;
 pub use pair::Pair;
 pub use printable_string::{PrintableStringForm, PrintableStringRef};
-pub use public_key_info::{KeyFields, SubjectPublicKeyInfo, key_from_der};
 pub use sequence::{Fields, Record, Sequence};
 pub use sequence_of::{Items, SequenceOf};
 pub use utf8_string::{Utf8StringForm, Utf8StringRef};

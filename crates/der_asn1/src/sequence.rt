@@ -11,28 +11,29 @@ use der::{
     Tag, Writer, WrittenValue, decode_contents,
 };
 use std::alloc::Global;
+use std::marker::PhantomData;
 
 /// Types that are the fields of a SEQUENCE, in their order.
-pub trait Fields: Sized {
-    /// The fields, as a [`Pair`](crate::Pair) of pairs.
-    type Members: Field;
-
-    ghost members: { Self → Self.Members };
+///
+/// `M` is a [`Pair`](crate::Pair) of the fields, or of pairs of them. Ghost members: `members` is
+/// those of a value; `together` is the law that they may stand so.
+pub trait Fields<M: Field>: Sized {
+    ghost members: { Self → M };
 
     // no field may begin with a tag that decides whether one before it is absent, and the fields
     // nest at most 62 levels
-    ghost together: { (Self.Members.fits && nat_lt (Self.Members.nests Der) 63) ≡ true };
+    ghost together: { (M.fits && nat_lt (M.nests Der) 63) ≡ true };
 }
 
 /// Such types, made of their fields and written as them.
-pub trait Record: Fields + Drop {
+pub trait Record<M: Field>: Fields<M> + Drop {
     /// A value of these fields.
-    fn from_members(parts: Self::Members) -> Self
+    fn from_members(parts: M) -> Self
         ensures { Self.members result ≡ parts };
 
     /// A law without an answer: each field in hand is a value.
     fn are_held(&self)
-        ensures { Self.Members.is_field (Self.members self.now) };
+        ensures { M.is_field (Self.members self.now) };
 
     /// How many octets the fields have.
     ///
@@ -40,10 +41,10 @@ pub trait Record: Fields + Drop {
     ///
     /// Those of the fields, one behind the other, and `Overflow` without a position.
     fn fields_len(&self) -> Result<Length, Error>
-        ensures ok { Counts (Self.Members.encoding (Self.members self.now)) result }
-        ensures succeeds { Self.Members.encodable (Self.members self.now)
-            → HasSize (Self.Members.encoding (Self.members self.now)) result }
-        ensures exact { result ≡ Self.Members.size (Self.members self.now) };
+        ensures ok { Counts (M.encoding (Self.members self.now)) result }
+        ensures succeeds { M.encodable (Self.members self.now)
+            → HasSize (M.encoding (Self.members self.now)) result }
+        ensures exact { result ≡ M.size (Self.members self.now) };
 
     /// Writes the fields.
     ///
@@ -52,20 +53,35 @@ pub trait Record: Fields + Drop {
     /// Those of the fields, one behind the other; what was written before stands.
     fn encode_fields<W: Writer>(&self, writer: &mut W) -> Result<(), Error>
         ensures kept { Keeps (W.state writer.old) (W.state writer.new) }
-        ensures ok { Appends (W.state writer.old)
-            (Self.Members.encoding (Self.members self.now)) result (W.state writer.new) }
-        ensures succeeds { Self.Members.encodable (Self.members self.now)
-            → FitsCounted (W.state writer.old)
-            (Self.Members.encoding (Self.members self.now)) result }
-        ensures exact { W.reliable ≡ true → Self.Members.encode_answers (Self.members self.now)
+        ensures ok { Appends (W.state writer.old) (M.encoding (Self.members self.now)) result
+            (W.state writer.new) }
+        ensures succeeds { M.encodable (Self.members self.now)
+            → FitsCounted (W.state writer.old) (M.encoding (Self.members self.now)) result }
+        ensures exact { W.reliable ≡ true → M.encode_answers (Self.members self.now)
             (W.state writer.old) result (W.state writer.new) };
 }
 
 /// A SEQUENCE of these fields (X.690 8.9).
 #[derive(Drop)]
-pub struct Sequence<T>(pub T);
+pub struct Sequence<T, M> {
+    /// The fields.
+    pub fields: T,
+    members: PhantomData<M>,
+}
 
-impl<T> FixedTag for Sequence<T> {
+impl<T, M> Sequence<T, M> {
+    /// The SEQUENCE of these fields.
+    pub fn new(fields: T) -> Self
+        ensures { result.fields ≡ fields }
+    {
+        Sequence {
+            fields,
+            members: PhantomData,
+        }
+    }
+}
+
+impl<T, M> FixedTag for Sequence<T, M> {
     ghost tag_is = { SequenceTag };
 
     const TAG: Tag = Tag::Sequence;
@@ -77,14 +93,14 @@ impl<T> FixedTag for Sequence<T> {
     }
 }
 
-impl<T: Fields> ReadValue for Sequence<T> {
-    ghost valid = { λ v. T.Members.is_field (T.members v.0) };
+impl<M: Field, T: Fields<M>> ReadValue for Sequence<T, M> {
+    ghost valid = { λ v. M.is_field (T.members v.fields) };
 
-    ghost takes = { λ v. TakesFields T.Members.stands T.Members.is_field (T.members v.0) };
+    ghost takes = { λ v. TakesFields M.stands M.is_field (T.members v.fields) };
 
-    ghost value_levels = { T.Members.nests };
+    ghost value_levels = { M.nests };
 
-    ghost allocates = { T.Members.wants_memory };
+    ghost allocates = { M.wants_memory };
 
     ghost takes_valid = { λ v rules h octets taken. taken.1 };
 }
@@ -92,59 +108,55 @@ impl<T: Fields> ReadValue for Sequence<T> {
 /// # Errors
 ///
 /// Those of the fields, one behind the other.
-impl<R: Reader, T: Record> DecodeValue<R> for Sequence<T>
-where
-    <T as Fields>::Members: DecodeField<R>,
-{
-    type Error = <<T as Fields>::Members as Decode<R>>::Error;
+impl<R: Reader, M: DecodeField<R>, T: Record<M>> DecodeValue<R> for Sequence<T, M> {
+    type Error = <M as Decode<R>>::Error;
 
-    ghost decode_value_answers = { λ h s result t. T.Members.decode_answers s
-        (map_ok (λ v. T.members v.0) result) t };
+    ghost decode_value_answers = { λ h s result t. M.decode_answers s
+        (map_ok (λ v. T.members v.fields) result) t };
 
     #[inline(always)]
     fn decode_value(
         alloc: Global,
         reader: &mut R,
         header: Header,
-    ) -> Result<Self, <<T as Fields>::Members as Decode<R>>::Error> {
-        let members = decode_contents::<R, <T as Fields>::Members>(alloc, reader, header)?;
-        Ok(Sequence(T::from_members(members)))
+    ) -> Result<Self, <M as Decode<R>>::Error> {
+        let members = decode_contents::<R, M>(alloc, reader, header)?;
+        Ok(Sequence::new(T::from_members(members)))
     }
 
     fn is_value(&self) {
-        self.0.are_held();
+        self.fields.are_held();
     }
 }
 
-impl<T: Fields> WrittenValue for Sequence<T> {
-    ghost contents = { λ v. T.Members.encoding (T.members v.0) };
+impl<M: Field, T: Fields<M>> WrittenValue for Sequence<T, M> {
+    ghost contents = { λ v. M.encoding (T.members v.fields) };
 
-    ghost writable = { λ v. T.Members.encodable (T.members v.0) };
+    ghost writable = { λ v. M.encodable (T.members v.fields) };
 }
 
 /// # Errors
 ///
 /// Those of the fields, one behind the other, and `Overflow` without a position.
-impl<T: Record> EncodeValue for Sequence<T> {
-    ghost value_size = { λ v. T.Members.size (T.members v.0) };
+impl<M: Field, T: Record<M>> EncodeValue for Sequence<T, M> {
+    ghost value_size = { λ v. M.size (T.members v.fields) };
 
-    ghost encode_value_answers = { λ v. T.Members.encode_answers (T.members v.0) };
+    ghost encode_value_answers = { λ v. M.encode_answers (T.members v.fields) };
 
     fn value_len(&self) -> Result<Length, Error> {
-        self.0.fields_len()
+        self.fields.fields_len()
     }
 
     #[inline(always)]
     fn encode_value<W: Writer>(&self, writer: &mut W) -> Result<(), Error> {
-        self.0.encode_fields(writer)
+        self.fields.encode_fields(writer)
     }
 }
 
-impl<T: Fields> Lawful for Sequence<T> {
-    ghost lawful = { sequence_lawful T.Members.nests (λ v. T.members v.0) T.together
-        T.Members.laws };
+impl<M: Field, T: Fields<M>> Lawful for Sequence<T, M> {
+    ghost lawful = { sequence_lawful M.nests (λ v. T.members v.fields) T.together M.laws };
 }
 
-impl<T: Fields> Nestable for Sequence<T> {
-    ghost nestable = { nested_sequence T.Members.fits T.Members.nests T.together };
+impl<M: Field, T: Fields<M>> Nestable for Sequence<T, M> {
+    ghost nestable = { nested_sequence M.fits M.nests T.together };
 }

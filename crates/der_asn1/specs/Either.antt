@@ -1,0 +1,61 @@
+-- CHOICE of two types (X.690 8.13): the element of the one or of the other, told by its tag.
+use Rattle.std.specs.Prelude.{◌≡◌, ℕ, true, List, Option, Some, None, Result, Ok, Err}
+use Rattle.der.specs.Prelude.{Tag, EncodingRules, Error, error_at, Length, WriterAnswer, map_ok}
+use Rattle.der.specs.Prelude.{ReaderState, reader_position}
+use Rattle.der.specs.ErrorKinds.{TagUnexpected}
+use Rattle.der.specs.HeaderGrammar.{TagAhead}
+use Rattle.der.specs.Tag.{IdentifierFault}
+use Rattle.der.specs.Decode.{Peeks}
+use Rattle.der.specs.ReaderState.{stopped_state}
+use Rattle.der_asn1.specs.Follow.{NoTagIn}
+use Rattle.der_asn1.specs.declared.either.Either.{Either}
+use Rattle.der_asn1.specs.declared.either.Either.TheVariants.{First, Second}
+
+-- the first stands, or the second where no tag of the first does
+abbrev pub EitherAhead : {A B : Type 0} → (Tag → Type 0) → (A → EncodingRules → List ℕ → ℕ → Type 0)
+    → (B → EncodingRules → List ℕ → ℕ → Type 0) → Either A B → EncodingRules → List ℕ → ℕ → Type 0
+EitherAhead tags One Two (First v) rules octets m = One v rules octets m
+EitherAhead tags One Two (Second v) rules octets m = Two v rules octets m × NoTagIn tags rules octets
+
+abbrev pub IsEither : {A B : Type 0} → (A → Type 0) → (B → Type 0) → Either A B → Type 0
+IsEither one two (First v) = one v
+IsEither one two (Second v) = two v
+
+abbrev pub either_encoding : {A B : Type 0} → (A → List ℕ) → (B → List ℕ) → Either A B → List ℕ
+either_encoding one two (First v) = one v
+either_encoding one two (Second v) = two v
+
+abbrev pub EitherPrecedes : {A B : Type 0} → (A → List ℕ → Type 0) → (B → List ℕ → Type 0)
+    → Either A B → List ℕ → Type 0
+EitherPrecedes one two (First v) behind = one v behind
+EitherPrecedes one two (Second v) behind = two v behind
+
+-- what reading answers: no tag, what the type says whose tag stands ahead, or a tag of neither
+pub data EitherRead {A B E : Type 0} (one_tags two_tags : Tag → Type 0)
+    (converts : Error → E → Type 0) (one : ReaderState → Result A E → ReaderState → Type 0)
+    (two : ReaderState → Result B E → ReaderState → Type 0) (s : ReaderState)
+    (result : Result (Either A B) E) (t : ReaderState) : Type 0 where
+  either_no_tag : (e : Error) (f : E) → Peeks TagAhead IdentifierFault true s (Err e)
+      → converts e f → result ≡ Err f → t ≡ s
+      → EitherRead one_tags two_tags converts one two s result t
+  either_first : (u : Tag) (r : Result A E) → Peeks TagAhead IdentifierFault true s (Ok u)
+      → one_tags u → one s r t → result ≡ map_ok First r
+      → EitherRead one_tags two_tags converts one two s result t
+  either_second : (u : Tag) (r : Result B E) → Peeks TagAhead IdentifierFault true s (Ok u)
+      → (one_tags u → ⊥) → two_tags u → two s r t → result ≡ map_ok Second r
+      → EitherRead one_tags two_tags converts one two s result t
+  either_neither : (u : Tag) (e : E) → Peeks TagAhead IdentifierFault true s (Ok u)
+      → (one_tags u → ⊥) → (two_tags u → ⊥)
+      → converts (error_at (TagUnexpected None u) (reader_position s)) e → result ≡ Err e
+      → t ≡ stopped_state s s.position
+      → EitherRead one_tags two_tags converts one two s result t
+
+abbrev pub either_size : {A B : Type 0} → (A → Result Length Error) → (B → Result Length Error)
+    → Either A B → Result Length Error
+either_size one two (First v) = one v
+either_size one two (Second v) = two v
+
+abbrev pub EitherWritten : {A B : Type 0} → (A → WriterAnswer) → (B → WriterAnswer) → Either A B
+    → WriterAnswer
+EitherWritten one two (First v) = one v
+EitherWritten one two (Second v) = two v

@@ -1,0 +1,11 @@
+//! Public keys and their algorithms (RFC 5280, 4.1), lent by the input. Each type is lawful: it is
+//! read exactly where the octets are its encoding.
+#![tactic(auto)]
+
+mod algorithm_identifier;
+mod subject_public_key_info;
+
+pub use algorithm_identifier::{AlgorithmFields, AlgorithmIdentifierRef, AlgorithmMembers};
+pub use subject_public_key_info::{
+    KeyFields, KeyMembers, SubjectPublicKeyInfoRef, key_from_der,
+};
