@@ -82,28 +82,3 @@ pub either_begins : {A B : Type 0} {one_tags two_tags : Tag → Type 0}
     → TagIn (either_tags one_tags two_tags) rules octets
 either_begins one two (First v) rules octets m h = wider_tags (λ t h. inl h) (one v rules octets m h)
 either_begins one two (Second v) rules octets m h = wider_tags (λ t h. inr h) (two v rules octets m h.0)
-
--- those that are read as they stand
-pub same_eithers : {A B : Type 0} {tags names : Tag → Type 0} {One Stands : A → EncodingRules → List ℕ → ℕ → Type 0}
-    {Two Holds : B → EncodingRules → List ℕ → ℕ → Type 0} → ((t : Tag) → tags t ↔ names t)
-    → ((v : A) (rules : EncodingRules) (octets : List ℕ) (m : ℕ) → One v rules octets m ↔ Stands v rules octets m)
-    → ((v : B) (rules : EncodingRules) (octets : List ℕ) (m : ℕ) → Two v rules octets m ↔ Holds v rules octets m)
-    → (v : Either A B) (rules : EncodingRules) (octets : List ℕ) (m : ℕ)
-    → EitherAhead tags One Two v rules octets m ↔ EitherAhead names Stands Holds v rules octets m
-same_eithers same one two (First v) rules octets m = one v rules octets m
-same_eithers same one two (Second v) rules octets m = (
-  λ h. ((two v rules octets m).0 h.0, fewer_tags (λ t. (same t).1) h.1),
-  λ h. ((two v rules octets m).1 h.0, fewer_tags (λ t. (same t).0) h.1),
-)
-
-pub same_either_tags : {f g p q : Tag → Type 0} → ((t : Tag) → f t ↔ p t) → ((t : Tag) → g t ↔ q t)
-    → (t : Tag) → either_tags f g t ↔ either_tags p q t
-same_either_tags {f} {g} {p} {q} one two t = (there, back)
-  where
-    there : either_tags f g t → either_tags p q t
-    there (inl h) = inl ((one t).0 h)
-    there (inr h) = inr ((two t).0 h)
-
-    back : either_tags p q t → either_tags f g t
-    back (inl h) = inl ((one t).1 h)
-    back (inr h) = inr ((two t).1 h)

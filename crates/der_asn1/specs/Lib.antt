@@ -20,8 +20,8 @@ pub mod TagSets
 pub mod TagSetLemmas
 pub mod SetLaws
 pub mod PairLaws
-pub mod SameLaws
+pub mod AnyLaws
 pub mod Either
 pub mod EitherLaws
-pub mod Sequence
 pub mod ElementLaws
+pub mod Meaning

@@ -58,15 +58,3 @@ pair_set {b = b} {one_fits} {two_fits} {second = second} {one_stops} f e one two
     let p = both_true (are_apart one_stops second) (one_fits && two_fits) e in
     let q = both_true one_fits two_fits p.1 in
     pair_go (one q.0) (two q.1) p.0 f b refl
-
--- two that are read as they stand
-pub same_pairs : {A B C : Type 0} {First One : A → EncodingRules → List ℕ → ℕ → Type 0}
-    {Second Two : B → EncodingRules → List ℕ → ℕ → Type 0} (f : C → A × B)
-    → ((v : A) (rules : EncodingRules) (octets : List ℕ) (m : ℕ) → First v rules octets m ↔ One v rules octets m)
-    → ((v : B) (rules : EncodingRules) (octets : List ℕ) (m : ℕ) → Second v rules octets m ↔ Two v rules octets m)
-    → (c : C) (rules : EncodingRules) (octets : List ℕ) (m : ℕ)
-    → FieldsAhead First Second (f c) rules octets m ↔ FieldsAhead One Two (f c) rules octets m
-same_pairs f one two c rules octets m = (
-  λ h. record { first = h.first; second = h.second; ahead = (one (f c).0 rules octets h.first).0 h.ahead; behind = (two (f c).1 rules _ h.second).0 h.behind; whole = h.whole },
-  λ h. record { first = h.first; second = h.second; ahead = (one (f c).0 rules octets h.first).1 h.ahead; behind = (two (f c).1 rules _ h.second).1 h.behind; whole = h.whole },
-)

@@ -1,16 +1,11 @@
 //! An element of any tag.
-ghost use Rattle.std.specs.Prelude.{◌≡◌, true, false, [], ◌∷◌, None};
-ghost use Rattle.std.proofs.Common.{refl};
+ghost use Rattle.std.specs.Prelude.{◌≡◌, false};
 ghost use Rattle.der.specs.Prelude.{element_levels};
 ghost use Rattle.der_asn1.specs.AnyRef.{IsAny, TakesAny, AnyRead, any_contents, any_size};
 ghost use Rattle.der_asn1.specs.AnyRef.{AnyWritten};
 ghost use Rattle.der_asn1.specs.AnyElement.{AnyElementAhead, AnyElementRead};
-ghost use Rattle.der_asn1.specs.Follow.{any_tag, Anything};
-ghost use Rattle.der_asn1.specs.SetLaws.{told_set};
-ghost use Rattle.der_asn1.specs.SameLaws.{any_told};
 
 use crate::element::decode_element;
-use crate::field::{Alternative, DecodeAlternative, DecodeField, Field};
 use der::{
     Decode, DecodeValue, EncodeValue, Error, Header, Length, ReadValue, Reader, Tag, Tagged,
     Writer, WrittenValue,
@@ -111,48 +106,4 @@ impl<'a> EncodeValue for AnyRef<'a> {
     fn encode_value<W: Writer>(&self, writer: &mut W) -> Result<(), Error> {
         writer.write(self.contents)
     }
-}
-
-impl<'a> Field for AnyRef<'a> {
-    ghost is_field = { IsAny };
-
-    ghost stands = { AnyElementAhead TakesAny };
-
-    ghost nests = { element_levels (λ _. 0) };
-
-    ghost wants_memory = { false };
-
-    ghost always = { true };
-
-    ghost first = { None ∷ [] };
-
-    ghost stops = { [] };
-
-    ghost may_precede = { Anything };
-
-    ghost fits = { true };
-
-    ghost laws = { λ e. told_set any_told };
-}
-
-impl<'a, R: Reader<Lent = &'a [u8]>> DecodeField<R> for AnyRef<'a> {
-    fn is_held(&self) {
-        <AnyRef<'a> as DecodeValue<R>>::is_value(self)
-    }
-
-    ghost same_heads = { λ v rules octets m. (λ h. h, λ h. h) };
-
-    ghost same_needs = { λ rules. refl };
-
-    ghost same_memory = { refl };
-}
-
-impl<'a> Alternative for AnyRef<'a> {
-    ghost tags = { any_tag };
-
-    ghost told = { λ e. any_told };
-}
-
-impl<'a, R: Reader<Lent = &'a [u8]>> DecodeAlternative<R> for AnyRef<'a> {
-    ghost same_tags = { λ t. (λ h. h, λ h. h) };
 }

@@ -1,13 +1,10 @@
 //! Fields with a default.
-ghost use Rattle.std.specs.Prelude.{◌≡◌, ◌↔◌, ℕ, Bool, true, false, List, IsTrue, ◌++◌};
+ghost use Rattle.std.specs.Prelude.{◌≡◌, ◌↔◌, ℕ, Bool, true, List, IsTrue};
 ghost use Rattle.der.specs.Prelude.{EncodingRules as Rules, Der, map_ok};
 ghost use Rattle.der_asn1.specs.Default.{DefaultAhead, DefaultRead, IsDefaulted, default_encoding};
-ghost use Rattle.der_asn1.specs.Default.{default_size, DefaultWritten, DefaultPrecedes};
-ghost use Rattle.der_asn1.specs.SetLaws.{default_set};
-ghost use Rattle.der_asn1.specs.SameLaws.{same_defaults};
+ghost use Rattle.der_asn1.specs.Default.{default_size, DefaultWritten};
 
 use crate::choice::Choice;
-use crate::field::{Alternative, DecodeAlternative, DecodeField, Field};
 use der::{Decode, Encode, EncodingRules, Error, ErrorKind, Length, Reader, ReaderExt, Writer};
 use std::alloc::Global;
 
@@ -109,38 +106,4 @@ impl<T: Encode + DefaultValue> Encode for Defaulted<T> {
         }
         self.0.encode(writer)
     }
-}
-
-impl<T: Alternative + DefaultValue> Field for Defaulted<T> {
-    ghost is_field = { λ v. IsDefaulted T.is_default T.is_field v.0 };
-
-    ghost stands = { λ v. DefaultAhead T.tags T.is_default T.stands v.0 };
-
-    ghost nests = { T.nests };
-
-    ghost wants_memory = { T.wants_memory };
-
-    ghost always = { false };
-
-    ghost first = { T.first };
-
-    ghost stops = { T.first ++ T.stops };
-
-    ghost may_precede = { λ v. DefaultPrecedes T.tags T.is_default T.may_precede v.0 };
-
-    ghost fits = { T.fits };
-
-    ghost laws = { λ e. default_set (T.told e) T.is_default (λ v. v.0) };
-}
-
-impl<R: Reader, T: DecodeAlternative<R> + HasDefault<R>> DecodeField<R> for Defaulted<T> {
-    fn is_held(&self) {
-        self.0.is_held();
-    }
-
-    ghost same_heads = { λ v. same_defaults T.is_default T.same_tags T.same_heads v.0 };
-
-    ghost same_needs = { T.same_needs };
-
-    ghost same_memory = { T.same_memory };
 }

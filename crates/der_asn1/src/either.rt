@@ -1,16 +1,12 @@
 //! CHOICE of two types.
-ghost use Rattle.std.specs.Prelude.{◌≡◌, ◌&&◌, ◌||◌, ◌++◌, true};
-ghost use Rattle.std.proofs.Common.{ap₂, max};
+ghost use Rattle.std.specs.Prelude.{◌||◌};
 ghost use Rattle.der.specs.Prelude.{fields_levels, map_ok};
 ghost use Rattle.der_asn1.specs.Either.{EitherAhead, EitherRead, IsEither, either_encoding};
-ghost use Rattle.der_asn1.specs.Either.{either_size, EitherWritten, EitherPrecedes};
-ghost use Rattle.der_asn1.specs.EitherLaws.{either_told, either_begins, same_eithers, same_either_tags};
+ghost use Rattle.der_asn1.specs.Either.{either_size, EitherWritten};
+ghost use Rattle.der_asn1.specs.EitherLaws.{either_begins};
 ghost use Rattle.der_asn1.specs.Follow.{either_tags};
-ghost use Rattle.der_asn1.specs.SetLaws.{told_set};
-ghost use Rattle.der_asn1.specs.TagSets.{are_apart};
 
 use crate::choice::Choice;
-use crate::field::{Alternative, DecodeAlternative, DecodeField, Field};
 use der::{Decode, Encode, Error, ErrorKind, Length, Reader, ReaderExt, Tag, Writer};
 use std::alloc::Global;
 
@@ -96,59 +92,4 @@ impl<R: Reader, A: Choice<R>, B: Choice<R> + Decode<R, Error = <A as Decode<R>>:
     }
 
     ghost begins = { either_begins A.begins B.begins };
-}
-
-impl<A: Alternative, B: Alternative> Field for Either<A, B> {
-    ghost is_field = { IsEither A.is_field B.is_field };
-
-    ghost stands = { EitherAhead A.tags A.stands B.stands };
-
-    ghost nests = { fields_levels A.nests B.nests };
-
-    ghost wants_memory = { A.wants_memory || B.wants_memory };
-
-    ghost always = { true };
-
-    ghost first = { A.first ++ B.first };
-
-    ghost stops = { A.stops ++ B.stops };
-
-    ghost may_precede = { EitherPrecedes A.may_precede B.may_precede };
-
-    ghost fits = { are_apart A.first B.first && (A.fits && B.fits) };
-
-    ghost laws = { λ e. told_set (either_told e A.told B.told) };
-}
-
-impl<A: Alternative, B: Alternative> Alternative for Either<A, B> {
-    ghost tags = { either_tags A.tags B.tags };
-
-    ghost told = { λ e. either_told e A.told B.told };
-}
-
-impl<
-    R: Reader,
-    A: DecodeAlternative<R>,
-    B: DecodeAlternative<R> + Decode<R, Error = <A as Decode<R>>::Error>,
-> DecodeField<R> for Either<A, B> {
-    fn is_held(&self) {
-        match self {
-            Either::First(value) => value.is_held(),
-            Either::Second(value) => value.is_held(),
-        }
-    }
-
-    ghost same_heads = { same_eithers A.same_tags A.same_heads B.same_heads };
-
-    ghost same_needs = { λ rules. ap₂ max (A.same_needs rules) (B.same_needs rules) };
-
-    ghost same_memory = { ap₂ (λ a b. a || b) A.same_memory B.same_memory };
-}
-
-impl<
-    R: Reader,
-    A: DecodeAlternative<R>,
-    B: DecodeAlternative<R> + Decode<R, Error = <A as Decode<R>>::Error>,
-> DecodeAlternative<R> for Either<A, B> {
-    ghost same_tags = { same_either_tags A.same_tags B.same_tags };
 }

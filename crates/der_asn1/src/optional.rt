@@ -1,13 +1,10 @@
 //! Fields that may be absent.
-ghost use Rattle.std.specs.Prelude.{false, ◌++◌};
+ghost use Rattle.std.specs.Prelude.{false};
 ghost use Rattle.der.specs.Prelude.{map_ok};
 ghost use Rattle.der_asn1.specs.Optional.{OptionAhead, OptionRead, IsOptional, option_encoding};
-ghost use Rattle.der_asn1.specs.Optional.{option_size, OptionWritten, OptionPrecedes};
-ghost use Rattle.der_asn1.specs.SetLaws.{optional_set};
-ghost use Rattle.der_asn1.specs.SameLaws.{same_options};
+ghost use Rattle.der_asn1.specs.Optional.{option_size, OptionWritten};
 
 use crate::choice::Choice;
-use crate::field::{Alternative, DecodeAlternative, DecodeField, Field};
 use der::{Decode, Encode, Error, Length, Reader, ReaderExt, Writer};
 use std::alloc::Global;
 
@@ -71,40 +68,4 @@ impl<T: Encode> Encode for Optional<T> {
             None => Ok(()),
         }
     }
-}
-
-impl<T: Alternative> Field for Optional<T> {
-    ghost is_field = { λ v. IsOptional T.is_field v.0 };
-
-    ghost stands = { λ v. OptionAhead T.tags T.stands v.0 };
-
-    ghost nests = { T.nests };
-
-    ghost wants_memory = { T.wants_memory };
-
-    ghost always = { false };
-
-    ghost first = { T.first };
-
-    ghost stops = { T.first ++ T.stops };
-
-    ghost may_precede = { λ v. OptionPrecedes T.tags T.may_precede v.0 };
-
-    ghost fits = { T.fits };
-
-    ghost laws = { λ e. optional_set (T.told e) (λ v. v.0) };
-}
-
-impl<R: Reader, T: DecodeAlternative<R>> DecodeField<R> for Optional<T> {
-    fn is_held(&self) {
-        if let Some(value) = &self.0 {
-            value.is_held();
-        }
-    }
-
-    ghost same_heads = { λ v. same_options T.same_tags T.same_heads v.0 };
-
-    ghost same_needs = { T.same_needs };
-
-    ghost same_memory = { T.same_memory };
 }

@@ -1,49 +1,104 @@
 //! AlgorithmIdentifier of RFC 5280, 4.1.1.2.
-ghost use Rattle.std.specs.Prelude.{◌≡◌};
-ghost use Rattle.std.proofs.Common.{refl};
-ghost use Rattle.der_asn1.specs.Sequence.{pair_of};
+ghost use Rattle.std.specs.Prelude.{◌≡◌, false};
+ghost use Rattle.der.specs.Prelude.{Sequence, map_ok};
+ghost use Rattle.spki.specs.AlgorithmIdentifier.{algorithm_identifier};
 
-use der::{Encode, EncodeRef, Error, Length, Writer};
-use der_asn1::{AnyRef, Fields, ObjectIdentifierRef, Optional, Pair, Record, Sequence, held};
+use der::{
+    Decode, DecodeValue, Encode, EncodeRef, EncodeValue, Error, FixedTag, Header, Lawful, Length,
+    ReadValue, Reader, SliceReader, Tag, Writer, WrittenValue, decode_contents,
+};
+use der_asn1::{AnyRef, ObjectIdentifierRef, Optional};
+use std::alloc::Global;
 
-/// An algorithm, and its parameters.
+/// An algorithm, and its parameters, lent by the input.
 #[derive(Drop)]
-pub struct AlgorithmFields<'a> {
+pub struct AlgorithmIdentifierRef<'a> {
     /// The algorithm.
     pub oid: ObjectIdentifierRef<'a>,
     /// Its parameters, of any type.
     pub parameters: Optional<AnyRef<'a>>,
 }
 
-/// The SEQUENCE of an algorithm and its parameters.
-pub type AlgorithmIdentifierRef<'a> =
-    Sequence<AlgorithmFields<'a>, AlgorithmMembers<'a>>;
-
 /// Its fields, one behind the other.
-pub type AlgorithmMembers<'a> = Pair<ObjectIdentifierRef<'a>, Optional<AnyRef<'a>>>;
+pub type AlgorithmIdentifierFields<'a> = (ObjectIdentifierRef<'a>, Optional<AnyRef<'a>>);
 
-impl<'a> Fields<AlgorithmMembers<'a>> for AlgorithmFields<'a> {
-    ghost members = { λ v. pair_of v.oid v.parameters };
+impl<'a> FixedTag for AlgorithmIdentifierRef<'a> {
+    ghost tag_is = { Sequence };
 
-    ghost together = { refl };
+    const TAG: Tag = Tag::Sequence;
+
+    fn fixed_tag() -> Tag
+        ensures { result ≡ Sequence }
+    {
+        Tag::Sequence
+    }
 }
 
-impl<'a> Record<AlgorithmMembers<'a>> for AlgorithmFields<'a> {
-    fn from_members(parts: AlgorithmMembers<'a>) -> Self {
-        let Pair(oid, parameters) = parts;
-        AlgorithmFields { oid, parameters }
+impl<'a> ReadValue for AlgorithmIdentifierRef<'a> {
+    ghost valid = { (algorithm_identifier ⟦<ObjectIdentifierRef<'a> as WrittenValue>⟧.contents
+        (λ v. (v.oid, v.parameters))).valid };
+
+    ghost takes = { (algorithm_identifier ⟦<ObjectIdentifierRef<'a> as WrittenValue>⟧.contents
+        (λ v. (v.oid, v.parameters))).takes };
+
+    ghost value_levels = { ⟦<AlgorithmIdentifierFields<'a> as Decode<SliceReader<'a>>>⟧.decode_levels };
+
+    ghost allocates = { false };
+
+    ghost takes_valid = { (algorithm_identifier ⟦<ObjectIdentifierRef<'a> as WrittenValue>⟧.contents
+        (λ v. (v.oid, v.parameters))).holds };
+}
+
+/// # Errors
+///
+/// Those of the fields, one behind the other.
+impl<'a, R: Reader<Lent = &'a [u8]>> DecodeValue<R> for AlgorithmIdentifierRef<'a> {
+    type Error = Error;
+
+    ghost decode_value_answers = { λ h s result t.
+        ⟦<AlgorithmIdentifierFields<'a> as Decode<SliceReader<'a>>>⟧.decode_answers s
+        (map_ok (λ v. (v.oid, v.parameters)) result) t };
+
+    fn decode_value(alloc: Global, reader: &mut R, header: Header) -> Result<Self, Error> {
+        let fields = decode_contents::<R, AlgorithmIdentifierFields<'a>>(alloc, reader, header)?;
+        let (oid, parameters) = fields;
+        Ok(AlgorithmIdentifierRef { oid, parameters })
     }
 
-    fn are_held(&self) {
-        held(&self.oid);
-        held(&self.parameters);
+    fn is_value(&self) {
+        <ObjectIdentifierRef<'a> as DecodeValue<R>>::is_value(&self.oid);
+        if let Some(value) = &self.parameters.0 {
+            <AnyRef<'a> as DecodeValue<R>>::is_value(value);
+        }
+    }
+}
+
+impl<'a> WrittenValue for AlgorithmIdentifierRef<'a> {
+    ghost contents = { (algorithm_identifier ⟦<ObjectIdentifierRef<'a> as WrittenValue>⟧.contents
+        (λ v. (v.oid, v.parameters))).contents };
+
+    ghost writable = { (algorithm_identifier ⟦<ObjectIdentifierRef<'a> as WrittenValue>⟧.contents
+        (λ v. (v.oid, v.parameters))).valid };
+}
+
+/// # Errors
+///
+/// Those of the fields, one behind the other, and `Overflow` without a position.
+impl<'a> EncodeValue for AlgorithmIdentifierRef<'a> {
+    ghost value_size = { λ v. ⟦<AlgorithmIdentifierFields<'a> as Encode>⟧.size (v.oid, v.parameters) };
+
+    ghost encode_value_answers = { λ v. ⟦<AlgorithmIdentifierFields<'a> as Encode>⟧.encode_answers (v.oid, v.parameters) };
+
+    fn value_len(&self) -> Result<Length, Error> {
+        (EncodeRef(&self.oid), EncodeRef(&self.parameters)).encoded_len()
     }
 
-    fn fields_len(&self) -> Result<Length, Error> {
-        Pair(EncodeRef(&self.oid), EncodeRef(&self.parameters)).encoded_len()
+    fn encode_value<W: Writer>(&self, writer: &mut W) -> Result<(), Error> {
+        (EncodeRef(&self.oid), EncodeRef(&self.parameters)).encode(writer)
     }
+}
 
-    fn encode_fields<W: Writer>(&self, writer: &mut W) -> Result<(), Error> {
-        Pair(EncodeRef(&self.oid), EncodeRef(&self.parameters)).encode(writer)
-    }
+impl<'a> Lawful for AlgorithmIdentifierRef<'a> {
+    ghost lawful = { (algorithm_identifier ⟦<ObjectIdentifierRef<'a> as WrittenValue>⟧.contents
+        (λ v. (v.oid, v.parameters))).lawful };
 }

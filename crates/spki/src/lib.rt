@@ -5,7 +5,5 @@
 mod algorithm_identifier;
 mod subject_public_key_info;
 
-pub use algorithm_identifier::{AlgorithmFields, AlgorithmIdentifierRef, AlgorithmMembers};
-pub use subject_public_key_info::{
-    KeyFields, KeyMembers, SubjectPublicKeyInfoRef, key_from_der,
-};
+pub use algorithm_identifier::{AlgorithmIdentifierFields, AlgorithmIdentifierRef};
+pub use subject_public_key_info::{SubjectPublicKeyInfoFields, SubjectPublicKeyInfoRef};

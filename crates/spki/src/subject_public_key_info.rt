@@ -1,81 +1,103 @@
 //! SubjectPublicKeyInfo of RFC 5280, 4.1.
-ghost use Rattle.std.specs.Prelude.{◌≡◌, ◌^◌, ◌<◌, length, IfOk, IsOk};
-ghost use Rattle.std.proofs.Common.{refl};
-ghost use Rattle.der.specs.Decode.{WholeAnswer};
-ghost use Rattle.der.specs.Prelude.{Der};
-ghost use Rattle.der_asn1.specs.Sequence.{pair_of};
+ghost use Rattle.std.specs.Prelude.{◌≡◌, false};
+ghost use Rattle.der.specs.Prelude.{Sequence, map_ok};
+ghost use Rattle.spki.specs.SubjectPublicKeyInfo.{subject_public_key_info};
 
 use crate::algorithm_identifier::AlgorithmIdentifierRef;
-use der::{Decode, Encode, EncodeRef, Error, Length, SliceReader, Writer};
-use der_asn1::{BitStringRef, Fields, Pair, Record, Sequence, held, lawful_from_der};
+use der::{
+    Decode, DecodeValue, Encode, EncodeRef, EncodeValue, Error, FixedTag, Header, Lawful, Length,
+    ReadValue, Reader, SliceReader, Tag, Writer, WrittenValue, decode_contents,
+};
+use der_asn1::{BitStringRef, ObjectIdentifierRef};
 use std::alloc::Global;
 
 /// A public key, with its algorithm, lent by the input.
 #[derive(Drop)]
-pub struct KeyFields<'a> {
+pub struct SubjectPublicKeyInfoRef<'a> {
     /// The algorithm.
     pub algorithm: AlgorithmIdentifierRef<'a>,
     /// The key.
     pub subject_public_key: BitStringRef<'a>,
 }
 
-/// The SEQUENCE of an algorithm and a key.
-pub type SubjectPublicKeyInfoRef<'a> = Sequence<KeyFields<'a>, KeyMembers<'a>>;
-
 /// Its fields, one behind the other.
-pub type KeyMembers<'a> = Pair<AlgorithmIdentifierRef<'a>, BitStringRef<'a>>;
+pub type SubjectPublicKeyInfoFields<'a> = (AlgorithmIdentifierRef<'a>, BitStringRef<'a>);
 
-impl<'a> Fields<KeyMembers<'a>> for KeyFields<'a> {
-    ghost members = { λ v. pair_of v.algorithm v.subject_public_key };
+impl<'a> FixedTag for SubjectPublicKeyInfoRef<'a> {
+    ghost tag_is = { Sequence };
 
-    ghost together = { refl };
-}
+    const TAG: Tag = Tag::Sequence;
 
-impl<'a> Record<KeyMembers<'a>> for KeyFields<'a> {
-    fn from_members(parts: KeyMembers<'a>) -> Self {
-        let Pair(algorithm, subject_public_key) = parts;
-        KeyFields {
-            algorithm,
-            subject_public_key,
-        }
-    }
-
-    fn are_held(&self) {
-        held(&self.algorithm);
-        held(&self.subject_public_key);
-    }
-
-    fn fields_len(&self) -> Result<Length, Error> {
-        Pair(
-            EncodeRef(&self.algorithm),
-            EncodeRef(&self.subject_public_key),
-        )
-        .encoded_len()
-    }
-
-    fn encode_fields<W: Writer>(&self, writer: &mut W) -> Result<(), Error> {
-        Pair(
-            EncodeRef(&self.algorithm),
-            EncodeRef(&self.subject_public_key),
-        )
-        .encode(writer)
+    fn fixed_tag() -> Tag
+        ensures { result ≡ Sequence }
+    {
+        Tag::Sequence
     }
 }
 
-/// The key that these octets are the encoding of, exactly where there is one.
-///
+impl<'a> ReadValue for SubjectPublicKeyInfoRef<'a> {
+    ghost valid = { (subject_public_key_info ⟦<ObjectIdentifierRef<'a> as WrittenValue>⟧.contents ⟦<BitStringRef<'a> as WrittenValue>⟧.contents (λ v. (v.oid, v.parameters))
+        (λ v. (v.algorithm, v.subject_public_key))).valid };
+
+    ghost takes = { (subject_public_key_info ⟦<ObjectIdentifierRef<'a> as WrittenValue>⟧.contents ⟦<BitStringRef<'a> as WrittenValue>⟧.contents (λ v. (v.oid, v.parameters))
+        (λ v. (v.algorithm, v.subject_public_key))).takes };
+
+    ghost value_levels = { ⟦<SubjectPublicKeyInfoFields<'a> as Decode<SliceReader<'a>>>⟧.decode_levels };
+
+    ghost allocates = { false };
+
+    ghost takes_valid = { (subject_public_key_info ⟦<ObjectIdentifierRef<'a> as WrittenValue>⟧.contents ⟦<BitStringRef<'a> as WrittenValue>⟧.contents (λ v. (v.oid, v.parameters))
+        (λ v. (v.algorithm, v.subject_public_key))).holds };
+}
+
 /// # Errors
 ///
-/// Those of [`DecodeBytes::from_der`](der::DecodeBytes::from_der).
-pub fn key_from_der<'a>(alloc: Global, octets: &'a [u8]) -> Result<SubjectPublicKeyInfoRef<'a>, Error>
-    ensures ok { IfOk result (λ v. ⟦<SubjectPublicKeyInfoRef<'a> as Encode>⟧.encodable v
-        × (octets.now ≡ ⟦<SubjectPublicKeyInfoRef<'a> as Encode>⟧.encoding v)) }
-    ensures complete { (v : _) → length octets.now < 2 ^ 32
-        → ⟦<SubjectPublicKeyInfoRef<'a> as Encode>⟧.encodable v
-        → octets.now ≡ ⟦<SubjectPublicKeyInfoRef<'a> as Encode>⟧.encoding v → IsOk result }
-    ensures exact { WholeAnswer Der
-        ⟦<SubjectPublicKeyInfoRef<'a> as Decode<SliceReader<'a>>>⟧.decode_answers (λ e f. f ≡ e)
-        octets.now result }
-{
-    lawful_from_der(alloc, octets)
+/// Those of the fields, one behind the other.
+impl<'a, R: Reader<Lent = &'a [u8]>> DecodeValue<R> for SubjectPublicKeyInfoRef<'a> {
+    type Error = Error;
+
+    ghost decode_value_answers = { λ h s result t.
+        ⟦<SubjectPublicKeyInfoFields<'a> as Decode<SliceReader<'a>>>⟧.decode_answers s
+        (map_ok (λ v. (v.algorithm, v.subject_public_key)) result) t };
+
+    fn decode_value(alloc: Global, reader: &mut R, header: Header) -> Result<Self, Error> {
+        let fields = decode_contents::<R, SubjectPublicKeyInfoFields<'a>>(alloc, reader, header)?;
+        let (algorithm, subject_public_key) = fields;
+        Ok(SubjectPublicKeyInfoRef { algorithm, subject_public_key })
+    }
+
+    fn is_value(&self) {
+        <AlgorithmIdentifierRef<'a> as DecodeValue<R>>::is_value(&self.algorithm);
+        <BitStringRef<'a> as DecodeValue<R>>::is_value(&self.subject_public_key);
+    }
+}
+
+impl<'a> WrittenValue for SubjectPublicKeyInfoRef<'a> {
+    ghost contents = { (subject_public_key_info ⟦<ObjectIdentifierRef<'a> as WrittenValue>⟧.contents ⟦<BitStringRef<'a> as WrittenValue>⟧.contents (λ v. (v.oid, v.parameters))
+        (λ v. (v.algorithm, v.subject_public_key))).contents };
+
+    ghost writable = { (subject_public_key_info ⟦<ObjectIdentifierRef<'a> as WrittenValue>⟧.contents ⟦<BitStringRef<'a> as WrittenValue>⟧.contents (λ v. (v.oid, v.parameters))
+        (λ v. (v.algorithm, v.subject_public_key))).valid };
+}
+
+/// # Errors
+///
+/// Those of the fields, one behind the other, and `Overflow` without a position.
+impl<'a> EncodeValue for SubjectPublicKeyInfoRef<'a> {
+    ghost value_size = { λ v. ⟦<SubjectPublicKeyInfoFields<'a> as Encode>⟧.size (v.algorithm, v.subject_public_key) };
+
+    ghost encode_value_answers = { λ v. ⟦<SubjectPublicKeyInfoFields<'a> as Encode>⟧.encode_answers (v.algorithm, v.subject_public_key) };
+
+    fn value_len(&self) -> Result<Length, Error> {
+        (EncodeRef(&self.algorithm), EncodeRef(&self.subject_public_key)).encoded_len()
+    }
+
+    fn encode_value<W: Writer>(&self, writer: &mut W) -> Result<(), Error> {
+        (EncodeRef(&self.algorithm), EncodeRef(&self.subject_public_key)).encode(writer)
+    }
+}
+
+impl<'a> Lawful for SubjectPublicKeyInfoRef<'a> {
+    ghost lawful = { (subject_public_key_info ⟦<ObjectIdentifierRef<'a> as WrittenValue>⟧.contents ⟦<BitStringRef<'a> as WrittenValue>⟧.contents (λ v. (v.oid, v.parameters))
+        (λ v. (v.algorithm, v.subject_public_key))).lawful };
 }

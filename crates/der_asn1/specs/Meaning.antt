@@ -1,0 +1,274 @@
+-- What the parts of a SEQUENCE mean, with their laws, so that what is put together of them has its
+-- laws too.
+use Rattle.std.proofs.Common.{◌≡◌, ℕ, ◌^◌, ◌<◌, ◌≤◌, ◌&&◌, ◌||◌, Bool, true, false, List, [], ◌∷◌, ◌++◌, Option, Some, None, nat_lt, arith, subst, sym, ltb-true}
+use Rattle.der.specs.Prelude.{Head, Tag, Sequence as SequenceTag, EncodingRules, Der, ElementAhead}
+use Rattle.der.specs.Prelude.{element_octets, element_levels, fields_levels, FieldsAhead, IsLawful}
+use Rattle.der.specs.Prelude.{TakesWhole}
+use Rattle.der.specs.Tag.{label}
+use Rattle.der_asn1.specs.AnyElement.{AnyElementAhead}
+use Rattle.der_asn1.specs.AnyLaws.{any_told}
+use Rattle.der_asn1.specs.AnyRef.{IsAny, TakesAny, any_contents}
+use Rattle.der_asn1.specs.Checked.{HasForm, TakesForm, form_lawful}
+use Rattle.der_asn1.specs.ContextSpecific.{context_tag, retagged, TakesImplicit, implicit_lawful}
+use Rattle.der_asn1.specs.ContextSpecific.{explicit_lawful, explicit_holds}
+use Rattle.der_asn1.specs.Default.{DefaultAhead, IsDefaulted, default_encoding, DefaultPrecedes}
+use Rattle.der_asn1.specs.Either.{EitherAhead, IsEither, either_encoding, EitherPrecedes}
+use Rattle.der_asn1.specs.EitherLaws.{either_told}
+use Rattle.der_asn1.specs.FieldLaws.{contents_laws, contents_hold}
+use Rattle.der_asn1.specs.Follow.{Anything, BothPrecede, this_tag, any_tag, either_tags}
+use Rattle.der_asn1.specs.Optional.{OptionAhead, IsOptional, option_encoding, OptionPrecedes}
+use Rattle.der_asn1.specs.PairLaws.{pair_set}
+use Rattle.der_asn1.specs.SequenceOf.{TakesList, IsList, list_lawful, list_holds}
+use Rattle.der_asn1.specs.SetLaws.{SetLaws, ToldLaws, laws_of, element_told, told_set, pair_stops}
+use Rattle.der_asn1.specs.SetLaws.{optional_set, default_set}
+use Rattle.der_asn1.specs.TagSets.{are_apart}
+use Rattle.der_asn1.specs.TagSetLemmas.{both_true}
+use Rattle.der_asn1.specs.declared.any.AnyRef.{AnyRef}
+use Rattle.der_asn1.specs.declared.defaulted.Defaulted.{Defaulted}
+use Rattle.der_asn1.specs.declared.either.Either.{Either}
+use Rattle.der_asn1.specs.declared.optional.Optional.{Optional}
+
+-- a field: which values stand at the front of octets and in how many of them, which there are and
+-- how they are written, how deep they nest, and whether they always have octets; the tags that they
+-- may begin with, and those that may not follow them; and the laws of it, where a test says that its
+-- own parts may stand as they do
+pub record Field (A : Type 0) : Type 1 where
+  pub stands : A → EncodingRules → List ℕ → ℕ → Type 0
+  pub valid : A → Type 0
+  pub encoding : A → List ℕ
+  pub levels : EncodingRules → ℕ
+  pub always : Bool
+  pub first : List (Option Tag)
+  pub stops : List (Option Tag)
+  pub precedes : A → List ℕ → Type 0
+  pub fits : Bool
+  pub laws : fits ≡ true → SetLaws always first stops precedes stands valid encoding
+
+-- one that always has octets, of which the tag ahead tells whether it stands there
+pub record Alternative (A : Type 0) : Type 1 where
+  pub stands : A → EncodingRules → List ℕ → ℕ → Type 0
+  pub valid : A → Type 0
+  pub encoding : A → List ℕ
+  pub levels : EncodingRules → ℕ
+  pub tags : Tag → Type 0
+  pub first : List (Option Tag)
+  pub stops : List (Option Tag)
+  pub precedes : A → List ℕ → Type 0
+  pub fits : Bool
+  pub laws : fits ≡ true → ToldLaws tags first stops precedes stands valid encoding
+
+-- one with a tag of its own: a lawful type
+pub record Element (A : Type 0) : Type 1 where
+  pub tag : Tag
+  pub takes : A → EncodingRules → Head → List ℕ → Type 0
+  pub valid : A → Type 0
+  pub contents : A → List ℕ
+  pub levels : EncodingRules → ℕ
+  pub lawful : IsLawful tag takes valid contents levels
+  pub holds : (v : A) (rules : EncodingRules) (h : Head) (octets : List ℕ)
+      → takes v rules h octets → valid v
+
+abbrev pub alternative : {A : Type 0} → Element A → Alternative A
+alternative one =
+    record {
+      stands = ElementAhead one.tag one.takes;
+      valid = one.valid;
+      encoding = λ v. element_octets one.tag (one.contents v);
+      levels = element_levels one.levels;
+      tags = this_tag one.tag;
+      first = Some one.tag ∷ [];
+      stops = [];
+      precedes = Anything;
+      fits = true;
+      laws = λ e. element_told one.lawful one.holds;
+    }
+
+abbrev pub field : {A : Type 0} → Alternative A → Field A
+field one =
+    record {
+      stands = one.stands;
+      valid = one.valid;
+      encoding = one.encoding;
+      levels = one.levels;
+      always = true;
+      first = one.first;
+      stops = one.stops;
+      precedes = one.precedes;
+      fits = one.fits;
+      laws = λ e. told_set (one.laws e);
+    }
+
+-- an element of any tag
+abbrev pub any_element : Alternative AnyRef
+any_element =
+    record {
+      stands = AnyElementAhead TakesAny;
+      valid = IsAny;
+      encoding = λ v. element_octets v.tag (any_contents v);
+      levels = element_levels (λ _. 0);
+      tags = any_tag;
+      first = None ∷ [];
+      stops = [];
+      precedes = Anything;
+      fits = true;
+      laws = λ e. any_told;
+    }
+
+-- one that may be absent, and one that is absent where it is the default
+abbrev pub optional : {A : Type 0} → Alternative A → Field (Optional A)
+optional one =
+    record {
+      stands = λ v. OptionAhead one.tags one.stands v.0;
+      valid = λ v. IsOptional one.valid v.0;
+      encoding = λ v. option_encoding one.encoding v.0;
+      levels = one.levels;
+      always = false;
+      first = one.first;
+      stops = one.first ++ one.stops;
+      precedes = λ v. OptionPrecedes one.tags one.precedes v.0;
+      fits = one.fits;
+      laws = λ e. optional_set (one.laws e) (λ v. v.0);
+    }
+
+abbrev pub defaulted : {A : Type 0} → (A → Bool) → Alternative A → Field (Defaulted A)
+defaulted is_default one =
+    record {
+      stands = λ v. DefaultAhead one.tags is_default one.stands v.0;
+      valid = λ v. IsDefaulted is_default one.valid v.0;
+      encoding = λ v. default_encoding is_default one.encoding v.0;
+      levels = one.levels;
+      always = false;
+      first = one.first;
+      stops = one.first ++ one.stops;
+      precedes = λ v. DefaultPrecedes one.tags is_default one.precedes v.0;
+      fits = one.fits;
+      laws = λ e. default_set (one.laws e) is_default (λ v. v.0);
+    }
+
+-- two, one behind the other: the second may not begin with a tag that decides whether the first is
+-- absent
+abbrev pub two_fields : {A B : Type 0} → Field A → Field B → Field (A × B)
+two_fields one two =
+    record {
+      stands = FieldsAhead one.stands two.stands;
+      valid = λ v. one.valid v.0 × two.valid v.1;
+      encoding = λ v. one.encoding v.0 ++ two.encoding v.1;
+      levels = fields_levels one.levels two.levels;
+      always = one.always || two.always;
+      first = one.first ++ two.first;
+      stops = pair_stops two.always one.stops two.stops;
+      precedes = BothPrecede two.encoding one.precedes two.precedes;
+      fits = are_apart one.stops two.first && (one.fits && two.fits);
+      laws = λ e. pair_set (λ v. v) e one.laws two.laws;
+    }
+
+-- one or the other: no tag is one of both
+abbrev pub either : {A B : Type 0} → Alternative A → Alternative B → Alternative (Either A B)
+either one two =
+    record {
+      stands = EitherAhead one.tags one.stands two.stands;
+      valid = IsEither one.valid two.valid;
+      encoding = either_encoding one.encoding two.encoding;
+      levels = fields_levels one.levels two.levels;
+      tags = either_tags one.tags two.tags;
+      first = one.first ++ two.first;
+      stops = one.stops ++ two.stops;
+      precedes = EitherPrecedes one.precedes two.precedes;
+      fits = are_apart one.first two.first && (one.fits && two.fits);
+      laws = λ e. either_told e one.laws two.laws;
+    }
+
+-- contents of a form, and lists of elements
+abbrev pub of_form : {A : Type 0} (tag : Tag) → (List ℕ → Bool) → (A → List ℕ)
+    → (label tag).number < 2 ^ 32 → Element A
+of_form tag form octets numbered =
+    record {
+      tag = tag;
+      takes = TakesForm form octets;
+      valid = HasForm form octets;
+      contents = octets;
+      levels = λ _. 0;
+      lawful = form_lawful tag form octets numbered;
+      holds = λ v rules h octets taken. subst (λ x. form x ≡ true) (sym taken.1) taken.0;
+    }
+
+abbrev pub list_of : {A B : Type 0} (tag : Tag) → Element A → (B → List ℕ)
+    → (label tag).number < 2 ^ 32 → Element B
+list_of tag one octets numbered =
+    record {
+      tag = tag;
+      takes = TakesList one.tag one.valid one.contents octets;
+      valid = IsList one.tag one.valid one.contents octets;
+      contents = octets;
+      levels = λ _. 0;
+      lawful = list_lawful tag one.tag one.valid one.contents octets numbered;
+      holds = list_holds one.tag one.valid one.contents octets;
+    }
+
+below_63 : (n : ℕ) → nat_lt n 63 ≡ true → n ≤ 62
+below_63 n e = let below = ltb-true n 63 e in omega (arith, below)
+
+-- fields as the contents of an element, which nest at most 62 levels
+abbrev pub is_sequence : {A : Type 0} → Field A → Bool
+is_sequence one = one.fits && nat_lt (one.levels Der) 63
+
+pub is_nested : (fits : Bool) (levels : EncodingRules → ℕ)
+    → (fits && nat_lt (levels Der) 63) ≡ true → levels Der ≤ 62
+is_nested fits levels e = below_63 (levels Der) (both_true fits (nat_lt (levels Der) 63) e).1
+
+module _ {A : Type 0} {fits always : Bool} {first stops : List (Option Tag)}
+    {P : A → List ℕ → Type 0} {Ahead : A → EncodingRules → List ℕ → ℕ → Type 0}
+    {valid : A → Type 0} {encoding : A → List ℕ} (levels : EncodingRules → ℕ)
+    (e : (fits && nat_lt (levels Der) 63) ≡ true)
+    (laws : fits ≡ true → SetLaws always first stops P Ahead valid encoding) {B : Type 0}
+    (f : B → A) where
+  pub sequence_holds : (b : B) (rules : EncodingRules) (h : Head) (octets : List ℕ)
+      → TakesWhole Ahead (f b) rules h octets → valid (f b)
+  sequence_holds b =
+      contents_hold (laws_of (laws (both_true fits (nat_lt (levels Der) 63) e).0)) (f b)
+
+  pub sequence_lawful : IsLawful SequenceTag (λ b. TakesWhole Ahead (f b)) (λ b. valid (f b))
+      (λ b. encoding (f b)) levels
+  sequence_lawful =
+      let shallow = is_nested fits levels e in
+      contents_laws SequenceTag levels f
+      (laws_of (laws (both_true fits (nat_lt (levels Der) 63) e).0)) (omega (arith, shallow))
+      (omega arith)
+
+abbrev pub sequence : {A B : Type 0} (one : Field A) → is_sequence one ≡ true → (B → A) → Element B
+sequence one e f =
+    record {
+      tag = SequenceTag;
+      takes = λ b. TakesWhole one.stands (f b);
+      valid = λ b. one.valid (f b);
+      contents = λ b. one.encoding (f b);
+      levels = one.levels;
+      lawful = sequence_lawful one.levels e one.laws f;
+      holds = sequence_holds one.levels e one.laws f;
+    }
+
+-- context-specific tags: another one for the same contents, and one around an element
+abbrev pub implicit : {A B : Type 0} (n : ℕ) → n < 2 ^ 32 → Element A → (B → A) → Element B
+implicit n small one f =
+    record {
+      tag = context_tag (label one.tag).constructed n;
+      takes = TakesImplicit one.tag one.takes f;
+      valid = λ b. one.valid (f b);
+      contents = λ b. one.contents (f b);
+      levels = one.levels;
+      lawful = implicit_lawful (context_tag (label one.tag).constructed n) f small one.lawful;
+      holds = λ b rules h octets taken. one.holds (f b) rules (retagged one.tag h) octets taken;
+    }
+
+abbrev pub explicit : {A B : Type 0} (n : ℕ) → n < 2 ^ 32 → (one : Element A)
+    → one.levels Der ≤ 62 → (B → A) → Element B
+explicit n small one shallow f =
+    record {
+      tag = context_tag true n;
+      takes = λ b. TakesWhole (ElementAhead one.tag one.takes) (f b);
+      valid = λ b. one.valid (f b);
+      contents = λ b. element_octets one.tag (one.contents (f b));
+      levels = element_levels one.levels;
+      lawful = explicit_lawful (context_tag true n) f small one.lawful shallow;
+      holds = explicit_holds f one.holds;
+    }
