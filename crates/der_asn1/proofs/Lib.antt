@@ -3,3 +3,4 @@ pub mod OptionalReadLemmas
 pub mod SequenceOfLemmas
 pub mod IntegerLemmas
 pub mod IntegerReadLemmas
+pub mod TimeLemmas

@@ -25,3 +25,4 @@ pub mod Sequence
 pub mod ElementLaws
 pub mod AlgorithmIdentifier
 pub mod SubjectPublicKeyInfo
+pub mod Times
