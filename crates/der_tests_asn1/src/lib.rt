@@ -20,3 +20,5 @@ mod numbers;
 mod tags;
 #[cfg(test)]
 mod texts;
+#[cfg(test)]
+mod times;
