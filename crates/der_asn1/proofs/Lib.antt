@@ -4,3 +4,4 @@ pub mod SequenceOfLemmas
 pub mod IntegerLemmas
 pub mod IntegerReadLemmas
 pub mod TimeLemmas
+pub mod SetOfLemmas

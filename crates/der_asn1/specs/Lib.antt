@@ -26,3 +26,4 @@ pub mod ElementLaws
 pub mod AlgorithmIdentifier
 pub mod SubjectPublicKeyInfo
 pub mod Times
+pub mod SetOf

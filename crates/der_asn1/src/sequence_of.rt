@@ -16,7 +16,7 @@ use std::alloc::Global;
 use std::marker::PhantomData;
 
 // The element ahead.
-fn next_item<'a, T: Lawful + DecodeValue<SliceReader<'a>>>(
+pub(crate) fn next_item<'a, T: Lawful + DecodeValue<SliceReader<'a>>>(
     alloc: Global,
     reader: &mut SliceReader<'a>,
 ) -> Result<T, <T as DecodeValue<SliceReader<'a>>>::Error>
@@ -191,6 +191,18 @@ impl<'a, T: Lawful + DecodeValue<SliceReader<'a>>> SequenceOf<'a, T> {
 }
 
 impl<'a, T: Lawful> SequenceOf<'a, T> {
+    // The SEQUENCE OF with these contents.
+    pub(crate) fn formed(octets: &'a [u8]) -> Self
+        requires short { length octets.now < 2 ^ 32 }
+        requires checked { ∥ AreElements T.tag_is T.valid T.contents octets.now ∥₁ }
+        ensures { result.octets.now ≡ octets.now }
+    {
+        SequenceOf {
+            octets,
+            of: PhantomData,
+        }
+    }
+
     /// The contents.
     pub fn octets(&self) -> &'a [u8]
         ensures value { result.now ≡ self.now.octets.now }

@@ -17,6 +17,8 @@ mod lists;
 #[cfg(test)]
 mod numbers;
 #[cfg(test)]
+mod sets;
+#[cfg(test)]
 mod tags;
 #[cfg(test)]
 mod texts;
