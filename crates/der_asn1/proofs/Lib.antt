@@ -5,3 +5,4 @@ pub mod IntegerLemmas
 pub mod IntegerReadLemmas
 pub mod TimeLemmas
 pub mod SetOfLemmas
+pub mod ArcLemmas

@@ -27,3 +27,4 @@ pub mod AlgorithmIdentifier
 pub mod SubjectPublicKeyInfo
 pub mod Times
 pub mod SetOf
+pub mod Arcs

@@ -7,6 +7,7 @@
 
 mod algorithm_identifier;
 mod any;
+mod arcs;
 mod bit_string;
 mod boolean;
 mod checked;
@@ -34,6 +35,7 @@ mod public_key_info;
 mod sequence;
 mod sequence_of;
 mod set_of;
+mod subidentifier;
 mod time_form;
 mod time_octets;
 mod time_of;
@@ -43,6 +45,7 @@ mod whole;
 
 pub use algorithm_identifier::{AlgorithmIdentifier, IdentifierFields};
 pub use any::AnyRef;
+pub use arcs::Arcs;
 pub use bit_string::{BitStringForm, BitStringRef};
 pub use boolean::{BooleanForm, BooleanRef};
 pub use checked::Checked;
