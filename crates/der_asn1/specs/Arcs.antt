@@ -1,6 +1,6 @@
 -- The arcs of an object identifier (X.690 8.19).
 use Rattle.std.specs.Prelude.{◌≡◌, ℕ, ◌+◌, ◌-◌, ◌*◌, ◌^◌, nat_lt, List, [], ◌∷◌, ◌++◌}
-use Rattle.std.specs.Prelude.{Option, Some, None, if◌then◌else◌, drop}
+use Rattle.std.specs.Prelude.{Option, Some, None, if◌then◌else◌, drop, map}
 use Rattle.std.specs.List.{flat_map}
 use Rattle.der.specs.Length.{digits}
 use Rattle.der.specs.Tag.{continuation_octets}
@@ -51,16 +51,14 @@ arcs_left a = arcs_at a.stage a.octets.now
 abbrev pub told_arc : ℕ → Option ℕ
 told_arc n = if nat_lt n (2 ^ 32) then Some n else None
 
--- the first of arcs, and the others behind it
-abbrev pub IsFirstArc : List ℕ → Option ℕ → List ℕ → Type 0
-IsFirstArc [] a others = ⊥
-IsFirstArc (n ∷ ns) a others = (a ≡ told_arc n) × (others ≡ ns)
+abbrev pub arc_items : Arcs → List (Option ℕ)
+arc_items a = map told_arc (arcs_left a)
 
 -- a subidentifier below 2 ^ 63 as its number
 abbrev pub told_number : ℕ → Option ℕ
 told_number n = if nat_lt n (2 ^ 63) then Some n else None
 
--- likewise of subidentifiers
+-- the first of subidentifiers, as such, and the others
 abbrev pub IsFirstNumber : List ℕ → Option ℕ → List ℕ → Type 0
 IsFirstNumber [] a others = ⊥
 IsFirstNumber (n ∷ ns) a others = (a ≡ told_number n) × (others ≡ ns)

@@ -35,9 +35,8 @@ impl<'a> Checked<'a, ObjectIdentifierForm> {
 }
 
 impl<'a> Arcs<'a> {
-    ghost use Rattle.std.specs.Prelude.{IfSome, IfNone, []};
     ghost use Rattle.der_asn1.specs.Forms.{oid_form};
-    ghost use Rattle.der_asn1.specs.Arcs.{arcs_left, oid_arcs, oid_octets, IsFirstArc};
+    ghost use Rattle.der_asn1.specs.Arcs.{arcs_left, oid_arcs, oid_octets};
 
     // A walk over the arcs of these contents.
     fn new(octets: &'a [u8]) -> Self
@@ -50,12 +49,20 @@ impl<'a> Arcs<'a> {
             stage: Stage::First,
         }
     }
+}
 
-    /// The next arc, as a number, where it has 32 bits; there is none only behind the last.
-    pub fn next(&mut self) -> Option<Option<u32>>
-        ensures some { IfSome result (λ a. IsFirstArc (arcs_left self.old) a (arcs_left self.new)) }
-        ensures none { IfNone result (arcs_left self.old ≡ []) }
-    {
+/// Each arc is a number where it has 32 bits, and else `None`.
+impl<'a> Iterator for Arcs<'a> {
+    ghost use Rattle.std.specs.Iterator.{YieldsFirst, item_count};
+    ghost use Rattle.der_asn1.specs.Arcs.{arc_items};
+
+    type Item = Option<u32>;
+
+    ghost next_gives = { YieldsFirst arc_items };
+
+    ghost remaining = { item_count arc_items };
+
+    fn next(&mut self) -> Option<Option<u32>> {
         if self.octets.is_empty() {
             return None;
         }
