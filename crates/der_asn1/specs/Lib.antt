@@ -28,3 +28,4 @@ pub mod SubjectPublicKeyInfo
 pub mod Times
 pub mod SetOf
 pub mod Arcs
+pub mod Alphabets

@@ -3,6 +3,10 @@
 #![tactic(auto)]
 
 #[cfg(test)]
+mod alphabets;
+#[cfg(test)]
+mod arcs;
+#[cfg(test)]
 mod checks;
 #[cfg(test)]
 mod defaults;
