@@ -43,12 +43,6 @@ abbrev pub IsList : {A B : Type 0} → Tag → (A → Type 0) → (A → List �
 IsList tag valid contents octets_of v =
     ∥ AreElements tag valid contents (octets_of v) ∥₁ × (length (octets_of v) < 2 ^ 32)
 
--- what is answered is lent
-abbrev pub ListRead : {B E : Type 0} → (B → List ℕ) → Head → ReaderState → Result B E
-    → ReaderState → Type 0
-ListRead octets_of h s result t =
-    IfOk result (λ v. Gives (read_slice_outcome (number h.length)) s (Ok (octets_of v)) t)
-
 -- so the contents of such a value are elements
 pub list_holds : {A B : Type 0} (tag : Tag) (valid : A → Type 0) (contents : A → List ℕ)
     (octets_of : B → List ℕ) (v : B) (rules : EncodingRules) (h : Head) (octets : List ℕ)

@@ -1,12 +1,12 @@
 //! SET OF, lent by the input: checked once, its order too, and then walked without a failure.
-ghost use Rattle.std.specs.Prelude.{◌≡◌, ◌^◌, ◌<◌, ◌↔◌, false, true, [], length, IfOk, OnOk};
+ghost use Rattle.std.specs.Prelude.{◌≡◌, ◌^◌, ◌<◌, ◌↔◌, false, true, [], length, IfOk, OnOk, ⊤};
 ghost use Rattle.std.proofs.Common.{arith};
 ghost use Rattle.der.specs.Prelude.{Set as SetTag, rest_of, Reads, slice_state, IsBefore};
 ghost use Rattle.der.specs.Decode.{SucceedsOrLacks};
 ghost use Rattle.der_asn1.specs.Checked.{form_size, FormWritten};
-ghost use Rattle.der_asn1.specs.SequenceOf.{AreElements, IsAtItem, ListRead};
+ghost use Rattle.der_asn1.specs.SequenceOf.{AreElements, IsAtItem};
 ghost use Rattle.der_asn1.specs.SetOf.{AreAscending, IsElement, TakesSet, IsSet, set_lawful};
-ghost use Rattle.der_asn1.specs.SetOf.{set_holds};
+ghost use Rattle.der_asn1.specs.SetOf.{set_holds, SetRead};
 
 use crate::explicit::Nestable;
 use crate::sequence_of::{Items, SequenceOf, next_item};
@@ -14,7 +14,7 @@ use der::{
     DecodeValue, EncodeValue, Error, ErrorKind, FixedTag, Header, Lawful, Length, ReadValue,
     Reader, ReaderExt, SliceReader, Tag, Writer, WrittenValue,
 };
-use std::alloc::Global;
+use std::alloc::{AllocError, Global};
 use std::cmp::Ordering;
 
 // What is left to the reader.
@@ -82,12 +82,24 @@ fn check_set<'a, T: Lawful + DecodeValue<SliceReader<'a>>>(
 
 /// A SET OF, lent by the input: its contents are the encodings of values of the type, one behind
 /// the other, in the order of the encodings, which was seen once.
-#[derive(Drop)]
 pub struct SetOf<'a, T: Lawful> {
     elements: SequenceOf<'a, T>,
     ghost short: { length elements.octets.now < 2 ^ 32 },
     ghost ascending: { ∥ AreAscending T.tag_is T.valid T.contents elements.octets.now ∥₁ },
 }
+
+/// The same elements; it takes no memory.
+impl<'a, T: Lawful> Clone for SetOf<'a, T> {
+    ghost is_clone = { λ p q. q ≡ p };
+
+    ghost is_infallible = { λ _. ⊤ };
+
+    fn clone(&self) -> Result<Self, AllocError> {
+        Ok(*self)
+    }
+}
+
+impl<'a, T: Lawful> Copy for SetOf<'a, T> {}
 
 impl<'a, T: Lawful> FixedTag for SetOf<'a, T> {
     ghost tag_is = { SetTag };
@@ -126,7 +138,7 @@ impl<'a, T: Lawful + DecodeValue<SliceReader<'a>>, R: Reader<Lent = &'a [u8]>> D
     for SetOf<'a, T> {
     type Error = <T as DecodeValue<SliceReader<'a>>>::Error;
 
-    ghost decode_value_answers = { ListRead (λ v. v.elements.octets.now) };
+    ghost decode_value_answers = { SetRead (λ v. v.elements.octets.now) };
 
     fn decode_value(
         alloc: Global,
