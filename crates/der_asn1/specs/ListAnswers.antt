@@ -1,5 +1,6 @@
 -- What a walk over elements answers, by what decoding each of them answers.
 use Rattle.std.specs.Prelude.{◌≡◌, ℕ, true, false, List, [], ◌++◌, Result, Ok, Err}
+use Rattle.std.proofs.Common.{Bor}
 use Rattle.der.specs.Prelude.{Head, number, Error, Der, Gives, error_at, reader_position}
 use Rattle.der.specs.Prelude.{read_slice_outcome, ReaderState, rest_of, IsBefore}
 use Rattle.der.specs.ErrorKinds.{Failed, SetOrdering}
@@ -15,6 +16,13 @@ pub data ItemAnswer {T E : Type 0} (converts : Error → E → Type 0)
   item_failed : (v : T) (u : ReaderState) (e : E) → reads s (Ok v) u → u.failed ≡ true
       → converts (error_at Failed (reader_position u)) e → result ≡ Err e
       → ItemAnswer converts reads s result t
+
+-- the same where the octets of an element are answered in the place of its value
+abbrev pub NextAnswer : {T E : Type 0} → (Error → E → Type 0)
+    → (ReaderState → Result T E → ReaderState → Type 0) → ReaderState
+    → Result (Bor (List ℕ)) E → ReaderState → Type 0
+NextAnswer {T} converts reads s (Ok octets) t = (v : T) × ItemAnswer converts reads s (Ok v) t
+NextAnswer converts reads s (Err e) t = ItemAnswer converts reads s (Err e) t
 
 -- elements are read up to the end, or up to the first that is refused
 pub data WalkAnswer {T E : Type 0} (converts : Error → E → Type 0)

@@ -1,9 +1,8 @@
 -- Elements of one type, one behind the other, as in a SEQUENCE OF (X.690 8.10).
 use Rattle.std.specs.Prelude.{◌≡◌, ℕ, ◌^◌, ◌<◌, false, List, [], ◌∷◌, ◌++◌, length}
-use Rattle.std.specs.Prelude.{Result, Ok, IfOk}
 use Rattle.std.proofs.Common.{arith, subst, sym}
-use Rattle.der.specs.Prelude.{Head, number, Tag, EncodingRules, Der, IsLawful, Gives}
-use Rattle.der.specs.Prelude.{read_slice_outcome, ReaderState, element_octets}
+use Rattle.der.specs.Prelude.{Head, Tag, EncodingRules, Der, IsLawful}
+use Rattle.der.specs.Prelude.{ReaderState, element_octets}
 use Rattle.der.specs.Lawful.{definite_head}
 use Rattle.der.specs.Tag.{label}
 

@@ -1,11 +1,10 @@
 -- Elements of one type in the order of their encodings, as in a SET OF under DER (X.690 8.12, 11.6).
-use Rattle.std.specs.Prelude.{◌≡◌, ℕ, ◌^◌, ◌<◌, List, [], ◌∷◌, length, Result, Ok, IfOk}
+use Rattle.std.specs.Prelude.{◌≡◌, ℕ, ◌^◌, ◌<◌, List, [], ◌∷◌, length}
 use Rattle.std.proofs.Common.{arith, subst, sym}
 use Rattle.der.specs.Prelude.{Head, Tag, EncodingRules, Der, IsLawful, element_octets, IsBefore}
-use Rattle.der.specs.Prelude.{number, Gives, read_slice_outcome, ReaderState}
 use Rattle.der.specs.Lawful.{definite_head}
 use Rattle.der.specs.Tag.{label}
-use Rattle.der_asn1.specs.SequenceOf.{IsListOf, AreElements}
+use Rattle.der_asn1.specs.SequenceOf.{IsListOf}
 
 -- no encoding comes before the octets that stand ahead of it
 abbrev pub Ascend : {A : Type 0} → (A → List ℕ) → List ℕ → List A → Type 0
@@ -39,12 +38,6 @@ TakesSet tag valid contents octets_of v rules h octets =
 abbrev pub IsSet : {A B : Type 0} → Tag → (A → Type 0) → (A → List ℕ) → (B → List ℕ) → B → Type 0
 IsSet tag valid contents octets_of v =
     ∥ AreAscending tag valid contents (octets_of v) ∥₁ × (length (octets_of v) < 2 ^ 32)
-
--- what is answered is lent
-abbrev pub SetRead : {B E : Type 0} → (B → List ℕ) → Head → ReaderState → Result B E
-    → ReaderState → Type 0
-SetRead octets_of h s result t =
-    IfOk result (λ v. Gives (read_slice_outcome (number h.length)) s (Ok (octets_of v)) t)
 
 -- so the contents of such a value are elements that ascend
 pub set_holds : {A B : Type 0} (tag : Tag) (valid : A → Type 0) (contents : A → List ℕ)

@@ -6,7 +6,10 @@ ghost use Rattle.der.specs.Decode.{SucceedsOrLacks};
 ghost use Rattle.der_asn1.specs.Checked.{form_size, FormWritten};
 ghost use Rattle.der_asn1.specs.SequenceOf.{AreElements, IsAtItem};
 ghost use Rattle.der_asn1.specs.SetOf.{AreAscending, IsElement, TakesSet, IsSet, set_lawful};
-ghost use Rattle.der_asn1.specs.SetOf.{set_holds, SetRead};
+ghost use Rattle.der_asn1.specs.SetOf.{set_holds};
+ghost use Rattle.der_asn1.specs.ListAnswers.{NextAnswer, SetWalked, ListRead};
+ghost use Rattle.der.specs.Prelude.{map_ok};
+ghost use Rattle.der.specs.Element.{ElementRead};
 
 use crate::explicit::Nestable;
 use crate::sequence_of::{Items, SequenceOf, next_item};
@@ -49,6 +52,9 @@ fn next_element<'a, T: Lawful + DecodeValue<SliceReader<'a>>>(
     ensures complete { AreElements T.tag_is T.valid T.contents (rest_of (slice_state reader.old))
         → (rest_of (slice_state reader.old) ≡ [] → ⊥)
         → SucceedsOrLacks T.Error.out_of_memory T.allocates result }
+    ensures exact { NextAnswer T.Error.from_gives
+        (ElementRead T.tag_is T.Error.from_gives T.decode_value_answers) (slice_state reader.old)
+        result (slice_state reader.new) }
 {
     let ahead = octets_left(reader);
     let _item = next_item::<T>(alloc, reader)?;
@@ -66,6 +72,8 @@ fn check_set<'a, T: Lawful + DecodeValue<SliceReader<'a>>>(
     ensures complete { length octets.now < 2 ^ 32
         → AreAscending T.tag_is T.valid T.contents octets.now
         → SucceedsOrLacks T.Error.out_of_memory T.allocates result }
+    ensures exact { length octets.now < 2 ^ 32 → SetWalked T.Error.from_gives
+        (ElementRead T.tag_is T.Error.from_gives T.decode_value_answers) result octets.now }
 {
     let mut reader = SliceReader::new(octets)?;
     let mut ahead: &'a [u8] = &[];
@@ -138,7 +146,9 @@ impl<'a, T: Lawful + DecodeValue<SliceReader<'a>>, R: Reader<Lent = &'a [u8]>> D
     for SetOf<'a, T> {
     type Error = <T as DecodeValue<SliceReader<'a>>>::Error;
 
-    ghost decode_value_answers = { SetRead (λ v. v.elements.octets.now) };
+    ghost decode_value_answers = { ListRead T.Error.from_gives (SetWalked T.Error.from_gives
+        (ElementRead T.tag_is T.Error.from_gives T.decode_value_answers))
+        (λ v. v.elements.octets.now) };
 
     fn decode_value(
         alloc: Global,
@@ -209,6 +219,9 @@ impl<'a, T: Lawful + DecodeValue<SliceReader<'a>>> SetOf<'a, T> {
         ensures complete { length octets.now < 2 ^ 32
             → AreAscending T.tag_is T.valid T.contents octets.now
             → SucceedsOrLacks T.Error.out_of_memory T.allocates result }
+        ensures exact { length octets.now < 2 ^ 32 → SetWalked T.Error.from_gives
+            (ElementRead T.tag_is T.Error.from_gives T.decode_value_answers)
+            (map_ok (λ _. tt) result) octets.now }
     {
         check_set::<T>(alloc, octets)?;
         Ok(SetOf {

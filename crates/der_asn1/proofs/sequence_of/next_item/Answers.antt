@@ -1,4 +1,4 @@
-use Rattle.std.proofs.Common.{refl, sym, ◌∙◌}
+use Rattle.std.proofs.Common.{refl, sym, subst, ◌∙◌}
 use Rattle.std.proofs.lemmas.Result.{err_from_is_err_and}
 use Rattle.der.specs.SliceReader.{slice_state}
 use Rattle.der_asn1.proofs.SequenceOfLemmas.{slice_sound, item_passed, item_lacks, item_working, item_keeps}
@@ -28,7 +28,9 @@ returns-in_err-value-clause-exact g c =
     rw (p.1, p.2) (ItemAnswer.item_refused c.in_err-value.field-0.0 (c.in_err-value.ensures.exact refl) refl)
 
 pub returns-then-is_failed-clause-exact : goal.returns-then-is_failed-clause-exact
-returns-then-is_failed-clause-exact g c = ?
+returns-then-is_failed-clause-exact g c =
+    ItemAnswer.item_failed c.in_ok-value.value (slice_state c.decode_tlv.new.reader) c.into.result (c.in_ok-value.ensures.exact refl) (sym c.is_failed.ensures ∙ c.if-is_failed.true)
+    (subst (λ e. g.T.Error.From.from_gives e c.into.result) c.error.ensures.at_position c.into.ensures) refl
 
 pub returns-clause-exact : goal.returns-clause-exact
 returns-clause-exact g c = ItemAnswer.item_read c.in_ok-value.value (c.in_ok-value.ensures.exact refl) (sym c.is_failed.ensures ∙ c.if-is_failed.false) refl
