@@ -4,3 +4,7 @@ pub mod EitherReadLemmas
 pub mod SequenceOfLemmas
 pub mod IntegerLemmas
 pub mod IntegerReadLemmas
+pub mod TimeLemmas
+pub mod SetOfLemmas
+pub mod ArcLemmas
+pub mod ListAnswerLemmas

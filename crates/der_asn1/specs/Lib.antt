@@ -24,4 +24,9 @@ pub mod AnyLaws
 pub mod Either
 pub mod EitherLaws
 pub mod ElementLaws
+pub mod Times
+pub mod SetOf
+pub mod Arcs
+pub mod Alphabets
+pub mod ListAnswers
 pub mod Meaning

@@ -19,6 +19,7 @@ use Rattle.der_asn1.specs.Follow.{Anything, BothPrecede, this_tag, any_tag, eith
 use Rattle.der_asn1.specs.Optional.{OptionAhead, IsOptional, option_encoding, OptionPrecedes}
 use Rattle.der_asn1.specs.PairLaws.{pair_set}
 use Rattle.der_asn1.specs.SequenceOf.{TakesList, IsList, list_lawful, list_holds}
+use Rattle.der_asn1.specs.SetOf.{TakesSet, IsSet, set_lawful, set_holds}
 use Rattle.der_asn1.specs.SetLaws.{SetLaws, ToldLaws, laws_of, element_told, told_set, pair_stops}
 use Rattle.der_asn1.specs.SetLaws.{optional_set, default_set}
 use Rattle.der_asn1.specs.TagSets.{are_apart}
@@ -178,7 +179,7 @@ either one two =
       laws = λ e. either_told e one.laws two.laws;
     }
 
--- contents of a form, and lists of elements
+-- contents of a form, and lists and sets of elements
 abbrev pub of_form : {A : Type 0} (tag : Tag) → (List ℕ → Bool) → (A → List ℕ)
     → (label tag).number < 2 ^ 32 → Element A
 of_form tag form octets numbered =
@@ -203,6 +204,19 @@ list_of tag one octets numbered =
       levels = λ _. 0;
       lawful = list_lawful tag one.tag one.valid one.contents octets numbered;
       holds = list_holds one.tag one.valid one.contents octets;
+    }
+
+abbrev pub set_of : {A B : Type 0} (tag : Tag) → Element A → (B → List ℕ)
+    → (label tag).number < 2 ^ 32 → Element B
+set_of tag one octets numbered =
+    record {
+      tag = tag;
+      takes = TakesSet one.tag one.valid one.contents octets;
+      valid = IsSet one.tag one.valid one.contents octets;
+      contents = octets;
+      levels = λ _. 0;
+      lawful = set_lawful tag one.tag one.valid one.contents octets numbered;
+      holds = set_holds one.tag one.valid one.contents octets;
     }
 
 below_63 : (n : ℕ) → nat_lt n 63 ≡ true → n ≤ 62

@@ -3,6 +3,10 @@
 #![tactic(auto)]
 
 #[cfg(test)]
+mod alphabets;
+#[cfg(test)]
+mod arcs;
+#[cfg(test)]
 mod checks;
 #[cfg(test)]
 mod defaults;
@@ -17,6 +21,10 @@ mod lists;
 #[cfg(test)]
 mod numbers;
 #[cfg(test)]
+mod sets;
+#[cfg(test)]
 mod tags;
 #[cfg(test)]
 mod texts;
+#[cfg(test)]
+mod times;

@@ -1,0 +1,148 @@
+-- The arcs of an object identifier, as they are told.
+use Rattle.std.proofs.Common.{◌≡◌, ℕ, suc, ◌+◌, ◌-◌, ◌*◌, ◌%◌, ◌<◌, ◌≤◌, ◌==◌, ◌&&◌, Bool, true, false, Option, Some, List, [], ◌∷◌, ◌++◌, length, drop, map, refl, sym, ap, subst, ◌∙◌, nat_lt, if◌then◌else◌, slice_index_or, ⊎_elim, append_assoc, add-one, arith}
+use Rattle.std.proofs.Math.Seq.{drop-cons}
+use Rattle.std.proofs.lemmas.List.{drop_all, map-append}
+use Rattle.std.specs.Int.Digits.{digits_of, AllBelowBase}
+use Rattle.std.specs.List.{flat_map}
+use Rattle.der.proofs.DigitLemmas.{digits_positive, digits_of_push}
+use Rattle.std.proofs.lemmas.Bool.{cases_lt, lt-ltb, le-ltb, ne_eqb, eq-eqb, eqb-true, cond-true, cond-false, and_from}
+use Rattle.der.specs.Length.{digits}
+use Rattle.der.specs.Tag.{continuation_octets}
+use Rattle.der_asn1.specs.Forms.{ends_subidentifiers, oid_form}
+use Rattle.der_asn1.specs.Arcs.{subidentifiers, told_number, IsFirstNumber, subidentifier_octets, oid_octets, arcs_of, first_arc}
+
+-- the digits so far make n, and the others follow
+pub record IsTelling (octets : List ℕ) (number : Option ℕ) (at : ℕ) : Type 0 where
+  pub n : ℕ
+  pub told : number ≡ told_number n
+  pub same : subidentifiers 0 octets ≡ subidentifiers n (drop at octets)
+  pub form : ends_subidentifiers (at == 0) (drop at octets) ≡ true
+
+-- the first of them is told, and the others stand behind it
+pub record IsTold (octets : List ℕ) (number : Option ℕ) (behind : List ℕ) : Type 0 where
+  pub n : ℕ
+  pub told : number ≡ told_number n
+  pub same : subidentifiers 0 octets ≡ n ∷ subidentifiers 0 behind
+  pub form : ends_subidentifiers true behind ≡ true
+
+pub is_first_number : {octets behind : List ℕ} {number : Option ℕ} → IsTold octets number behind → IsFirstNumber (subidentifiers 0 octets) number (subidentifiers 0 behind)
+is_first_number {behind = behind} {number} t = subst (λ ns. IsFirstNumber ns number (subidentifiers 0 behind)) (sym t.same) (t.told, refl)
+
+pub telling_begins : (octets : List ℕ) → ends_subidentifiers true octets ≡ true → IsTelling octets (Some 0) 0
+telling_begins octets form = record { n = 0; told = refl; same = refl; form = form }
+
+module _ (octets : List ℕ) (number : Option ℕ) (at o : ℕ) (t : IsTelling octets number at) (inside : at < length octets) (is : o ≡ slice_index_or octets at 0) (small : o < 256) where
+  ahead : drop at octets ≡ o ∷ drop (at + 1) octets
+  ahead = drop-cons octets at 0 inside ∙ ap (λ k. slice_index_or octets at 0 ∷ drop k octets) (sym (add-one at)) ∙ ap (λ x. x ∷ drop (at + 1) octets) (sym is)
+
+  form_ahead : ends_subidentifiers (at == 0) (o ∷ drop (at + 1) octets) ≡ true
+  form_ahead = sym (ap (ends_subidentifiers (at == 0)) ahead) ∙ t.form
+
+  form_behind : ends_subidentifiers (nat_lt o 128) (drop (at + 1) octets) ≡ true
+  form_behind = go ((at == 0) && (o == 128)) form_ahead
+    where
+      go : (b : Bool) → (if b then false else ends_subidentifiers (nat_lt o 128) (drop (at + 1) octets)) ≡ true → ends_subidentifiers (nat_lt o 128) (drop (at + 1) octets) ≡ true
+      go true e = absurd (let no : false ≡ true = e in cc)
+      go false e = e
+
+  step : subidentifiers 0 octets ≡ (if nat_lt o 128 then (t.n * 128 + o) ∷ subidentifiers 0 (drop (at + 1) octets) else subidentifiers (t.n * 128 + (o - 128)) (drop (at + 1) octets))
+  step = t.same ∙ ap (subidentifiers t.n) ahead
+
+  -- an octet that is not the last
+  pub telling_goes_on : (next : Option ℕ) → 128 ≤ o → ((n : ℕ) → number ≡ told_number n → next ≡ told_number (n * 128 + o % 128)) → IsTelling octets next (at + 1)
+  telling_goes_on next more digit =
+      let big : nat_lt o 128 ≡ false = le-ltb o 128 more in
+      let low : o % 128 ≡ o - 128 = omega (arith, more, small) in
+      record {
+        n = t.n * 128 + (o - 128);
+        told = digit t.n t.told ∙ ap (λ d. told_number (t.n * 128 + d)) low;
+        same = step ∙ cond-false (nat_lt o 128) ((t.n * 128 + o) ∷ subidentifiers 0 (drop (at + 1) octets)) (subidentifiers (t.n * 128 + (o - 128)) (drop (at + 1) octets)) big;
+        form = ap (λ b. ends_subidentifiers b (drop (at + 1) octets)) (ne_eqb (at + 1) 0 (λ e. omega arith) ∙ sym big) ∙ form_behind;
+      }
+
+  -- the last
+  pub telling_ends : (next : Option ℕ) → o < 128 → ((n : ℕ) → number ≡ told_number n → next ≡ told_number (n * 128 + o % 128)) → IsTold octets next (drop (at + 1) octets)
+  telling_ends next last digit =
+      let low : nat_lt o 128 ≡ true = lt-ltb o 128 last in
+      let whole : o % 128 ≡ o = omega (arith, last) in
+      record {
+        n = t.n * 128 + o;
+        told = digit t.n t.told ∙ ap (λ d. told_number (t.n * 128 + d)) whole;
+        same = step ∙ cond-true (nat_lt o 128) ((t.n * 128 + o) ∷ subidentifiers 0 (drop (at + 1) octets)) (subidentifiers (t.n * 128 + (o - 128)) (drop (at + 1) octets)) low;
+        form = ap (λ b. ends_subidentifiers b (drop (at + 1) octets)) (sym low) ∙ form_behind;
+      }
+
+-- octets do not end within a subidentifier
+pub telling_stops : (octets : List ℕ) (number : Option ℕ) (at : ℕ) → IsTelling octets number at → 0 < length octets → length octets ≤ at → ⊥
+telling_stops octets number at t some past =
+    let none : drop at octets ≡ [] = drop_all at octets past in
+    let no : (at == 0) ≡ true = ap (ends_subidentifiers (at == 0)) (sym none) ∙ t.form in
+    omega (arith, eqb-true at 0 no)
+
+-- the octets with another digit
+continued_push : (ds : List ℕ) (d : ℕ) → continuation_octets (ds ++ d ∷ []) ≡ map (λ x. 128 + x) ds ++ d ∷ []
+continued_push [] d = refl
+continued_push (x ∷ []) d = refl
+continued_push (x ∷ y ∷ ds) d = ap (λ l. (128 + x) ∷ l) (continued_push (y ∷ ds) d)
+
+last_digit : (n o : ℕ) → o < 128 → subidentifier_octets (n * 128 + o) ≡ map (λ x. 128 + x) (digits_of 128 n) ++ o ∷ []
+last_digit n o h = ⊎_elim (λ pos. let whole : digits 128 (n * 128 + o) ≡ digits_of 128 n ++ o ∷ [] = digits_positive 128 (n * 128 + o) pos ∙ digits_of_push 128 n o (omega arith) h pos in ap continuation_octets whole ∙ continued_push (digits_of 128 n) o)
+    (λ none. let a : n ≡ 0 = omega arith in let b : o ≡ 0 = omega arith in rw (a, b) refl) (cases_lt 0 (n * 128 + o))
+
+-- octets are those of the subidentifiers that they are
+pub told_again : (n : ℕ) (os : List ℕ) → AllBelowBase 256 os → ends_subidentifiers (n == 0) os ≡ true → flat_map subidentifier_octets (subidentifiers n os) ≡ map (λ x. 128 + x) (digits_of 128 n) ++ os
+told_again n [] below form = let none : n ≡ 0 = eqb-true n 0 form in rw none refl
+told_again n (o ∷ os) below form =
+    ⊎_elim
+    (λ low.
+    let is : nat_lt o 128 ≡ true = lt-ltb o 128 low in
+    let more : ends_subidentifiers true os ≡ true = sym (ap (λ b. ends_subidentifiers b os) is) ∙ behind in
+    ap (flat_map subidentifier_octets) (cond-true (nat_lt o 128) ((n * 128 + o) ∷ subidentifiers 0 os) (subidentifiers (n * 128 + (o - 128)) os) is)
+    ∙ ap (λ l. l ++ flat_map subidentifier_octets (subidentifiers 0 os)) (last_digit n o low)
+    ∙ ap (λ l. (map (λ x. 128 + x) (digits_of 128 n) ++ o ∷ []) ++ l) (told_again 0 os below.1 more)
+    ∙ append_assoc (map (λ x. 128 + x) (digits_of 128 n)) (o ∷ []) os)
+    (λ high.
+    let is : nat_lt o 128 ≡ false = le-ltb o 128 high in
+    let digit : o - 128 < 128 = omega (arith, below.0) in
+    let pos : 0 < n * 128 + (o - 128) = positive high in
+    let more : ends_subidentifiers (n * 128 + (o - 128) == 0) os ≡ true = ap (λ b. ends_subidentifiers b os) (ne_eqb (n * 128 + (o - 128)) 0 (λ e. omega (arith, pos)) ∙ sym is) ∙ behind in
+    ap (flat_map subidentifier_octets) (cond-false (nat_lt o 128) ((n * 128 + o) ∷ subidentifiers 0 os) (subidentifiers (n * 128 + (o - 128)) os) is)
+    ∙ told_again (n * 128 + (o - 128)) os below.1 more
+    ∙ ap (λ ds. map (λ x. 128 + x) ds ++ os) (digits_of_push 128 n (o - 128) (omega arith) digit pos)
+    ∙ ap (λ l. l ++ os) (map-append (λ x. 128 + x) (digits_of 128 n) ((o - 128) ∷ []))
+    ∙ append_assoc (map (λ x. 128 + x) (digits_of 128 n)) ((128 + (o - 128)) ∷ []) os
+    ∙ ap (λ x. map (λ x. 128 + x) (digits_of 128 n) ++ x ∷ os) (let e : 128 + (o - 128) ≡ o = omega (arith, high) in e))
+    (cases_lt o 128)
+  where
+    go : (b : Bool) → (if b then false else ends_subidentifiers (nat_lt o 128) os) ≡ true → (b ≡ false) × (ends_subidentifiers (nat_lt o 128) os ≡ true)
+    go true e = absurd (let no : false ≡ true = e in cc)
+    go false e = (refl, e)
+
+    behind : ends_subidentifiers (nat_lt o 128) os ≡ true
+    behind = (go ((n == 0) && (o == 128)) form).1
+
+    positive : 128 ≤ o → 0 < n * 128 + (o - 128)
+    positive high =
+        ⊎_elim (λ l. l) (λ g. absurd (let a : n ≡ 0 = omega arith in let b : o ≡ 128 = omega arith in
+        let yes : ((n == 0) && (o == 128)) ≡ true = and_from (n == 0) (o == 128) (eq-eqb n 0 a) (eq-eqb o 128 b) in
+        let no : ((n == 0) && (o == 128)) ≡ false = (go ((n == 0) && (o == 128)) form).0 in
+        let wrong : true ≡ false = sym yes ∙ no in cc)) (cases_lt 0 (n * 128 + (o - 128)))
+
+first_two : (n : ℕ) → 40 * first_arc n + (n - 40 * first_arc n) ≡ n
+first_two n = ⊎_elim (λ l. let e : first_arc n ≡ 0 = cond-true (nat_lt n 40) 0 (if nat_lt n 80 then 1 else 2) (lt-ltb n 40 l) in omega (arith, e))
+    (λ g. let e : first_arc n ≡ (if nat_lt n 80 then 1 else 2) = cond-false (nat_lt n 40) 0 (if nat_lt n 80 then 1 else 2) (le-ltb n 40 g) in
+    ⊎_elim (λ l. let f : first_arc n ≡ 1 = e ∙ cond-true (nat_lt n 80) 1 2 (lt-ltb n 80 l) in omega (arith, f, g)) (λ h. let f : first_arc n ≡ 2 = e ∙ cond-false (nat_lt n 80) 1 2 (le-ltb n 80 h) in omega (arith, f, h)) (cases_lt n 80))
+    (cases_lt n 40)
+
+-- and those of the arcs that they are
+pub arcs_again : (octets : List ℕ) → AllBelowBase 256 octets → oid_form octets ≡ true → oid_octets (arcs_of (subidentifiers 0 octets)) ≡ octets
+arcs_again [] below form = refl
+arcs_again (o ∷ os) below form = whole (subidentifiers 0 (o ∷ os)) ∙ told_again 0 (o ∷ os) below form
+  where
+    whole : (ns : List ℕ) → oid_octets (arcs_of ns) ≡ flat_map subidentifier_octets ns
+    whole [] = refl
+    whole (n ∷ ns) = ap (λ k. subidentifier_octets k ++ flat_map subidentifier_octets ns) (first_two n)
+
+pub below_base : (octets : List ℕ) → ((i : ℕ) → slice_index_or octets i 0 < 256) → AllBelowBase 256 octets
+below_base [] h = tt
+below_base (o ∷ os) h = (h 0, below_base os (λ i. h (suc i)))

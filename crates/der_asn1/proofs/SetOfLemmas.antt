@@ -1,0 +1,77 @@
+-- Elements in the order of their encodings, as they are read.
+use Rattle.std.proofs.Common.{◌≡◌, ℕ, ◌-◌, List, [], ◌∷◌, ◌++◌, length, refl, sym, ap, subst, ◌∙◌, take, length-append, arith}
+use Rattle.std.proofs.Math.Seq.{take-append_seam}
+use Rattle.der.specs.Prelude.{Tag, element_octets, IsBefore, ReaderState, rest_of, Reads, Der}
+use Rattle.der.specs.ReaderState.{initial_state}
+use Rattle.der.proofs.DelimitedLemmas.{element_front, elements_delimited}
+use Rattle.der.proofs.DecodeLemmas.{rest-beginning}
+use Rattle.der_asn1.specs.SequenceOf.{IsAtItem, AllValid, joined_encodings}
+use Rattle.der_asn1.specs.SetOf.{Ascend, IsSetBehind, IsElement, AreAscending}
+use Rattle.der_asn1.proofs.SequenceOfLemmas.{still_at_item}
+use Rattle.der_asn1.proofs.OptionalReadLemmas.{rest_at_end}
+
+-- the octets of an element that was read are those that are no longer left
+pub octets_between : (ahead element behind : List ℕ) → ahead ≡ element ++ behind → take (length ahead - length behind) ahead ≡ element
+octets_between ahead element behind e =
+    let size : length ahead - length behind ≡ length element = omega (arith, ap length e, length-append element behind) in
+    ap (λ n. take n ahead) size ∙ ap (take (length element)) e ∙ take-append_seam element behind
+
+no_front : (a b : List ℕ) → a ++ b ≡ [] → a ≡ []
+no_front [] b e = refl
+no_front (o ∷ a) b e = absurd (let size : length (o ∷ (a ++ b)) ≡ 0 = ap length e in omega arith)
+
+-- the first of a set, and the others behind it
+pub record IsStep {A : Type 0} (tag : Tag) (valid : A → Type 0) (contents : A → List ℕ) (ahead element behind : List ℕ) : Type 0 where
+  pub in_order : IsBefore element ahead → ⊥
+  pub behind_it : IsSetBehind valid (λ v. element_octets tag (contents v)) element behind
+
+-- the state of a walk over a set, behind an element
+pub record IsSetWalk {A : Type 0} (tag : Tag) (valid : A → Type 0) (contents : A → List ℕ) (octets ahead : List ℕ) (s : ReaderState) : Type 0 where
+  pub at : IsAtItem s
+  pub back : IsSetBehind valid (λ v. element_octets tag (contents v)) ahead (rest_of s) → AreAscending tag valid contents octets
+  pub on : AreAscending tag valid contents octets → IsSetBehind valid (λ v. element_octets tag (contents v)) ahead (rest_of s)
+
+module _ {A : Type 0} {tag : Tag} {valid : A → Type 0} {contents : A → List ℕ} where
+  pub set_step : (ahead octets element behind : List ℕ) → IsSetBehind valid (λ v. element_octets tag (contents v)) ahead octets → IsElement tag valid contents element → octets ≡ element ++ behind → IsStep tag valid contents ahead element behind
+  set_step ahead octets element behind s is split = go s.list.items s.list.are_valid s.list.joined s.ascend
+    where
+      go : (items : List A) → AllValid valid items → octets ≡ joined_encodings (λ v. element_octets tag (contents v)) items → Ascend (λ v. element_octets tag (contents v)) ahead items → IsStep tag valid contents ahead element behind
+      go [] are e up = absurd ((elements_delimited (λ (v : A). tag) contents).some is.value (no_front (element_octets tag (contents is.value)) behind (ap (λ x. x ++ behind) (sym is.whole) ∙ sym split ∙ e)))
+      go (w ∷ ws) are e up =
+          let front = element_front tag tag (contents is.value) (contents w) behind (joined_encodings (λ v. element_octets tag (contents v)) ws) (ap (λ x. x ++ behind) (sym is.whole) ∙ sym split ∙ e) in
+          let same : element_octets tag (contents w) ≡ element = ap (element_octets tag) (sym front.1) ∙ sym is.whole in
+          record {
+            in_order = subst (λ x. IsBefore x ahead → ⊥) same up.0;
+            behind_it = record { list = record { items = ws; are_valid = are.1; joined = front.2 }; ascend = subst (λ x. Ascend (λ v. element_octets tag (contents v)) x ws) same up.1 };
+          }
+
+  pub set_cons : (ahead octets element behind : List ℕ) → IsElement tag valid contents element → octets ≡ element ++ behind → (IsBefore element ahead → ⊥) → IsSetBehind valid (λ v. element_octets tag (contents v)) element behind → IsSetBehind valid (λ v. element_octets tag (contents v)) ahead octets
+  set_cons ahead octets element behind is split order s =
+      record {
+        list = record { items = is.value ∷ s.list.items; are_valid = (is.is_valid, s.list.are_valid); joined = split ∙ ap (λ x. x ++ behind) is.whole ∙ ap (λ x. element_octets tag (contents is.value) ++ x) s.list.joined };
+        ascend = (subst (λ x. IsBefore x ahead → ⊥) is.whole order, subst (λ x. Ascend (λ v. element_octets tag (contents v)) x s.list.items) is.whole s.ascend);
+      }
+
+  pub set_walk_begins : (octets : List ℕ) (s : ReaderState) → s ≡ initial_state Der octets → IsSetWalk tag valid contents octets [] s
+  set_walk_begins octets s e =
+      let left : rest_of s ≡ octets = ap rest_of e ∙ rest-beginning Der octets in
+      record {
+        at = record { der = ap (λ (x : ReaderState). x.rules) e; working = ap (λ (x : ReaderState). x.failed) e; outside = ap (λ (x : ReaderState). x.depth) e };
+        back = subst (IsSetBehind valid (λ v. element_octets tag (contents v)) []) left;
+        on = subst (IsSetBehind valid (λ v. element_octets tag (contents v)) []) (sym left);
+      }
+
+  pub set_walk_on : (octets ahead element : List ℕ) (s t : ReaderState) → IsSetWalk tag valid contents octets ahead s → IsElement tag valid contents element → Reads s t element → (IsBefore element ahead → ⊥) → IsSetWalk tag valid contents octets element t
+  set_walk_on octets ahead element s t w is r order =
+      record {
+        at = still_at_item w.at r;
+        back = λ b. w.back (set_cons ahead (rest_of s) element (rest_of t) is r.split order b);
+        on = λ a. (set_step ahead (rest_of s) element (rest_of t) (w.on a) is r.split).behind_it;
+      }
+
+  pub set_walk_ends : (octets ahead : List ℕ) (s : ReaderState) → IsSetWalk tag valid contents octets ahead s → s.end ≡ s.position → AreAscending tag valid contents octets
+  set_walk_ends octets ahead s w e = w.back (record { list = record { items = []; are_valid = tt; joined = rest_at_end s e }; ascend = tt })
+
+  -- an element that comes before the one ahead of it stands in no set
+  pub set_walk_stops : (octets ahead element : List ℕ) (s t : ReaderState) → IsSetWalk tag valid contents octets ahead s → IsElement tag valid contents element → Reads s t element → IsBefore element ahead → AreAscending tag valid contents octets → ⊥
+  set_walk_stops octets ahead element s t w is r before a = (set_step ahead (rest_of s) element (rest_of t) (w.on a) is r.split).in_order before

@@ -1,0 +1,64 @@
+-- The arcs of an object identifier (X.690 8.19).
+use Rattle.std.specs.Prelude.{◌≡◌, ℕ, ◌+◌, ◌-◌, ◌*◌, ◌^◌, nat_lt, List, [], ◌∷◌}
+use Rattle.std.specs.Prelude.{Option, Some, None, if◌then◌else◌, drop, map}
+use Rattle.std.specs.List.{flat_map}
+use Rattle.der.specs.Length.{digits}
+use Rattle.der.specs.Tag.{continuation_octets}
+use Rattle.der_asn1.specs.declared.arcs.Arcs.{Arcs}
+use Rattle.der_asn1.specs.declared.arcs.Stage.{Stage}
+use Rattle.der_asn1.specs.declared.arcs.Stage.TheVariants as stage
+
+-- a subidentifier: a number in base 128, bit 8 set on all octets but the last (8.19.2)
+abbrev pub subidentifier_octets : ℕ → List ℕ
+subidentifier_octets n = continuation_octets (digits 128 n)
+
+-- the first subidentifier is of the first two arcs (8.19.4), and each other of one (8.19.3)
+abbrev pub oid_octets : List ℕ → List ℕ
+oid_octets [] = []
+oid_octets (a ∷ []) = []
+oid_octets (a ∷ b ∷ arcs) = flat_map subidentifier_octets ((40 * a + b) ∷ arcs)
+
+-- the first arc is 0, 1 or 2; of 0 and 1 the second is below 40 (8.19.4)
+abbrev pub first_arc : ℕ → ℕ
+first_arc n = if nat_lt n 40 then 0 else if nat_lt n 80 then 1 else 2
+
+-- the subidentifiers that octets are behind those whose digits make n
+abbrev pub subidentifiers : ℕ → List ℕ → List ℕ
+subidentifiers n [] = []
+subidentifiers n (o ∷ os) =
+    if nat_lt o 128 then (n * 128 + o) ∷ subidentifiers 0 os
+    else subidentifiers (n * 128 + (o - 128)) os
+
+-- the arcs of subidentifiers
+abbrev pub arcs_of : List ℕ → List ℕ
+arcs_of [] = []
+arcs_of (n ∷ ns) = first_arc n ∷ (n - 40 * first_arc n) ∷ ns
+
+-- the arcs of an object identifier
+abbrev pub oid_arcs : List ℕ → List ℕ
+oid_arcs octets = arcs_of (subidentifiers 0 octets)
+
+-- the arcs that are left at each stage
+abbrev pub arcs_at : Stage → List ℕ → List ℕ
+arcs_at stage.First octets = oid_arcs octets
+arcs_at stage.Second octets = drop 1 (oid_arcs octets)
+arcs_at stage.Other octets = subidentifiers 0 octets
+
+abbrev pub arcs_left : Arcs → List ℕ
+arcs_left a = arcs_at a.stage a.octets.now
+
+-- an arc as a number of 32 bits, where it is one
+abbrev pub told_arc : ℕ → Option ℕ
+told_arc n = if nat_lt n (2 ^ 32) then Some n else None
+
+abbrev pub arc_items : Arcs → List (Option ℕ)
+arc_items a = map told_arc (arcs_left a)
+
+-- a subidentifier below 2 ^ 63 as its number
+abbrev pub told_number : ℕ → Option ℕ
+told_number n = if nat_lt n (2 ^ 63) then Some n else None
+
+-- the first of subidentifiers, as such, and the others
+abbrev pub IsFirstNumber : List ℕ → Option ℕ → List ℕ → Type 0
+IsFirstNumber [] a others = ⊥
+IsFirstNumber (n ∷ ns) a others = (a ≡ told_number n) × (others ≡ ns)

@@ -1,0 +1,86 @@
+//! The arcs of an OBJECT IDENTIFIER.
+ghost use Rattle.std.specs.Prelude.{◌≡◌, true};
+ghost use Rattle.der_asn1.specs.Forms.{ends_subidentifiers};
+
+use crate::checked::Checked;
+use crate::object_identifier::ObjectIdentifierForm;
+use crate::subidentifier::{first_arc_of, first_subidentifier, narrow, second_arc_of};
+
+// Which arc is the next.
+#[derive(Clone, Copy)]
+enum Stage {
+    First,
+    Second,
+    Other,
+}
+
+/// A walk over the arcs of an OBJECT IDENTIFIER.
+#[derive(Drop)]
+pub struct Arcs<'a> {
+    octets: &'a [u8],
+    stage: Stage,
+    ghost form: { ends_subidentifiers true octets.now ≡ true },
+}
+
+impl<'a> Checked<'a, ObjectIdentifierForm> {
+    ghost use Rattle.der_asn1.specs.Arcs.{arcs_left, oid_arcs, oid_octets};
+
+    /// A walk over the arcs, at the first.
+    pub fn arcs(&self) -> Arcs<'a>
+        ensures arcs { arcs_left result ≡ oid_arcs self.now.octets.now }
+        ensures octets { oid_octets (arcs_left result) ≡ self.now.octets.now }
+    {
+        Arcs::new(self.octets())
+    }
+}
+
+impl<'a> Arcs<'a> {
+    ghost use Rattle.der_asn1.specs.Forms.{oid_form};
+    ghost use Rattle.der_asn1.specs.Arcs.{arcs_left, oid_arcs, oid_octets};
+
+    // A walk over the arcs of these contents.
+    fn new(octets: &'a [u8]) -> Self
+        requires { oid_form octets.now ≡ true }
+        ensures arcs { arcs_left result ≡ oid_arcs octets.now }
+        ensures octets { oid_octets (arcs_left result) ≡ octets.now }
+    {
+        Arcs {
+            octets,
+            stage: Stage::First,
+        }
+    }
+}
+
+/// Each arc is a number where it has 32 bits, and else `None`.
+impl<'a> Iterator for Arcs<'a> {
+    ghost use Rattle.std.specs.Iterator.{YieldsFirst, item_count};
+    ghost use Rattle.der_asn1.specs.Arcs.{arc_items};
+
+    type Item = Option<u32>;
+
+    ghost next_gives = { YieldsFirst arc_items };
+
+    ghost remaining = { item_count arc_items };
+
+    fn next(&mut self) -> Option<Option<u32>> {
+        if self.octets.is_empty() {
+            return None;
+        }
+        let (number, behind) = first_subidentifier(self.octets);
+        match self.stage {
+            Stage::First => {
+                self.stage = Stage::Second;
+                Some(Some(first_arc_of(number)))
+            }
+            Stage::Second => {
+                self.octets = behind;
+                self.stage = Stage::Other;
+                Some(second_arc_of(number))
+            }
+            Stage::Other => {
+                self.octets = behind;
+                Some(narrow(number))
+            }
+        }
+    }
+}

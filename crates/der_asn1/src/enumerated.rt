@@ -1,0 +1,47 @@
+//! An ENUMERATED.
+ghost use Rattle.std.proofs.Common.{arith};
+ghost use Rattle.der.specs.Prelude.{Enumerated as EnumeratedTag};
+ghost use Rattle.std.specs.Prelude.{◌≡◌, ◌↔◌, true, IsSome, IfSome};
+ghost use Rattle.der_asn1.specs.Forms.{integer_form};
+
+use crate::checked::Checked;
+use crate::form::Form;
+use crate::integer::IntegerForm;
+use crate::integer_number::IntegerNumber;
+use der::{FixedTag, Tag};
+
+/// The form of an ENUMERATED: that of the INTEGER that is its number (X.690 8.4).
+pub struct EnumeratedForm;
+
+/// An ENUMERATED, lent by the input.
+pub type EnumeratedRef<'a> = Checked<'a, EnumeratedForm>;
+
+impl FixedTag for EnumeratedForm {
+    ghost tag_is = { EnumeratedTag };
+
+    const TAG: Tag = Tag::Enumerated;
+
+    fn fixed_tag() -> Tag {
+        Self::TAG
+    }
+}
+
+impl Form for EnumeratedForm {
+    ghost form = { integer_form };
+
+    fn has_form(octets: &[u8]) -> bool {
+        IntegerForm::has_form(octets)
+    }
+
+    ghost numbered = { Prim.omega arith };
+}
+
+impl<'a> EnumeratedRef<'a> {
+    /// The number, where it is one of this type.
+    pub fn to_number<N: IntegerNumber>(&self) -> Option<N>
+        ensures some { IsSome result ↔ (N.form self.now.octets.now ≡ true) }
+        ensures same { IfSome result (λ v. N.contents_of v ≡ self.now.octets.now) }
+    {
+        N::from_contents(self.octets())
+    }
+}

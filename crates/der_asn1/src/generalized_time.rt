@@ -1,0 +1,50 @@
+//! A GeneralizedTime.
+ghost use Rattle.std.proofs.Common.{arith};
+ghost use Rattle.der.specs.Prelude.{GeneralizedTime as GeneralizedTag};
+ghost use Rattle.der_asn1.specs.Times.{generalized_octets, generalized_form, is_date_time};
+
+use crate::date_time::DateTime;
+use crate::time_form::TimeForm;
+use crate::time_octets::{TimeOctets, generalized_from};
+use crate::time_of::TimeOf;
+use der::{FixedTag, Tag};
+
+/// The form of a GeneralizedTime: YYYYMMDDHHMMSSZ, of the years 0 to 9999, without a fraction of a
+/// second (X.690 11.7; RFC 5280, 4.1.2.5.2).
+#[derive(Clone, Copy)]
+pub struct GeneralizedTimeForm;
+
+/// A GeneralizedTime, as a date with a time of the day.
+pub type GeneralizedTime = TimeOf<GeneralizedTimeForm>;
+
+impl FixedTag for GeneralizedTimeForm {
+    ghost tag_is = { GeneralizedTag };
+
+    const TAG: Tag = Tag::GeneralizedTime;
+
+    fn fixed_tag() -> Tag {
+        Self::TAG
+    }
+}
+
+impl TimeForm for GeneralizedTimeForm {
+    ghost form = { generalized_form };
+
+    ghost holds = { is_date_time };
+
+    ghost contents_of = { generalized_octets };
+
+    fn can_hold(time: &DateTime) -> bool {
+        time.is_valid()
+    }
+
+    fn from_contents(octets: &[u8]) -> Option<DateTime> {
+        generalized_from(octets)
+    }
+
+    fn to_contents(time: &DateTime) -> TimeOctets {
+        TimeOctets::generalized(time)
+    }
+
+    ghost numbered = { Prim.omega arith };
+}

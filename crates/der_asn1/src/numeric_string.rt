@@ -1,0 +1,40 @@
+//! A NumericString.
+ghost use Rattle.std.proofs.Common.{arith};
+ghost use Rattle.der.specs.Prelude.{NumericString as NumericTag};
+ghost use Rattle.der_asn1.specs.Alphabets.{numeric_form};
+
+use crate::checked::Checked;
+use crate::form::Form;
+use der::{FixedTag, Tag};
+
+/// The form of a NumericString: digits and space (X.680 41.2).
+pub struct NumericStringForm;
+
+/// A NumericString, lent by the input.
+pub type NumericStringRef<'a> = Checked<'a, NumericStringForm>;
+
+impl FixedTag for NumericStringForm {
+    ghost tag_is = { NumericTag };
+
+    const TAG: Tag = Tag::NumericString;
+
+    fn fixed_tag() -> Tag {
+        Self::TAG
+    }
+}
+
+impl Form for NumericStringForm {
+    ghost form = { numeric_form };
+
+    fn has_form(octets: &[u8]) -> bool {
+        for octet in octets {
+            match *octet {
+                b'0'..=b'9' | b' ' => {}
+                _ => return false,
+            }
+        }
+        true
+    }
+
+    ghost numbered = { Prim.omega arith };
+}

@@ -1,0 +1,249 @@
+//! SET OF, lent by the input: checked once, its order too, and then walked without a failure.
+ghost use Rattle.std.specs.Prelude.{◌≡◌, ◌^◌, ◌<◌, ◌↔◌, false, true, [], length, IfOk, OnOk, ⊤};
+ghost use Rattle.std.proofs.Common.{arith};
+ghost use Rattle.der.specs.Prelude.{Set as SetTag, rest_of, Reads, slice_state, IsBefore};
+ghost use Rattle.der.specs.Decode.{SucceedsOrLacks};
+ghost use Rattle.der_asn1.specs.Checked.{form_size, FormWritten};
+ghost use Rattle.der_asn1.specs.SequenceOf.{AreElements, IsAtItem};
+ghost use Rattle.der_asn1.specs.SetOf.{AreAscending, IsElement, TakesSet, IsSet, set_lawful};
+ghost use Rattle.der_asn1.specs.SetOf.{set_holds};
+ghost use Rattle.der_asn1.specs.ListAnswers.{NextAnswer, SetWalked, ListRead};
+ghost use Rattle.der.specs.Prelude.{map_ok};
+ghost use Rattle.der.specs.Element.{ElementRead};
+
+use crate::explicit::Nestable;
+use crate::sequence_of::{Items, SequenceOf, next_item};
+use der::{
+    DecodeValue, EncodeValue, Error, ErrorKind, FixedTag, Header, Lawful, Length, ReadValue,
+    Reader, ReaderExt, SliceReader, Tag, Writer, WrittenValue,
+};
+use std::alloc::{AllocError, Global};
+use std::cmp::Ordering;
+
+// What is left to the reader.
+fn octets_left<'a>(reader: &SliceReader<'a>) -> &'a [u8]
+    requires { (slice_state reader.now).failed ≡ false }
+    ensures { result.now ≡ rest_of (slice_state reader.now) }
+{
+    match reader.remaining() {
+        Ok(octets) => octets,
+        Err(_) => unreachable!(),
+    }
+}
+
+// Whether the first octets come before the others (X.690 11.6).
+fn comes_before(first: &[u8], second: &[u8]) -> bool
+    ensures { (result ≡ true) ↔ IsBefore first.now second.now }
+{
+    match first.cmp(second) {
+        Ordering::Less => true,
+        _ => false,
+    }
+}
+
+// The octets of the element ahead, which is checked.
+fn next_element<'a, T: Lawful + DecodeValue<SliceReader<'a>>>(
+    alloc: Global,
+    reader: &mut SliceReader<'a>,
+) -> Result<&'a [u8], <T as DecodeValue<SliceReader<'a>>>::Error>
+    requires { IsAtItem (slice_state reader.old) }
+    ensures ok { IfOk result (λ o. IsElement T.tag_is T.valid T.contents o.now
+        × Reads (slice_state reader.old) (slice_state reader.new) o.now) }
+    ensures complete { AreElements T.tag_is T.valid T.contents (rest_of (slice_state reader.old))
+        → (rest_of (slice_state reader.old) ≡ [] → ⊥)
+        → SucceedsOrLacks T.Error.out_of_memory T.allocates result }
+    ensures exact { NextAnswer T.Error.from_gives
+        (ElementRead T.tag_is T.Error.from_gives T.decode_value_answers) (slice_state reader.old)
+        result (slice_state reader.new) }
+{
+    let ahead = octets_left(reader);
+    let _item = next_item::<T>(alloc, reader)?;
+    let behind = octets_left(reader);
+    Ok(&ahead[..ahead.len() - behind.len()])
+}
+
+// Whether octets are the encodings of values, one behind the other, in the order of the encodings.
+fn check_set<'a, T: Lawful + DecodeValue<SliceReader<'a>>>(
+    alloc: Global,
+    octets: &'a [u8],
+) -> Result<(), <T as DecodeValue<SliceReader<'a>>>::Error>
+    ensures ok { OnOk result (AreAscending T.tag_is T.valid T.contents octets.now) }
+    ensures short { OnOk result (length octets.now < 2 ^ 32) }
+    ensures complete { length octets.now < 2 ^ 32
+        → AreAscending T.tag_is T.valid T.contents octets.now
+        → SucceedsOrLacks T.Error.out_of_memory T.allocates result }
+    ensures exact { length octets.now < 2 ^ 32 → SetWalked T.Error.from_gives
+        (ElementRead T.tag_is T.Error.from_gives T.decode_value_answers) result octets.now }
+{
+    let mut reader = SliceReader::new(octets)?;
+    let mut ahead: &'a [u8] = &[];
+    'elements: while !reader.is_finished() {
+        let start = reader.position();
+        let element = next_element::<T>(alloc, &mut reader)?;
+        if comes_before(element, ahead) {
+            return Err(ErrorKind::SetOrdering.at(start).into());
+        }
+        ahead = element;
+    }
+    Ok(())
+}
+
+/// A SET OF, lent by the input: its contents are the encodings of values of the type, one behind
+/// the other, in the order of the encodings, which was seen once.
+pub struct SetOf<'a, T: Lawful> {
+    elements: SequenceOf<'a, T>,
+    ghost short: { length elements.octets.now < 2 ^ 32 },
+    ghost ascending: { ∥ AreAscending T.tag_is T.valid T.contents elements.octets.now ∥₁ },
+}
+
+/// The same elements; it takes no memory.
+impl<'a, T: Lawful> Clone for SetOf<'a, T> {
+    ghost is_clone = { λ p q. q ≡ p };
+
+    ghost is_infallible = { λ _. ⊤ };
+
+    fn clone(&self) -> Result<Self, AllocError> {
+        Ok(*self)
+    }
+}
+
+impl<'a, T: Lawful> Copy for SetOf<'a, T> {}
+
+impl<'a, T: Lawful> FixedTag for SetOf<'a, T> {
+    ghost tag_is = { SetTag };
+
+    const TAG: Tag = Tag::Set;
+
+    fn fixed_tag() -> Tag
+        ensures { result ≡ SetTag }
+    {
+        Tag::Set
+    }
+}
+
+impl<'a, T: Lawful> ReadValue for SetOf<'a, T> {
+    ghost valid = { IsSet T.tag_is T.valid T.contents (λ v. v.elements.octets.now) };
+
+    ghost takes = { TakesSet T.tag_is T.valid T.contents (λ v. v.elements.octets.now) };
+
+    ghost value_levels = { λ _. 0 };
+
+    ghost allocates = { T.allocates };
+
+    ghost takes_valid = { set_holds T.tag_is T.valid T.contents (λ v. v.elements.octets.now) };
+}
+
+/// The contents are lent, and every element in them is read once, under DER; also under BER the
+/// elements stand in the order of their encodings, and equal ones may follow each other.
+///
+/// # Errors
+///
+/// - `Failed`, `Overflow` and `Incomplete`, as by [`Reader::read_slice`].
+/// - Those of the elements, with positions counted from the beginning of the contents.
+/// - `SetOrdering` at the position, so counted, at which the first element begins that comes before
+///   the one ahead of it.
+impl<'a, T: Lawful + DecodeValue<SliceReader<'a>>, R: Reader<Lent = &'a [u8]>> DecodeValue<R>
+    for SetOf<'a, T> {
+    type Error = <T as DecodeValue<SliceReader<'a>>>::Error;
+
+    ghost decode_value_answers = { ListRead T.Error.from_gives (SetWalked T.Error.from_gives
+        (ElementRead T.tag_is T.Error.from_gives T.decode_value_answers))
+        (λ v. v.elements.octets.now) };
+
+    fn decode_value(
+        alloc: Global,
+        reader: &mut R,
+        header: Header,
+    ) -> Result<Self, <T as DecodeValue<SliceReader<'a>>>::Error> {
+        let octets = reader.read_slice(header.length())?;
+        check_set::<T>(alloc, octets)?;
+        Ok(SetOf {
+            elements: SequenceOf::formed(octets),
+        })
+    }
+
+    fn is_value(&self) {
+        let _octets = self.octets();
+    }
+}
+
+impl<'a, T: Lawful> WrittenValue for SetOf<'a, T> {
+    ghost contents = { λ v. v.elements.octets.now };
+
+    ghost writable = { IsSet T.tag_is T.valid T.contents (λ v. v.elements.octets.now) };
+}
+
+/// # Errors
+///
+/// - `Overflow` where there are more than 4294967295 octets.
+/// - The writer's errors, as by [`Writer::write`].
+impl<'a, T: Lawful> EncodeValue for SetOf<'a, T> {
+    ghost value_size = { λ v. form_size v.elements.octets.now };
+
+    ghost encode_value_answers = { λ v. FormWritten v.elements.octets.now };
+
+    fn value_len(&self) -> Result<Length, Error> {
+        Length::new_usize(self.octets().len())
+    }
+
+    fn encode_value<W: Writer>(&self, writer: &mut W) -> Result<(), Error> {
+        writer.write(self.octets())
+    }
+}
+
+impl<'a, T: Lawful> Lawful for SetOf<'a, T> {
+    ghost lawful = { set_lawful SetTag T.tag_is T.valid T.contents (λ v. v.elements.octets.now)
+        (Prim.omega arith) };
+}
+
+impl<'a, T: Lawful> Nestable for SetOf<'a, T> {
+    ghost nestable = { Prim.omega arith };
+}
+
+impl<'a, T: Lawful + DecodeValue<SliceReader<'a>>> SetOf<'a, T> {
+    /// The SET OF with these contents, which are the elements of values of the type, one behind the
+    /// other, in the order of their encodings.
+    ///
+    /// # Errors
+    ///
+    /// - `Overflow` where there are more than 4294967295 octets.
+    /// - Those of the first element that is refused, as by [`decode_tlv`](der::decode_tlv).
+    /// - `SetOrdering` at the position at which the first element begins that comes before the one
+    ///   ahead of it.
+    pub fn new(
+        alloc: Global,
+        octets: &'a [u8],
+    ) -> Result<Self, <T as DecodeValue<SliceReader<'a>>>::Error>
+        ensures ok { IfOk result (λ v. (v.elements.octets.now ≡ octets.now)
+            × AreAscending T.tag_is T.valid T.contents octets.now) }
+        ensures complete { length octets.now < 2 ^ 32
+            → AreAscending T.tag_is T.valid T.contents octets.now
+            → SucceedsOrLacks T.Error.out_of_memory T.allocates result }
+        ensures exact { length octets.now < 2 ^ 32 → SetWalked T.Error.from_gives
+            (ElementRead T.tag_is T.Error.from_gives T.decode_value_answers)
+            (map_ok (λ _. tt) result) octets.now }
+    {
+        check_set::<T>(alloc, octets)?;
+        Ok(SetOf {
+            elements: SequenceOf::formed(octets),
+        })
+    }
+}
+
+impl<'a, T: Lawful> SetOf<'a, T> {
+    /// The contents.
+    pub fn octets(&self) -> &'a [u8]
+        ensures value { result.now ≡ self.now.elements.octets.now }
+        ensures short { length result.now < 2 ^ 32 }
+        ensures ascending { ∥ AreAscending T.tag_is T.valid T.contents result.now ∥₁ }
+    {
+        self.elements.octets()
+    }
+
+    /// A walk over the elements, at the first.
+    pub fn items(&self) -> Items<'a, T>
+        ensures { rest_of (slice_state result.reader) ≡ self.now.elements.octets.now }
+    {
+        self.elements.items()
+    }
+}

@@ -1,0 +1,70 @@
+//! Subidentifiers of an OBJECT IDENTIFIER, and the arcs that they tell.
+ghost use Rattle.std.specs.Prelude.{◌≡◌, ◌<◌, ◌+◌, ◌-◌, ◌*◌, ℕ, true, length};
+ghost use Rattle.der_asn1.specs.Forms.{ends_subidentifiers};
+ghost use Rattle.der_asn1.specs.Arcs.{subidentifiers, first_arc, told_arc, told_number};
+ghost use Rattle.der_asn1.specs.Arcs.{IsFirstNumber};
+
+// The number of the first subidentifier, where it is below 2^63, and the octets behind it.
+pub(crate) fn first_subidentifier(octets: &[u8]) -> (Option<u64>, &[u8])
+    requires some { 0 < length octets.now }
+    requires form { ends_subidentifiers true octets.now ≡ true }
+    ensures number { IsFirstNumber (subidentifiers 0 octets.now) result.0
+        (subidentifiers 0 result.1.now) }
+    ensures form { ends_subidentifiers true result.1.now ≡ true }
+{
+    let mut number = Some(0);
+    let mut at = 0;
+    'octets: while at < octets.len() {
+        let octet = octets[at];
+        at += 1;
+        number = with_digit(number, octet % 128);
+        if octet < 0x80 {
+            return (number, &octets[at..]);
+        }
+    }
+    unreachable!()
+}
+
+// The number with another digit, where it is below 2^63.
+fn with_digit(number: Option<u64>, digit: u8) -> Option<u64>
+    requires { digit < 128 }
+    ensures { (n : ℕ) → number ≡ told_number n → result ≡ told_number (n * 128 + digit) }
+{
+    match number {
+        Some(number) if number < 0x100_0000_0000_0000 => Some(number * 128 + digit as u64),
+        _ => None,
+    }
+}
+
+// The first arc of the first subidentifier.
+pub(crate) fn first_arc_of(number: Option<u64>) -> u32
+    ensures { (n : ℕ) → number ≡ told_number n → result ≡ first_arc n }
+{
+    match number {
+        Some(number) if number < 40 => 0,
+        Some(number) if number < 80 => 1,
+        _ => 2,
+    }
+}
+
+// The second arc of the first subidentifier.
+pub(crate) fn second_arc_of(number: Option<u64>) -> Option<u32>
+    ensures { (n : ℕ) → number ≡ told_number n → result ≡ told_arc (n - 40 * first_arc n) }
+{
+    match number {
+        Some(number) if number < 40 => narrow(Some(number)),
+        Some(number) if number < 80 => narrow(Some(number - 40)),
+        Some(number) => narrow(Some(number - 80)),
+        None => None,
+    }
+}
+
+// The number, where it has 32 bits.
+pub(crate) fn narrow(number: Option<u64>) -> Option<u32>
+    ensures { (n : ℕ) → number ≡ told_number n → result ≡ told_arc n }
+{
+    match number {
+        Some(number) if number < 0x1_0000_0000 => Some(number as u32),
+        _ => None,
+    }
+}

@@ -1,0 +1,35 @@
+//! A TeletexString.
+ghost use Rattle.std.proofs.Common.{arith};
+ghost use Rattle.der.specs.Prelude.{TeletexString as TeletexTag};
+ghost use Rattle.der_asn1.specs.Forms.{octets_form};
+
+use crate::checked::Checked;
+use crate::form::Form;
+use der::{FixedTag, Tag};
+
+/// The form of a TeletexString: any octets, since the registered sets of characters are open (X.690
+/// 8.23.5).
+pub struct TeletexStringForm;
+
+/// A TeletexString, lent by the input.
+pub type TeletexStringRef<'a> = Checked<'a, TeletexStringForm>;
+
+impl FixedTag for TeletexStringForm {
+    ghost tag_is = { TeletexTag };
+
+    const TAG: Tag = Tag::TeletexString;
+
+    fn fixed_tag() -> Tag {
+        Self::TAG
+    }
+}
+
+impl Form for TeletexStringForm {
+    ghost form = { octets_form };
+
+    fn has_form(_octets: &[u8]) -> bool {
+        true
+    }
+
+    ghost numbered = { Prim.omega arith };
+}

@@ -1,0 +1,40 @@
+//! Forms of times.
+ghost use Rattle.std.specs.Prelude.{◌≡◌, ◌↔◌, ◌^◌, ◌<◌, ℕ, Bool, true, List, drop, IsSome, IfSome};
+ghost use Rattle.der.specs.Tag.{label};
+
+use crate::date_time::DateTime;
+use crate::time_octets::TimeOctets;
+use der::FixedTag;
+
+/// A form in which times are written, under a tag.
+///
+/// Ghost members: `form` says which contents are those of a time; `holds` says which times can be
+/// written so; `contents_of` are the contents of each; `numbered` is the law that the tag's number
+/// has 32 bits.
+pub trait TimeForm: FixedTag {
+    ghost use Rattle.der_asn1.specs.declared.date_time.DateTime.{DateTime};
+
+    ghost form: { List ℕ → Bool };
+
+    ghost holds: { DateTime → Bool };
+
+    ghost contents_of: { DateTime → List ℕ };
+
+    /// Whether the time can be written so.
+    fn can_hold(time: &DateTime) -> bool
+        ensures { result ≡ holds time.now };
+
+    /// The time whose contents these octets are.
+    fn from_contents(octets: &[u8]) -> Option<DateTime>
+        ensures some { IsSome result ↔ (form octets.now ≡ true) }
+        ensures same { IfSome result (λ v. (holds v ≡ true) × (contents_of v ≡ octets.now)) };
+
+    /// Its contents.
+    fn to_contents(time: &DateTime) -> TimeOctets
+        requires { holds time.now ≡ true }
+        ensures octets { drop result.start result.octets ≡ contents_of time.now }
+        ensures formed { form (contents_of time.now) ≡ true };
+
+    // the tag's number has 32 bits
+    ghost numbered: { (label Self.tag_is).number < 2 ^ 32 };
+}

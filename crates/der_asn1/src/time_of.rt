@@ -1,0 +1,144 @@
+//! Times of a form.
+ghost use Rattle.std.specs.Prelude.{◌≡◌, ◌<◌, ◌↔◌, ⊤, true, false, IsSome, IfSome};
+ghost use Rattle.std.proofs.Common.{arith, subst, sym};
+ghost use Rattle.der_asn1.specs.Checked.{HasForm, TakesForm, FormRead, form_size};
+ghost use Rattle.der_asn1.specs.Checked.{FormWritten, form_lawful};
+
+use crate::date_time::DateTime;
+use crate::explicit::Nestable;
+use crate::time_form::TimeForm;
+use der::{
+    DecodeValue, EncodeValue, Error, FixedTag, Header, Lawful, Length, ReadValue, Reader, Tag,
+    Writer, WrittenValue,
+};
+use std::alloc::{AllocError, Global};
+use std::marker::PhantomData;
+
+/// A time that can be written in this form.
+pub struct TimeOf<F: TimeForm> {
+    time: DateTime,
+    form: PhantomData<F>,
+    ghost held: { F.holds time ≡ true },
+}
+
+/// The same time; it takes no memory.
+impl<F: TimeForm> Clone for TimeOf<F> {
+    ghost is_clone = { λ p q. q ≡ p };
+
+    ghost is_infallible = { λ _. ⊤ };
+
+    fn clone(&self) -> Result<Self, AllocError> {
+        Ok(*self)
+    }
+}
+
+impl<F: TimeForm> Copy for TimeOf<F> {}
+
+impl<F: TimeForm> TimeOf<F> {
+    /// The time, where it can be written in this form.
+    pub fn new(time: DateTime) -> Option<Self>
+        ensures some { IsSome result ↔ (F.holds time ≡ true) }
+        ensures same { IfSome result (λ v. v.time ≡ time) }
+    {
+        if F::can_hold(&time) {
+            Some(TimeOf {
+                time,
+                form: PhantomData,
+            })
+        } else {
+            None
+        }
+    }
+
+    /// The time.
+    pub fn date_time(&self) -> DateTime
+        ensures value { result ≡ self.now.time }
+        ensures held { F.holds result ≡ true }
+    {
+        self.time
+    }
+}
+
+impl<F: TimeForm> FixedTag for TimeOf<F> {
+    ghost tag_is = { F.tag_is };
+
+    const TAG: Tag = F::TAG;
+
+    fn fixed_tag() -> Tag
+        ensures { result ≡ F.tag_is }
+    {
+        F::fixed_tag()
+    }
+}
+
+impl<F: TimeForm> ReadValue for TimeOf<F> {
+    ghost valid = { HasForm F.form (λ v. F.contents_of v.time) };
+
+    ghost takes = { TakesForm F.form (λ v. F.contents_of v.time) };
+
+    ghost value_levels = { λ _. 0 };
+
+    ghost allocates = { false };
+
+    ghost takes_valid = { λ v rules h octets taken.
+        subst (λ x. F.form x ≡ true) (sym taken.1) taken.0 };
+}
+
+/// Under BER too the contents are those of DER (X.690 11.7, 11.8).
+///
+/// # Errors
+///
+/// - `Failed`, `Overflow` and `Incomplete`, as by [`Reader::read_slice`].
+/// - `Value` of the tag behind contents of no time; the reader has failed then.
+impl<'a, F: TimeForm, R: Reader<Lent = &'a [u8]>> DecodeValue<R> for TimeOf<F> {
+    type Error = Error;
+
+    ghost decode_value_answers = { FormRead F.form F.tag_is (λ v. F.contents_of v.time) };
+
+    fn decode_value(_alloc: Global, reader: &mut R, header: Header) -> Result<Self, Error> {
+        let octets = reader.read_slice(header.length())?;
+        match F::from_contents(octets) {
+            Some(time) => Ok(TimeOf {
+                time,
+                form: PhantomData,
+            }),
+            None => Err(reader.error(F::fixed_tag().value_error())),
+        }
+    }
+
+    fn is_value(&self) {
+        let _contents = F::to_contents(&self.time);
+    }
+}
+
+impl<F: TimeForm> WrittenValue for TimeOf<F> {
+    ghost contents = { λ v. F.contents_of v.time };
+
+    ghost writable = { HasForm F.form (λ v. F.contents_of v.time) };
+}
+
+/// # Errors
+///
+/// The number of octets is never refused. Writing hands on the writer's errors, as by
+/// [`Writer::write`].
+impl<F: TimeForm> EncodeValue for TimeOf<F> {
+    ghost value_size = { λ v. form_size (F.contents_of v.time) };
+
+    ghost encode_value_answers = { λ v. FormWritten (F.contents_of v.time) };
+
+    fn value_len(&self) -> Result<Length, Error> {
+        Length::new_usize(F::to_contents(&self.time).as_slice().len())
+    }
+
+    fn encode_value<W: Writer>(&self, writer: &mut W) -> Result<(), Error> {
+        writer.write(F::to_contents(&self.time).as_slice())
+    }
+}
+
+impl<F: TimeForm> Lawful for TimeOf<F> {
+    ghost lawful = { form_lawful F.tag_is F.form (λ v. F.contents_of v.time) F.numbered };
+}
+
+impl<F: TimeForm> Nestable for TimeOf<F> {
+    ghost nestable = { Prim.omega arith };
+}

@@ -1,0 +1,39 @@
+//! A VisibleString.
+ghost use Rattle.std.proofs.Common.{arith};
+ghost use Rattle.der.specs.Prelude.{VisibleString as VisibleTag};
+ghost use Rattle.der_asn1.specs.Alphabets.{visible_form};
+
+use crate::checked::Checked;
+use crate::form::Form;
+use der::{FixedTag, Tag};
+
+/// The form of a VisibleString: printing characters of ISO/IEC 646, and space (X.680 41).
+pub struct VisibleStringForm;
+
+/// A VisibleString, lent by the input.
+pub type VisibleStringRef<'a> = Checked<'a, VisibleStringForm>;
+
+impl FixedTag for VisibleStringForm {
+    ghost tag_is = { VisibleTag };
+
+    const TAG: Tag = Tag::VisibleString;
+
+    fn fixed_tag() -> Tag {
+        Self::TAG
+    }
+}
+
+impl Form for VisibleStringForm {
+    ghost form = { visible_form };
+
+    fn has_form(octets: &[u8]) -> bool {
+        for octet in octets {
+            if *octet < 0x20 || 0x7F <= *octet {
+                return false;
+            }
+        }
+        true
+    }
+
+    ghost numbered = { Prim.omega arith };
+}
