@@ -16,7 +16,7 @@ fn reader_under(rules: EncodingRules, octets: &[u8]) -> Result<SliceReader<'_>, 
 }
 
 #[test]
-fn the_rules_of_a_reader(rt: HostRuntime) -> Result<(), Fail> {
+fn a_reader_has_the_rules_that_it_was_made_with(rt: HostRuntime) -> Result<(), Fail> {
     let reader = ber_reader(&[])?;
     same(&rt, reader.encoding_rules(), EncodingRules::Ber);
     same(&rt, reader.fork().encoding_rules(), EncodingRules::Ber);
@@ -30,7 +30,7 @@ fn the_rules_of_a_reader(rt: HostRuntime) -> Result<(), Fail> {
 }
 
 #[test]
-fn the_indefinite_form_under_der(rt: HostRuntime) -> Result<(), Fail> {
+fn the_indefinite_form_is_refused_under_der(rt: HostRuntime) -> Result<(), Fail> {
     let rows: [&[u8]; 4] = [
         &[0x30, 0x80, 0x00, 0x00],
         &[0x30, 0x80],
@@ -49,7 +49,7 @@ fn the_indefinite_form_under_der(rt: HostRuntime) -> Result<(), Fail> {
 }
 
 #[test]
-fn definite_lengths(rt: HostRuntime) {
+fn definite_lengths_are_read_alike_under_both_rules(rt: HostRuntime) {
     let rows: [(&[u8], u32); 6] = [
         (&[0x00], 0),
         (&[0x7F], 127),
@@ -77,7 +77,7 @@ fn definite_lengths(rt: HostRuntime) {
 
 // The Basic Encoding Rules allow lengths that are not the shortest; this library does not.
 #[test]
-fn lengths_that_are_not_the_shortest(rt: HostRuntime) {
+fn lengths_that_are_not_the_shortest_are_refused_under_both_rules(rt: HostRuntime) {
     let rows: [(&[u8], u32); 6] = [
         (&[0x81, 0x7F], 2),
         (&[0x82, 0x00, 0xFF], 3),
@@ -104,7 +104,7 @@ fn lengths_that_are_not_the_shortest(rt: HostRuntime) {
 }
 
 #[test]
-fn headers_whose_length_is_refused(rt: HostRuntime) -> Result<(), Fail> {
+fn a_header_with_a_wrong_length_is_refused_under_both_rules(rt: HostRuntime) -> Result<(), Fail> {
     let rows: [(&[u8], u32); 4] = [
         (&[0x04, 0x81, 0x7F], 3),
         (&[0x04, 0x82, 0x00, 0x80], 4),
@@ -124,7 +124,7 @@ fn headers_whose_length_is_refused(rt: HostRuntime) -> Result<(), Fail> {
 }
 
 #[test]
-fn definite_headers(rt: HostRuntime) {
+fn definite_headers_are_read_alike_under_both_rules(rt: HostRuntime) {
     let longest = TagNumber(4294967295).context_specific(true);
     let rows: [(&[u8], Tag, u32); 3] = [
         (&[0x05, 0x00], Tag::Null, 0),
@@ -145,7 +145,7 @@ fn definite_headers(rt: HostRuntime) {
 }
 
 #[test]
-fn elements_of_a_definite_length(rt: HostRuntime) -> Result<(), Fail> {
+fn under_ber_a_definite_element_is_lent_and_a_cut_one_refused(rt: HostRuntime) -> Result<(), Fail> {
     let octets = [0x30, 0x02, 0x05, 0x00, 0xFF];
     let mut reader = ber_reader(&octets)?;
     let element = [0x30, 0x02, 0x05, 0x00];

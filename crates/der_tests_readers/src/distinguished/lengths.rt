@@ -8,7 +8,7 @@ fn length(alloc: Global, bytes: &[u8]) -> Result<(Length, usize), Error> {
 }
 
 #[test]
-fn lengths_of_each_form(rt: HostRuntime) {
+fn lengths_of_each_form_are_read(rt: HostRuntime) {
     let rows: [(&[u8], u32); 8] = [
         (&[0x00], 0),
         (&[0x7F], 127),
@@ -26,7 +26,7 @@ fn lengths_of_each_form(rt: HostRuntime) {
 }
 
 #[test]
-fn octets_behind_a_length(rt: HostRuntime) {
+fn octets_behind_a_length_are_left(rt: HostRuntime) {
     same(
         &rt,
         length(rt.alloc(), &[0x81, 0x80, 0x05, 0x00]),
@@ -35,7 +35,7 @@ fn octets_behind_a_length(rt: HostRuntime) {
 }
 
 #[test]
-fn lengths_that_are_not_the_shortest(rt: HostRuntime) {
+fn lengths_that_are_not_the_shortest_are_refused(rt: HostRuntime) {
     let rows: [(&[u8], u32); 5] = [
         (&[0x81, 0x7F], 2),
         (&[0x82, 0x00, 0xFF], 3),
@@ -50,13 +50,13 @@ fn lengths_that_are_not_the_shortest(rt: HostRuntime) {
 }
 
 #[test]
-fn the_indefinite_form(rt: HostRuntime) {
+fn the_indefinite_form_is_refused(rt: HostRuntime) {
     let refused = Err(indefinite(1));
     same(&rt, length(rt.alloc(), &[0x80, 0x00, 0x00]), refused);
 }
 
 #[test]
-fn lengths_that_are_cut(rt: HostRuntime) {
+fn a_cut_length_wants_the_octet_that_is_missing(rt: HostRuntime) {
     let alloc = rt.alloc();
     same(&rt, length(alloc, &[]), Err(incomplete(1, 0, 0)));
     same(&rt, length(alloc, &[0x81]), Err(incomplete(2, 1, 1)));
@@ -68,7 +68,7 @@ fn lengths_that_are_cut(rt: HostRuntime) {
 }
 
 #[test]
-fn a_length_without_an_allocator(rt: HostRuntime) -> Result<(), Fail> {
+fn a_length_is_read_without_an_allocator(rt: HostRuntime) -> Result<(), Fail> {
     let octets = [0x82, 0xAA, 0xBB, 0x01];
     let mut reader = der_reader(&octets)?;
     same(&rt, decode_length(&mut reader), Ok(Length::new(43707)));

@@ -8,7 +8,7 @@ fn tag(alloc: Global, bytes: &[u8]) -> Result<(Tag, usize), Error> {
 }
 
 #[test]
-fn universal_tags(rt: HostRuntime) {
+fn universal_tags_are_read(rt: HostRuntime) {
     let rows: [(&[u8], Tag, usize); 5] = [
         (&[0x01], Tag::Boolean, 0),
         (&[0x04, 0x02], Tag::OctetString, 1),
@@ -22,7 +22,7 @@ fn universal_tags(rt: HostRuntime) {
 }
 
 #[test]
-fn tags_of_the_other_classes(rt: HostRuntime) {
+fn tags_of_the_other_classes_are_read(rt: HostRuntime) {
     let rows: [(&[u8], Tag); 8] = [
         (&[0x40], TagNumber(0).application(false)),
         (&[0x7E], TagNumber(30).application(true)),
@@ -48,7 +48,7 @@ fn tags_of_the_other_classes(rt: HostRuntime) {
 }
 
 #[test]
-fn long_tags_that_are_refused(rt: HostRuntime) {
+fn long_tags_with_a_wrong_number_are_refused(rt: HostRuntime) {
     let rows: [(&[u8], u32); 7] = [
         (&[0xDF, 0x9F, 0x8F, 0x8F, 0x8F, 0x0F], 5),
         (&[0xFF, 0x03], 2),
@@ -65,7 +65,7 @@ fn long_tags_that_are_refused(rt: HostRuntime) {
 }
 
 #[test]
-fn tags_that_are_unknown_or_cut(rt: HostRuntime) {
+fn unknown_and_cut_tags_are_refused(rt: HostRuntime) {
     let alloc = rt.alloc();
     for byte in [0x3F, 0x21, 0x24, 0x00] {
         same_at(&rt, byte, tag(alloc, &[byte]), Err(unknown(byte, 1)));
