@@ -51,7 +51,7 @@ fn wants_all(
 }
 
 #[test]
-fn what_the_worked_cases_decode(rt: HostRuntime) {
+fn each_beginning_of_what_the_worked_cases_decode_is_refused(rt: HostRuntime) {
     for row in ROWS {
         wants_all(&rt, rt.alloc(), row);
     }
@@ -59,7 +59,7 @@ fn what_the_worked_cases_decode(rt: HostRuntime) {
 
 // Likewise, of octets that are made.
 #[test]
-fn long_bodies(rt: HostRuntime) -> Result<(), Fail> {
+fn each_beginning_of_a_long_body_is_refused(rt: HostRuntime) -> Result<(), Fail> {
     let alloc = rt.alloc();
     let ber = EncodingRules::Ber;
     let steps = around_contents(alloc, 126)?;

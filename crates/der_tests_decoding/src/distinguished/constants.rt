@@ -16,7 +16,7 @@ fn tags_agree<T: FixedTag>(rt: &impl Abort, tag: Tag, constructed: bool) {
 }
 
 #[test]
-fn tags(rt: HostRuntime) {
+fn constants_and_functions_tell_the_same_tags(rt: HostRuntime) {
     tags_agree::<MyByteMonth>(&rt, Tag::OctetString, false);
     tags_agree::<Box<MyByteMonth>>(&rt, Tag::OctetString, false);
     tags_agree::<Lent>(&rt, Tag::OctetString, false);
@@ -25,7 +25,7 @@ fn tags(rt: HostRuntime) {
 }
 
 #[test]
-fn lending(rt: HostRuntime) {
+fn a_reader_that_cannot_lend_says_so(rt: HostRuntime) {
     same(&rt, CopyingReader::CAN_READ_SLICE, false);
     same(&rt, CopyingReader::can_lend(), false);
 }

@@ -9,7 +9,7 @@ fn length_of(alloc: Global, bytes: &[u8]) -> Result<Length, Error> {
 }
 
 #[test]
-fn lengths_both_ways(rt: HostRuntime) -> Result<(), Fail> {
+fn lengths_are_read_and_written(rt: HostRuntime) -> Result<(), Fail> {
     let rows: [(u32, &[u8]); 8] = [
         (0, &[0x00]),
         (127, &[0x7F]),
@@ -30,7 +30,7 @@ fn lengths_both_ways(rt: HostRuntime) -> Result<(), Fail> {
 }
 
 #[test]
-fn lengths_that_are_refused(rt: HostRuntime) {
+fn octets_that_are_not_wholly_a_length_are_refused(rt: HostRuntime) {
     let rows: [(&[u8], Error); 5] = [
         (&[0x81, 0x7F], ErrorKind::Overlength.at(Length::new(2))),
         (&[0x80, 0x00, 0x00], indefinite(1)),

@@ -9,7 +9,7 @@ fn tag_of(alloc: Global, bytes: &[u8]) -> Result<Tag, Error> {
 }
 
 #[test]
-fn tags_both_ways(rt: HostRuntime) -> Result<(), Fail> {
+fn tags_are_read_and_written(rt: HostRuntime) -> Result<(), Fail> {
     let rows: [(Tag, &[u8]); 8] = [
         (Tag::OctetString, &[0x04]),
         (Tag::Sequence, &[0x30]),
@@ -44,7 +44,7 @@ fn tags_both_ways(rt: HostRuntime) -> Result<(), Fail> {
 }
 
 #[test]
-fn numbers_that_are_refused(rt: HostRuntime) {
+fn wrong_tag_numbers_are_refused(rt: HostRuntime) {
     let rows: [(&[u8], u32); 6] = [
         (&[0xDF, 0x9F, 0x8F, 0x8F, 0x8F, 0x0F], 5),
         (&[0x7F, 0x90, 0x80, 0x80, 0x80, 0x00], 5),
@@ -60,7 +60,7 @@ fn numbers_that_are_refused(rt: HostRuntime) {
 }
 
 #[test]
-fn tags_that_are_unknown_or_cut(rt: HostRuntime) {
+fn unknown_and_cut_tags_are_refused(rt: HostRuntime) {
     let alloc = rt.alloc();
     for byte in [0x3F, 0x21] {
         same(&rt, tag_of(alloc, &[byte]), Err(unknown(byte, 1)));
@@ -70,7 +70,7 @@ fn tags_that_are_unknown_or_cut(rt: HostRuntime) {
 }
 
 #[test]
-fn octets_behind_a_tag(rt: HostRuntime) {
+fn octets_behind_a_tag_are_refused(rt: HostRuntime) {
     same(
         &rt,
         tag_of(rt.alloc(), &[0x7F, 0x21, 0x00]),
