@@ -32,7 +32,7 @@ fn drain_each(rt: &impl Abort, octets: &[u8], passed: u32) -> Result<(), Error> 
 }
 
 #[test]
-fn at_most_forty_octets(rt: HostRuntime) -> Result<(), Fail> {
+fn both_readers_drain_up_to_forty_octets_alike(rt: HostRuntime) -> Result<(), Fail> {
     let octets = [0x2A; 41];
     for count in 0..=40usize {
         drain_each(&rt, first_octets(&octets, count), 0)?;
@@ -42,7 +42,7 @@ fn at_most_forty_octets(rt: HostRuntime) -> Result<(), Fail> {
 }
 
 #[test]
-fn a_reader_that_has_failed(rt: HostRuntime) -> Result<(), Fail> {
+fn a_failed_reader_drains_zero_octets_but_not_a_flagged_zero(rt: HostRuntime) -> Result<(), Fail> {
     let mut reader = ber_reader(&[0x2A; 4])?;
     reader.drain(Length::new(2))?;
     let _ = reader.error(ErrorKind::DateTime);
