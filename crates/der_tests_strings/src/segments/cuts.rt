@@ -58,7 +58,7 @@ fn cut_everywhere(
 }
 
 #[test]
-fn elements_of_definite_lengths(rt: HostRuntime) -> Result<(), Fail> {
+fn definite_elements_are_refused_wherever_they_are_cut(rt: HostRuntime) -> Result<(), Fail> {
     let rows: [(&[u8], &[u8]); 3] = [
         (&[0x24, 0x00], &[]),
         (&[0x24, 0x04, 0x04, 0x02, 0xAA, 0xBB], &[0xAA, 0xBB]),
@@ -77,7 +77,7 @@ fn elements_of_definite_lengths(rt: HostRuntime) -> Result<(), Fail> {
 }
 
 #[test]
-fn elements_of_indefinite_lengths(rt: HostRuntime) -> Result<(), Fail> {
+fn indefinite_elements_are_refused_wherever_they_are_cut(rt: HostRuntime) -> Result<(), Fail> {
     let rows: [(&[u8], &[u8], &[Passed]); 5] = [
         (&[0x24, 0x80, 0x00, 0x00], &[], &[]),
         (&[0x24, 0x80, 0x24, 0x80, 0x00, 0x00, 0x00, 0x00], &[], &[]),
@@ -109,7 +109,7 @@ fn elements_of_indefinite_lengths(rt: HostRuntime) -> Result<(), Fail> {
 }
 
 #[test]
-fn elements_as_deep_as_they_may_be(rt: HostRuntime) -> Result<(), Fail> {
+fn elements_64_levels_deep_are_refused_wherever_they_are_cut(rt: HostRuntime) -> Result<(), Fail> {
     for forms in [Forms::Definite, Forms::Indefinite] {
         let octets = nested(rt.alloc(), forms, 64, &[0x04, 0x01, 0x2A])?;
         cut_everywhere(&rt, rt.alloc(), octets.as_slice(), &[0x2A], &[])?;

@@ -68,7 +68,7 @@ fn wholly_under_der(rt: &impl Abort, alloc: Global, octets: &[u8], answer: Resul
 }
 
 #[test]
-fn octets_as_they_stand(rt: HostRuntime) -> Result<(), Fail> {
+fn primitive_octets_are_taken_as_they_stand(rt: HostRuntime) -> Result<(), Fail> {
     let rows: [(&[u8], &[u8], u32); 3] = [
         (&[0x04, 0x00], &[], 2u32),
         (&[0x04, 0x02, 0xAA, 0xBB], &[0xAA, 0xBB], 4),
@@ -82,7 +82,7 @@ fn octets_as_they_stand(rt: HostRuntime) -> Result<(), Fail> {
 }
 
 #[test]
-fn octets_of_segments(rt: HostRuntime) -> Result<(), Fail> {
+fn segments_are_joined_to_one_string(rt: HostRuntime) -> Result<(), Fail> {
     let rows: [(&[u8], &[u8], u32); 5] = [
         (&[0x24, 0x80, 0x00, 0x00], &[], 4),
         (&[0x24, 0x04, 0x04, 0x02, 0xAA, 0xBB], &[0xAA, 0xBB], 6),
@@ -114,7 +114,7 @@ fn octets_of_segments(rt: HostRuntime) -> Result<(), Fail> {
 
 // Segments that are cut into segments, of either form of length.
 #[test]
-fn octets_of_segments_in_segments(rt: HostRuntime) -> Result<(), Fail> {
+fn segments_in_segments_are_joined(rt: HostRuntime) -> Result<(), Fail> {
     let rows: [(&[u8], &[u8], u32); 6] = [
         (&[0x24, 0x00], &[], 2),
         (&[0x24, 0x80, 0x24, 0x80, 0x00, 0x00, 0x00, 0x00], &[], 8),
@@ -151,7 +151,7 @@ fn octets_of_segments_in_segments(rt: HostRuntime) -> Result<(), Fail> {
 }
 
 #[test]
-fn segments_that_are_refused(rt: HostRuntime) -> Result<(), Fail> {
+fn wrong_segments_are_refused_under_ber(rt: HostRuntime) -> Result<(), Fail> {
     let rows: [(&[u8], Error, (u32, bool)); 10] = [
         (
             &[0x24, 0x80, 0x05, 0x00, 0x00, 0x00],
@@ -213,7 +213,7 @@ fn segments_that_are_refused(rt: HostRuntime) -> Result<(), Fail> {
 }
 
 #[test]
-fn what_der_refuses(rt: HostRuntime) -> Result<(), Fail> {
+fn der_refuses_segments_and_what_is_no_octet_string(rt: HostRuntime) -> Result<(), Fail> {
     let rows: [(&[u8], Error, (u32, bool)); 5] = [
         (&[0x24, 0x80, 0x00, 0x00], unknown(0x24, 1), (1, true)),
         (&[0x24, 0x02, 0xAA, 0xBB], unknown(0x24, 1), (1, true)),
@@ -233,7 +233,7 @@ fn what_der_refuses(rt: HostRuntime) -> Result<(), Fail> {
 
 // What was joined is written as one element.
 #[test]
-fn what_is_written(rt: HostRuntime) -> Result<(), Fail> {
+fn joined_segments_are_written_as_one_element(rt: HostRuntime) -> Result<(), Fail> {
     let segments = [
         0x24, 0x80, 0x04, 0x02, 0xAA, 0xBB, 0x04, 0x01, 0xCC, 0x00, 0x00,
     ];
