@@ -14,7 +14,7 @@ fn tags_agree<T: FixedTag>(rt: &impl Abort, tag: Tag, constructed: bool) {
 }
 
 #[test]
-fn tags(rt: HostRuntime) {
+fn constants_and_functions_tell_the_same_tags(rt: HostRuntime) {
     tags_agree::<MyByteMonth>(&rt, Tag::OctetString, false);
     tags_agree::<Months>(&rt, Tag::Sequence, true);
 }

@@ -6,7 +6,7 @@ use der::{Encode, SliceWriter, encode_tlv, encoded_len_tlv};
 use der_fixtures::readers::front;
 
 #[test]
-fn headers_as_octets(rt: HostRuntime) -> Result<(), Fail> {
+fn a_header_is_written_alike_to_vectors_and_slices(rt: HostRuntime) -> Result<(), Fail> {
     let header = Header::new(Tag::Sequence, Length::new(256));
     same(&rt, header.encoded_len(), Ok(Length::new(4)));
     let der = header.to_der(rt.alloc())?;
@@ -26,7 +26,7 @@ fn headers_as_octets(rt: HostRuntime) -> Result<(), Fail> {
 }
 
 #[test]
-fn headers_for_which_the_buffer_is_too_short(rt: HostRuntime) {
+fn a_header_is_refused_where_the_buffer_is_too_short(rt: HostRuntime) {
     let header = Header::new(Tag::Sequence, Length::new(256));
     let mut buf = [0; 3];
     let refused = header.encode_to_slice(&mut buf);
@@ -35,7 +35,7 @@ fn headers_for_which_the_buffer_is_too_short(rt: HostRuntime) {
 }
 
 #[test]
-fn lengths_as_octets(rt: HostRuntime) -> Result<(), Fail> {
+fn lengths_are_written_in_the_shortest_form_and_read_back(rt: HostRuntime) -> Result<(), Fail> {
     let rows: [(u32, &[u8]); 12] = [
         (0, &[0x00]),
         (127, &[0x7F]),
@@ -84,7 +84,7 @@ fn is_written_as(alloc: Global, tag: Tag, want: &[u8]) -> Result<bool, Error> {
 }
 
 #[test]
-fn tags_of_one_to_six_octets(rt: HostRuntime) -> Result<(), Fail> {
+fn tags_of_one_to_six_octets_are_written_and_read_back(rt: HostRuntime) -> Result<(), Fail> {
     let rows: [(Tag, &[u8]); 13] = [
         (Tag::Boolean, &[0x01]),
         (Tag::BmpString, &[0x1E]),
@@ -122,7 +122,7 @@ fn tags_of_one_to_six_octets(rt: HostRuntime) -> Result<(), Fail> {
 }
 
 #[test]
-fn elements_as_octets(rt: HostRuntime) -> Result<(), Fail> {
+fn an_element_is_written_with_its_header(rt: HostRuntime) -> Result<(), Fail> {
     let mut buf = [0; 4];
     let mut writer = SliceWriter::new(&mut buf);
     let month = september()?;

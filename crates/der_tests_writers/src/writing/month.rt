@@ -44,7 +44,7 @@ fn a_month_is_written(rt: HostRuntime) -> Result<(), Fail> {
 }
 
 #[test]
-fn the_tag_of_a_type(rt: HostRuntime) -> Result<(), Fail> {
+fn a_value_tells_the_tag_of_its_type(rt: HostRuntime) -> Result<(), Fail> {
     same(&rt, september()?.tag(), Tag::OctetString);
     Ok(())
 }
@@ -63,6 +63,6 @@ impl FixedTag for Months {
 }
 
 #[test]
-fn the_tag_of_a_constructed_type(rt: HostRuntime) {
+fn a_value_tells_the_tag_of_its_constructed_type(rt: HostRuntime) {
     same(&rt, Months.tag(), Tag::Sequence);
 }
