@@ -6,6 +6,7 @@ use crate::checks::same_at;
 use der::EncodingRules;
 use der::example::{BorrowedOctets, JoinedOctets, OwnedText};
 use der_fixtures::bodies::{around_contents, around_null, first_octets};
+use der_fixtures::encodings::{LENGTHS, tags};
 use std::process::Abort;
 
 // How many octets are passed, or nothing where they are refused.
@@ -54,6 +55,19 @@ fn wants_all(
 fn each_beginning_of_what_the_worked_cases_decode_is_refused(rt: HostRuntime) {
     for row in ROWS {
         wants_all(&rt, rt.alloc(), row);
+    }
+}
+
+// Likewise, of each tag and length by itself.
+#[test]
+fn each_beginning_of_a_tag_and_of_a_length_is_refused(rt: HostRuntime) {
+    let alloc = rt.alloc();
+    let der = EncodingRules::Der;
+    for (_, octets) in tags() {
+        wants_all(&rt, alloc, (Kind::Tag, der, octets, octets.len() as u32));
+    }
+    for (_, octets) in LENGTHS {
+        wants_all(&rt, alloc, (Kind::Length, der, octets, octets.len() as u32));
     }
 }
 

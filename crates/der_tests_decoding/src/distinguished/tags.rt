@@ -1,6 +1,7 @@
 //! Tags that are all the octets.
 use super::*;
 use crate::checks::{same, same_at};
+use der_fixtures::encodings::{WRONG_TAG_NUMBERS, tags};
 use der_fixtures::errors::{invalid_number, unknown};
 
 // The tag that all the octets are.
@@ -10,32 +11,7 @@ fn tag_of(alloc: Global, bytes: &[u8]) -> Result<Tag, Error> {
 
 #[test]
 fn tags_are_read_and_written(rt: HostRuntime) -> Result<(), Fail> {
-    let rows: [(Tag, &[u8]); 8] = [
-        (Tag::OctetString, &[0x04]),
-        (Tag::Sequence, &[0x30]),
-        (TagNumber(33).application(true), &[0x7F, 0x21]),
-        (
-            TagNumber(16385).application(false),
-            &[0x5F, 0x81, 0x80, 0x01],
-        ),
-        (
-            TagNumber(16383).context_specific(false),
-            &[0x9F, 0xFF, 0x7F],
-        ),
-        (
-            TagNumber(16384).context_specific(false),
-            &[0x9F, 0x81, 0x80, 0x00],
-        ),
-        (
-            TagNumber(2097153).context_specific(false),
-            &[0x9F, 0x81, 0x80, 0x80, 0x01],
-        ),
-        (
-            TagNumber(4294967295).private(false),
-            &[0xDF, 0x8F, 0xFF, 0xFF, 0xFF, 0x7F],
-        ),
-    ];
-    for (tag, octets) in rows {
+    for (tag, octets) in tags() {
         same_at(&rt, tag, tag_of(rt.alloc(), octets), Ok(tag));
         let der = der_of(rt.alloc(), &tag)?;
         same_at(&rt, tag, der.as_slice(), octets);
@@ -45,15 +21,7 @@ fn tags_are_read_and_written(rt: HostRuntime) -> Result<(), Fail> {
 
 #[test]
 fn wrong_tag_numbers_are_refused(rt: HostRuntime) {
-    let rows: [(&[u8], u32); 6] = [
-        (&[0xDF, 0x9F, 0x8F, 0x8F, 0x8F, 0x0F], 5),
-        (&[0x7F, 0x90, 0x80, 0x80, 0x80, 0x00], 5),
-        (&[0xBF, 0x8F, 0xFF, 0xFF, 0xFF, 0xFF, 0x7F], 6),
-        (&[0xFF, 0x03], 2),
-        (&[0x5F, 0x80, 0x20], 2),
-        (&[0x1F, 0xFF], 1),
-    ];
-    for (octets, position) in rows {
+    for (octets, position) in WRONG_TAG_NUMBERS {
         let invalid = Err(invalid_number(position));
         same_at(&rt, position, tag_of(rt.alloc(), octets), invalid);
     }

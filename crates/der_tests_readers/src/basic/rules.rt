@@ -2,6 +2,7 @@
 use super::*;
 use crate::checks::{same, same_at, same_octets};
 use der::TagNumber;
+use der_fixtures::encodings::{LENGTHS, OVERLONG_LENGTHS};
 
 fn length_under_ber(alloc: Global, octets: &[u8]) -> Result<Length, Error> {
     Length::from_ber(alloc, octets)
@@ -50,15 +51,7 @@ fn the_indefinite_form_is_refused_under_der(rt: HostRuntime) -> Result<(), Fail>
 
 #[test]
 fn definite_lengths_are_read_alike_under_both_rules(rt: HostRuntime) {
-    let rows: [(&[u8], u32); 6] = [
-        (&[0x00], 0),
-        (&[0x7F], 127),
-        (&[0x81, 0x80], 128),
-        (&[0x82, 0x01, 0x00], 256),
-        (&[0x83, 0x01, 0x00, 0x00], 65536),
-        (&[0x84, 0xFF, 0xFF, 0xFF, 0xFF], 4294967295),
-    ];
-    for (octets, number) in rows {
+    for (number, octets) in LENGTHS {
         let length = Length::new(number);
         same_at(
             &rt,
@@ -78,15 +71,7 @@ fn definite_lengths_are_read_alike_under_both_rules(rt: HostRuntime) {
 // The Basic Encoding Rules allow lengths that are not the shortest; this library does not.
 #[test]
 fn lengths_that_are_not_the_shortest_are_refused_under_both_rules(rt: HostRuntime) {
-    let rows: [(&[u8], u32); 6] = [
-        (&[0x81, 0x7F], 2),
-        (&[0x82, 0x00, 0xFF], 3),
-        (&[0x83, 0x00, 0xFF, 0xFF], 4),
-        (&[0x84, 0x00, 0xFF, 0xFF, 0xFF], 5),
-        (&[0x85, 0x00, 0x00, 0x00, 0x00, 0x01], 1),
-        (&[0xFF], 1),
-    ];
-    for (octets, position) in rows {
+    for (octets, position) in OVERLONG_LENGTHS {
         let error = ErrorKind::Overlength.at(Length::new(position));
         same_at(
             &rt,

@@ -1,6 +1,7 @@
 //! Lengths that are read.
 use super::*;
 use crate::checks::{same, same_at};
+use der_fixtures::encodings::{LENGTHS, OVERLONG_LENGTHS};
 use der_fixtures::errors::indefinite;
 
 fn length(alloc: Global, bytes: &[u8]) -> Result<(Length, usize), Error> {
@@ -9,17 +10,7 @@ fn length(alloc: Global, bytes: &[u8]) -> Result<(Length, usize), Error> {
 
 #[test]
 fn lengths_of_each_form_are_read(rt: HostRuntime) {
-    let rows: [(&[u8], u32); 8] = [
-        (&[0x00], 0),
-        (&[0x7F], 127),
-        (&[0x81, 0x80], 128),
-        (&[0x81, 0xFF], 255),
-        (&[0x82, 0x01, 0x00], 256),
-        (&[0x82, 0xAA, 0xBB], 43707),
-        (&[0x83, 0x01, 0x00, 0x00], 65536),
-        (&[0x84, 0xFF, 0xFF, 0xFF, 0xFF], 4294967295),
-    ];
-    for (octets, number) in rows {
+    for (number, octets) in LENGTHS {
         let read = Ok((Length::new(number), 0));
         same_at(&rt, number, length(rt.alloc(), octets), read);
     }
@@ -36,14 +27,7 @@ fn octets_behind_a_length_are_left(rt: HostRuntime) {
 
 #[test]
 fn lengths_that_are_not_the_shortest_are_refused(rt: HostRuntime) {
-    let rows: [(&[u8], u32); 5] = [
-        (&[0x81, 0x7F], 2),
-        (&[0x82, 0x00, 0xFF], 3),
-        (&[0x84, 0x00, 0xFF, 0xFF, 0xFF], 5),
-        (&[0x85, 0x01], 1),
-        (&[0xFF], 1),
-    ];
-    for (octets, position) in rows {
+    for (octets, position) in OVERLONG_LENGTHS {
         let too_long = ErrorKind::Overlength.at(Length::new(position));
         same_at(&rt, position, length(rt.alloc(), octets), Err(too_long));
     }

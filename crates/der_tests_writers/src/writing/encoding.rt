@@ -3,6 +3,7 @@ use super::month::september;
 use super::*;
 use crate::checks::{holds, holds_at, same, same_at};
 use der::{Encode, SliceWriter, encode_tlv, encoded_len_tlv};
+use der_fixtures::encodings::{LENGTHS, tags};
 use der_fixtures::readers::front;
 
 #[test]
@@ -36,21 +37,7 @@ fn a_header_is_refused_where_the_buffer_is_too_short(rt: HostRuntime) {
 
 #[test]
 fn lengths_are_written_in_the_shortest_form_and_read_back(rt: HostRuntime) -> Result<(), Fail> {
-    let rows: [(u32, &[u8]); 12] = [
-        (0, &[0x00]),
-        (127, &[0x7F]),
-        (128, &[0x81, 0x80]),
-        (255, &[0x81, 0xFF]),
-        (256, &[0x82, 0x01, 0x00]),
-        (43707, &[0x82, 0xAA, 0xBB]),
-        (65535, &[0x82, 0xFF, 0xFF]),
-        (65536, &[0x83, 0x01, 0x00, 0x00]),
-        (16777215, &[0x83, 0xFF, 0xFF, 0xFF]),
-        (16777216, &[0x84, 0x01, 0x00, 0x00, 0x00]),
-        (268435456, &[0x84, 0x10, 0x00, 0x00, 0x00]),
-        (4294967295, &[0x84, 0xFF, 0xFF, 0xFF, 0xFF]),
-    ];
-    for (number, want) in rows {
+    for (number, want) in LENGTHS {
         let length = Length::new(number);
         let mut buf = [0; 5];
         let der = length.encode_to_slice(&mut buf)?;
@@ -85,37 +72,7 @@ fn is_written_as(alloc: Global, tag: Tag, want: &[u8]) -> Result<bool, Error> {
 
 #[test]
 fn tags_of_one_to_six_octets_are_written_and_read_back(rt: HostRuntime) -> Result<(), Fail> {
-    let rows: [(Tag, &[u8]); 13] = [
-        (Tag::Boolean, &[0x01]),
-        (Tag::BmpString, &[0x1E]),
-        (Tag::Set, &[0x31]),
-        (TagNumber(0).context_specific(true), &[0xA0]),
-        (TagNumber(30).private(false), &[0xDE]),
-        (TagNumber(31).application(true), &[0x7F, 0x1F]),
-        (TagNumber(127).application(false), &[0x5F, 0x7F]),
-        (TagNumber(128).application(false), &[0x5F, 0x81, 0x00]),
-        (
-            TagNumber(16383).context_specific(false),
-            &[0x9F, 0xFF, 0x7F],
-        ),
-        (
-            TagNumber(16385).application(false),
-            &[0x5F, 0x81, 0x80, 0x01],
-        ),
-        (
-            TagNumber(2097153).context_specific(false),
-            &[0x9F, 0x81, 0x80, 0x80, 0x01],
-        ),
-        (
-            TagNumber(268435456).private(true),
-            &[0xFF, 0x81, 0x80, 0x80, 0x80, 0x00],
-        ),
-        (
-            TagNumber(4294967295).private(false),
-            &[0xDF, 0x8F, 0xFF, 0xFF, 0xFF, 0x7F],
-        ),
-    ];
-    for (tag, octets) in rows {
+    for (tag, octets) in tags() {
         holds_at(&rt, tag, is_written_as(rt.alloc(), tag, octets)?);
     }
     Ok(())
