@@ -58,17 +58,22 @@ fn each_beginning_of_what_the_worked_cases_decode_is_refused(rt: HostRuntime) {
     }
 }
 
-// Likewise, of each tag and length by itself.
+// Under the Distinguished Encoding Rules all of these octets are passed.
+fn wants_whole(rt: &impl Abort, alloc: Global, kind: Kind, octets: &[u8]) -> Result<(), Error> {
+    let count = u32::from(Length::new_usize(octets.len())?);
+    wants_all(rt, alloc, (kind, EncodingRules::Der, octets, count));
+    Ok(())
+}
+
 #[test]
-fn each_beginning_of_a_tag_and_of_a_length_is_refused(rt: HostRuntime) {
-    let alloc = rt.alloc();
-    let der = EncodingRules::Der;
+fn each_beginning_of_a_tag_and_of_a_length_is_refused(rt: HostRuntime) -> Result<(), Fail> {
     for (_, octets) in tags() {
-        wants_all(&rt, alloc, (Kind::Tag, der, octets, octets.len() as u32));
+        wants_whole(&rt, rt.alloc(), Kind::Tag, octets)?;
     }
     for (_, octets) in LENGTHS {
-        wants_all(&rt, alloc, (Kind::Length, der, octets, octets.len() as u32));
+        wants_whole(&rt, rt.alloc(), Kind::Length, octets)?;
     }
+    Ok(())
 }
 
 // Likewise, of octets that are made.
