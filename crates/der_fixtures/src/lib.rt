@@ -1,8 +1,9 @@
-//! What the tests of several crates share: readers and calls of them, octets that they read, and
-//! errors.
+//! What the tests of several crates share: readers and calls of them, octets that they read,
+//! encodings of tags and lengths, and errors.
 #![tactic(auto)]
 
 pub mod bodies;
 pub mod calls;
+pub mod encodings;
 pub mod errors;
 pub mod readers;

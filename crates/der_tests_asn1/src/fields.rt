@@ -41,7 +41,7 @@ fn a_field_may_be_absent(rt: HostRuntime) {
 }
 
 #[test]
-fn elements_of_any_tag(rt: HostRuntime) {
+fn elements_of_any_tag_are_read(rt: HostRuntime) {
     let octets = [0xA0, 3, 2, 1, 5];
     let context = TagNumber(0).context_specific(true);
     same_at(

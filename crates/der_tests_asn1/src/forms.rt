@@ -60,7 +60,7 @@ fn refused(tag: Tag, end: u32) -> Result<&'static [u8], Error> {
 }
 
 #[test]
-fn integers(rt: HostRuntime) {
+fn integers_that_are_not_the_shortest_are_refused_under_both_rules(rt: HostRuntime) {
     let rows: [(&[u8], Result<&[u8], Error>); 9] = [
         (&[2, 1, 0], Ok(&[0])),
         (&[2, 1, 0x80], Ok(&[0x80])),
@@ -79,7 +79,7 @@ fn integers(rt: HostRuntime) {
 }
 
 #[test]
-fn bit_strings(rt: HostRuntime) {
+fn bit_strings_with_wrong_unused_bits_are_refused(rt: HostRuntime) {
     let rows: [(&[u8], Result<&[u8], Error>); 8] = [
         (&[3, 1, 0], Ok(&[0])),
         (&[3, 2, 3, 0x08], Ok(&[3, 0x08])),
@@ -96,7 +96,7 @@ fn bit_strings(rt: HostRuntime) {
 }
 
 #[test]
-fn object_identifiers(rt: HostRuntime) {
+fn object_identifiers_that_are_cut_or_padded_are_refused(rt: HostRuntime) {
     let rows: [(&[u8], Result<&[u8], Error>); 6] = [
         (&[6, 1, 0x2A], Ok(&[0x2A])),
         (&[6, 3, 0x2A, 0x86, 0x48], Ok(&[0x2A, 0x86, 0x48])),
@@ -111,7 +111,7 @@ fn object_identifiers(rt: HostRuntime) {
 }
 
 #[test]
-fn nulls_and_octet_strings(rt: HostRuntime) {
+fn a_null_is_empty_and_an_octet_string_has_any_octets(rt: HostRuntime) {
     same_at(&rt, 0, null(rt.alloc(), &[5, 0]), Ok(&[]));
     same_at(&rt, 1, null(rt.alloc(), &[5, 1, 0]), refused(Tag::Null, 3));
     same_at(&rt, 2, octet_string(rt.alloc(), &[4, 0]), Ok(&[]));
@@ -124,7 +124,7 @@ fn nulls_and_octet_strings(rt: HostRuntime) {
 }
 
 #[test]
-fn booleans(rt: HostRuntime) {
+fn a_boolean_is_one_octet_of_all_zeros_or_all_ones(rt: HostRuntime) {
     let refused = |end: u32| -> Result<bool, Error> {
         Err(ErrorKind::Value { tag: Tag::Boolean }.at(Length::new(end)))
     };
@@ -141,7 +141,7 @@ fn booleans(rt: HostRuntime) {
 }
 
 #[test]
-fn texts_with_an_alphabet(rt: HostRuntime) {
+fn texts_with_octets_outside_their_alphabet_are_refused(rt: HostRuntime) {
     let rows: [(&[u8], Result<&[u8], Error>); 4] = [
         (&[22, 0], Ok(&[])),
         (&[22, 3, 0, 0x40, 0x7F], Ok(&[0, 0x40, 0x7F])),

@@ -17,7 +17,7 @@ fn refused<N>(end: u32) -> Result<(N, bool), Error> {
 }
 
 #[test]
-fn numbers_of_8_bits(rt: HostRuntime) {
+fn numbers_of_8_bits_are_read_and_larger_or_negative_ones_refused(rt: HostRuntime) {
     let rows: [(&[u8], Result<(u8, bool), Error>); 8] = [
         (&[2, 1, 0], Ok((0, true))),
         (&[2, 1, 0x7F], Ok((127, true))),
@@ -34,7 +34,7 @@ fn numbers_of_8_bits(rt: HostRuntime) {
 }
 
 #[test]
-fn numbers_of_32_bits(rt: HostRuntime) {
+fn numbers_of_32_bits_are_read_and_larger_or_negative_ones_refused(rt: HostRuntime) {
     let rows: [(&[u8], Result<(u32, bool), Error>); 4] = [
         (&[2, 3, 1, 0, 1], Ok((65537, true))),
         (&[2, 5, 0, 0xFF, 0xFF, 0xFF, 0xFF], Ok((0xFFFF_FFFF, true))),
@@ -47,7 +47,7 @@ fn numbers_of_32_bits(rt: HostRuntime) {
 }
 
 #[test]
-fn numbers_of_64_bits(rt: HostRuntime) {
+fn numbers_of_64_bits_are_read_and_larger_or_negative_ones_refused(rt: HostRuntime) {
     let most = [2, 9, 0, 0xFF, 0xFF, 0xFF, 0xFF, 0xFF, 0xFF, 0xFF, 0xFF];
     let more = [2, 9, 1, 0, 0, 0, 0, 0, 0, 0, 0];
     let rows: [(&[u8], Result<(u64, bool), Error>); 4] = [
@@ -65,7 +65,7 @@ fn numbers_of_64_bits(rt: HostRuntime) {
 }
 
 #[test]
-fn numbers_with_a_sign(rt: HostRuntime) {
+fn signed_numbers_of_64_bits_are_read_and_larger_ones_refused(rt: HostRuntime) {
     let rows: [(&[u8], Result<(i64, bool), Error>); 9] = [
         (&[2, 1, 0], Ok((0, true))),
         (&[2, 1, 0xFF], Ok((-1, true))),

@@ -3,7 +3,7 @@
 use der::example::MyByteMonth;
 use der::{
     Decode, DecodeBytes, Encode, Error, ErrorKind, Header, Length, Reader, ReaderExt, SliceReader,
-    Tag, TagNumber,
+    Tag,
 };
 use der_fixtures::errors::{incomplete, trailing, unexpected};
 use der_fixtures::readers::{Placed, der_reader, der_unlent};

@@ -165,7 +165,7 @@ fn tells_the_usage_of_other_words(rt: HostRuntime) -> Result<(), Fail> {
 }
 
 #[test]
-fn answers_a_sample(rt: HostRuntime) -> Result<(), Fail> {
+fn answers_each_row_of_the_samples(rt: HostRuntime) -> Result<(), Fail> {
     replay(&rt, &cases::CASES)?;
     replay(&rt, &tlv_cases::TLV_CASES)?;
     replay(&rt, &ber_cases::BER_CASES)?;

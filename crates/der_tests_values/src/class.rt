@@ -7,7 +7,7 @@ use der::{
 use std::test::Fail;
 
 #[test]
-fn bits_and_back(rt: HostRuntime) {
+fn class_bits_are_read_back_as_the_class(rt: HostRuntime) {
     for (class, bits) in [
         (Class::Universal, 0x00),
         (Class::Application, 0x40),
@@ -26,14 +26,14 @@ fn bits_and_back(rt: HostRuntime) {
 }
 
 #[test]
-fn ascending(rt: HostRuntime) {
+fn classes_ascend_from_universal_to_private(rt: HostRuntime) {
     holds(&rt, Class::Universal < Class::Application);
     holds(&rt, Class::Application < Class::ContextSpecific);
     holds(&rt, Class::ContextSpecific < Class::Private);
 }
 
 #[test]
-fn printed(rt: HostRuntime) -> Result<(), Fail> {
+fn classes_are_printed_as_their_names(rt: HostRuntime) -> Result<(), Fail> {
     let rows = [
         (Class::Universal, "UNIVERSAL"),
         (Class::Application, "APPLICATION"),
@@ -47,7 +47,7 @@ fn printed(rt: HostRuntime) -> Result<(), Fail> {
 }
 
 #[test]
-fn of_tags_with_low_numbers(rt: HostRuntime) {
+fn tags_with_low_numbers_tell_their_class_number_and_bit(rt: HostRuntime) {
     for number in 0..31u32 {
         for constructed in [false, true] {
             let number = TagNumber::new(number);

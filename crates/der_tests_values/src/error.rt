@@ -90,7 +90,7 @@ fn plain(rt: &impl Abort, alloc: Global, kind: ErrorKind, text: &str) -> Result<
 }
 
 #[test]
-fn plain_kinds_printed(rt: HostRuntime) -> Result<(), Fail> {
+fn plain_kinds_are_printed_with_and_without_a_position(rt: HostRuntime) -> Result<(), Fail> {
     for (kind, text) in PLAIN {
         plain(&rt, rt.alloc(), kind, text)?;
     }
@@ -102,7 +102,7 @@ fn cut() -> Error {
 }
 
 #[test]
-fn a_kind_with_lengths_printed(rt: HostRuntime) -> Result<(), Fail> {
+fn the_lengths_of_an_incomplete_kind_are_printed(rt: HostRuntime) -> Result<(), Fail> {
     let text = text_of_kind(rt.alloc(), cut().kind())?;
     let expected = "ASN.1 DER message is incomplete: expected 1, actual 0";
     same(&rt, text.as_str(), expected);
@@ -110,7 +110,7 @@ fn a_kind_with_lengths_printed(rt: HostRuntime) -> Result<(), Fail> {
 }
 
 #[test]
-fn errors_printed(rt: HostRuntime) -> Result<(), Fail> {
+fn errors_are_printed_with_their_lengths_tags_and_positions(rt: HostRuntime) -> Result<(), Fail> {
     let tag = Tag::OctetString;
     let trailing = ErrorKind::TrailingData {
         decoded: Length::new(3),
@@ -165,7 +165,7 @@ fn errors_printed(rt: HostRuntime) -> Result<(), Fail> {
 }
 
 #[test]
-fn kind_and_position(rt: HostRuntime) {
+fn an_error_tells_its_kind_and_position(rt: HostRuntime) {
     let error = Error::new(ErrorKind::Reader, Length::new(9));
     same(&rt, error.kind(), ErrorKind::Reader);
     same(&rt, error.position(), Some(Length::new(9)));
@@ -176,7 +176,7 @@ fn kind_and_position(rt: HostRuntime) {
 }
 
 #[test]
-fn a_cut_input(rt: HostRuntime) {
+fn an_incomplete_input_wants_one_octet_more_or_overflows(rt: HostRuntime) {
     let kind = ErrorKind::Incomplete {
         expected_len: Length::ONE,
         actual_len: Length::ZERO,
@@ -187,7 +187,7 @@ fn a_cut_input(rt: HostRuntime) {
 }
 
 #[test]
-fn from_errors_of_std(rt: HostRuntime) {
+fn errors_of_std_become_overflow_and_utf8(rt: HostRuntime) {
     holds(&rt, u8::try_from(256u32).is_err());
     if let Err(error) = u8::try_from(256u32) {
         same(&rt, Error::from(error), ErrorKind::Overflow.to_error());
@@ -199,7 +199,7 @@ fn from_errors_of_std(rt: HostRuntime) {
 }
 
 #[test]
-fn kinds_equal_where_all_is_equal(rt: HostRuntime) {
+fn kinds_are_equal_exactly_where_all_is_equal(rt: HostRuntime) {
     for i in 0..DISTINCT.len() {
         for j in 0..DISTINCT.len() {
             same_at(&rt, i, DISTINCT[i] == DISTINCT[j], i == j);
@@ -210,7 +210,7 @@ fn kinds_equal_where_all_is_equal(rt: HostRuntime) {
 }
 
 #[test]
-fn errors_equal_where_the_position_is_too(rt: HostRuntime) {
+fn errors_are_equal_exactly_where_kind_and_position_are(rt: HostRuntime) {
     let distinct = [
         ErrorKind::Failed.to_error(),
         ErrorKind::Failed.at(Length::ZERO),

@@ -10,7 +10,7 @@ fn overflow() -> Error {
 }
 
 #[test]
-fn made_from_numbers(rt: HostRuntime) {
+fn lengths_are_made_from_numbers_up_to_4294967295(rt: HostRuntime) {
     same(&rt, Length::default(), Length::ZERO);
     same(&rt, Length::from(0u8), Length::ZERO);
     same(&rt, Length::from(1u16), Length::ONE);
@@ -50,7 +50,7 @@ fn the_flag_is_kept_apart(rt: HostRuntime) {
 }
 
 #[test]
-fn ordered_by_number_then_flag(rt: HostRuntime) {
+fn lengths_are_ordered_by_number_then_flag(rt: HostRuntime) {
     let ascending = [Length::new(2), Length::new_indefinite(2), Length::new(3)];
     same(&rt, ascending[0].cmp(&ascending[1]), Ordering::Less);
     same(&rt, ascending[1].cmp(&ascending[2]), Ordering::Less);
@@ -63,7 +63,7 @@ fn ordered_by_number_then_flag(rt: HostRuntime) {
 }
 
 #[test]
-fn sums_and_differences(rt: HostRuntime) {
+fn sums_and_differences_are_exact_refused_or_saturated(rt: HostRuntime) {
     same(&rt, Length::MAX + Length::ONE, Err(overflow()));
     same(&rt, Length::new(3) - Length::new(5), Err(overflow()));
     same(&rt, Length::ONE + 4294967296usize, Err(overflow()));
@@ -120,7 +120,7 @@ fn a_given_error_is_handed_on(rt: HostRuntime) {
 
 /// X.690 8.1.3.4 and 8.1.3.5: one octet to 127, then one more for each further base-256 digit.
 #[test]
-fn whole_elements_by_length(rt: HostRuntime) {
+fn for_tlv_adds_the_octets_of_tag_and_length_or_overflows(rt: HostRuntime) {
     for (contents, whole) in [
         (0, 2),
         (127, 129),
@@ -155,7 +155,7 @@ fn whole_elements_by_length(rt: HostRuntime) {
 
 /// X.690 8.1.2.2 and 8.1.2.4: one octet to 30, then one more for each base-128 digit.
 #[test]
-fn whole_elements_by_tag_number(rt: HostRuntime) {
+fn for_tlv_adds_an_octet_for_each_digit_of_a_long_tag_number(rt: HostRuntime) {
     for (number, whole) in [
         (30, 2),
         (31, 3),
@@ -180,7 +180,7 @@ fn whole_elements_by_tag_number(rt: HostRuntime) {
 }
 
 #[test]
-fn printed(rt: HostRuntime) -> std::result::Result<(), Fail> {
+fn lengths_are_printed_as_their_number_or_flag(rt: HostRuntime) -> std::result::Result<(), Fail> {
     let indefinite = Length::new_indefinite(5);
     for (length, text) in [(indefinite, "5"), (Length::MAX, "4294967295")] {
         same(&rt, length.to_string(rt.alloc())?.as_str(), text);

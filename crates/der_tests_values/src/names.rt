@@ -5,7 +5,7 @@ use std::str::FromStr;
 use std::test::Fail;
 
 #[test]
-fn modes_read(rt: HostRuntime) {
+fn modes_are_read_in_capitals_or_small_letters_alone(rt: HostRuntime) {
     for text in ["EXPLICIT", "explicit"] {
         same(&rt, TagMode::from_str(text), Ok(TagMode::Explicit));
     }
@@ -19,7 +19,7 @@ fn modes_read(rt: HostRuntime) {
 }
 
 #[test]
-fn rules_read(rt: HostRuntime) {
+fn rules_are_read_in_capitals_or_small_letters_alone(rt: HostRuntime) {
     for text in ["ber", "BER"] {
         same(&rt, EncodingRules::from_str(text), Ok(EncodingRules::Ber));
     }
@@ -33,7 +33,7 @@ fn rules_read(rt: HostRuntime) {
 }
 
 #[test]
-fn which_rules(rt: HostRuntime) {
+fn rules_tell_themselves_and_der_and_explicit_are_defaults(rt: HostRuntime) {
     holds(
         &rt,
         EncodingRules::Ber.is_ber() && !EncodingRules::Ber.is_der(),
@@ -49,7 +49,7 @@ fn which_rules(rt: HostRuntime) {
 }
 
 #[test]
-fn printed(rt: HostRuntime) -> Result<(), Fail> {
+fn modes_and_rules_are_printed_in_capitals(rt: HostRuntime) -> Result<(), Fail> {
     for (mode, text) in [
         (TagMode::Explicit, "EXPLICIT"),
         (TagMode::Implicit, "IMPLICIT"),

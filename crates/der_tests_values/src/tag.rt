@@ -55,7 +55,7 @@ fn universal(
 }
 
 #[test]
-fn universal_tags(rt: HostRuntime) -> Result<(), Fail> {
+fn universal_tags_tell_their_class_number_bit_and_name(rt: HostRuntime) -> Result<(), Fail> {
     for (tag, number, name) in TO_SEQUENCE {
         universal(&rt, rt.alloc(), tag, number, name)?;
     }
@@ -66,7 +66,7 @@ fn universal_tags(rt: HostRuntime) -> Result<(), Fail> {
 }
 
 #[test]
-fn printed(rt: HostRuntime) -> Result<(), Fail> {
+fn tags_of_other_classes_are_printed_with_number_and_bit(rt: HostRuntime) -> Result<(), Fail> {
     let number = TagNumber::from(4294967295);
     same(&rt, number.to_string(rt.alloc())?.as_str(), "4294967295");
     let rows = [
@@ -87,7 +87,7 @@ fn printed(rt: HostRuntime) -> Result<(), Fail> {
 }
 
 #[test]
-fn printed_to_debug(rt: HostRuntime) -> Result<(), Fail> {
+fn debug_prints_a_tag_with_its_number_in_hexadecimal(rt: HostRuntime) -> Result<(), Fail> {
     let rows = [
         (
             TagNumber::from(4294967295).private(false),
@@ -103,7 +103,7 @@ fn printed_to_debug(rt: HostRuntime) -> Result<(), Fail> {
 }
 
 #[test]
-fn ordered_by_variant_then_bit_then_number(rt: HostRuntime) {
+fn tags_are_ordered_by_variant_then_bit_then_number(rt: HostRuntime) {
     let ascending = [
         Tag::Boolean,
         Tag::RelativeOid,
@@ -123,7 +123,7 @@ fn ordered_by_variant_then_bit_then_number(rt: HostRuntime) {
 }
 
 #[test]
-fn expected_tags(rt: HostRuntime) {
+fn assert_eq_refuses_every_tag_but_the_expected_one(rt: HostRuntime) {
     same(&rt, Tag::Null.assert_eq(Tag::Null), Ok(Tag::Null));
     let unexpected = ErrorKind::TagUnexpected {
         expected: Some(Tag::OctetString),
@@ -147,7 +147,7 @@ fn expected_tags(rt: HostRuntime) {
 }
 
 #[test]
-fn errors_of_a_tag(rt: HostRuntime) {
+fn errors_of_a_tag_name_the_tag(rt: HostRuntime) {
     let tag = Tag::Set;
     same(&rt, tag.length_error(), ErrorKind::Length { tag });
     same(
@@ -159,7 +159,7 @@ fn errors_of_a_tag(rt: HostRuntime) {
 }
 
 #[test]
-fn numbers(rt: HostRuntime) {
+fn tag_numbers_convert_and_compare_as_numbers(rt: HostRuntime) {
     same(&rt, u32::from(TagNumber::from(31)), 31);
     holds(&rt, TagNumber::new(30) < TagNumber::new(31));
 }
@@ -192,7 +192,7 @@ const DISTINCT: [Tag; 8] = [
 ];
 
 #[test]
-fn equal_and_hashed_equally_where_all_is_equal(rt: HostRuntime) {
+fn tags_are_equal_and_hashed_equally_exactly_where_all_is_equal(rt: HostRuntime) {
     for i in 0..DISTINCT.len() {
         for j in 0..DISTINCT.len() {
             same_at(&rt, i, DISTINCT[i] == DISTINCT[j], i == j);
@@ -204,7 +204,7 @@ fn equal_and_hashed_equally_where_all_is_equal(rt: HostRuntime) {
 
 /// A derived hash feeds the place of the variant in 8 octets, the lowest first, and then the fields.
 #[test]
-fn octets_that_a_hasher_gets(rt: HostRuntime) {
+fn a_hasher_gets_the_variant_and_then_the_fields(rt: HostRuntime) {
     same(&rt, recorded(&TagNumber(0x01020304)), 0x01_04030201);
     same(&rt, recorded(&Tag::Boolean), 0x01_0000000000000000);
     same(&rt, recorded(&Tag::Integer), 0x01_0100000000000000);

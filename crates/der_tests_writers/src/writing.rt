@@ -4,7 +4,6 @@ use der::{Error, ErrorKind, Header, Length, Tag, TagNumber};
 use std::alloc::Global;
 use std::test::Fail;
 
-mod constants;
 mod counter;
 mod encoding;
 mod memory;

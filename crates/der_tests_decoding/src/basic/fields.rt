@@ -11,7 +11,7 @@ fn identifier_of(alloc: Global, octets: &[u8]) -> Result<AlgorithmIdentifier<'_>
 
 // Four spellings of one value, of which the Distinguished Encoding Rules have the first alone.
 #[test]
-fn spellings_of_an_identifier(rt: HostRuntime) -> Result<(), Fail> {
+fn each_spelling_of_an_identifier_is_read_and_written_as_der(rt: HostRuntime) -> Result<(), Fail> {
     let der: &[u8] = &[0x30, 0x06, 0x04, 0x01, 0x2A, 0x04, 0x01, 0x09];
     let spellings: [&[u8]; 4] = [
         der,
@@ -30,7 +30,7 @@ fn spellings_of_an_identifier(rt: HostRuntime) -> Result<(), Fail> {
 }
 
 #[test]
-fn an_identifier_among_others(rt: HostRuntime) -> Result<(), Fail> {
+fn an_identifier_is_decoded_among_other_elements(rt: HostRuntime) -> Result<(), Fail> {
     let octets = [
         0x30, 0x80, 0x04, 0x00, 0x04, 0x01, 0x0B, 0x00, 0x00, 0x04, 0x01, 0x02,
     ];
@@ -46,7 +46,7 @@ fn an_identifier_among_others(rt: HostRuntime) -> Result<(), Fail> {
 
 // The segments of a string are lent as they stand, without the end mark behind them.
 #[test]
-fn segments_that_are_lent(rt: HostRuntime) -> Result<(), Fail> {
+fn segments_are_lent_as_they_stand_without_the_end_mark(rt: HostRuntime) -> Result<(), Fail> {
     let rows: [(&[u8], &[u8]); 2] = [
         (
             &[0x24, 0x80, 0x04, 0x02, 0xAA, 0xBB, 0x04, 0x00, 0x00, 0x00],
@@ -62,7 +62,7 @@ fn segments_that_are_lent(rt: HostRuntime) -> Result<(), Fail> {
 }
 
 #[test]
-fn fields_that_are_refused(rt: HostRuntime) {
+fn missing_fields_spare_octets_and_other_tags_are_refused(rt: HostRuntime) {
     let rows: [(&[u8], Error); 5] = [
         (
             // a field is missing
@@ -101,7 +101,7 @@ fn fields_that_are_refused(rt: HostRuntime) {
 }
 
 #[test]
-fn spellings_under_der(rt: HostRuntime) {
+fn der_refuses_the_spellings_of_ber(rt: HostRuntime) {
     let rows: [(&[u8], Error); 2] = [
         (
             &[0x30, 0x80, 0x04, 0x01, 0x2A, 0x04, 0x01, 0x09, 0x00, 0x00],
@@ -119,7 +119,7 @@ fn spellings_under_der(rt: HostRuntime) {
 }
 
 #[test]
-fn a_field_without_lending(rt: HostRuntime) -> Result<(), Fail> {
+fn without_lending_octets_are_refused_and_a_month_is_read(rt: HostRuntime) -> Result<(), Fail> {
     let mut reader = ber_unlent(&[0x24, 0x80, 0x04, 0x00, 0x00, 0x00])?;
     let refused = Lent::decode(rt.alloc(), &mut reader).err();
     same(&rt, refused, Some(ErrorKind::Reader.at(Length::new(2))));

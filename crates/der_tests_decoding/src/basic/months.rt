@@ -9,7 +9,7 @@ fn month(alloc: Global, octets: &[u8]) -> Result<u8, Error> {
 }
 
 #[test]
-fn months_of_a_definite_length(rt: HostRuntime) -> Result<(), Fail> {
+fn a_month_is_read_from_primitive_and_constructed_strings(rt: HostRuntime) -> Result<(), Fail> {
     same(&rt, month(rt.alloc(), &[0x04, 0x01, 0x09]), Ok(9));
     same(&rt, month(rt.alloc(), &[0x24, 0x01, 0x09]), Ok(9));
     let mut reader = ber_reader(&[0x24, 0x01, 0x0B, 0x05, 0x00])?;
@@ -20,7 +20,7 @@ fn months_of_a_definite_length(rt: HostRuntime) -> Result<(), Fail> {
 
 // The contents of a body are not joined: its first octet is read, and the rest is left.
 #[test]
-fn months_of_an_indefinite_length(rt: HostRuntime) {
+fn no_month_is_read_from_an_indefinite_length(rt: HostRuntime) {
     let rows: [(&[u8], Error); 6] = [
         (&[0x24, 0x80, 0x04, 0x01, 0x09, 0x00, 0x00], trailing(3, 2)),
         (&[0x24, 0x80, 0x09, 0x00, 0x00, 0x00], trailing(3, 1)),
@@ -42,7 +42,7 @@ fn no_month() -> Error {
 }
 
 #[test]
-fn months_whose_header_is_refused(rt: HostRuntime) {
+fn a_month_is_refused_by_the_error_of_its_header(rt: HostRuntime) {
     let rows: [(&[u8], Error); 9] = [
         (&[0x24], incomplete(2, 1, 1)),
         (&[0x24, 0x80], incomplete(3, 2, 2)),
@@ -60,7 +60,7 @@ fn months_whose_header_is_refused(rt: HostRuntime) {
 }
 
 #[test]
-fn other_tags(rt: HostRuntime) {
+fn a_month_with_another_tag_is_refused(rt: HostRuntime) {
     let rows: [(&[u8], Tag); 4] = [
         (&[0x30, 0x01, 0x09], Tag::Sequence),
         (&[0x30, 0x80, 0x00, 0x00], Tag::Sequence),
@@ -91,7 +91,7 @@ fn another_tag_leaves_the_reader_behind_its_header(rt: HostRuntime) -> Result<()
 }
 
 #[test]
-fn contents_that_are_not_all_of_the_octets(rt: HostRuntime) {
+fn a_month_with_missing_spare_or_wrong_octets_is_refused(rt: HostRuntime) {
     let rows: [(&[u8], Error); 7] = [
         (&[0x24, 0x00], incomplete(3, 2, 2)),
         (&[0x24, 0x01], incomplete(3, 2, 2)),
@@ -107,7 +107,7 @@ fn contents_that_are_not_all_of_the_octets(rt: HostRuntime) {
 }
 
 #[test]
-fn months_of_other_kinds(rt: HostRuntime) -> Result<(), Fail> {
+fn boxed_months_and_pairs_of_months_are_read_under_ber(rt: HostRuntime) -> Result<(), Fail> {
     let boxed = Box::<MyByteMonth>::from_ber(rt.alloc(), &[0x24, 0x01, 0x09])?;
     same(&rt, boxed.month(), 9);
     let octets = [0x24, 0x01, 0x09, 0x04, 0x01, 0x02];
@@ -119,7 +119,7 @@ fn months_of_other_kinds(rt: HostRuntime) -> Result<(), Fail> {
 
 // What is not there under the Distinguished Encoding Rules.
 #[test]
-fn months_under_der(rt: HostRuntime) {
+fn constructed_months_are_refused_under_der(rt: HostRuntime) {
     let rows: [&[u8]; 2] = [&[0x24, 0x01, 0x09], &[0x24, 0x80, 0x00, 0x00]];
     for octets in rows {
         let refused = MyByteMonth::from_der(rt.alloc(), octets).err();

@@ -6,6 +6,7 @@ use crate::checks::same_at;
 use der::EncodingRules;
 use der::example::{BorrowedOctets, JoinedOctets, OwnedText};
 use der_fixtures::bodies::{around_contents, around_null, first_octets};
+use der_fixtures::encodings::{LENGTHS, tags};
 use std::process::Abort;
 
 // How many octets are passed, or nothing where they are refused.
@@ -51,15 +52,33 @@ fn wants_all(
 }
 
 #[test]
-fn what_the_worked_cases_decode(rt: HostRuntime) {
+fn each_beginning_of_what_the_worked_cases_decode_is_refused(rt: HostRuntime) {
     for row in ROWS {
         wants_all(&rt, rt.alloc(), row);
     }
 }
 
+// Under the Distinguished Encoding Rules all of these octets are passed.
+fn wants_whole(rt: &impl Abort, alloc: Global, kind: Kind, octets: &[u8]) -> Result<(), Error> {
+    let count = u32::from(Length::new_usize(octets.len())?);
+    wants_all(rt, alloc, (kind, EncodingRules::Der, octets, count));
+    Ok(())
+}
+
+#[test]
+fn each_beginning_of_a_tag_and_of_a_length_is_refused(rt: HostRuntime) -> Result<(), Fail> {
+    for (_, octets) in tags() {
+        wants_whole(&rt, rt.alloc(), Kind::Tag, octets)?;
+    }
+    for (_, octets) in LENGTHS {
+        wants_whole(&rt, rt.alloc(), Kind::Length, octets)?;
+    }
+    Ok(())
+}
+
 // Likewise, of octets that are made.
 #[test]
-fn long_bodies(rt: HostRuntime) -> Result<(), Fail> {
+fn each_beginning_of_a_long_body_is_refused(rt: HostRuntime) -> Result<(), Fail> {
     let alloc = rt.alloc();
     let ber = EncodingRules::Ber;
     let steps = around_contents(alloc, 126)?;

@@ -15,7 +15,7 @@ fn refusal(alloc: Global, octets: &[u8]) -> Option<Error> {
 }
 
 #[test]
-fn a_boxed_month_both_ways(rt: HostRuntime) -> Result<(), Fail> {
+fn a_boxed_month_is_read_and_written(rt: HostRuntime) -> Result<(), Fail> {
     let octets = [0x04, 0x01, 0x09];
     let boxed = boxed_month(rt.alloc(), &octets)?;
     same(&rt, month_number(&boxed), 9);
@@ -27,7 +27,7 @@ fn a_boxed_month_both_ways(rt: HostRuntime) -> Result<(), Fail> {
 }
 
 #[test]
-fn a_boxed_month_at_the_front(rt: HostRuntime) -> Result<(), Fail> {
+fn a_boxed_month_at_the_front_is_read(rt: HostRuntime) -> Result<(), Fail> {
     let octets = [0x04, 0x01, 0x09, 0x05, 0x00];
     let mut reader = der_reader(&octets)?;
     let boxed = Box::<MyByteMonth>::decode(rt.alloc(), &mut reader)?;
@@ -37,7 +37,7 @@ fn a_boxed_month_at_the_front(rt: HostRuntime) -> Result<(), Fail> {
 }
 
 #[test]
-fn boxed_months_that_are_refused(rt: HostRuntime) {
+fn a_boxed_month_is_refused_as_a_month_is(rt: HostRuntime) {
     let alloc = rt.alloc();
     let no_month = ErrorKind::DateTime.at(Length::new(3));
     same(&rt, refusal(alloc, &[0x04, 0x01, 0x0C]), Some(no_month));
@@ -51,7 +51,7 @@ fn boxed_months_that_are_refused(rt: HostRuntime) {
 }
 
 #[test]
-fn boxed_contents_both_ways(rt: HostRuntime) -> Result<(), Fail> {
+fn boxed_contents_are_read_and_written(rt: HostRuntime) -> Result<(), Fail> {
     let octets = [0x04, 0x02, 0x2A, 0x2B];
     let boxed: Box<Lent> = value_of(rt.alloc(), &octets)?;
     same_octets(&rt, boxed.octets, &[0x2A, 0x2B]);

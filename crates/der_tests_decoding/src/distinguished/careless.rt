@@ -52,7 +52,7 @@ impl<R: Reader> DecodeValue<R> for Hasty {
 }
 
 #[test]
-fn a_refusal_that_is_ignored(rt: HostRuntime) -> Result<(), Fail> {
+fn a_refusal_that_a_type_ignores_is_told_as_failed(rt: HostRuntime) -> Result<(), Fail> {
     let octets = [0x04, 0x01, 0x09];
     let failed = ErrorKind::Failed.at(Length::new(3));
     same(
@@ -73,7 +73,7 @@ fn a_refusal_that_is_ignored(rt: HostRuntime) -> Result<(), Fail> {
 }
 
 #[test]
-fn what_stands_behind_an_ignored_refusal(rt: HostRuntime) {
+fn what_stands_behind_an_ignored_refusal_is_refused(rt: HostRuntime) {
     let octets = [0x04, 0x01, 0x09, 0x04, 0x01, 0x02];
     let failed = ErrorKind::Failed.at(Length::new(3));
     let refused = <(Hasty, MyByteMonth)>::from_der(rt.alloc(), &octets).err();
@@ -120,7 +120,7 @@ impl<R: Reader> DecodeValue<R> for Unread {
 }
 
 #[test]
-fn contents_that_are_left(rt: HostRuntime) {
+fn contents_that_a_type_leaves_are_refused(rt: HostRuntime) {
     let alloc = rt.alloc();
     let refused = Unread::from_der(alloc, &[0x04, 0x01, 0x09]).err();
     same(&rt, refused, Some(trailing(2, 1)));

@@ -5,7 +5,6 @@ use der::{FixedTag, IsConstructed};
 use der_uses::algorithm_identifier::AlgorithmIdentifier;
 use der_uses::key_info::KeyInfo;
 use der_uses::lent::Lent;
-use der_uses::reader::CopyingReader;
 use std::process::Abort;
 
 fn tags_agree<T: FixedTag>(rt: &impl Abort, tag: Tag, constructed: bool) {
@@ -16,16 +15,10 @@ fn tags_agree<T: FixedTag>(rt: &impl Abort, tag: Tag, constructed: bool) {
 }
 
 #[test]
-fn tags(rt: HostRuntime) {
+fn constants_and_functions_tell_the_same_tags(rt: HostRuntime) {
     tags_agree::<MyByteMonth>(&rt, Tag::OctetString, false);
     tags_agree::<Box<MyByteMonth>>(&rt, Tag::OctetString, false);
     tags_agree::<Lent>(&rt, Tag::OctetString, false);
     tags_agree::<AlgorithmIdentifier>(&rt, Tag::Sequence, true);
     tags_agree::<KeyInfo>(&rt, Tag::Sequence, true);
-}
-
-#[test]
-fn lending(rt: HostRuntime) {
-    same(&rt, CopyingReader::CAN_READ_SLICE, false);
-    same(&rt, CopyingReader::can_lend(), false);
 }

@@ -10,7 +10,7 @@ fn is_finished(reader: &CopyingReader<'_>) -> bool {
 }
 
 #[test]
-fn a_month_without_lending(rt: HostRuntime) -> Result<(), Fail> {
+fn a_reader_that_cannot_lend_decodes_a_month(rt: HostRuntime) -> Result<(), Fail> {
     let octets = [0x04, 0x01, 0x09, 0x05, 0x00];
     let mut reader = der_unlent(&octets)?;
     let month = MyByteMonth::decode(rt.alloc(), &mut reader)?;
@@ -20,7 +20,7 @@ fn a_month_without_lending(rt: HostRuntime) -> Result<(), Fail> {
 }
 
 #[test]
-fn a_boxed_month_without_lending(rt: HostRuntime) -> Result<(), Fail> {
+fn a_reader_that_cannot_lend_decodes_a_boxed_month(rt: HostRuntime) -> Result<(), Fail> {
     let octets = [0x04, 0x01, 0x09];
     let mut reader = der_unlent(&octets)?;
     let boxed = Box::<MyByteMonth>::decode(rt.alloc(), &mut reader)?;
@@ -30,7 +30,7 @@ fn a_boxed_month_without_lending(rt: HostRuntime) -> Result<(), Fail> {
 }
 
 #[test]
-fn months_refused_without_lending(rt: HostRuntime) -> Result<(), Fail> {
+fn a_refused_month_fails_a_reader_that_cannot_lend(rt: HostRuntime) -> Result<(), Fail> {
     let octets = [0x04, 0x01, 0x0C];
     let mut reader = der_unlent(&octets)?;
     let month: Result<MyByteMonth, Error> = next_of(rt.alloc(), &mut reader);
@@ -43,7 +43,7 @@ fn months_refused_without_lending(rt: HostRuntime) -> Result<(), Fail> {
 }
 
 #[test]
-fn contents_that_want_lending(rt: HostRuntime) -> Result<(), Fail> {
+fn contents_that_want_lending_are_refused_behind_their_header(rt: HostRuntime) -> Result<(), Fail> {
     let octets = [0x04, 0x01, 0x2A];
     let mut reader = der_unlent(&octets)?;
     let refused = refusal_by::<CopyingReader, Lent>(rt.alloc(), &mut reader);
@@ -53,7 +53,7 @@ fn contents_that_want_lending(rt: HostRuntime) -> Result<(), Fail> {
 }
 
 #[test]
-fn a_field_that_wants_lending(rt: HostRuntime) -> Result<(), Fail> {
+fn a_field_that_wants_lending_is_refused_behind_its_header(rt: HostRuntime) -> Result<(), Fail> {
     let octets = [0x30, 0x06, 0x04, 0x01, 0x2A, 0x04, 0x01, 0x09];
     let mut reader = der_unlent(&octets)?;
     let refused = refusal_by::<CopyingReader, AlgorithmIdentifier>(rt.alloc(), &mut reader);
@@ -63,7 +63,7 @@ fn a_field_that_wants_lending(rt: HostRuntime) -> Result<(), Fail> {
 }
 
 #[test]
-fn pairs_without_lending(rt: HostRuntime) -> Result<(), Fail> {
+fn a_reader_that_cannot_lend_decodes_a_pair(rt: HostRuntime) -> Result<(), Fail> {
     let octets = [0x04, 0x01, 0x09, 0x04, 0x01, 0x02];
     let mut reader = der_unlent(&octets)?;
     same(&rt, decoded_months(rt.alloc(), &mut reader), Ok((9, 2)));

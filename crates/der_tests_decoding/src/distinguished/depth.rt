@@ -12,7 +12,7 @@ fn reader_inside(octets: &[u8; 3], parts: u8) -> Result<SliceReader<'_>, Error> 
 }
 
 #[test]
-fn a_month_inside_63_parts(rt: HostRuntime) -> Result<(), Fail> {
+fn a_month_inside_63_parts_is_read(rt: HostRuntime) -> Result<(), Fail> {
     let octets = [0x04, 0x01, 0x09];
     let mut reader = reader_inside(&octets, 63)?;
     same(&rt, decoded_month(rt.alloc(), &mut reader), Ok(9));
@@ -21,7 +21,7 @@ fn a_month_inside_63_parts(rt: HostRuntime) -> Result<(), Fail> {
 }
 
 #[test]
-fn a_month_inside_64_parts(rt: HostRuntime) -> Result<(), Fail> {
+fn a_month_inside_64_parts_is_refused_as_too_deep(rt: HostRuntime) -> Result<(), Fail> {
     let octets = [0x04, 0x01, 0x09];
     let mut reader = reader_inside(&octets, 64)?;
     let too_deep = ErrorKind::NestingDepth.at(Length::new(2));
@@ -32,7 +32,7 @@ fn a_month_inside_64_parts(rt: HostRuntime) -> Result<(), Fail> {
 }
 
 #[test]
-fn a_tag_inside_64_parts(rt: HostRuntime) -> Result<(), Fail> {
+fn a_tag_inside_64_parts_is_read(rt: HostRuntime) -> Result<(), Fail> {
     let octets = [0x04, 0x01, 0x09];
     let mut reader = reader_inside(&octets, 64)?;
     same(

@@ -73,7 +73,7 @@ impl<R: Reader> DecodeValue<R> for Octet {
 }
 
 #[test]
-fn errors_that_are_converted(rt: HostRuntime) {
+fn errors_of_decoding_are_converted_to_those_of_the_type(rt: HostRuntime) {
     let number = Ok(Octet { number: 0xFF });
     same(
         &rt,
@@ -93,7 +93,7 @@ fn errors_that_are_converted(rt: HostRuntime) {
 }
 
 #[test]
-fn a_reader_that_has_failed(rt: HostRuntime) -> Result<(), Fail> {
+fn a_failed_reader_refuses_by_an_error_of_the_type(rt: HostRuntime) -> Result<(), Fail> {
     let octets = [0x05, 0x00];
     let mut reader = der_reader(&octets)?;
     let octet: Result<Octet, OctetError> = reader.decode(rt.alloc());
@@ -105,7 +105,7 @@ fn a_reader_that_has_failed(rt: HostRuntime) -> Result<(), Fail> {
 }
 
 #[test]
-fn pairs_and_boxes_with_an_error_of_their_own(rt: HostRuntime) {
+fn pairs_and_boxes_refuse_by_an_error_of_their_type(rt: HostRuntime) {
     let alloc = rt.alloc();
     let refused = Box::<Octet>::from_der(alloc, &[0x04, 0x00]).err();
     let error = incomplete(3, 2, 2);
@@ -119,7 +119,7 @@ fn pairs_and_boxes_with_an_error_of_their_own(rt: HostRuntime) {
 }
 
 #[test]
-fn memory_that_was_refused(rt: HostRuntime) {
+fn an_error_of_a_type_tells_want_of_memory_from_overflow(rt: HostRuntime) {
     let error = ErrorKind::OutOfMemory.to_error();
     holds(&rt, OctetError { error }.is_out_of_memory());
     let error = ErrorKind::Overflow.to_error();

@@ -39,7 +39,7 @@ fn both_ways(rt: &impl Abort, alloc: Global, header: &[u8], contents: &[u8]) -> 
 }
 
 #[test]
-fn contents_of_each_form_both_ways(rt: HostRuntime) -> Result<(), Fail> {
+fn contents_behind_each_form_of_length_are_read_and_written(rt: HostRuntime) -> Result<(), Fail> {
     let rows: [(usize, &[u8]); 8] = [
         (0, &[0x04, 0x00]),
         (1, &[0x04, 0x01]),

@@ -9,7 +9,7 @@ fn header_of(alloc: Global, bytes: &[u8]) -> Result<Header, Error> {
 }
 
 #[test]
-fn headers_both_ways(rt: HostRuntime) -> Result<(), Fail> {
+fn a_header_is_read_and_written(rt: HostRuntime) -> Result<(), Fail> {
     let octets = [0x30, 0x82, 0x01, 0x00];
     let header = header_of(rt.alloc(), &octets)?;
     same(&rt, header, Header::new(Tag::Sequence, Length::new(256)));
@@ -20,7 +20,7 @@ fn headers_both_ways(rt: HostRuntime) -> Result<(), Fail> {
 }
 
 #[test]
-fn headers_that_are_refused(rt: HostRuntime) {
+fn octets_that_are_not_wholly_a_header_are_refused(rt: HostRuntime) {
     let rows: [(&[u8], Error); 6] = [
         (&[], incomplete(1, 0, 0)),
         (&[0x30], incomplete(2, 1, 1)),

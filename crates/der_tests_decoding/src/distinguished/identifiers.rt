@@ -20,7 +20,7 @@ fn refusal(alloc: Global, bytes: &[u8]) -> Option<Error> {
 }
 
 #[test]
-fn an_identifier_both_ways(rt: HostRuntime) -> Result<(), Fail> {
+fn an_identifier_is_read_and_written(rt: HostRuntime) -> Result<(), Fail> {
     let octets = [0x30, 0x06, 0x04, 0x01, 0x2A, 0x04, 0x01, 0x09];
     let identifier = identifier_of(rt.alloc(), &octets)?;
     same_octets(&rt, identifier.algorithm.octets, &[0x2A]);
@@ -32,7 +32,7 @@ fn an_identifier_both_ways(rt: HostRuntime) -> Result<(), Fail> {
 }
 
 #[test]
-fn an_identifier_at_the_front(rt: HostRuntime) -> Result<(), Fail> {
+fn an_identifier_at_the_front_is_read_and_the_rest_is_told(rt: HostRuntime) -> Result<(), Fail> {
     let octets = [0x30, 0x05, 0x04, 0x00, 0x04, 0x01, 0x0B, 0x05, 0x00];
     let (algorithm, month, rest) = fields_at_front(rt.alloc(), &octets)?;
     same_octets(&rt, algorithm, &[]);
@@ -42,7 +42,7 @@ fn an_identifier_at_the_front(rt: HostRuntime) -> Result<(), Fail> {
 }
 
 #[test]
-fn fields_that_are_missing(rt: HostRuntime) {
+fn an_identifier_without_a_field_is_refused(rt: HostRuntime) {
     let alloc = rt.alloc();
     same(
         &rt,
@@ -64,7 +64,7 @@ fn fields_that_are_missing(rt: HostRuntime) {
 }
 
 #[test]
-fn other_tags(rt: HostRuntime) {
+fn an_identifier_with_another_tag_is_refused(rt: HostRuntime) {
     let alloc = rt.alloc();
     same(
         &rt,
@@ -84,7 +84,7 @@ fn other_tags(rt: HostRuntime) {
 }
 
 #[test]
-fn octets_that_are_left(rt: HostRuntime) {
+fn octets_left_in_or_behind_an_identifier_are_refused(rt: HostRuntime) {
     let alloc = rt.alloc();
     let inside = [0x30, 0x08, 0x04, 0x01, 0x2A, 0x04, 0x01, 0x09, 0x05, 0x00];
     same(&rt, refusal(alloc, &inside), Some(trailing(8, 2)));
@@ -95,7 +95,7 @@ fn octets_that_are_left(rt: HostRuntime) {
 }
 
 #[test]
-fn fields_past_the_end(rt: HostRuntime) {
+fn a_field_past_the_end_of_an_identifier_is_refused(rt: HostRuntime) {
     let alloc = rt.alloc();
     let algorithm = [0x30, 0x06, 0x04, 0x05, 0x2A, 0x04, 0x01, 0x09];
     same(&rt, refusal(alloc, &algorithm), Some(incomplete(9, 8, 8)));
@@ -107,7 +107,7 @@ fn fields_past_the_end(rt: HostRuntime) {
 }
 
 #[test]
-fn a_number_of_no_month(rt: HostRuntime) {
+fn a_number_of_no_month_is_refused_in_an_identifier(rt: HostRuntime) {
     let octets = [0x30, 0x06, 0x04, 0x01, 0x2A, 0x04, 0x01, 0x0C];
     let no_month = ErrorKind::DateTime.at(Length::new(8));
     same(&rt, refusal(rt.alloc(), &octets), Some(no_month));

@@ -24,7 +24,7 @@ fn refusal(alloc: Global, bytes: &[u8]) -> Option<Error> {
 }
 
 #[test]
-fn a_key_both_ways(rt: HostRuntime) -> Result<(), Fail> {
+fn a_key_is_read_and_written(rt: HostRuntime) -> Result<(), Fail> {
     let octets = [
         0x30, 0x0B, 0x30, 0x06, 0x04, 0x01, 0x2A, 0x04, 0x01, 0x09, 0x04, 0x01, 0xFF,
     ];
@@ -41,7 +41,7 @@ fn a_key_both_ways(rt: HostRuntime) -> Result<(), Fail> {
 }
 
 #[test]
-fn a_key_that_a_reader_decodes(rt: HostRuntime) -> Result<(), Fail> {
+fn a_reader_decodes_a_key_and_leaves_the_rest(rt: HostRuntime) -> Result<(), Fail> {
     let octets = [
         0x30, 0x0B, 0x30, 0x06, 0x04, 0x01, 0x2A, 0x04, 0x01, 0x09, 0x04, 0x01, 0xFF, 0x05,
     ];
@@ -52,7 +52,7 @@ fn a_key_that_a_reader_decodes(rt: HostRuntime) -> Result<(), Fail> {
 }
 
 #[test]
-fn parts_that_are_missing(rt: HostRuntime) {
+fn a_key_without_a_part_is_refused(rt: HostRuntime) {
     let rows: [(&[u8], Error); 4] = [
         (&[0x30, 0x00], incomplete(3, 2, 2)),
         (
@@ -77,7 +77,7 @@ fn parts_that_are_missing(rt: HostRuntime) {
 }
 
 #[test]
-fn other_tags(rt: HostRuntime) {
+fn a_key_with_another_tag_is_refused(rt: HostRuntime) {
     let alloc = rt.alloc();
     let identifier = [
         0x30, 0x0B, 0x31, 0x06, 0x04, 0x01, 0x2A, 0x04, 0x01, 0x09, 0x04, 0x01, 0xFF,
@@ -92,7 +92,7 @@ fn other_tags(rt: HostRuntime) {
 }
 
 #[test]
-fn octets_that_are_left_or_lacking(rt: HostRuntime) {
+fn a_key_with_octets_left_or_missing_is_refused(rt: HostRuntime) {
     let rows: [(&[u8], Error); 5] = [
         (
             // in the inner sequence

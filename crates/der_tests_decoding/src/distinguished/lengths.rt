@@ -1,6 +1,7 @@
 //! Lengths that are all the octets.
 use super::*;
 use crate::checks::{same, same_at};
+use der_fixtures::encodings::LENGTHS;
 use der_fixtures::errors::indefinite;
 
 // The length that all the octets are.
@@ -9,18 +10,8 @@ fn length_of(alloc: Global, bytes: &[u8]) -> Result<Length, Error> {
 }
 
 #[test]
-fn lengths_both_ways(rt: HostRuntime) -> Result<(), Fail> {
-    let rows: [(u32, &[u8]); 8] = [
-        (0, &[0x00]),
-        (127, &[0x7F]),
-        (128, &[0x81, 0x80]),
-        (255, &[0x81, 0xFF]),
-        (256, &[0x82, 0x01, 0x00]),
-        (43707, &[0x82, 0xAA, 0xBB]),
-        (65536, &[0x83, 0x01, 0x00, 0x00]),
-        (4294967295, &[0x84, 0xFF, 0xFF, 0xFF, 0xFF]),
-    ];
-    for (number, octets) in rows {
+fn lengths_are_read_and_written(rt: HostRuntime) -> Result<(), Fail> {
+    for (number, octets) in LENGTHS {
         let length = length_of(rt.alloc(), octets)?;
         same_at(&rt, number, length, Length::new(number));
         let der = der_of(rt.alloc(), &length)?;
@@ -30,7 +21,7 @@ fn lengths_both_ways(rt: HostRuntime) -> Result<(), Fail> {
 }
 
 #[test]
-fn lengths_that_are_refused(rt: HostRuntime) {
+fn octets_that_are_not_wholly_a_length_are_refused(rt: HostRuntime) {
     let rows: [(&[u8], Error); 5] = [
         (&[0x81, 0x7F], ErrorKind::Overlength.at(Length::new(2))),
         (&[0x80, 0x00, 0x00], indefinite(1)),

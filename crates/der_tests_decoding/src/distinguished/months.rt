@@ -14,7 +14,7 @@ fn month(alloc: Global, bytes: &[u8]) -> Result<u8, Error> {
 }
 
 #[test]
-fn a_month_at_the_front(rt: HostRuntime) -> Result<(), Fail> {
+fn a_month_at_the_front_is_read_and_the_rest_is_told(rt: HostRuntime) -> Result<(), Fail> {
     let octets = [0x04, 0x01, 0x09, 0x05, 0x00];
     let (month, rest): (MyByteMonth, &[u8]) = front_of(rt.alloc(), &octets)?;
     same(&rt, month_number(&month), 9);
@@ -23,7 +23,7 @@ fn a_month_at_the_front(rt: HostRuntime) -> Result<(), Fail> {
 }
 
 #[test]
-fn months_that_are_cut(rt: HostRuntime) {
+fn cut_months_are_refused(rt: HostRuntime) {
     let alloc = rt.alloc();
     same(&rt, month(alloc, &[]), Err(incomplete(1, 0, 0)));
     same(&rt, month(alloc, &[0x04]), Err(incomplete(2, 1, 1)));
@@ -32,7 +32,7 @@ fn months_that_are_cut(rt: HostRuntime) {
 }
 
 #[test]
-fn months_that_are_too_long(rt: HostRuntime) {
+fn octets_left_in_or_behind_a_month_are_refused(rt: HostRuntime) {
     let alloc = rt.alloc();
     same(
         &rt,
@@ -48,7 +48,7 @@ fn months_that_are_too_long(rt: HostRuntime) {
 
 // No length counts the octets up to the end of the contents, or one does and they are not there.
 #[test]
-fn months_of_the_longest_lengths(rt: HostRuntime) {
+fn months_of_the_longest_lengths_are_refused(rt: HostRuntime) {
     let alloc = rt.alloc();
     let longest = [0x04, 0x84, 0xFF, 0xFF, 0xFF, 0xFF];
     let overflow = ErrorKind::Overflow.to_error();
@@ -58,7 +58,7 @@ fn months_of_the_longest_lengths(rt: HostRuntime) {
 }
 
 #[test]
-fn months_that_are_refused(rt: HostRuntime) {
+fn a_month_with_a_wrong_length_number_or_tag_is_refused(rt: HostRuntime) {
     let alloc = rt.alloc();
     let incorrect = ErrorKind::Length {
         tag: Tag::OctetString,
@@ -85,7 +85,7 @@ fn number_of(number: u8) -> Option<u8> {
 }
 
 #[test]
-fn numbers_of_months(rt: HostRuntime) {
+fn numbers_from_0_to_11_alone_are_months(rt: HostRuntime) {
     same(&rt, number_of(0), Some(0));
     same(&rt, number_of(11), Some(11));
     same(&rt, number_of(12), None);
@@ -93,7 +93,7 @@ fn numbers_of_months(rt: HostRuntime) {
 }
 
 #[test]
-fn months_both_ways(rt: HostRuntime) -> Result<(), Fail> {
+fn all_months_are_read_and_written(rt: HostRuntime) -> Result<(), Fail> {
     for number in 0..12u8 {
         let octets = [0x04, 0x01, number];
         let month = month_of(rt.alloc(), &octets)?;
@@ -106,7 +106,7 @@ fn months_both_ways(rt: HostRuntime) -> Result<(), Fail> {
 }
 
 #[test]
-fn a_month_behind_other_octets(rt: HostRuntime) -> Result<(), Fail> {
+fn a_month_is_appended_behind_other_octets(rt: HostRuntime) -> Result<(), Fail> {
     let month = month_of(rt.alloc(), &[0x04, 0x01, 0x09])?;
     let mut out = Vec::from_slice(rt.alloc(), &[0xAAu8])?;
     same(&rt, month.encode_to_vec(&mut out), Ok(Length::new(3)));
@@ -119,7 +119,7 @@ fn buffered<'b>(month: &MyByteMonth, buf: &'b mut [u8]) -> Result<&'b [u8], Erro
 }
 
 #[test]
-fn a_month_in_a_buffer(rt: HostRuntime) -> Result<(), Fail> {
+fn a_month_is_written_only_to_a_buffer_that_has_room(rt: HostRuntime) -> Result<(), Fail> {
     let month = month_of(rt.alloc(), &[0x04, 0x01, 0x09])?;
     let mut buf = [0; 16];
     let written = buffered(&month, &mut buf)?;

@@ -67,7 +67,7 @@ fn pass_inside<R: Reader>(reader: &mut R, levels: u8) -> Result<(), Error>
 }
 
 #[test]
-fn as_many_parts_as_may_stand_in_contents(rt: HostRuntime) {
+fn parts_in_contents_stand_63_levels_deep_and_no_deeper(rt: HostRuntime) {
     let octets = [0x04, 0x00];
     holds(&rt, Nest::<63>::from_der(rt.alloc(), &octets).is_ok());
     let refused = Nest::<64>::from_der(rt.alloc(), &octets).err();

@@ -9,12 +9,12 @@ fn nothing_of(alloc: Global, bytes: &[u8]) -> Result<PhantomData<u8>, Error> {
 }
 
 #[test]
-fn nothing_from_no_octets(rt: HostRuntime) {
+fn nothing_is_read_from_no_octets(rt: HostRuntime) {
     holds(&rt, nothing_of(rt.alloc(), &[]).is_ok());
 }
 
 #[test]
-fn octets_behind_nothing(rt: HostRuntime) -> Result<(), Fail> {
+fn octets_behind_nothing_are_left_or_refused(rt: HostRuntime) -> Result<(), Fail> {
     let refused = nothing_of(rt.alloc(), &[0x00]).err();
     same(&rt, refused, Some(trailing(0, 1)));
     let (_, rest): (PhantomData<u8>, &[u8]) = front_of(rt.alloc(), &[0x00])?;
@@ -23,7 +23,7 @@ fn octets_behind_nothing(rt: HostRuntime) -> Result<(), Fail> {
 }
 
 #[test]
-fn nothing_leaves_the_reader(rt: HostRuntime) -> Result<(), Fail> {
+fn decoding_nothing_leaves_the_reader_where_it_is(rt: HostRuntime) -> Result<(), Fail> {
     let octets = [0x04, 0x01];
     let mut reader = der_reader(&octets)?;
     same(&rt, reader.read_byte(), Ok(0x04));
@@ -36,7 +36,7 @@ fn nothing_leaves_the_reader(rt: HostRuntime) -> Result<(), Fail> {
 }
 
 #[test]
-fn nothing_is_no_octets(rt: HostRuntime) -> Result<(), Fail> {
+fn nothing_is_written_as_no_octets(rt: HostRuntime) -> Result<(), Fail> {
     let nothing = PhantomData::<u8>;
     same(&rt, len_of(&nothing), Ok(Length::ZERO));
     same_octets(&rt, der_of(rt.alloc(), &nothing)?.as_slice(), &[]);

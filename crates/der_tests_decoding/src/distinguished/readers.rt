@@ -68,7 +68,7 @@ fn a_reader_has_failed_behind_a_number_of_no_month(rt: HostRuntime) -> Result<()
 }
 
 #[test]
-fn months_in_turn(rt: HostRuntime) -> Result<(), Fail> {
+fn months_are_decoded_in_turn(rt: HostRuntime) -> Result<(), Fail> {
     let octets = [0x04, 0x01, 0x09, 0x04, 0x01, 0x02, 0x05, 0x00];
     let mut reader = der_reader(&octets)?;
     same(&rt, next_month(rt.alloc(), &mut reader), Ok(9));
@@ -79,7 +79,7 @@ fn months_in_turn(rt: HostRuntime) -> Result<(), Fail> {
 }
 
 #[test]
-fn contents_without_their_header(rt: HostRuntime) -> Result<(), Fail> {
+fn contents_are_decoded_without_their_header(rt: HostRuntime) -> Result<(), Fail> {
     let octets = [0x09, 0x05];
     let mut reader = der_reader(&octets)?;
     let header = Header::new(Tag::OctetString, Length::ONE);
@@ -89,7 +89,7 @@ fn contents_without_their_header(rt: HostRuntime) -> Result<(), Fail> {
 }
 
 #[test]
-fn contents_that_are_fields(rt: HostRuntime) -> Result<(), Fail> {
+fn a_field_is_decoded_that_is_all_of_the_contents(rt: HostRuntime) -> Result<(), Fail> {
     let octets = [0x04, 0x01, 0x09];
     let mut reader = der_reader(&octets)?;
     let header = Header::new(Tag::Sequence, Length::new(3));

@@ -44,7 +44,7 @@ fn refusal(alloc: Global, octets: &[u8]) -> Option<Error> {
 }
 
 #[test]
-fn elements_in_any_order(rt: HostRuntime) -> Result<(), Fail> {
+fn elements_are_sorted_and_written_as_a_set_of(rt: HostRuntime) -> Result<(), Fail> {
     let octets: [&[u8]; 4] = [&[0xFF], &[0x00, 0x00], &[], &[0xFF]];
     let mut elements = strings(rt.alloc(), &octets)?;
     let want = [
@@ -60,7 +60,7 @@ fn elements_in_any_order(rt: HostRuntime) -> Result<(), Fail> {
 }
 
 #[test]
-fn no_elements(rt: HostRuntime) -> Result<(), Fail> {
+fn a_set_of_no_elements_is_read_and_written(rt: HostRuntime) -> Result<(), Fail> {
     let der = set_of(rt.alloc(), &mut [])?;
     same_octets(&rt, der.as_slice(), &[0x31, 0x00]);
     let contents = contents_of(rt.alloc(), &[0x31, 0x00])?;
@@ -70,7 +70,7 @@ fn no_elements(rt: HostRuntime) -> Result<(), Fail> {
 
 // 127 octets, `04 7F ..`, stand before 128, `04 81 80 ..`.
 #[test]
-fn lengths_of_two_forms(rt: HostRuntime) -> Result<(), Fail> {
+fn an_element_of_127_octets_is_sorted_before_one_of_128(rt: HostRuntime) -> Result<(), Fail> {
     let zeros = [0x00; 128];
     let ones = [0xFF; 127];
     let octets: [&[u8]; 2] = [&zeros, &ones];
@@ -88,7 +88,7 @@ fn lengths_of_two_forms(rt: HostRuntime) -> Result<(), Fail> {
 
 // 257 elements of about 2^24 octets, which are lent again and again.
 #[test]
-fn more_contents_than_a_length_counts(rt: HostRuntime) -> Result<(), Fail> {
+fn more_contents_than_a_length_counts_overflow(rt: HostRuntime) -> Result<(), Fail> {
     let octets = vec![in rt.alloc(); 0u8; 16777216]?;
     let mut elements = Vec::new(rt.alloc());
     for fewer in 0..257 {
@@ -100,7 +100,7 @@ fn more_contents_than_a_length_counts(rt: HostRuntime) -> Result<(), Fail> {
 }
 
 #[test]
-fn equal_elements(rt: HostRuntime) -> Result<(), Fail> {
+fn equal_elements_may_stand_in_a_set_of(rt: HostRuntime) -> Result<(), Fail> {
     let octets = [0x31, 0x06, 0x04, 0x01, 0xFF, 0x04, 0x01, 0xFF];
     let contents = contents_of(rt.alloc(), &octets)?;
     same_octets(&rt, contents, &octets[2..]);
@@ -108,7 +108,7 @@ fn equal_elements(rt: HostRuntime) -> Result<(), Fail> {
 }
 
 #[test]
-fn elements_that_fall(rt: HostRuntime) {
+fn an_element_that_falls_is_refused_where_it_begins(rt: HostRuntime) {
     let rows: [(&[u8], u32); 5] = [
         (&[0x31, 0x07, 0x04, 0x02, 0x00, 0x00, 0x04, 0x01, 0xFF], 6),
         (
@@ -143,7 +143,7 @@ fn elements_that_fall(rt: HostRuntime) {
 }
 
 #[test]
-fn octets_that_are_no_set(rt: HostRuntime) {
+fn octets_that_are_no_set_of_octet_strings_are_refused(rt: HostRuntime) {
     let rows: [(&[u8], Error); 6] = [
         (&[0x30, 0x00], unexpected(Tag::Set, Tag::Sequence)),
         (

@@ -1,6 +1,7 @@
 //! Tags that are all the octets.
 use super::*;
 use crate::checks::{same, same_at};
+use der_fixtures::encodings::{WRONG_TAG_NUMBERS, tags};
 use der_fixtures::errors::{invalid_number, unknown};
 
 // The tag that all the octets are.
@@ -9,33 +10,8 @@ fn tag_of(alloc: Global, bytes: &[u8]) -> Result<Tag, Error> {
 }
 
 #[test]
-fn tags_both_ways(rt: HostRuntime) -> Result<(), Fail> {
-    let rows: [(Tag, &[u8]); 8] = [
-        (Tag::OctetString, &[0x04]),
-        (Tag::Sequence, &[0x30]),
-        (TagNumber(33).application(true), &[0x7F, 0x21]),
-        (
-            TagNumber(16385).application(false),
-            &[0x5F, 0x81, 0x80, 0x01],
-        ),
-        (
-            TagNumber(16383).context_specific(false),
-            &[0x9F, 0xFF, 0x7F],
-        ),
-        (
-            TagNumber(16384).context_specific(false),
-            &[0x9F, 0x81, 0x80, 0x00],
-        ),
-        (
-            TagNumber(2097153).context_specific(false),
-            &[0x9F, 0x81, 0x80, 0x80, 0x01],
-        ),
-        (
-            TagNumber(4294967295).private(false),
-            &[0xDF, 0x8F, 0xFF, 0xFF, 0xFF, 0x7F],
-        ),
-    ];
-    for (tag, octets) in rows {
+fn tags_are_read_and_written(rt: HostRuntime) -> Result<(), Fail> {
+    for (tag, octets) in tags() {
         same_at(&rt, tag, tag_of(rt.alloc(), octets), Ok(tag));
         let der = der_of(rt.alloc(), &tag)?;
         same_at(&rt, tag, der.as_slice(), octets);
@@ -44,23 +20,15 @@ fn tags_both_ways(rt: HostRuntime) -> Result<(), Fail> {
 }
 
 #[test]
-fn numbers_that_are_refused(rt: HostRuntime) {
-    let rows: [(&[u8], u32); 6] = [
-        (&[0xDF, 0x9F, 0x8F, 0x8F, 0x8F, 0x0F], 5),
-        (&[0x7F, 0x90, 0x80, 0x80, 0x80, 0x00], 5),
-        (&[0xBF, 0x8F, 0xFF, 0xFF, 0xFF, 0xFF, 0x7F], 6),
-        (&[0xFF, 0x03], 2),
-        (&[0x5F, 0x80, 0x20], 2),
-        (&[0x1F, 0xFF], 1),
-    ];
-    for (octets, position) in rows {
+fn wrong_tag_numbers_are_refused(rt: HostRuntime) {
+    for (octets, position) in WRONG_TAG_NUMBERS {
         let invalid = Err(invalid_number(position));
         same_at(&rt, position, tag_of(rt.alloc(), octets), invalid);
     }
 }
 
 #[test]
-fn tags_that_are_unknown_or_cut(rt: HostRuntime) {
+fn unknown_and_cut_tags_are_refused(rt: HostRuntime) {
     let alloc = rt.alloc();
     for byte in [0x3F, 0x21] {
         same(&rt, tag_of(alloc, &[byte]), Err(unknown(byte, 1)));
@@ -70,7 +38,7 @@ fn tags_that_are_unknown_or_cut(rt: HostRuntime) {
 }
 
 #[test]
-fn octets_behind_a_tag(rt: HostRuntime) {
+fn octets_behind_a_tag_are_refused(rt: HostRuntime) {
     same(
         &rt,
         tag_of(rt.alloc(), &[0x7F, 0x21, 0x00]),

@@ -44,7 +44,7 @@ fn sees_segments<R: Reader>(rt: &impl Abort, mut reader: R) {
 }
 
 #[test]
-fn segments_ahead(rt: HostRuntime) -> Result<(), Fail> {
+fn a_peek_sees_segments_under_ber_and_the_reader_stays(rt: HostRuntime) -> Result<(), Fail> {
     let octets = [0x24, 0x80, 0x00, 0x00];
     sees_segments(&rt, ber_reader(&octets)?);
     sees_segments(&rt, ber_unlent(&octets)?);
@@ -59,7 +59,7 @@ fn segments_ahead(rt: HostRuntime) -> Result<(), Fail> {
 }
 
 #[test]
-fn segments_ahead_under_der(rt: HostRuntime) -> Result<(), Fail> {
+fn a_peek_refuses_segments_under_der_and_the_reader_stays(rt: HostRuntime) -> Result<(), Fail> {
     let octets = [0x24, 0x80, 0x00, 0x00];
     let mut reader = der_reader(&octets)?;
     let refused = unknown(0x24, 1);
@@ -73,7 +73,7 @@ fn segments_ahead_under_der(rt: HostRuntime) -> Result<(), Fail> {
 
 // The tag alone is looked at, whatever is refused behind it.
 #[test]
-fn a_tag_before_a_refused_length(rt: HostRuntime) -> Result<(), Fail> {
+fn a_tag_is_peeked_although_what_stands_behind_it_is_refused(rt: HostRuntime) -> Result<(), Fail> {
     let mut reader = ber_reader(&[0x24, 0x80, 0x3F, 0x00])?;
     same(&rt, tag_ahead(&reader), Ok(Tag::OctetString));
     same(&rt, is_ahead(&mut reader, 4), Ok(true));
@@ -83,7 +83,7 @@ fn a_tag_before_a_refused_length(rt: HostRuntime) -> Result<(), Fail> {
 }
 
 #[test]
-fn refused_tags_ahead(rt: HostRuntime) -> Result<(), Fail> {
+fn an_unknown_tag_ahead_is_refused_and_the_end_matches_none(rt: HostRuntime) -> Result<(), Fail> {
     let mut reader = ber_reader(&[0x2C, 0x00])?;
     same(&rt, tag_ahead(&reader), Err(unknown(0x2C, 1)));
     same(&rt, is_ahead(&mut reader, 12), Err(unknown(0x2C, 1)));
@@ -95,7 +95,7 @@ fn refused_tags_ahead(rt: HostRuntime) -> Result<(), Fail> {
 }
 
 #[test]
-fn a_primitive_header_ahead(rt: HostRuntime) -> Result<(), Fail> {
+fn a_primitive_header_with_octet_80_is_refused_ahead(rt: HostRuntime) -> Result<(), Fail> {
     let reader = ber_reader(&[0x04, 0x80, 0x00, 0x00])?;
     same(&rt, header_ahead(&reader), Err(indefinite(2)));
     same(&rt, reader.place(), (0, 4, false));
@@ -104,7 +104,7 @@ fn a_primitive_header_ahead(rt: HostRuntime) -> Result<(), Fail> {
 
 // A body is lent behind its header, and what is left behind a header that was refused.
 #[test]
-fn octets_behind_a_header(rt: HostRuntime) -> Result<(), Fail> {
+fn what_stands_behind_a_header_is_lent_even_if_it_is_refused(rt: HostRuntime) -> Result<(), Fail> {
     let mut reader = ber_reader(&[0x30, 0x80, 0x05, 0x00, 0x00, 0x00])?;
     let sequence = Header::new(Tag::Sequence, Length::new_indefinite(4));
     same(&rt, next_header(&mut reader), Ok(sequence));

@@ -12,7 +12,7 @@ fn tag_under_der(alloc: Global, octets: &[u8]) -> Result<Tag, Error> {
 }
 
 #[test]
-fn a_constructed_string(rt: HostRuntime) -> Result<(), Fail> {
+fn octet_24_is_read_as_a_constructed_octet_string(rt: HostRuntime) -> Result<(), Fail> {
     let mut reader = ber_reader(&[0x24, 0x01, 0x09])?;
     let header = next_header(&mut reader)?;
     same(&rt, header.tag(), Tag::OctetString);
@@ -27,7 +27,7 @@ fn a_constructed_string(rt: HostRuntime) -> Result<(), Fail> {
 
 // The constructed bit tells two headers apart that say the same else.
 #[test]
-fn a_primitive_string(rt: HostRuntime) -> Result<(), Fail> {
+fn the_constructed_bit_tells_two_headers_apart(rt: HostRuntime) -> Result<(), Fail> {
     let primitive = header_of(rt.alloc(), &[0x04, 0x00])?;
     same(&rt, primitive, Header::new(Tag::OctetString, Length::ZERO));
     let constructed = header_of(rt.alloc(), &[0x24, 0x00])?;
@@ -37,7 +37,7 @@ fn a_primitive_string(rt: HostRuntime) -> Result<(), Fail> {
 }
 
 #[test]
-fn a_string_of_segments(rt: HostRuntime) -> Result<(), Fail> {
+fn the_header_of_segments_has_the_length_of_their_body(rt: HostRuntime) -> Result<(), Fail> {
     let octets = [0x24, 0x80, 0x04, 0x01, 0xAA, 0x04, 0x00, 0x00, 0x00];
     let mut reader = ber_reader(&octets)?;
     let segments = Header::new(Tag::OctetString, Length::new_indefinite(7));
@@ -47,7 +47,7 @@ fn a_string_of_segments(rt: HostRuntime) -> Result<(), Fail> {
 }
 
 #[test]
-fn the_tag_alone(rt: HostRuntime) -> Result<(), Fail> {
+fn octet_24_is_a_tag_under_ber_alone(rt: HostRuntime) -> Result<(), Fail> {
     let alloc = rt.alloc();
     same(&rt, tag_under_ber(alloc, &[0x24]), Ok(Tag::OctetString));
     same(&rt, tag_under_ber(alloc, &[0x04]), Ok(Tag::OctetString));
@@ -67,7 +67,7 @@ fn the_tag_alone(rt: HostRuntime) -> Result<(), Fail> {
 
 // What was read of it is written without the constructed bit, and a length in the definite form.
 #[test]
-fn what_is_written(rt: HostRuntime) -> Result<(), Fail> {
+fn constructed_bit_and_indefinite_form_are_not_written(rt: HostRuntime) -> Result<(), Fail> {
     let tag = tag_under_ber(rt.alloc(), &[0x24])?;
     same_octets(&rt, tag.to_der(rt.alloc())?.as_slice(), &[0x04]);
     let mut reader = ber_reader(&[0x24, 0x80, 0x00, 0x00])?;
@@ -83,7 +83,7 @@ fn what_is_written(rt: HostRuntime) -> Result<(), Fail> {
 
 // No other octet is read as another tag than under the Distinguished Encoding Rules.
 #[test]
-fn octets_that_both_rules_read_alike(rt: HostRuntime) {
+fn all_octets_but_24_are_read_alike_under_both_rules(rt: HostRuntime) {
     let alloc = rt.alloc();
     let refused = [
         0x00, 0x07, 0x08, 0x0B, 0x0E, 0x0F, 0x10, 0x11, 0x20, 0x21, 0x22, 0x23, 0x25, 0x26, 0x2C,
@@ -106,7 +106,7 @@ fn octets_that_both_rules_read_alike(rt: HostRuntime) {
 }
 
 #[test]
-fn a_constructed_string_under_der(rt: HostRuntime) -> Result<(), Fail> {
+fn octet_24_is_refused_under_der_and_the_reader_fails(rt: HostRuntime) -> Result<(), Fail> {
     let mut reader = der_reader(&[0x24, 0x01, 0x09])?;
     same(&rt, next_header(&mut reader), Err(unknown(0x24, 1)));
     same(&rt, reader.place(), (1, 3, true));

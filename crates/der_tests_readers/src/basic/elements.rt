@@ -8,7 +8,7 @@ use der::TagNumber;
 use der_fixtures::bodies::ENCRYPTED_CONTENT_INFO;
 
 #[test]
-fn an_element_among_others(rt: HostRuntime) -> Result<(), Fail> {
+fn an_element_of_indefinite_length_is_lent_with_its_end_mark(rt: HostRuntime) -> Result<(), Fail> {
     let octets = [0x30, 0x80, 0x05, 0x00, 0x00, 0x00, 0x02, 0x01, 0x2A];
     let mut reader = ber_reader(&octets)?;
     let null = [0x30, 0x80, 0x05, 0x00, 0x00, 0x00];
@@ -22,7 +22,7 @@ fn an_element_among_others(rt: HostRuntime) -> Result<(), Fail> {
 // An element is as long as what was read of it says, also where its number would take more octets
 // in the definite form than the one octet 80.
 #[test]
-fn elements_of_each_length(rt: HostRuntime) -> Result<(), Fail> {
+fn an_element_is_lent_whole_whatever_the_number_of_its_octets(rt: HostRuntime) -> Result<(), Fail> {
     for count in [0u8, 1, 122, 123, 124, 125, 126, 127] {
         let element = around_contents(rt.alloc(), count)?;
         let octets = element.as_slice();
@@ -35,7 +35,7 @@ fn elements_of_each_length(rt: HostRuntime) -> Result<(), Fail> {
 }
 
 #[test]
-fn an_element_without_lending(rt: HostRuntime) -> Result<(), Fail> {
+fn a_reader_that_cannot_lend_refuses_an_element_and_stays(rt: HostRuntime) -> Result<(), Fail> {
     let mut reader = ber_unlent(&[0x30, 0x80, 0x00, 0x00])?;
     let refused = ErrorKind::Reader.at(Length::ZERO);
     same(&rt, reader.tlv_bytes().err(), Some(refused));
@@ -44,7 +44,7 @@ fn an_element_without_lending(rt: HostRuntime) -> Result<(), Fail> {
 }
 
 #[test]
-fn a_primitive_identifier_before_octet_80(rt: HostRuntime) -> Result<(), Fail> {
+fn a_primitive_identifier_before_octet_80_begins_no_element(rt: HostRuntime) -> Result<(), Fail> {
     let mut reader = ber_reader(&[0x04, 0x80, 0x00, 0x00])?;
     same(&rt, refused_element(&mut reader), Some(indefinite(2)));
     same(&rt, reader.place(), (0, 4, false));
@@ -52,7 +52,7 @@ fn a_primitive_identifier_before_octet_80(rt: HostRuntime) -> Result<(), Fail> {
 }
 
 #[test]
-fn encrypted_contents(rt: HostRuntime) -> Result<(), Fail> {
+fn the_elements_of_encrypted_contents_are_read_in_turn(rt: HostRuntime) -> Result<(), Fail> {
     let mut reader = ber_reader(&ENCRYPTED_CONTENT_INFO)?;
     let header = next_header(&mut reader)?;
     let info = Header::new(Tag::Sequence, Length::new_indefinite(66));
@@ -78,7 +78,7 @@ fn read_three<'a>(reader: &mut SliceReader<'a>) -> Result<(&'a [u8], usize, usiz
 }
 
 #[test]
-fn encrypted_contents_in_their_sequence(rt: HostRuntime) -> Result<(), Fail> {
+fn encrypted_contents_are_read_within_their_sequence(rt: HostRuntime) -> Result<(), Fail> {
     let mut reader = ber_reader(&ENCRYPTED_CONTENT_INFO)?;
     let (contents, first, second) = reader.sequence(read_three)?;
     same(&rt, (first, second), (11, 31));

@@ -2,6 +2,7 @@
 use super::*;
 use crate::checks::{same, same_at, same_octets};
 use der::TagNumber;
+use der_fixtures::encodings::{LENGTHS, OVERLONG_LENGTHS};
 
 fn length_under_ber(alloc: Global, octets: &[u8]) -> Result<Length, Error> {
     Length::from_ber(alloc, octets)
@@ -16,7 +17,7 @@ fn reader_under(rules: EncodingRules, octets: &[u8]) -> Result<SliceReader<'_>, 
 }
 
 #[test]
-fn the_rules_of_a_reader(rt: HostRuntime) -> Result<(), Fail> {
+fn a_reader_has_the_rules_that_it_was_made_with(rt: HostRuntime) -> Result<(), Fail> {
     let reader = ber_reader(&[])?;
     same(&rt, reader.encoding_rules(), EncodingRules::Ber);
     same(&rt, reader.fork().encoding_rules(), EncodingRules::Ber);
@@ -30,7 +31,7 @@ fn the_rules_of_a_reader(rt: HostRuntime) -> Result<(), Fail> {
 }
 
 #[test]
-fn the_indefinite_form_under_der(rt: HostRuntime) -> Result<(), Fail> {
+fn the_indefinite_form_is_refused_under_der(rt: HostRuntime) -> Result<(), Fail> {
     let rows: [&[u8]; 4] = [
         &[0x30, 0x80, 0x00, 0x00],
         &[0x30, 0x80],
@@ -49,16 +50,8 @@ fn the_indefinite_form_under_der(rt: HostRuntime) -> Result<(), Fail> {
 }
 
 #[test]
-fn definite_lengths(rt: HostRuntime) {
-    let rows: [(&[u8], u32); 6] = [
-        (&[0x00], 0),
-        (&[0x7F], 127),
-        (&[0x81, 0x80], 128),
-        (&[0x82, 0x01, 0x00], 256),
-        (&[0x83, 0x01, 0x00, 0x00], 65536),
-        (&[0x84, 0xFF, 0xFF, 0xFF, 0xFF], 4294967295),
-    ];
-    for (octets, number) in rows {
+fn definite_lengths_are_read_alike_under_both_rules(rt: HostRuntime) {
+    for (number, octets) in LENGTHS {
         let length = Length::new(number);
         same_at(
             &rt,
@@ -77,16 +70,8 @@ fn definite_lengths(rt: HostRuntime) {
 
 // The Basic Encoding Rules allow lengths that are not the shortest; this library does not.
 #[test]
-fn lengths_that_are_not_the_shortest(rt: HostRuntime) {
-    let rows: [(&[u8], u32); 6] = [
-        (&[0x81, 0x7F], 2),
-        (&[0x82, 0x00, 0xFF], 3),
-        (&[0x83, 0x00, 0xFF, 0xFF], 4),
-        (&[0x84, 0x00, 0xFF, 0xFF, 0xFF], 5),
-        (&[0x85, 0x00, 0x00, 0x00, 0x00, 0x01], 1),
-        (&[0xFF], 1),
-    ];
-    for (octets, position) in rows {
+fn lengths_that_are_not_the_shortest_are_refused_under_both_rules(rt: HostRuntime) {
+    for (octets, position) in OVERLONG_LENGTHS {
         let error = ErrorKind::Overlength.at(Length::new(position));
         same_at(
             &rt,
@@ -104,7 +89,7 @@ fn lengths_that_are_not_the_shortest(rt: HostRuntime) {
 }
 
 #[test]
-fn headers_whose_length_is_refused(rt: HostRuntime) -> Result<(), Fail> {
+fn a_header_with_a_wrong_length_is_refused_under_both_rules(rt: HostRuntime) -> Result<(), Fail> {
     let rows: [(&[u8], u32); 4] = [
         (&[0x04, 0x81, 0x7F], 3),
         (&[0x04, 0x82, 0x00, 0x80], 4),
@@ -124,7 +109,7 @@ fn headers_whose_length_is_refused(rt: HostRuntime) -> Result<(), Fail> {
 }
 
 #[test]
-fn definite_headers(rt: HostRuntime) {
+fn definite_headers_are_read_alike_under_both_rules(rt: HostRuntime) {
     let longest = TagNumber(4294967295).context_specific(true);
     let rows: [(&[u8], Tag, u32); 3] = [
         (&[0x05, 0x00], Tag::Null, 0),
@@ -145,7 +130,7 @@ fn definite_headers(rt: HostRuntime) {
 }
 
 #[test]
-fn elements_of_a_definite_length(rt: HostRuntime) -> Result<(), Fail> {
+fn under_ber_a_definite_element_is_lent_and_a_cut_one_refused(rt: HostRuntime) -> Result<(), Fail> {
     let octets = [0x30, 0x02, 0x05, 0x00, 0xFF];
     let mut reader = ber_reader(&octets)?;
     let element = [0x30, 0x02, 0x05, 0x00];

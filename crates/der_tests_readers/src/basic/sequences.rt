@@ -60,7 +60,7 @@ fn null() -> Header {
 }
 
 #[test]
-fn a_sequence_and_its_end_mark(rt: HostRuntime) -> Result<(), Fail> {
+fn a_sequence_is_read_with_its_end_mark(rt: HostRuntime) -> Result<(), Fail> {
     let octets = [0x30, 0x80, 0x05, 0x00, 0x00, 0x00, 0x02];
     let mut reader = ber_reader(&octets)?;
     same(&rt, header_within(&mut reader), Ok(null()));
@@ -72,7 +72,7 @@ fn a_sequence_and_its_end_mark(rt: HostRuntime) -> Result<(), Fail> {
 }
 
 #[test]
-fn a_sequence_of_nothing(rt: HostRuntime) -> Result<(), Fail> {
+fn an_empty_sequence_is_read_as_nothing_and_not_as_a_header(rt: HostRuntime) -> Result<(), Fail> {
     let octets = [0x30, 0x80, 0x00, 0x00];
     let mut reader = ber_reader(&octets)?;
     same(&rt, nothing_within(&mut reader), Ok(()));
@@ -84,7 +84,7 @@ fn a_sequence_of_nothing(rt: HostRuntime) -> Result<(), Fail> {
 }
 
 #[test]
-fn a_sequence_of_a_definite_length(rt: HostRuntime) -> Result<(), Fail> {
+fn no_end_mark_is_read_behind_a_definite_sequence(rt: HostRuntime) -> Result<(), Fail> {
     let mut reader = ber_reader(&[0x30, 0x02, 0x05, 0x00, 0x00, 0x00])?;
     same(&rt, header_within(&mut reader), Ok(null()));
     same(&rt, reader.place(), (4, 6, false));
@@ -92,7 +92,7 @@ fn a_sequence_of_a_definite_length(rt: HostRuntime) -> Result<(), Fail> {
 }
 
 #[test]
-fn a_sequence_in_a_sequence(rt: HostRuntime) -> Result<(), Fail> {
+fn a_sequence_in_a_sequence_is_read_whatever_their_forms(rt: HostRuntime) -> Result<(), Fail> {
     let rows: [(&[u8], u32); 3] = [
         (
             &[0x30, 0x80, 0x30, 0x80, 0x05, 0x00, 0x00, 0x00, 0x00, 0x00],
@@ -119,7 +119,7 @@ fn a_sequence_in_a_sequence(rt: HostRuntime) -> Result<(), Fail> {
 
 // The end of a SEQUENCE of definite length ends the bodies in it.
 #[test]
-fn a_body_that_its_part_cuts(rt: HostRuntime) -> Result<(), Fail> {
+fn a_body_that_is_cut_by_its_sequence_is_refused(rt: HostRuntime) -> Result<(), Fail> {
     let octets = [0x30, 0x05, 0x30, 0x80, 0x05, 0x00, 0x00, 0x00];
     let mut reader = ber_reader(&octets)?;
     same(
@@ -132,7 +132,7 @@ fn a_body_that_its_part_cuts(rt: HostRuntime) -> Result<(), Fail> {
 }
 
 #[test]
-fn what_is_left_of_a_sequence(rt: HostRuntime) -> Result<(), Fail> {
+fn octets_left_in_a_sequence_are_refused_as_trailing(rt: HostRuntime) -> Result<(), Fail> {
     let octets = [0x30, 0x80, 0x05, 0x00, 0x02, 0x01, 0x2A, 0x00, 0x00];
     let mut reader = ber_reader(&octets)?;
     same(&rt, header_within(&mut reader), Err(trailing(4, 3)));
@@ -144,7 +144,7 @@ fn what_is_left_of_a_sequence(rt: HostRuntime) -> Result<(), Fail> {
 }
 
 #[test]
-fn no_sequence(rt: HostRuntime) -> Result<(), Fail> {
+fn what_is_no_sequence_is_refused_behind_its_header(rt: HostRuntime) -> Result<(), Fail> {
     let rows: [(&[u8], Error, bool); 3] = [
         (
             &[0x31, 0x80, 0x00, 0x00],
@@ -164,7 +164,7 @@ fn no_sequence(rt: HostRuntime) -> Result<(), Fail> {
 
 // Contents get the header with their own length, which is flagged as the header's was.
 #[test]
-fn contents_and_their_header(rt: HostRuntime) -> Result<(), Fail> {
+fn contents_get_a_flagged_header_with_their_own_length(rt: HostRuntime) -> Result<(), Fail> {
     let octets = [0x24, 0x80, 0x04, 0x01, 0x09, 0x00, 0x00, 0x05];
     let mut reader = ber_reader(&octets)?;
     let header = next_header(&mut reader)?;
@@ -178,7 +178,7 @@ fn contents_and_their_header(rt: HostRuntime) -> Result<(), Fail> {
 }
 
 #[test]
-fn contents_without_an_end_mark(rt: HostRuntime) -> Result<(), Fail> {
+fn contents_of_definite_length_get_their_header_unchanged(rt: HostRuntime) -> Result<(), Fail> {
     let octets = [0x24, 0x02, 0x04, 0x00, 0x00, 0x00];
     let mut reader = ber_reader(&octets)?;
     let header = next_header(&mut reader)?;
@@ -191,7 +191,7 @@ fn contents_without_an_end_mark(rt: HostRuntime) -> Result<(), Fail> {
 
 // A header of the caller's own may say more than a scan would: then no end mark stands there.
 #[test]
-fn contents_before_another_octet(rt: HostRuntime) -> Result<(), Fail> {
+fn contents_without_their_end_mark_are_refused(rt: HostRuntime) -> Result<(), Fail> {
     let mut reader = ber_reader(&[0x05, 0x00, 0x00, 0x01])?;
     let header = Header::new(Tag::OctetString, Length::new_indefinite(4));
     let refused = contents_behind(&mut reader, header).err();
@@ -205,7 +205,7 @@ fn contents_before_another_octet(rt: HostRuntime) -> Result<(), Fail> {
 }
 
 #[test]
-fn contents_that_are_closed(rt: HostRuntime) -> Result<(), Fail> {
+fn closed_contents_pass_their_end_mark(rt: HostRuntime) -> Result<(), Fail> {
     let mut reader = ber_reader(&[0x30, 0x80, 0x05, 0x00, 0x00, 0x00])?;
     let header = decode_header(&mut reader)?;
     let length = header.length().sans_eoc();

@@ -5,7 +5,7 @@ use der::{Class, TagPeek};
 use der_fixtures::errors::{invalid_number, unknown};
 
 #[test]
-fn what_is_ahead(rt: HostRuntime) -> Result<(), Fail> {
+fn a_header_is_peeked_and_the_reader_stays(rt: HostRuntime) -> Result<(), Fail> {
     let octets = [0x02, 0x01, 0x2A, 0x00];
     let reader = der_reader(&octets)?;
     let integer = Header::new(Tag::Integer, Length::ONE);
@@ -17,7 +17,7 @@ fn what_is_ahead(rt: HostRuntime) -> Result<(), Fail> {
 }
 
 #[test]
-fn a_tag_alone_ahead(rt: HostRuntime) -> Result<(), Fail> {
+fn a_tag_is_peeked_or_refused_and_the_reader_stays(rt: HostRuntime) -> Result<(), Fail> {
     let rows: [(&[u8], Result<Tag, Error>, u32); 3] = [
         (&[0x02], Ok(Tag::Integer), 1),
         (&[0x5F, 0x9E], Err(incomplete(3, 2, 2)), 2),
@@ -36,7 +36,7 @@ fn a_tag_alone_ahead(rt: HostRuntime) -> Result<(), Fail> {
 }
 
 #[test]
-fn tags_ahead(rt: HostRuntime) -> Result<(), Fail> {
+fn the_tag_that_is_peeked_is_decoded_with_its_bit(rt: HostRuntime) -> Result<(), Fail> {
     let octets = [0x02, 0x01, 0x2A, 0x00];
     let mut reader = der_reader(&octets)?;
     same(&rt, Tag::peek(&reader), Ok(Tag::Integer));
@@ -47,7 +47,7 @@ fn tags_ahead(rt: HostRuntime) -> Result<(), Fail> {
 }
 
 #[test]
-fn octets_ahead(rt: HostRuntime) -> Result<(), Fail> {
+fn octets_are_peeked_and_the_reader_stays(rt: HostRuntime) -> Result<(), Fail> {
     let reader = der_reader(&[0x02, 0x01, 0x2A, 0x00])?;
     same(&rt, reader.peek_byte(), Some(0x02));
     let mut buffer = [0u8; 2];
@@ -59,7 +59,7 @@ fn octets_ahead(rt: HostRuntime) -> Result<(), Fail> {
 }
 
 #[test]
-fn the_longest_header_ahead(rt: HostRuntime) -> Result<(), Fail> {
+fn the_longest_header_is_peeked(rt: HostRuntime) -> Result<(), Fail> {
     let longest = [
         0xBF, 0x8F, 0xFF, 0xFF, 0xFF, 0x7F, 0x84, 0xFF, 0xFF, 0xFF, 0xFF,
     ];
@@ -71,7 +71,7 @@ fn the_longest_header_ahead(rt: HostRuntime) -> Result<(), Fail> {
 }
 
 #[test]
-fn an_element_that_no_length_counts(rt: HostRuntime) -> Result<(), Fail> {
+fn an_element_that_no_length_counts_is_an_overflow(rt: HostRuntime) -> Result<(), Fail> {
     let octets = [
         0xBF, 0x8F, 0xFF, 0xFF, 0xFF, 0x7F, 0x84, 0xFF, 0xFF, 0xFF, 0xFF,
     ];
@@ -83,7 +83,7 @@ fn an_element_that_no_length_counts(rt: HostRuntime) -> Result<(), Fail> {
 }
 
 #[test]
-fn a_tag_that_matches(rt: HostRuntime) -> Result<(), Fail> {
+fn a_tag_ahead_matches_by_class_and_number(rt: HostRuntime) -> Result<(), Fail> {
     let octets = [0xA0, 0x00];
     let mut reader = der_reader(&octets)?;
     let rows = [
@@ -100,7 +100,7 @@ fn a_tag_that_matches(rt: HostRuntime) -> Result<(), Fail> {
 }
 
 #[test]
-fn no_tag_that_matches(rt: HostRuntime) -> Result<(), Fail> {
+fn no_tag_matches_at_the_end(rt: HostRuntime) -> Result<(), Fail> {
     let mut reader = der_reader(&[])?;
     same(
         &rt,
@@ -117,7 +117,7 @@ fn element<'a>(reader: &mut SliceReader<'a>) -> Result<&'a [u8], Error> {
 }
 
 #[test]
-fn whole_elements(rt: HostRuntime) -> Result<(), Fail> {
+fn an_element_is_lent_whole(rt: HostRuntime) -> Result<(), Fail> {
     let octets = [0x30, 0x02, 0x05, 0x00, 0xFF];
     let mut reader = der_reader(&octets)?;
     same(
@@ -130,7 +130,7 @@ fn whole_elements(rt: HostRuntime) -> Result<(), Fail> {
 }
 
 #[test]
-fn an_element_that_is_cut(rt: HostRuntime) -> Result<(), Fail> {
+fn a_cut_element_is_refused_and_the_reader_fails(rt: HostRuntime) -> Result<(), Fail> {
     let mut reader = der_reader(&[0x30, 0x02])?;
     same(&rt, element(&mut reader).err(), Some(incomplete(4, 2, 0)));
     same(&rt, reader.place(), (0, 2, true));
@@ -138,7 +138,7 @@ fn an_element_that_is_cut(rt: HostRuntime) -> Result<(), Fail> {
 }
 
 #[test]
-fn values_decoded_by_a_reader(rt: HostRuntime) -> Result<(), Fail> {
+fn a_reader_decodes_values_until_one_is_refused(rt: HostRuntime) -> Result<(), Fail> {
     let octets = [0x30, 0x00, 0x3F];
     let mut reader = der_reader(&octets)?;
     let sequence = Header::new(Tag::Sequence, Length::ZERO);
@@ -156,7 +156,7 @@ fn pass(reader: &mut SliceReader<'_>, length: Length) -> Result<(), Error> {
 }
 
 #[test]
-fn octets_passed(rt: HostRuntime) -> Result<(), Fail> {
+fn a_drain_past_the_end_is_refused_at_its_step_of_16_octets(rt: HostRuntime) -> Result<(), Fail> {
     let rows = [
         (18, Ok(()), 18, false),
         (20, Err(incomplete(20, 18, 16)), 16, true),
@@ -171,7 +171,7 @@ fn octets_passed(rt: HostRuntime) -> Result<(), Fail> {
 }
 
 #[test]
-fn octets_passed_by_a_reader_that_has_failed(rt: HostRuntime) -> Result<(), Fail> {
+fn a_failed_reader_drains_zero_octets_but_not_a_flagged_zero(rt: HostRuntime) -> Result<(), Fail> {
     let mut reader = der_reader(&[0x07; 18])?;
     let missing = incomplete(32, 18, 16);
     same(&rt, pass(&mut reader, Length::new(40)), Err(missing));
@@ -182,7 +182,7 @@ fn octets_passed_by_a_reader_that_has_failed(rt: HostRuntime) -> Result<(), Fail
 }
 
 #[test]
-fn octets_passed_to_the_end(rt: HostRuntime) -> Result<(), Fail> {
+fn a_reader_that_passed_all_octets_is_finished(rt: HostRuntime) -> Result<(), Fail> {
     let mut reader = der_reader(&[0x07; 18])?;
     same(&rt, pass(&mut reader, Length::new(18)), Ok(()));
     holds(&rt, reader.is_finished());
@@ -191,7 +191,7 @@ fn octets_passed_to_the_end(rt: HostRuntime) -> Result<(), Fail> {
 }
 
 #[test]
-fn ends(rt: HostRuntime) -> Result<(), Fail> {
+fn finish_refuses_octets_that_are_left(rt: HostRuntime) -> Result<(), Fail> {
     let octets = [0x01, 0x02];
     let mut reader = der_reader(&octets)?;
     same(&rt, octet(&mut reader), Ok(0x01));
@@ -200,7 +200,7 @@ fn ends(rt: HostRuntime) -> Result<(), Fail> {
 }
 
 #[test]
-fn copies(rt: HostRuntime) -> Result<(), Fail> {
+fn octets_are_copied_from_where_the_reader_stands(rt: HostRuntime) -> Result<(), Fail> {
     let mut reader = der_reader(&[0x01, 0x02])?;
     same(&rt, octet(&mut reader), Ok(0x01));
     let copy = reader.read_vec(rt.alloc(), Length::ONE)?;
@@ -209,7 +209,7 @@ fn copies(rt: HostRuntime) -> Result<(), Fail> {
 }
 
 #[test]
-fn a_copy_that_is_refused(rt: HostRuntime) -> Result<(), Fail> {
+fn a_copy_past_the_end_is_refused_and_the_reader_fails(rt: HostRuntime) -> Result<(), Fail> {
     let mut reader = der_reader(&[0x01, 0x02])?;
     same(&rt, octet(&mut reader), Ok(0x01));
     let refused = reader.read_vec(rt.alloc(), Length::new(2)).err();

@@ -10,7 +10,7 @@ fn lending_agrees<R: Reader>(rt: &impl Abort, lends: bool) {
 }
 
 #[test]
-fn lending(rt: HostRuntime) {
+fn constant_and_function_say_alike_whether_a_reader_lends(rt: HostRuntime) {
     lending_agrees::<SliceReader>(&rt, true);
     lending_agrees::<CopyingReader>(&rt, false);
 }

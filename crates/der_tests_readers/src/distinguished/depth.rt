@@ -24,7 +24,7 @@ fn nest(reader: &mut SliceReader<'_>, levels: u8) -> Result<(), Error>
 }
 
 #[test]
-fn as_many_parts_as_may_stand_inside_each_other(rt: HostRuntime) -> Result<(), Fail> {
+fn parts_stand_64_levels_deep_and_no_deeper(rt: HostRuntime) -> Result<(), Fail> {
     let rows = [(64, Ok(()), false), (65, Err(too_deep(0)), true)];
     for (levels, answer, failed) in rows {
         let mut reader = der_reader(&[])?;
@@ -47,7 +47,7 @@ fn read_inner(reader: &mut SliceReader<'_>) -> Result<u8, Error>
 }
 
 #[test]
-fn a_part_in_a_part(rt: HostRuntime) -> Result<(), Fail> {
+fn a_part_in_a_part_is_read(rt: HostRuntime) -> Result<(), Fail> {
     let octets = [0x01, 0x02];
     let mut reader = der_reader(&octets)?;
     same(&rt, reader.read_nested(Length::ONE, read_inner), Ok(0x01));
@@ -72,7 +72,7 @@ fn refused_within(reader: &mut SliceReader<'_>) -> Result<(), Error>
 
 // Both parts are left, so that as many may be entered as before.
 #[test]
-fn a_part_in_a_part_that_is_refused(rt: HostRuntime) -> Result<(), Fail> {
+fn a_refusal_in_a_part_leaves_all_parts(rt: HostRuntime) -> Result<(), Fail> {
     let octets = [0x01, 0x02, 0x03, 0x04, 0x05, 0x06];
     let mut reader = der_reader(&octets)?;
     let refused = reader.read_nested(Length::new(5), refused_within);
@@ -84,7 +84,7 @@ fn a_part_in_a_part_that_is_refused(rt: HostRuntime) -> Result<(), Fail> {
 }
 
 #[test]
-fn a_part_that_is_closed(rt: HostRuntime) -> Result<(), Fail> {
+fn a_closed_part_hands_on_its_answer_and_is_left(rt: HostRuntime) -> Result<(), Fail> {
     let mut reader = der_reader(&[0x01, 0x02])?;
     let outer = reader.enter_nested(Length::ONE)?;
     same(&rt, reader.place(), (0, 1, false));
@@ -95,7 +95,7 @@ fn a_part_that_is_closed(rt: HostRuntime) -> Result<(), Fail> {
 }
 
 #[test]
-fn a_part_that_is_left(rt: HostRuntime) -> Result<(), Fail> {
+fn a_reader_that_left_a_part_ends_where_it_did_before(rt: HostRuntime) -> Result<(), Fail> {
     let mut reader = der_reader(&[0x01, 0x02])?;
     let outer = reader.enter_nested(Length::ONE)?;
     same(&rt, outer.input_len(), Length::new(2));
@@ -106,14 +106,14 @@ fn a_part_that_is_left(rt: HostRuntime) -> Result<(), Fail> {
 }
 
 #[test]
-fn what_a_part_goes_back_to(rt: HostRuntime) {
+fn a_resumption_tells_its_length_and_depth(rt: HostRuntime) {
     let outer = Resumption::new(Length::new(42), 3);
     same(&rt, outer.input_len(), Length::new(42));
     same(&rt, outer.depth(), 3);
 }
 
 #[test]
-fn contents_that_are_closed(rt: HostRuntime) -> Result<(), Fail> {
+fn closed_contents_pass_their_end_mark(rt: HostRuntime) -> Result<(), Fail> {
     let mut reader = der_reader(&[0x07, 0x00, 0x00])?;
     let outer = reader.enter_nested(Length::ONE)?;
     let answer = reader.read_byte();

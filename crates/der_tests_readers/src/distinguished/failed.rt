@@ -47,7 +47,7 @@ fn answers_nothing<R: Reader>(rt: &impl Abort, alloc: Global, mut reader: R) {
 }
 
 #[test]
-fn a_reader_that_has_failed(rt: HostRuntime) -> Result<(), Fail> {
+fn a_failed_reader_refuses_each_call_that_reads_and_stays(rt: HostRuntime) -> Result<(), Fail> {
     let mut reader = der_reader(&[0x01, 0x02])?;
     let refused = reader.read_slice(Length::new(3)).err();
     same(&rt, refused, Some(incomplete(3, 2, 0)));

@@ -9,7 +9,7 @@ fn header(alloc: Global, bytes: &[u8]) -> Result<(Header, usize), Error> {
 }
 
 #[test]
-fn headers_ahead(rt: HostRuntime) {
+fn headers_at_the_front_are_read(rt: HostRuntime) {
     let alloc = rt.alloc();
     let integer = Header::new(Tag::Integer, Length::ONE);
     same(
@@ -31,7 +31,7 @@ fn headers_ahead(rt: HostRuntime) {
 }
 
 #[test]
-fn what_a_header_says(rt: HostRuntime) {
+fn a_header_tells_its_tag_length_and_bit(rt: HostRuntime) {
     let sequence = Header::new(Tag::Sequence, Length::new(3));
     same(&rt, sequence.tag(), Tag::Sequence);
     same(&rt, sequence.length(), Length::new(3));
@@ -47,7 +47,7 @@ fn what_a_header_says(rt: HostRuntime) {
 }
 
 #[test]
-fn headers_that_are_refused(rt: HostRuntime) {
+fn headers_that_are_cut_or_wrong_are_refused(rt: HostRuntime) {
     let rows: [(&[u8], Error); 6] = [
         (&[], incomplete(1, 0, 0)),
         (&[0x30], incomplete(2, 1, 1)),
@@ -63,7 +63,7 @@ fn headers_that_are_refused(rt: HostRuntime) {
 
 // Each octet of the longest header is wanted where it is missing.
 #[test]
-fn headers_that_are_cut(rt: HostRuntime) {
+fn a_cut_header_wants_the_octet_that_is_missing(rt: HostRuntime) {
     let longest = [
         0xBF, 0x8F, 0xFF, 0xFF, 0xFF, 0x7F, 0x84, 0xFF, 0xFF, 0xFF, 0xFF,
     ];

@@ -1,6 +1,7 @@
 //! Lengths that are read.
 use super::*;
 use crate::checks::{same, same_at};
+use der_fixtures::encodings::{LENGTHS, OVERLONG_LENGTHS};
 use der_fixtures::errors::indefinite;
 
 fn length(alloc: Global, bytes: &[u8]) -> Result<(Length, usize), Error> {
@@ -8,25 +9,15 @@ fn length(alloc: Global, bytes: &[u8]) -> Result<(Length, usize), Error> {
 }
 
 #[test]
-fn lengths_of_each_form(rt: HostRuntime) {
-    let rows: [(&[u8], u32); 8] = [
-        (&[0x00], 0),
-        (&[0x7F], 127),
-        (&[0x81, 0x80], 128),
-        (&[0x81, 0xFF], 255),
-        (&[0x82, 0x01, 0x00], 256),
-        (&[0x82, 0xAA, 0xBB], 43707),
-        (&[0x83, 0x01, 0x00, 0x00], 65536),
-        (&[0x84, 0xFF, 0xFF, 0xFF, 0xFF], 4294967295),
-    ];
-    for (octets, number) in rows {
+fn lengths_of_each_form_are_read(rt: HostRuntime) {
+    for (number, octets) in LENGTHS {
         let read = Ok((Length::new(number), 0));
         same_at(&rt, number, length(rt.alloc(), octets), read);
     }
 }
 
 #[test]
-fn octets_behind_a_length(rt: HostRuntime) {
+fn octets_behind_a_length_are_left(rt: HostRuntime) {
     same(
         &rt,
         length(rt.alloc(), &[0x81, 0x80, 0x05, 0x00]),
@@ -35,28 +26,21 @@ fn octets_behind_a_length(rt: HostRuntime) {
 }
 
 #[test]
-fn lengths_that_are_not_the_shortest(rt: HostRuntime) {
-    let rows: [(&[u8], u32); 5] = [
-        (&[0x81, 0x7F], 2),
-        (&[0x82, 0x00, 0xFF], 3),
-        (&[0x84, 0x00, 0xFF, 0xFF, 0xFF], 5),
-        (&[0x85, 0x01], 1),
-        (&[0xFF], 1),
-    ];
-    for (octets, position) in rows {
+fn lengths_that_are_not_the_shortest_are_refused(rt: HostRuntime) {
+    for (octets, position) in OVERLONG_LENGTHS {
         let too_long = ErrorKind::Overlength.at(Length::new(position));
         same_at(&rt, position, length(rt.alloc(), octets), Err(too_long));
     }
 }
 
 #[test]
-fn the_indefinite_form(rt: HostRuntime) {
+fn the_indefinite_form_is_refused(rt: HostRuntime) {
     let refused = Err(indefinite(1));
     same(&rt, length(rt.alloc(), &[0x80, 0x00, 0x00]), refused);
 }
 
 #[test]
-fn lengths_that_are_cut(rt: HostRuntime) {
+fn a_cut_length_wants_the_octet_that_is_missing(rt: HostRuntime) {
     let alloc = rt.alloc();
     same(&rt, length(alloc, &[]), Err(incomplete(1, 0, 0)));
     same(&rt, length(alloc, &[0x81]), Err(incomplete(2, 1, 1)));
@@ -68,7 +52,7 @@ fn lengths_that_are_cut(rt: HostRuntime) {
 }
 
 #[test]
-fn a_length_without_an_allocator(rt: HostRuntime) -> Result<(), Fail> {
+fn a_length_is_read_without_an_allocator(rt: HostRuntime) -> Result<(), Fail> {
     let octets = [0x82, 0xAA, 0xBB, 0x01];
     let mut reader = der_reader(&octets)?;
     same(&rt, decode_length(&mut reader), Ok(Length::new(43707)));

@@ -25,7 +25,7 @@ fn copy_sixty<R: Reader>(rt: &impl Abort, heap: &LocalHeap, mut reader: R, size:
 }
 
 #[test]
-fn a_refused_copy_leaves_the_reader(rt: HostRuntime) -> Result<(), Fail> {
+fn a_copy_without_memory_leaves_the_reader_where_it_is(rt: HostRuntime) -> Result<(), Fail> {
     let octets = [0x07u8; 60];
     let (mut lent, mut filled) = ([false, false], [false, false]);
     for size in SIZES {

@@ -24,7 +24,7 @@ fn part(reader: &mut SliceReader<'_>, length: Length) -> Result<u8, Error> {
 }
 
 #[test]
-fn parts_of_octets(rt: HostRuntime) -> Result<(), Fail> {
+fn a_part_is_refused_where_octets_are_left_or_missing(rt: HostRuntime) -> Result<(), Fail> {
     let rows = [
         (1, Ok(0x01), (1, 2, false)),
         (2, Err(trailing(1, 1)), (1, 2, true)),
@@ -39,7 +39,7 @@ fn parts_of_octets(rt: HostRuntime) -> Result<(), Fail> {
 }
 
 #[test]
-fn a_part_past_the_end(rt: HostRuntime) -> Result<(), Fail> {
+fn a_part_past_the_end_is_refused_and_the_reader_stays(rt: HostRuntime) -> Result<(), Fail> {
     let octets = [0x01, 0x02, 0x03];
     let mut reader = der_reader(&octets)?;
     same(&rt, octet(&mut reader), Ok(0x01));
@@ -52,7 +52,7 @@ fn a_part_past_the_end(rt: HostRuntime) -> Result<(), Fail> {
 }
 
 #[test]
-fn sequences(rt: HostRuntime) -> Result<(), Fail> {
+fn a_sequence_is_read_only_with_its_tag_and_all_its_octets(rt: HostRuntime) -> Result<(), Fail> {
     let null = Header::new(Tag::Null, Length::ZERO);
     let rows: [(&[u8], Result<Header, Error>, (u32, u32, bool)); 4] = [
         (&[0x30, 0x02, 0x05, 0x00, 0x01], Ok(null), (4, 5, false)),
@@ -92,7 +92,7 @@ fn place_in(position: &Position) -> (u32, u32, u8) {
 }
 
 #[test]
-fn positions(rt: HostRuntime) {
+fn a_position_advances_up_to_its_end_and_no_further(rt: HostRuntime) {
     let mut position = Position::new(Length::new(42));
     let past = Err(incomplete(43, 42, 42));
     let rows = [(1, Ok(Length::ONE)), (41, Ok(Length::new(42))), (1, past)];
@@ -103,7 +103,7 @@ fn positions(rt: HostRuntime) {
 }
 
 #[test]
-fn positions_in_a_part(rt: HostRuntime) -> Result<(), Fail> {
+fn a_position_in_a_part_ends_there_and_then_goes_on(rt: HostRuntime) -> Result<(), Fail> {
     let mut position = Position::new(Length::new(42));
     let resumption = position.split_nested(Length::ONE)?;
     same(&rt, resumption.input_len(), Length::new(42));
@@ -115,7 +115,7 @@ fn positions_in_a_part(rt: HostRuntime) -> Result<(), Fail> {
 }
 
 #[test]
-fn a_clone_of_a_position(rt: HostRuntime) -> Result<(), Fail> {
+fn a_clone_of_a_position_stays_where_it_was_made(rt: HostRuntime) -> Result<(), Fail> {
     let mut position = Position::new(Length::new(42));
     same(&rt, advance(&mut position, 2), Ok(Length::new(2)));
     position.split_nested(Length::new(10))?;
@@ -126,7 +126,7 @@ fn a_clone_of_a_position(rt: HostRuntime) -> Result<(), Fail> {
 }
 
 #[test]
-fn a_part_past_the_end_of_a_position(rt: HostRuntime) -> Result<(), Fail> {
+fn a_position_refuses_a_part_past_its_end_and_stays(rt: HostRuntime) -> Result<(), Fail> {
     let mut position = Position::new(Length::new(42));
     same(&rt, advance(&mut position, 1), Ok(Length::ONE));
     same(&rt, position.remaining_len(), Length::new(41));
@@ -142,7 +142,7 @@ fn a_part_past_the_end_of_a_position(rt: HostRuntime) -> Result<(), Fail> {
 }
 
 #[test]
-fn values_with_and_without_end_marks(rt: HostRuntime) -> Result<(), Fail> {
+fn a_value_is_read_with_the_end_mark_of_a_flagged_length(rt: HostRuntime) -> Result<(), Fail> {
     let rows = [
         (Length::new_indefinite(3), Length::new_indefinite(1), 3),
         (Length::ONE, Length::ONE, 1),
@@ -158,7 +158,7 @@ fn values_with_and_without_end_marks(rt: HostRuntime) -> Result<(), Fail> {
 }
 
 #[test]
-fn end_marks(rt: HostRuntime) -> Result<(), Fail> {
+fn an_end_mark_is_read_and_another_octet_is_refused(rt: HostRuntime) -> Result<(), Fail> {
     let octets = [0x00, 0x00, 0x05];
     let mut reader = der_reader(&octets)?;
     same(&rt, read_eoc(&mut reader), Ok(()));

@@ -8,7 +8,7 @@ fn octets_of<'a>(reader: &mut SliceReader<'a>, length: Length) -> Result<&'a [u8
 }
 
 #[test]
-fn a_new_reader(rt: HostRuntime) -> Result<(), Fail> {
+fn a_new_reader_stands_at_the_front_under_der(rt: HostRuntime) -> Result<(), Fail> {
     let reader = der_reader(&[0x01, 0x02])?;
     holds(&rt, reader.encoding_rules().is_der());
     same(&rt, reader.place(), (0, 2, false));
@@ -16,7 +16,7 @@ fn a_new_reader(rt: HostRuntime) -> Result<(), Fail> {
 }
 
 #[test]
-fn octets_in_turn(rt: HostRuntime) -> Result<(), Fail> {
+fn octets_are_lent_in_turn(rt: HostRuntime) -> Result<(), Fail> {
     let octets = [0x01, 0x02, 0x03, 0x04];
     let mut reader = der_reader(&octets)?;
     same(&rt, octet(&mut reader), Ok(0x01));
@@ -29,7 +29,7 @@ fn octets_in_turn(rt: HostRuntime) -> Result<(), Fail> {
 }
 
 #[test]
-fn contents_behind_a_header(rt: HostRuntime) -> Result<(), Fail> {
+fn contents_behind_a_header_are_lent(rt: HostRuntime) -> Result<(), Fail> {
     let octets = [0x04, 0x02, 0x31, 0x32];
     let mut reader = der_reader(&octets)?;
     let header: Result<Header, Error> = reader.decode(rt.alloc());
@@ -42,7 +42,7 @@ fn contents_behind_a_header(rt: HostRuntime) -> Result<(), Fail> {
 }
 
 #[test]
-fn octets_to_the_end(rt: HostRuntime) -> Result<(), Fail> {
+fn octets_are_read_to_the_end_and_no_further(rt: HostRuntime) -> Result<(), Fail> {
     let mut reader = der_reader(&[0x03, 0x04])?;
     let mut octets = [0u8; 2];
     same(&rt, reader.read_into(&mut octets), Ok(()));
@@ -54,7 +54,7 @@ fn octets_to_the_end(rt: HostRuntime) -> Result<(), Fail> {
 }
 
 #[test]
-fn octets_that_are_not_there(rt: HostRuntime) -> Result<(), Fail> {
+fn octets_that_are_missing_are_refused_and_the_reader_fails(rt: HostRuntime) -> Result<(), Fail> {
     let octets = [0x01, 0x02];
     let mut reader = der_reader(&octets)?;
     let missing = Some(incomplete(4294967295, 2, 0));
@@ -71,7 +71,7 @@ fn octets_that_are_not_there(rt: HostRuntime) -> Result<(), Fail> {
 }
 
 #[test]
-fn more_octets_than_a_length_counts(rt: HostRuntime) -> Result<(), Fail> {
+fn more_octets_than_a_length_counts_leave_the_reader_usable(rt: HostRuntime) -> Result<(), Fail> {
     let octets = [0x01, 0x02];
     let mut reader = der_reader(&octets)?;
     same(&rt, octet(&mut reader), Ok(0x01));
@@ -84,7 +84,7 @@ fn more_octets_than_a_length_counts(rt: HostRuntime) -> Result<(), Fail> {
 }
 
 #[test]
-fn an_error_of_the_caller(rt: HostRuntime) -> Result<(), Fail> {
+fn an_error_of_the_caller_is_placed_and_fails_the_reader(rt: HostRuntime) -> Result<(), Fail> {
     let octets = [0x01, 0x02];
     let mut reader = der_reader(&octets)?;
     same(&rt, octet(&mut reader), Ok(0x01));
@@ -95,7 +95,7 @@ fn an_error_of_the_caller(rt: HostRuntime) -> Result<(), Fail> {
 }
 
 #[test]
-fn memory_that_was_refused(rt: HostRuntime) {
+fn want_of_memory_is_told_apart_from_overflow(rt: HostRuntime) {
     holds(&rt, ErrorKind::OutOfMemory.to_error().is_out_of_memory());
     holds(&rt, !ErrorKind::Overflow.to_error().is_out_of_memory());
 }

@@ -13,7 +13,7 @@ fn read_header<R: Reader>(reader: &mut R) -> Result<Header, Error>
 }
 
 #[test]
-fn headers_without_lending(rt: HostRuntime) -> Result<(), Fail> {
+fn a_reader_that_cannot_lend_reads_and_refuses_headers(rt: HostRuntime) -> Result<(), Fail> {
     let octets = [0x30, 0x02, 0x05, 0x00, 0x04, 0x81, 0x7F];
     let mut reader = der_unlent(&octets)?;
     let null = Header::new(Tag::Null, Length::ZERO);
@@ -37,7 +37,7 @@ fn nothing_is_lent(rt: HostRuntime) -> Result<(), Fail> {
 }
 
 #[test]
-fn octets_without_lending(rt: HostRuntime) -> Result<(), Fail> {
+fn a_reader_that_cannot_lend_peeks_and_copies_octets(rt: HostRuntime) -> Result<(), Fail> {
     let octets = [0x05, 0x00];
     let mut reader = der_unlent(&octets)?;
     same(&rt, decode_length(&mut reader), Ok(Length::new(5)));
@@ -49,7 +49,7 @@ fn octets_without_lending(rt: HostRuntime) -> Result<(), Fail> {
 }
 
 #[test]
-fn values_without_lending(rt: HostRuntime) -> Result<(), Fail> {
+fn a_reader_that_cannot_lend_decodes_a_tag_and_finishes(rt: HostRuntime) -> Result<(), Fail> {
     let octets = [0x05, 0x30];
     let mut reader = der_unlent(&octets)?;
     same(&rt, reader.peek_tag(), Ok(Tag::Null));

@@ -12,7 +12,7 @@ fn read_one<R: Reader>(reader: &mut R) -> Result<u8, Error>
 }
 
 #[test]
-fn a_part_without_lending(rt: HostRuntime) -> Result<(), Fail> {
+fn a_reader_that_cannot_lend_reads_a_part(rt: HostRuntime) -> Result<(), Fail> {
     let octets = [0x07, 0x05];
     let mut reader = der_unlent(&octets)?;
     same(&rt, reader.read_nested(Length::ONE, read_one), Ok(0x07));
@@ -31,7 +31,7 @@ fn read_contents<R: Reader>(reader: &mut R, header: Header) -> Result<(u8, Lengt
 }
 
 #[test]
-fn a_value_without_lending(rt: HostRuntime) -> Result<(), Fail> {
+fn a_reader_that_cannot_lend_reads_a_value_with_its_end_mark(rt: HostRuntime) -> Result<(), Fail> {
     let octets = [0x07, 0x00, 0x00];
     let mut reader = der_unlent(&octets)?;
     let header = Header::new(Tag::OctetString, Length::new_indefinite(3));
@@ -42,7 +42,7 @@ fn a_value_without_lending(rt: HostRuntime) -> Result<(), Fail> {
 }
 
 #[test]
-fn contents_closed_without_lending(rt: HostRuntime) -> Result<(), Fail> {
+fn a_reader_that_cannot_lend_refuses_octets_left_in_contents(rt: HostRuntime) -> Result<(), Fail> {
     let octets = [0x07, 0x05];
     let mut reader = der_unlent(&octets)?;
     let outer = reader.enter_nested(Length::new(2))?;

@@ -5,7 +5,7 @@ use der::{Class, TagPeek};
 use der_fixtures::errors::unknown;
 
 #[test]
-fn a_header_ahead_without_lending(rt: HostRuntime) -> Result<(), Fail> {
+fn a_reader_that_cannot_lend_peeks_a_header(rt: HostRuntime) -> Result<(), Fail> {
     let octets = [0x30, 0x00];
     let reader = der_unlent(&octets)?;
     let sequence = Header::new(Tag::Sequence, Length::ZERO);
@@ -16,7 +16,7 @@ fn a_header_ahead_without_lending(rt: HostRuntime) -> Result<(), Fail> {
 }
 
 #[test]
-fn octets_ahead_without_lending(rt: HostRuntime) -> Result<(), Fail> {
+fn a_reader_that_cannot_lend_peeks_octets(rt: HostRuntime) -> Result<(), Fail> {
     let octets = [0x30, 0x00];
     let reader = der_unlent(&octets)?;
     let mut buffer = [0u8; 2];
@@ -27,7 +27,7 @@ fn octets_ahead_without_lending(rt: HostRuntime) -> Result<(), Fail> {
 }
 
 #[test]
-fn a_tag_ahead_without_lending(rt: HostRuntime) -> Result<(), Fail> {
+fn a_reader_that_cannot_lend_peeks_and_matches_a_tag(rt: HostRuntime) -> Result<(), Fail> {
     let octets = [0xA1, 0x00];
     let mut reader = der_unlent(&octets)?;
     let one = TagNumber(1);
@@ -42,7 +42,7 @@ fn a_tag_ahead_without_lending(rt: HostRuntime) -> Result<(), Fail> {
 }
 
 #[test]
-fn a_tag_and_its_bit_without_lending(rt: HostRuntime) -> Result<(), Fail> {
+fn a_reader_that_cannot_lend_decodes_a_tag_with_its_bit(rt: HostRuntime) -> Result<(), Fail> {
     let octets = [0x30];
     let mut reader = der_unlent(&octets)?;
     same(
@@ -55,7 +55,7 @@ fn a_tag_and_its_bit_without_lending(rt: HostRuntime) -> Result<(), Fail> {
 }
 
 #[test]
-fn a_header_decoded_without_lending(rt: HostRuntime) -> Result<(), Fail> {
+fn a_reader_that_cannot_lend_decodes_a_header(rt: HostRuntime) -> Result<(), Fail> {
     let octets = [0x04, 0x01];
     let mut reader = der_unlent(&octets)?;
     let header = Header::new(Tag::OctetString, Length::ONE);
@@ -65,7 +65,7 @@ fn a_header_decoded_without_lending(rt: HostRuntime) -> Result<(), Fail> {
 }
 
 #[test]
-fn a_length_decoded_without_lending(rt: HostRuntime) -> Result<(), Fail> {
+fn a_reader_that_cannot_lend_decodes_a_length(rt: HostRuntime) -> Result<(), Fail> {
     let octets = [0x81, 0x80];
     let mut reader = der_unlent(&octets)?;
     same(
@@ -78,7 +78,7 @@ fn a_length_decoded_without_lending(rt: HostRuntime) -> Result<(), Fail> {
 }
 
 #[test]
-fn a_value_refused_without_lending(rt: HostRuntime) -> Result<(), Fail> {
+fn a_refused_value_fails_a_reader_that_cannot_lend(rt: HostRuntime) -> Result<(), Fail> {
     let mut reader = der_unlent(&[0x3F, 0x05])?;
     let refused = Err(unknown(0x3F, 1));
     same(&rt, unlent_tag(rt.alloc(), &mut reader), refused);

@@ -23,7 +23,7 @@ fn cut_header<R: Reader>(rt: &impl Abort, mut reader: R, error: Error) {
 }
 
 #[test]
-fn a_body_in_a_body(rt: HostRuntime) -> Result<(), Fail> {
+fn each_cut_of_a_body_in_a_body_is_refused(rt: HostRuntime) -> Result<(), Fail> {
     // how many octets there are, how many are wanted, and where
     let rows = [
         (0u32, 1, 0),
@@ -52,7 +52,7 @@ fn a_body_in_a_body(rt: HostRuntime) -> Result<(), Fail> {
 // Contents from position 4 to 130 are passed in steps of sixteen octets, of which the last has
 // fourteen. A cut in a step is told where the step begins, with where it ends.
 #[test]
-fn a_long_body(rt: HostRuntime) -> Result<(), Fail> {
+fn each_cut_of_a_long_body_is_refused_at_its_step_of_16(rt: HostRuntime) -> Result<(), Fail> {
     let octets = around_contents(rt.alloc(), 126)?;
     let octets = octets.as_slice();
     for count in [0u32, 1, 2, 3, 130, 131] {

@@ -32,7 +32,7 @@ const READS: [(u32, u32); 11] = [
 ];
 
 #[test]
-fn a_header_whose_reads_fail_in_turn(rt: HostRuntime) -> Result<(), Fail> {
+fn a_header_is_refused_at_whichever_read_fails(rt: HostRuntime) -> Result<(), Fail> {
     for (read, begins) in READS {
         let refused = (Err(unsupported(begins)), (begins.min(2), 12, false));
         same_at(&rt, read, header_of(&SEGMENT_OF_ZEROS, read)?, refused);
@@ -46,7 +46,7 @@ fn a_header_whose_reads_fail_in_turn(rt: HostRuntime) -> Result<(), Fail> {
 }
 
 #[test]
-fn a_scan_whose_reads_fail_in_turn(rt: HostRuntime) -> Result<(), Fail> {
+fn a_scan_is_refused_at_whichever_read_fails(rt: HostRuntime) -> Result<(), Fail> {
     let rows = [
         (1, Err(unsupported(0)), 0),
         (2, Err(unsupported(1)), 1),
@@ -71,7 +71,7 @@ fn a_scan_whose_reads_fail_in_turn(rt: HostRuntime) -> Result<(), Fail> {
 
 // A primitive identifier before octet 80 is never taken, whichever read fails.
 #[test]
-fn a_refused_body_whose_reads_fail_in_turn(rt: HostRuntime) -> Result<(), Fail> {
+fn a_wrong_body_is_never_taken_whichever_read_fails(rt: HostRuntime) -> Result<(), Fail> {
     let octets = [0x30, 0x80, 0x04, 0x80, 0x00, 0x00, 0x00, 0x00];
     for read in 1..=4u32 {
         let (refused, _) = header_of(&octets, read)?;
@@ -86,7 +86,7 @@ fn a_refused_body_whose_reads_fail_in_turn(rt: HostRuntime) -> Result<(), Fail> 
 
 // The header is read ahead; then the element is to be lent, and is not.
 #[test]
-fn an_element_whose_reads_fail_in_turn(rt: HostRuntime) -> Result<(), Fail> {
+fn an_element_is_never_lent_whichever_read_fails(rt: HostRuntime) -> Result<(), Fail> {
     for (read, begins) in READS {
         element_refused(&rt, read, begins)?;
     }
@@ -117,7 +117,7 @@ fn sequence_by<R: Reader>(mut reader: R) -> (Result<Header, Error>, (u32, u32, b
 }
 
 #[test]
-fn a_sequence_whose_reads_fail_in_turn(rt: HostRuntime) -> Result<(), Fail> {
+fn a_sequence_is_refused_at_whichever_read_fails(rt: HostRuntime) -> Result<(), Fail> {
     let octets = [0x30, 0x02, 0x05, 0x00];
     for read in 1..=4u32 {
         let refused = (Err(unsupported(read - 1)), (read - 1, 4, false));
@@ -133,7 +133,7 @@ fn a_sequence_whose_reads_fail_in_turn(rt: HostRuntime) -> Result<(), Fail> {
 
 // The body is scanned ahead, so what fails in it fails before the contents are entered.
 #[test]
-fn a_sequence_with_an_end_mark_whose_reads_fail_in_turn(rt: HostRuntime) -> Result<(), Fail> {
+fn an_indefinite_sequence_is_refused_at_whichever_read_fails(rt: HostRuntime) -> Result<(), Fail> {
     let octets = [0x30, 0x80, 0x05, 0x00, 0x00, 0x00];
     for read in 1..=6u32 {
         let begins = read - 1;

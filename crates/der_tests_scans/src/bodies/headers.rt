@@ -30,7 +30,7 @@ fn reads_on_both(rt: &impl Abort, octets: &[u8], count: u32) -> Result<(), Error
 }
 
 #[test]
-fn a_body_in_a_body(rt: HostRuntime) -> Result<(), Fail> {
+fn the_header_of_a_body_in_a_body_counts_its_octets(rt: HostRuntime) -> Result<(), Fail> {
     reads_on_both(&rt, &SEGMENT_OF_ZEROS, 10)?;
     let mut reader = ber_reader(&SEGMENT_OF_ZEROS)?;
     let header = Header::decode(rt.alloc(), &mut reader)?;
@@ -42,7 +42,7 @@ fn a_body_in_a_body(rt: HostRuntime) -> Result<(), Fail> {
 }
 
 #[test]
-fn bodies_of_each_kind(rt: HostRuntime) -> Result<(), Fail> {
+fn bodies_of_each_kind_are_counted_with_their_end_marks(rt: HostRuntime) -> Result<(), Fail> {
     let rows: [(&[u8], u32); 6] = [
         (&[0x30, 0x80, 0x00, 0x00], 2),
         (&[0x30, 0x80, 0x00, 0x00, 0x05, 0x00], 2),
@@ -59,14 +59,14 @@ fn bodies_of_each_kind(rt: HostRuntime) -> Result<(), Fail> {
 
 // Contents of a definite length are passed unread, whatever they are.
 #[test]
-fn contents_that_are_no_elements(rt: HostRuntime) -> Result<(), Fail> {
+fn contents_of_definite_length_are_passed_unread(rt: HostRuntime) -> Result<(), Fail> {
     let octets = [0x30, 0x80, 0x30, 0x03, 0x3F, 0x80, 0x00, 0x00, 0x00];
     reads_on_both(&rt, &octets, 7)?;
     Ok(())
 }
 
 #[test]
-fn long_bodies(rt: HostRuntime) -> Result<(), Fail> {
+fn long_bodies_are_counted_across_steps_of_16_octets(rt: HostRuntime) -> Result<(), Fail> {
     for count in [0, 15, 16, 17, 123, 127] {
         let octets = around_contents(rt.alloc(), count)?;
         reads_on_both(&rt, octets.as_slice(), count as u32 + 4)?;
@@ -75,7 +75,7 @@ fn long_bodies(rt: HostRuntime) -> Result<(), Fail> {
 }
 
 #[test]
-fn as_many_bodies_as_may_be_open(rt: HostRuntime) -> Result<(), Fail> {
+fn a_header_counts_64_bodies_inside_each_other(rt: HostRuntime) -> Result<(), Fail> {
     let octets = around_null(rt.alloc(), 64)?;
     same(&rt, octets.len(), 258);
     reads_on_both(&rt, octets.as_slice(), 256)?;
@@ -86,7 +86,7 @@ fn as_many_bodies_as_may_be_open(rt: HostRuntime) -> Result<(), Fail> {
 
 // At the top the body is scanned first; inside a scan the identifier is refused at once.
 #[test]
-fn a_primitive_identifier_before_octet_80(rt: HostRuntime) -> Result<(), Fail> {
+fn a_primitive_identifier_is_refused_once_its_body_is_scanned(rt: HostRuntime) -> Result<(), Fail> {
     let rows: [&[u8]; 3] = [
         &[0x04, 0x80, 0x00, 0x00],
         &[0x04, 0x80, 0x04, 0x01, 0x09, 0x00, 0x00],
@@ -117,7 +117,7 @@ fn refused_behind<R: Reader>(rt: &impl Abort, mut reader: R, error: Error, faile
 }
 
 #[test]
-fn lengths_without_a_tag(rt: HostRuntime) -> Result<(), Fail> {
+fn a_length_without_a_tag_counts_its_body(rt: HostRuntime) -> Result<(), Fail> {
     let rows: [(&[u8], Error); 2] = [
         (&[0x80, 0x00, 0x00], trailing(1, 2)),
         (&[0x80], incomplete(2, 1, 1)),
@@ -135,7 +135,7 @@ fn lengths_without_a_tag(rt: HostRuntime) -> Result<(), Fail> {
 
 // A header is not the octets of its body.
 #[test]
-fn headers_that_are_all_the_octets(rt: HostRuntime) {
+fn a_header_is_not_the_octets_of_its_body(rt: HostRuntime) {
     let rows: [(&[u8], Error); 2] = [
         (&[0x30, 0x80, 0x00, 0x00], trailing(2, 2)),
         (&[0x30, 0x80], incomplete(3, 2, 2)),
@@ -148,7 +148,7 @@ fn headers_that_are_all_the_octets(rt: HostRuntime) {
 
 // A body is refused with the tags in it, also behind a length that has none.
 #[test]
-fn a_length_whose_body_is_refused(rt: HostRuntime) -> Result<(), Fail> {
+fn a_length_is_refused_by_the_error_of_its_body(rt: HostRuntime) -> Result<(), Fail> {
     let mut reader = ber_reader(&[0x80, 0x04, 0x81, 0x7F])?;
     let refused = incorrect(Tag::OctetString, 4);
     same(&rt, next_length(&mut reader), Err(refused));
@@ -157,7 +157,7 @@ fn a_length_whose_body_is_refused(rt: HostRuntime) -> Result<(), Fail> {
 }
 
 #[test]
-fn a_header_behind_a_refused_one(rt: HostRuntime) -> Result<(), Fail> {
+fn a_header_is_read_behind_a_refused_one(rt: HostRuntime) -> Result<(), Fail> {
     let mut reader = ber_reader(&[0x30, 0x80, 0x05, 0x00])?;
     same(&rt, next_header(&mut reader), Err(incomplete(5, 4, 4)));
     let null = Header::new(Tag::Null, Length::ZERO);
@@ -168,7 +168,7 @@ fn a_header_behind_a_refused_one(rt: HostRuntime) -> Result<(), Fail> {
 
 // A reader that decodes marks every refusal.
 #[test]
-fn headers_decoded_by_a_reader(rt: HostRuntime) -> Result<(), Fail> {
+fn a_reader_that_decodes_fails_by_a_refused_header(rt: HostRuntime) -> Result<(), Fail> {
     let mut reader = ber_reader(&[0x30, 0x80])?;
     let header: Result<Header, Error> = reader.decode(rt.alloc());
     same(&rt, header, Err(incomplete(3, 2, 2)));

@@ -21,7 +21,7 @@ fn cut_by_a_part<R: Reader>(rt: &impl Abort, mut reader: R) {
 }
 
 #[test]
-fn a_body_that_its_part_cuts(rt: HostRuntime) -> Result<(), Fail> {
+fn a_body_that_its_part_cuts_is_refused(rt: HostRuntime) -> Result<(), Fail> {
     let octets = [0x30, 0x80, 0x04, 0x00, 0x00, 0x00];
     cut_by_a_part(&rt, ber_reader(&octets)?);
     cut_by_a_part(&rt, ber_unlent(&octets)?);
@@ -30,7 +30,7 @@ fn a_body_that_its_part_cuts(rt: HostRuntime) -> Result<(), Fail> {
 
 // A part that holds the body, and one that cuts its contents.
 #[test]
-fn bodies_in_parts(rt: HostRuntime) -> Result<(), Fail> {
+fn a_body_is_scanned_up_to_the_end_of_its_part(rt: HostRuntime) -> Result<(), Fail> {
     let rows: [(&[u8], u32, Error, bool); 2] = [
         (
             &[0x30, 0x80, 0x04, 0x00, 0x00, 0x00, 0x05, 0x00],
@@ -55,7 +55,7 @@ fn bodies_in_parts(rt: HostRuntime) -> Result<(), Fail> {
 }
 
 #[test]
-fn an_element_that_its_part_cuts(rt: HostRuntime) -> Result<(), Fail> {
+fn an_element_is_refused_where_a_part_cuts_it_and_then_lent(rt: HostRuntime) -> Result<(), Fail> {
     let mut reader = ber_reader(&[0x30, 0x80, 0x00, 0x00])?;
     let outer = reader.enter_nested(Length::new(3))?;
     same(&rt, reader.tlv_bytes().err(), Some(incomplete(4, 3, 3)));
@@ -77,7 +77,7 @@ fn inside(octets: &[u8; 4], parts: u8) -> Result<SliceReader<'_>, Error> {
 
 // A header wants no level of nesting, its contents want one.
 #[test]
-fn a_sequence_inside_parts(rt: HostRuntime) -> Result<(), Fail> {
+fn a_sequence_is_entered_inside_63_parts_and_not_inside_64(rt: HostRuntime) -> Result<(), Fail> {
     let octets = [0x30, 0x80, 0x00, 0x00];
     let mut reader = inside(&octets, 63)?;
     same(&rt, reader.sequence(read_none), Ok(()));
@@ -118,7 +118,7 @@ fn reads_innermost<R: Reader>(rt: &impl Abort, mut reader: R) {
 }
 
 #[test]
-fn as_many_bodies_as_parts(rt: HostRuntime) -> Result<(), Fail> {
+fn bodies_are_entered_64_levels_deep(rt: HostRuntime) -> Result<(), Fail> {
     let octets = around_null(rt.alloc(), 64)?;
     reads_innermost(&rt, ber_reader(octets.as_slice())?);
     reads_innermost(&rt, ber_unlent(octets.as_slice())?);
@@ -127,7 +127,7 @@ fn as_many_bodies_as_parts(rt: HostRuntime) -> Result<(), Fail> {
 
 // Inside one part more the header is still read, but not the contents of the 64th element.
 #[test]
-fn as_many_bodies_as_parts_in_a_part(rt: HostRuntime) -> Result<(), Fail> {
+fn inside_a_part_the_64th_body_is_not_entered(rt: HostRuntime) -> Result<(), Fail> {
     let octets = around_null(rt.alloc(), 64)?;
     let mut reader = ber_reader(octets.as_slice())?;
     let outer = reader.enter_nested(Length::new(258))?;
@@ -140,7 +140,7 @@ fn as_many_bodies_as_parts_in_a_part(rt: HostRuntime) -> Result<(), Fail> {
 }
 
 #[test]
-fn more_bodies_than_parts(rt: HostRuntime) -> Result<(), Fail> {
+fn a_scan_refuses_65_bodies_before_one_is_entered(rt: HostRuntime) -> Result<(), Fail> {
     let octets = around_null(rt.alloc(), 65)?;
     let mut reader = ber_reader(octets.as_slice())?;
     same(&rt, innermost(&mut reader, 65), Err(too_deep(130)));

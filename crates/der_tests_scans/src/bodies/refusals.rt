@@ -57,7 +57,7 @@ fn body_refused<R: Reader>(rt: &impl Abort, mut reader: R, error: Error) -> Resu
 }
 
 #[test]
-fn nothing_follows(rt: HostRuntime) -> Result<(), Fail> {
+fn a_body_without_an_end_mark_is_refused(rt: HostRuntime) -> Result<(), Fail> {
     let rows: [(&[u8], Error); 5] = [
         (&[0x30, 0x80], incomplete(3, 2, 2)),
         (&[0x30, 0x80, 0x05, 0x00], incomplete(5, 4, 4)),
@@ -72,7 +72,7 @@ fn nothing_follows(rt: HostRuntime) -> Result<(), Fail> {
 }
 
 #[test]
-fn half_an_end_mark(rt: HostRuntime) -> Result<(), Fail> {
+fn half_an_end_mark_is_refused(rt: HostRuntime) -> Result<(), Fail> {
     let rows: [(&[u8], Error); 3] = [
         (&[0x30, 0x80, 0x00], incomplete(4, 3, 3)),
         (&[0x30, 0x80, 0x05, 0x00, 0x00], incomplete(6, 5, 5)),
@@ -85,7 +85,7 @@ fn half_an_end_mark(rt: HostRuntime) -> Result<(), Fail> {
 }
 
 #[test]
-fn half_an_end_mark_and_another_octet(rt: HostRuntime) -> Result<(), Fail> {
+fn half_an_end_mark_before_another_octet_is_refused(rt: HostRuntime) -> Result<(), Fail> {
     let rows: [(&[u8], Error); 4] = [
         (&[0x30, 0x80, 0x00, 0x01], indefinite(4)),
         (&[0x30, 0x80, 0x00, 0x80, 0x00, 0x00], indefinite(4)),
@@ -102,7 +102,7 @@ fn half_an_end_mark_and_another_octet(rt: HostRuntime) -> Result<(), Fail> {
 }
 
 #[test]
-fn identifiers_that_are_refused(rt: HostRuntime) -> Result<(), Fail> {
+fn wrong_identifiers_in_a_body_are_refused(rt: HostRuntime) -> Result<(), Fail> {
     let rows: [(&[u8], Error); 5] = [
         (&[0x30, 0x80, 0x3F, 0x00], unknown(0x3F, 3)),
         (&[0x30, 0x80, 0x25, 0x80, 0x00, 0x00], unknown(0x25, 3)),
@@ -118,7 +118,7 @@ fn identifiers_that_are_refused(rt: HostRuntime) -> Result<(), Fail> {
 
 // What is refused early is no identifier that is cut.
 #[test]
-fn identifiers_that_are_refused_at_the_end(rt: HostRuntime) -> Result<(), Fail> {
+fn a_wrong_identifier_at_the_end_is_not_told_as_cut(rt: HostRuntime) -> Result<(), Fail> {
     refused(&rt, &[0x30, 0x80, 0x5F, 0x80], invalid_number(4))?;
     let too_large = [0x30, 0x80, 0x5F, 0x90, 0x80, 0x80, 0x80];
     refused(&rt, &too_large, invalid_number(7))?;
@@ -126,7 +126,7 @@ fn identifiers_that_are_refused_at_the_end(rt: HostRuntime) -> Result<(), Fail> 
 }
 
 #[test]
-fn identifiers_that_are_cut(rt: HostRuntime) -> Result<(), Fail> {
+fn cut_identifiers_in_a_body_are_refused(rt: HostRuntime) -> Result<(), Fail> {
     let rows: [(&[u8], Error); 3] = [
         (&[0x30, 0x80, 0x5F, 0x9E], incomplete(5, 4, 4)),
         (&[0x30, 0x80, 0x5F], incomplete(4, 3, 3)),
@@ -139,7 +139,7 @@ fn identifiers_that_are_cut(rt: HostRuntime) -> Result<(), Fail> {
 }
 
 #[test]
-fn primitive_identifiers_before_octet_80(rt: HostRuntime) -> Result<(), Fail> {
+fn primitive_identifiers_before_octet_80_are_refused(rt: HostRuntime) -> Result<(), Fail> {
     let rows: [(&[u8], Error); 4] = [
         (&[0x30, 0x80, 0x04, 0x80], indefinite(4)),
         (&[0x30, 0x80, 0x80, 0x80, 0x00, 0x00], indefinite(4)),
@@ -156,7 +156,7 @@ fn primitive_identifiers_before_octet_80(rt: HostRuntime) -> Result<(), Fail> {
 }
 
 #[test]
-fn more_bodies_than_may_be_open(rt: HostRuntime) -> Result<(), Fail> {
+fn more_than_64_open_bodies_are_refused(rt: HostRuntime) -> Result<(), Fail> {
     let octets = around_null(rt.alloc(), 65)?;
     refused(&rt, octets.as_slice(), too_deep(130))?;
     refused(&rt, first_octets(octets.as_slice(), 130), too_deep(130))?;
@@ -167,7 +167,7 @@ fn more_bodies_than_may_be_open(rt: HostRuntime) -> Result<(), Fail> {
 
 // Where 64 bodies are open, all other refusals are as before.
 #[test]
-fn what_is_refused_inside_all_bodies(rt: HostRuntime) -> Result<(), Fail> {
+fn inside_64_open_bodies_other_refusals_are_as_before(rt: HostRuntime) -> Result<(), Fail> {
     let octets = around_null(rt.alloc(), 65)?;
     let whole = first_octets(octets.as_slice(), 128);
     refused(&rt, whole, incomplete(129, 128, 128))?;
@@ -180,7 +180,7 @@ fn what_is_refused_inside_all_bodies(rt: HostRuntime) -> Result<(), Fail> {
 }
 
 #[test]
-fn lengths_that_are_refused(rt: HostRuntime) -> Result<(), Fail> {
+fn wrong_lengths_in_a_body_are_refused(rt: HostRuntime) -> Result<(), Fail> {
     let rows: [(&[u8], Error); 5] = [
         (
             &[0x30, 0x80, 0x04, 0x81, 0x7F],
@@ -201,7 +201,7 @@ fn lengths_that_are_refused(rt: HostRuntime) -> Result<(), Fail> {
 }
 
 #[test]
-fn lengths_that_are_cut(rt: HostRuntime) -> Result<(), Fail> {
+fn cut_lengths_in_a_body_are_refused(rt: HostRuntime) -> Result<(), Fail> {
     let rows: [(&[u8], Error); 4] = [
         (&[0x30, 0x80, 0x04], incomplete(4, 3, 3)),
         (&[0x30, 0x80, 0x04, 0x82, 0x00], incomplete(6, 5, 5)),
@@ -225,7 +225,7 @@ fn begun(alloc: Global, count: u8, there: usize) -> Result<Vec<u8>, Fail> {
 
 // Whole steps of sixteen octets are passed before the next step is refused.
 #[test]
-fn contents_that_are_cut(rt: HostRuntime) -> Result<(), Fail> {
+fn cut_contents_are_refused_at_their_step_of_16_octets(rt: HostRuntime) -> Result<(), Fail> {
     let rows = [
         (2, 0, incomplete(6, 4, 4)),
         (2, 1, incomplete(6, 5, 4)),
@@ -246,7 +246,7 @@ fn contents_that_are_cut(rt: HostRuntime) -> Result<(), Fail> {
 }
 
 #[test]
-fn contents_of_long_lengths_that_are_cut(rt: HostRuntime) -> Result<(), Fail> {
+fn cut_contents_of_long_lengths_are_refused_at_their_step(rt: HostRuntime) -> Result<(), Fail> {
     refused(&rt, &[0x30, 0x80, 0x05, 0x81, 0x80], incomplete(21, 5, 5))?;
     let longest = [0x30, 0x80, 0x04, 0x84, 0xFF, 0xFF, 0xFF, 0xFF];
     refused(&rt, &longest, incomplete(24, 8, 8))?;

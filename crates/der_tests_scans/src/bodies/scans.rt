@@ -69,7 +69,7 @@ fn scans_on_both(rt: &impl Abort, octets: &[u8], count: u32) -> Result<(), Error
 }
 
 #[test]
-fn bodies_at_the_front(rt: HostRuntime) -> Result<(), Fail> {
+fn bodies_at_the_front_are_counted_and_passed(rt: HostRuntime) -> Result<(), Fail> {
     scans_on_both(&rt, &[0x00, 0x00], 2)?;
     scans_on_both(&rt, &[0x00, 0x00, 0x00, 0x00], 2)?;
     scans_on_both(&rt, &[0x05, 0x00, 0x00, 0x00, 0x3F], 4)?;
@@ -80,7 +80,7 @@ fn bodies_at_the_front(rt: HostRuntime) -> Result<(), Fail> {
 }
 
 #[test]
-fn a_body_behind_a_header(rt: HostRuntime) -> Result<(), Fail> {
+fn a_body_behind_a_header_is_counted_and_passed(rt: HostRuntime) -> Result<(), Fail> {
     for (start, count) in [(2, 10), (4, 6)] {
         scans(&rt, ruled_behind(&SEGMENT_OF_ZEROS, start)?, count);
     }
@@ -88,7 +88,7 @@ fn a_body_behind_a_header(rt: HostRuntime) -> Result<(), Fail> {
 }
 
 #[test]
-fn as_many_bodies_as_may_be_open(rt: HostRuntime) -> Result<(), Fail> {
+fn a_scan_passes_64_open_bodies_and_refuses_65(rt: HostRuntime) -> Result<(), Fail> {
     let octets = around_null(rt.alloc(), 64)?;
     scans(&rt, ruled_behind(octets.as_slice(), 2)?, 256);
     let mut whole = ruled_reader(octets.as_slice())?;
@@ -98,7 +98,7 @@ fn as_many_bodies_as_may_be_open(rt: HostRuntime) -> Result<(), Fail> {
 }
 
 #[test]
-fn a_reader_that_has_failed(rt: HostRuntime) -> Result<(), Fail> {
+fn a_failed_reader_scans_nothing(rt: HostRuntime) -> Result<(), Fail> {
     let mut reader = ruled_behind(&[0x05, 0x00, 0x00, 0x00], 2)?;
     let _ = reader.error(ErrorKind::DateTime);
     let failed = ErrorKind::Failed.at(Length::new(2));
@@ -111,7 +111,7 @@ fn a_reader_that_has_failed(rt: HostRuntime) -> Result<(), Fail> {
 
 // A scan goes up to the end of a part, and stays inside it.
 #[test]
-fn a_body_in_a_part(rt: HostRuntime) -> Result<(), Fail> {
+fn a_scan_stays_inside_its_part(rt: HostRuntime) -> Result<(), Fail> {
     let octets = [0x04, 0x01, 0x2A, 0x00, 0x00];
     let mut reader = ruled_reader(&octets)?;
     let outer = reader.enter_nested(Length::new(4))?;

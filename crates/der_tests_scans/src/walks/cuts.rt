@@ -32,7 +32,7 @@ fn scans_each_cut(
 }
 
 #[test]
-fn short_bodies(rt: HostRuntime) -> Result<(), Fail> {
+fn both_scans_answer_alike_at_each_cut_of_short_bodies(rt: HostRuntime) -> Result<(), Fail> {
     let rows: [(&[u8], u32); 4] = [
         (&SEGMENT_OF_ZEROS, 10),
         (&[0x04, 0x80, 0x00, 0x00], 2),
@@ -46,25 +46,25 @@ fn short_bodies(rt: HostRuntime) -> Result<(), Fail> {
 }
 
 #[test]
-fn a_body_of_eight_steps(rt: HostRuntime) -> Result<(), Fail> {
+fn both_scans_answer_alike_at_each_cut_of_eight_steps(rt: HostRuntime) -> Result<(), Fail> {
     let octets = around_contents(rt.alloc(), 126)?;
     scans_each_cut(&rt, rt.alloc(), octets.as_slice(), body_of(130))
 }
 
 #[test]
-fn as_many_bodies_as_may_be_open(rt: HostRuntime) -> Result<(), Fail> {
+fn both_scans_answer_alike_at_each_cut_of_64_open_bodies(rt: HostRuntime) -> Result<(), Fail> {
     let octets = around_null(rt.alloc(), 64)?;
     scans_each_cut(&rt, rt.alloc(), octets.as_slice(), body_of(256))
 }
 
 #[test]
-fn more_bodies_than_may_be_open(rt: HostRuntime) -> Result<(), Fail> {
+fn both_scans_refuse_65_open_bodies(rt: HostRuntime) -> Result<(), Fail> {
     let octets = around_null(rt.alloc(), 65)?;
     scans_each_cut(&rt, rt.alloc(), octets.as_slice(), Err(too_deep(130)))
 }
 
 #[test]
-fn what_is_no_item(rt: HostRuntime) -> Result<(), Fail> {
+fn both_scans_refuse_alike_what_is_no_item(rt: HostRuntime) -> Result<(), Fail> {
     let rows: [(&[u8], Error); 9] = [
         (&[0x30, 0x80], incomplete(3, 2, 2)),
         (&[0x30, 0x80, 0x00], incomplete(4, 3, 3)),
@@ -83,7 +83,7 @@ fn what_is_no_item(rt: HostRuntime) -> Result<(), Fail> {
 }
 
 #[test]
-fn lengths_and_contents_that_are_refused(rt: HostRuntime) -> Result<(), Fail> {
+fn both_scans_refuse_alike_wrong_lengths_and_cut_contents(rt: HostRuntime) -> Result<(), Fail> {
     let short = [0x30, 0x80, 0x04, 0x81, 0x7F];
     let many = [0x30, 0x80, 0x04, 0x85];
     let long = [0x30, 0x80, 0x04, 0x84, 0xFF, 0xFF, 0xFF, 0xFF];

@@ -1,6 +1,6 @@
 //! Octets that a slice drains at once, and a reader that lends nothing in steps.
 use super::*;
-use crate::checks::{same, same_at};
+use crate::checks::same_at;
 use std::process::Abort;
 
 // Both readers answer the same, and stand at the same place.
@@ -32,24 +32,11 @@ fn drain_each(rt: &impl Abort, octets: &[u8], passed: u32) -> Result<(), Error> 
 }
 
 #[test]
-fn at_most_forty_octets(rt: HostRuntime) -> Result<(), Fail> {
+fn both_readers_drain_up_to_forty_octets_alike(rt: HostRuntime) -> Result<(), Fail> {
     let octets = [0x2A; 41];
     for count in 0..=40usize {
         drain_each(&rt, first_octets(&octets, count), 0)?;
         drain_each(&rt, first_octets(&octets, count + 1), 1)?;
     }
-    Ok(())
-}
-
-#[test]
-fn a_reader_that_has_failed(rt: HostRuntime) -> Result<(), Fail> {
-    let mut reader = ber_reader(&[0x2A; 4])?;
-    reader.drain(Length::new(2))?;
-    let _ = reader.error(ErrorKind::DateTime);
-    let failed = ErrorKind::Failed.at(Length::new(2));
-    same(&rt, reader.drain(Length::ZERO), Ok(()));
-    same(&rt, reader.drain(Length::new_indefinite(0)), Err(failed));
-    same(&rt, reader.drain(Length::ONE), Err(failed));
-    same(&rt, place_of(&reader), (2, 4, true));
     Ok(())
 }

@@ -6,7 +6,7 @@ use crate::checks::same;
 
 // The scan ahead walks what is lent. One that passes the body has to read it.
 #[test]
-fn a_body_that_is_lent_and_not_read(rt: HostRuntime) -> Result<(), Fail> {
+fn a_body_that_is_lent_is_counted_ahead_and_not_passed(rt: HostRuntime) -> Result<(), Fail> {
     let mut reader = ber_lending(&SEGMENT_OF_ZEROS)?;
     reader.drain(Length::new(2))?;
     let (ahead, passed) = scans(&reader);

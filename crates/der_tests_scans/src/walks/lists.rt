@@ -22,7 +22,7 @@ fn scan_lists(rt: &impl Abort, count: u32, lists: usize) -> Result<(), Error> {
 }
 
 #[test]
-fn lists_of_at_most_three_octets(rt: HostRuntime) -> Result<(), Fail> {
+fn both_scans_answer_alike_on_all_short_lists_of_six_octets(rt: HostRuntime) -> Result<(), Fail> {
     for (count, lists) in [(0, 1), (1, 6), (2, 36), (3, 216)] {
         scan_lists(&rt, count, lists)?;
     }

@@ -1,4 +1,5 @@
 //! Every beginning of elements in segments: each is refused where it was cut.
+use super::joined::ELEMENTS;
 use super::levels::{Forms, nested};
 use super::*;
 use crate::checks::same_at;
@@ -7,7 +8,7 @@ use der::example::JoinedOctets;
 use std::process::Abort;
 
 // Where contents stand that a scan passes at once, and how many octets they have, 16 at most.
-type Passed = (u32, u32);
+pub(super) type Passed = (u32, u32);
 
 // What is missing of an element that was cut behind so many octets: the next one, or those that a
 // scan passes at once.
@@ -58,58 +59,15 @@ fn cut_everywhere(
 }
 
 #[test]
-fn elements_of_definite_lengths(rt: HostRuntime) -> Result<(), Fail> {
-    let rows: [(&[u8], &[u8]); 3] = [
-        (&[0x24, 0x00], &[]),
-        (&[0x24, 0x04, 0x04, 0x02, 0xAA, 0xBB], &[0xAA, 0xBB]),
-        (
-            &[
-                0x24, 0x0D, 0x24, 0x80, 0x04, 0x01, 0xBB, 0x24, 0x00, 0x00, 0x00, 0x04, 0x02, 0x00,
-                0x00,
-            ],
-            &[0xBB, 0x00, 0x00],
-        ),
-    ];
-    for (octets, joined) in rows {
-        cut_everywhere(&rt, rt.alloc(), octets, joined, &[])?;
-    }
-    Ok(())
-}
-
-#[test]
-fn elements_of_indefinite_lengths(rt: HostRuntime) -> Result<(), Fail> {
-    let rows: [(&[u8], &[u8], &[Passed]); 5] = [
-        (&[0x24, 0x80, 0x00, 0x00], &[], &[]),
-        (&[0x24, 0x80, 0x24, 0x80, 0x00, 0x00, 0x00, 0x00], &[], &[]),
-        (
-            &[
-                0x24, 0x80, 0x24, 0x80, 0x04, 0x01, 0xAA, 0x00, 0x00, 0x04, 0x01, 0xBB, 0x00, 0x00,
-            ],
-            &[0xAA, 0xBB],
-            &[],
-        ),
-        (
-            &[0x24, 0x80, 0x24, 0x03, 0x04, 0x01, 0xAA, 0x00, 0x00],
-            &[0xAA],
-            &[(4, 3)],
-        ),
-        (
-            &[
-                0x24, 0x80, 0x04, 0x02, 0xAA, 0xBB, 0x24, 0x80, 0x24, 0x05, 0x04, 0x03, 0x00, 0x00,
-                0xCC, 0x00, 0x00, 0x00, 0x00,
-            ],
-            &[0xAA, 0xBB, 0x00, 0x00, 0xCC],
-            &[(4, 2), (10, 5)],
-        ),
-    ];
-    for (octets, joined, passed) in rows {
+fn elements_in_segments_are_refused_wherever_they_are_cut(rt: HostRuntime) -> Result<(), Fail> {
+    for (octets, joined, passed) in ELEMENTS {
         cut_everywhere(&rt, rt.alloc(), octets, joined, passed)?;
     }
     Ok(())
 }
 
 #[test]
-fn elements_as_deep_as_they_may_be(rt: HostRuntime) -> Result<(), Fail> {
+fn elements_64_levels_deep_are_refused_wherever_they_are_cut(rt: HostRuntime) -> Result<(), Fail> {
     for forms in [Forms::Definite, Forms::Indefinite] {
         let octets = nested(rt.alloc(), forms, 64, &[0x04, 0x01, 0x2A])?;
         cut_everywhere(&rt, rt.alloc(), octets.as_slice(), &[0x2A], &[])?;

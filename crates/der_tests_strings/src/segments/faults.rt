@@ -5,7 +5,7 @@ use crate::checks::same_at;
 
 // The body is scanned ahead, so what fails in it fails behind octet 80.
 #[test]
-fn an_element_whose_reads_fail_in_turn(rt: HostRuntime) -> Result<(), Fail> {
+fn an_element_is_refused_at_whichever_read_fails(rt: HostRuntime) -> Result<(), Fail> {
     let octets = [
         0x24, 0x80, 0x04, 0x02, 0xAA, 0xBB, 0x04, 0x01, 0xCC, 0x00, 0x00,
     ];
@@ -35,7 +35,7 @@ fn an_element_whose_reads_fail_in_turn(rt: HostRuntime) -> Result<(), Fail> {
 }
 
 #[test]
-fn segments_whose_reads_fail_in_turn(rt: HostRuntime) -> Result<(), Fail> {
+fn segments_are_refused_at_whichever_read_fails(rt: HostRuntime) -> Result<(), Fail> {
     let octets = [0x04, 0x02, 0xAA, 0xBB, 0x04, 0x01, 0xCC];
     let rows = [(1, 0), (2, 1), (3, 2), (4, 4), (5, 5), (6, 6)];
     for (read, position) in rows {

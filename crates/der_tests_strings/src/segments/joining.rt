@@ -12,7 +12,7 @@ fn behind_indefinite<R: Joins>(rt: &impl Abort, alloc: Global, mut reader: R, nu
 }
 
 #[test]
-fn indefinite_lengths(rt: HostRuntime) -> Result<(), Fail> {
+fn segments_are_joined_behind_any_indefinite_length(rt: HostRuntime) -> Result<(), Fail> {
     let octets = [0x04, 0x01, 0xAA, 0x04, 0x01, 0xBB];
     for number in [0, 1, 2, 3, 6, 8, 4096] {
         behind_indefinite(&rt, rt.alloc(), ber_reader(&octets)?, number);
@@ -31,7 +31,7 @@ fn refused_behind_definite<R: Joins>(rt: &impl Abort, alloc: Global, mut reader:
 }
 
 #[test]
-fn definite_lengths_under_der(rt: HostRuntime) -> Result<(), Fail> {
+fn der_refuses_segments_behind_a_definite_length(rt: HostRuntime) -> Result<(), Fail> {
     let octets = [0x04, 0x05, 0xAA];
     for number in [0, 1, 3, 4294967295] {
         refused_behind_definite(&rt, rt.alloc(), der_reader(&octets)?, number);
@@ -61,7 +61,7 @@ fn behind_definite<R: Joins>(
 }
 
 #[test]
-fn definite_lengths_under_ber(rt: HostRuntime) -> Result<(), Fail> {
+fn ber_joins_segments_behind_any_definite_length(rt: HostRuntime) -> Result<(), Fail> {
     let rows: [(&[u8], Result<&[u8], Error>, (u32, bool)); 4] = [
         (&[], Ok(&[]), (0, false)),
         (
@@ -101,7 +101,7 @@ fn tagged<R: Joins>(
 }
 
 #[test]
-fn tags_of_the_context(rt: HostRuntime) -> Result<(), Fail> {
+fn segments_are_joined_that_have_the_tag_asked_for(rt: HostRuntime) -> Result<(), Fail> {
     let alloc = rt.alloc();
     let primitive = context_specific(false);
     let constructed = context_specific(true);
@@ -119,7 +119,7 @@ fn tags_of_the_context(rt: HostRuntime) -> Result<(), Fail> {
 // Under the Distinguished Encoding Rules segments are primitive, also where the tag that is asked for
 // is not.
 #[test]
-fn constructed_tags_under_der(rt: HostRuntime) -> Result<(), Fail> {
+fn der_refuses_segments_with_a_constructed_tag(rt: HostRuntime) -> Result<(), Fail> {
     let alloc = rt.alloc();
     let constructed = context_specific(true);
     let refused = Err(constructed.non_canonical_error().at(Length::ONE));
@@ -145,7 +145,7 @@ fn cut_again<R: Joins>(
 }
 
 #[test]
-fn constructed_tags_under_ber(rt: HostRuntime) -> Result<(), Fail> {
+fn ber_cuts_segments_with_a_constructed_tag_again(rt: HostRuntime) -> Result<(), Fail> {
     let rows: [(&[u8], Result<&[u8], Error>, (u32, bool)); 4] = [
         (&[0xA0, 0x00], Ok(&[]), (2, false)),
         (&[0xA0, 0x80, 0xA0, 0x00, 0x00, 0x00], Ok(&[]), (6, false)),
@@ -183,7 +183,7 @@ fn part<R: Reader>(
 }
 
 #[test]
-fn parts(rt: HostRuntime) -> Result<(), Fail> {
+fn segments_end_where_their_part_does(rt: HostRuntime) -> Result<(), Fail> {
     let octets = [0x04, 0x01, 0x2A, 0x04, 0x01, 0x2B];
     let rows: [(u32, Result<&[u8], Error>); 2] = [(3, Ok(&[0x2A])), (2, Err(incomplete(3, 2, 2)))];
     for (end, answer) in rows {
@@ -194,7 +194,7 @@ fn parts(rt: HostRuntime) -> Result<(), Fail> {
 }
 
 #[test]
-fn a_failed_reader(rt: HostRuntime) -> Result<(), Fail> {
+fn a_failed_reader_joins_nothing(rt: HostRuntime) -> Result<(), Fail> {
     let mut reader = der_reader(&[0x04, 0x00])?;
     let failed = reader.error(ErrorKind::Failed);
     let length = Length::new_indefinite(0);

@@ -63,7 +63,7 @@ fn whole(rt: &impl Abort, alloc: Global, row: usize, octets: &[u8], answer: Resu
 }
 
 #[test]
-fn levels_that_are_joined(rt: HostRuntime) -> Result<(), Fail> {
+fn segments_are_joined_up_to_64_levels_deep(rt: HostRuntime) -> Result<(), Fail> {
     let alloc = rt.alloc();
     for forms in [Forms::Definite, Forms::Indefinite, Forms::Alternating] {
         for levels in [1, 2, 3, 32, 63, 64] {
@@ -78,7 +78,7 @@ fn levels_that_are_joined(rt: HostRuntime) -> Result<(), Fail> {
 
 // The innermost has 2 octets, each around it 2 more, and the outermost a length of two octets.
 #[test]
-fn levels_of_definite_lengths(rt: HostRuntime) -> Result<(), Fail> {
+fn the_65th_definite_level_is_refused(rt: HostRuntime) -> Result<(), Fail> {
     let octets = nested(rt.alloc(), Forms::Definite, 64, &[])?;
     same(&rt, octets.len(), 128);
     same(&rt, octets.as_slice().first(), Some(&0x24));
@@ -91,7 +91,7 @@ fn levels_of_definite_lengths(rt: HostRuntime) -> Result<(), Fail> {
 
 // The scan looks at all 65 from the first on.
 #[test]
-fn levels_of_indefinite_lengths(rt: HostRuntime) -> Result<(), Fail> {
+fn the_65th_indefinite_level_is_refused_by_the_scan(rt: HostRuntime) -> Result<(), Fail> {
     let octets = nested(rt.alloc(), Forms::Indefinite, 65, &[])?;
     same(&rt, octets.len(), 260);
     whole(&rt, rt.alloc(), 65, octets.as_slice(), Err(too_deep(130)));
@@ -101,7 +101,7 @@ fn levels_of_indefinite_lengths(rt: HostRuntime) -> Result<(), Fail> {
 // No scan looks into definite contents: the innermost of 65 is refused where it is entered, behind
 // all headers. Of these 33 are indefinite, which end with two octets each.
 #[test]
-fn levels_of_both_forms(rt: HostRuntime) -> Result<(), Fail> {
+fn the_65th_level_of_either_form_is_refused_on_entering_it(rt: HostRuntime) -> Result<(), Fail> {
     let octets = nested(rt.alloc(), Forms::Alternating, 65, &SEGMENT)?;
     let headers = count_of(octets.as_slice())?.saturating_sub(66 + 3);
     whole(
@@ -116,7 +116,7 @@ fn levels_of_both_forms(rt: HostRuntime) -> Result<(), Fail> {
 
 // Each scan sees 64 levels, but the reader stands inside a part already.
 #[test]
-fn indefinite_levels_inside_a_definite_one(rt: HostRuntime) -> Result<(), Fail> {
+fn a_definite_level_has_room_for_63_indefinite_ones_inside(rt: HostRuntime) -> Result<(), Fail> {
     let alloc = rt.alloc();
     let inside = nested(alloc, Forms::Indefinite, 63, &[])?;
     let octets = around(alloc, inside.as_slice(), false)?;
@@ -154,7 +154,7 @@ fn inside_parts<R: Reader + Joins>(
 }
 
 #[test]
-fn levels_that_are_left(rt: HostRuntime) -> Result<(), Fail> {
+fn a_reader_inside_parts_joins_the_levels_that_are_left(rt: HostRuntime) -> Result<(), Fail> {
     let alloc = rt.alloc();
     for parts in [0usize, 1, 32, 63, 64] {
         let fitting = nested(alloc, Forms::Definite, 64 - parts, &SEGMENT)?;

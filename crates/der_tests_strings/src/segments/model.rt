@@ -122,7 +122,7 @@ fn lists_of(rt: &impl Abort, alloc: Global, count: usize, lists: u32) -> Result<
 }
 
 #[test]
-fn all_short_lists(rt: HostRuntime) -> Result<(), Fail> {
+fn all_short_lists_are_joined_as_by_a_plain_function(rt: HostRuntime) -> Result<(), Fail> {
     let mut lists = 1u32;
     for count in 0..=6usize {
         lists_of(&rt, rt.alloc(), count, lists)?;
@@ -133,7 +133,7 @@ fn all_short_lists(rt: HostRuntime) -> Result<(), Fail> {
 
 // The plain function itself, on rows that are worked out.
 #[test]
-fn plain_joining(rt: HostRuntime) -> Result<(), Fail> {
+fn the_plain_function_joins_the_worked_rows(rt: HostRuntime) -> Result<(), Fail> {
     let rows: [(&[u8], u32, Option<&[u8]>); 8] = [
         (&[], 0, Some(&[])),
         (

@@ -76,7 +76,7 @@ fn under_der(
 const SEGMENT: [u8; 3] = [0x04, 0x01, 0x2A];
 
 #[test]
-fn primitive_headers(rt: HostRuntime) -> Result<(), Fail> {
+fn contents_behind_a_primitive_header_are_taken_as_they_stand(rt: HostRuntime) -> Result<(), Fail> {
     let rows: [(u32, Result<&[u8], Error>, (u32, bool)); 4] = [
         (0, Ok(&[]), (0, false)),
         (2, Ok(&[0x04, 0x01]), (2, false)),
@@ -101,7 +101,7 @@ fn segments_behind(rt: &impl Abort, alloc: Global, tag: Tag, length: Length) -> 
 }
 
 #[test]
-fn headers_of_segments(rt: HostRuntime) -> Result<(), Fail> {
+fn contents_of_constructed_headers_are_joined_under_ber_alone(rt: HostRuntime) -> Result<(), Fail> {
     let indefinite = Length::new_indefinite(3);
     for tag in [Tag::OctetString, context_specific(true), Tag::Sequence] {
         segments_behind(&rt, rt.alloc(), tag, indefinite)?;
@@ -136,7 +136,7 @@ fn encrypted(rt: &impl Abort, alloc: Global, octets: &[u8]) -> Result<(), Error>
 }
 
 #[test]
-fn an_implicit_tag(rt: HostRuntime) -> Result<(), Fail> {
+fn contents_behind_an_implicit_tag_are_joined(rt: HostRuntime) -> Result<(), Fail> {
     let rows: [&[u8]; 3] = [
         &[
             0xA0, 0x80, 0x04, 0x10, 0xCC, 0x74, 0xAD, 0xF6, 0x5D, 0x97, 0x3C, 0x8B, 0x72, 0xCD,
@@ -174,7 +174,7 @@ fn refused_behind<R: Reader + Parts>(
 }
 
 #[test]
-fn constructed_headers_under_der(rt: HostRuntime) -> Result<(), Fail> {
+fn der_refuses_a_constructed_header_at_the_octet_before(rt: HostRuntime) -> Result<(), Fail> {
     for (before, at) in [(0, 0), (1, 0), (2, 1), (3, 2)] {
         refused_behind(&rt, rt.alloc(), der_reader(&SEGMENT)?, before, at)?;
         refused_behind(&rt, rt.alloc(), der_unlent(&SEGMENT)?, before, at)?;
@@ -184,7 +184,7 @@ fn constructed_headers_under_der(rt: HostRuntime) -> Result<(), Fail> {
 
 // Segments that are refused are so as where they are joined.
 #[test]
-fn segments_that_are_refused(rt: HostRuntime) -> Result<(), Fail> {
+fn wrong_segments_in_contents_are_refused(rt: HostRuntime) -> Result<(), Fail> {
     let header = Header::new(Tag::OctetString, Length::new_indefinite(3));
     let alloc = rt.alloc();
     let cut = Err(incomplete(7, 3, 2));

@@ -47,7 +47,7 @@ fn joining_primitive(
 }
 
 #[test]
-fn segments_that_are_joined(rt: HostRuntime) -> Result<(), Fail> {
+fn primitive_segments_are_joined_under_both_rules(rt: HostRuntime) -> Result<(), Fail> {
     // the segments, what they are joined to, and how many octets they have
     let rows: [(&[u8], &[u8], u32); 6] = [
         (&[], &[], 0u32),
@@ -68,7 +68,7 @@ fn segments_that_are_joined(rt: HostRuntime) -> Result<(), Fail> {
 }
 
 #[test]
-fn segments_that_are_cut(rt: HostRuntime) -> Result<(), Fail> {
+fn cut_segments_are_refused_under_both_rules(rt: HostRuntime) -> Result<(), Fail> {
     let rows: [(&[u8], Error, (u32, bool)); 8] = [
         (&[0x04], incomplete(2, 1, 1), (1, true)),
         (&[0x04, 0x00, 0x04], incomplete(4, 3, 3), (3, true)),
@@ -98,7 +98,7 @@ fn segments_that_are_cut(rt: HostRuntime) -> Result<(), Fail> {
 }
 
 #[test]
-fn segments_with_wrong_headers(rt: HostRuntime) -> Result<(), Fail> {
+fn segments_with_wrong_headers_are_refused(rt: HostRuntime) -> Result<(), Fail> {
     let string = Tag::OctetString;
     let rows: [(&[u8], Error, (u32, bool)); 5] = [
         (&[0x3F, 0x00], unknown(0x3F, 1), (1, true)),
@@ -114,7 +114,7 @@ fn segments_with_wrong_headers(rt: HostRuntime) -> Result<(), Fail> {
 }
 
 #[test]
-fn segments_with_other_tags(rt: HostRuntime) -> Result<(), Fail> {
+fn segments_with_other_tags_are_refused(rt: HostRuntime) -> Result<(), Fail> {
     let string = Tag::OctetString;
     let rows: [(&[u8], Error, (u32, bool)); 3] = [
         (&[0x05, 0x00], unexpected(string, Tag::Null), (2, false)),
@@ -145,7 +145,7 @@ fn segments_with_other_tags(rt: HostRuntime) -> Result<(), Fail> {
 
 // A segment of either form of length that is cut into segments.
 #[test]
-fn segments_of_segments(rt: HostRuntime) -> Result<(), Fail> {
+fn segments_of_segments_are_joined_under_ber(rt: HostRuntime) -> Result<(), Fail> {
     // the segments, what they are joined to, and how many octets they have
     let rows: [(&[u8], &[u8], u32); 5] = [
         (&[0x24, 0x00], &[], 2u32),
@@ -178,7 +178,7 @@ fn segments_of_segments(rt: HostRuntime) -> Result<(), Fail> {
 }
 
 #[test]
-fn segments_of_segments_that_are_refused(rt: HostRuntime) -> Result<(), Fail> {
+fn wrong_segments_of_segments_are_refused_under_ber(rt: HostRuntime) -> Result<(), Fail> {
     let string = Tag::OctetString;
     let rows: [(&[u8], Error, (u32, bool)); 10] = [
         (&[0x24, 0x01, 0x2A], unknown(0x2A, 3), (3, true)),
@@ -215,7 +215,7 @@ fn segments_of_segments_that_are_refused(rt: HostRuntime) -> Result<(), Fail> {
 }
 
 #[test]
-fn segments_of_segments_under_der(rt: HostRuntime) -> Result<(), Fail> {
+fn segments_of_segments_are_refused_under_der(rt: HostRuntime) -> Result<(), Fail> {
     let rows: [(&[u8], Error, (u32, bool)); 3] = [
         (&[0x24, 0x01, 0x2A], unknown(0x24, 1), (1, true)),
         (&[0x04, 0x00, 0x24, 0x00], unknown(0x24, 3), (3, true)),

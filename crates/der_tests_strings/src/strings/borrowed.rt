@@ -3,7 +3,7 @@ use super::*;
 use crate::checks::{holds, same};
 
 #[test]
-fn octets_that_are_borrowed(rt: HostRuntime) -> Result<(), Fail> {
+fn borrowed_octets_tell_their_octets_and_number(rt: HostRuntime) -> Result<(), Fail> {
     let bytes = bytes_of(&[0x01, 0x02, 0x03])?;
     same(&rt, bytes.as_slice(), [0x01, 0x02, 0x03].as_slice());
     same(&rt, bytes.len(), Length::new(3));
@@ -16,7 +16,7 @@ fn octets_that_are_borrowed(rt: HostRuntime) -> Result<(), Fail> {
 }
 
 #[test]
-fn prefixes(rt: HostRuntime) -> Result<(), Fail> {
+fn prefixes_are_the_first_octets(rt: HostRuntime) -> Result<(), Fail> {
     let bytes = bytes_of(&[0x01, 0x02, 0x03])?;
     let two = bytes.prefix(Length::new(2))?;
     same(&rt, two.as_slice(), [0x01, 0x02].as_slice());
@@ -26,7 +26,7 @@ fn prefixes(rt: HostRuntime) -> Result<(), Fail> {
 }
 
 #[test]
-fn prefixes_that_are_too_long(rt: HostRuntime) -> Result<(), Fail> {
+fn prefixes_that_are_too_long_are_refused(rt: HostRuntime) -> Result<(), Fail> {
     let bytes = bytes_of(&[0x01, 0x02, 0x03])?;
     for len in [Length::new(4), Length::new_indefinite(4), Length::MAX] {
         same(&rt, bytes.prefix(len), Err(incomplete(4, 3, 3)));
@@ -37,7 +37,7 @@ fn prefixes_that_are_too_long(rt: HostRuntime) -> Result<(), Fail> {
 }
 
 #[test]
-fn texts_that_are_borrowed(rt: HostRuntime) -> Result<(), Fail> {
+fn borrowed_texts_tell_their_octets_and_number(rt: HostRuntime) -> Result<(), Fail> {
     let text = text_of("grün")?;
     same(&rt, text.as_str(), "grün");
     let octets = [0x67, 0x72, 0xC3, 0xBC, 0x6E];
@@ -54,7 +54,7 @@ fn texts_that_are_borrowed(rt: HostRuntime) -> Result<(), Fail> {
 }
 
 #[test]
-fn copies_of_what_is_borrowed(rt: HostRuntime) -> Result<(), Fail> {
+fn copies_of_what_is_borrowed_refer_to_the_same(rt: HostRuntime) -> Result<(), Fail> {
     let bytes = bytes_of(&[0x01, 0x02])?;
     let copy = bytes.ref_to_owned(rt.alloc())?;
     same(&rt, copy.owned_to_ref(), bytes);

@@ -23,7 +23,7 @@ fn text_of_contents<'a>(
 }
 
 #[test]
-fn octets_from_a_reader_that_lends(rt: HostRuntime) -> Result<(), Fail> {
+fn octets_are_borrowed_from_a_reader_that_lends(rt: HostRuntime) -> Result<(), Fail> {
     let octets = [0x01, 0x02, 0x03];
     let mut reader = der_reader(&octets)?;
     let bytes = BytesCow::decode_value(rt.alloc(), &mut reader, header_of(3))?;
@@ -34,7 +34,7 @@ fn octets_from_a_reader_that_lends(rt: HostRuntime) -> Result<(), Fail> {
 }
 
 #[test]
-fn octets_from_a_reader_that_does_not(rt: HostRuntime) -> Result<(), Fail> {
+fn octets_are_copied_from_a_reader_that_does_not_lend(rt: HostRuntime) -> Result<(), Fail> {
     let octets = [0x01, 0x02, 0x03];
     let mut reader = der_unlent(&octets)?;
     let bytes = octets_of_contents(rt.alloc(), &mut reader, header_of(3))?;
@@ -45,7 +45,7 @@ fn octets_from_a_reader_that_does_not(rt: HostRuntime) -> Result<(), Fail> {
 }
 
 #[test]
-fn octets_that_are_refused(rt: HostRuntime) -> Result<(), Fail> {
+fn octets_that_are_missing_are_refused_and_the_reader_fails(rt: HostRuntime) -> Result<(), Fail> {
     let mut reader = der_unlent(&[0x01, 0x02, 0x03])?;
     let refused = octets_of_contents(rt.alloc(), &mut reader, header_of(4)).err();
     same(&rt, refused, Some(incomplete(4, 3, 0)));
@@ -54,7 +54,7 @@ fn octets_that_are_refused(rt: HostRuntime) -> Result<(), Fail> {
 }
 
 #[test]
-fn texts_from_a_reader_that_lends(rt: HostRuntime) -> Result<(), Fail> {
+fn texts_are_borrowed_from_a_reader_that_lends(rt: HostRuntime) -> Result<(), Fail> {
     let mut reader = der_reader(&[0xC3, 0xBC])?;
     let text = text_of_contents(rt.alloc(), &mut reader, header_of(2))?;
     holds(&rt, matches!(text, StringCow::Borrowed(_)));
@@ -64,7 +64,7 @@ fn texts_from_a_reader_that_lends(rt: HostRuntime) -> Result<(), Fail> {
 }
 
 #[test]
-fn texts_from_a_reader_that_does_not(rt: HostRuntime) -> Result<(), Fail> {
+fn texts_are_refused_by_a_reader_that_does_not_lend(rt: HostRuntime) -> Result<(), Fail> {
     let mut reader = der_unlent(&[0xC3, 0xBC])?;
     let refused = StringCow::decode_value(rt.alloc(), &mut reader, header_of(2)).err();
     same(&rt, refused, Some(unsupported(0)));
@@ -73,7 +73,7 @@ fn texts_from_a_reader_that_does_not(rt: HostRuntime) -> Result<(), Fail> {
 }
 
 #[test]
-fn texts_that_are_refused(rt: HostRuntime) -> Result<(), Fail> {
+fn octets_that_are_no_text_are_refused_behind_them(rt: HostRuntime) -> Result<(), Fail> {
     let mut reader = der_reader(&[0xC3])?;
     let refused = text_of_contents(rt.alloc(), &mut reader, header_of(1));
     holds(&rt, is_no_text(refused.err()));
@@ -93,7 +93,7 @@ fn written<T: EncodeValue>(rt: &impl Abort, value: &T) -> Result<(), Error> {
 }
 
 #[test]
-fn octets_that_are_written(rt: HostRuntime) -> Result<(), Fail> {
+fn borrowed_and_owned_octets_are_written_alike(rt: HostRuntime) -> Result<(), Fail> {
     written(&rt, &BytesCow::Borrowed(bytes_of(&TEXT)?))?;
     let owned = owned_bytes(rt.alloc(), &TEXT)?;
     written(&rt, &BytesCow::Owned(owned))?;
@@ -101,7 +101,7 @@ fn octets_that_are_written(rt: HostRuntime) -> Result<(), Fail> {
 }
 
 #[test]
-fn texts_that_are_written(rt: HostRuntime) -> Result<(), Fail> {
+fn borrowed_and_owned_texts_are_written_alike(rt: HostRuntime) -> Result<(), Fail> {
     written(&rt, &StringCow::Borrowed(text_from(&TEXT)?))?;
     let owned = owned_text(rt.alloc(), &TEXT)?;
     written(&rt, &StringCow::Owned(owned))?;

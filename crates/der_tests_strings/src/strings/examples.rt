@@ -5,7 +5,7 @@ use crate::elements::{borrowed_of_der, borrowed_to_der, text_of_der, text_to_der
 use std::process::Abort;
 
 #[test]
-fn octets_both_ways(rt: HostRuntime) -> Result<(), Fail> {
+fn octets_are_read_and_written(rt: HostRuntime) -> Result<(), Fail> {
     let alloc = rt.alloc();
     let octets = [0x04, 0x02, 0x01, 0x02];
     let borrowed = borrowed_of_der(alloc, &octets)?;
@@ -27,7 +27,7 @@ fn refused(rt: &impl Abort, alloc: Global, octets: &[u8], error: Error) {
 }
 
 #[test]
-fn elements_that_are_no_octets(rt: HostRuntime) {
+fn elements_that_are_no_octet_strings_are_refused(rt: HostRuntime) {
     let alloc = rt.alloc();
     refused(&rt, alloc, &[0x04, 0x80, 0x00], indefinite(2));
     let other = unexpected(Tag::OctetString, Tag::Utf8String);
@@ -38,7 +38,7 @@ fn elements_that_are_no_octets(rt: HostRuntime) {
 
 // Under the Basic Encoding Rules the contents are taken as they stand, segments too.
 #[test]
-fn octets_under_ber(rt: HostRuntime) -> Result<(), Fail> {
+fn under_ber_octets_are_taken_as_they_stand_and_segments_too(rt: HostRuntime) -> Result<(), Fail> {
     let alloc = rt.alloc();
     let constructed = BorrowedOctets::from_ber(alloc, &[0x24, 0x01, 0x09])?;
     same(&rt, constructed.octets.as_slice(), [0x09].as_slice());
@@ -49,7 +49,7 @@ fn octets_under_ber(rt: HostRuntime) -> Result<(), Fail> {
 }
 
 #[test]
-fn texts_both_ways(rt: HostRuntime) -> Result<(), Fail> {
+fn texts_are_read_and_written(rt: HostRuntime) -> Result<(), Fail> {
     let alloc = rt.alloc();
     let octets = [0x0C, 0x03, 0x67, 0xC3, 0xBC];
     let owned = text_of_der(alloc, &octets)?;
@@ -65,7 +65,7 @@ fn texts_both_ways(rt: HostRuntime) -> Result<(), Fail> {
 }
 
 #[test]
-fn elements_that_are_no_texts(rt: HostRuntime) -> Result<(), Fail> {
+fn elements_that_are_no_texts_are_refused(rt: HostRuntime) -> Result<(), Fail> {
     let alloc = rt.alloc();
     let refused = text_of_der(alloc, &[0x0C, 0x01, 0xFF]);
     holds(&rt, is_no_text(refused.err()));
@@ -97,14 +97,14 @@ fn unlent<T: Decode<CopyingReader<'static>, Error = Error> + Drop>(
 }
 
 #[test]
-fn elements_that_want_lending(rt: HostRuntime) -> Result<(), Fail> {
+fn elements_that_want_lending_are_refused_behind_their_header(rt: HostRuntime) -> Result<(), Fail> {
     unlent::<BorrowedOctets<'static>>(&rt, rt.alloc(), &[0x04, 0x01, 0xFF])?;
     unlent::<OwnedText>(&rt, rt.alloc(), &[0x0C, 0x01, 0x68])?;
     Ok(())
 }
 
 #[test]
-fn octets_that_are_copied(rt: HostRuntime) -> Result<(), Fail> {
+fn octets_are_copied_from_a_reader_that_does_not_lend(rt: HostRuntime) -> Result<(), Fail> {
     let mut reader = der_unlent(&[0x01, 0x02])?;
     let bytes = BytesOwned::decode_value(rt.alloc(), &mut reader, header_of(2))?;
     same(&rt, bytes.as_slice(), [0x01, 0x02].as_slice());
@@ -113,7 +113,7 @@ fn octets_that_are_copied(rt: HostRuntime) -> Result<(), Fail> {
 }
 
 #[test]
-fn contents_that_want_lending(rt: HostRuntime) -> Result<(), Fail> {
+fn contents_that_want_lending_are_refused_where_they_begin(rt: HostRuntime) -> Result<(), Fail> {
     let alloc = rt.alloc();
     let mut reader = der_unlent(&[0x61])?;
     let refused = StringRef::decode_value(alloc, &mut reader, header_of(1)).err();

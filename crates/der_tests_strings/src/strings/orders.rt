@@ -15,7 +15,7 @@ fn owned_order(alloc: Global, a: &[u8], b: &[u8]) -> Result<Ordering, Error> {
 
 // Borrowed octets are ordered one by one; those in memory of their own first by their number.
 #[test]
-fn orders_of_octets(rt: HostRuntime) {
+fn borrowed_octets_are_ordered_one_by_one_and_owned_by_number_first(rt: HostRuntime) {
     let rows: [(&[u8], &[u8], Ordering, Ordering); 6] = [
         (&[0xFF], &[0x00, 0x00], Ordering::Greater, Ordering::Less),
         (&[], &[0x00], Ordering::Less, Ordering::Less),
@@ -38,7 +38,7 @@ fn orders_of_octets(rt: HostRuntime) {
 }
 
 #[test]
-fn orders_of_texts(rt: HostRuntime) -> Result<(), Fail> {
+fn texts_are_ordered_by_their_octets(rt: HostRuntime) -> Result<(), Fail> {
     let long = text_of("aa")?;
     let short = text_of("b")?;
     same(&rt, long.cmp(&short), Ordering::Less);

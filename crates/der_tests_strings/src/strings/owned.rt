@@ -14,7 +14,7 @@ fn are_three(rt: &impl Abort, bytes: BytesOwned) {
 }
 
 #[test]
-fn octets_of_each_origin(rt: HostRuntime) -> Result<(), Fail> {
+fn octets_of_each_origin_are_kept(rt: HostRuntime) -> Result<(), Fail> {
     let alloc = rt.alloc();
     let octets = [0x01, 0x02, 0x03];
     are_three(&rt, three(alloc)?);
@@ -25,14 +25,14 @@ fn octets_of_each_origin(rt: HostRuntime) -> Result<(), Fail> {
 }
 
 #[test]
-fn octets_that_are_cloned(rt: HostRuntime) -> Result<(), Fail> {
+fn a_clone_is_equal_to_what_was_cloned(rt: HostRuntime) -> Result<(), Fail> {
     let bytes = three(rt.alloc())?;
     same(&rt, bytes.clone_in(rt.alloc())?, bytes);
     Ok(())
 }
 
 #[test]
-fn octets_and_their_views(rt: HostRuntime) -> Result<(), Fail> {
+fn owned_octets_tell_their_views_and_number(rt: HostRuntime) -> Result<(), Fail> {
     let octets = [0x01, 0x02, 0x03];
     let bytes = three(rt.alloc())?;
     same(&rt, bytes.as_bytes_ref(), bytes_of(&octets)?);
@@ -44,7 +44,7 @@ fn octets_and_their_views(rt: HostRuntime) -> Result<(), Fail> {
 }
 
 #[test]
-fn no_octets(rt: HostRuntime) -> Result<(), Fail> {
+fn empty_octets_have_length_zero(rt: HostRuntime) -> Result<(), Fail> {
     let empty = BytesOwned::empty(rt.alloc());
     same(&rt, empty.as_slice(), [].as_slice());
     same(&rt, empty.len(), Length::ZERO);
@@ -56,7 +56,7 @@ fn no_octets(rt: HostRuntime) -> Result<(), Fail> {
 const TEXT: [u8; 5] = [0x67, 0x72, 0xC3, 0xBC, 0x6E];
 
 #[test]
-fn texts_of_each_origin(rt: HostRuntime) -> Result<(), Fail> {
+fn texts_of_each_origin_are_kept(rt: HostRuntime) -> Result<(), Fail> {
     let alloc = rt.alloc();
     let text = owned_text(alloc, &TEXT)?;
     same(&rt, text.as_str(), "grün");
@@ -67,7 +67,7 @@ fn texts_of_each_origin(rt: HostRuntime) -> Result<(), Fail> {
 }
 
 #[test]
-fn texts_and_their_views(rt: HostRuntime) -> Result<(), Fail> {
+fn owned_texts_tell_their_views_and_number(rt: HostRuntime) -> Result<(), Fail> {
     let text = owned_text(rt.alloc(), &TEXT)?;
     same(&rt, text.as_bytes_ref(), bytes_of(&TEXT)?);
     same(&rt, text.as_string_ref(), text_of("grün")?);
@@ -78,7 +78,7 @@ fn texts_and_their_views(rt: HostRuntime) -> Result<(), Fail> {
 }
 
 #[test]
-fn no_text(rt: HostRuntime) -> Result<(), Fail> {
+fn an_empty_text_has_length_zero(rt: HostRuntime) -> Result<(), Fail> {
     let empty = owned_text(rt.alloc(), &[])?;
     same(&rt, empty.len(), Length::ZERO);
     holds(&rt, empty.is_empty());

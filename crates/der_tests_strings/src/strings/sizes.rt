@@ -23,7 +23,7 @@ fn begun(alloc: Global, tag: u8, count: usize) -> Result<Vec<u8>, Fail> {
 }
 
 #[test]
-fn octets_that_are_borrowed(rt: HostRuntime) -> Result<(), Fail> {
+fn octets_with_each_form_of_length_are_borrowed_and_written(rt: HostRuntime) -> Result<(), Fail> {
     let alloc = rt.alloc();
     for count in COUNTS {
         let octets = begun(alloc, 0x04, count)?;
@@ -36,7 +36,7 @@ fn octets_that_are_borrowed(rt: HostRuntime) -> Result<(), Fail> {
 }
 
 #[test]
-fn octets_that_are_copied(rt: HostRuntime) -> Result<(), Fail> {
+fn octets_with_each_form_of_length_are_copied(rt: HostRuntime) -> Result<(), Fail> {
     let alloc = rt.alloc();
     for count in COUNTS {
         let octets = begun(alloc, 0x04, count)?;
@@ -51,7 +51,7 @@ fn octets_that_are_copied(rt: HostRuntime) -> Result<(), Fail> {
 }
 
 #[test]
-fn texts_of_each_number(rt: HostRuntime) -> Result<(), Fail> {
+fn texts_with_each_form_of_length_are_read_and_written(rt: HostRuntime) -> Result<(), Fail> {
     let alloc = rt.alloc();
     for count in COUNTS {
         let octets = begun(alloc, 0x0C, count)?;
@@ -77,7 +77,7 @@ fn around(alloc: Global, segments: &[u8]) -> Result<Vec<u8>, Fail> {
 }
 
 #[test]
-fn segments_of_each_number(rt: HostRuntime) -> Result<(), Fail> {
+fn a_segment_with_each_form_of_length_is_joined_and_written(rt: HostRuntime) -> Result<(), Fail> {
     let alloc = rt.alloc();
     for count in COUNTS {
         let segment = begun(alloc, 0x04, count)?;
@@ -96,7 +96,7 @@ fn segments_of_each_number(rt: HostRuntime) -> Result<(), Fail> {
 
 // Each segment behind the one before, whatever the number of their octets.
 #[test]
-fn segments_of_all_numbers(rt: HostRuntime) -> Result<(), Fail> {
+fn segments_with_all_forms_of_length_are_joined_to_one(rt: HostRuntime) -> Result<(), Fail> {
     let alloc = rt.alloc();
     let mut segments = Vec::new(alloc);
     for count in [65536usize, 0, 128, 127, 1, 65536] {
@@ -114,7 +114,7 @@ fn segments_of_all_numbers(rt: HostRuntime) -> Result<(), Fail> {
 
 // More levels of nesting make no difference.
 #[test]
-fn octets_at_the_deepest_level(rt: HostRuntime) -> Result<(), Fail> {
+fn octets_inside_64_parts_are_read(rt: HostRuntime) -> Result<(), Fail> {
     let octets = [0x01, 0x02];
     let mut reader = ber_reader(&octets)?;
     for _ in 0..64 {

@@ -78,7 +78,7 @@ impl<'a> Lawful for CowOctets<'a> {
 const ELEMENT: [u8; 4] = [0x04, 0x02, 0x01, 0x02];
 
 #[test]
-fn elements_that_are_borrowed(rt: HostRuntime) -> Result<(), Fail> {
+fn an_element_is_borrowed_from_a_reader_that_lends(rt: HostRuntime) -> Result<(), Fail> {
     let read = CowOctets::from_der(rt.alloc(), &ELEMENT)?;
     holds(&rt, matches!(read.octets, BytesCow::Borrowed(_)));
     same(&rt, read.to_der(rt.alloc())?.as_slice(), ELEMENT.as_slice());
@@ -86,7 +86,7 @@ fn elements_that_are_borrowed(rt: HostRuntime) -> Result<(), Fail> {
 }
 
 #[test]
-fn elements_that_are_copied(rt: HostRuntime) -> Result<(), Fail> {
+fn an_element_is_copied_from_a_reader_that_does_not_lend(rt: HostRuntime) -> Result<(), Fail> {
     let mut reader = der_unlent(&ELEMENT)?;
     let read = CowOctets::decode(rt.alloc(), &mut reader)?;
     holds(&rt, matches!(read.octets, BytesCow::Owned(_)));

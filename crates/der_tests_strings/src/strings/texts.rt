@@ -17,7 +17,7 @@ fn is_text(rt: &impl Abort, alloc: Global, octets: &[u8]) -> Result<(), Error> {
 }
 
 #[test]
-fn octets_that_are_texts(rt: HostRuntime) -> Result<(), Fail> {
+fn octets_in_utf8_are_texts(rt: HostRuntime) -> Result<(), Fail> {
     let rows: [&[u8]; 9] = [
         &[0x00],
         &[0x7F],
@@ -54,7 +54,7 @@ fn is_refused(rt: &impl Abort, alloc: Global, octets: &[u8]) -> Result<(), Error
 // Longer spellings, surrogates, what is past the last character, a lone octet of the middle, and
 // characters that are cut.
 #[test]
-fn octets_that_are_no_texts(rt: HostRuntime) -> Result<(), Fail> {
+fn octets_that_are_not_utf8_are_refused_as_texts(rt: HostRuntime) -> Result<(), Fail> {
     let rows: [&[u8]; 13] = [
         &[0xFF],
         &[0x80],

@@ -82,7 +82,7 @@ const CLOSED: &str = "0000000000000000000000000000000000000000000000000000000000
 // 64 levels are joined; the 65th is refused behind its header, which a scan has not yet passed where
 // it stands inside a definite length.
 #[test]
-fn joins_64_levels(rt: HostRuntime) -> Result<(), Fail> {
+fn joins_64_levels_and_refuses_the_65th(rt: HostRuntime) -> Result<(), Fail> {
     let alloc = rt.alloc();
     replay(
         &rt,

@@ -107,7 +107,7 @@ fn a_failed_write_is_status_1(rt: HostRuntime) -> Result<(), Fail> {
 }
 
 #[test]
-fn a_writer_that_takes_nothing_is_status_1(rt: HostRuntime) -> Result<(), Fail> {
+fn a_writer_that_takes_nothing_or_keeps_it_is_status_1(rt: HostRuntime) -> Result<(), Fail> {
     for (line, _, _) in ROWS {
         let words = words_of(rt.alloc(), line)?;
         for takes in [false, true] {

@@ -42,7 +42,7 @@ fn the_first_difference_of_owned_values_decides(rt: HostRuntime) -> Result<(), F
 }
 
 #[test]
-fn empty_lists_are_equal(rt: HostRuntime) -> Result<(), Fail> {
+fn an_empty_list_is_equal_to_another_and_less_than_any_other(rt: HostRuntime) -> Result<(), Fail> {
     let some = [borrowed(&[])?];
     same(&rt, order(&[], &[]), Ok(Ordering::Equal));
     same(&rt, order(&[], &some), Ok(Ordering::Less));
@@ -52,7 +52,7 @@ fn empty_lists_are_equal(rt: HostRuntime) -> Result<(), Fail> {
 }
 
 #[test]
-fn nothing_is_counted(rt: HostRuntime) {
+fn lists_of_nothing_are_ordered_by_their_number(rt: HostRuntime) {
     let one = [PhantomData::<u8>];
     let two = [PhantomData::<u8>, PhantomData::<u8>];
     same(&rt, iter_cmp(one.iter(), two.iter()), Ok(Ordering::Less));

@@ -22,7 +22,7 @@ fn lengths_ascend(rt: HostRuntime) {
 }
 
 #[test]
-fn lengths_of_one_and_all(rt: HostRuntime) {
+fn length_one_stands_between_zero_and_the_longest(rt: HostRuntime) {
     let rows = [
         (Length::MAX, Ordering::Less),
         (Length::new(1), Ordering::Equal),

@@ -43,7 +43,7 @@ fn make_counter(alloc: Global) -> Counter {
 }
 
 #[test]
-fn the_writes_of_a_header(rt: HostRuntime) {
+fn a_header_is_written_by_three_writes(rt: HostRuntime) {
     let header = Header::new(Tag::Sequence, Length::new(256));
     let mut counter = make_counter(rt.alloc());
     same(&rt, header.encode(&mut counter), Ok(()));
@@ -56,7 +56,7 @@ fn the_writes_of_a_header(rt: HostRuntime) {
 }
 
 #[test]
-fn the_writes_of_a_long_tag(rt: HostRuntime) {
+fn a_long_tag_is_written_an_octet_at_a_time(rt: HostRuntime) {
     let mut counter = make_counter(rt.alloc());
     let tag = TagNumber(16385).application(false);
     same(&rt, tag.encode(&mut counter), Ok(()));
@@ -69,7 +69,7 @@ fn the_writes_of_a_long_tag(rt: HostRuntime) {
 }
 
 #[test]
-fn the_writes_of_an_element(rt: HostRuntime) -> Result<(), Fail> {
+fn an_element_is_written_by_three_writes(rt: HostRuntime) -> Result<(), Fail> {
     let month = september()?;
     let mut counter = make_counter(rt.alloc());
     same(&rt, encode_tlv(&month, &mut counter), Ok(()));

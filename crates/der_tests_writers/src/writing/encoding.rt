@@ -3,10 +3,11 @@ use super::month::september;
 use super::*;
 use crate::checks::{holds, holds_at, same, same_at};
 use der::{Encode, SliceWriter, encode_tlv, encoded_len_tlv};
+use der_fixtures::encodings::{LENGTHS, tags};
 use der_fixtures::readers::front;
 
 #[test]
-fn headers_as_octets(rt: HostRuntime) -> Result<(), Fail> {
+fn a_header_is_written_alike_to_vectors_and_slices(rt: HostRuntime) -> Result<(), Fail> {
     let header = Header::new(Tag::Sequence, Length::new(256));
     same(&rt, header.encoded_len(), Ok(Length::new(4)));
     let der = header.to_der(rt.alloc())?;
@@ -26,7 +27,7 @@ fn headers_as_octets(rt: HostRuntime) -> Result<(), Fail> {
 }
 
 #[test]
-fn headers_for_which_the_buffer_is_too_short(rt: HostRuntime) {
+fn a_header_is_refused_where_the_buffer_is_too_short(rt: HostRuntime) {
     let header = Header::new(Tag::Sequence, Length::new(256));
     let mut buf = [0; 3];
     let refused = header.encode_to_slice(&mut buf);
@@ -35,22 +36,8 @@ fn headers_for_which_the_buffer_is_too_short(rt: HostRuntime) {
 }
 
 #[test]
-fn lengths_as_octets(rt: HostRuntime) -> Result<(), Fail> {
-    let rows: [(u32, &[u8]); 12] = [
-        (0, &[0x00]),
-        (127, &[0x7F]),
-        (128, &[0x81, 0x80]),
-        (255, &[0x81, 0xFF]),
-        (256, &[0x82, 0x01, 0x00]),
-        (43707, &[0x82, 0xAA, 0xBB]),
-        (65535, &[0x82, 0xFF, 0xFF]),
-        (65536, &[0x83, 0x01, 0x00, 0x00]),
-        (16777215, &[0x83, 0xFF, 0xFF, 0xFF]),
-        (16777216, &[0x84, 0x01, 0x00, 0x00, 0x00]),
-        (268435456, &[0x84, 0x10, 0x00, 0x00, 0x00]),
-        (4294967295, &[0x84, 0xFF, 0xFF, 0xFF, 0xFF]),
-    ];
-    for (number, want) in rows {
+fn lengths_are_written_in_the_shortest_form_and_read_back(rt: HostRuntime) -> Result<(), Fail> {
+    for (number, want) in LENGTHS {
         let length = Length::new(number);
         let mut buf = [0; 5];
         let der = length.encode_to_slice(&mut buf)?;
@@ -84,45 +71,15 @@ fn is_written_as(alloc: Global, tag: Tag, want: &[u8]) -> Result<bool, Error> {
 }
 
 #[test]
-fn tags_of_one_to_six_octets(rt: HostRuntime) -> Result<(), Fail> {
-    let rows: [(Tag, &[u8]); 13] = [
-        (Tag::Boolean, &[0x01]),
-        (Tag::BmpString, &[0x1E]),
-        (Tag::Set, &[0x31]),
-        (TagNumber(0).context_specific(true), &[0xA0]),
-        (TagNumber(30).private(false), &[0xDE]),
-        (TagNumber(31).application(true), &[0x7F, 0x1F]),
-        (TagNumber(127).application(false), &[0x5F, 0x7F]),
-        (TagNumber(128).application(false), &[0x5F, 0x81, 0x00]),
-        (
-            TagNumber(16383).context_specific(false),
-            &[0x9F, 0xFF, 0x7F],
-        ),
-        (
-            TagNumber(16385).application(false),
-            &[0x5F, 0x81, 0x80, 0x01],
-        ),
-        (
-            TagNumber(2097153).context_specific(false),
-            &[0x9F, 0x81, 0x80, 0x80, 0x01],
-        ),
-        (
-            TagNumber(268435456).private(true),
-            &[0xFF, 0x81, 0x80, 0x80, 0x80, 0x00],
-        ),
-        (
-            TagNumber(4294967295).private(false),
-            &[0xDF, 0x8F, 0xFF, 0xFF, 0xFF, 0x7F],
-        ),
-    ];
-    for (tag, octets) in rows {
+fn tags_of_one_to_six_octets_are_written_and_read_back(rt: HostRuntime) -> Result<(), Fail> {
+    for (tag, octets) in tags() {
         holds_at(&rt, tag, is_written_as(rt.alloc(), tag, octets)?);
     }
     Ok(())
 }
 
 #[test]
-fn elements_as_octets(rt: HostRuntime) -> Result<(), Fail> {
+fn an_element_is_written_with_its_header(rt: HostRuntime) -> Result<(), Fail> {
     let mut buf = [0; 4];
     let mut writer = SliceWriter::new(&mut buf);
     let month = september()?;

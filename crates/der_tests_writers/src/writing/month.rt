@@ -1,11 +1,11 @@
 //! A type that is written: a month as an `OCTET STRING` of one octet.
 ghost use Rattle.std.specs.Prelude.{◌≡◌, [], ◌∷◌, ◌++◌, IfOk, OnErr, OnOk};
-ghost use Rattle.der.specs.Prelude.{definite_length, Sequence};
+ghost use Rattle.der.specs.Prelude.{definite_length};
 
 use super::*;
 use crate::checks::same;
 use der::example::MyByteMonth;
-use der::{Encode, EncodeValue, FixedTag, Tagged};
+use der::{Encode, EncodeValue};
 
 pub fn september() -> Result<MyByteMonth, Error> {
     MyByteMonth::new(9).ok_or(ErrorKind::DateTime.to_error())
@@ -41,28 +41,4 @@ fn a_month_is_written(rt: HostRuntime) -> Result<(), Fail> {
         Ok(Header::new(Tag::OctetString, Length::ONE)),
     );
     Ok(())
-}
-
-#[test]
-fn the_tag_of_a_type(rt: HostRuntime) -> Result<(), Fail> {
-    same(&rt, september()?.tag(), Tag::OctetString);
-    Ok(())
-}
-
-// Months in a SEQUENCE, of which the tag alone matters here.
-pub struct Months;
-
-impl FixedTag for Months {
-    ghost tag_is = { Sequence };
-
-    const TAG: Tag = Tag::Sequence;
-
-    fn fixed_tag() -> Tag {
-        Self::TAG
-    }
-}
-
-#[test]
-fn the_tag_of_a_constructed_type(rt: HostRuntime) {
-    same(&rt, Months.tag(), Tag::Sequence);
 }

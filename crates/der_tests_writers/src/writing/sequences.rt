@@ -49,7 +49,7 @@ fn a_sequence_is_filled(rt: HostRuntime) -> Result<(), Fail> {
 }
 
 #[test]
-fn a_sequence_that_fills_the_buffer(rt: HostRuntime) -> Result<(), Fail> {
+fn a_sequence_may_fill_the_buffer(rt: HostRuntime) -> Result<(), Fail> {
     let mut buf = [0; 4];
     let mut writer = SliceWriter::new(&mut buf);
     same(
@@ -62,7 +62,7 @@ fn a_sequence_that_fills_the_buffer(rt: HostRuntime) -> Result<(), Fail> {
 }
 
 #[test]
-fn sequences_of_sequences(rt: HostRuntime) -> Result<(), Fail> {
+fn a_sequence_in_a_sequence_is_written(rt: HostRuntime) -> Result<(), Fail> {
     let mut buf = [0; 8];
     let mut writer = SliceWriter::new(&mut buf);
     let null = Header::new(Tag::Null, Length::ZERO);
@@ -84,7 +84,7 @@ fn sequences_of_sequences(rt: HostRuntime) -> Result<(), Fail> {
 }
 
 #[test]
-fn a_sequence_that_is_not_filled(rt: HostRuntime) {
+fn a_sequence_that_is_not_filled_is_refused(rt: HostRuntime) {
     let mut buf = [0; 4];
     let mut writer = SliceWriter::new(&mut buf);
     let incorrect = ErrorKind::Length { tag: Tag::Sequence };
@@ -102,7 +102,7 @@ fn a_sequence_that_is_not_filled(rt: HostRuntime) {
 }
 
 #[test]
-fn a_sequence_whose_writer_has_failed(rt: HostRuntime) {
+fn a_sequence_whose_writer_has_failed_is_refused(rt: HostRuntime) {
     let mut buf = [0; 4];
     let mut writer = SliceWriter::new(&mut buf);
     let answer = writer.sequence(Length::new(2), |w| match w.write(&[0x05, 0x00, 0x00]) {
@@ -114,7 +114,7 @@ fn a_sequence_whose_writer_has_failed(rt: HostRuntime) {
 }
 
 #[test]
-fn a_sequence_that_is_refused_inside(rt: HostRuntime) {
+fn a_refusal_inside_a_sequence_fails_the_writer(rt: HostRuntime) {
     let mut buf = [0; 6];
     let mut writer = SliceWriter::new(&mut buf);
     same(
@@ -149,7 +149,7 @@ fn ignored_within(writer: &mut SliceWriter<'_>) -> Result<(), Error>
 }
 
 #[test]
-fn a_sequence_in_a_sequence_that_is_refused(rt: HostRuntime) {
+fn a_refusal_in_a_sequence_in_a_sequence_fails_the_writer(rt: HostRuntime) {
     let mut buf = [0; 8];
     let mut writer = SliceWriter::new(&mut buf);
     let refused = writer.sequence(Length::new(4), refused_within);
@@ -164,7 +164,7 @@ fn a_sequence_in_a_sequence_that_is_refused(rt: HostRuntime) {
 }
 
 #[test]
-fn a_sequence_whose_refusal_is_ignored(rt: HostRuntime) {
+fn an_ignored_refusal_in_a_sequence_is_told_as_failed(rt: HostRuntime) {
     let mut buf = [0; 8];
     let mut writer = SliceWriter::new(&mut buf);
     let refused = writer.sequence(Length::new(4), ignored_within);
@@ -183,7 +183,7 @@ fn sequence_of_nothing(writer: &mut SliceWriter<'_>, len: Length) -> Result<(), 
 }
 
 #[test]
-fn sequences_for_which_there_is_no_room(rt: HostRuntime) {
+fn a_sequence_is_refused_where_there_is_no_room(rt: HostRuntime) {
     let rows = [
         (10, Length::MAX, ErrorKind::Overflow.at(Length::new(6))),
         (

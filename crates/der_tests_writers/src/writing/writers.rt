@@ -47,7 +47,7 @@ fn an_error_leaves_the_writer_failed(rt: HostRuntime) {
 }
 
 #[test]
-fn lengths_for_which_there_is_no_room(rt: HostRuntime) {
+fn a_length_is_refused_where_there_is_no_room(rt: HostRuntime) {
     let mut writer = SliceWriter::new(&mut []);
     same(
         &rt,
@@ -66,7 +66,7 @@ fn lengths_for_which_there_is_no_room(rt: HostRuntime) {
 }
 
 #[test]
-fn headers_for_which_there_is_no_room(rt: HostRuntime) {
+fn a_header_is_refused_where_there_is_no_room(rt: HostRuntime) {
     let mut buf = [0; 3];
     let mut writer = SliceWriter::new(&mut buf);
     let empty = Header::new(Tag::Sequence, Length::ZERO);
@@ -100,7 +100,7 @@ fn headers_for_which_there_is_no_room(rt: HostRuntime) {
 }
 
 #[test]
-fn what_stands_behind_is_left(rt: HostRuntime) -> Result<(), Fail> {
+fn what_stands_behind_in_the_buffer_is_left(rt: HostRuntime) -> Result<(), Fail> {
     let mut buf = [0xEE; 7];
     let mut writer = SliceWriter::new(&mut buf);
     same(&rt, writer.write(&[0x01]), Ok(()));

@@ -56,7 +56,7 @@ fn write_zeros<W: Writer>(writer: &mut W, count: u32) -> Result<(), Error>
 }
 
 #[test]
-fn elements_as_octets(rt: HostRuntime) -> Result<(), Fail> {
+fn elements_with_contents_of_any_length_are_written(rt: HostRuntime) -> Result<(), Fail> {
     let none = Zeros { count: 0 }.to_der(rt.alloc())?;
     same(&rt, none.as_slice(), [0x04, 0x00].as_slice());
     let three = Zeros { count: 3 }.to_der(rt.alloc())?;
@@ -74,13 +74,13 @@ fn elements_as_octets(rt: HostRuntime) -> Result<(), Fail> {
 }
 
 #[test]
-fn the_longest_element(rt: HostRuntime) {
+fn the_longest_element_has_4294967295_octets(rt: HostRuntime) {
     let longest = Zeros { count: 4294967289 };
     same(&rt, longest.encoded_len(), Ok(Length::MAX));
 }
 
 #[test]
-fn elements_that_are_too_long(rt: HostRuntime) -> Result<(), Fail> {
+fn an_element_that_is_too_long_overflows(rt: HostRuntime) -> Result<(), Fail> {
     let zeros = Zeros { count: 4294967290 };
     let overflow = ErrorKind::Overflow.to_error();
     same(&rt, zeros.encoded_len(), Err(overflow));
@@ -91,7 +91,7 @@ fn elements_that_are_too_long(rt: HostRuntime) -> Result<(), Fail> {
 
 // The refusal asks for no memory: none is left.
 #[test]
-fn an_element_that_is_too_long_for_any_memory(rt: HostRuntime) -> Result<(), Fail> {
+fn what_is_too_long_overflows_before_memory_is_asked_for(rt: HostRuntime) -> Result<(), Fail> {
     let heap = LocalHeap::new(rt.alloc(), 32)?;
     let _all = Vec::from_slice(&heap, &[0u8; 20])?;
     let zeros = Zeros { count: 4294967290 };
@@ -103,7 +103,7 @@ fn an_element_that_is_too_long_for_any_memory(rt: HostRuntime) -> Result<(), Fai
 }
 
 #[test]
-fn an_element_that_is_too_long_for_a_vector(rt: HostRuntime) -> Result<(), Fail> {
+fn an_element_that_is_too_long_leaves_the_vector(rt: HostRuntime) -> Result<(), Fail> {
     let mut out = Vec::from_slice(rt.alloc(), &[0xBBu8])?;
     let overflow = ErrorKind::Overflow.to_error();
     let zeros = Zeros { count: 4294967290 };
@@ -113,7 +113,7 @@ fn an_element_that_is_too_long_for_a_vector(rt: HostRuntime) -> Result<(), Fail>
 }
 
 #[test]
-fn contents_for_which_there_is_no_room(rt: HostRuntime) {
+fn an_element_is_refused_where_there_is_no_room(rt: HostRuntime) {
     let mut buf = [0; 4];
     let refused = Zeros { count: 3 }.encode_to_slice(&mut buf).err();
     same(&rt, refused, Some(ErrorKind::Overlength.at(Length::new(5))));
