@@ -1,22 +1,41 @@
 -- Octets of a form, as they are read.
-use Rattle.std.proofs.Common.{◌≡◌, ℕ, Bool, List, ◌++◌, length, drop, sym, ap, ◌∙◌}
+use Rattle.std.proofs.Common.{◌≡◌, ℕ, Bool, List, ◌++◌, length, drop, sym, ap, subst, ◌∙◌}
 use Rattle.der.specs.Prelude.{Head, number, Tag, EncodingRules, ElementAhead}
+use Rattle.der.specs.Prelude.{TakesWhole}
 use Rattle.der.specs.Arithmetic.{sans_eoc}
 use Rattle.der_base.proofs.DigitLemmas.{same_length_front}
 use Rattle.der_base.proofs.HeaderLemmas.{one_header}
 use Rattle.der_asn1.specs.Checked.{TakesForm}
 
--- of two that stand in the same place the octets are the same
-pub one_form : {A : Type 0} {tag : Tag} {form : List ℕ → Bool} {contents : A → List ℕ} {v w : A}
-    {rules : EncodingRules} {octets : List ℕ} {m n : ℕ}
-    → ElementAhead tag (TakesForm form contents) v rules octets m
-    → ElementAhead tag (TakesForm form contents) w rules octets n → contents v ≡ contents w
-one_form {octets = octets} one two =
+-- of two that stand in the same place the contents are the same
+one_contents : {A B : Type 0} {tag : Tag} {takes : A → EncodingRules → Head → List ℕ → Type 0}
+    {gives : B → EncodingRules → Head → List ℕ → Type 0} {v : A} {w : B} {rules : EncodingRules}
+    {octets : List ℕ} {m n : ℕ} (one : ElementAhead tag takes v rules octets m)
+    (two : ElementAhead tag gives w rules octets n) → one.contents ≡ two.contents
+one_contents {octets = octets} one two =
     let same = one_header one.ahead two.ahead in
     let size : length one.contents ≡ length two.contents =
     one.sized ∙ ap (λ (h : Head). number (sans_eoc h.length)) same.0 ∙ sym two.sized in
     let split : one.contents ++ (one.mark ++ one.behind) ≡ two.contents ++ (two.mark ++ two.behind) =
     sym one.split ∙ ap (λ k. drop k octets) same.1 ∙ two.split in
-    let front = same_length_front one.contents two.contents (one.mark ++ one.behind)
-    (two.mark ++ two.behind) size split in
-    one.taken.1 ∙ front.0 ∙ sym two.taken.1
+    (same_length_front one.contents two.contents (one.mark ++ one.behind)
+    (two.mark ++ two.behind) size split).0
+
+-- so octets of a form are the same
+pub one_form : {A : Type 0} {tag : Tag} {form : List ℕ → Bool} {contents : A → List ℕ} {v w : A}
+    {rules : EncodingRules} {octets : List ℕ} {m n : ℕ}
+    → ElementAhead tag (TakesForm form contents) v rules octets m
+    → ElementAhead tag (TakesForm form contents) w rules octets n → contents v ≡ contents w
+one_form one two = one.taken.1 ∙ one_contents one two ∙ sym two.taken.1
+
+-- and in an element around them
+pub one_explicit_form : {A B : Type 0} {outer tag : Tag} {form : List ℕ → Bool}
+    {contents : A → List ℕ} (f : B → A) {v w : B} {rules : EncodingRules} {octets : List ℕ}
+    {m n : ℕ} → ElementAhead outer
+    (λ b. TakesWhole (ElementAhead tag (TakesForm form contents)) (f b)) v rules octets m
+    → ElementAhead outer (λ b. TakesWhole (ElementAhead tag (TakesForm form contents)) (f b)) w
+    rules octets n → contents (f v) ≡ contents (f w)
+one_explicit_form {tag = tag} {form} {contents} f {w = w} {rules} one two =
+    one_form one.taken (subst
+    (λ x. ElementAhead tag (TakesForm form contents) (f w) rules x (length x))
+    (sym (one_contents one two)) two.taken)

@@ -58,15 +58,16 @@ pub record Alternative (A : Type 0) : Type 1 where
   pub fits : Bool
   pub laws : fits ≡ true → ToldLaws tags first stops precedes stands valid encoding
 
--- one with a tag of its own: a lawful type
+-- one with a tag of its own, which is a lawful type where a test says so
 pub record Element (A : Type 0) : Type 1 where
   pub tag : Tag
   pub takes : A → EncodingRules → Head → List ℕ → Type 0
   pub valid : A → Type 0
   pub contents : A → List ℕ
   pub levels : EncodingRules → ℕ
-  pub lawful : IsLawful tag takes valid contents levels
-  pub holds : (v : A) (rules : EncodingRules) (h : Head) (octets : List ℕ)
+  pub fits : Bool
+  pub lawful : fits ≡ true → IsLawful tag takes valid contents levels
+  pub holds : fits ≡ true → (v : A) (rules : EncodingRules) (h : Head) (octets : List ℕ)
       → takes v rules h octets → valid v
 
 abbrev pub alternative : {A : Type 0} → Element A → Alternative A
@@ -80,8 +81,8 @@ alternative one =
       first = Some one.tag ∷ [];
       stops = [];
       precedes = Anything;
-      fits = true;
-      laws = λ e. element_told one.lawful one.holds;
+      fits = one.fits;
+      laws = λ e. element_told (one.lawful e) (one.holds e);
     }
 
 abbrev pub field : {A : Type 0} → Alternative A → Field A
@@ -179,63 +180,71 @@ either one two =
       laws = λ e. either_told e one.laws two.laws;
     }
 
+-- a number of a tag that the library can count (below 2 to the 32)
+abbrev pub is_small : ℕ → Bool
+is_small n = nat_lt n (2 ^ 32)
+
+pub small : (n : ℕ) → is_small n ≡ true → n < 2 ^ 32
+small n e = ltb-true n (2 ^ 32) e
+
 -- contents of a form, and lists and sets of elements
-abbrev pub of_form : {A : Type 0} (tag : Tag) → (List ℕ → Bool) → (A → List ℕ)
-    → (label tag).number < 2 ^ 32 → Element A
-of_form tag form octets numbered =
+abbrev pub of_form : {A : Type 0} → Tag → (List ℕ → Bool) → (A → List ℕ) → Element A
+of_form tag form octets =
     record {
       tag = tag;
       takes = TakesForm form octets;
       valid = HasForm form octets;
       contents = octets;
       levels = λ _. 0;
-      lawful = form_lawful tag form octets numbered;
-      holds = λ v rules h octets taken. subst (λ x. form x ≡ true) (sym taken.1) taken.0;
+      fits = is_small (label tag).number;
+      lawful = λ e. form_lawful tag form octets (small (label tag).number e);
+      holds = λ e v rules h octets taken. subst (λ x. form x ≡ true) (sym taken.1) taken.0;
     }
 
-abbrev pub list_of : {A B : Type 0} (tag : Tag) → Element A → (B → List ℕ)
-    → (label tag).number < 2 ^ 32 → Element B
-list_of tag one octets numbered =
+abbrev pub list_of : {A B : Type 0} → Tag → Tag → (A → Type 0) → (A → List ℕ) → (B → List ℕ)
+    → Element B
+list_of outer tag valid contents octets =
     record {
-      tag = tag;
-      takes = TakesList one.tag one.valid one.contents octets;
-      valid = IsList one.tag one.valid one.contents octets;
+      tag = outer;
+      takes = TakesList tag valid contents octets;
+      valid = IsList tag valid contents octets;
       contents = octets;
       levels = λ _. 0;
-      lawful = list_lawful tag one.tag one.valid one.contents octets numbered;
-      holds = list_holds one.tag one.valid one.contents octets;
+      fits = is_small (label outer).number;
+      lawful = λ e. list_lawful outer tag valid contents octets (small (label outer).number e);
+      holds = λ e. list_holds tag valid contents octets;
     }
 
-abbrev pub set_of : {A B : Type 0} (tag : Tag) → Element A → (B → List ℕ)
-    → (label tag).number < 2 ^ 32 → Element B
-set_of tag one octets numbered =
+abbrev pub set_of : {A B : Type 0} → Tag → Tag → (A → Type 0) → (A → List ℕ) → (B → List ℕ)
+    → Element B
+set_of outer tag valid contents octets =
     record {
-      tag = tag;
-      takes = TakesSet one.tag one.valid one.contents octets;
-      valid = IsSet one.tag one.valid one.contents octets;
+      tag = outer;
+      takes = TakesSet tag valid contents octets;
+      valid = IsSet tag valid contents octets;
       contents = octets;
       levels = λ _. 0;
-      lawful = set_lawful tag one.tag one.valid one.contents octets numbered;
-      holds = set_holds one.tag one.valid one.contents octets;
+      fits = is_small (label outer).number;
+      lawful = λ e. set_lawful outer tag valid contents octets (small (label outer).number e);
+      holds = λ e. set_holds tag valid contents octets;
     }
 
-below_63 : (n : ℕ) → nat_lt n 63 ≡ true → n ≤ 62
-below_63 n e = let below = ltb-true n 63 e in omega (arith, below)
+-- it fits, and nests at most 62 levels, so that it may stand in another element
+abbrev pub is_shallow : Bool → (EncodingRules → ℕ) → Bool
+is_shallow fits levels = fits && nat_lt (levels Der) 63
 
--- fields as the contents of an element, which nest at most 62 levels
-abbrev pub is_sequence : {A : Type 0} → Field A → Bool
-is_sequence one = one.fits && nat_lt (one.levels Der) 63
+pub shallow : (fits : Bool) (levels : EncodingRules → ℕ) → is_shallow fits levels ≡ true
+    → levels Der ≤ 62
+shallow fits levels e =
+    let below = ltb-true (levels Der) 63 (both_true fits (nat_lt (levels Der) 63) e).1 in
+    omega (arith, below)
 
-pub is_nested : (fits : Bool) (levels : EncodingRules → ℕ)
-    → (fits && nat_lt (levels Der) 63) ≡ true → levels Der ≤ 62
-is_nested fits levels e = below_63 (levels Der) (both_true fits (nat_lt (levels Der) 63) e).1
-
+-- fields as the contents of an element
 module _ {A : Type 0} {fits always : Bool} {first stops : List (Option Tag)}
     {P : A → List ℕ → Type 0} {Ahead : A → EncodingRules → List ℕ → ℕ → Type 0}
     {valid : A → Type 0} {encoding : A → List ℕ} (levels : EncodingRules → ℕ)
-    (e : (fits && nat_lt (levels Der) 63) ≡ true)
     (laws : fits ≡ true → SetLaws always first stops P Ahead valid encoding) {B : Type 0}
-    (f : B → A) where
+    (f : B → A) (e : is_shallow fits levels ≡ true) where
   pub sequence_holds : (b : B) (rules : EncodingRules) (h : Head) (octets : List ℕ)
       → TakesWhole Ahead (f b) rules h octets → valid (f b)
   sequence_holds b =
@@ -244,45 +253,54 @@ module _ {A : Type 0} {fits always : Bool} {first stops : List (Option Tag)}
   pub sequence_lawful : IsLawful SequenceTag (λ b. TakesWhole Ahead (f b)) (λ b. valid (f b))
       (λ b. encoding (f b)) levels
   sequence_lawful =
-      let shallow = is_nested fits levels e in
+      let low = shallow fits levels e in
       contents_laws SequenceTag levels f
-      (laws_of (laws (both_true fits (nat_lt (levels Der) 63) e).0)) (omega (arith, shallow))
+      (laws_of (laws (both_true fits (nat_lt (levels Der) 63) e).0)) (omega (arith, low))
       (omega arith)
 
-abbrev pub sequence : {A B : Type 0} (one : Field A) → is_sequence one ≡ true → (B → A) → Element B
-sequence one e f =
+abbrev pub sequence : {A B : Type 0} → Field A → (B → A) → Element B
+sequence one f =
     record {
       tag = SequenceTag;
       takes = λ b. TakesWhole one.stands (f b);
       valid = λ b. one.valid (f b);
       contents = λ b. one.encoding (f b);
       levels = one.levels;
-      lawful = sequence_lawful one.levels e one.laws f;
-      holds = sequence_holds one.levels e one.laws f;
+      fits = is_shallow one.fits one.levels;
+      lawful = sequence_lawful one.levels one.laws f;
+      holds = sequence_holds one.levels one.laws f;
     }
 
 -- context-specific tags: another one for the same contents, and one around an element
-abbrev pub implicit : {A B : Type 0} (n : ℕ) → n < 2 ^ 32 → Element A → (B → A) → Element B
-implicit n small one f =
+abbrev pub implicit : {A B : Type 0} → ℕ → Element A → (B → A) → Element B
+implicit n one f =
     record {
       tag = context_tag (label one.tag).constructed n;
       takes = TakesImplicit one.tag one.takes f;
       valid = λ b. one.valid (f b);
       contents = λ b. one.contents (f b);
       levels = one.levels;
-      lawful = implicit_lawful (context_tag (label one.tag).constructed n) f small one.lawful;
-      holds = λ b rules h octets taken. one.holds (f b) rules (retagged one.tag h) octets taken;
+      fits = is_small n && one.fits;
+      lawful = λ e. (let p = both_true (is_small n) one.fits e in
+          implicit_lawful (context_tag (label one.tag).constructed n) f (small n p.0)
+          (one.lawful p.1));
+      holds = λ e b rules h octets taken. one.holds (both_true (is_small n) one.fits e).1 (f b) rules
+          (retagged one.tag h) octets taken;
     }
 
-abbrev pub explicit : {A B : Type 0} (n : ℕ) → n < 2 ^ 32 → (one : Element A)
-    → one.levels Der ≤ 62 → (B → A) → Element B
-explicit n small one shallow f =
+abbrev pub explicit : {A B : Type 0} → ℕ → Element A → (B → A) → Element B
+explicit n one f =
     record {
       tag = context_tag true n;
       takes = λ b. TakesWhole (ElementAhead one.tag one.takes) (f b);
       valid = λ b. one.valid (f b);
       contents = λ b. element_octets one.tag (one.contents (f b));
       levels = element_levels one.levels;
-      lawful = explicit_lawful (context_tag true n) f small one.lawful shallow;
-      holds = explicit_holds f one.holds;
+      fits = is_small n && is_shallow one.fits one.levels;
+      lawful = λ e. (let p = both_true (is_small n) (is_shallow one.fits one.levels) e in
+          let q = both_true one.fits (nat_lt (one.levels Der) 63) p.1 in
+          explicit_lawful (context_tag true n) f (small n p.0) (one.lawful q.0)
+          (shallow one.fits one.levels p.1));
+      holds = λ e. explicit_holds f (one.holds (both_true one.fits (nat_lt (one.levels Der) 63)
+          (both_true (is_small n) (is_shallow one.fits one.levels) e).1).0);
     }

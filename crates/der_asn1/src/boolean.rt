@@ -1,14 +1,13 @@
 //! A BOOLEAN.
 ghost use Rattle.std.specs.Prelude.{◌≡◌, ◌∷◌, [], true, ◌↔◌};
-ghost use Rattle.std.proofs.Common.{arith, ap};
+ghost use Rattle.std.proofs.Common.{arith};
 ghost use Rattle.der.specs.Prelude.{Boolean as BooleanTag};
-ghost use Rattle.der_asn1.specs.CheckedLemmas.{one_form};
 ghost use Rattle.der_asn1.specs.Forms.{boolean_form, is_false};
 
 use crate::checked::Checked;
-use crate::defaulted::{DefaultValue, HasDefault};
+use crate::default_form::DefaultForm;
 use crate::form::Form;
-use der::{FixedTag, Reader, Tag};
+use der::{FixedTag, Tag};
 
 /// The form of a BOOLEAN: octet 00 is false, and FF true (X.690 8.2, 11.1).
 pub struct BooleanForm;
@@ -52,21 +51,17 @@ impl<'a> Checked<'a, BooleanForm> {
 }
 
 /// The default is false, as in formats that have a BOOLEAN with a default.
-impl<'a> DefaultValue for Checked<'a, BooleanForm> {
-    ghost is_default = { λ v. is_false v.octets.now };
+impl DefaultForm for BooleanForm {
+    ghost default_form = { is_false };
 
-    fn default_value() -> Self {
-        Checked::formed(&[0])
+    fn default_octets() -> &'static [u8] {
+        &[0]
     }
 
-    fn has_default(&self) -> bool {
-        match self.octets() {
+    fn is_default(octets: &[u8]) -> bool {
+        match octets {
             [octet, ..] => *octet == 0,
             [] => false,
         }
     }
-}
-
-impl<'a, R: Reader<Lent = &'a [u8]>> HasDefault<R> for Checked<'a, BooleanForm> {
-    ghost told = { λ v w rules octets m n one two. ap is_false (one_form one two) };
 }

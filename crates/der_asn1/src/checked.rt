@@ -3,7 +3,9 @@ ghost use Rattle.std.specs.Prelude.{◌≡◌, true, false, IfSome, IsSome, ◌�
 ghost use Rattle.std.proofs.Common.{arith, subst, sym};
 ghost use Rattle.der_asn1.specs.Checked.{HasForm, TakesForm, FormRead, form_size};
 ghost use Rattle.der_asn1.specs.Checked.{FormWritten, form_lawful};
+ghost use Rattle.der_asn1.specs.Meaning.{of_form};
 
+use crate::described::Described;
 use crate::explicit::Nestable;
 use crate::form::Form;
 use der::{
@@ -148,4 +150,8 @@ impl<'a, F: Form> Lawful for Checked<'a, F> {
 
 impl<'a, F: Form> Nestable for Checked<'a, F> {
     ghost nestable = { Prim.omega arith };
+}
+
+impl<'a, F: Form> Described for Checked<'a, F> {
+    ghost element = { of_form F.tag_is F.form (λ v. v.octets.now) };
 }

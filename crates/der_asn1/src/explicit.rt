@@ -4,7 +4,9 @@ ghost use Rattle.std.proofs.Common.{arith};
 ghost use Rattle.der.specs.Prelude.{Der, ElementAhead, ElementRead, element_levels, map_ok};
 ghost use Rattle.der.specs.Prelude.{element_octets, element_size, ElementWritten, TakesWhole};
 ghost use Rattle.der_asn1.specs.ContextSpecific.{context_tag, explicit_lawful, explicit_holds};
+ghost use Rattle.der_asn1.specs.Meaning.{explicit};
 
+use crate::described::Described;
 use der::{
     DecodeValue, Encode, EncodeValue, Error, FixedTag, Header, Lawful, Length, ReadValue, Reader,
     Tag, TagNumber, Writer, WrittenValue, decode_contents,
@@ -101,4 +103,8 @@ impl<T: EncodeValue + FixedTag, const N: u32> EncodeValue for Explicit<T, N> {
 impl<T: Lawful + Nestable, const N: u32> Lawful for Explicit<T, N> {
     ghost lawful = { explicit_lawful (context_tag true N) (λ v. v.0) (Prim.omega arith) T.lawful
         T.nestable };
+}
+
+impl<T: Described, const N: u32> Described for Explicit<T, N> {
+    ghost element = { explicit N T.element (λ v. v.0) };
 }

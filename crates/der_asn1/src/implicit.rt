@@ -5,7 +5,9 @@ ghost use Rattle.der.specs.Prelude.{map_ok};
 ghost use Rattle.der.specs.Tag.{label};
 ghost use Rattle.der_asn1.specs.ContextSpecific.{context_tag, retagged, TakesImplicit};
 ghost use Rattle.der_asn1.specs.ContextSpecific.{implicit_lawful};
+ghost use Rattle.der_asn1.specs.Meaning.{implicit};
 
+use crate::described::Described;
 use crate::explicit::Nestable;
 use der::{
     DecodeValue, EncodeValue, Error, FixedTag, Header, Lawful, Length, ReadValue, Reader, Tag,
@@ -102,4 +104,8 @@ impl<T: Lawful, const N: u32> Lawful for Implicit<T, N> {
 
 impl<T: Nestable + FixedTag, const N: u32> Nestable for Implicit<T, N> {
     ghost nestable = { T.nestable };
+}
+
+impl<T: Described, const N: u32> Described for Implicit<T, N> {
+    ghost element = { implicit N T.element (λ v. v.0) };
 }

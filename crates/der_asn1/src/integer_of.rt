@@ -4,7 +4,9 @@ ghost use Rattle.std.proofs.Common.{arith, subst, sym};
 ghost use Rattle.der.specs.Prelude.{Integer as IntegerTag};
 ghost use Rattle.der_asn1.specs.Checked.{HasForm, TakesForm, FormRead, form_size};
 ghost use Rattle.der_asn1.specs.Checked.{FormWritten, form_lawful};
+ghost use Rattle.der_asn1.specs.Meaning.{of_form};
 
+use crate::described::Described;
 use crate::explicit::Nestable;
 use crate::integer::IntRef;
 use crate::integer_number::IntegerNumber;
@@ -112,4 +114,8 @@ impl<N: IntegerNumber> Lawful for IntegerOf<N> {
 
 impl<N: IntegerNumber> Nestable for IntegerOf<N> {
     ghost nestable = { Prim.omega arith };
+}
+
+impl<N: IntegerNumber> Described for IntegerOf<N> {
+    ghost element = { of_form IntegerTag N.form (λ v. N.contents_of v.number) };
 }

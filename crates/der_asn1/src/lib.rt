@@ -1,8 +1,8 @@
 //! Types of ASN.1 above the crate `der`: fields that may be absent, elements of any tag, contents
 //! of a form, lists, and SEQUENCEs of named fields.
 //!
-//! `specs/Follow.antt` says what may follow a field, and `specs/FieldLaws.antt` puts fields
-//! together: a SEQUENCE of fields that are read as they are written is lawful.
+//! `specs/Follow.antt` says what may follow a field, and `specs/Meaning.antt` puts fields together:
+//! a SEQUENCE of fields that are read as they are written is lawful.
 #![tactic(auto)]
 
 mod any;
@@ -13,7 +13,9 @@ mod boolean;
 mod checked;
 mod choice;
 mod date_time;
+mod default_form;
 mod defaulted;
+mod described;
 mod either;
 mod element;
 mod enumerated;
@@ -52,7 +54,9 @@ pub use boolean::{BooleanForm, BooleanRef};
 pub use checked::Checked;
 pub use choice::Choice;
 pub use date_time::DateTime;
+pub use default_form::DefaultForm;
 pub use defaulted::{DefaultValue, Defaulted, HasDefault};
+pub use described::Described;
 pub use either::Either;
 pub use element::decode_element;
 pub use enumerated::{EnumeratedForm, EnumeratedRef};

@@ -9,7 +9,9 @@ ghost use Rattle.der_asn1.specs.SequenceOf.{list_lawful, list_holds};
 ghost use Rattle.der_asn1.specs.ListAnswers.{ItemAnswer, ListWalked, ListRead};
 ghost use Rattle.der.specs.Prelude.{map_ok};
 ghost use Rattle.der.specs.Element.{ElementRead};
+ghost use Rattle.der_asn1.specs.Meaning.{list_of};
 
+use crate::described::Described;
 use crate::explicit::Nestable;
 use der::{
     DecodeValue, EncodeValue, Error, ErrorKind, FixedTag, Header, Lawful, Length, ReadValue,
@@ -270,4 +272,8 @@ impl<'a, T: Lawful + DecodeValue<SliceReader<'a>>> Items<'a, T> {
             Err(_) => None,
         }
     }
+}
+
+impl<'a, T: Lawful> Described for SequenceOf<'a, T> {
+    ghost element = { list_of Sequence T.tag_is T.valid T.contents (λ v. v.octets.now) };
 }

@@ -10,7 +10,9 @@ ghost use Rattle.der_asn1.specs.SetOf.{set_holds};
 ghost use Rattle.der_asn1.specs.ListAnswers.{NextAnswer, SetWalked, ListRead};
 ghost use Rattle.der.specs.Prelude.{map_ok};
 ghost use Rattle.der.specs.Element.{ElementRead};
+ghost use Rattle.der_asn1.specs.Meaning.{set_of};
 
+use crate::described::Described;
 use crate::explicit::Nestable;
 use crate::sequence_of::{Items, SequenceOf, next_item};
 use der::{
@@ -246,4 +248,8 @@ impl<'a, T: Lawful> SetOf<'a, T> {
     {
         self.elements.items()
     }
+}
+
+impl<'a, T: Lawful> Described for SetOf<'a, T> {
+    ghost element = { set_of SetTag T.tag_is T.valid T.contents (λ v. v.elements.octets.now) };
 }

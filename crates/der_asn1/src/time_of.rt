@@ -3,7 +3,9 @@ ghost use Rattle.std.specs.Prelude.{◌≡◌, ◌<◌, ◌↔◌, ⊤, true, fa
 ghost use Rattle.std.proofs.Common.{arith, subst, sym};
 ghost use Rattle.der_asn1.specs.Checked.{HasForm, TakesForm, FormRead, form_size};
 ghost use Rattle.der_asn1.specs.Checked.{FormWritten, form_lawful};
+ghost use Rattle.der_asn1.specs.Meaning.{of_form};
 
+use crate::described::Described;
 use crate::date_time::DateTime;
 use crate::explicit::Nestable;
 use crate::time_form::TimeForm;
@@ -141,4 +143,8 @@ impl<F: TimeForm> Lawful for TimeOf<F> {
 
 impl<F: TimeForm> Nestable for TimeOf<F> {
     ghost nestable = { Prim.omega arith };
+}
+
+impl<F: TimeForm> Described for TimeOf<F> {
+    ghost element = { of_form F.tag_is F.form (λ v. F.contents_of v.time) };
 }

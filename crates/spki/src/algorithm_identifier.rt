@@ -1,13 +1,14 @@
 //! AlgorithmIdentifier of RFC 5280, 4.1.1.2.
 ghost use Rattle.std.specs.Prelude.{◌≡◌, false};
+ghost use Rattle.std.proofs.Common.{refl};
 ghost use Rattle.der.specs.Prelude.{Sequence, map_ok};
-ghost use Rattle.spki.specs.AlgorithmIdentifier.{algorithm_identifier};
+ghost use Rattle.der_asn1.specs.Meaning.{alternative, any_element, field, optional, sequence, two_fields};
 
 use der::{
     Decode, DecodeValue, Encode, EncodeRef, EncodeValue, Error, FixedTag, Header, Lawful, Length,
     ReadValue, Reader, SliceReader, Tag, Writer, WrittenValue, decode_contents,
 };
-use der_asn1::{AnyRef, ObjectIdentifierRef, Optional};
+use der_asn1::{AnyRef, Described, ObjectIdentifierRef, Optional};
 use std::alloc::Global;
 
 /// An algorithm, and its parameters, lent by the input.
@@ -22,6 +23,12 @@ pub struct AlgorithmIdentifierRef<'a> {
 /// Its fields, one behind the other.
 pub type AlgorithmIdentifierFields<'a> = (ObjectIdentifierRef<'a>, Optional<AnyRef<'a>>);
 
+impl<'a> Described for AlgorithmIdentifierRef<'a> {
+    ghost element = { sequence (two_fields (field (alternative ⟦<ObjectIdentifierRef<'a> as Described>⟧.element))
+        (optional any_element))
+        (λ v. (v.oid, v.parameters)) };
+}
+
 impl<'a> FixedTag for AlgorithmIdentifierRef<'a> {
     ghost tag_is = { Sequence };
 
@@ -35,18 +42,15 @@ impl<'a> FixedTag for AlgorithmIdentifierRef<'a> {
 }
 
 impl<'a> ReadValue for AlgorithmIdentifierRef<'a> {
-    ghost valid = { (algorithm_identifier ⟦<ObjectIdentifierRef<'a> as WrittenValue>⟧.contents
-        (λ v. (v.oid, v.parameters))).valid };
+    ghost valid = { ⟦<AlgorithmIdentifierRef<'a> as Described>⟧.element.valid };
 
-    ghost takes = { (algorithm_identifier ⟦<ObjectIdentifierRef<'a> as WrittenValue>⟧.contents
-        (λ v. (v.oid, v.parameters))).takes };
+    ghost takes = { ⟦<AlgorithmIdentifierRef<'a> as Described>⟧.element.takes };
 
-    ghost value_levels = { ⟦<AlgorithmIdentifierFields<'a> as Decode<SliceReader<'a>>>⟧.decode_levels };
+    ghost value_levels = { ⟦<AlgorithmIdentifierRef<'a> as Described>⟧.element.levels };
 
     ghost allocates = { false };
 
-    ghost takes_valid = { (algorithm_identifier ⟦<ObjectIdentifierRef<'a> as WrittenValue>⟧.contents
-        (λ v. (v.oid, v.parameters))).holds };
+    ghost takes_valid = { ⟦<AlgorithmIdentifierRef<'a> as Described>⟧.element.holds refl };
 }
 
 /// # Errors
@@ -74,11 +78,9 @@ impl<'a, R: Reader<Lent = &'a [u8]>> DecodeValue<R> for AlgorithmIdentifierRef<'
 }
 
 impl<'a> WrittenValue for AlgorithmIdentifierRef<'a> {
-    ghost contents = { (algorithm_identifier ⟦<ObjectIdentifierRef<'a> as WrittenValue>⟧.contents
-        (λ v. (v.oid, v.parameters))).contents };
+    ghost contents = { ⟦<AlgorithmIdentifierRef<'a> as Described>⟧.element.contents };
 
-    ghost writable = { (algorithm_identifier ⟦<ObjectIdentifierRef<'a> as WrittenValue>⟧.contents
-        (λ v. (v.oid, v.parameters))).valid };
+    ghost writable = { ⟦<AlgorithmIdentifierRef<'a> as Described>⟧.element.valid };
 }
 
 /// # Errors
@@ -87,7 +89,8 @@ impl<'a> WrittenValue for AlgorithmIdentifierRef<'a> {
 impl<'a> EncodeValue for AlgorithmIdentifierRef<'a> {
     ghost value_size = { λ v. ⟦<AlgorithmIdentifierFields<'a> as Encode>⟧.size (v.oid, v.parameters) };
 
-    ghost encode_value_answers = { λ v. ⟦<AlgorithmIdentifierFields<'a> as Encode>⟧.encode_answers (v.oid, v.parameters) };
+    ghost encode_value_answers = { λ v. ⟦<AlgorithmIdentifierFields<'a> as Encode>⟧.encode_answers
+        (v.oid, v.parameters) };
 
     fn value_len(&self) -> Result<Length, Error> {
         (EncodeRef(&self.oid), EncodeRef(&self.parameters)).encoded_len()
@@ -99,6 +102,5 @@ impl<'a> EncodeValue for AlgorithmIdentifierRef<'a> {
 }
 
 impl<'a> Lawful for AlgorithmIdentifierRef<'a> {
-    ghost lawful = { (algorithm_identifier ⟦<ObjectIdentifierRef<'a> as WrittenValue>⟧.contents
-        (λ v. (v.oid, v.parameters))).lawful };
+    ghost lawful = { ⟦<AlgorithmIdentifierRef<'a> as Described>⟧.element.lawful refl };
 }

@@ -1,14 +1,15 @@
 //! SubjectPublicKeyInfo of RFC 5280, 4.1.
 ghost use Rattle.std.specs.Prelude.{◌≡◌, false};
+ghost use Rattle.std.proofs.Common.{refl};
 ghost use Rattle.der.specs.Prelude.{Sequence, map_ok};
-ghost use Rattle.spki.specs.SubjectPublicKeyInfo.{subject_public_key_info};
+ghost use Rattle.der_asn1.specs.Meaning.{alternative, field, sequence, two_fields};
 
 use crate::algorithm_identifier::AlgorithmIdentifierRef;
 use der::{
     Decode, DecodeValue, Encode, EncodeRef, EncodeValue, Error, FixedTag, Header, Lawful, Length,
     ReadValue, Reader, SliceReader, Tag, Writer, WrittenValue, decode_contents,
 };
-use der_asn1::{BitStringRef, ObjectIdentifierRef};
+use der_asn1::{BitStringRef, Described};
 use std::alloc::Global;
 
 /// A public key, with its algorithm, lent by the input.
@@ -23,6 +24,12 @@ pub struct SubjectPublicKeyInfoRef<'a> {
 /// Its fields, one behind the other.
 pub type SubjectPublicKeyInfoFields<'a> = (AlgorithmIdentifierRef<'a>, BitStringRef<'a>);
 
+impl<'a> Described for SubjectPublicKeyInfoRef<'a> {
+    ghost element = { sequence (two_fields (field (alternative ⟦<AlgorithmIdentifierRef<'a> as Described>⟧.element))
+        (field (alternative ⟦<BitStringRef<'a> as Described>⟧.element)))
+        (λ v. (v.algorithm, v.subject_public_key)) };
+}
+
 impl<'a> FixedTag for SubjectPublicKeyInfoRef<'a> {
     ghost tag_is = { Sequence };
 
@@ -36,18 +43,15 @@ impl<'a> FixedTag for SubjectPublicKeyInfoRef<'a> {
 }
 
 impl<'a> ReadValue for SubjectPublicKeyInfoRef<'a> {
-    ghost valid = { (subject_public_key_info ⟦<ObjectIdentifierRef<'a> as WrittenValue>⟧.contents ⟦<BitStringRef<'a> as WrittenValue>⟧.contents (λ v. (v.oid, v.parameters))
-        (λ v. (v.algorithm, v.subject_public_key))).valid };
+    ghost valid = { ⟦<SubjectPublicKeyInfoRef<'a> as Described>⟧.element.valid };
 
-    ghost takes = { (subject_public_key_info ⟦<ObjectIdentifierRef<'a> as WrittenValue>⟧.contents ⟦<BitStringRef<'a> as WrittenValue>⟧.contents (λ v. (v.oid, v.parameters))
-        (λ v. (v.algorithm, v.subject_public_key))).takes };
+    ghost takes = { ⟦<SubjectPublicKeyInfoRef<'a> as Described>⟧.element.takes };
 
-    ghost value_levels = { ⟦<SubjectPublicKeyInfoFields<'a> as Decode<SliceReader<'a>>>⟧.decode_levels };
+    ghost value_levels = { ⟦<SubjectPublicKeyInfoRef<'a> as Described>⟧.element.levels };
 
     ghost allocates = { false };
 
-    ghost takes_valid = { (subject_public_key_info ⟦<ObjectIdentifierRef<'a> as WrittenValue>⟧.contents ⟦<BitStringRef<'a> as WrittenValue>⟧.contents (λ v. (v.oid, v.parameters))
-        (λ v. (v.algorithm, v.subject_public_key))).holds };
+    ghost takes_valid = { ⟦<SubjectPublicKeyInfoRef<'a> as Described>⟧.element.holds refl };
 }
 
 /// # Errors
@@ -73,11 +77,9 @@ impl<'a, R: Reader<Lent = &'a [u8]>> DecodeValue<R> for SubjectPublicKeyInfoRef<
 }
 
 impl<'a> WrittenValue for SubjectPublicKeyInfoRef<'a> {
-    ghost contents = { (subject_public_key_info ⟦<ObjectIdentifierRef<'a> as WrittenValue>⟧.contents ⟦<BitStringRef<'a> as WrittenValue>⟧.contents (λ v. (v.oid, v.parameters))
-        (λ v. (v.algorithm, v.subject_public_key))).contents };
+    ghost contents = { ⟦<SubjectPublicKeyInfoRef<'a> as Described>⟧.element.contents };
 
-    ghost writable = { (subject_public_key_info ⟦<ObjectIdentifierRef<'a> as WrittenValue>⟧.contents ⟦<BitStringRef<'a> as WrittenValue>⟧.contents (λ v. (v.oid, v.parameters))
-        (λ v. (v.algorithm, v.subject_public_key))).valid };
+    ghost writable = { ⟦<SubjectPublicKeyInfoRef<'a> as Described>⟧.element.valid };
 }
 
 /// # Errors
@@ -86,7 +88,8 @@ impl<'a> WrittenValue for SubjectPublicKeyInfoRef<'a> {
 impl<'a> EncodeValue for SubjectPublicKeyInfoRef<'a> {
     ghost value_size = { λ v. ⟦<SubjectPublicKeyInfoFields<'a> as Encode>⟧.size (v.algorithm, v.subject_public_key) };
 
-    ghost encode_value_answers = { λ v. ⟦<SubjectPublicKeyInfoFields<'a> as Encode>⟧.encode_answers (v.algorithm, v.subject_public_key) };
+    ghost encode_value_answers = { λ v. ⟦<SubjectPublicKeyInfoFields<'a> as Encode>⟧.encode_answers
+        (v.algorithm, v.subject_public_key) };
 
     fn value_len(&self) -> Result<Length, Error> {
         (EncodeRef(&self.algorithm), EncodeRef(&self.subject_public_key)).encoded_len()
@@ -98,6 +101,5 @@ impl<'a> EncodeValue for SubjectPublicKeyInfoRef<'a> {
 }
 
 impl<'a> Lawful for SubjectPublicKeyInfoRef<'a> {
-    ghost lawful = { (subject_public_key_info ⟦<ObjectIdentifierRef<'a> as WrittenValue>⟧.contents ⟦<BitStringRef<'a> as WrittenValue>⟧.contents (λ v. (v.oid, v.parameters))
-        (λ v. (v.algorithm, v.subject_public_key))).lawful };
+    ghost lawful = { ⟦<SubjectPublicKeyInfoRef<'a> as Described>⟧.element.lawful refl };
 }

@@ -1,0 +1,60 @@
+//! Forms of octets with a default.
+ghost use Rattle.std.specs.Prelude.{◌≡◌, Bool, true, List, ℕ};
+ghost use Rattle.std.proofs.Common.{ap};
+ghost use Rattle.der_asn1.specs.CheckedLemmas.{one_form, one_explicit_form};
+
+use crate::checked::Checked;
+use crate::defaulted::{DefaultValue, HasDefault};
+use crate::explicit::Explicit;
+use crate::form::Form;
+use der::Reader;
+
+/// A form of which some octets are the default, where a field has one.
+///
+/// Ghost member: `default_form` says which octets those are.
+pub trait DefaultForm: Form {
+    ghost default_form: { List ℕ → Bool };
+
+    /// Octets that are the default.
+    fn default_octets() -> &'static [u8]
+        ensures formed { Self.Form.form result.now ≡ true }
+        ensures value { default_form result.now ≡ true };
+
+    /// Whether octets are the default.
+    fn is_default(octets: &[u8]) -> bool
+        ensures { result ≡ default_form octets.now };
+}
+
+impl<'a, F: DefaultForm> DefaultValue for Checked<'a, F> {
+    ghost is_default = { λ v. F.default_form v.octets.now };
+
+    fn default_value() -> Self {
+        Checked::formed(F::default_octets())
+    }
+
+    fn has_default(&self) -> bool {
+        F::is_default(self.octets())
+    }
+}
+
+impl<'a, R: Reader<Lent = &'a [u8]>, F: DefaultForm> HasDefault<R> for Checked<'a, F> {
+    ghost told = { λ v w rules octets m n one two. ap F.default_form (one_form one two) };
+}
+
+impl<'a, F: DefaultForm, const N: u32> DefaultValue for Explicit<Checked<'a, F>, N> {
+    ghost is_default = { λ v. F.default_form v.0.octets.now };
+
+    fn default_value() -> Self {
+        Explicit(Checked::default_value())
+    }
+
+    fn has_default(&self) -> bool {
+        self.0.has_default()
+    }
+}
+
+impl<'a, R: Reader<Lent = &'a [u8]>, F: DefaultForm, const N: u32> HasDefault<R>
+    for Explicit<Checked<'a, F>, N> {
+    ghost told = { λ v w rules octets m n one two.
+        ap F.default_form (one_explicit_form (λ e. e.0) one two) };
+}

@@ -1,2 +1,0 @@
-pub mod AlgorithmIdentifier
-pub mod SubjectPublicKeyInfo
