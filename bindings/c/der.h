@@ -252,10 +252,22 @@ der_error der_write_header(der_writer *writer, der_tag tag, uint32_t length);
  * |length| passes 4294967295. */
 der_error der_write_element(der_writer *writer, der_tag tag, const uint8_t *contents, size_t length);
 
-/* der_element_length sets |*count| to the octets of an element of |tag| with |length| octets of contents: so an
- * element with others inside is written by the lengths first, and |der_write_header| with their sum. Refused by
- * DER_TAG_NUMBER_INVALID where |tag| is no tag's, and by DER_OVERFLOW where there are more than 4294967295. */
+/* An element with others inside is written by the lengths first, or by its begin and its end.
+ *
+ * der_element_length sets |*count| to the octets of an element of |tag| with |length| octets of contents: the sum of
+ * those inside is what |der_write_header| is handed. Refused by DER_TAG_NUMBER_INVALID where |tag| is no tag's, and by
+ * DER_OVERFLOW where there are more than 4294967295. */
 der_error der_element_length(der_tag tag, uint32_t length, uint32_t *count);
+
+/* der_begin begins an element of |tag|, and sets |*start| to where its contents begin: what is written from there on,
+ * elements that are begun and ended among it. Refused as |der_write_header|. */
+der_error der_begin(der_writer *writer, der_tag tag, size_t *start);
+
+/* der_end ends the element whose contents begin at |start|, as |der_begin| set it, once. Their length takes the place
+ * of the octet ahead of them, and 128 octets or more are moved to make room for it. Refused by DER_FAILED; by
+ * DER_OVERLENGTH without a position where nothing was written ahead of |start|, or it lies behind what is written; and
+ * as |der_write| where there is no room for the length. Nothing is moved, and the writer has failed. */
+der_error der_end(der_writer *writer, size_t start);
 
 /* The shapes that the library was made for. */
 DER_STATIC_ASSERT(sizeof(void *) == 8 && sizeof(size_t) == 8 && sizeof(bool) == 1);

@@ -146,6 +146,40 @@ static void see_tree(const uint8_t *octets, uint32_t count, bool ber)
             stop("a node", octets, count);
 }
 
+/* writes an element inside another by begin and end, and stops where it is not what the lengths say */
+static void see_parts(der_tag tag, uint32_t length, uint32_t room)
+{
+    static uint8_t written[1100], wanted[1100], contents[1024];
+    der_writer writer = DER_WRITER, other = DER_WRITER;
+    size_t outer = 0, inner = 0;
+    uint32_t inside = 0, whole = 0;
+    for (uint32_t i = 0; i < length; i++)
+        contents[i] = (uint8_t)draw(256);
+    memset(written, 0xEE, sizeof written);
+    memset(wanted, 0xEE, sizeof wanted);
+    der_element_length(tag, length, &inside);
+    der_element_length(DER_SEQUENCE, inside + 2, &whole);
+    der_writer_init(wanted, sizeof wanted, &other);
+    der_write_header(&other, DER_SEQUENCE, inside + 2);
+    der_write_element(&other, tag, contents, length);
+    der_write_element(&other, DER_NULL, NULL, 0);
+    der_writer_init(written, room, &writer);
+    der_begin(&writer, DER_SEQUENCE, &outer);
+    der_begin(&writer, tag, &inner);
+    der_write(&writer, contents, length);
+    der_end(&writer, inner);
+    der_write_element(&writer, DER_NULL, NULL, 0);
+    der_end(&writer, outer);
+    bool is_refused = der_writer_finish(&writer).kind != 0;
+    if (is_refused != (room < whole) || (!is_refused && (der_written(&writer) != whole || memcmp(written, wanted, whole))))
+        stop("an element with another inside", contents, length);
+    for (uint32_t i = room; i < sizeof written; i++)
+        if (written[i] != 0xEE)
+            stop("an octet behind the room", contents, length);
+    if (!is_refused && (der_end(&writer, 0).kind != DER_OVERLENGTH || der_end(&writer, 1).kind != DER_FAILED))
+        stop("an end without a begin", contents, length);
+}
+
 int main(int argc, char **argv)
 {
     static const uint8_t often[] = {0x30, 0x31, 0x24, 0x80, 0x81, 0x82, 0x84, 0x85, 0x02, 0x04, 0x05, 0x1F,
@@ -179,6 +213,10 @@ int main(int argc, char **argv)
         }
         see_tree(octets, count, false);
         see_tree(octets, count, true);
+        if (i % 16 == 0) {
+            uint32_t length = draw(4) ? draw(300) : draw(1024), number = draw(100000);
+            see_parts(draw(2) ? DER_OCTET_STRING : DER_CONTEXT(number) + DER_CONSTRUCTED, length, length + draw(24));
+        }
     }
     printf("%ld inputs, %ld with an element\n", number, elements);
     return 0;

@@ -69,22 +69,3 @@ header_told h s t o passed first small other =
           let apart : p.0 ≢ 36 = λ q. other (same ∙ q) in
           same ∙ identifier_short s.rules id h.tag h.constructed p.0 p.1 d p.2 below apart)
     ]
-
--- an element with a header of two octets is read
-pub short_element : {s u t : ReaderState} {x : Option (ℕ × ℕ)} {o p : ℕ} {two contents : List ℕ} {e : DerElement} → IsSound s → AreAhead s x → x ≡ Some (o, p)
-    → Gives (read_slice_outcome 2) s (Ok two) u → Gives (read_slice_outcome p) u (Ok contents) t → o % 32 < 31 → o ≢ 36
-    → e.contents.now ≡ take p contents → e.tag ≡ o → e.start ≡ s.position → e.contents_start ≡ u.position → e.constructed ≡ is_constructed o → e.indefinite ≡ false → ReadsElement s no_error e t
-short_element {s} {u} {t} {x} {o} {p} {two} {contents} {e} sound ahead is first second small other c g f k b i =
-    let h : Header = record { tag = identifier_tag o (o % 32); length = definite_length p; constructed = is_constructed o } in
-    let passed : Passes (HeaderAhead h) s u = short_passed sound ahead is refl refl first in
-    let a : AreAhead s (Some (o, p)) = subst (AreAhead s) is ahead in
-    let at_front : IsFirstAhead s o = λ working q more split. (let v : o ∷ p ∷ a.3.0 ≡ q ∷ more = sym a.3.1 ∙ split in cc) in
-    let word : o ≡ tag_word (identifier_tag o (o % 32)) = header_told (head_of h) s u o passed at_front small other in
-    behind h u passed (there contents second refl (record {
-      contents = c;
-      tag = g ∙ word;
-      start = f;
-      contents_start = k;
-      constructed = b;
-      indefinite = i;
-    }))

@@ -2,8 +2,10 @@ pub mod Compare
 pub mod Element
 pub mod Error
 pub mod Header
+pub mod Part
 pub mod Reader
 pub mod Scan
+pub mod Short
 pub mod TagWord
 pub mod Writer
 pub mod WriterCalls

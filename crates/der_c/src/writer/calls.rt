@@ -131,7 +131,7 @@ fn code(answer: Result<(), Error>) -> DerError
 // Refused by a kind without a position; the writer has failed.
 #[cold]
 #[inline(never)]
-fn refuse(writer: &mut DerWriter<'_>, kind: ErrorKind) -> DerError
+pub(crate) fn refuse(writer: &mut DerWriter<'_>, kind: ErrorKind) -> DerError
     ensures { RefusesBy kind (writer_state writer.old) result (writer_state writer.new) }
 {
     writer.failed = true;
