@@ -141,6 +141,16 @@ static void see_tree(const uint8_t *octets, uint32_t count, bool ber)
     size_t wanted = walk(&copy, 0, others, 0, &is_refused);
     if ((error.kind != 0) != is_refused || number != wanted)
         stop("a tree", octets, count);
+    /* room for as many nodes and for one less */
+    for (size_t room = number; !is_refused && room + 1 >= number && room <= number; room--) {
+        der_reader again = DER_READER;
+        size_t told = 0;
+        der_reader_init(octets, count, ber, &again);
+        error = der_read_tree(&again, others + 64, room, &told);
+        if (error.kind != (room < number ? DER_OVERLENGTH : 0) || told != room ||
+            der_finish(&again).kind != (room < number ? DER_FAILED : 0))
+            stop("a tree in little room", octets, count);
+    }
     for (size_t i = 0; i < number; i++)
         if (!is_same(&nodes[i], &others[i]))
             stop("a node", octets, count);

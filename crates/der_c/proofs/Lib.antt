@@ -1,6 +1,9 @@
 pub mod CompareLemmas
 pub mod PartLemmas
+pub mod ReadLemmas
 pub mod ShortLemmas
 pub mod TagWordLemmas
+pub mod TreeLemmas
+pub mod TreeWalkLemmas
 pub mod WordLemmas
 pub mod WriterCallLemmas

@@ -1,3 +1,4 @@
+pub mod Around
 pub mod Compare
 pub mod Element
 pub mod Error
@@ -7,5 +8,6 @@ pub mod Reader
 pub mod Scan
 pub mod Short
 pub mod TagWord
+pub mod Tree
 pub mod Writer
 pub mod WriterCalls

@@ -11,6 +11,7 @@ mod error;
 mod header;
 mod reader;
 mod scan;
+mod shapes;
 mod short;
 mod tag;
 mod text;
