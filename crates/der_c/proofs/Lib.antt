@@ -2,6 +2,7 @@ pub mod CompareLemmas
 pub mod PartLemmas
 pub mod ReadLemmas
 pub mod ShortLemmas
+pub mod ShortWriteLemmas
 pub mod TagWordLemmas
 pub mod TreeLemmas
 pub mod TreeWalkLemmas

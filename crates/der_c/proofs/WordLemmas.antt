@@ -31,7 +31,7 @@ short_octet true k o e h = omega arith
 short_octet false k o e h = omega arith
 
 -- so it is the word of its tag
-tag_short : (t : Tag) (o : ℕ) (more : List ℕ) → tag_octets t ≡ o ∷ more → o % 32 < 31 → o ≡ tag_word t
+pub tag_short : (t : Tag) (o : ℕ) (more : List ℕ) → tag_octets t ≡ o ∷ more → o % 32 < 31 → o ≡ tag_word t
 tag_short t o more e h =
     ⊎_elim
     (λ a. let v : leading_octet (label t) (label t).number ∷ [] ≡ o ∷ more = sym (label_small (label t) a) ∙ e in

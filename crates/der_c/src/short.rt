@@ -32,7 +32,7 @@ fn short_header(reader: &DerReader<'_>) -> Option<(u8, u8)>
 
 // Whether this octet is an identifier by itself, under any rules.
 #[inline(always)]
-fn is_identifier(octet: u8) -> bool
+pub(crate) fn is_identifier(octet: u8) -> bool
     ensures { result ≡ true → IsAlone octet }
 {
     universal(octet).is_some() || octet >= 0x40 && octet % 32 < 31

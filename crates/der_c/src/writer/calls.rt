@@ -9,6 +9,7 @@ ghost use Rattle.der_c.specs.WriterCalls.{RefusesBy, WritesOctets, WritesHeader,
 use crate::error::{DerError, told};
 use crate::tag::tag_of_word;
 use crate::writer::DerWriter;
+use crate::writer::short::write_short;
 use der_base::{Error, ErrorKind, Length};
 use der_core::{Encode, Header, Writer};
 
@@ -64,6 +65,17 @@ pub extern "C" fn der_write(writer: &mut DerWriter<'_>, octets: &[u8]) -> DerErr
 pub extern "C" fn der_write_header(writer: &mut DerWriter<'_>, tag: u64, length: u32) -> DerError
     ensures { WritesHeader tag length (writer_state writer.old) result (writer_state writer.new) }
 {
+    if write_short(writer, tag, length as usize) {
+        return DerError::NONE;
+    }
+    header_slowly(writer, tag, length)
+}
+
+// The same of any tag and length.
+#[inline(never)]
+fn header_slowly(writer: &mut DerWriter<'_>, tag: u64, length: u32) -> DerError
+    ensures { WritesHeader tag length (writer_state writer.old) result (writer_state writer.new) }
+{
     let Some(tag) = tag_of_word(tag) else {
         return refuse(writer, ErrorKind::TagNumberInvalid);
     };
@@ -81,6 +93,18 @@ pub extern "C" fn der_write_element(
     tag: u64,
     contents: &[u8],
 ) -> DerError
+    ensures { WritesElement tag contents.now (writer_state writer.old) result
+        (writer_state writer.new) }
+{
+    if write_short(writer, tag, contents.len()) {
+        return code(writer.write(contents));
+    }
+    element_slowly(writer, tag, contents)
+}
+
+// The same of any tag and length.
+#[inline(never)]
+fn element_slowly(writer: &mut DerWriter<'_>, tag: u64, contents: &[u8]) -> DerError
     ensures { WritesElement tag contents.now (writer_state writer.old) result
         (writer_state writer.new) }
 {

@@ -6,6 +6,7 @@ ghost use Rattle.der_c.specs.Part.{BeginsElement, EndsElement, IsMoved, put_stat
 use crate::error::{DerError, told};
 use crate::tag::tag_of_word;
 use crate::writer::calls::refuse;
+use crate::writer::short::write_short;
 use crate::writer::{DerWriter, refusal};
 use der_base::{ErrorKind, Length};
 use der_core::{Encode, Header};
@@ -16,6 +17,19 @@ use der_core::{Encode, Header};
 /// Refused as [`der_write_header`](crate::der_write_header); `start` is unchanged then.
 #[unsafe(no_mangle)]
 pub extern "C" fn der_begin(writer: &mut DerWriter<'_>, tag: u64, start: &mut usize) -> DerError
+    ensures { BeginsElement tag (writer_state writer.old) result start.old start.new
+        (writer_state writer.new) }
+{
+    if write_short(writer, tag, 0) {
+        *start = writer.position;
+        return DerError::NONE;
+    }
+    begin_slowly(writer, tag, start)
+}
+
+// The same of any tag.
+#[inline(never)]
+fn begin_slowly(writer: &mut DerWriter<'_>, tag: u64, start: &mut usize) -> DerError
     ensures { BeginsElement tag (writer_state writer.old) result start.old start.new
         (writer_state writer.new) }
 {

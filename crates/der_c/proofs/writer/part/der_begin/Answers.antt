@@ -1,13 +1,11 @@
 use Rattle.std.proofs.Common.{refl, rules}
-use Rattle.der_c.specs.Writer.{writer_state}
-use Rattle.der_c.specs.Part.{no_header, begun}
-use Rattle.der_c.proofs.WriterCallLemmas.{same_header_written}
+use Rattle.der_c.specs.Part.{begun}
 use Rattle.der_c.proofs.writer.part.der_begin.Goals as goal
 
-pub returns-in-Ok : goal.returns-in-Ok
-returns-in-Ok c =
-    begun c.in-Some.tag c.in-Some.ensures.is (same_header_written (writer_state c.args.writer.now) c.new-header.ensures refl (c.in-Ok.ensures.exact refl)) refl (search rules)
+pub returns-then-write_short : goal.returns-then-write_short
+returns-then-write_short c =
+    let w = c.write_short.ensures.written c.if-write_short.true in
+    begun w.tag w.is w.writes refl (search rules)
 
-pub returns-in-Err : goal.returns-in-Err
-returns-in-Err c =
-    no_header c.in-Some.tag c.in-Err.error c.in-Some.ensures.is (same_header_written (writer_state c.args.writer.now) c.new-header.ensures refl (c.in-Err.ensures.exact refl)) c.told.ensures refl
+pub returns : goal.returns
+returns c = rw (c.write_short.ensures.left c.if-write_short.false) at c.begin_slowly.ensures
