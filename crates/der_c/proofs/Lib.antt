@@ -4,6 +4,7 @@ pub mod ReadLemmas
 pub mod ShortLemmas
 pub mod ShortWriteLemmas
 pub mod TagWordLemmas
+pub mod TextLemmas
 pub mod TreeLemmas
 pub mod TreeWalkLemmas
 pub mod WordLemmas

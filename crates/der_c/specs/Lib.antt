@@ -8,6 +8,7 @@ pub mod Reader
 pub mod Scan
 pub mod Short
 pub mod TagWord
+pub mod Text
 pub mod Tree
 pub mod Writer
 pub mod WriterCalls
