@@ -115,8 +115,13 @@ pub(crate) fn read_element<'a>(reader: &mut DerReader<'a>, element: &mut DerElem
             return DerError::NONE;
         }
     }
-    *reader = before;
-    read_slowly(reader, element)
+    // copies, so that reader and element may be kept in registers
+    let mut copy = before;
+    let mut read = DerElement::NONE;
+    let error = read_slowly(&mut copy, &mut read);
+    *reader = copy;
+    *element = read;
+    error
 }
 
 // The same with each error looked at.

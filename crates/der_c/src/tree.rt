@@ -12,6 +12,7 @@ use crate::reader::DerReader;
 use crate::tree::around::Around;
 use crate::tree::walk::{climb, look_into};
 use der_base::ErrorKind;
+use der_core::Reader;
 
 /// An element of a tree, by positions.
 #[repr(C)]
@@ -47,30 +48,35 @@ pub extern "C" fn der_read_tree(
     ensures { TellsTree (reader_state reader.old) nodes.old result count.new nodes.new
         (reader_state reader.new) }
 {
+    let mut walk = reader.fork();
     let mut around = Around::NONE;
     let room = nodes.len();
     for i in 0..room {
-        climb(reader, &mut around);
-        if reader.position == reader.end as usize {
+        climb(&mut walk, &mut around);
+        if walk.position == walk.end as usize {
+            *reader = walk;
             *count = i;
             return DerError::NONE;
         }
         let mut element = DerElement::NONE;
-        let error = read_element(reader, &mut element);
+        let error = read_element(&mut walk, &mut element);
         if error.kind != 0 {
+            walk.failed = true;
+            *reader = walk;
             *count = i;
-            reader.failed = true;
             return error;
         }
         nodes[i] = node(around.level, &element);
-        look_into(reader, &mut around, &element);
+        look_into(&mut walk, &mut around, &element);
     }
-    climb(reader, &mut around);
+    climb(&mut walk, &mut around);
     *count = room;
-    if reader.position == reader.end as usize {
+    if walk.position == walk.end as usize {
+        *reader = walk;
         return DerError::NONE;
     }
-    reader.failed = true;
+    walk.failed = true;
+    *reader = walk;
     told(ErrorKind::Overlength.to_error())
 }
 
