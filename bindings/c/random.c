@@ -190,12 +190,78 @@ static void see_parts(der_tag tag, uint32_t length, uint32_t room)
         stop("an end without a begin", contents, length);
 }
 
+/* as docs/BINDINGS.md has it */
+static bool join(const der_reader *reader, const der_element *string, uint8_t *out, size_t room, size_t *count)
+{
+    der_reader inside = DER_READER;
+    der_element segment = DER_ELEMENT;
+    if (!string->constructed) {
+        if (string->length > room - *count)
+            return false;
+        memcpy(out + *count, string->contents, string->length);
+        *count += string->length;
+        return true;
+    }
+    if (der_open(reader, string, &inside).kind)
+        return false;
+    while (!der_is_finished(&inside))
+        if (der_expect(&inside, DER_OCTET_STRING, &segment).kind || !join(&inside, &segment, out, room, count))
+            return false;
+    return true;
+}
+
+static void see_segments(void)
+{
+    static const uint8_t octets[] = {0x24, 0x80, 0x04, 0x01, 0xAA, 0x24, 0x80, 0x04, 0x00, 0x04, 0x02,
+                                     0xBB, 0xCC, 0x00, 0x00, 0x24, 0x03, 0x04, 0x01, 0xDD, 0x00, 0x00};
+    static const uint8_t wanted[] = {0xAA, 0xBB, 0xCC, 0xDD};
+    uint8_t out[4];
+    for (size_t room = 3; room <= 4; room++) {
+        der_reader reader = DER_READER;
+        der_element string = DER_ELEMENT;
+        size_t count = 0;
+        der_reader_init(octets, sizeof octets, true, &reader);
+        if (der_expect(&reader, DER_OCTET_STRING, &string).kind || der_finish(&reader).kind ||
+            join(&reader, &string, out, room, &count) != (room == 4))
+            stop("segments", octets, sizeof octets);
+        if (room == 4 && (count != 4 || memcmp(out, wanted, 4)))
+            stop("segments that are joined", octets, sizeof octets);
+    }
+}
+
+/* a text is cut to its room, and what no error is told as has no text of one */
+static void see_texts(void)
+{
+    static const char wanted[] = "unexpected ASN.1 DER tag: expected INTEGER, got NULL";
+    static const char unknown[] = "unexpected ASN.1 DER tag: got NULL";
+    static const uint8_t octets[] = {5, 0};
+    der_reader reader = DER_READER;
+    der_element element = DER_ELEMENT;
+    char text[160];
+    der_reader_init(octets, sizeof octets, false, &reader);
+    der_error error = der_expect(&reader, DER_INTEGER, &element);
+    for (size_t room = 0; room < sizeof text; room++) {
+        memset(text, '#', sizeof text);
+        size_t count = der_error_text(error, text, room), whole = sizeof wanted - 1;
+        if (count != (room < whole ? room : whole) || memcmp(text, wanted, count) || text[count] != '#')
+            stop("a text", octets, sizeof octets);
+    }
+    /* 7 is no tag */
+    error = der_expect(&reader, 7, &element);
+    if (der_error_text(error, text, sizeof text) != sizeof unknown - 1 || memcmp(text, unknown, sizeof unknown - 1))
+        stop("a text without the tag that was expected", octets, sizeof octets);
+    if (der_error_text((der_error){0, false, 0, 0, 0, 0, 0}, text, sizeof text) != 8 || memcmp(text, "no error", 8))
+        stop("the text of no error", octets, sizeof octets);
+}
+
 int main(int argc, char **argv)
 {
     static const uint8_t often[] = {0x30, 0x31, 0x24, 0x80, 0x81, 0x82, 0x84, 0x85, 0x02, 0x04, 0x05, 0x1F,
                                     0x9F, 0xBF, 0xA0, 0x00, 0x00, 0x01, 0x03, 0x7F, 0xFF};
     uint8_t octets[64], written[64];
     long elements = 0, number = argc > 1 ? atol(argv[1]) : 1000000;
+    see_segments();
+    see_texts();
     for (long i = 0; i < number; i++) {
         uint32_t count = draw(24);
         for (uint32_t j = 0; j < count; j++)

@@ -1,8 +1,7 @@
 -- A length in the place of the octet ahead of contents.
 use Rattle.std.proofs.Common.{◌≡◌, ℕ, ◌+◌, ◌-◌, ◌^◌, ◌≤◌, min, List, length, take, drop, ◌++◌, refl, sym, ap, ◌∙◌, arith, length-drop, length-take-le, length-append, append_assoc, take-take}
-use Rattle.std.proofs.lemmas.List.{take-append-drop, take-append-le, drop-append-le, drop-drop, drop-take}
+use Rattle.std.proofs.lemmas.List.{take-append-drop, take-append-le, drop-drop, drop-take}
 use lib.Seq.{paste, take_at, drop_at}
-use Rattle.der_core.specs.Writer.{WriterState}
 use Rattle.der_c.specs.Part.{IsMoved, put_state}
 use Rattle.der_c.specs.Writer.{writer_state}
 use Rattle.der_c.specs.declared.writer.DerWriter.{DerWriter}
@@ -18,15 +17,17 @@ module _ (buffer : List ℕ) (start position more : ℕ) (begun : 1 ≤ start) (
       let end : start + more + (position - start) ≡ position + more = omega (arith, written) in
       let size : length front ≡ start + more = length-take-le (start + more) buffer (omega (arith, written, room)) in
       let tail = contents ++ drop (start + more + (position - start)) buffer in
-      let split : paste buffer (start + more) (drop start buffer) (position - start) ≡ front ++ tail = append_assoc front contents (drop (start + more + (position - start)) buffer) in
-      (ap (take (start - 1)) split ∙ take-append-le (start - 1) front tail (omega (arith, size)) ∙ take-take (start - 1) (start + more) buffer (omega arith),
-        ap (drop (start + more)) split ∙ drop_at front tail (start + more) size ∙ ap (λ k. contents ++ drop k buffer) end)
+      let split : paste buffer (start + more) (drop start buffer) (position - start) ≡ front ++ tail = append_assoc front contents (drop (start + more + (position - start)) buffer) in (
+        ap (take (start - 1)) split ∙ take-append-le (start - 1) front tail (omega (arith, size)) ∙ take-take (start - 1) (start + more) buffer (omega arith),
+        ap (drop (start + more)) split ∙ drop_at front tail (start + more) size ∙ ap (λ k. contents ++ drop k buffer) end,
+      )
 
   pub stays_there : more ≡ 0 → IsMoved start position more buffer buffer
-  stays_there none =
-      (refl,
-        ap (λ k. drop k buffer) (omega (arith, none)) ∙ sym (take-append-drop (position - start) (drop start buffer))
-        ∙ ap (λ r. contents ++ r) (drop-drop (position - start) start buffer ∙ ap (λ k. drop k buffer) (omega (arith, none, written))))
+  stays_there none = (
+    refl,
+    ap (λ k. drop k buffer) (omega (arith, none)) ∙ sym (take-append-drop (position - start) (drop start buffer))
+        ∙ ap (λ r. contents ++ r) (drop-drop (position - start) start buffer ∙ ap (λ k. drop k buffer) (omega (arith, none, written))),
+  )
 
   -- with the length ahead of them
   pub length_put : (octets moved put : List ℕ) → length octets ≡ more + 1 → IsMoved start position more buffer moved → put ≡ take (start - 1) moved ++ (octets ++ drop (start + more) moved)
@@ -46,10 +47,11 @@ module _ (buffer : List ℕ) (start position more : ℕ) (begun : 1 ≤ start) (
       let all : length (take position buffer) ≡ position = length-take-le position buffer (omega (arith, room)) in
       let size : length (front ++ (octets ++ inside)) ≡ position + more =
       length-append front (octets ++ inside) ∙ ap (λ k. length front + k) (length-append octets inside)
-      ∙ omega (arith, length-take-le (start - 1) (take position buffer) (omega (arith, all, written)), length-drop start (take position buffer), all, count, begun, written) in
-      (ap (take (position + more)) joined ∙ take_at (front ++ (octets ++ inside)) behind (position + more) size,
+      ∙ omega (arith, length-take-le (start - 1) (take position buffer) (omega (arith, all, written)), length-drop start (take position buffer), all, count, begun, written) in (
+        ap (take (position + more)) joined ∙ take_at (front ++ (octets ++ inside)) behind (position + more) size,
         ap (drop (position + more)) joined ∙ drop_at (front ++ (octets ++ inside)) behind (position + more) size ∙ sym (drop-drop more position buffer),
-        ap length joined ∙ length-append (front ++ (octets ++ inside)) behind ∙ omega (arith, size, length-drop (position + more) buffer, room))
+        ap length joined ∙ length-append (front ++ (octets ++ inside)) behind ∙ omega (arith, size, length-drop (position + more) buffer, room),
+      )
 
 -- so the state of the writer is as it is told
 pub state_put : (w : DerWriter) (octets put : List ℕ) (start more : ℕ) → more ≡ length octets - 1

@@ -1,5 +1,5 @@
 -- What an element that is read without a refusal says.
-use Rattle.std.proofs.Common.{◌≡◌, ◌≢◌, ℕ, ◌+◌, ◌<◌, ◌≤◌, Option, Some, None, Ok, Err, List, length, take, refl, sym, ap, ◌∙◌, subst, arith, length-take, length-take-le}
+use Rattle.std.proofs.Common.{◌≡◌, ◌≢◌, ℕ, ◌+◌, ◌≤◌, Option, Some, None, Ok, List, length, take, refl, sym, ap, ◌∙◌, arith, length-take}
 use Rattle.der_base.specs.Error.{kind_of, position_of}
 use Rattle.der_base.specs.Length.{number}
 use Rattle.der_base.specs.Arithmetic.{sans_eoc}

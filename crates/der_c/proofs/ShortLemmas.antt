@@ -4,7 +4,7 @@ use Rattle.der_base.specs.Arithmetic.{sans_eoc}
 use Rattle.der_base.specs.Length.{number, definite_length, is_indefinite}
 use Rattle.der_base.specs.Tag.{is_constructed}
 use Rattle.der_base.specs.declared.length.Length.{Length}
-use Rattle.der_core.specs.ReaderState.{ReaderState, IsSound, rest_of, nested_state, advanced_state}
+use Rattle.der_core.specs.ReaderState.{ReaderState, IsSound, nested_state, advanced_state}
 use Rattle.der_core.specs.AfterFirstOctet.{AreAhead, identifier_tag}
 use Rattle.der_core.specs.Outcome.{Gives}
 use Rattle.der_core.specs.Reader.{read_slice_outcome}
@@ -14,7 +14,6 @@ use Rattle.der_core.specs.Header.{head_of, HeaderAhead}
 use Rattle.der_core.specs.declared.header.Header.{Header}
 use Rattle.der_core.proofs.HeaderReadLemmas.{short_passed}
 use Rattle.der_c.specs.Error.{no_error}
-use Rattle.der_c.specs.TagWord.{tag_word}
 use Rattle.der_c.specs.declared.element.DerElement.{DerElement}
 use Rattle.der_c.specs.declared.reader.DerReader.{DerReader}
 use Rattle.der_c.specs.Reader.{reader_state}

@@ -1,8 +1,8 @@
 -- Headers of two octets that are written at once.
-use Rattle.std.proofs.Common.{◌≡◌, ◌≢◌, ℕ, ◌+◌, ◌%◌, ◌^◌, ◌<◌, Result, Ok, Err, List, [], ◌∷◌, ◌++◌, length, refl, sym, ap, ◌∙◌, subst, arith, rules}
+use Rattle.std.proofs.Common.{◌≡◌, ℕ, ◌%◌, ◌<◌, Ok, Err, List, [], ◌∷◌, ◌++◌, length, refl, sym, ap, ◌∙◌, arith, rules}
 use Rattle.std.proofs.lemmas.Bool.Decides.{nat_tests}
 use Rattle.der_base.specs.Length.{length_octets}
-use Rattle.der_base.specs.Tag.{label, tag_octets, is_constructed, IsIdentifier}
+use Rattle.der_base.specs.Tag.{tag_octets}
 use Rattle.der_base.specs.HeaderGrammar.{header_octets}
 use Rattle.der_base.specs.declared.tag.Tag.{Tag}
 use Rattle.der_base.specs.declared.error.Error.{Error}
@@ -11,12 +11,11 @@ use Rattle.der_base.proofs.IdentifierLemmas.{tagged, segmented, identifier_view}
 use Rattle.der_base.proofs.LengthLemmas.{length_small}
 use Rattle.der_core.specs.ReaderState.{ReaderState, initial_state}
 use Rattle.der_core.specs.AfterFirstOctet.{IsAlone, identifier_tag}
-use Rattle.der_core.specs.Writer.{WriterState, Writes, write_outcome, room_outcome, HasRoom}
-use Rattle.der_core.specs.Encode.{header_outcome}
+use Rattle.der_core.specs.Writer.{WriterState, Writes, write_outcome, HasRoom}
 use Rattle.der_core.proofs.EncodeLemmas.{header_at_once, has_room}
 use Rattle.der_core.proofs.StateLemmas.{position_on}
 use Rattle.der_core.proofs.TagReadLemmas.{found_alone}
-use Rattle.der_c.specs.TagWord.{IsTagWord, tag_word}
+use Rattle.der_c.specs.TagWord.{IsTagWord}
 use Rattle.der_c.specs.WriterCalls.{WritesShort}
 use Rattle.der_c.proofs.WordLemmas.{tag_short}
 

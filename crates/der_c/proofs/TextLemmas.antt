@@ -14,9 +14,9 @@ cut_twice n x y z =
     ⊎_elim
     (λ fits. ap (λ l. take n (l ++ z)) (take_all n (x ++ y) (omega (arith, fits))) ∙ ap (take n) (append_assoc x y z))
     (λ long. (
-      let size : length (take n (x ++ y)) ≡ n = length-take-le n (x ++ y) long in
-      take-append-le n (take n (x ++ y)) z (omega (arith, size)) ∙ take_all n (take n (x ++ y)) (omega (arith, size))
-      ∙ sym (take-append-le n (x ++ y) z long) ∙ ap (take n) (append_assoc x y z)))
+    let size : length (take n (x ++ y)) ≡ n = length-take-le n (x ++ y) long in
+    take-append-le n (take n (x ++ y)) z (omega (arith, size)) ∙ take_all n (take n (x ++ y)) (omega (arith, size))
+    ∙ sym (take-append-le n (x ++ y) z long) ∙ ap (take n) (append_assoc x y z)))
     (cases_lt (length (x ++ y)) n)
 
 appended_none : (t : Text) → AppendsText t [] t
@@ -39,10 +39,10 @@ appended_on t u v a b p q =
       count = omega (arith, q.count, p.count, p.size, length-append a b);
       text = q.text ∙ ap (λ n. take n (take u.count u.octets.now ++ b)) p.size ∙ ap (λ l. take room (l ++ b)) p.text ∙ cut_twice room here a b;
       behind =
-        let more : v.count ≡ u.count + (v.count - u.count) = omega (arith, q.count, u.within) in
-        let over = ap (λ n. drop n u.octets.now) more ∙ sym (drop-drop (v.count - u.count) u.count u.octets.now) in
-        let under = drop-drop (v.count - u.count) u.count t.octets.now ∙ ap (λ n. drop n t.octets.now) (sym more) in
-        q.behind ∙ over ∙ ap (drop (v.count - u.count)) p.behind ∙ under;
+          let more : v.count ≡ u.count + (v.count - u.count) = omega (arith, q.count, u.within) in
+          let over = ap (λ n. drop n u.octets.now) more ∙ sym (drop-drop (v.count - u.count) u.count u.octets.now) in
+          let under = drop-drop (v.count - u.count) u.count t.octets.now ∙ ap (λ n. drop n t.octets.now) (sym more) in
+          q.behind ∙ over ∙ ap (drop (v.count - u.count)) p.behind ∙ under;
     }
 
 appended_all : (parts : List (List ℕ)) (t u : Text) → FoldsTo AppendsText t parts u → AppendsText t (concat parts) u
@@ -81,11 +81,11 @@ text_put t u text put taken same count is pasted behind =
       size = ap length pasted ∙ length-paste old t.count put taken (omega (arith, count, within)) (omega (arith, size));
       count = omega (arith, behind, count, within);
       text = front ∙ ⊎_elim
-      (λ fits. (
-        let all : taken ≡ length text = omega (arith, count, fits) in
-        ap (λ l. here ++ l) (take_all taken text (omega (arith, all))) ∙ sym (take_all (length old) (here ++ text) (omega (arith, length-append here text, at, fits)))))
-      (λ over. sym (ap (take (length old)) split ∙ take_at (here ++ take taken text) (drop taken text) (length old) (omega (arith, long, count, within, over))))
-      (cases_lt (t.count + length text) (length old));
+          (λ fits. (
+          let all : taken ≡ length text = omega (arith, count, fits) in
+          ap (λ l. here ++ l) (take_all taken text (omega (arith, all))) ∙ sym (take_all (length old) (here ++ text) (omega (arith, length-append here text, at, fits)))))
+          (λ over. sym (ap (take (length old)) split ∙ take_at (here ++ take taken text) (drop taken text) (length old) (omega (arith, long, count, within, over))))
+          (cases_lt (t.count + length text) (length old));
       behind = ap (λ n. drop n u.octets.now) behind ∙ ap (drop (t.count + taken)) pasted ∙ drop-paste old t.count put taken within (omega (arith, size)) ∙ ap (λ n. drop n old) (sym behind);
     }
 

@@ -1,5 +1,5 @@
 -- The nodes of a tree, one after the other.
-use Rattle.std.proofs.Common.{◌≡◌, ◌≢◌, ◌⊎◌, inl, inr, ℕ, zero, suc, ◌+◌, ◌<◌, ◌≤◌, List, [], ◌∷◌, ◌++◌, get_or, refl, sym, ap, ◌∙◌, subst, arith, append_assoc}
+use Rattle.std.proofs.Common.{◌≡◌, ◌≢◌, inl, inr, ℕ, zero, suc, ◌<◌, List, ◌∷◌, ◌++◌, get_or, sym, ap, ◌∙◌, subst, arith, append_assoc}
 use Rattle.der_core.specs.ReaderState.{ReaderState}
 use Rattle.der_c.specs.Tree.{Stop, finished, Nodes, closed, passed, within, ReadsNext, IsLookedInto, inside_state, node_of}
 use Rattle.der_c.specs.Around.{NodesFrom, behind_part, Moved}
@@ -31,8 +31,13 @@ pub passed_from : (ends behind : List ℕ) (k : ℕ) (s t : ReaderState) (e : De
 passed_from ends behind zero s t e inner l stop next moved into inside h = passed t e next into inside h
 passed_from ends behind (suc k) s t e inner l stop next moved into inside (inl h) = inl (h.0, passed t e next into inside h.1)
 passed_from ends behind (suc k) s t e inner l stop next moved into inside (inr h) =
-    inr (node_of (suc k) e ∷ (inner ++ h.0), h.1,
-      ap (λ x. node_of (suc k) e ∷ x) (ap (λ x. inner ++ x) h.2 ∙ sym (append_assoc inner h.0 h.1)), passed t e next into inside h.3, alike_behind ends behind k s t h.1 stop moved h.4)
+    inr (
+      node_of (suc k) e ∷ (inner ++ h.0),
+      h.1,
+      ap (λ x. node_of (suc k) e ∷ x) (ap (λ x. inner ++ x) h.2 ∙ sym (append_assoc inner h.0 h.1)),
+      passed t e next into inside h.3,
+      alike_behind ends behind k s t h.1 stop moved h.4,
+    )
 
 -- parts around agree below a level
 abbrev pub Agree : ℕ → List ℕ → List ℕ → Type 0

@@ -1,5 +1,5 @@
 -- A walk over a tree, between two of its nodes.
-use Rattle.std.proofs.Common.{◌≡◌, ◌≢◌, ◌⊎◌, inl, inr, ℕ, zero, suc, ◌+◌, ◌-◌, ◌<◌, ◌≤◌, List, [], ◌∷◌, ◌++◌, length, take, drop, set, get_or, true, refl, sym, ap, ◌∙◌, subst, arith, append_assoc, append-nil, take-suc-set, drop-set-lt, ⊎_elim}
+use Rattle.std.proofs.Common.{◌≡◌, ◌≢◌, inr, ℕ, suc, ◌+◌, ◌<◌, ◌≤◌, List, [], ◌∷◌, ◌++◌, length, take, drop, set, get_or, true, refl, sym, ap, ◌∙◌, subst, arith, append_assoc, append-nil, take-suc-set, drop-set-lt, ⊎_elim}
 use Rattle.std.proofs.lemmas.List.{get_or-set_same, get_or-set_other, drop-drop}
 use Rattle.std.proofs.lemmas.Bool.{cases_eq, eq-eqb, ne_eqb}
 use Rattle.der_core.specs.ReaderState.{ReaderState}
@@ -107,11 +107,12 @@ module _ (a b : Around) (s t u : ReaderState) (e : DerElement) (next : ReadsNext
       ⊎_elim
       (λ last. (
         omega (arith, ap (λ j. get_or b.ends j 0) last, ap (λ j. get_or b.behind j 0) last, end_here, behind_here, ordered),
-        omega (arith, ap (λ j. get_or b.ends j 0) last, end_here, within, input_same)))
+        omega (arith, ap (λ j. get_or b.ends j 0) last, end_here, within, input_same),
+      ))
       (λ other. (
-        let lower : k < a.level = omega (arith, below, level, other) in
-        let p = parts k lower in
-        (omega (arith, p.0, end_other k lower, behind_other k lower), omega (arith, p.1, end_other k lower, input_same))))
+      let lower : k < a.level = omega (arith, below, level, other) in
+      let p = parts k lower in
+      (omega (arith, p.0, end_other k lower, behind_other k lower), omega (arith, p.1, end_other k lower, input_same))))
       (cases_eq k a.level)
 
   entered_outermost : outer_end b u ≡ outer_end a s

@@ -1,5 +1,5 @@
 -- The word of a tag, by the first octet of its identifier.
-use Rattle.std.proofs.Common.{◌≡◌, ◌≢◌, ℕ, ◌+◌, ◌*◌, ◌%◌, ◌<◌, Bool, true, false, Option, Some, Ok, take, List, [], ◌∷◌, ◌++◌, refl, sym, ap, ◌∙◌, subst, ⊎_elim, arith}
+use Rattle.std.proofs.Common.{◌≡◌, ◌≢◌, ℕ, ◌+◌, ◌*◌, ◌%◌, ◌<◌, Bool, true, false, List, [], ◌∷◌, ◌++◌, sym, ap, ◌∙◌, subst, ⊎_elim, arith}
 use Rattle.std.proofs.lemmas.Bool.{cases_lt, lt-ltb}
 use Rattle.der_base.specs.Length.{digits}
 use Rattle.der_base.specs.Tag.{label, leading_octet, tag_octets, continuation_octets, IsIdentifier}
@@ -11,19 +11,8 @@ use Rattle.der_base.proofs.IdentifierLemmas.{tagged, segmented, identifier_view}
 use Rattle.der_base.proofs.HeaderLemmas.{header_view_of, header_view}
 use Rattle.der_core.specs.ReaderState.{ReaderState, rest_of}
 use Rattle.der_core.specs.Decode.{Passes}
-use Rattle.der_core.specs.ReaderState.{IsSound}
-use Rattle.der_core.specs.AfterFirstOctet.{AreAhead, identifier_tag}
-use Rattle.der_core.specs.Outcome.{Gives}
-use Rattle.der_core.specs.Reader.{read_slice_outcome}
-use Rattle.der_core.specs.Header.{head_of, HeaderAhead}
-use Rattle.der_core.specs.declared.header.Header.{Header}
-use Rattle.der_core.proofs.HeaderReadLemmas.{short_passed}
-use Rattle.der_base.specs.Tag.{is_constructed}
-use Rattle.der_base.specs.Length.{definite_length}
-use Rattle.der_c.specs.Error.{no_error}
 use Rattle.der_c.specs.TagWord.{tag_word}
-use Rattle.der_c.specs.declared.element.DerElement.{DerElement}
-use Rattle.der_c.specs.Element.{IsFirstAhead, TellsTag, ReadsElement, behind, there}
+use Rattle.der_c.specs.Element.{IsFirstAhead, TellsTag}
 
 -- an octet with five low bits that are not all set begins no long number
 short_octet : (b : Bool) (k o : ℕ) → 64 * k + constructed_bit b + 31 ≡ o → o % 32 < 31 → ⊥

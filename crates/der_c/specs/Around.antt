@@ -1,8 +1,7 @@
 -- A reader inside parts, and what it tells from there on.
-use Rattle.std.specs.Prelude.{◌≡◌, ◌≢◌, ◌⊎◌, ℕ, zero, suc, ◌<◌, ◌≤◌, ◌==◌, List, ◌∷◌, ◌++◌, length, if◌then◌else◌, get_or}
+use Rattle.std.specs.Prelude.{◌≡◌, ◌≢◌, ◌⊎◌, ℕ, zero, suc, ◌<◌, ◌≤◌, ◌==◌, List, ◌++◌, length, if◌then◌else◌, get_or}
 use Rattle.der_core.specs.ReaderState.{ReaderState}
-use Rattle.der_c.specs.Tree.{Stop, finished, Nodes, ReadsNext, node_of}
-use Rattle.der_c.specs.declared.element.DerElement.{DerElement}
+use Rattle.der_c.specs.Tree.{Stop, finished, Nodes}
 use Rattle.der_c.specs.declared.tree.DerNode.{DerNode}
 use Rattle.der_c.specs.declared.tree.around.Around.{Around}
 

@@ -186,11 +186,7 @@ pub extern "C" fn der_expect<'a>(
 
 // The same with each error looked at.
 #[inline(never)]
-fn expect_slowly<'a>(
-    reader: &mut DerReader<'a>,
-    tag: u64,
-    element: &mut DerElement<'a>,
-) -> DerError
+fn expect_slowly<'a>(reader: &mut DerReader<'a>, tag: u64, element: &mut DerElement<'a>) -> DerError
     ensures same { Same (reader_state reader.old) (reader_state reader.new) }
     ensures reads { ExpectsElement tag (reader_state reader.old) result element.new
         (reader_state reader.new) }
@@ -238,11 +234,7 @@ pub extern "C" fn der_enter<'a>(
 
 // The same with each error looked at.
 #[inline(never)]
-fn enter_slowly<'a>(
-    reader: &mut DerReader<'a>,
-    tag: u64,
-    inside: &mut DerReader<'a>,
-) -> DerError
+fn enter_slowly<'a>(reader: &mut DerReader<'a>, tag: u64, inside: &mut DerReader<'a>) -> DerError
     ensures same { Same (reader_state reader.old) (reader_state reader.new) }
     ensures enters { EntersElement tag (reader_state reader.old) result inside.old inside.new
         (reader_state reader.new) }

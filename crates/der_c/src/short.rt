@@ -84,7 +84,11 @@ pub(crate) fn read_short<'a>(
 
 // Passes so many octets of contents, and makes a reader of them, if they can be entered.
 #[inline(always)]
-pub(crate) fn enter_short<'a>(reader: &mut DerReader<'a>, count: u8, inside: &mut DerReader<'a>) -> bool
+pub(crate) fn enter_short<'a>(
+    reader: &mut DerReader<'a>,
+    count: u8,
+    inside: &mut DerReader<'a>,
+) -> bool
     ensures same { Same (reader_state reader.old) (reader_state reader.new) }
     ensures entered { result ≡ true → EntersShort count (reader_state reader.old)
         (reader_state inside.new) (reader_state reader.new) }

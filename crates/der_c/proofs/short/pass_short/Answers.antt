@@ -1,4 +1,4 @@
-use Rattle.std.proofs.Common.{refl, rules}
+use Rattle.std.proofs.Common.{rules}
 use Rattle.der_core.specs.ReaderState.{IsSound}
 use Rattle.der_c.specs.Reader.{reader_state}
 use Rattle.der_c.proofs.ShortLemmas.{passes_short}

@@ -1,8 +1,7 @@
-use Rattle.std.proofs.Common.{◌≡◌, length, refl, sym, ap, ◌∙◌, subst, arith}
+use Rattle.std.proofs.Common.{refl, sym, ap, ◌∙◌, subst, arith}
 use Rattle.der_c.specs.Error.{no_error, error_code}
 use Rattle.der_c.specs.Element.{ReadsElement}
 use Rattle.der_c.specs.Reader.{reader_state}
-use Rattle.der_c.specs.Around.{Tells}
 use Rattle.der_c.specs.declared.error.DerError.{DerError}
 use Rattle.der_c.proofs.ReadLemmas.{told_none}
 use Rattle.der_c.proofs.TreeWalkLemmas.{all_walked, walked_on, walked_node, told_finished, told_refused, told_full}

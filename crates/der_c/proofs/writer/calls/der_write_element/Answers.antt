@@ -1,4 +1,4 @@
-use Rattle.std.proofs.Common.{Ok, length, refl, arith}
+use Rattle.std.proofs.Common.{length, refl}
 use Rattle.der_c.specs.Writer.{writer_state}
 use Rattle.der_c.specs.WriterCalls.{of_tag}
 use Rattle.der_c.proofs.WriterCallLemmas.{element_written}

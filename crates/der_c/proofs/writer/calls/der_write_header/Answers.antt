@@ -1,5 +1,5 @@
-use Rattle.std.proofs.Common.{Ok, refl, subst}
-use Rattle.der_c.specs.WriterCalls.{of_tag, WritesHeader}
+use Rattle.std.proofs.Common.{Ok, refl}
+use Rattle.der_c.specs.WriterCalls.{of_tag}
 use Rattle.der_c.proofs.writer.calls.der_write_header.Goals as goal
 
 pub returns-then-write_short : goal.returns-then-write_short

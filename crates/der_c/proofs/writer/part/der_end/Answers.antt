@@ -1,7 +1,7 @@
-use Rattle.std.proofs.Common.{◌≡◌, ◌-◌, ◌^◌, ◌≤◌, ◌<◌, length, Err, refl, ap, rules, arith}
+use Rattle.std.proofs.Common.{◌≡◌, ◌-◌, ap, rules, arith}
 use Rattle.std.proofs.lemmas.Bool.Decides.{nat_tests}
 use Rattle.der_base.specs.Length.{number}
-use Rattle.der_base.proofs.LengthLemmas.{length_octets_few, length_octets_some}
+use Rattle.der_base.proofs.LengthLemmas.{length_octets_few}
 use Rattle.der_c.specs.Part.{no_room}
 use Rattle.der_c.proofs.writer.part.der_end.Goals as goal
 

@@ -1,4 +1,4 @@
-use Rattle.std.proofs.Common.{◌≡◌, ◌++◌, ◌-◌, ◌+◌, List, ℕ, length, take, drop, arith, refl, rules, ap, ◌∙◌, append_assoc, take_all}
+use Rattle.std.proofs.Common.{◌≡◌, ◌++◌, ◌-◌, ◌+◌, List, ℕ, length, take, drop, arith, refl, ap, ◌∙◌, append_assoc, take_all}
 use Rattle.std.proofs.lemmas.Slice.{put_mid-paste}
 use Rattle.der_c.proofs.PartLemmas.{length_put, state_put}
 use Rattle.der_c.proofs.writer.part.put_length.Goals as goal
