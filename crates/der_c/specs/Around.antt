@@ -5,13 +5,13 @@ use Rattle.der_c.specs.Tree.{Stop, finished, Nodes}
 use Rattle.der_c.specs.declared.tree.DerNode.{DerNode}
 use Rattle.der_c.specs.declared.tree.around.Around.{Around}
 
--- a reader in the k-th part around it, behind the one inside that, by where these parts end and where it
--- goes on in them
+-- a reader in the k-th part around it, behind the one inside that, by where these parts end and
+-- where it goes on in them
 abbrev pub behind_part : List ℕ → List ℕ → ℕ → ReaderState → ReaderState
 behind_part ends behind k s = record s { end = get_or ends k 0; position = get_or behind k 0 }
 
--- the nodes from a reader on that stands inside k parts: they end in the innermost one, or all of it are
--- told, and then those behind it
+-- the nodes from a reader on that stands inside k parts: they end in the innermost one, or all of
+-- it are told, and then those behind it
 abbrev pub NodesFrom : List ℕ → List ℕ → ℕ → ReaderState → List DerNode → Stop → Type 0
 NodesFrom ends behind zero s more stop = Nodes zero s more stop
 NodesFrom ends behind (suc k) s more stop =
@@ -38,8 +38,8 @@ abbrev pub Moved : ReaderState → ReaderState → Type 0
 Moved s t = t ≡ record s { position = t.position; end = t.end }
 
 -- a reader and its parts around are those that were, after these nodes
-pub record Tells (a : Around) (s : ReaderState) (nodes : List DerNode) (b : Around) (t : ReaderState)
-    : Type 0 where
+pub record Tells (a : Around) (s : ReaderState) (nodes : List DerNode) (b : Around)
+    (t : ReaderState) : Type 0 where
   pub moved : Moved s t
   pub around : AreAround b t
   pub outermost : outer_end b t ≡ outer_end a s

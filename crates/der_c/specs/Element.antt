@@ -23,7 +23,8 @@ use Rattle.der_c.specs.declared.error.DerError.{DerError}
 use Rattle.der_c.specs.declared.element.DerElement.{DerElement}
 
 -- the element of a header that begins at a position, with what it counts behind another
-pub record IsToldElement (h : Head) (octets : List ℕ) (from behind : ℕ) (e : DerElement) : Type 0 where
+pub record IsToldElement (h : Head) (octets : List ℕ) (from behind : ℕ) (e : DerElement)
+    : Type 0 where
   pub contents : e.contents.now ≡ take (number (sans_eoc h.length)) octets
   pub tag : e.tag ≡ tag_word h.tag
   pub start : e.start ≡ from
@@ -31,8 +32,8 @@ pub record IsToldElement (h : Head) (octets : List ℕ) (from behind : ℕ) (e :
   pub constructed : e.constructed ≡ h.constructed
   pub indefinite : e.indefinite ≡ is_indefinite h.length
 
--- the contents of a header that began at a position are told and passed, with the end mark; or they are
--- not all there, which is told
+-- the contents of a header that began at a position are told and passed, with the end mark; or they
+-- are not all there, which is told
 pub data ReadsContents (h : Head) (from : ℕ) (s : ReaderState) (result : DerError) (e : DerElement)
     (t : ReaderState) : Type 0 where
   there : (octets : List ℕ) → Gives (read_slice_outcome (number h.length)) s (Ok octets) t
@@ -71,7 +72,8 @@ pub data ExpectsElement (word : ℕ) (s : ReaderState) (result : DerError) (e : 
       → tag_word (head_of h).tag ≡ word
       → ReadsContents (head_of h) s.position u result e t → ExpectsElement word s result e t
 
--- contents are passed, and the other reader is inside them; or they cannot be entered, which is told
+-- contents are passed, and the other reader is inside them; or they cannot be entered, which is
+-- told
 pub data EntersContents (h : Head) (s : ReaderState) (result : DerError) (old new : DerReader)
     (t : ReaderState) : Type 0 where
   refused : (error : Error) → Gives (enter_nested_outcome (number h.length)) s (Err error) t
@@ -97,7 +99,8 @@ pub data EntersElement (word : ℕ) (s : ReaderState) (result : DerError) (old n
 abbrev pub LiesIn : DerElement → ReaderState → Type 0
 LiesIn e s = e.contents_start + length e.contents.now ≤ length s.input
 
--- a reader inside contents that lie in the input, which it stands at the beginning of; or nothing, which is told
+-- a reader inside contents that lie in the input, which it stands at the beginning of; or nothing,
+-- which is told
 pub data OpensElement (s : ReaderState) (e : DerElement) (result : DerError) (old new : ReaderState)
     : Type 0 where
   elsewhere : length s.input < e.contents_start + length e.contents.now

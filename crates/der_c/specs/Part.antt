@@ -12,10 +12,10 @@ use Rattle.der_c.specs.TagWord.{IsTagWord, NoTagWord}
 use Rattle.der_c.specs.WriterCalls.{RefusesBy}
 use Rattle.der_c.specs.declared.error.DerError.{DerError}
 
--- the header of the tag that a word is and of no contents is written, and where contents begin is told;
--- or it is refused
-pub data BeginsElement (word : ℕ) (s : WriterState) (result : DerError) (old new : ℕ) (t : WriterState)
-    : Type 0 where
+-- the header of the tag that a word is and of no contents is written, and where contents begin is
+-- told; or it is refused
+pub data BeginsElement (word : ℕ) (s : WriterState) (result : DerError) (old new : ℕ)
+    (t : WriterState) : Type 0 where
   no_tag : NoTagWord word → RefusesBy TagNumberInvalid s result t → new ≡ old
       → BeginsElement word s result old new t
   no_header : (tag : Tag) (e : Error) → IsTagWord word tag
@@ -32,8 +32,8 @@ IsBegun start s = (1 ≤ start) × (start ≤ length s.octets)
 abbrev pub more_octets : ℕ → WriterState → ℕ
 more_octets start s = length (length_octets (length s.octets - start)) - 1
 
--- contents that end at a position are moved for so many octets more; what stands ahead of them is as it
--- was, and so is the buffer behind the place that they are moved to
+-- contents that end at a position are moved for so many octets more; what stands ahead of them is
+-- as it was, and so is the buffer behind the place that they are moved to
 abbrev pub IsMoved : ℕ → ℕ → ℕ → List ℕ → List ℕ → Type 0
 IsMoved start position more old new =
     (take (start - 1) new ≡ take (start - 1) old)
@@ -52,9 +52,10 @@ put_state start octets s =
 abbrev pub ended_state : ℕ → WriterState → WriterState
 ended_state start s = put_state start (length_octets (length s.octets - start)) s
 
--- the length is put in its place; or nothing is changed but that the writer has failed: it had, nothing
--- was begun there, or there is no room for the octets that the length has more
-pub data EndsElement (start : ℕ) (s : WriterState) (result : DerError) (t : WriterState) : Type 0 where
+-- the length is put in its place; or nothing is changed but that the writer has failed: it had,
+-- nothing was begun there, or there is no room for the octets that the length has more
+pub data EndsElement (start : ℕ) (s : WriterState) (result : DerError) (t : WriterState)
+    : Type 0 where
   has_failed : s.failed ≡ true → result ≡ error_code (error_at Failed (writer_position s)) → t ≡ s
       → EndsElement start s result t
   not_begun : s.failed ≡ false → (start ≡ 0) ⊎ (length s.octets < start)

@@ -21,7 +21,8 @@ pub record PassesShort (o n : ℕ) (s u : ReaderState) : Type 0 where
   pub constructed : (head_of header).constructed ≡ is_constructed o
 
 -- the element of a header that began at a position is told, and its contents are passed
-pub record ReadsShort (o n from : ℕ) (s : ReaderState) (e : DerElement) (t : ReaderState) : Type 0 where
+pub record ReadsShort (o n from : ℕ) (s : ReaderState) (e : DerElement) (t : ReaderState)
+    : Type 0 where
   pub octets : List ℕ
   pub there : Gives (read_slice_outcome n) s (Ok octets) t
   pub contents : e.contents.now ≡ take n octets

@@ -15,20 +15,22 @@ pub record AppendsText (t : Text) (octets : List ℕ) (u : Text) : Type 0 where
       ≡ take (length t.octets.now) (take t.count t.octets.now ++ octets)
   pub behind : drop u.count u.octets.now ≡ drop u.count t.octets.now
 
--- as much of a text stands at the beginning as there is room for; the octets behind it are as they were
+-- as much of a text stands at the beginning as there is room for; the octets behind it are as they
+-- were
 pub record IsCut (text old : List ℕ) (count : ℕ) (new : List ℕ) : Type 0 where
   pub counted : count ≡ min (length text) (length old)
   pub begins : take count new ≡ take (length old) text
   pub behind : drop count new ≡ drop count old
 
--- an error is what C sees so; where another tag was expected than stands there, it may be told without
--- that, as where the word of it is no tag's
+-- an error is what C sees so; where another tag was expected than stands there, it may be told
+-- without that, as where the word of it is no tag's
 abbrev pub IsSeenAs : Error → DerError → Type 0
 IsSeenAs e code = (error_code e ≡ code) ⊎ (error_code e ≡ record code { expected = 0; first = 0 })
 
 -- the text of an error that C sees so is told; or that it is none; or nothing
 pub data TellsText (code : DerError) (old : List ℕ) (count : ℕ) (new : List ℕ) : Type 0 where
-  of_error : (e : Error) → IsSeenAs e code → IfSome (error_text e) (λ text. IsCut text old count new)
+  of_error : (e : Error) → IsSeenAs e code
+      → IfSome (error_text e) (λ text. IsCut text old count new)
       → TellsText code old count new
   of_none : IsCut (codes "no error") old count new → TellsText code old count new
   nothing : count ≡ 0 → length new ≡ length old → TellsText code old count new

@@ -36,8 +36,8 @@ pub record ReadsNext (s : ReaderState) (e : DerElement) (t : ReaderState) : Type
   pub left : s.position ≢ s.end
   pub reads : ReadsElement s no_error e t
 
--- where the nodes end: at the end of the part; where there is no room for another; or where an element
--- is refused
+-- where the nodes end: at the end of the part; where there is no room for another; or where an
+-- element is refused
 pub data Stop : Type 0 where
   finished : Stop
   full : Stop
@@ -48,8 +48,8 @@ stop_code finished = no_error
 stop_code full = error_code (error_of_kind Overlength)
 stop_code (refused e) = e
 
--- the nodes of a part, inside so many others, up to where they end: an element that is not looked into;
--- one whose nodes inside are all told; or one inside which they end
+-- the nodes of a part, inside so many others, up to where they end: an element that is not looked
+-- into; one whose nodes inside are all told; or one inside which they end
 pub data Nodes : ℕ → ReaderState → List DerNode → Stop → Type 0 where
   at_end : {level : ℕ} {s : ReaderState} → s.position ≡ s.end → Nodes level s [] finished
   no_room : {level : ℕ} {s : ReaderState} → s.position ≢ s.end → Nodes level s [] full
@@ -68,8 +68,8 @@ pub data Nodes : ℕ → ReaderState → List DerNode → Stop → Type 0 where
       → Nodes (suc level) (inside_state e t) inner stop → stop ≢ finished
       → Nodes level s (node_of level e ∷ inner) stop
 
--- the nodes of all that is left are told, and the others are as they were; all are told, and passed; or
--- there was no room for another, or an element is refused, and the reader has failed
+-- the nodes of all that is left are told, and the others are as they were; all are told, and
+-- passed; or there was no room for another, or an element is refused, and the reader has failed
 pub record TellsTree (s : ReaderState) (old : List DerNode) (result : DerError) (count : ℕ)
     (new : List DerNode) (t : ReaderState) : Type 0 where
   pub stop : Stop

@@ -74,8 +74,8 @@ fn read_contents<'a>(
 
 /// Reads an element: its header, its contents, and the end mark of an indefinite length.
 ///
-/// Refused as [`der_read_header`](crate::der_read_header), and by `Incomplete` and `Overflow` where the
-/// contents are not all there.
+/// Refused as [`der_read_header`](crate::der_read_header), and by `Incomplete` and `Overflow` where
+/// the contents are not all there.
 #[unsafe(no_mangle)]
 pub extern "C" fn der_read_element<'a>(
     reader: &mut DerReader<'a>,
@@ -100,8 +100,8 @@ pub extern "C" fn der_skip(reader: &mut DerReader<'_>) -> DerError
     read_element(reader, &mut element)
 }
 
-// Reads an element. One with a header of two octets is read here, any other by a function of its own, so that
-// nothing is kept for that one.
+// Reads an element. One with a header of two octets is read here, any other by a function of its
+// own, so that nothing is kept for that one.
 #[inline(always)]
 pub(crate) fn read_element<'a>(reader: &mut DerReader<'a>, element: &mut DerElement<'a>) -> DerError
     ensures same { Same (reader_state reader.old) (reader_state reader.new) }
@@ -157,8 +157,8 @@ fn unexpected(expected: u64, actual: u64) -> DerError
 
 /// Reads an element with this tag.
 ///
-/// Refused as [`der_read_element`], and by `TagUnexpected` without a position where another tag stands
-/// ahead; the reader is unchanged then.
+/// Refused as [`der_read_element`], and by `TagUnexpected` without a position where another tag
+/// stands ahead; the reader is unchanged then.
 #[unsafe(no_mangle)]
 pub extern "C" fn der_expect<'a>(
     reader: &mut DerReader<'a>,
@@ -282,9 +282,9 @@ fn enter<'a>(reader: &mut DerReader<'a>, header: Header, inside: &mut DerReader<
 
 /// Makes a reader of the contents of an element that this reader, or one like it, has read.
 ///
-/// Refused by `Reader` without a position, where the element is not one of these octets, by `Failed` where
-/// the reader has failed, and by `NestingDepth` at the contents inside 64 others; `inside` is unchanged
-/// then.
+/// Refused by `Reader` without a position, where the element is not one of these octets, by
+/// `Failed` where the reader has failed, and by `NestingDepth` at the contents inside 64 others;
+/// `inside` is unchanged then.
 #[unsafe(no_mangle)]
 pub extern "C" fn der_open<'a>(
     reader: &DerReader<'a>,

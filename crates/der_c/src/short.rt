@@ -1,4 +1,5 @@
-//! Elements with a header of two octets, in which no error is made: what is refused here is read again.
+//! Elements with a header of two octets, in which no error is made: what is refused here is read
+//! again.
 ghost use Rattle.std.specs.Prelude.{◌≡◌, true, false, IfSome};
 ghost use Rattle.der_core.specs.ReaderState.{Same};
 ghost use Rattle.der_core.specs.AfterFirstOctet.{AreAhead, IsAlone};
@@ -54,7 +55,8 @@ pub(crate) fn pass_short(reader: &mut DerReader<'_>) -> Option<(u8, u8)>
     None
 }
 
-// Reads so many octets of contents behind a short header that began at a position, if they are there.
+// Reads so many octets of contents behind a short header that began at a position, if they are
+// there.
 #[inline(always)]
 pub(crate) fn read_short<'a>(
     reader: &mut DerReader<'a>,

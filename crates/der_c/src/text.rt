@@ -26,8 +26,8 @@ impl fmt::Write for Text<'_> {
     }
 }
 
-/// Writes what went wrong into the octets, as far as there is room, without a zero octet behind it, and
-/// tells how many octets were written.
+/// Writes what went wrong into the octets, as far as there is room, without a zero octet behind it,
+/// and tells how many octets were written.
 #[unsafe(no_mangle)]
 pub extern "C" fn der_error_text(error: DerError, text: &mut [u8]) -> usize
     ensures { TellsText error text.old result text.new }

@@ -34,11 +34,11 @@ pub struct DerNode {
     pub indefinite: bool,
 }
 
-/// Reads elements and all that is inside constructed ones, each before what is inside it, and tells how
-/// many there were. They are read to 32 levels; what is deeper is not looked into.
+/// Reads elements and all that is inside constructed ones, each before what is inside it, and tells
+/// how many there were. They are read to 32 levels; what is deeper is not looked into.
 ///
-/// Refused as [`der_read_element`](crate::der_read_element), and by kind `Overlength` without a position
-/// where there is no room for all. The reader has then failed.
+/// Refused as [`der_read_element`](crate::der_read_element), and by kind `Overlength` without a
+/// position where there is no room for all. The reader has then failed.
 #[unsafe(no_mangle)]
 pub extern "C" fn der_read_tree(
     reader: &mut DerReader<'_>,

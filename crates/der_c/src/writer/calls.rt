@@ -48,8 +48,8 @@ pub extern "C" fn der_writer_finish(writer: &DerWriter<'_>) -> DerError
 
 /// Writes octets as they stand.
 ///
-/// Refused by `Failed`, `Overflow` and `Overlength`, as by `Writer::write`; nothing is written, and the
-/// writer has failed.
+/// Refused by `Failed`, `Overflow` and `Overlength`, as by `Writer::write`; nothing is written, and
+/// the writer has failed.
 #[unsafe(no_mangle)]
 pub extern "C" fn der_write(writer: &mut DerWriter<'_>, octets: &[u8]) -> DerError
     ensures { WritesOctets octets.now (writer_state writer.old) result (writer_state writer.new) }
@@ -59,8 +59,8 @@ pub extern "C" fn der_write(writer: &mut DerWriter<'_>, octets: &[u8]) -> DerErr
 
 /// Writes the header of a tag and of so many octets of contents.
 ///
-/// Refused by `TagNumberInvalid` without a position, where the word is no tag's, and as [`der_write`];
-/// octets of the header that were written stand, and the writer has failed.
+/// Refused by `TagNumberInvalid` without a position, where the word is no tag's, and as
+/// [`der_write`]; octets of the header that were written stand, and the writer has failed.
 #[unsafe(no_mangle)]
 pub extern "C" fn der_write_header(writer: &mut DerWriter<'_>, tag: u64, length: u32) -> DerError
     ensures { WritesHeader tag length (writer_state writer.old) result (writer_state writer.new) }
@@ -85,8 +85,8 @@ fn header_slowly(writer: &mut DerWriter<'_>, tag: u64, length: u32) -> DerError
 
 /// Writes an element: the header of a tag, and the contents.
 ///
-/// Refused by `Overflow` without a position, where there are more than 4294967295 octets of contents,
-/// and as [`der_write_header`] and [`der_write`].
+/// Refused by `Overflow` without a position, where there are more than 4294967295 octets of
+/// contents, and as [`der_write_header`] and [`der_write`].
 #[unsafe(no_mangle)]
 pub extern "C" fn der_write_element(
     writer: &mut DerWriter<'_>,

@@ -46,12 +46,12 @@ fn begin_slowly(writer: &mut DerWriter<'_>, tag: u64, start: &mut usize) -> DerE
     }
 }
 
-/// Ends the element whose contents begin at `start`, as [`der_begin`] told. Their length takes the place
-/// of the octet ahead of them; contents of 128 octets or more are moved for it.
+/// Ends the element whose contents begin at `start`, as [`der_begin`] told. Their length takes the
+/// place of the octet ahead of them; contents of 128 octets or more are moved for it.
 ///
-/// Refused by `Failed` at the position, where the writer had failed, by `Overlength` without a position,
-/// where nothing is written at `start`, and by `Overlength` and `Overflow` where there is no room for a
-/// longer length; nothing is moved, and the writer has failed.
+/// Refused by `Failed` at the position, where the writer had failed, by `Overlength` without a
+/// position, where nothing is written at `start`, and by `Overlength` and `Overflow` where there is
+/// no room for a longer length; nothing is moved, and the writer has failed.
 #[unsafe(no_mangle)]
 pub extern "C" fn der_end(writer: &mut DerWriter<'_>, start: usize) -> DerError
     ensures { EndsElement start (writer_state writer.old) result (writer_state writer.new) }

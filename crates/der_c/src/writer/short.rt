@@ -7,8 +7,8 @@ use crate::short::is_identifier;
 use crate::writer::DerWriter;
 use der_core::Writer;
 
-/// Writes the header of a tag and of so many octets of contents, where it has two octets and there is
-/// room for them.
+/// Writes the header of a tag and of so many octets of contents, where it has two octets and there
+/// is room for them.
 #[inline(always)]
 pub(crate) fn write_short(writer: &mut DerWriter<'_>, tag: u64, length: usize) -> bool
     ensures written { result ≡ true → WritesShort tag length (writer_state writer.old)
