@@ -20,7 +20,7 @@
  *   - No two threads use one |der_reader| or |der_writer| at a time, unless all of them only read it.
  * A length past 4294967295 is told by an error.
  *
- * Link with libder_c.a. It wants memcpy and memmove, and nothing else. The machine is x86-64-v2. */
+ * Link with libder_c.a. It wants memcpy, memmove and memset, and nothing else. The machine is x86-64-v2. */
 #ifndef DER_H
 #define DER_H
 

@@ -159,7 +159,9 @@ fn elements_are_written_inside_others() {
     let mut writer = Writer::new(&mut room);
     writer
         .inside(Tag::SEQUENCE, |outer| {
-            outer.inside(Tag::context(1000, true), |inner| inner.element(Tag::OCTET_STRING, &[7; 200]))?;
+            outer.inside(Tag::context(1000, true), |inner| {
+                inner.element(Tag::OCTET_STRING, &[7; 200])
+            })?;
             outer.element(Tag::NULL, &[])
         })
         .unwrap();
@@ -184,5 +186,8 @@ fn elements_are_written_inside_others() {
     }
     let mut room = [0; 8];
     let mut writer = Writer::new(&mut room);
-    assert_eq!(writer.inside(Tag(7), |_| Ok(())).unwrap_err().kind(), ErrorKind::TagNumberInvalid);
+    assert_eq!(
+        writer.inside(Tag(7), |_| Ok(())).unwrap_err().kind(),
+        ErrorKind::TagNumberInvalid
+    );
 }
