@@ -75,8 +75,9 @@ typedef struct der_error {
     uint32_t second;   /* a number, by |kind|; the number of |actual| where that is 31 or more */
 } der_error;
 
-/* der_error_text writes the text of |error| into |text|, cut to |room| octets, and returns how many it wrote.
- * No zero octet stands behind it. 160 octets are enough for every text. */
+/* der_error_text writes the text of |error| into |text|, cut to |room| octets, and returns how many it wrote: "no
+ * error" where |error| is none that a call answers. No zero octet stands behind it. 160 octets are enough for every
+ * text. */
 size_t der_error_text(der_error error, char *text, size_t room);
 
 /* Tags. */
