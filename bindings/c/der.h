@@ -20,7 +20,7 @@
  *   - No two threads use one |der_reader| or |der_writer| at a time, unless all of them only read it.
  * A length past 4294967295 is told by an error.
  *
- * Link with libder_c.a. It wants memcpy and memmove, and nothing else. The machine is x86-64-v2. */
+ * Link with libder_c.a. It wants memcpy, memmove and memset, and nothing else. The machine is x86-64-v2. */
 #ifndef DER_H
 #define DER_H
 
@@ -75,8 +75,9 @@ typedef struct der_error {
     uint32_t second;   /* a number, by |kind|; the number of |actual| where that is 31 or more */
 } der_error;
 
-/* der_error_text writes the text of |error| into |text|, cut to |room| octets, and returns how many it wrote.
- * No zero octet stands behind it. 160 octets are enough for every text. */
+/* der_error_text writes the text of |error| into |text|, cut to |room| octets, and returns how many it wrote: "no
+ * error" where |error| is none that a call answers. No zero octet stands behind it. 160 octets are enough for every
+ * text. */
 size_t der_error_text(der_error error, char *text, size_t room);
 
 /* Tags. */
@@ -252,10 +253,22 @@ der_error der_write_header(der_writer *writer, der_tag tag, uint32_t length);
  * |length| passes 4294967295. */
 der_error der_write_element(der_writer *writer, der_tag tag, const uint8_t *contents, size_t length);
 
-/* der_element_length sets |*count| to the octets of an element of |tag| with |length| octets of contents: so an
- * element with others inside is written by the lengths first, and |der_write_header| with their sum. Refused by
- * DER_TAG_NUMBER_INVALID where |tag| is no tag's, and by DER_OVERFLOW where there are more than 4294967295. */
+/* An element with others inside is written by the lengths first, or by its begin and its end.
+ *
+ * der_element_length sets |*count| to the octets of an element of |tag| with |length| octets of contents: the sum of
+ * those inside is what |der_write_header| is handed. Refused by DER_TAG_NUMBER_INVALID where |tag| is no tag's, and by
+ * DER_OVERFLOW where there are more than 4294967295. */
 der_error der_element_length(der_tag tag, uint32_t length, uint32_t *count);
+
+/* der_begin begins an element of |tag|, and sets |*start| to where its contents begin: what is written from there on,
+ * elements that are begun and ended among it. Refused as |der_write_header|. */
+der_error der_begin(der_writer *writer, der_tag tag, size_t *start);
+
+/* der_end ends the element whose contents begin at |start|, as |der_begin| set it, once. Their length takes the place
+ * of the octet ahead of them, and 128 octets or more are moved to make room for it. Refused by DER_FAILED; by
+ * DER_OVERLENGTH without a position where nothing was written ahead of |start|, or it lies behind what is written; and
+ * as |der_write| where there is no room for the length. Nothing is moved, and the writer has failed. */
+der_error der_end(der_writer *writer, size_t start);
 
 /* The shapes that the library was made for. */
 DER_STATIC_ASSERT(sizeof(void *) == 8 && sizeof(size_t) == 8 && sizeof(bool) == 1);

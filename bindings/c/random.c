@@ -141,9 +141,117 @@ static void see_tree(const uint8_t *octets, uint32_t count, bool ber)
     size_t wanted = walk(&copy, 0, others, 0, &is_refused);
     if ((error.kind != 0) != is_refused || number != wanted)
         stop("a tree", octets, count);
+    /* room for as many nodes and for one less */
+    for (size_t room = number; !is_refused && room + 1 >= number && room <= number; room--) {
+        der_reader again = DER_READER;
+        size_t told = 0;
+        der_reader_init(octets, count, ber, &again);
+        error = der_read_tree(&again, others + 64, room, &told);
+        if (error.kind != (room < number ? DER_OVERLENGTH : 0) || told != room ||
+            der_finish(&again).kind != (room < number ? DER_FAILED : 0))
+            stop("a tree in little room", octets, count);
+    }
     for (size_t i = 0; i < number; i++)
         if (!is_same(&nodes[i], &others[i]))
             stop("a node", octets, count);
+}
+
+/* writes an element inside another by begin and end, and stops where it is not what the lengths say */
+static void see_parts(der_tag tag, uint32_t length, uint32_t room)
+{
+    static uint8_t written[1100], wanted[1100], contents[1024];
+    der_writer writer = DER_WRITER, other = DER_WRITER;
+    size_t outer = 0, inner = 0;
+    uint32_t inside = 0, whole = 0;
+    for (uint32_t i = 0; i < length; i++)
+        contents[i] = (uint8_t)draw(256);
+    memset(written, 0xEE, sizeof written);
+    memset(wanted, 0xEE, sizeof wanted);
+    der_element_length(tag, length, &inside);
+    der_element_length(DER_SEQUENCE, inside + 2, &whole);
+    der_writer_init(wanted, sizeof wanted, &other);
+    der_write_header(&other, DER_SEQUENCE, inside + 2);
+    der_write_element(&other, tag, contents, length);
+    der_write_element(&other, DER_NULL, NULL, 0);
+    der_writer_init(written, room, &writer);
+    der_begin(&writer, DER_SEQUENCE, &outer);
+    der_begin(&writer, tag, &inner);
+    der_write(&writer, contents, length);
+    der_end(&writer, inner);
+    der_write_element(&writer, DER_NULL, NULL, 0);
+    der_end(&writer, outer);
+    bool is_refused = der_writer_finish(&writer).kind != 0;
+    if (is_refused != (room < whole) || (!is_refused && (der_written(&writer) != whole || memcmp(written, wanted, whole))))
+        stop("an element with another inside", contents, length);
+    for (uint32_t i = room; i < sizeof written; i++)
+        if (written[i] != 0xEE)
+            stop("an octet behind the room", contents, length);
+    if (!is_refused && (der_end(&writer, 0).kind != DER_OVERLENGTH || der_end(&writer, 1).kind != DER_FAILED))
+        stop("an end without a begin", contents, length);
+}
+
+/* as docs/BINDINGS.md has it */
+static bool join(const der_reader *reader, const der_element *string, uint8_t *out, size_t room, size_t *count)
+{
+    der_reader inside = DER_READER;
+    der_element segment = DER_ELEMENT;
+    if (!string->constructed) {
+        if (string->length > room - *count)
+            return false;
+        memcpy(out + *count, string->contents, string->length);
+        *count += string->length;
+        return true;
+    }
+    if (der_open(reader, string, &inside).kind)
+        return false;
+    while (!der_is_finished(&inside))
+        if (der_expect(&inside, DER_OCTET_STRING, &segment).kind || !join(&inside, &segment, out, room, count))
+            return false;
+    return true;
+}
+
+static void see_segments(void)
+{
+    static const uint8_t octets[] = {0x24, 0x80, 0x04, 0x01, 0xAA, 0x24, 0x80, 0x04, 0x00, 0x04, 0x02,
+                                     0xBB, 0xCC, 0x00, 0x00, 0x24, 0x03, 0x04, 0x01, 0xDD, 0x00, 0x00};
+    static const uint8_t wanted[] = {0xAA, 0xBB, 0xCC, 0xDD};
+    uint8_t out[4];
+    for (size_t room = 3; room <= 4; room++) {
+        der_reader reader = DER_READER;
+        der_element string = DER_ELEMENT;
+        size_t count = 0;
+        der_reader_init(octets, sizeof octets, true, &reader);
+        if (der_expect(&reader, DER_OCTET_STRING, &string).kind || der_finish(&reader).kind ||
+            join(&reader, &string, out, room, &count) != (room == 4))
+            stop("segments", octets, sizeof octets);
+        if (room == 4 && (count != 4 || memcmp(out, wanted, 4)))
+            stop("segments that are joined", octets, sizeof octets);
+    }
+}
+
+/* a text is cut to its room, and what no error is told as has no text of one */
+static void see_texts(void)
+{
+    static const char wanted[] = "unexpected ASN.1 DER tag: expected INTEGER, got NULL";
+    static const char unknown[] = "unexpected ASN.1 DER tag: got NULL";
+    static const uint8_t octets[] = {5, 0};
+    der_reader reader = DER_READER;
+    der_element element = DER_ELEMENT;
+    char text[160];
+    der_reader_init(octets, sizeof octets, false, &reader);
+    der_error error = der_expect(&reader, DER_INTEGER, &element);
+    for (size_t room = 0; room < sizeof text; room++) {
+        memset(text, '#', sizeof text);
+        size_t count = der_error_text(error, text, room), whole = sizeof wanted - 1;
+        if (count != (room < whole ? room : whole) || memcmp(text, wanted, count) || text[count] != '#')
+            stop("a text", octets, sizeof octets);
+    }
+    /* 7 is no tag */
+    error = der_expect(&reader, 7, &element);
+    if (der_error_text(error, text, sizeof text) != sizeof unknown - 1 || memcmp(text, unknown, sizeof unknown - 1))
+        stop("a text without the tag that was expected", octets, sizeof octets);
+    if (der_error_text((der_error){0, false, 0, 0, 0, 0, 0}, text, sizeof text) != 8 || memcmp(text, "no error", 8))
+        stop("the text of no error", octets, sizeof octets);
 }
 
 int main(int argc, char **argv)
@@ -152,6 +260,8 @@ int main(int argc, char **argv)
                                     0x9F, 0xBF, 0xA0, 0x00, 0x00, 0x01, 0x03, 0x7F, 0xFF};
     uint8_t octets[64], written[64];
     long elements = 0, number = argc > 1 ? atol(argv[1]) : 1000000;
+    see_segments();
+    see_texts();
     for (long i = 0; i < number; i++) {
         uint32_t count = draw(24);
         for (uint32_t j = 0; j < count; j++)
@@ -179,6 +289,10 @@ int main(int argc, char **argv)
         }
         see_tree(octets, count, false);
         see_tree(octets, count, true);
+        if (i % 16 == 0) {
+            uint32_t length = draw(4) ? draw(300) : draw(1024), number = draw(100000);
+            see_parts(draw(2) ? DER_OCTET_STRING : DER_CONTEXT(number) + DER_CONSTRUCTED, length, length + draw(24));
+        }
     }
     printf("%ld inputs, %ld with an element\n", number, elements);
     return 0;

@@ -429,6 +429,15 @@ impl<'a> Writer<'a> {
         answer(unsafe { sys::der_write_element(&mut self.0, tag.0, contents.as_ptr(), contents.len()) })
     }
 
+    /// Writes an element, whose contents are what `write` writes. Behind an error of `write` the element is not ended.
+    #[inline]
+    pub fn inside(&mut self, tag: Tag, write: impl FnOnce(&mut Self) -> Result<(), Error>) -> Result<(), Error> {
+        let mut start = 0;
+        answer(sys::der_begin(&mut self.0, tag.0, &mut start))?;
+        write(self)?;
+        answer(sys::der_end(&mut self.0, start))
+    }
+
     /// Writes octets as they stand.
     #[inline]
     pub fn write(&mut self, octets: &[u8]) -> Result<(), Error> {

@@ -151,6 +151,8 @@ unsafe extern "C" {
     pub fn der_writer_init<'a>(octets: *mut u8, length: usize, writer: &mut RawWriter<'a>);
     pub safe fn der_written(writer: &RawWriter) -> usize;
     pub safe fn der_writer_finish(writer: &RawWriter) -> RawError;
+    pub safe fn der_begin(writer: &mut RawWriter, tag: u64, start: &mut usize) -> RawError;
+    pub safe fn der_end(writer: &mut RawWriter, start: usize) -> RawError;
     pub safe fn der_element_length(tag: u64, length: u32, count: &mut u32) -> RawError;
     pub safe fn der_write_header(writer: &mut RawWriter, tag: u64, length: u32) -> RawError;
     pub fn der_write_element(writer: &mut RawWriter, tag: u64, contents: *const u8, length: usize) -> RawError;

@@ -152,3 +152,42 @@ fn bodies_are_scanned() {
     strict.skip().unwrap();
     assert_eq!(strict.elements().count(), 1);
 }
+
+#[test]
+fn elements_are_written_inside_others() {
+    let mut room = [0xee; 300];
+    let mut writer = Writer::new(&mut room);
+    writer
+        .inside(Tag::SEQUENCE, |outer| {
+            outer.inside(Tag::context(1000, true), |inner| {
+                inner.element(Tag::OCTET_STRING, &[7; 200])
+            })?;
+            outer.element(Tag::NULL, &[])
+        })
+        .unwrap();
+    let octets = writer.finish().unwrap();
+    // 203 octets of the string, with their header of [1000] 208, and the NULL
+    let mut wanted = vec![0x30, 0x81, 210, 0xBF, 0x87, 0x68, 0x81, 203, 4, 0x81, 200];
+    wanted.extend([7; 200]);
+    wanted.extend([5, 0]);
+    assert_eq!(octets, wanted);
+    // room for all but the octet that the length of 128 octets has more
+    for more in [0, 1] {
+        let mut room = [0xee; 2 + 128 + 1];
+        let mut writer = Writer::new(&mut room[..130 + more]);
+        let answer = writer.inside(Tag::SET, |inside| inside.write(&[9; 128]));
+        if more == 0 {
+            assert_eq!(answer.unwrap_err().kind(), ErrorKind::Overlength);
+            assert_eq!(writer.finish().unwrap_err().kind(), ErrorKind::Failed);
+        } else {
+            answer.unwrap();
+            assert_eq!(writer.finish().unwrap()[..4], [0x31, 0x81, 128, 9]);
+        }
+    }
+    let mut room = [0; 8];
+    let mut writer = Writer::new(&mut room);
+    assert_eq!(
+        writer.inside(Tag(7), |_| Ok(())).unwrap_err().kind(),
+        ErrorKind::TagNumberInvalid
+    );
+}

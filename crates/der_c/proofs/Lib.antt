@@ -1,4 +1,11 @@
 pub mod CompareLemmas
+pub mod PartLemmas
+pub mod ReadLemmas
+pub mod ShortLemmas
+pub mod ShortWriteLemmas
 pub mod TagWordLemmas
+pub mod TextLemmas
+pub mod TreeLemmas
+pub mod TreeWalkLemmas
 pub mod WordLemmas
 pub mod WriterCallLemmas

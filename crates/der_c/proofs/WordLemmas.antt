@@ -1,5 +1,5 @@
 -- The word of a tag, by the first octet of its identifier.
-use Rattle.std.proofs.Common.{◌≡◌, ◌≢◌, ℕ, ◌+◌, ◌*◌, ◌%◌, ◌<◌, Bool, true, false, Option, Some, Ok, take, List, [], ◌∷◌, ◌++◌, refl, sym, ap, ◌∙◌, subst, ⊎_elim, arith}
+use Rattle.std.proofs.Common.{◌≡◌, ◌≢◌, ℕ, ◌+◌, ◌*◌, ◌%◌, ◌<◌, Bool, true, false, List, [], ◌∷◌, ◌++◌, sym, ap, ◌∙◌, subst, ⊎_elim, arith}
 use Rattle.std.proofs.lemmas.Bool.{cases_lt, lt-ltb}
 use Rattle.der_base.specs.Length.{digits}
 use Rattle.der_base.specs.Tag.{label, leading_octet, tag_octets, continuation_octets, IsIdentifier}
@@ -11,19 +11,8 @@ use Rattle.der_base.proofs.IdentifierLemmas.{tagged, segmented, identifier_view}
 use Rattle.der_base.proofs.HeaderLemmas.{header_view_of, header_view}
 use Rattle.der_core.specs.ReaderState.{ReaderState, rest_of}
 use Rattle.der_core.specs.Decode.{Passes}
-use Rattle.der_core.specs.ReaderState.{IsSound}
-use Rattle.der_core.specs.AfterFirstOctet.{AreAhead, identifier_tag}
-use Rattle.der_core.specs.Outcome.{Gives}
-use Rattle.der_core.specs.Reader.{read_slice_outcome}
-use Rattle.der_core.specs.Header.{head_of, HeaderAhead}
-use Rattle.der_core.specs.declared.header.Header.{Header}
-use Rattle.der_core.proofs.HeaderReadLemmas.{short_passed}
-use Rattle.der_base.specs.Tag.{is_constructed}
-use Rattle.der_base.specs.Length.{definite_length}
-use Rattle.der_c.specs.Error.{no_error}
 use Rattle.der_c.specs.TagWord.{tag_word}
-use Rattle.der_c.specs.declared.element.DerElement.{DerElement}
-use Rattle.der_c.specs.Element.{IsFirstAhead, TellsTag, ReadsElement, behind, there}
+use Rattle.der_c.specs.Element.{IsFirstAhead, TellsTag}
 
 -- an octet with five low bits that are not all set begins no long number
 short_octet : (b : Bool) (k o : ℕ) → 64 * k + constructed_bit b + 31 ≡ o → o % 32 < 31 → ⊥
@@ -31,7 +20,7 @@ short_octet true k o e h = omega arith
 short_octet false k o e h = omega arith
 
 -- so it is the word of its tag
-tag_short : (t : Tag) (o : ℕ) (more : List ℕ) → tag_octets t ≡ o ∷ more → o % 32 < 31 → o ≡ tag_word t
+pub tag_short : (t : Tag) (o : ℕ) (more : List ℕ) → tag_octets t ≡ o ∷ more → o % 32 < 31 → o ≡ tag_word t
 tag_short t o more e h =
     ⊎_elim
     (λ a. let v : leading_octet (label t) (label t).number ∷ [] ≡ o ∷ more = sym (label_small (label t) a) ∙ e in
@@ -69,22 +58,3 @@ header_told h s t o passed first small other =
           let apart : p.0 ≢ 36 = λ q. other (same ∙ q) in
           same ∙ identifier_short s.rules id h.tag h.constructed p.0 p.1 d p.2 below apart)
     ]
-
--- an element with a header of two octets is read
-pub short_element : {s u t : ReaderState} {x : Option (ℕ × ℕ)} {o p : ℕ} {two contents : List ℕ} {e : DerElement} → IsSound s → AreAhead s x → x ≡ Some (o, p)
-    → Gives (read_slice_outcome 2) s (Ok two) u → Gives (read_slice_outcome p) u (Ok contents) t → o % 32 < 31 → o ≢ 36
-    → e.contents.now ≡ take p contents → e.tag ≡ o → e.start ≡ s.position → e.contents_start ≡ u.position → e.constructed ≡ is_constructed o → e.indefinite ≡ false → ReadsElement s no_error e t
-short_element {s} {u} {t} {x} {o} {p} {two} {contents} {e} sound ahead is first second small other c g f k b i =
-    let h : Header = record { tag = identifier_tag o (o % 32); length = definite_length p; constructed = is_constructed o } in
-    let passed : Passes (HeaderAhead h) s u = short_passed sound ahead is refl refl first in
-    let a : AreAhead s (Some (o, p)) = subst (AreAhead s) is ahead in
-    let at_front : IsFirstAhead s o = λ working q more split. (let v : o ∷ p ∷ a.3.0 ≡ q ∷ more = sym a.3.1 ∙ split in cc) in
-    let word : o ≡ tag_word (identifier_tag o (o % 32)) = header_told (head_of h) s u o passed at_front small other in
-    behind h u passed (there contents second refl (record {
-      contents = c;
-      tag = g ∙ word;
-      start = f;
-      contents_start = k;
-      constructed = b;
-      indefinite = i;
-    }))

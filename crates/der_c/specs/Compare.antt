@@ -26,8 +26,8 @@ pub record IsOneElement (octets : List ℕ) : Type 0 where
   pub ahead : HeadAhead head Der octets count
   pub whole : count + number head.length ≡ length octets
 
--- why they are not: no length counts them; a reader of them refuses the header, or contents that are
--- not all there; or octets are left behind the element
+-- why they are not: no length counts them; a reader of them refuses the header, or contents that
+-- are not all there; or octets are left behind the element
 pub data RefusesWhole (octets : List ℕ) (e : Error) : Type 0 where
   too_long : 2 ^ 32 ≤ length octets → e ≡ error_of_kind Overflow → RefusesWhole octets e
   no_header : (t : ReaderState)

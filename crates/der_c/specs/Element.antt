@@ -1,11 +1,13 @@
 -- What reading an element tells C.
-use Rattle.std.specs.Prelude.{◌≡◌, ◌≢◌, ℕ, ◌∷◌, ◌+◌, ◌<◌, ◌/◌, ◌%◌, ◌^◌, List, length, take, false, Ok, Err}
+use Rattle.std.specs.Prelude.{◌≡◌, ◌≢◌, ℕ, ◌∷◌, ◌+◌, ◌<◌, ◌≤◌, ◌/◌, ◌%◌, ◌^◌, List, length, take, true, false, Ok, Err}
 use Rattle.der_base.specs.Arithmetic.{sans_eoc}
-use Rattle.der_base.specs.Length.{number, is_indefinite}
+use Rattle.der_base.specs.Error.{error_at, error_of_kind}
+use Rattle.der_base.specs.Length.{number, is_indefinite, definite_length}
 use Rattle.der_base.specs.HeaderGrammar.{Head, HeaderFault}
 use Rattle.der_base.specs.ScanGrammar.{BodyFault}
 use Rattle.der_base.specs.declared.tag.Tag.{Tag}
 use Rattle.der_base.specs.declared.error.Error.{Error}
+use Rattle.der_base.specs.declared.error.ErrorKind.TheVariants.{Reader, Failed, NestingDepth}
 use Rattle.der_core.specs.ReaderState.{ReaderState, rest_of, advanced_state, nested_state}
 use Rattle.der_core.specs.Outcome.{Gives}
 use Rattle.der_core.specs.Reader.{read_slice_outcome, enter_nested_outcome}
@@ -21,7 +23,8 @@ use Rattle.der_c.specs.declared.error.DerError.{DerError}
 use Rattle.der_c.specs.declared.element.DerElement.{DerElement}
 
 -- the element of a header that begins at a position, with what it counts behind another
-pub record IsToldElement (h : Head) (octets : List ℕ) (from behind : ℕ) (e : DerElement) : Type 0 where
+pub record IsToldElement (h : Head) (octets : List ℕ) (from behind : ℕ) (e : DerElement)
+    : Type 0 where
   pub contents : e.contents.now ≡ take (number (sans_eoc h.length)) octets
   pub tag : e.tag ≡ tag_word h.tag
   pub start : e.start ≡ from
@@ -29,8 +32,8 @@ pub record IsToldElement (h : Head) (octets : List ℕ) (from behind : ℕ) (e :
   pub constructed : e.constructed ≡ h.constructed
   pub indefinite : e.indefinite ≡ is_indefinite h.length
 
--- the contents of a header that began at a position are told and passed, with the end mark; or they are
--- not all there, which is told
+-- the contents of a header that began at a position are told and passed, with the end mark; or they
+-- are not all there, which is told
 pub data ReadsContents (h : Head) (from : ℕ) (s : ReaderState) (result : DerError) (e : DerElement)
     (t : ReaderState) : Type 0 where
   there : (octets : List ℕ) → Gives (read_slice_outcome (number h.length)) s (Ok octets) t
@@ -69,7 +72,8 @@ pub data ExpectsElement (word : ℕ) (s : ReaderState) (result : DerError) (e : 
       → tag_word (head_of h).tag ≡ word
       → ReadsContents (head_of h) s.position u result e t → ExpectsElement word s result e t
 
--- contents are passed, and the other reader is inside them; or they cannot be entered, which is told
+-- contents are passed, and the other reader is inside them; or they cannot be entered, which is
+-- told
 pub data EntersContents (h : Head) (s : ReaderState) (result : DerError) (old new : DerReader)
     (t : ReaderState) : Type 0 where
   refused : (error : Error) → Gives (enter_nested_outcome (number h.length)) s (Err error) t
@@ -91,17 +95,27 @@ pub data EntersElement (word : ℕ) (s : ReaderState) (result : DerError) (old n
       → tag_word (head_of h).tag ≡ word → EntersContents (head_of h) u result old new t
       → EntersElement word s result old new t
 
--- a reader inside the contents of an element, which lie in the input; or nothing, which is told
+-- the contents of an element lie in the input
+abbrev pub LiesIn : DerElement → ReaderState → Type 0
+LiesIn e s = e.contents_start + length e.contents.now ≤ length s.input
+
+-- a reader inside contents that lie in the input, which it stands at the beginning of; or nothing,
+-- which is told
 pub data OpensElement (s : ReaderState) (e : DerElement) (result : DerError) (old new : ReaderState)
     : Type 0 where
-  opened : result ≡ no_error
+  elsewhere : length s.input < e.contents_start + length e.contents.now
+      → result ≡ error_code (error_of_kind Reader) → new ≡ old → OpensElement s e result old new
+  has_failed : LiesIn e s → s.failed ≡ true → result ≡ error_code (error_of_kind Failed)
+      → new ≡ old → OpensElement s e result old new
+  too_deep : LiesIn e s → s.failed ≡ false → 64 ≤ s.depth
+      → result ≡ error_code (error_at NestingDepth (definite_length e.contents_start)) → new ≡ old
+      → OpensElement s e result old new
+  opened : LiesIn e s → s.failed ≡ false → s.depth < 64 → result ≡ no_error
       → new ≡ record s {
         end = e.contents_start + length e.contents.now;
         position = e.contents_start;
         depth = s.depth + 1;
-        failed = false;
       } → OpensElement s e result old new
-  refused : (error : Error) → result ≡ error_code error → new ≡ old → OpensElement s e result old new
 
 -- the octet that is ahead of a reader that has not failed, if there is one
 abbrev pub IsFirstAhead : ReaderState → ℕ → Type 0

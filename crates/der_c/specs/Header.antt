@@ -22,8 +22,8 @@ header_record h =
       indefinite = is_indefinite h.length;
     }
 
--- a header stood ahead, is told and passed; or the octets have a fault, which is told, and nothing is
--- written
+-- a header stood ahead, is told and passed; or the octets have a fault, which is told, and nothing
+-- is written
 pub data ReadsHeader (s : ReaderState) (result : DerError) (old new : DerHeader) (t : ReaderState)
     : Type 0 where
   read : (h : Header) → Passes (HeaderAhead h) s t → result ≡ no_error

@@ -1,9 +1,14 @@
+pub mod Around
 pub mod Compare
 pub mod Element
 pub mod Error
 pub mod Header
+pub mod Part
 pub mod Reader
 pub mod Scan
+pub mod Short
 pub mod TagWord
+pub mod Text
+pub mod Tree
 pub mod Writer
 pub mod WriterCalls

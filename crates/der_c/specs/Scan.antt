@@ -14,7 +14,8 @@ use Rattle.der_c.specs.declared.error.DerError.{DerError}
 
 -- a body stood ahead, is counted and passed; or the octets have a fault, which is told; under DER
 -- nothing is looked at
-pub data ScansBody (s : ReaderState) (result : DerError) (old new : ℕ) (t : ReaderState) : Type 0 where
+pub data ScansBody (s : ReaderState) (result : DerError) (old new : ℕ) (t : ReaderState)
+    : Type 0 where
   not_ber : s.rules ≡ Der → result ≡ error_code (error_of_kind EncodingRules) → new ≡ old → t ≡ s
       → ScansBody s result old new t
   scanned : (l : Length) → s.rules ≡ Ber → Passes (BodyAhead l) s t → result ≡ no_error

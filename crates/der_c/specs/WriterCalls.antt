@@ -27,7 +27,14 @@ pub record WritesOctets (octets : List ℕ) (s : WriterState) (result : DerError
   pub writes : Writes (write_outcome octets s) answer t
   pub told : result ≡ answer_code answer
 
--- the header of the tag that a word is, and of n octets, is written; or the word is no tag's
+-- the header of the tag that a word is, and of n octets, is written
+pub record WritesShort (word n : ℕ) (s t : WriterState) : Type 0 where
+  pub tag : Tag
+  pub is : IsTagWord word tag
+  pub few : n < 2 ^ 32
+  pub writes : Writes (header_outcome tag n s) (Ok tt) t
+
+-- the same, or the word is no tag's
 pub data WritesHeader (word n : ℕ) (s : WriterState) (result : DerError) (t : WriterState)
     : Type 0 where
   no_tag : NoTagWord word → RefusesBy TagNumberInvalid s result t → WritesHeader word n s result t

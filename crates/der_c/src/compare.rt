@@ -7,12 +7,12 @@ use der_base::Error;
 use der_core::{Reader, SliceReader, decode_header};
 use std::cmp::Ordering;
 
-/// Compares two whole elements under the Distinguished Encoding Rules by their octets, as a SET OF is
-/// sorted (X.690 11.6): -1, 0 or 1.
+/// Compares two whole elements under the Distinguished Encoding Rules by their octets, as a SET OF
+/// is sorted (X.690 11.6): -1, 0 or 1.
 ///
 /// Refused where the first, or else the second, is not wholly an element, as by a reader of it: as
-/// `der_read_element`, by `Overflow` without a position where it has more than 4294967295 octets, and by
-/// `TrailingData` where octets stand behind the element. The order is unchanged then.
+/// `der_read_element`, by `Overflow` without a position where it has more than 4294967295 octets,
+/// and by `TrailingData` where octets stand behind the element. The order is unchanged then.
 #[unsafe(no_mangle)]
 pub extern "C" fn der_compare(first: &[u8], second: &[u8], order: &mut i32) -> DerError
     ensures { Compares first.now second.now result order.old order.new }

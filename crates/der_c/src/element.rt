@@ -1,14 +1,14 @@
 //! Elements in C.
-ghost use Rattle.std.specs.Prelude.{◌≡◌, true};
+ghost use Rattle.std.specs.Prelude.{◌≡◌};
 ghost use Rattle.der_core.specs.ReaderState.{Same};
 ghost use Rattle.der_core.specs.Header.{head_of};
 ghost use Rattle.der_c.specs.Element.{ReadsContents, ReadsElement, ExpectsElement, EntersElement, EntersContents, OpensElement, SkipsElement, unexpected_code};
-ghost use Rattle.der_core.specs.AfterFirstOctet.{AreAhead, IsAlone};
 ghost use Rattle.der_c.specs.Reader.{reader_state};
 
 use crate::error::{DerError, told};
 use crate::reader::DerReader;
-use crate::tag::{universal, word_of};
+use crate::short::{enter_short, pass_short, read_short};
+use crate::tag::word_of;
 use der_base::{ErrorKind, Length};
 use der_core::{Header, Reader, decode_header};
 
@@ -74,8 +74,8 @@ fn read_contents<'a>(
 
 /// Reads an element: its header, its contents, and the end mark of an indefinite length.
 ///
-/// Refused as [`der_read_header`](crate::der_read_header), and by `Incomplete` and `Overflow` where the
-/// contents are not all there.
+/// Refused as [`der_read_header`](crate::der_read_header), and by `Incomplete` and `Overflow` where
+/// the contents are not all there.
 #[unsafe(no_mangle)]
 pub extern "C" fn der_read_element<'a>(
     reader: &mut DerReader<'a>,
@@ -100,35 +100,8 @@ pub extern "C" fn der_skip(reader: &mut DerReader<'_>) -> DerError
     read_element(reader, &mut element)
 }
 
-// The identifier and the length ahead, where each has one octet.
-#[inline(always)]
-fn short_header(reader: &DerReader<'_>) -> Option<(u8, u8)>
-    ensures { AreAhead (reader_state reader.now) result }
-{
-    let Ok(ahead) = reader.remaining() else {
-        return None;
-    };
-    if ahead.len() < 2 {
-        return None;
-    }
-    let (first, count) = (ahead[0], ahead[1]);
-    if count < 128 && is_identifier(first) {
-        Some((first, count))
-    } else {
-        None
-    }
-}
-
-// Whether this octet is an identifier by itself, under any rules.
-#[inline(always)]
-fn is_identifier(octet: u8) -> bool
-    ensures { result ≡ true → IsAlone octet }
-{
-    universal(octet).is_some() || octet >= 0x40 && octet % 32 < 31
-}
-
-// Reads an element. One with a header of two octets is read here, any other by a function of its own, so that
-// nothing is kept for that one.
+// Reads an element. One with a header of two octets is read here, any other by a function of its
+// own, so that nothing is kept for that one.
 #[inline(always)]
 pub(crate) fn read_element<'a>(reader: &mut DerReader<'a>, element: &mut DerElement<'a>) -> DerError
     ensures same { Same (reader_state reader.old) (reader_state reader.new) }
@@ -137,26 +110,18 @@ pub(crate) fn read_element<'a>(reader: &mut DerReader<'a>, element: &mut DerElem
 {
     let before = reader.fork();
     let start = reader.position as u32;
-    if let Some((first, count)) = short_header(reader) {
-        if first % 32 < 31 && first != 36 {
-            if let Ok(_) = reader.read_slice(Length::new(2)) {
-                let contents_start = reader.position as u32;
-                if let Ok(octets) = reader.read_slice(Length::new(count as u32)) {
-                    *element = DerElement {
-                        contents: &octets[..count as usize],
-                        tag: first as u64,
-                        start,
-                        contents_start,
-                        constructed: first / 32 % 2 == 1,
-                        indefinite: false,
-                    };
-                    return DerError::NONE;
-                }
-            }
+    if let Some(header) = pass_short(reader) {
+        if read_short(reader, start, header, element) {
+            return DerError::NONE;
         }
     }
-    *reader = before;
-    read_slowly(reader, element)
+    // copies, so that reader and element may be kept in registers
+    let mut copy = before;
+    let mut read = DerElement::NONE;
+    let error = read_slowly(&mut copy, &mut read);
+    *reader = copy;
+    *element = read;
+    error
 }
 
 // The same with each error looked at.
@@ -192,14 +157,36 @@ fn unexpected(expected: u64, actual: u64) -> DerError
 
 /// Reads an element with this tag.
 ///
-/// Refused as [`der_read_element`], and by `TagUnexpected` without a position where another tag stands
-/// ahead; the reader is unchanged then.
+/// Refused as [`der_read_element`], and by `TagUnexpected` without a position where another tag
+/// stands ahead; the reader is unchanged then.
 #[unsafe(no_mangle)]
 pub extern "C" fn der_expect<'a>(
     reader: &mut DerReader<'a>,
     tag: u64,
     element: &mut DerElement<'a>,
 ) -> DerError
+    ensures same { Same (reader_state reader.old) (reader_state reader.new) }
+    ensures reads { ExpectsElement tag (reader_state reader.old) result element.new
+        (reader_state reader.new) }
+{
+    let before = reader.fork();
+    let start = reader.position as u32;
+    if let Some(header) = pass_short(reader) {
+        if header.0 as u64 != tag {
+            *reader = before;
+            return unexpected(tag, header.0 as u64);
+        }
+        if read_short(reader, start, header, element) {
+            return DerError::NONE;
+        }
+    }
+    *reader = before;
+    expect_slowly(reader, tag, element)
+}
+
+// The same with each error looked at.
+#[inline(never)]
+fn expect_slowly<'a>(reader: &mut DerReader<'a>, tag: u64, element: &mut DerElement<'a>) -> DerError
     ensures same { Same (reader_state reader.old) (reader_state reader.new) }
     ensures reads { ExpectsElement tag (reader_state reader.old) result element.new
         (reader_state reader.new) }
@@ -227,6 +214,27 @@ pub extern "C" fn der_enter<'a>(
     tag: u64,
     inside: &mut DerReader<'a>,
 ) -> DerError
+    ensures same { Same (reader_state reader.old) (reader_state reader.new) }
+    ensures enters { EntersElement tag (reader_state reader.old) result inside.old inside.new
+        (reader_state reader.new) }
+{
+    let before = reader.fork();
+    if let Some(header) = pass_short(reader) {
+        if header.0 as u64 != tag {
+            *reader = before;
+            return unexpected(tag, header.0 as u64);
+        }
+        if enter_short(reader, header.1, inside) {
+            return DerError::NONE;
+        }
+    }
+    *reader = before;
+    enter_slowly(reader, tag, inside)
+}
+
+// The same with each error looked at.
+#[inline(never)]
+fn enter_slowly<'a>(reader: &mut DerReader<'a>, tag: u64, inside: &mut DerReader<'a>) -> DerError
     ensures same { Same (reader_state reader.old) (reader_state reader.new) }
     ensures enters { EntersElement tag (reader_state reader.old) result inside.old inside.new
         (reader_state reader.new) }
@@ -274,9 +282,9 @@ fn enter<'a>(reader: &mut DerReader<'a>, header: Header, inside: &mut DerReader<
 
 /// Makes a reader of the contents of an element that this reader, or one like it, has read.
 ///
-/// Refused by `Reader` without a position, where the element is not one of these octets, by `Failed` where
-/// the reader has failed, and by `NestingDepth` at the contents inside 64 others; `inside` is unchanged
-/// then.
+/// Refused by `Reader` without a position, where the element is not one of these octets, by
+/// `Failed` where the reader has failed, and by `NestingDepth` at the contents inside 64 others;
+/// `inside` is unchanged then.
 #[unsafe(no_mangle)]
 pub extern "C" fn der_open<'a>(
     reader: &DerReader<'a>,
@@ -289,7 +297,10 @@ pub extern "C" fn der_open<'a>(
     let start = element.contents_start;
     let length = element.contents.len();
     let room = reader.octets.len();
-    if start as usize > room || length > room - start as usize {
+    if start as usize > room {
+        return told(ErrorKind::Reader.to_error());
+    }
+    if length > room - start as usize {
         return told(ErrorKind::Reader.to_error());
     }
     if reader.failed {

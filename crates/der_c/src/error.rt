@@ -19,8 +19,8 @@ pub struct DerError {
     pub actual: u8,
     /// The position, or 0.
     pub position: u32,
-    /// The number of octets that was expected or read; the octet that is no tag; the number of the tag
-    /// that was expected, where it is 31 or more.
+    /// The number of octets that was expected or read; the octet that is no tag; the number of the
+    /// tag that was expected, where it is 31 or more.
     pub first: u32,
     /// The number of octets that there are, or that are left; the number of the tag that was met,
     /// where it is 31 or more.

@@ -14,7 +14,8 @@ use der_core::{Header, decode_header};
 #[repr(C)]
 #[derive(Clone, Copy)]
 pub struct DerHeader {
-    /// The tag: the first octet of its identifier, and 256 times its number, where that is 31 or more.
+    /// The tag: the first octet of its identifier, and 256 times its number, where that is 31 or
+    /// more.
     pub tag: u64,
     /// How many octets of contents there are, with the end mark where the length is indefinite.
     pub length: u32,
@@ -40,8 +41,8 @@ fn told_header(header: Header) -> DerHeader
 
 /// Reads a header, as `decode_header` does.
 ///
-/// Refused by `Failed`, `Overflow`, `Incomplete`, `TagUnknown`, `TagNumberInvalid`, `IndefiniteLength`
-/// and `Length`; the header is unchanged then.
+/// Refused by `Failed`, `Overflow`, `Incomplete`, `TagUnknown`, `TagNumberInvalid`,
+/// `IndefiniteLength` and `Length`; the header is unchanged then.
 #[unsafe(no_mangle)]
 pub extern "C" fn der_read_header(reader: &mut DerReader<'_>, header: &mut DerHeader) -> DerError
     ensures same { Same (reader_state reader.old) (reader_state reader.new) }

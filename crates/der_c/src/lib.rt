@@ -11,6 +11,8 @@ mod error;
 mod header;
 mod reader;
 mod scan;
+mod shapes;
+mod short;
 mod tag;
 mod text;
 mod tree;
@@ -30,3 +32,4 @@ pub use writer::calls::{
     der_element_length, der_write, der_write_element, der_write_header, der_writer_finish,
     der_writer_init, der_written,
 };
+pub use writer::part::{der_begin, der_end};

@@ -12,11 +12,13 @@ use der_core::{Turns, decode_indefinite_length};
 use std::marker::Brand;
 use std::sync::ledger::{Blank, Ledger};
 
-/// Passes the body of an indefinite length, and tells how many octets it has, with the end mark that
-/// closes it (X.690 8.1.3.6). The reader stands behind octet 80 before, and behind the mark then.
+/// Passes the body of an indefinite length, and tells how many octets it has, with the end mark
+/// that closes it (X.690 8.1.3.6). The reader stands behind octet 80 before, and behind the mark
+/// then.
 ///
-/// Refused by `EncodingRules` without a position, where the reader does not read by the Basic Encoding
-/// Rules, which leaves it as it is, and as by `decode_indefinite_length`; `count` is unchanged then.
+/// Refused by `EncodingRules` without a position, where the reader does not read by the Basic
+/// Encoding Rules, which leaves it as it is, and as by `decode_indefinite_length`; `count` is
+/// unchanged then.
 #[unsafe(no_mangle)]
 pub extern "C" fn der_scan(reader: &mut DerReader<'_>, count: &mut u32) -> DerError
     ensures { ScansBody (reader_state reader.old) result count.old count.new

@@ -1,29 +1,24 @@
 //! Texts of errors, in C.
-ghost use Rattle.std.specs.Prelude.{◌≡◌, ◌+◌, ◌^◌, ◌<◌, ◌≤◌, length};
+ghost use Rattle.std.specs.Prelude.{◌≡◌, true, IfSome};
+ghost use Rattle.der_c.specs.Error.{error_code};
+ghost use Rattle.der_c.specs.Text.{AppendsText, IsSeenAs, TellsText};
 
-use crate::error::DerError;
+mod cut;
+
+use crate::error::{DerError, told};
 use crate::tag::tag_of;
+use crate::text::cut::Text;
 use der_base::{Error, ErrorKind, Length};
 use std::fmt;
 use std::fmt::Write;
 
-// A text that is cut where the octets end.
-#[derive(Drop)]
-struct Text<'a> {
-    octets: &'a mut [u8],
-    count: usize,
-    ghost within: { count ≤ length octets.now },
-}
-
 impl fmt::Write for Text<'_> {
+    ghost write_str_gives = { AppendsText };
+
     fn write_str(&mut self, s: &str) -> fmt::Result {
         let bytes = s.as_bytes();
         let room = self.octets.len() - self.count;
-        let taken = if bytes.len() < room {
-            bytes.len()
-        } else {
-            room
-        };
+        let taken = bytes.len().min(room);
         let behind = self.count + taken;
         self.octets[self.count..behind].copy_from_slice(&bytes[..taken]);
         self.count = behind;
@@ -31,25 +26,68 @@ impl fmt::Write for Text<'_> {
     }
 }
 
-/// Writes what went wrong into the octets, as far as there is room, without a zero octet behind it, and
-/// tells how many octets were written.
+/// Writes what went wrong into the octets, as far as there is room, without a zero octet behind it,
+/// and tells how many octets were written.
 #[unsafe(no_mangle)]
 pub extern "C" fn der_error_text(error: DerError, text: &mut [u8]) -> usize
-    ensures { result ≤ length text.old }
+    ensures { TellsText error text.old result text.new }
 {
-    let room = text.len();
     let mut out = Text {
         octets: text,
         count: 0,
     };
-    let _ = match error_of(error) {
-        Some(error) => write!(out, "{error}"),
-        None => out.write_str("no error"),
-    };
-    out.count.min(room)
+    match seen_error(error) {
+        Some(known) => match write!(out, "{known}") {
+            Ok(()) => out.count,
+            Err(_) => 0,
+        },
+        None => match out.write_str("no error") {
+            Ok(()) => out.count,
+            Err(_) => 0,
+        },
+    }
 }
 
-// The error that C sees so, if there is one.
+// The error that C sees so, with the tag that was expected, or else without it.
+fn seen_error(code: DerError) -> Option<Error>
+    ensures { IfSome result (λ e. IsSeenAs e code) }
+{
+    match known_error(code) {
+        Some(error) => Some(error),
+        None => known_error(DerError {
+            expected: 0,
+            first: 0,
+            ..code
+        }),
+    }
+}
+
+// The error that C sees so, if there is one: what C sees of it says all that its text does.
+fn known_error(code: DerError) -> Option<Error>
+    ensures { IfSome result (λ e. error_code e ≡ code) }
+{
+    let error = error_of(code)?;
+    if is_same(told(error), code) {
+        Some(error)
+    } else {
+        None
+    }
+}
+
+// Whether two errors are one, as C sees them.
+fn is_same(a: DerError, b: DerError) -> bool
+    ensures { result ≡ true → a ≡ b }
+{
+    a.kind == b.kind
+        && a.has_position == b.has_position
+        && a.expected == b.expected
+        && a.actual == b.actual
+        && a.position == b.position
+        && a.first == b.first
+        && a.second == b.second
+}
+
+// An error with this kind, and with the tags and numbers that such a kind has.
 fn error_of(code: DerError) -> Option<Error> {
     let kind = kind_of(code)?;
     Some(if code.has_position {

@@ -1,10 +1,18 @@
 //! All elements of a part at once, in C.
-ghost use Rattle.std.specs.Prelude.{◌≤◌, length};
+ghost use Rattle.std.specs.Prelude.{◌≡◌, ◌+◌, ◌^◌, ◌<◌, ◌≤◌, length};
+ghost use Rattle.der_c.specs.Reader.{reader_state};
+ghost use Rattle.der_c.specs.Tree.{TellsTree, node_of};
+
+mod around;
+mod walk;
 
 use crate::element::{DerElement, read_element};
 use crate::error::{DerError, told};
 use crate::reader::DerReader;
+use crate::tree::around::Around;
+use crate::tree::walk::{climb, look_into};
 use der_base::ErrorKind;
+use der_core::Reader;
 
 /// An element of a tree, by positions.
 #[repr(C)]
@@ -26,76 +34,66 @@ pub struct DerNode {
     pub indefinite: bool,
 }
 
-/// Reads elements and all that is inside constructed ones, each before what is inside it, and tells how
-/// many there were. They are read to 32 levels; what is deeper is not looked into.
+/// Reads elements and all that is inside constructed ones, each before what is inside it, and tells
+/// how many there were. They are read to 32 levels; what is deeper is not looked into.
 ///
-/// Refused as [`der_read_element`](crate::der_read_element), and by kind `Overlength` where there is no
-/// room for all. The reader has then failed.
+/// Refused as [`der_read_element`](crate::der_read_element), and by kind `Overlength` without a
+/// position where there is no room for all. The reader has then failed.
 #[unsafe(no_mangle)]
 pub extern "C" fn der_read_tree(
     reader: &mut DerReader<'_>,
     nodes: &mut [DerNode],
     count: &mut usize,
 ) -> DerError
-    ensures { count.new ≤ length nodes.old }
+    ensures { TellsTree (reader_state reader.old) nodes.old result count.new nodes.new
+        (reader_state reader.new) }
 {
-    let mut around = [(0u32, 0u32); 32];
-    let mut level = 0usize;
+    let mut walk = reader.fork();
+    let mut around = Around::NONE;
     let room = nodes.len();
     for i in 0..room {
-        // ends of parts; each turn of the inner loop leaves one
-        for _ in 0..32 {
-            if reader.position < reader.end as usize || level == 0 {
-                break;
-            }
-            level -= 1;
-            let (end, behind) = around[level];
-            if end as usize > reader.octets.len() || behind > end {
-                *count = i;
-                reader.failed = true;
-                return told(ErrorKind::Failed.to_error());
-            }
-            reader.position = behind as usize;
-            reader.end = end;
-        }
-        if reader.position == reader.end as usize {
+        climb(&mut walk, &mut around);
+        if walk.position == walk.end as usize {
+            *reader = walk;
             *count = i;
             return DerError::NONE;
         }
-        let mut element = DerElement {
-            contents: &[],
-            tag: 0,
-            start: 0,
-            contents_start: 0,
-            constructed: false,
-            indefinite: false,
-        };
-        let error = read_element(reader, &mut element);
+        let mut element = DerElement::NONE;
+        let error = read_element(&mut walk, &mut element);
         if error.kind != 0 {
+            walk.failed = true;
+            *reader = walk;
             *count = i;
             return error;
         }
-        let mark = if element.indefinite { 2 } else { 0 };
-        let behind = reader.position as u32;
-        let end = behind.saturating_sub(mark);
-        nodes[i] = DerNode {
-            tag: element.tag,
-            start: element.start,
-            contents_start: element.contents_start,
-            end,
-            depth: level as u8,
-            constructed: element.constructed,
-            indefinite: element.indefinite,
-        };
-        // the contents begin ahead of their end
-        if element.constructed && level < 32 && element.contents_start <= end {
-            around[level] = (reader.end, behind);
-            level += 1;
-            reader.position = element.contents_start as usize;
-            reader.end = end;
-        }
+        nodes[i] = node(around.level, &element);
+        look_into(&mut walk, &mut around, &element);
     }
+    climb(&mut walk, &mut around);
     *count = room;
-    reader.failed = true;
+    if walk.position == walk.end as usize {
+        *reader = walk;
+        return DerError::NONE;
+    }
+    walk.failed = true;
+    *reader = walk;
     told(ErrorKind::Overlength.to_error())
+}
+
+// The node of an element that stands inside so many others.
+#[inline(always)]
+fn node(level: usize, element: &DerElement<'_>) -> DerNode
+    requires shallow { level ≤ 32 }
+    requires lies { element.now.contents_start + length element.now.contents.now < 2 ^ 32 }
+    ensures { result ≡ node_of level element.now }
+{
+    DerNode {
+        tag: element.tag,
+        start: element.start,
+        contents_start: element.contents_start,
+        end: element.contents_start + element.contents.len() as u32,
+        depth: level as u8,
+        constructed: element.constructed,
+        indefinite: element.indefinite,
+    }
 }

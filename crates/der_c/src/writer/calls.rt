@@ -9,6 +9,7 @@ ghost use Rattle.der_c.specs.WriterCalls.{RefusesBy, WritesOctets, WritesHeader,
 use crate::error::{DerError, told};
 use crate::tag::tag_of_word;
 use crate::writer::DerWriter;
+use crate::writer::short::write_short;
 use der_base::{Error, ErrorKind, Length};
 use der_core::{Encode, Header, Writer};
 
@@ -47,8 +48,8 @@ pub extern "C" fn der_writer_finish(writer: &DerWriter<'_>) -> DerError
 
 /// Writes octets as they stand.
 ///
-/// Refused by `Failed`, `Overflow` and `Overlength`, as by `Writer::write`; nothing is written, and the
-/// writer has failed.
+/// Refused by `Failed`, `Overflow` and `Overlength`, as by `Writer::write`; nothing is written, and
+/// the writer has failed.
 #[unsafe(no_mangle)]
 pub extern "C" fn der_write(writer: &mut DerWriter<'_>, octets: &[u8]) -> DerError
     ensures { WritesOctets octets.now (writer_state writer.old) result (writer_state writer.new) }
@@ -58,10 +59,21 @@ pub extern "C" fn der_write(writer: &mut DerWriter<'_>, octets: &[u8]) -> DerErr
 
 /// Writes the header of a tag and of so many octets of contents.
 ///
-/// Refused by `TagNumberInvalid` without a position, where the word is no tag's, and as [`der_write`];
-/// octets of the header that were written stand, and the writer has failed.
+/// Refused by `TagNumberInvalid` without a position, where the word is no tag's, and as
+/// [`der_write`]; octets of the header that were written stand, and the writer has failed.
 #[unsafe(no_mangle)]
 pub extern "C" fn der_write_header(writer: &mut DerWriter<'_>, tag: u64, length: u32) -> DerError
+    ensures { WritesHeader tag length (writer_state writer.old) result (writer_state writer.new) }
+{
+    if write_short(writer, tag, length as usize) {
+        return DerError::NONE;
+    }
+    header_slowly(writer, tag, length)
+}
+
+// The same of any tag and length.
+#[inline(never)]
+fn header_slowly(writer: &mut DerWriter<'_>, tag: u64, length: u32) -> DerError
     ensures { WritesHeader tag length (writer_state writer.old) result (writer_state writer.new) }
 {
     let Some(tag) = tag_of_word(tag) else {
@@ -73,14 +85,26 @@ pub extern "C" fn der_write_header(writer: &mut DerWriter<'_>, tag: u64, length:
 
 /// Writes an element: the header of a tag, and the contents.
 ///
-/// Refused by `Overflow` without a position, where there are more than 4294967295 octets of contents,
-/// and as [`der_write_header`] and [`der_write`].
+/// Refused by `Overflow` without a position, where there are more than 4294967295 octets of
+/// contents, and as [`der_write_header`] and [`der_write`].
 #[unsafe(no_mangle)]
 pub extern "C" fn der_write_element(
     writer: &mut DerWriter<'_>,
     tag: u64,
     contents: &[u8],
 ) -> DerError
+    ensures { WritesElement tag contents.now (writer_state writer.old) result
+        (writer_state writer.new) }
+{
+    if write_short(writer, tag, contents.len()) {
+        return code(writer.write(contents));
+    }
+    element_slowly(writer, tag, contents)
+}
+
+// The same of any tag and length.
+#[inline(never)]
+fn element_slowly(writer: &mut DerWriter<'_>, tag: u64, contents: &[u8]) -> DerError
     ensures { WritesElement tag contents.now (writer_state writer.old) result
         (writer_state writer.new) }
 {
@@ -131,7 +155,7 @@ fn code(answer: Result<(), Error>) -> DerError
 // Refused by a kind without a position; the writer has failed.
 #[cold]
 #[inline(never)]
-fn refuse(writer: &mut DerWriter<'_>, kind: ErrorKind) -> DerError
+pub(crate) fn refuse(writer: &mut DerWriter<'_>, kind: ErrorKind) -> DerError
     ensures { RefusesBy kind (writer_state writer.old) result (writer_state writer.new) }
 {
     writer.failed = true;

@@ -1,20 +1,14 @@
-use Rattle.std.proofs.Common.{Err, length, refl, ap, arith}
-use Rattle.der_base.specs.Length.{number}
+use Rattle.std.proofs.Common.{length, refl}
 use Rattle.der_c.specs.Writer.{writer_state}
 use Rattle.der_c.specs.WriterCalls.{of_tag}
-use Rattle.der_c.proofs.WriterCallLemmas.{element_written, element_refused, same_header_written}
+use Rattle.der_c.proofs.WriterCallLemmas.{element_written}
 use Rattle.der_c.proofs.writer.calls.der_write_element.Goals as goal
 
-pub returns-in-Ok : goal.returns-in-Ok
-returns-in-Ok c =
-    of_tag c.in-Some.tag c.write.result c.in-Some.ensures.is (omega arith)
-    (element_written c.in-Some.tag (length c.args.contents.now) c.args.contents.now (writer_state c.args.writer.now)
-    (same_header_written (writer_state c.args.writer.now) c.new-header.ensures (ap number c.new.ensures) (c.in-Ok.ensures.exact refl)) (c.write.ensures.exact refl))
-    c.code.ensures
+pub returns-then-write_short : goal.returns-then-write_short
+returns-then-write_short c =
+    let w = c.write_short.ensures.written c.if-write_short.true in
+    of_tag w.tag c.write.result w.is w.few
+    (element_written w.tag (length c.args.contents.now) c.args.contents.now (writer_state c.args.writer.now) w.writes (c.write.ensures.exact refl)) c.code.ensures
 
-pub returns-in-Err : goal.returns-in-Err
-returns-in-Err c =
-    of_tag c.in-Some.tag (Err c.in-Err.error) c.in-Some.ensures.is (omega arith)
-    (element_refused c.in-Some.tag (length c.args.contents.now) c.args.contents.now (writer_state c.args.writer.now)
-    (same_header_written (writer_state c.args.writer.now) c.new-header.ensures (ap number c.new.ensures) (c.in-Err.ensures.exact refl)))
-    c.told.ensures
+pub returns : goal.returns
+returns c = rw (c.write_short.ensures.left c.if-write_short.false) at c.element_slowly.ensures

@@ -1,11 +1,11 @@
-use Rattle.std.proofs.Common.{refl, ap}
-use Rattle.der_base.specs.Length.{number}
-use Rattle.der_c.specs.Writer.{writer_state}
+use Rattle.std.proofs.Common.{Ok, refl}
 use Rattle.der_c.specs.WriterCalls.{of_tag}
-use Rattle.der_c.proofs.WriterCallLemmas.{same_header_written}
 use Rattle.der_c.proofs.writer.calls.der_write_header.Goals as goal
 
+pub returns-then-write_short : goal.returns-then-write_short
+returns-then-write_short c =
+    let w = c.write_short.ensures.written c.if-write_short.true in
+    of_tag w.tag (Ok tt) w.is w.writes refl
+
 pub returns : goal.returns
-returns c =
-    of_tag c.in-Some.tag c.encode.result c.in-Some.ensures.is
-    (same_header_written (writer_state c.args.writer.now) c.new-header.ensures (ap number c.new.ensures) (c.encode.ensures.exact refl)) c.code.ensures
+returns c = rw (c.write_short.ensures.left c.if-write_short.false) at c.header_slowly.ensures

@@ -1,0 +1,96 @@
+-- What an element that is read without a refusal says.
+use Rattle.std.proofs.Common.{◌≡◌, ◌≢◌, ℕ, ◌+◌, ◌≤◌, Option, Some, None, Ok, List, length, take, refl, sym, ap, ◌∙◌, arith, length-take}
+use Rattle.der_base.specs.Error.{kind_of, position_of}
+use Rattle.der_base.specs.Length.{number}
+use Rattle.der_base.specs.Arithmetic.{sans_eoc}
+use Rattle.der_base.specs.declared.length.Length.{Length}
+use Rattle.der_base.specs.declared.error.Error.{Error}
+use Rattle.der_base.specs.declared.error.ErrorKind.{ErrorKind}
+use Rattle.der_base.specs.declared.error.ErrorKind.TheVariants as kind
+use Rattle.std.proofs.Common.{rules}
+use Rattle.std.proofs.lemmas.Bool.Decides.{nat_tests}
+use Rattle.der_base.specs.HeaderGrammar.{Head}
+use Rattle.der_core.specs.ReaderState.{ReaderState, rest_of, advanced_state}
+use Rattle.der_core.specs.Outcome.{Gives}
+use Rattle.der_core.specs.Reader.{read_slice_outcome}
+use Rattle.der_c.specs.Around.{Moved}
+use Rattle.der_c.specs.Error.{no_error, error_code, kind_code, placed_code}
+use Rattle.der_c.specs.Element.{ReadsElement, no_header, behind, ReadsContents, there, missing}
+use Rattle.der_c.specs.declared.error.DerError.{DerError}
+use Rattle.der_c.specs.declared.element.DerElement.{DerElement}
+
+-- no kind has the number of none
+kind_some : (k : ErrorKind) → (kind_code k).kind ≢ 0
+kind_some kind.DateTime e = omega (arith, e)
+kind_some kind.EncodingRules e = omega (arith, e)
+kind_some kind.Failed e = omega (arith, e)
+kind_some (kind.Incomplete expected actual) e = omega (arith, e)
+kind_some kind.IndefiniteLength e = omega (arith, e)
+kind_some (kind.Length t) e = omega (arith, e)
+kind_some kind.NestingDepth e = omega (arith, e)
+kind_some (kind.Noncanonical t) e = omega (arith, e)
+kind_some kind.OidMalformed e = omega (arith, e)
+kind_some kind.SetDuplicate e = omega (arith, e)
+kind_some kind.SetOrdering e = omega (arith, e)
+kind_some kind.Overflow e = omega (arith, e)
+kind_some kind.Overlength e = omega (arith, e)
+kind_some kind.Reader e = omega (arith, e)
+kind_some kind.TagModeUnknown e = omega (arith, e)
+kind_some kind.TagNumberInvalid e = omega (arith, e)
+kind_some (kind.TagUnexpected None actual) e = omega (arith, e)
+kind_some (kind.TagUnexpected (Some expected) actual) e = omega (arith, e)
+kind_some (kind.TagUnknown octet) e = omega (arith, e)
+kind_some (kind.TrailingData decoded remaining) e = omega (arith, e)
+kind_some (kind.Utf8 error) e = omega (arith, e)
+kind_some (kind.Value t) e = omega (arith, e)
+kind_some kind.OutOfMemory e = omega (arith, e)
+
+placed_kind : (p : Option Length) (c : DerError) → (placed_code p c).kind ≡ c.kind
+placed_kind None c = refl
+placed_kind (Some p) c = refl
+
+pub code_some : (e : Error) → (error_code e).kind ≢ 0
+code_some e h = kind_some (kind_of e) (sym (placed_kind (position_of e) (kind_code (kind_of e))) ∙ h)
+
+refused_some : {r : DerError} {A : Type 0} (e : Error) → r ≡ error_code e → r.kind ≡ 0 → A
+refused_some e told none = absurd (code_some e (sym (ap (λ (c : DerError). c.kind) told) ∙ none))
+
+contents_told : {h : Head} {from : ℕ} {s t : ReaderState} {r : DerError} {e : DerElement} → ReadsContents h from s r e t → r.kind ≡ 0 → r ≡ no_error
+contents_told (there octets given told element) none = told
+contents_told (missing error given told) none = refused_some error told none
+
+-- what is told without a kind is no error
+pub told_none : {s t : ReaderState} {r : DerError} {e : DerElement} → ReadsElement s r e t → r.kind ≡ 0 → r ≡ no_error
+told_none (no_header error refused told) none = refused_some error told none
+told_none (behind h u passed contents) none = contents_told contents none
+
+-- where an element that was read leaves the reader: behind its contents, and else as it was
+pub record IsBehind (s : ReaderState) (e : DerElement) (t : ReaderState) : Type 0 where
+  pub moved : Moved s t
+  pub end : t.end ≡ s.end
+  pub lies : e.contents_start + length e.contents.now ≤ t.position
+
+slice_given : (n : ℕ) (s t : ReaderState) (octets : List ℕ) → Gives (read_slice_outcome n) s (Ok octets) t → (t ≡ advanced_state s n) × (octets ≡ take n (rest_of s))
+slice_given n s t octets g =
+    let a = g.answered in
+    let l = g.leaves in
+    (grind (rules, nat_tests), grind (rules, nat_tests))
+
+contents_behind : (h : Head) (from : ℕ) (s u t : ReaderState) (e : DerElement) → Moved s u → u.end ≡ s.end → ReadsContents h from u no_error e t → IsBehind s e t
+contents_behind h from s u t e moved end (there octets given told element) =
+    let slice = slice_given (number h.length) u t octets given in
+    let n = number h.length in
+    let size : length e.contents.now ≤ n =
+    omega (arith, ap length element.contents, length-take (number (sans_eoc h.length)) octets, ap length slice.1, length-take n (rest_of u)) in
+    let at : t.position ≡ u.position + n = ap (λ (x : ReaderState). x.position) slice.0 in
+    record {
+      moved = slice.0 ∙ (let m = moved in let here = slice.0 in cc);
+      end = ap (λ (x : ReaderState). x.end) slice.0 ∙ end;
+      lies = omega (arith, size, at, element.contents_start);
+    }
+contents_behind h from s u t e moved end (missing error given told) = refused_some error told refl
+
+pub read_behind : {s t : ReaderState} {e : DerElement} → ReadsElement s no_error e t → IsBehind s e t
+read_behind (no_header error refused told) = refused_some error told refl
+read_behind {s} {t} {e} (behind h u passed contents) =
+    contents_behind _ _ s u t e (let l = passed.leaves in cc) (ap (λ (x : ReaderState). x.end) passed.leaves) contents

@@ -1,0 +1,39 @@
+-- What reading an element with a header of two octets tells.
+use Rattle.std.specs.Prelude.{◌≡◌, ℕ, false, List, take, Ok}
+use Rattle.der_base.specs.Length.{definite_length}
+use Rattle.der_base.specs.Tag.{is_constructed}
+use Rattle.der_core.specs.ReaderState.{ReaderState, advanced_state, nested_state}
+use Rattle.der_core.specs.Outcome.{Gives}
+use Rattle.der_core.specs.Reader.{read_slice_outcome}
+use Rattle.der_core.specs.Nested.{CanNest}
+use Rattle.der_core.specs.Decode.{Passes}
+use Rattle.der_core.specs.Header.{head_of, HeaderAhead}
+use Rattle.der_core.specs.declared.header.Header.{Header}
+use Rattle.der_c.specs.TagWord.{tag_word}
+use Rattle.der_c.specs.declared.element.DerElement.{DerElement}
+
+-- a header of two octets stood ahead, o and the number n of octets of contents, and is passed
+pub record PassesShort (o n : ℕ) (s u : ReaderState) : Type 0 where
+  pub header : Header
+  pub passed : Passes (HeaderAhead header) s u
+  pub word : tag_word (head_of header).tag ≡ o
+  pub length : (head_of header).length ≡ definite_length n
+  pub constructed : (head_of header).constructed ≡ is_constructed o
+
+-- the element of a header that began at a position is told, and its contents are passed
+pub record ReadsShort (o n from : ℕ) (s : ReaderState) (e : DerElement) (t : ReaderState)
+    : Type 0 where
+  pub octets : List ℕ
+  pub there : Gives (read_slice_outcome n) s (Ok octets) t
+  pub contents : e.contents.now ≡ take n octets
+  pub tag : e.tag ≡ o
+  pub start : e.start ≡ from
+  pub contents_start : e.contents_start ≡ s.position
+  pub constructed : e.constructed ≡ is_constructed o
+  pub indefinite : e.indefinite ≡ false
+
+-- n octets of contents are passed, and another reader is inside them
+pub record EntersShort (n : ℕ) (s inside t : ReaderState) : Type 0 where
+  pub fits : CanNest s n
+  pub entered : inside ≡ nested_state s n
+  pub passed : t ≡ advanced_state s n

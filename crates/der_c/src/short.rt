@@ -1,0 +1,113 @@
+//! Elements with a header of two octets, in which no error is made: what is refused here is read
+//! again.
+ghost use Rattle.std.specs.Prelude.{◌≡◌, true, false, IfSome};
+ghost use Rattle.der_core.specs.ReaderState.{Same};
+ghost use Rattle.der_core.specs.AfterFirstOctet.{AreAhead, IsAlone};
+ghost use Rattle.der_c.specs.Reader.{reader_state};
+ghost use Rattle.der_c.specs.Short.{PassesShort, ReadsShort, EntersShort};
+
+use crate::element::DerElement;
+use crate::reader::DerReader;
+use crate::tag::universal;
+use der_base::Length;
+use der_core::Reader;
+
+// The identifier and the length ahead, where each has one octet.
+#[inline(always)]
+fn short_header(reader: &DerReader<'_>) -> Option<(u8, u8)>
+    ensures { AreAhead (reader_state reader.now) result }
+{
+    let Ok(ahead) = reader.remaining() else {
+        return None;
+    };
+    if ahead.len() < 2 {
+        return None;
+    }
+    let (first, count) = (ahead[0], ahead[1]);
+    if count < 128 && is_identifier(first) {
+        Some((first, count))
+    } else {
+        None
+    }
+}
+
+// Whether this octet is an identifier by itself, under any rules.
+#[inline(always)]
+pub(crate) fn is_identifier(octet: u8) -> bool
+    ensures { result ≡ true → IsAlone octet }
+{
+    universal(octet).is_some() || octet >= 0x40 && octet % 32 < 31
+}
+
+// Passes the header ahead, where it has two octets, and tells them.
+#[inline(always)]
+pub(crate) fn pass_short(reader: &mut DerReader<'_>) -> Option<(u8, u8)>
+    ensures same { Same (reader_state reader.old) (reader_state reader.new) }
+    ensures passed { IfSome result (λ p. PassesShort p.0 p.1 (reader_state reader.old)
+        (reader_state reader.new)) }
+{
+    let (first, count) = short_header(reader)?;
+    if first % 32 < 31 && first != 36 {
+        if let Ok(_) = reader.read_slice(Length::new(2)) {
+            return Some((first, count));
+        }
+    }
+    None
+}
+
+// Reads so many octets of contents behind a short header that began at a position, if they are
+// there.
+#[inline(always)]
+pub(crate) fn read_short<'a>(
+    reader: &mut DerReader<'a>,
+    start: u32,
+    header: (u8, u8),
+    element: &mut DerElement<'a>,
+) -> bool
+    ensures same { Same (reader_state reader.old) (reader_state reader.new) }
+    ensures reads { result ≡ true → ReadsShort header.0 header.1 start (reader_state reader.old)
+        element.new (reader_state reader.new) }
+{
+    let (first, count) = header;
+    let contents_start = reader.position as u32;
+    let Ok(octets) = reader.read_slice(Length::new(count as u32)) else {
+        return false;
+    };
+    *element = DerElement {
+        contents: &octets[..count as usize],
+        tag: first as u64,
+        start,
+        contents_start,
+        constructed: first / 32 % 2 == 1,
+        indefinite: false,
+    };
+    true
+}
+
+// Passes so many octets of contents, and makes a reader of them, if they can be entered.
+#[inline(always)]
+pub(crate) fn enter_short<'a>(
+    reader: &mut DerReader<'a>,
+    count: u8,
+    inside: &mut DerReader<'a>,
+) -> bool
+    ensures same { Same (reader_state reader.old) (reader_state reader.new) }
+    ensures entered { result ≡ true → EntersShort count (reader_state reader.old)
+        (reader_state inside.new) (reader_state reader.new) }
+    ensures left { result ≡ false → inside.new ≡ inside.old }
+{
+    let Ok(outer) = reader.enter_nested(Length::new(count as u32)) else {
+        return false;
+    };
+    *inside = DerReader {
+        octets: reader.octets,
+        position: reader.position,
+        end: reader.end,
+        depth: reader.depth,
+        ber: reader.ber,
+        failed: reader.failed,
+    };
+    reader.position = reader.end as usize;
+    reader.leave_nested(outer);
+    true
+}

@@ -1,0 +1,63 @@
+//! A reader that goes into parts and out of them.
+ghost use Rattle.std.specs.Prelude.{◌≡◌, ◌+◌, ◌<◌, ◌≤◌, List, [], ◌∷◌, length};
+ghost use Rattle.der_core.specs.ReaderState.{ReaderState};
+ghost use Rattle.der_c.specs.Reader.{reader_state};
+ghost use Rattle.der_c.specs.Tree.{ReadsNext, node_of};
+ghost use Rattle.der_c.specs.Around.{AreAround, Tells};
+
+use crate::element::DerElement;
+use crate::reader::DerReader;
+use crate::tree::around::{Around, LEVELS};
+
+/// Leaves the parts at whose ends the reader stands.
+#[inline(always)]
+pub(crate) fn climb(reader: &mut DerReader<'_>, around: &mut Around)
+    requires parts { AreAround around.old (reader_state reader.old) }
+    ensures tells { Tells around.old (reader_state reader.old) [] around.new
+        (reader_state reader.new) }
+    ensures climbed { reader.new.position ≡ reader.new.end → around.new.level ≡ 0 }
+{
+    while around.level > 0 && reader.position == reader.end as usize {
+        leave(reader, around);
+    }
+}
+
+// Leaves a part.
+#[inline(always)]
+fn leave(reader: &mut DerReader<'_>, around: &mut Around)
+    requires inside { 0 < around.old.level }
+    requires at_end { reader.old.position ≡ reader.old.end }
+    requires parts { AreAround around.old (reader_state reader.old) }
+    ensures tells { Tells around.old (reader_state reader.old) [] around.new
+        (reader_state reader.new) }
+    ensures below { around.new.level + 1 ≡ around.old.level }
+{
+    let level = around.level - 1;
+    around.level = level;
+    reader.position = around.behind[level] as usize;
+    reader.end = around.ends[level];
+}
+
+/// Goes into an element that was read, if it is looked into.
+#[inline(always)]
+pub(crate) fn look_into(reader: &mut DerReader<'_>, around: &mut Around, element: &DerElement<'_>)
+    requires parts { AreAround around.old (reader_state reader.old) }
+    requires lies { element.now.contents_start + length element.now.contents.now
+        ≤ reader.old.position }
+    ensures tells { (s : ReaderState) → ReadsNext s element.now (reader_state reader.old)
+        → Tells around.old s (node_of around.old.level element.now ∷ []) around.new
+        (reader_state reader.new) }
+{
+    let level = around.level;
+    if !element.constructed {
+        return;
+    }
+    if level >= LEVELS {
+        return;
+    }
+    around.ends[level] = reader.end;
+    around.behind[level] = reader.position as u32;
+    around.level = level + 1;
+    reader.position = element.contents_start as usize;
+    reader.end = element.contents_start + element.contents.len() as u32;
+}

@@ -1,0 +1,109 @@
+//! Elements that are written by their begin and their end, in C.
+ghost use Rattle.std.specs.Prelude.{◌≡◌, ◌+◌, ◌^◌, ◌<◌, ◌≤◌, length};
+ghost use Rattle.der_c.specs.Writer.{writer_state};
+ghost use Rattle.der_c.specs.Part.{BeginsElement, EndsElement, IsMoved, put_state};
+
+use crate::error::{DerError, told};
+use crate::tag::tag_of_word;
+use crate::writer::calls::refuse;
+use crate::writer::short::write_short;
+use crate::writer::{DerWriter, refusal};
+use der_base::{ErrorKind, Length};
+use der_core::{Encode, Header};
+
+/// Begins an element with a tag: its header is written with an octet for the length, and where its
+/// contents begin is told. What is written then are its contents, until [`der_end`].
+///
+/// Refused as [`der_write_header`](crate::der_write_header); `start` is unchanged then.
+#[unsafe(no_mangle)]
+pub extern "C" fn der_begin(writer: &mut DerWriter<'_>, tag: u64, start: &mut usize) -> DerError
+    ensures { BeginsElement tag (writer_state writer.old) result start.old start.new
+        (writer_state writer.new) }
+{
+    if write_short(writer, tag, 0) {
+        *start = writer.position;
+        return DerError::NONE;
+    }
+    begin_slowly(writer, tag, start)
+}
+
+// The same of any tag.
+#[inline(never)]
+fn begin_slowly(writer: &mut DerWriter<'_>, tag: u64, start: &mut usize) -> DerError
+    ensures { BeginsElement tag (writer_state writer.old) result start.old start.new
+        (writer_state writer.new) }
+{
+    let Some(tag) = tag_of_word(tag) else {
+        return refuse(writer, ErrorKind::TagNumberInvalid);
+    };
+    let header = Header::new(tag, Length::ZERO);
+    match header.encode(writer) {
+        Ok(()) => {
+            *start = writer.position;
+            DerError::NONE
+        }
+        Err(error) => told(error),
+    }
+}
+
+/// Ends the element whose contents begin at `start`, as [`der_begin`] told. Their length takes the
+/// place of the octet ahead of them; contents of 128 octets or more are moved for it.
+///
+/// Refused by `Failed` at the position, where the writer had failed, by `Overlength` without a
+/// position, where nothing is written at `start`, and by `Overlength` and `Overflow` where there is
+/// no room for a longer length; nothing is moved, and the writer has failed.
+#[unsafe(no_mangle)]
+pub extern "C" fn der_end(writer: &mut DerWriter<'_>, start: usize) -> DerError
+    ensures { EndsElement start (writer_state writer.old) result (writer_state writer.new) }
+{
+    if writer.failed {
+        return told(refusal(true, writer.position as u32, 0));
+    }
+    if start == 0 || start > writer.position {
+        return refuse(writer, ErrorKind::Overlength);
+    }
+    let count = (writer.position - start) as u32;
+    let mut room = [0u8; 5];
+    let Ok(length) = Length::new(count).encode_to_slice(&mut room) else {
+        return refuse(writer, ErrorKind::Overlength);
+    };
+    let more = length.len() - 1;
+    let stop = writer.octets.len().min(u32::MAX as usize);
+    if more > stop - writer.position {
+        writer.failed = true;
+        return told(refusal(false, writer.position as u32, more));
+    }
+    put_length(writer, start, length);
+    DerError::NONE
+}
+
+// Puts a length in the place of the octet ahead of contents.
+#[inline(always)]
+fn put_length(writer: &mut DerWriter<'_>, start: usize, octets: &[u8])
+    requires begun { 1 ≤ start }
+    requires written { start ≤ writer.old.position }
+    requires some { 1 ≤ length octets.now }
+    requires room { writer.old.position + length octets.now ≤ length writer.old.octets.now + 1 }
+    requires countable { writer.old.position + length octets.now < 2 ^ 32 + 1 }
+    ensures { writer_state writer.new ≡ put_state start octets.now (writer_state writer.old) }
+{
+    let more = octets.len() - 1;
+    make_room(writer.octets, start, writer.position, more);
+    writer.octets[start - 1..start + more].copy_from_slice(octets);
+    writer.position += more;
+}
+
+// Moves contents, which end at a position, for so many octets more.
+#[inline(always)]
+fn make_room(octets: &mut [u8], start: usize, position: usize, more: usize)
+    requires begun { 1 ≤ start }
+    requires written { start ≤ position }
+    requires room { position + more ≤ length octets.old }
+    ensures len { length octets.new ≡ length octets.old }
+    ensures moved { IsMoved start position more octets.old octets.new }
+{
+    if more == 0 {
+        return;
+    }
+    octets.copy_within(start..position, start + more);
+}

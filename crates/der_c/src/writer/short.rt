@@ -1,0 +1,38 @@
+//! Headers of two octets, which are written at once.
+ghost use Rattle.std.specs.Prelude.{◌≡◌, true, false};
+ghost use Rattle.der_c.specs.Writer.{writer_state};
+ghost use Rattle.der_c.specs.WriterCalls.{WritesShort};
+
+use crate::short::is_identifier;
+use crate::writer::DerWriter;
+use der_core::Writer;
+
+/// Writes the header of a tag and of so many octets of contents, where it has two octets and there
+/// is room for them.
+#[inline(always)]
+pub(crate) fn write_short(writer: &mut DerWriter<'_>, tag: u64, length: usize) -> bool
+    ensures written { result ≡ true → WritesShort tag length (writer_state writer.old)
+        (writer_state writer.new) }
+    ensures left { result ≡ false → writer_state writer.new ≡ writer_state writer.old }
+{
+    if tag >= 256 {
+        return false;
+    }
+    if length >= 128 {
+        return false;
+    }
+    let first = tag as u8;
+    if first % 32 == 31 {
+        return false;
+    }
+    if !is_identifier(first) {
+        return false;
+    }
+    if !writer.has_room(2) {
+        return false;
+    }
+    match writer.write(&[first, length as u8]) {
+        Ok(()) => true,
+        Err(_) => false,
+    }
+}
