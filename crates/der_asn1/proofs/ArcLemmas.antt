@@ -1,11 +1,11 @@
 -- The arcs of an object identifier, as they are told.
-use Rattle.std.proofs.Common.{◌≡◌, ◌≢◌, ℕ, suc, ◌+◌, ◌-◌, ◌*◌, ◌%◌, ◌<◌, ◌≤◌, ◌==◌, ◌&&◌, Bool, true, false, Option, Some, None, List, [], ◌∷◌, ◌++◌, length, drop, map, refl, sym, ap, subst, ◌∙◌, nat_lt, if◌then◌else◌, slice_index_or, ⊎_elim, append_assoc, append-nil, add-one, arith}
+use Rattle.std.proofs.Common.{◌≡◌, ℕ, suc, ◌+◌, ◌-◌, ◌*◌, ◌%◌, ◌<◌, ◌≤◌, ◌==◌, ◌&&◌, Bool, true, false, Option, Some, List, [], ◌∷◌, ◌++◌, length, drop, map, refl, sym, ap, subst, ◌∙◌, nat_lt, if◌then◌else◌, slice_index_or, ⊎_elim, append_assoc, add-one, arith}
 use Rattle.std.proofs.Math.Seq.{drop-cons}
 use Rattle.std.proofs.lemmas.List.{drop_all, map-append}
 use Rattle.std.specs.Int.Digits.{digits_of, AllBelowBase}
 use Rattle.std.specs.List.{flat_map}
 use Rattle.der.proofs.DigitLemmas.{digits_positive, digits_of_push}
-use Rattle.std.proofs.lemmas.Bool.{cases_lt, cases_eq, lt-ltb, le-ltb, ne_eqb, eq-eqb, eqb-true, cond-true, cond-false, and_left, cases_Bool, and_from}
+use Rattle.std.proofs.lemmas.Bool.{cases_lt, lt-ltb, le-ltb, ne_eqb, eq-eqb, eqb-true, cond-true, cond-false, and_from}
 use Rattle.der.specs.Length.{digits}
 use Rattle.der.specs.Tag.{continuation_octets}
 use Rattle.der_asn1.specs.Forms.{ends_subidentifiers, oid_form}
@@ -95,23 +95,23 @@ told_again n [] below form = let none : n ≡ 0 = eqb-true n 0 form in rw none r
 told_again n (o ∷ os) below form =
     ⊎_elim
     (λ low.
-      let is : nat_lt o 128 ≡ true = lt-ltb o 128 low in
-      let more : ends_subidentifiers true os ≡ true = sym (ap (λ b. ends_subidentifiers b os) is) ∙ behind in
-      ap (flat_map subidentifier_octets) (cond-true (nat_lt o 128) ((n * 128 + o) ∷ subidentifiers 0 os) (subidentifiers (n * 128 + (o - 128)) os) is)
-      ∙ ap (λ l. l ++ flat_map subidentifier_octets (subidentifiers 0 os)) (last_digit n o low)
-      ∙ ap (λ l. (map (λ x. 128 + x) (digits_of 128 n) ++ o ∷ []) ++ l) (told_again 0 os below.1 more)
-      ∙ append_assoc (map (λ x. 128 + x) (digits_of 128 n)) (o ∷ []) os)
+    let is : nat_lt o 128 ≡ true = lt-ltb o 128 low in
+    let more : ends_subidentifiers true os ≡ true = sym (ap (λ b. ends_subidentifiers b os) is) ∙ behind in
+    ap (flat_map subidentifier_octets) (cond-true (nat_lt o 128) ((n * 128 + o) ∷ subidentifiers 0 os) (subidentifiers (n * 128 + (o - 128)) os) is)
+    ∙ ap (λ l. l ++ flat_map subidentifier_octets (subidentifiers 0 os)) (last_digit n o low)
+    ∙ ap (λ l. (map (λ x. 128 + x) (digits_of 128 n) ++ o ∷ []) ++ l) (told_again 0 os below.1 more)
+    ∙ append_assoc (map (λ x. 128 + x) (digits_of 128 n)) (o ∷ []) os)
     (λ high.
-      let is : nat_lt o 128 ≡ false = le-ltb o 128 high in
-      let digit : o - 128 < 128 = omega (arith, below.0) in
-      let pos : 0 < n * 128 + (o - 128) = positive high in
-      let more : ends_subidentifiers (n * 128 + (o - 128) == 0) os ≡ true = ap (λ b. ends_subidentifiers b os) (ne_eqb (n * 128 + (o - 128)) 0 (λ e. omega (arith, pos)) ∙ sym is) ∙ behind in
-      ap (flat_map subidentifier_octets) (cond-false (nat_lt o 128) ((n * 128 + o) ∷ subidentifiers 0 os) (subidentifiers (n * 128 + (o - 128)) os) is)
-      ∙ told_again (n * 128 + (o - 128)) os below.1 more
-      ∙ ap (λ ds. map (λ x. 128 + x) ds ++ os) (digits_of_push 128 n (o - 128) (omega arith) digit pos)
-      ∙ ap (λ l. l ++ os) (map-append (λ x. 128 + x) (digits_of 128 n) ((o - 128) ∷ []))
-      ∙ append_assoc (map (λ x. 128 + x) (digits_of 128 n)) ((128 + (o - 128)) ∷ []) os
-      ∙ ap (λ x. map (λ x. 128 + x) (digits_of 128 n) ++ x ∷ os) (let e : 128 + (o - 128) ≡ o = omega (arith, high) in e))
+    let is : nat_lt o 128 ≡ false = le-ltb o 128 high in
+    let digit : o - 128 < 128 = omega (arith, below.0) in
+    let pos : 0 < n * 128 + (o - 128) = positive high in
+    let more : ends_subidentifiers (n * 128 + (o - 128) == 0) os ≡ true = ap (λ b. ends_subidentifiers b os) (ne_eqb (n * 128 + (o - 128)) 0 (λ e. omega (arith, pos)) ∙ sym is) ∙ behind in
+    ap (flat_map subidentifier_octets) (cond-false (nat_lt o 128) ((n * 128 + o) ∷ subidentifiers 0 os) (subidentifiers (n * 128 + (o - 128)) os) is)
+    ∙ told_again (n * 128 + (o - 128)) os below.1 more
+    ∙ ap (λ ds. map (λ x. 128 + x) ds ++ os) (digits_of_push 128 n (o - 128) (omega arith) digit pos)
+    ∙ ap (λ l. l ++ os) (map-append (λ x. 128 + x) (digits_of 128 n) ((o - 128) ∷ []))
+    ∙ append_assoc (map (λ x. 128 + x) (digits_of 128 n)) ((128 + (o - 128)) ∷ []) os
+    ∙ ap (λ x. map (λ x. 128 + x) (digits_of 128 n) ++ x ∷ os) (let e : 128 + (o - 128) ≡ o = omega (arith, high) in e))
     (cases_lt o 128)
   where
     go : (b : Bool) → (if b then false else ends_subidentifiers (nat_lt o 128) os) ≡ true → (b ≡ false) × (ends_subidentifiers (nat_lt o 128) os ≡ true)
@@ -131,7 +131,7 @@ told_again n (o ∷ os) below form =
 first_two : (n : ℕ) → 40 * first_arc n + (n - 40 * first_arc n) ≡ n
 first_two n = ⊎_elim (λ l. let e : first_arc n ≡ 0 = cond-true (nat_lt n 40) 0 (if nat_lt n 80 then 1 else 2) (lt-ltb n 40 l) in omega (arith, e))
     (λ g. let e : first_arc n ≡ (if nat_lt n 80 then 1 else 2) = cond-false (nat_lt n 40) 0 (if nat_lt n 80 then 1 else 2) (le-ltb n 40 g) in
-      ⊎_elim (λ l. let f : first_arc n ≡ 1 = e ∙ cond-true (nat_lt n 80) 1 2 (lt-ltb n 80 l) in omega (arith, f, g)) (λ h. let f : first_arc n ≡ 2 = e ∙ cond-false (nat_lt n 80) 1 2 (le-ltb n 80 h) in omega (arith, f, h)) (cases_lt n 80))
+    ⊎_elim (λ l. let f : first_arc n ≡ 1 = e ∙ cond-true (nat_lt n 80) 1 2 (lt-ltb n 80 l) in omega (arith, f, g)) (λ h. let f : first_arc n ≡ 2 = e ∙ cond-false (nat_lt n 80) 1 2 (le-ltb n 80 h) in omega (arith, f, h)) (cases_lt n 80))
     (cases_lt n 40)
 
 -- and those of the arcs that they are

@@ -6,3 +6,4 @@ pub mod IntegerReadLemmas
 pub mod TimeLemmas
 pub mod SetOfLemmas
 pub mod ArcLemmas
+pub mod ListAnswerLemmas

@@ -1,11 +1,11 @@
 -- Elements in the order of their encodings, as they are read.
-use Rattle.std.proofs.Common.{◌≡◌, ℕ, ◌-◌, ◌+◌, List, [], ◌∷◌, ◌++◌, length, refl, sym, ap, subst, ◌∙◌, take, length-append, arith}
+use Rattle.std.proofs.Common.{◌≡◌, ℕ, ◌-◌, List, [], ◌∷◌, ◌++◌, length, refl, sym, ap, subst, ◌∙◌, take, length-append, arith}
 use Rattle.std.proofs.Math.Seq.{take-append_seam}
 use Rattle.der.specs.Prelude.{Tag, element_octets, IsBefore, ReaderState, rest_of, Reads, Der}
 use Rattle.der.specs.ReaderState.{initial_state}
 use Rattle.der.proofs.DelimitedLemmas.{element_front, elements_delimited}
 use Rattle.der.proofs.DecodeLemmas.{rest-beginning}
-use Rattle.der_asn1.specs.SequenceOf.{IsListOf, IsAtItem, AreElements, AllValid, joined_encodings}
+use Rattle.der_asn1.specs.SequenceOf.{IsAtItem, AllValid, joined_encodings}
 use Rattle.der_asn1.specs.SetOf.{Ascend, IsSetBehind, IsElement, AreAscending}
 use Rattle.der_asn1.proofs.SequenceOfLemmas.{still_at_item}
 use Rattle.der_asn1.proofs.OptionalReadLemmas.{rest_at_end}

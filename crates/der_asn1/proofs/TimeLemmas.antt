@@ -1,9 +1,9 @@
 -- Times, as they are read, and as they are written.
-use Rattle.std.proofs.Common.{◌≡◌, ℕ, zero, suc, Bool, true, false, ◌+◌, ◌*◌, ◌/◌, ◌%◌, ◌<◌, ◌≤◌, ◌==◌, ◌&&◌, List, [], ◌∷◌, length, refl, ap, sym, subst, ◌∙◌, nat_lt, nat_le, if◌then◌else◌, ◌||◌, inl, inr, ⊎_elim, arith}
+use Rattle.std.proofs.Common.{◌≡◌, ℕ, Bool, true, ◌+◌, ◌*◌, ◌/◌, ◌%◌, ◌<◌, ◌≤◌, ◌==◌, ◌&&◌, List, [], ◌∷◌, refl, ap, ◌∙◌, nat_le, if◌then◌else◌, ◌||◌, ⊎_elim, arith}
 use Rattle.std.proofs.lemmas.Bool.{and_parts, ltb-true, leb-true, eq-eqb, cond_both, cases_lt, lt-ltb, le-ltb}
 use Rattle.std.specs.Str.{bytes_eq}
 use Rattle.der_asn1.specs.declared.date_time.DateTime.{DateTime}
-use Rattle.der_asn1.specs.Times.{is_date_time, is_utc_time, is_leap_year, days_of, generalized_octets, utc_octets, generalized_reading, utc_reading, generalized_form, utc_form, utc_year, two_at, time_from}
+use Rattle.der_asn1.specs.Times.{is_date_time, is_utc_time, is_leap_year, days_of, generalized_octets, utc_octets, generalized_reading, utc_reading, generalized_form, utc_form, utc_year}
 
 same_number : (n : ℕ) → (n == n) ≡ true
 same_number n = eq-eqb n n refl

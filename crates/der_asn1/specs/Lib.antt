@@ -29,3 +29,4 @@ pub mod Times
 pub mod SetOf
 pub mod Arcs
 pub mod Alphabets
+pub mod ListAnswers

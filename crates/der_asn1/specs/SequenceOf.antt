@@ -1,9 +1,8 @@
 -- Elements of one type, one behind the other, as in a SEQUENCE OF (X.690 8.10).
 use Rattle.std.specs.Prelude.{◌≡◌, ℕ, ◌^◌, ◌<◌, false, List, [], ◌∷◌, ◌++◌, length}
-use Rattle.std.specs.Prelude.{Result, Ok, IfOk}
 use Rattle.std.proofs.Common.{arith, subst, sym}
-use Rattle.der.specs.Prelude.{Head, number, Tag, EncodingRules, Der, IsLawful, Gives}
-use Rattle.der.specs.Prelude.{read_slice_outcome, ReaderState, element_octets}
+use Rattle.der.specs.Prelude.{Head, Tag, EncodingRules, Der, IsLawful}
+use Rattle.der.specs.Prelude.{ReaderState, element_octets}
 use Rattle.der.specs.Lawful.{definite_head}
 use Rattle.der.specs.Tag.{label}
 
@@ -42,12 +41,6 @@ TakesList tag valid contents octets_of v rules h octets =
 abbrev pub IsList : {A B : Type 0} → Tag → (A → Type 0) → (A → List ℕ) → (B → List ℕ) → B → Type 0
 IsList tag valid contents octets_of v =
     ∥ AreElements tag valid contents (octets_of v) ∥₁ × (length (octets_of v) < 2 ^ 32)
-
--- what is answered is lent
-abbrev pub ListRead : {B E : Type 0} → (B → List ℕ) → Head → ReaderState → Result B E
-    → ReaderState → Type 0
-ListRead octets_of h s result t =
-    IfOk result (λ v. Gives (read_slice_outcome (number h.length)) s (Ok (octets_of v)) t)
 
 -- so the contents of such a value are elements
 pub list_holds : {A B : Type 0} (tag : Tag) (valid : A → Type 0) (contents : A → List ℕ)

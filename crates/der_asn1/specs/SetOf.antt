@@ -4,7 +4,7 @@ use Rattle.std.proofs.Common.{arith, subst, sym}
 use Rattle.der.specs.Prelude.{Head, Tag, EncodingRules, Der, IsLawful, element_octets, IsBefore}
 use Rattle.der.specs.Lawful.{definite_head}
 use Rattle.der.specs.Tag.{label}
-use Rattle.der_asn1.specs.SequenceOf.{IsListOf, AreElements}
+use Rattle.der_asn1.specs.SequenceOf.{IsListOf}
 
 -- no encoding comes before the octets that stand ahead of it
 abbrev pub Ascend : {A : Type 0} → (A → List ℕ) → List ℕ → List A → Type 0

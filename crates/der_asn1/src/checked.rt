@@ -1,5 +1,5 @@
 //! Types whose contents are octets of a form, lent by the input.
-ghost use Rattle.std.specs.Prelude.{◌≡◌, true, false, IfSome, IsSome, ◌↔◌};
+ghost use Rattle.std.specs.Prelude.{◌≡◌, true, false, IfSome, IsSome, ◌↔◌, ⊤};
 ghost use Rattle.std.proofs.Common.{arith, subst, sym};
 ghost use Rattle.der_asn1.specs.Checked.{HasForm, TakesForm, FormRead, form_size};
 ghost use Rattle.der_asn1.specs.Checked.{FormWritten, form_lawful};
@@ -10,16 +10,28 @@ use der::{
     DecodeValue, EncodeValue, Error, FixedTag, Header, Lawful, Length, ReadValue, Reader, Tag,
     Writer, WrittenValue,
 };
-use std::alloc::Global;
+use std::alloc::{AllocError, Global};
 use std::marker::PhantomData;
 
 /// Octets of a form, lent by the input.
-#[derive(Drop)]
 pub struct Checked<'a, F: Form> {
     octets: &'a [u8],
     form: PhantomData<F>,
     ghost checked: { F.form octets.now ≡ true },
 }
+
+/// The same octets; it takes no memory.
+impl<'a, F: Form> Clone for Checked<'a, F> {
+    ghost is_clone = { λ p q. q ≡ p };
+
+    ghost is_infallible = { λ _. ⊤ };
+
+    fn clone(&self) -> Result<Self, AllocError> {
+        Ok(*self)
+    }
+}
+
+impl<'a, F: Form> Copy for Checked<'a, F> {}
 
 impl<'a, F: Form> Checked<'a, F> {
     /// The octets, where they have the form.

@@ -41,13 +41,7 @@ fn days_in(year: u16, month: u8) -> u8
     ensures { result ≡ days_of year month }
 {
     match month {
-        2 => {
-            if is_leap(year) {
-                29
-            } else {
-                28
-            }
-        }
+        2 => { if is_leap(year) { 29 } else { 28 } }
         4 | 6 | 9 | 11 => 30,
         _ => 31,
     }

@@ -1,18 +1,21 @@
 //! SEQUENCE OF, lent by the input: checked once, and then walked without a failure.
-ghost use Rattle.std.specs.Prelude.{◌≡◌, ◌^◌, ◌<◌, false, [], None, length, IfOk, OnOk, IfSome};
+ghost use Rattle.std.specs.Prelude.{◌≡◌, ◌^◌, ◌<◌, false, [], None, length, IfOk, OnOk, IfSome, ⊤};
 ghost use Rattle.std.proofs.Common.{arith};
 ghost use Rattle.der.specs.Prelude.{Sequence, element_octets, rest_of, Reads, slice_state};
 ghost use Rattle.der.specs.Decode.{SucceedsOrLacks};
 ghost use Rattle.der_asn1.specs.Checked.{form_size, FormWritten};
-ghost use Rattle.der_asn1.specs.SequenceOf.{AreElements, IsAtItem, TakesList, IsList, ListRead};
+ghost use Rattle.der_asn1.specs.SequenceOf.{AreElements, IsAtItem, TakesList, IsList};
 ghost use Rattle.der_asn1.specs.SequenceOf.{list_lawful, list_holds};
+ghost use Rattle.der_asn1.specs.ListAnswers.{ItemAnswer, ListWalked, ListRead};
+ghost use Rattle.der.specs.Prelude.{map_ok};
+ghost use Rattle.der.specs.Element.{ElementRead};
 
 use crate::explicit::Nestable;
 use der::{
     DecodeValue, EncodeValue, Error, ErrorKind, FixedTag, Header, Lawful, Length, ReadValue,
     Reader, ReaderExt, SliceReader, Tag, Writer, WrittenValue, decode_tlv,
 };
-use std::alloc::Global;
+use std::alloc::{AllocError, Global};
 use std::marker::PhantomData;
 
 // The element ahead.
@@ -31,6 +34,9 @@ pub(crate) fn next_item<'a, T: Lawful + DecodeValue<SliceReader<'a>>>(
         → (rest_of (slice_state reader.old) ≡ [] → ⊥)
         → IfOk result (λ _. AreElements T.tag_is T.valid T.contents
         (rest_of (slice_state reader.new))) }
+    ensures exact { ItemAnswer T.Error.from_gives
+        (ElementRead T.tag_is T.Error.from_gives T.decode_value_answers) (slice_state reader.old)
+        result (slice_state reader.new) }
 {
     let value = decode_tlv::<SliceReader<'a>, T>(alloc, reader)?;
     if reader.is_failed() {
@@ -49,6 +55,8 @@ fn check_items<'a, T: Lawful + DecodeValue<SliceReader<'a>>>(
     ensures complete { length octets.now < 2 ^ 32
         → AreElements T.tag_is T.valid T.contents octets.now
         → SucceedsOrLacks T.Error.out_of_memory T.allocates result }
+    ensures exact { length octets.now < 2 ^ 32 → ListWalked T.Error.from_gives
+        (ElementRead T.tag_is T.Error.from_gives T.decode_value_answers) result octets.now }
 {
     let mut reader = SliceReader::new(octets)?;
     'items: while !reader.is_finished() {
@@ -59,13 +67,25 @@ fn check_items<'a, T: Lawful + DecodeValue<SliceReader<'a>>>(
 
 /// A SEQUENCE OF, lent by the input: its contents are the encodings of values of the type, one
 /// behind the other, which was seen once.
-#[derive(Drop)]
 pub struct SequenceOf<'a, T: Lawful> {
     octets: &'a [u8],
     of: PhantomData<T>,
     ghost short: { length octets.now < 2 ^ 32 },
     ghost checked: { ∥ AreElements T.tag_is T.valid T.contents octets.now ∥₁ },
 }
+
+/// The same elements; it takes no memory.
+impl<'a, T: Lawful> Clone for SequenceOf<'a, T> {
+    ghost is_clone = { λ p q. q ≡ p };
+
+    ghost is_infallible = { λ _. ⊤ };
+
+    fn clone(&self) -> Result<Self, AllocError> {
+        Ok(*self)
+    }
+}
+
+impl<'a, T: Lawful> Copy for SequenceOf<'a, T> {}
 
 impl<'a, T: Lawful> FixedTag for SequenceOf<'a, T> {
     ghost tag_is = { Sequence };
@@ -101,7 +121,8 @@ impl<'a, T: Lawful + DecodeValue<SliceReader<'a>>, R: Reader<Lent = &'a [u8]>> D
     for SequenceOf<'a, T> {
     type Error = <T as DecodeValue<SliceReader<'a>>>::Error;
 
-    ghost decode_value_answers = { ListRead (λ v. v.octets.now) };
+    ghost decode_value_answers = { ListRead T.Error.from_gives (ListWalked T.Error.from_gives
+        (ElementRead T.tag_is T.Error.from_gives T.decode_value_answers)) (λ v. v.octets.now) };
 
     fn decode_value(
         alloc: Global,
@@ -181,6 +202,9 @@ impl<'a, T: Lawful + DecodeValue<SliceReader<'a>>> SequenceOf<'a, T> {
         ensures complete { length octets.now < 2 ^ 32
             → AreElements T.tag_is T.valid T.contents octets.now
             → SucceedsOrLacks T.Error.out_of_memory T.allocates result }
+        ensures exact { length octets.now < 2 ^ 32 → ListWalked T.Error.from_gives
+            (ElementRead T.tag_is T.Error.from_gives T.decode_value_answers)
+            (map_ok (λ _. tt) result) octets.now }
     {
         check_items::<T>(alloc, octets)?;
         Ok(SequenceOf {

@@ -1,12 +1,15 @@
 //! SET OF, lent by the input: checked once, its order too, and then walked without a failure.
-ghost use Rattle.std.specs.Prelude.{◌≡◌, ◌^◌, ◌<◌, ◌↔◌, false, true, [], length, IfOk, OnOk};
+ghost use Rattle.std.specs.Prelude.{◌≡◌, ◌^◌, ◌<◌, ◌↔◌, false, true, [], length, IfOk, OnOk, ⊤};
 ghost use Rattle.std.proofs.Common.{arith};
 ghost use Rattle.der.specs.Prelude.{Set as SetTag, rest_of, Reads, slice_state, IsBefore};
 ghost use Rattle.der.specs.Decode.{SucceedsOrLacks};
 ghost use Rattle.der_asn1.specs.Checked.{form_size, FormWritten};
-ghost use Rattle.der_asn1.specs.SequenceOf.{AreElements, IsAtItem, ListRead};
+ghost use Rattle.der_asn1.specs.SequenceOf.{AreElements, IsAtItem};
 ghost use Rattle.der_asn1.specs.SetOf.{AreAscending, IsElement, TakesSet, IsSet, set_lawful};
 ghost use Rattle.der_asn1.specs.SetOf.{set_holds};
+ghost use Rattle.der_asn1.specs.ListAnswers.{NextAnswer, SetWalked, ListRead};
+ghost use Rattle.der.specs.Prelude.{map_ok};
+ghost use Rattle.der.specs.Element.{ElementRead};
 
 use crate::explicit::Nestable;
 use crate::sequence_of::{Items, SequenceOf, next_item};
@@ -14,7 +17,7 @@ use der::{
     DecodeValue, EncodeValue, Error, ErrorKind, FixedTag, Header, Lawful, Length, ReadValue,
     Reader, ReaderExt, SliceReader, Tag, Writer, WrittenValue,
 };
-use std::alloc::Global;
+use std::alloc::{AllocError, Global};
 use std::cmp::Ordering;
 
 // What is left to the reader.
@@ -49,6 +52,9 @@ fn next_element<'a, T: Lawful + DecodeValue<SliceReader<'a>>>(
     ensures complete { AreElements T.tag_is T.valid T.contents (rest_of (slice_state reader.old))
         → (rest_of (slice_state reader.old) ≡ [] → ⊥)
         → SucceedsOrLacks T.Error.out_of_memory T.allocates result }
+    ensures exact { NextAnswer T.Error.from_gives
+        (ElementRead T.tag_is T.Error.from_gives T.decode_value_answers) (slice_state reader.old)
+        result (slice_state reader.new) }
 {
     let ahead = octets_left(reader);
     let _item = next_item::<T>(alloc, reader)?;
@@ -66,6 +72,8 @@ fn check_set<'a, T: Lawful + DecodeValue<SliceReader<'a>>>(
     ensures complete { length octets.now < 2 ^ 32
         → AreAscending T.tag_is T.valid T.contents octets.now
         → SucceedsOrLacks T.Error.out_of_memory T.allocates result }
+    ensures exact { length octets.now < 2 ^ 32 → SetWalked T.Error.from_gives
+        (ElementRead T.tag_is T.Error.from_gives T.decode_value_answers) result octets.now }
 {
     let mut reader = SliceReader::new(octets)?;
     let mut ahead: &'a [u8] = &[];
@@ -82,12 +90,24 @@ fn check_set<'a, T: Lawful + DecodeValue<SliceReader<'a>>>(
 
 /// A SET OF, lent by the input: its contents are the encodings of values of the type, one behind
 /// the other, in the order of the encodings, which was seen once.
-#[derive(Drop)]
 pub struct SetOf<'a, T: Lawful> {
     elements: SequenceOf<'a, T>,
     ghost short: { length elements.octets.now < 2 ^ 32 },
     ghost ascending: { ∥ AreAscending T.tag_is T.valid T.contents elements.octets.now ∥₁ },
 }
+
+/// The same elements; it takes no memory.
+impl<'a, T: Lawful> Clone for SetOf<'a, T> {
+    ghost is_clone = { λ p q. q ≡ p };
+
+    ghost is_infallible = { λ _. ⊤ };
+
+    fn clone(&self) -> Result<Self, AllocError> {
+        Ok(*self)
+    }
+}
+
+impl<'a, T: Lawful> Copy for SetOf<'a, T> {}
 
 impl<'a, T: Lawful> FixedTag for SetOf<'a, T> {
     ghost tag_is = { SetTag };
@@ -126,7 +146,9 @@ impl<'a, T: Lawful + DecodeValue<SliceReader<'a>>, R: Reader<Lent = &'a [u8]>> D
     for SetOf<'a, T> {
     type Error = <T as DecodeValue<SliceReader<'a>>>::Error;
 
-    ghost decode_value_answers = { ListRead (λ v. v.elements.octets.now) };
+    ghost decode_value_answers = { ListRead T.Error.from_gives (SetWalked T.Error.from_gives
+        (ElementRead T.tag_is T.Error.from_gives T.decode_value_answers))
+        (λ v. v.elements.octets.now) };
 
     fn decode_value(
         alloc: Global,
@@ -197,6 +219,9 @@ impl<'a, T: Lawful + DecodeValue<SliceReader<'a>>> SetOf<'a, T> {
         ensures complete { length octets.now < 2 ^ 32
             → AreAscending T.tag_is T.valid T.contents octets.now
             → SucceedsOrLacks T.Error.out_of_memory T.allocates result }
+        ensures exact { length octets.now < 2 ^ 32 → SetWalked T.Error.from_gives
+            (ElementRead T.tag_is T.Error.from_gives T.decode_value_answers)
+            (map_ok (λ _. tt) result) octets.now }
     {
         check_set::<T>(alloc, octets)?;
         Ok(SetOf {

@@ -1,7 +1,8 @@
-use Rattle.std.proofs.Common.{refl, sym, ◌∙◌}
+use Rattle.std.proofs.Common.{refl, sym, subst, ◌∙◌}
 use Rattle.std.proofs.lemmas.Result.{err_from_is_err_and}
 use Rattle.der.specs.SliceReader.{slice_state}
 use Rattle.der_asn1.proofs.SequenceOfLemmas.{slice_sound, item_passed, item_lacks, item_working, item_keeps}
+use Rattle.der_asn1.specs.ListAnswers.{ItemAnswer}
 use Rattle.der_asn1.proofs.sequence_of.next_item.Goals as goal
 
 pub returns-in_err-value-clause-complete : goal.returns-in_err-value-clause-complete
@@ -20,3 +21,16 @@ returns-clause-ok g c = item_passed g.met.T.Lawful.lawful (slice_state c.args.re
 pub returns-clause-keeps : goal.returns-clause-keeps
 returns-clause-keeps g c l some =
     item_keeps g.met.T.Lawful.lawful (slice_state c.args.reader.now) (slice_sound c.args.reader.now) c.requires l some g.T.Error.DecodeError.out_of_memory g.T.ReadValue.allocates (slice_state c.decode_tlv.new.reader) c.in_ok-value.value (λ v m. c.in_ok-value.ensures.complete v m refl)
+
+pub returns-in_err-value-clause-exact : goal.returns-in_err-value-clause-exact
+returns-in_err-value-clause-exact g c =
+    let p = err_from_is_err_and c.from_residual.result c.from_residual.ensures.1 in
+    rw (p.1, p.2) (ItemAnswer.item_refused c.in_err-value.field-0.0 (c.in_err-value.ensures.exact refl) refl)
+
+pub returns-then-is_failed-clause-exact : goal.returns-then-is_failed-clause-exact
+returns-then-is_failed-clause-exact g c =
+    ItemAnswer.item_failed c.in_ok-value.value (slice_state c.decode_tlv.new.reader) c.into.result (c.in_ok-value.ensures.exact refl) (sym c.is_failed.ensures ∙ c.if-is_failed.true)
+    (subst (λ e. g.T.Error.From.from_gives e c.into.result) c.error.ensures.at_position c.into.ensures) refl
+
+pub returns-clause-exact : goal.returns-clause-exact
+returns-clause-exact g c = ItemAnswer.item_read c.in_ok-value.value (c.in_ok-value.ensures.exact refl) (sym c.is_failed.ensures ∙ c.if-is_failed.false) refl
