@@ -1,0 +1,110 @@
+//! Certificate of RFC 5280, 4.1.
+ghost use Rattle.std.specs.Prelude.{◌≡◌, false};
+ghost use Rattle.std.proofs.Common.{refl};
+ghost use Rattle.der.specs.Prelude.{Sequence, map_ok};
+ghost use Rattle.der_asn1.specs.Meaning.{alternative, field, sequence, two_fields};
+
+use crate::tbs_certificate::TbsCertificate;
+use der::{
+    Decode, DecodeValue, Encode, EncodeRef, EncodeValue, Error, FixedTag, Header, Lawful, Length,
+    ReadValue, Reader, SliceReader, Tag, Writer, WrittenValue, decode_contents,
+};
+use der_asn1::{BitStringRef, Described};
+use spki::AlgorithmIdentifierRef;
+use std::alloc::Global;
+
+/// A certificate, lent by the input.
+#[derive(Drop)]
+pub struct Certificate<'a> {
+    /// What the certificate says.
+    pub tbs_certificate: TbsCertificate<'a>,
+    /// The algorithm of the signature.
+    pub signature_algorithm: AlgorithmIdentifierRef<'a>,
+    /// The signature.
+    pub signature: BitStringRef<'a>,
+}
+
+/// Its fields, one behind the other.
+pub type CertificateFields<'a> = (TbsCertificate<'a>, (AlgorithmIdentifierRef<'a>, BitStringRef<'a>));
+
+impl<'a> Described for Certificate<'a> {
+    ghost element = { sequence (two_fields (field (alternative ⟦<TbsCertificate<'a> as Described>⟧.element))
+        (two_fields (field (alternative ⟦<AlgorithmIdentifierRef<'a> as Described>⟧.element))
+        (field (alternative ⟦<BitStringRef<'a> as Described>⟧.element))))
+        (λ v. (v.tbs_certificate, (v.signature_algorithm, v.signature))) };
+}
+
+impl<'a> FixedTag for Certificate<'a> {
+    ghost tag_is = { Sequence };
+
+    const TAG: Tag = Tag::Sequence;
+
+    fn fixed_tag() -> Tag
+        ensures { result ≡ Sequence }
+    {
+        Tag::Sequence
+    }
+}
+
+impl<'a> ReadValue for Certificate<'a> {
+    ghost valid = { ⟦<Certificate<'a> as Described>⟧.element.valid };
+
+    ghost takes = { ⟦<Certificate<'a> as Described>⟧.element.takes };
+
+    ghost value_levels = { ⟦<Certificate<'a> as Described>⟧.element.levels };
+
+    ghost allocates = { false };
+
+    ghost takes_valid = { ⟦<Certificate<'a> as Described>⟧.element.holds refl };
+}
+
+/// # Errors
+///
+/// Those of the fields, one behind the other.
+impl<'a, R: Reader<Lent = &'a [u8]>> DecodeValue<R> for Certificate<'a> {
+    type Error = Error;
+
+    ghost decode_value_answers = { λ h s result t.
+        ⟦<CertificateFields<'a> as Decode<SliceReader<'a>>>⟧.decode_answers s
+        (map_ok (λ v. (v.tbs_certificate, (v.signature_algorithm, v.signature))) result) t };
+
+    fn decode_value(alloc: Global, reader: &mut R, header: Header) -> Result<Self, Error> {
+        let fields = decode_contents::<R, CertificateFields<'a>>(alloc, reader, header)?;
+        let (tbs_certificate, (signature_algorithm, signature)) = fields;
+        Ok(Certificate { tbs_certificate, signature_algorithm, signature })
+    }
+
+    fn is_value(&self) {
+        <TbsCertificate<'a> as DecodeValue<R>>::is_value(&self.tbs_certificate);
+        <AlgorithmIdentifierRef<'a> as DecodeValue<R>>::is_value(&self.signature_algorithm);
+        <BitStringRef<'a> as DecodeValue<R>>::is_value(&self.signature);
+    }
+}
+
+impl<'a> WrittenValue for Certificate<'a> {
+    ghost contents = { ⟦<Certificate<'a> as Described>⟧.element.contents };
+
+    ghost writable = { ⟦<Certificate<'a> as Described>⟧.element.valid };
+}
+
+/// # Errors
+///
+/// Those of the fields, one behind the other, and `Overflow` without a position.
+impl<'a> EncodeValue for Certificate<'a> {
+    ghost value_size = { λ v. ⟦<CertificateFields<'a> as Encode>⟧.size (v.tbs_certificate, (v.signature_algorithm, v.signature)) };
+
+    ghost encode_value_answers = { λ v. ⟦<CertificateFields<'a> as Encode>⟧.encode_answers
+        (v.tbs_certificate, (v.signature_algorithm, v.signature)) };
+
+    fn value_len(&self) -> Result<Length, Error> {
+        (EncodeRef(&self.tbs_certificate), (EncodeRef(&self.signature_algorithm), EncodeRef(&self.signature))).encoded_len()
+    }
+
+    fn encode_value<W: Writer>(&self, writer: &mut W) -> Result<(), Error> {
+        (EncodeRef(&self.tbs_certificate), (EncodeRef(&self.signature_algorithm), EncodeRef(&self.signature))).encode(writer)
+    }
+}
+
+impl<'a> Lawful for Certificate<'a> {
+    ghost lawful = { ⟦<Certificate<'a> as Described>⟧.element.lawful refl };
+}

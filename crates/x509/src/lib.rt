@@ -1,0 +1,23 @@
+//! Certificates (RFC 5280, 4.1), lent by the input. Each type is lawful: it is read exactly where
+//! the octets are its encoding. No memory is taken.
+#![tactic(auto)]
+
+mod attribute;
+mod certificate;
+mod extension;
+mod extensions;
+mod name;
+mod tbs_certificate;
+mod time;
+mod validity;
+mod version;
+
+pub use attribute::{AttributeTypeAndValue, AttributeTypeAndValueFields};
+pub use certificate::{Certificate, CertificateFields};
+pub use extension::{Extension, ExtensionFields};
+pub use extensions::Extensions;
+pub use name::{Name, RelativeDistinguishedName};
+pub use tbs_certificate::{TbsCertificate, TbsCertificateFields};
+pub use time::Time;
+pub use validity::{Validity, ValidityFields};
+pub use version::{Version, VersionForm};

@@ -1,0 +1,9 @@
+//! Name of RFC 5280, 4.1.2.4.
+use crate::attribute::AttributeTypeAndValue;
+use der_asn1::{SequenceOf, SetOf};
+
+/// The attributes of one level of a name, in the order of their encodings.
+pub type RelativeDistinguishedName<'a> = SetOf<'a, AttributeTypeAndValue<'a>>;
+
+/// A name: its levels, the highest first.
+pub type Name<'a> = SequenceOf<'a, RelativeDistinguishedName<'a>>;

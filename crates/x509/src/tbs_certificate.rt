@@ -1,0 +1,147 @@
+//! TBSCertificate of RFC 5280, 4.1.
+ghost use Rattle.std.specs.Prelude.{◌≡◌, false};
+ghost use Rattle.std.proofs.Common.{refl};
+ghost use Rattle.der.specs.Prelude.{Sequence, map_ok};
+ghost use Rattle.der_asn1.specs.Meaning.{alternative, defaulted, field, optional, sequence, two_fields};
+
+use crate::extensions::Extensions;
+use crate::name::Name;
+use crate::validity::Validity;
+use crate::version::Version;
+use der::{
+    Decode, DecodeValue, Encode, EncodeRef, EncodeValue, Error, FixedTag, Header, Lawful, Length,
+    ReadValue, Reader, SliceReader, Tag, Writer, WrittenValue, decode_contents,
+};
+use der_asn1::{BitStringRef, DefaultValue, Defaulted, Described, Explicit, Implicit, IntRef, Optional};
+use spki::{AlgorithmIdentifierRef, SubjectPublicKeyInfoRef};
+use std::alloc::Global;
+
+/// What a certificate says, which its signature is over.
+#[derive(Drop)]
+pub struct TbsCertificate<'a> {
+    /// The version.
+    pub version: Defaulted<Explicit<Version<'a>, 0>>,
+    /// The serial number.
+    pub serial_number: IntRef<'a>,
+    /// The algorithm of the signature.
+    pub signature: AlgorithmIdentifierRef<'a>,
+    /// Who issued the certificate.
+    pub issuer: Name<'a>,
+    /// From when to when it is valid.
+    pub validity: Validity,
+    /// To whom it was issued.
+    pub subject: Name<'a>,
+    /// The key that it is for.
+    pub subject_public_key_info: SubjectPublicKeyInfoRef<'a>,
+    /// More of the issuer, in version 2 and 3.
+    pub issuer_unique_id: Optional<Implicit<BitStringRef<'a>, 1>>,
+    /// More of the subject, in version 2 and 3.
+    pub subject_unique_id: Optional<Implicit<BitStringRef<'a>, 2>>,
+    /// The extensions, in version 3.
+    pub extensions: Optional<Explicit<Extensions<'a>, 3>>,
+}
+
+/// Its fields, one behind the other.
+pub type TbsCertificateFields<'a> = ((Defaulted<Explicit<Version<'a>, 0>>, (IntRef<'a>, (AlgorithmIdentifierRef<'a>, (Name<'a>, Validity)))), (Name<'a>, (SubjectPublicKeyInfoRef<'a>, (Optional<Implicit<BitStringRef<'a>, 1>>, (Optional<Implicit<BitStringRef<'a>, 2>>, Optional<Explicit<Extensions<'a>, 3>>)))));
+
+impl<'a> Described for TbsCertificate<'a> {
+    ghost element = { sequence (two_fields (two_fields (defaulted ⟦<Explicit<Version<'a>, 0> as DefaultValue>⟧.is_default (alternative ⟦<Explicit<Version<'a>, 0> as Described>⟧.element))
+        (two_fields (field (alternative ⟦<IntRef<'a> as Described>⟧.element))
+        (two_fields (field (alternative ⟦<AlgorithmIdentifierRef<'a> as Described>⟧.element))
+        (two_fields (field (alternative ⟦<Name<'a> as Described>⟧.element))
+        (field (alternative ⟦<Validity as Described>⟧.element))))))
+        (two_fields (field (alternative ⟦<Name<'a> as Described>⟧.element))
+        (two_fields (field (alternative ⟦<SubjectPublicKeyInfoRef<'a> as Described>⟧.element))
+        (two_fields (optional (alternative ⟦<Implicit<BitStringRef<'a>, 1> as Described>⟧.element))
+        (two_fields (optional (alternative ⟦<Implicit<BitStringRef<'a>, 2> as Described>⟧.element))
+        (optional (alternative ⟦<Explicit<Extensions<'a>, 3> as Described>⟧.element)))))))
+        (λ v. ((v.version, (v.serial_number, (v.signature, (v.issuer, v.validity)))), (v.subject, (v.subject_public_key_info, (v.issuer_unique_id, (v.subject_unique_id, v.extensions)))))) };
+}
+
+impl<'a> FixedTag for TbsCertificate<'a> {
+    ghost tag_is = { Sequence };
+
+    const TAG: Tag = Tag::Sequence;
+
+    fn fixed_tag() -> Tag
+        ensures { result ≡ Sequence }
+    {
+        Tag::Sequence
+    }
+}
+
+impl<'a> ReadValue for TbsCertificate<'a> {
+    ghost valid = { ⟦<TbsCertificate<'a> as Described>⟧.element.valid };
+
+    ghost takes = { ⟦<TbsCertificate<'a> as Described>⟧.element.takes };
+
+    ghost value_levels = { ⟦<TbsCertificate<'a> as Described>⟧.element.levels };
+
+    ghost allocates = { false };
+
+    ghost takes_valid = { ⟦<TbsCertificate<'a> as Described>⟧.element.holds refl };
+}
+
+/// # Errors
+///
+/// Those of the fields, one behind the other.
+impl<'a, R: Reader<Lent = &'a [u8]>> DecodeValue<R> for TbsCertificate<'a> {
+    type Error = Error;
+
+    ghost decode_value_answers = { λ h s result t.
+        ⟦<TbsCertificateFields<'a> as Decode<SliceReader<'a>>>⟧.decode_answers s
+        (map_ok (λ v. ((v.version, (v.serial_number, (v.signature, (v.issuer, v.validity)))), (v.subject, (v.subject_public_key_info, (v.issuer_unique_id, (v.subject_unique_id, v.extensions)))))) result) t };
+
+    fn decode_value(alloc: Global, reader: &mut R, header: Header) -> Result<Self, Error> {
+        let fields = decode_contents::<R, TbsCertificateFields<'a>>(alloc, reader, header)?;
+        let ((version, (serial_number, (signature, (issuer, validity)))), (subject, (subject_public_key_info, (issuer_unique_id, (subject_unique_id, extensions))))) = fields;
+        Ok(TbsCertificate { version, serial_number, signature, issuer, validity, subject, subject_public_key_info, issuer_unique_id, subject_unique_id, extensions })
+    }
+
+    fn is_value(&self) {
+        <Explicit<Version<'a>, 0> as DecodeValue<R>>::is_value(&self.version.0);
+        <IntRef<'a> as DecodeValue<R>>::is_value(&self.serial_number);
+        <AlgorithmIdentifierRef<'a> as DecodeValue<R>>::is_value(&self.signature);
+        <Name<'a> as DecodeValue<R>>::is_value(&self.issuer);
+        <Validity as DecodeValue<R>>::is_value(&self.validity);
+        <Name<'a> as DecodeValue<R>>::is_value(&self.subject);
+        <SubjectPublicKeyInfoRef<'a> as DecodeValue<R>>::is_value(&self.subject_public_key_info);
+        if let Some(value) = &self.issuer_unique_id.0 {
+            <Implicit<BitStringRef<'a>, 1> as DecodeValue<R>>::is_value(value);
+        }
+        if let Some(value) = &self.subject_unique_id.0 {
+            <Implicit<BitStringRef<'a>, 2> as DecodeValue<R>>::is_value(value);
+        }
+        if let Some(value) = &self.extensions.0 {
+            <Explicit<Extensions<'a>, 3> as DecodeValue<R>>::is_value(value);
+        }
+    }
+}
+
+impl<'a> WrittenValue for TbsCertificate<'a> {
+    ghost contents = { ⟦<TbsCertificate<'a> as Described>⟧.element.contents };
+
+    ghost writable = { ⟦<TbsCertificate<'a> as Described>⟧.element.valid };
+}
+
+/// # Errors
+///
+/// Those of the fields, one behind the other, and `Overflow` without a position.
+impl<'a> EncodeValue for TbsCertificate<'a> {
+    ghost value_size = { λ v. ⟦<TbsCertificateFields<'a> as Encode>⟧.size ((v.version, (v.serial_number, (v.signature, (v.issuer, v.validity)))), (v.subject, (v.subject_public_key_info, (v.issuer_unique_id, (v.subject_unique_id, v.extensions))))) };
+
+    ghost encode_value_answers = { λ v. ⟦<TbsCertificateFields<'a> as Encode>⟧.encode_answers
+        ((v.version, (v.serial_number, (v.signature, (v.issuer, v.validity)))), (v.subject, (v.subject_public_key_info, (v.issuer_unique_id, (v.subject_unique_id, v.extensions))))) };
+
+    fn value_len(&self) -> Result<Length, Error> {
+        ((EncodeRef(&self.version), (EncodeRef(&self.serial_number), (EncodeRef(&self.signature), (EncodeRef(&self.issuer), EncodeRef(&self.validity))))), (EncodeRef(&self.subject), (EncodeRef(&self.subject_public_key_info), (EncodeRef(&self.issuer_unique_id), (EncodeRef(&self.subject_unique_id), EncodeRef(&self.extensions)))))).encoded_len()
+    }
+
+    fn encode_value<W: Writer>(&self, writer: &mut W) -> Result<(), Error> {
+        ((EncodeRef(&self.version), (EncodeRef(&self.serial_number), (EncodeRef(&self.signature), (EncodeRef(&self.issuer), EncodeRef(&self.validity))))), (EncodeRef(&self.subject), (EncodeRef(&self.subject_public_key_info), (EncodeRef(&self.issuer_unique_id), (EncodeRef(&self.subject_unique_id), EncodeRef(&self.extensions)))))).encode(writer)
+    }
+}
+
+impl<'a> Lawful for TbsCertificate<'a> {
+    ghost lawful = { ⟦<TbsCertificate<'a> as Described>⟧.element.lawful refl };
+}

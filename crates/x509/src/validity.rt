@@ -1,0 +1,111 @@
+//! Validity of RFC 5280, 4.1.2.5.
+ghost use Rattle.std.specs.Prelude.{◌≡◌, false};
+ghost use Rattle.std.proofs.Common.{refl};
+ghost use Rattle.der.specs.Prelude.{Sequence, map_ok};
+ghost use Rattle.der_asn1.specs.Meaning.{alternative, either, field, sequence, two_fields};
+
+use crate::time::Time;
+use der::{
+    Decode, DecodeValue, Encode, EncodeRef, EncodeValue, Error, FixedTag, Header, Lawful, Length,
+    ReadValue, Reader, SliceReader, Tag, Writer, WrittenValue, decode_contents,
+};
+use der_asn1::{Described, Either, GeneralizedTime, UtcTime};
+use std::alloc::Global;
+
+/// From when to when a certificate is valid.
+#[derive(Drop)]
+pub struct Validity {
+    /// The first time at which the certificate is valid.
+    pub not_before: Time,
+    /// The last.
+    pub not_after: Time,
+}
+
+/// Its fields, one behind the other.
+pub type ValidityFields = (Time, Time);
+
+impl Described for Validity {
+    ghost element = { sequence (two_fields (field (either (alternative ⟦<UtcTime as Described>⟧.element) (alternative ⟦<GeneralizedTime as Described>⟧.element)))
+        (field (either (alternative ⟦<UtcTime as Described>⟧.element) (alternative ⟦<GeneralizedTime as Described>⟧.element))))
+        (λ v. (v.not_before, v.not_after)) };
+}
+
+impl FixedTag for Validity {
+    ghost tag_is = { Sequence };
+
+    const TAG: Tag = Tag::Sequence;
+
+    fn fixed_tag() -> Tag
+        ensures { result ≡ Sequence }
+    {
+        Tag::Sequence
+    }
+}
+
+impl ReadValue for Validity {
+    ghost valid = { ⟦<Validity as Described>⟧.element.valid };
+
+    ghost takes = { ⟦<Validity as Described>⟧.element.takes };
+
+    ghost value_levels = { ⟦<Validity as Described>⟧.element.levels };
+
+    ghost allocates = { false };
+
+    ghost takes_valid = { ⟦<Validity as Described>⟧.element.holds refl };
+}
+
+/// # Errors
+///
+/// Those of the fields, one behind the other.
+impl<'a, R: Reader<Lent = &'a [u8]>> DecodeValue<R> for Validity {
+    type Error = Error;
+
+    ghost decode_value_answers = { λ h s result t.
+        ⟦<ValidityFields as Decode<SliceReader<'a>>>⟧.decode_answers s
+        (map_ok (λ v. (v.not_before, v.not_after)) result) t };
+
+    fn decode_value(alloc: Global, reader: &mut R, header: Header) -> Result<Self, Error> {
+        let fields = decode_contents::<R, ValidityFields>(alloc, reader, header)?;
+        let (not_before, not_after) = fields;
+        Ok(Validity { not_before, not_after })
+    }
+
+    fn is_value(&self) {
+        match &self.not_before {
+            Either::First(time) => <UtcTime as DecodeValue<R>>::is_value(time),
+            Either::Second(time) => <GeneralizedTime as DecodeValue<R>>::is_value(time),
+        }
+        match &self.not_after {
+            Either::First(time) => <UtcTime as DecodeValue<R>>::is_value(time),
+            Either::Second(time) => <GeneralizedTime as DecodeValue<R>>::is_value(time),
+        }
+    }
+}
+
+impl WrittenValue for Validity {
+    ghost contents = { ⟦<Validity as Described>⟧.element.contents };
+
+    ghost writable = { ⟦<Validity as Described>⟧.element.valid };
+}
+
+/// # Errors
+///
+/// Those of the fields, one behind the other, and `Overflow` without a position.
+impl EncodeValue for Validity {
+    ghost value_size = { λ v. ⟦<ValidityFields as Encode>⟧.size (v.not_before, v.not_after) };
+
+    ghost encode_value_answers = { λ v. ⟦<ValidityFields as Encode>⟧.encode_answers
+        (v.not_before, v.not_after) };
+
+    fn value_len(&self) -> Result<Length, Error> {
+        (EncodeRef(&self.not_before), EncodeRef(&self.not_after)).encoded_len()
+    }
+
+    fn encode_value<W: Writer>(&self, writer: &mut W) -> Result<(), Error> {
+        (EncodeRef(&self.not_before), EncodeRef(&self.not_after)).encode(writer)
+    }
+}
+
+impl Lawful for Validity {
+    ghost lawful = { ⟦<Validity as Described>⟧.element.lawful refl };
+}
