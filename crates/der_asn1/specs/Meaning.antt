@@ -21,7 +21,7 @@ use Rattle.der_asn1.specs.PairLaws.{pair_set}
 use Rattle.der_asn1.specs.SequenceOf.{TakesList, IsList, list_lawful, list_holds}
 use Rattle.der_asn1.specs.SetOf.{TakesSet, IsSet, set_lawful, set_holds}
 use Rattle.der_asn1.specs.SetLaws.{SetLaws, ToldLaws, laws_of, element_told, told_set, pair_stops}
-use Rattle.der_asn1.specs.SetLaws.{optional_set, default_set}
+use Rattle.der_asn1.specs.SetLaws.{optional_set, default_set, seen_set}
 use Rattle.der_asn1.specs.TagSets.{are_apart}
 use Rattle.der_asn1.specs.TagSetLemmas.{both_true}
 use Rattle.der_asn1.specs.declared.any.AnyRef.{AnyRef}
@@ -164,6 +164,22 @@ two_fields one two =
       laws = λ e. pair_set (λ v. v) e one.laws two.laws;
     }
 
+-- fields in a type of their own
+abbrev pub seen : {A B : Type 0} → (B → A) → Field A → Field B
+seen f one =
+    record {
+      stands = λ b. one.stands (f b);
+      valid = λ b. one.valid (f b);
+      encoding = λ b. one.encoding (f b);
+      levels = one.levels;
+      always = one.always;
+      first = one.first;
+      stops = one.stops;
+      precedes = λ b. one.precedes (f b);
+      fits = one.fits;
+      laws = λ e. seen_set f (one.laws e);
+    }
+
 -- one or the other: no tag is one of both
 abbrev pub either : {A B : Type 0} → Alternative A → Alternative B → Alternative (Either A B)
 either one two =
@@ -239,6 +255,17 @@ shallow fits levels e =
     let below = ltb-true (levels Der) 63 (both_true fits (nat_lt (levels Der) 63) e).1 in
     omega (arith, below)
 
+pub seen_lawful : {A B : Type 0} {tag : Tag} {takes : A → EncodingRules → Head → List ℕ → Type 0}
+    {valid : A → Type 0} {contents : A → List ℕ} {levels : EncodingRules → ℕ} (f : B → A)
+    → IsLawful tag takes valid contents levels
+    → IsLawful tag (λ b. takes (f b)) (λ b. valid (f b)) (λ b. contents (f b)) levels
+seen_lawful f one =
+    record {
+      exact = λ octets b short. one.exact octets (f b) short;
+      shallow = one.shallow;
+      numbered = one.numbered;
+    }
+
 -- fields as the contents of an element
 module _ {A : Type 0} {fits always : Bool} {first stops : List (Option Tag)}
     {P : A → List ℕ → Type 0} {Ahead : A → EncodingRules → List ℕ → ℕ → Type 0}
@@ -269,6 +296,20 @@ sequence one f =
       fits = is_shallow one.fits one.levels;
       lawful = sequence_lawful one.levels one.laws f;
       holds = sequence_holds one.levels one.laws f;
+    }
+
+-- the same element in another type
+abbrev pub renamed : {A B : Type 0} → Element A → (B → A) → Element B
+renamed one f =
+    record {
+      tag = one.tag;
+      takes = λ b. one.takes (f b);
+      valid = λ b. one.valid (f b);
+      contents = λ b. one.contents (f b);
+      levels = one.levels;
+      fits = one.fits;
+      lawful = λ e. seen_lawful f (one.lawful e);
+      holds = λ e b. one.holds e (f b);
     }
 
 -- context-specific tags: another one for the same contents, and one around an element

@@ -9,7 +9,7 @@ use Rattle.der_asn1.specs.DefaultLaws.{default_laws}
 use Rattle.der_asn1.specs.Follow.{Starts, StartsIn, MayStart, PrecedesBut, ReadsFields, Anything}
 use Rattle.der_asn1.specs.Follow.{this_tag, either_tags}
 use Rattle.der_asn1.specs.FollowLemmas.{starts_wider, fewer_tags}
-use Rattle.der_asn1.specs.FieldLaws.{FieldLaws, SomeLaws, element_laws, seen_laws}
+use Rattle.der_asn1.specs.FieldLaws.{FieldLaws, SomeLaws, element_laws, seen_laws, seen_reads}
 use Rattle.der_asn1.specs.FieldLaws.{optional_laws}
 use Rattle.der_asn1.specs.Optional.{OptionAhead, IsOptional, option_encoding, OptionPrecedes}
 use Rattle.der_asn1.specs.TagSets.{IsIn}
@@ -97,6 +97,20 @@ module _ {A B : Type 0} {tags : Tag → Type 0} {first stops : List (Option Tag)
 
   pub default_set : (is_default : A → Bool) (f : B → A) → SetLaws false first (first ++ stops) (λ b. DefaultPrecedes tags is_default P (f b)) (λ b. DefaultAhead tags is_default Ahead (f b)) (λ b. IsDefaulted is_default valid (f b)) (λ b. default_encoding is_default encoding (f b))
   default_set is_default f = set_of false first (first ++ stops) (seen_laws f (default_laws is_default (some_of one))) one.among (either_in first stops tags (IsIn stops) one.among (λ t h. h)) (λ e. absurd (let no : false ≡ true = e in cc))
+
+-- the same field in another type
+pub seen_set : {A B : Type 0} {always : Bool} {first stops : List (Option Tag)} {P : A → List ℕ → Type 0}
+    {Ahead : A → EncodingRules → List ℕ → ℕ → Type 0} {valid : A → Type 0} {encoding : A → List ℕ} (f : B → A)
+    → SetLaws always first stops P Ahead valid encoding
+    → SetLaws always first stops (λ b. P (f b)) (λ b. Ahead (f b)) (λ b. valid (f b)) (λ b. encoding (f b))
+seen_set f one =
+    record {
+      reads = seen_reads f one.reads;
+      starts = record { starts = λ b is. one.starts.starts (f b) is };
+      some = λ e. record { starts = λ b is. (one.some e).starts (f b) is };
+      precedes = record { precedes = λ b behind is none. one.precedes.precedes (f b) behind is none };
+      holds = λ b. one.holds (f b);
+    }
 
 -- what may not follow two fields: what may not follow the second, and the first where the second
 -- may be absent

@@ -67,7 +67,10 @@ impl<'a, R: Reader<Lent = &'a [u8]>> DecodeValue<R> for SubjectPublicKeyInfoRef<
     fn decode_value(alloc: Global, reader: &mut R, header: Header) -> Result<Self, Error> {
         let fields = decode_contents::<R, SubjectPublicKeyInfoFields<'a>>(alloc, reader, header)?;
         let (algorithm, subject_public_key) = fields;
-        Ok(SubjectPublicKeyInfoRef { algorithm, subject_public_key })
+        Ok(SubjectPublicKeyInfoRef {
+            algorithm,
+            subject_public_key,
+        })
     }
 
     fn is_value(&self) {
@@ -92,11 +95,19 @@ impl<'a> EncodeValue for SubjectPublicKeyInfoRef<'a> {
         (v.algorithm, v.subject_public_key) };
 
     fn value_len(&self) -> Result<Length, Error> {
-        (EncodeRef(&self.algorithm), EncodeRef(&self.subject_public_key)).encoded_len()
+        (
+            EncodeRef(&self.algorithm),
+            EncodeRef(&self.subject_public_key),
+        )
+            .encoded_len()
     }
 
     fn encode_value<W: Writer>(&self, writer: &mut W) -> Result<(), Error> {
-        (EncodeRef(&self.algorithm), EncodeRef(&self.subject_public_key)).encode(writer)
+        (
+            EncodeRef(&self.algorithm),
+            EncodeRef(&self.subject_public_key),
+        )
+            .encode(writer)
     }
 }
 

@@ -25,7 +25,10 @@ pub struct Certificate<'a> {
 }
 
 /// Its fields, one behind the other.
-pub type CertificateFields<'a> = (TbsCertificate<'a>, (AlgorithmIdentifierRef<'a>, BitStringRef<'a>));
+pub type CertificateFields<'a> = (
+    TbsCertificate<'a>,
+    (AlgorithmIdentifierRef<'a>, BitStringRef<'a>),
+);
 
 impl<'a> Described for Certificate<'a> {
     ghost element = { sequence (two_fields (field (alternative ⟦<TbsCertificate<'a> as Described>⟧.element))
@@ -71,7 +74,11 @@ impl<'a, R: Reader<Lent = &'a [u8]>> DecodeValue<R> for Certificate<'a> {
     fn decode_value(alloc: Global, reader: &mut R, header: Header) -> Result<Self, Error> {
         let fields = decode_contents::<R, CertificateFields<'a>>(alloc, reader, header)?;
         let (tbs_certificate, (signature_algorithm, signature)) = fields;
-        Ok(Certificate { tbs_certificate, signature_algorithm, signature })
+        Ok(Certificate {
+            tbs_certificate,
+            signature_algorithm,
+            signature,
+        })
     }
 
     fn is_value(&self) {
@@ -97,11 +104,25 @@ impl<'a> EncodeValue for Certificate<'a> {
         (v.tbs_certificate, (v.signature_algorithm, v.signature)) };
 
     fn value_len(&self) -> Result<Length, Error> {
-        (EncodeRef(&self.tbs_certificate), (EncodeRef(&self.signature_algorithm), EncodeRef(&self.signature))).encoded_len()
+        (
+            EncodeRef(&self.tbs_certificate),
+            (
+                EncodeRef(&self.signature_algorithm),
+                EncodeRef(&self.signature),
+            ),
+        )
+            .encoded_len()
     }
 
     fn encode_value<W: Writer>(&self, writer: &mut W) -> Result<(), Error> {
-        (EncodeRef(&self.tbs_certificate), (EncodeRef(&self.signature_algorithm), EncodeRef(&self.signature))).encode(writer)
+        (
+            EncodeRef(&self.tbs_certificate),
+            (
+                EncodeRef(&self.signature_algorithm),
+                EncodeRef(&self.signature),
+            ),
+        )
+            .encode(writer)
     }
 }
 

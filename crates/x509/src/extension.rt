@@ -8,7 +8,9 @@ use der::{
     Decode, DecodeValue, Encode, EncodeRef, EncodeValue, Error, FixedTag, Header, Lawful, Length,
     ReadValue, Reader, SliceReader, Tag, Writer, WrittenValue, decode_contents,
 };
-use der_asn1::{BooleanRef, DefaultValue, Defaulted, Described, ObjectIdentifierRef, OctetStringRef};
+use der_asn1::{
+    BooleanRef, DefaultValue, Defaulted, Described, ObjectIdentifierRef, OctetStringRef,
+};
 use std::alloc::Global;
 
 /// An extension of a certificate, lent by the input.
@@ -23,7 +25,10 @@ pub struct Extension<'a> {
 }
 
 /// Its fields, one behind the other.
-pub type ExtensionFields<'a> = (ObjectIdentifierRef<'a>, (Defaulted<BooleanRef<'a>>, OctetStringRef<'a>));
+pub type ExtensionFields<'a> = (
+    ObjectIdentifierRef<'a>,
+    (Defaulted<BooleanRef<'a>>, OctetStringRef<'a>),
+);
 
 impl<'a> Described for Extension<'a> {
     ghost element = { sequence (two_fields (field (alternative ⟦<ObjectIdentifierRef<'a> as Described>⟧.element))
@@ -69,7 +74,11 @@ impl<'a, R: Reader<Lent = &'a [u8]>> DecodeValue<R> for Extension<'a> {
     fn decode_value(alloc: Global, reader: &mut R, header: Header) -> Result<Self, Error> {
         let fields = decode_contents::<R, ExtensionFields<'a>>(alloc, reader, header)?;
         let (extn_id, (critical, extn_value)) = fields;
-        Ok(Extension { extn_id, critical, extn_value })
+        Ok(Extension {
+            extn_id,
+            critical,
+            extn_value,
+        })
     }
 
     fn is_value(&self) {
@@ -95,11 +104,19 @@ impl<'a> EncodeValue for Extension<'a> {
         (v.extn_id, (v.critical, v.extn_value)) };
 
     fn value_len(&self) -> Result<Length, Error> {
-        (EncodeRef(&self.extn_id), (EncodeRef(&self.critical), EncodeRef(&self.extn_value))).encoded_len()
+        (
+            EncodeRef(&self.extn_id),
+            (EncodeRef(&self.critical), EncodeRef(&self.extn_value)),
+        )
+            .encoded_len()
     }
 
     fn encode_value<W: Writer>(&self, writer: &mut W) -> Result<(), Error> {
-        (EncodeRef(&self.extn_id), (EncodeRef(&self.critical), EncodeRef(&self.extn_value))).encode(writer)
+        (
+            EncodeRef(&self.extn_id),
+            (EncodeRef(&self.critical), EncodeRef(&self.extn_value)),
+        )
+            .encode(writer)
     }
 }
 

@@ -2,17 +2,23 @@
 ghost use Rattle.std.specs.Prelude.{◌≡◌, false};
 ghost use Rattle.std.proofs.Common.{refl};
 ghost use Rattle.der.specs.Prelude.{Sequence, map_ok};
-ghost use Rattle.der_asn1.specs.Meaning.{alternative, defaulted, field, optional, sequence, two_fields};
+ghost use Rattle.der_asn1.specs.Meaning.{alternative, defaulted, field, optional, seen, sequence, two_fields};
+ghost use Rattle.x509.specs.declared.issued.Issued.{Issued};
+ghost use Rattle.x509.specs.declared.subject.Subject.{Subject};
 
 use crate::extensions::Extensions;
+use crate::issued::Issued;
 use crate::name::Name;
+use crate::subject::Subject;
 use crate::validity::Validity;
 use crate::version::Version;
 use der::{
     Decode, DecodeValue, Encode, EncodeRef, EncodeValue, Error, FixedTag, Header, Lawful, Length,
     ReadValue, Reader, SliceReader, Tag, Writer, WrittenValue, decode_contents,
 };
-use der_asn1::{BitStringRef, DefaultValue, Defaulted, Described, Explicit, Implicit, IntRef, Optional};
+use der_asn1::{
+    BitStringRef, DefaultValue, Defaulted, Described, Explicit, Implicit, IntRef, Optional,
+};
 use spki::{AlgorithmIdentifierRef, SubjectPublicKeyInfoRef};
 use std::alloc::Global;
 
@@ -42,20 +48,38 @@ pub struct TbsCertificate<'a> {
 }
 
 /// Its fields, one behind the other.
-pub type TbsCertificateFields<'a> = ((Defaulted<Explicit<Version<'a>, 0>>, (IntRef<'a>, (AlgorithmIdentifierRef<'a>, (Name<'a>, Validity)))), (Name<'a>, (SubjectPublicKeyInfoRef<'a>, (Optional<Implicit<BitStringRef<'a>, 1>>, (Optional<Implicit<BitStringRef<'a>, 2>>, Optional<Explicit<Extensions<'a>, 3>>)))));
+pub type TbsCertificateFields<'a> = (
+    (
+        (Defaulted<Explicit<Version<'a>, 0>>, IntRef<'a>),
+        ((AlgorithmIdentifierRef<'a>, Name<'a>), Validity),
+    ),
+    (
+        (Name<'a>, SubjectPublicKeyInfoRef<'a>),
+        (
+            (
+                Optional<Implicit<BitStringRef<'a>, 1>>,
+                Optional<Implicit<BitStringRef<'a>, 2>>,
+            ),
+            Optional<Explicit<Extensions<'a>, 3>>,
+        ),
+    ),
+);
 
 impl<'a> Described for TbsCertificate<'a> {
-    ghost element = { sequence (two_fields (two_fields (defaulted ⟦<Explicit<Version<'a>, 0> as DefaultValue>⟧.is_default (alternative ⟦<Explicit<Version<'a>, 0> as Described>⟧.element))
-        (two_fields (field (alternative ⟦<IntRef<'a> as Described>⟧.element))
-        (two_fields (field (alternative ⟦<AlgorithmIdentifierRef<'a> as Described>⟧.element))
-        (two_fields (field (alternative ⟦<Name<'a> as Described>⟧.element))
-        (field (alternative ⟦<Validity as Described>⟧.element))))))
-        (two_fields (field (alternative ⟦<Name<'a> as Described>⟧.element))
-        (two_fields (field (alternative ⟦<SubjectPublicKeyInfoRef<'a> as Described>⟧.element))
-        (two_fields (optional (alternative ⟦<Implicit<BitStringRef<'a>, 1> as Described>⟧.element))
-        (two_fields (optional (alternative ⟦<Implicit<BitStringRef<'a>, 2> as Described>⟧.element))
-        (optional (alternative ⟦<Explicit<Extensions<'a>, 3> as Described>⟧.element)))))))
-        (λ v. ((v.version, (v.serial_number, (v.signature, (v.issuer, v.validity)))), (v.subject, (v.subject_public_key_info, (v.issuer_unique_id, (v.subject_unique_id, v.extensions)))))) };
+    ghost element = { sequence (two_fields
+        (seen (λ (h : Issued). ((h.version, h.serial_number), ((h.signature, h.issuer), h.validity)))
+        (two_fields (two_fields (defaulted ⟦<Explicit<Version<'a>, 0> as DefaultValue>⟧.is_default (alternative ⟦<Explicit<Version<'a>, 0> as Described>⟧.element))
+        (field (alternative ⟦<IntRef<'a> as Described>⟧.element)))
+        (two_fields (two_fields (field (alternative ⟦<AlgorithmIdentifierRef<'a> as Described>⟧.element))
+        (field (alternative ⟦<Name<'a> as Described>⟧.element)))
+        (field (alternative ⟦<Validity as Described>⟧.element)))))
+        (seen (λ (t : Subject). ((t.subject, t.subject_public_key_info), ((t.issuer_unique_id, t.subject_unique_id), t.extensions)))
+        (two_fields (two_fields (field (alternative ⟦<Name<'a> as Described>⟧.element))
+        (field (alternative ⟦<SubjectPublicKeyInfoRef<'a> as Described>⟧.element)))
+        (two_fields (two_fields (optional (alternative ⟦<Implicit<BitStringRef<'a>, 1> as Described>⟧.element))
+        (optional (alternative ⟦<Implicit<BitStringRef<'a>, 2> as Described>⟧.element)))
+        (optional (alternative ⟦<Explicit<Extensions<'a>, 3> as Described>⟧.element))))))
+        (λ v. (record { version = v.version; serial_number = v.serial_number; signature = v.signature; issuer = v.issuer; validity = v.validity }, record { subject = v.subject; subject_public_key_info = v.subject_public_key_info; issuer_unique_id = v.issuer_unique_id; subject_unique_id = v.subject_unique_id; extensions = v.extensions })) };
 }
 
 impl<'a> FixedTag for TbsCertificate<'a> {
@@ -89,13 +113,25 @@ impl<'a, R: Reader<Lent = &'a [u8]>> DecodeValue<R> for TbsCertificate<'a> {
     type Error = Error;
 
     ghost decode_value_answers = { λ h s result t.
-        ⟦<TbsCertificateFields<'a> as Decode<SliceReader<'a>>>⟧.decode_answers s
-        (map_ok (λ v. ((v.version, (v.serial_number, (v.signature, (v.issuer, v.validity)))), (v.subject, (v.subject_public_key_info, (v.issuer_unique_id, (v.subject_unique_id, v.extensions)))))) result) t };
+        ⟦<(Issued<'a>, Subject<'a>) as Decode<SliceReader<'a>>>⟧.decode_answers s
+        (map_ok (λ v. (record { version = v.version; serial_number = v.serial_number; signature = v.signature; issuer = v.issuer; validity = v.validity }, record { subject = v.subject; subject_public_key_info = v.subject_public_key_info; issuer_unique_id = v.issuer_unique_id; subject_unique_id = v.subject_unique_id; extensions = v.extensions })) result) t };
 
     fn decode_value(alloc: Global, reader: &mut R, header: Header) -> Result<Self, Error> {
-        let fields = decode_contents::<R, TbsCertificateFields<'a>>(alloc, reader, header)?;
-        let ((version, (serial_number, (signature, (issuer, validity)))), (subject, (subject_public_key_info, (issuer_unique_id, (subject_unique_id, extensions))))) = fields;
-        Ok(TbsCertificate { version, serial_number, signature, issuer, validity, subject, subject_public_key_info, issuer_unique_id, subject_unique_id, extensions })
+        let (issued, subject) = decode_contents::<R, (Issued<'a>, Subject<'a>)>(
+            alloc, reader, header,
+        )?;
+        Ok(TbsCertificate {
+            version: issued.version,
+            serial_number: issued.serial_number,
+            signature: issued.signature,
+            issuer: issued.issuer,
+            validity: issued.validity,
+            subject: subject.subject,
+            subject_public_key_info: subject.subject_public_key_info,
+            issuer_unique_id: subject.issuer_unique_id,
+            subject_unique_id: subject.subject_unique_id,
+            extensions: subject.extensions,
+        })
     }
 
     fn is_value(&self) {
@@ -128,17 +164,61 @@ impl<'a> WrittenValue for TbsCertificate<'a> {
 ///
 /// Those of the fields, one behind the other, and `Overflow` without a position.
 impl<'a> EncodeValue for TbsCertificate<'a> {
-    ghost value_size = { λ v. ⟦<TbsCertificateFields<'a> as Encode>⟧.size ((v.version, (v.serial_number, (v.signature, (v.issuer, v.validity)))), (v.subject, (v.subject_public_key_info, (v.issuer_unique_id, (v.subject_unique_id, v.extensions))))) };
+    ghost value_size = { λ v. ⟦<TbsCertificateFields<'a> as Encode>⟧.size (((v.version, v.serial_number), ((v.signature, v.issuer), v.validity)), ((v.subject, v.subject_public_key_info), ((v.issuer_unique_id, v.subject_unique_id), v.extensions))) };
 
     ghost encode_value_answers = { λ v. ⟦<TbsCertificateFields<'a> as Encode>⟧.encode_answers
-        ((v.version, (v.serial_number, (v.signature, (v.issuer, v.validity)))), (v.subject, (v.subject_public_key_info, (v.issuer_unique_id, (v.subject_unique_id, v.extensions))))) };
+        (((v.version, v.serial_number), ((v.signature, v.issuer), v.validity)), ((v.subject, v.subject_public_key_info), ((v.issuer_unique_id, v.subject_unique_id), v.extensions))) };
 
     fn value_len(&self) -> Result<Length, Error> {
-        ((EncodeRef(&self.version), (EncodeRef(&self.serial_number), (EncodeRef(&self.signature), (EncodeRef(&self.issuer), EncodeRef(&self.validity))))), (EncodeRef(&self.subject), (EncodeRef(&self.subject_public_key_info), (EncodeRef(&self.issuer_unique_id), (EncodeRef(&self.subject_unique_id), EncodeRef(&self.extensions)))))).encoded_len()
+        (
+            (
+                (EncodeRef(&self.version), EncodeRef(&self.serial_number)),
+                (
+                    (EncodeRef(&self.signature), EncodeRef(&self.issuer)),
+                    EncodeRef(&self.validity),
+                ),
+            ),
+            (
+                (
+                    EncodeRef(&self.subject),
+                    EncodeRef(&self.subject_public_key_info),
+                ),
+                (
+                    (
+                        EncodeRef(&self.issuer_unique_id),
+                        EncodeRef(&self.subject_unique_id),
+                    ),
+                    EncodeRef(&self.extensions),
+                ),
+            ),
+        )
+            .encoded_len()
     }
 
     fn encode_value<W: Writer>(&self, writer: &mut W) -> Result<(), Error> {
-        ((EncodeRef(&self.version), (EncodeRef(&self.serial_number), (EncodeRef(&self.signature), (EncodeRef(&self.issuer), EncodeRef(&self.validity))))), (EncodeRef(&self.subject), (EncodeRef(&self.subject_public_key_info), (EncodeRef(&self.issuer_unique_id), (EncodeRef(&self.subject_unique_id), EncodeRef(&self.extensions)))))).encode(writer)
+        (
+            (
+                (EncodeRef(&self.version), EncodeRef(&self.serial_number)),
+                (
+                    (EncodeRef(&self.signature), EncodeRef(&self.issuer)),
+                    EncodeRef(&self.validity),
+                ),
+            ),
+            (
+                (
+                    EncodeRef(&self.subject),
+                    EncodeRef(&self.subject_public_key_info),
+                ),
+                (
+                    (
+                        EncodeRef(&self.issuer_unique_id),
+                        EncodeRef(&self.subject_unique_id),
+                    ),
+                    EncodeRef(&self.extensions),
+                ),
+            ),
+        )
+            .encode(writer)
     }
 }
 

@@ -67,7 +67,10 @@ impl<'a, R: Reader<Lent = &'a [u8]>> DecodeValue<R> for Validity {
     fn decode_value(alloc: Global, reader: &mut R, header: Header) -> Result<Self, Error> {
         let fields = decode_contents::<R, ValidityFields>(alloc, reader, header)?;
         let (not_before, not_after) = fields;
-        Ok(Validity { not_before, not_after })
+        Ok(Validity {
+            not_before,
+            not_after,
+        })
     }
 
     fn is_value(&self) {

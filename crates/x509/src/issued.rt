@@ -1,0 +1,53 @@
+//! The first fields of a TBSCertificate.
+ghost use Rattle.std.specs.Prelude.{false};
+ghost use Rattle.der.specs.Prelude.{map_ok};
+
+use crate::name::Name;
+use crate::validity::Validity;
+use crate::version::Version;
+use der::{Decode, Error, Reader, SliceReader};
+use der_asn1::{Defaulted, Explicit, IntRef};
+use spki::AlgorithmIdentifierRef;
+use std::alloc::Global;
+
+// The fields of a TBSCertificate up to the validity.
+#[derive(Drop)]
+pub(crate) struct Issued<'a> {
+    pub(crate) version: Defaulted<Explicit<Version<'a>, 0>>,
+    pub(crate) serial_number: IntRef<'a>,
+    pub(crate) signature: AlgorithmIdentifierRef<'a>,
+    pub(crate) issuer: Name<'a>,
+    pub(crate) validity: Validity,
+}
+
+// They stand one behind the other.
+pub(crate) type IssuedFields<'a> = (
+    (Defaulted<Explicit<Version<'a>, 0>>, IntRef<'a>),
+    ((AlgorithmIdentifierRef<'a>, Name<'a>), Validity),
+);
+
+impl<'a, R: Reader<Lent = &'a [u8]>> Decode<R> for Issued<'a> {
+    type Error = Error;
+
+    ghost stands_ahead = { λ v. ⟦<IssuedFields<'a> as Decode<SliceReader<'a>>>⟧.stands_ahead
+        ((v.version, v.serial_number), ((v.signature, v.issuer), v.validity)) };
+
+    ghost decode_levels = { ⟦<IssuedFields<'a> as Decode<SliceReader<'a>>>⟧.decode_levels };
+
+    ghost allocates = { false };
+
+    ghost decode_answers = { λ s result t. ⟦<IssuedFields<'a> as Decode<SliceReader<'a>>>⟧.decode_answers s
+        (map_ok (λ v. ((v.version, v.serial_number), ((v.signature, v.issuer), v.validity))) result) t };
+
+    fn decode(alloc: Global, reader: &mut R) -> Result<Self, Error> {
+        let fields = <IssuedFields<'a> as Decode<R>>::decode(alloc, reader)?;
+        let ((version, serial_number), ((signature, issuer), validity)) = fields;
+        Ok(Issued {
+            version,
+            serial_number,
+            signature,
+            issuer,
+            validity,
+        })
+    }
+}
