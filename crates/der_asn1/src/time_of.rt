@@ -5,8 +5,8 @@ ghost use Rattle.der_asn1.specs.Checked.{HasForm, TakesForm, FormRead, form_size
 ghost use Rattle.der_asn1.specs.Checked.{FormWritten, form_lawful};
 ghost use Rattle.der_asn1.specs.Meaning.{of_form};
 
-use crate::described::Described;
 use crate::date_time::DateTime;
+use crate::described::Described;
 use crate::explicit::Nestable;
 use crate::time_form::TimeForm;
 use der::{

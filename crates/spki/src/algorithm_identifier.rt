@@ -2,7 +2,8 @@
 ghost use Rattle.std.specs.Prelude.{◌≡◌, false};
 ghost use Rattle.std.proofs.Common.{refl};
 ghost use Rattle.der.specs.Prelude.{Sequence, map_ok};
-ghost use Rattle.der_asn1.specs.Meaning.{alternative, any_element, field, optional, sequence, two_fields};
+ghost use Rattle.der_asn1.specs.Meaning.{alternative, any_element, field, optional, sequence};
+ghost use Rattle.der_asn1.specs.Meaning.{two_fields};
 
 use der::{
     Decode, DecodeValue, Encode, EncodeRef, EncodeValue, Error, FixedTag, Header, Lawful, Length,
@@ -24,7 +25,8 @@ pub struct AlgorithmIdentifierRef<'a> {
 pub type AlgorithmIdentifierFields<'a> = (ObjectIdentifierRef<'a>, Optional<AnyRef<'a>>);
 
 impl<'a> Described for AlgorithmIdentifierRef<'a> {
-    ghost element = { sequence (two_fields (field (alternative ⟦<ObjectIdentifierRef<'a> as Described>⟧.element))
+    ghost element = { sequence (two_fields (field (alternative
+        ⟦<ObjectIdentifierRef<'a> as Described>⟧.element))
         (optional any_element))
         (λ v. (v.oid, v.parameters)) };
 }

@@ -25,7 +25,8 @@ pub struct SubjectPublicKeyInfoRef<'a> {
 pub type SubjectPublicKeyInfoFields<'a> = (AlgorithmIdentifierRef<'a>, BitStringRef<'a>);
 
 impl<'a> Described for SubjectPublicKeyInfoRef<'a> {
-    ghost element = { sequence (two_fields (field (alternative ⟦<AlgorithmIdentifierRef<'a> as Described>⟧.element))
+    ghost element = { sequence (two_fields (field (alternative
+        ⟦<AlgorithmIdentifierRef<'a> as Described>⟧.element))
         (field (alternative ⟦<BitStringRef<'a> as Described>⟧.element)))
         (λ v. (v.algorithm, v.subject_public_key)) };
 }
@@ -89,7 +90,10 @@ impl<'a> WrittenValue for SubjectPublicKeyInfoRef<'a> {
 ///
 /// Those of the fields, one behind the other, and `Overflow` without a position.
 impl<'a> EncodeValue for SubjectPublicKeyInfoRef<'a> {
-    ghost value_size = { λ v. ⟦<SubjectPublicKeyInfoFields<'a> as Encode>⟧.size (v.algorithm, v.subject_public_key) };
+    ghost value_size = { λ v. ⟦<SubjectPublicKeyInfoFields<'a> as Encode>⟧.size (
+      v.algorithm,
+      v.subject_public_key,
+    ) };
 
     ghost encode_value_answers = { λ v. ⟦<SubjectPublicKeyInfoFields<'a> as Encode>⟧.encode_answers
         (v.algorithm, v.subject_public_key) };

@@ -1,1 +1,2 @@
+pub mod TbsCertificate
 pub mod Version

@@ -24,7 +24,8 @@ pub struct AttributeTypeAndValue<'a> {
 pub type AttributeTypeAndValueFields<'a> = (ObjectIdentifierRef<'a>, AnyRef<'a>);
 
 impl<'a> Described for AttributeTypeAndValue<'a> {
-    ghost element = { sequence (two_fields (field (alternative ⟦<ObjectIdentifierRef<'a> as Described>⟧.element))
+    ghost element = { sequence (two_fields (field (alternative
+        ⟦<ObjectIdentifierRef<'a> as Described>⟧.element))
         (field any_element))
         (λ v. (v.oid, v.value)) };
 }

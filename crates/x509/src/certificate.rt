@@ -31,7 +31,8 @@ pub type CertificateFields<'a> = (
 );
 
 impl<'a> Described for Certificate<'a> {
-    ghost element = { sequence (two_fields (field (alternative ⟦<TbsCertificate<'a> as Described>⟧.element))
+    ghost element = { sequence (two_fields (field (alternative
+        ⟦<TbsCertificate<'a> as Described>⟧.element))
         (two_fields (field (alternative ⟦<AlgorithmIdentifierRef<'a> as Described>⟧.element))
         (field (alternative ⟦<BitStringRef<'a> as Described>⟧.element))))
         (λ v. (v.tbs_certificate, (v.signature_algorithm, v.signature))) };
@@ -98,7 +99,10 @@ impl<'a> WrittenValue for Certificate<'a> {
 ///
 /// Those of the fields, one behind the other, and `Overflow` without a position.
 impl<'a> EncodeValue for Certificate<'a> {
-    ghost value_size = { λ v. ⟦<CertificateFields<'a> as Encode>⟧.size (v.tbs_certificate, (v.signature_algorithm, v.signature)) };
+    ghost value_size = { λ v. ⟦<CertificateFields<'a> as Encode>⟧.size (
+      v.tbs_certificate,
+      (v.signature_algorithm, v.signature),
+    ) };
 
     ghost encode_value_answers = { λ v. ⟦<CertificateFields<'a> as Encode>⟧.encode_answers
         (v.tbs_certificate, (v.signature_algorithm, v.signature)) };

@@ -31,8 +31,10 @@ pub type ExtensionFields<'a> = (
 );
 
 impl<'a> Described for Extension<'a> {
-    ghost element = { sequence (two_fields (field (alternative ⟦<ObjectIdentifierRef<'a> as Described>⟧.element))
-        (two_fields (defaulted ⟦<BooleanRef<'a> as DefaultValue>⟧.is_default (alternative ⟦<BooleanRef<'a> as Described>⟧.element))
+    ghost element = { sequence (two_fields (field (alternative
+        ⟦<ObjectIdentifierRef<'a> as Described>⟧.element))
+        (two_fields (defaulted ⟦<BooleanRef<'a> as DefaultValue>⟧.is_default (alternative
+        ⟦<BooleanRef<'a> as Described>⟧.element))
         (field (alternative ⟦<OctetStringRef<'a> as Described>⟧.element))))
         (λ v. (v.extn_id, (v.critical, v.extn_value))) };
 }
@@ -98,7 +100,13 @@ impl<'a> WrittenValue for Extension<'a> {
 ///
 /// Those of the fields, one behind the other, and `Overflow` without a position.
 impl<'a> EncodeValue for Extension<'a> {
-    ghost value_size = { λ v. ⟦<ExtensionFields<'a> as Encode>⟧.size (v.extn_id, (v.critical, v.extn_value)) };
+    ghost value_size = { λ v. ⟦<ExtensionFields<'a> as Encode>⟧.size (
+      v.extn_id,
+      (
+        v.critical,
+        v.extn_value,
+      ),
+    ) };
 
     ghost encode_value_answers = { λ v. ⟦<ExtensionFields<'a> as Encode>⟧.encode_answers
         (v.extn_id, (v.critical, v.extn_value)) };

@@ -81,7 +81,8 @@ impl<'a> WrittenValue for Extensions<'a> {
 impl<'a> EncodeValue for Extensions<'a> {
     ghost value_size = { λ v. ⟦<SequenceOf<'a, Extension<'a>> as EncodeValue>⟧.value_size v.items };
 
-    ghost encode_value_answers = { λ v. ⟦<SequenceOf<'a, Extension<'a>> as EncodeValue>⟧.encode_value_answers v.items };
+    ghost encode_value_answers = { λ v.
+        ⟦<SequenceOf<'a, Extension<'a>> as EncodeValue>⟧.encode_value_answers v.items };
 
     fn value_len(&self) -> Result<Length, Error> {
         self.items.value_len()

@@ -36,8 +36,10 @@ impl<'a, R: Reader<Lent = &'a [u8]>> Decode<R> for Issued<'a> {
 
     ghost allocates = { false };
 
-    ghost decode_answers = { λ s result t. ⟦<IssuedFields<'a> as Decode<SliceReader<'a>>>⟧.decode_answers s
-        (map_ok (λ v. ((v.version, v.serial_number), ((v.signature, v.issuer), v.validity))) result) t };
+    ghost decode_answers = { λ s result t.
+        ⟦<IssuedFields<'a> as Decode<SliceReader<'a>>>⟧.decode_answers s
+        (map_ok (λ v. ((v.version, v.serial_number), ((v.signature, v.issuer), v.validity))) result)
+        t };
 
     fn decode(alloc: Global, reader: &mut R) -> Result<Self, Error> {
         let fields = <IssuedFields<'a> as Decode<R>>::decode(alloc, reader)?;

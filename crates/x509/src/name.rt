@@ -20,7 +20,8 @@ pub struct Name<'a> {
 }
 
 impl<'a> Described for Name<'a> {
-    ghost element = { renamed ⟦<SequenceOf<'a, RelativeDistinguishedName<'a>> as Described>⟧.element (λ v. v.levels) };
+    ghost element = { renamed ⟦<SequenceOf<'a, RelativeDistinguishedName<'a>> as Described>⟧.element
+        (λ v. v.levels) };
 }
 
 impl<'a> FixedTag for Name<'a> {
@@ -79,9 +80,12 @@ impl<'a> WrittenValue for Name<'a> {
 ///
 /// Those of the list.
 impl<'a> EncodeValue for Name<'a> {
-    ghost value_size = { λ v. ⟦<SequenceOf<'a, RelativeDistinguishedName<'a>> as EncodeValue>⟧.value_size v.levels };
+    ghost value_size = { λ v.
+        ⟦<SequenceOf<'a, RelativeDistinguishedName<'a>> as EncodeValue>⟧.value_size v.levels };
 
-    ghost encode_value_answers = { λ v. ⟦<SequenceOf<'a, RelativeDistinguishedName<'a>> as EncodeValue>⟧.encode_value_answers v.levels };
+    ghost encode_value_answers = { λ v.
+        ⟦<SequenceOf<'a, RelativeDistinguishedName<'a>> as EncodeValue>⟧.encode_value_answers
+        v.levels };
 
     fn value_len(&self) -> Result<Length, Error> {
         self.levels.value_len()

@@ -34,15 +34,30 @@ pub(crate) type SubjectFields<'a> = (
 impl<'a, R: Reader<Lent = &'a [u8]>> Decode<R> for Subject<'a> {
     type Error = Error;
 
-    ghost stands_ahead = { λ v. ⟦<SubjectFields<'a> as Decode<SliceReader<'a>>>⟧.stands_ahead
-        ((v.subject, v.subject_public_key_info), ((v.issuer_unique_id, v.subject_unique_id), v.extensions)) };
+    ghost stands_ahead = { λ v. ⟦<SubjectFields<'a> as Decode<SliceReader<'a>>>⟧.stands_ahead (
+      (v.subject, v.subject_public_key_info),
+      (
+        (v.issuer_unique_id, v.subject_unique_id),
+        v.extensions,
+      ),
+    ) };
 
     ghost decode_levels = { ⟦<SubjectFields<'a> as Decode<SliceReader<'a>>>⟧.decode_levels };
 
     ghost allocates = { false };
 
-    ghost decode_answers = { λ s result t. ⟦<SubjectFields<'a> as Decode<SliceReader<'a>>>⟧.decode_answers s
-        (map_ok (λ v. ((v.subject, v.subject_public_key_info), ((v.issuer_unique_id, v.subject_unique_id), v.extensions))) result) t };
+    ghost decode_answers = { λ s result t.
+        ⟦<SubjectFields<'a> as Decode<SliceReader<'a>>>⟧.decode_answers s
+        (map_ok (λ v. (
+          (v.subject, v.subject_public_key_info),
+          (
+            (
+              v.issuer_unique_id,
+              v.subject_unique_id,
+            ),
+            v.extensions,
+          ),
+        )) result) t };
 
     fn decode(alloc: Global, reader: &mut R) -> Result<Self, Error> {
         let fields = <SubjectFields<'a> as Decode<R>>::decode(alloc, reader)?;

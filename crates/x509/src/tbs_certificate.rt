@@ -2,7 +2,9 @@
 ghost use Rattle.std.specs.Prelude.{◌≡◌, false};
 ghost use Rattle.std.proofs.Common.{refl};
 ghost use Rattle.der.specs.Prelude.{Sequence, map_ok};
-ghost use Rattle.der_asn1.specs.Meaning.{alternative, defaulted, field, optional, seen, sequence, two_fields};
+ghost use Rattle.der_asn1.specs.Meaning.{alternative, defaulted, field, optional, seen, sequence};
+ghost use Rattle.der_asn1.specs.Meaning.{two_fields};
+ghost use Rattle.x509.specs.TbsCertificate.{halves};
 ghost use Rattle.x509.specs.declared.issued.Issued.{Issued};
 ghost use Rattle.x509.specs.declared.subject.Subject.{Subject};
 
@@ -67,19 +69,37 @@ pub type TbsCertificateFields<'a> = (
 
 impl<'a> Described for TbsCertificate<'a> {
     ghost element = { sequence (two_fields
-        (seen (λ (h : Issued). ((h.version, h.serial_number), ((h.signature, h.issuer), h.validity)))
-        (two_fields (two_fields (defaulted ⟦<Explicit<Version<'a>, 0> as DefaultValue>⟧.is_default (alternative ⟦<Explicit<Version<'a>, 0> as Described>⟧.element))
+        (seen (λ (h : Issued). (
+          (h.version, h.serial_number),
+          (
+            (h.signature, h.issuer),
+            h.validity,
+          ),
+        ))
+        (two_fields (two_fields (defaulted ⟦<Explicit<Version<'a>, 0> as DefaultValue>⟧.is_default
+        (alternative ⟦<Explicit<Version<'a>, 0> as Described>⟧.element))
         (field (alternative ⟦<IntRef<'a> as Described>⟧.element)))
-        (two_fields (two_fields (field (alternative ⟦<AlgorithmIdentifierRef<'a> as Described>⟧.element))
+        (two_fields (two_fields (field (alternative
+        ⟦<AlgorithmIdentifierRef<'a> as Described>⟧.element))
         (field (alternative ⟦<Name<'a> as Described>⟧.element)))
         (field (alternative ⟦<Validity as Described>⟧.element)))))
-        (seen (λ (t : Subject). ((t.subject, t.subject_public_key_info), ((t.issuer_unique_id, t.subject_unique_id), t.extensions)))
+        (seen (λ (t : Subject). (
+          (t.subject, t.subject_public_key_info),
+          (
+            (
+              t.issuer_unique_id,
+              t.subject_unique_id,
+            ),
+            t.extensions,
+          ),
+        ))
         (two_fields (two_fields (field (alternative ⟦<Name<'a> as Described>⟧.element))
         (field (alternative ⟦<SubjectPublicKeyInfoRef<'a> as Described>⟧.element)))
-        (two_fields (two_fields (optional (alternative ⟦<Implicit<BitStringRef<'a>, 1> as Described>⟧.element))
+        (two_fields (two_fields (optional (alternative
+        ⟦<Implicit<BitStringRef<'a>, 1> as Described>⟧.element))
         (optional (alternative ⟦<Implicit<BitStringRef<'a>, 2> as Described>⟧.element)))
         (optional (alternative ⟦<Explicit<Extensions<'a>, 3> as Described>⟧.element))))))
-        (λ v. (record { version = v.version; serial_number = v.serial_number; signature = v.signature; issuer = v.issuer; validity = v.validity }, record { subject = v.subject; subject_public_key_info = v.subject_public_key_info; issuer_unique_id = v.issuer_unique_id; subject_unique_id = v.subject_unique_id; extensions = v.extensions })) };
+        halves };
 }
 
 impl<'a> FixedTag for TbsCertificate<'a> {
@@ -114,7 +134,7 @@ impl<'a, R: Reader<Lent = &'a [u8]>> DecodeValue<R> for TbsCertificate<'a> {
 
     ghost decode_value_answers = { λ h s result t.
         ⟦<(Issued<'a>, Subject<'a>) as Decode<SliceReader<'a>>>⟧.decode_answers s
-        (map_ok (λ v. (record { version = v.version; serial_number = v.serial_number; signature = v.signature; issuer = v.issuer; validity = v.validity }, record { subject = v.subject; subject_public_key_info = v.subject_public_key_info; issuer_unique_id = v.issuer_unique_id; subject_unique_id = v.subject_unique_id; extensions = v.extensions })) result) t };
+        (map_ok halves result) t };
 
     fn decode_value(alloc: Global, reader: &mut R, header: Header) -> Result<Self, Error> {
         let (issued, subject) = decode_contents::<R, (Issued<'a>, Subject<'a>)>(
@@ -164,10 +184,33 @@ impl<'a> WrittenValue for TbsCertificate<'a> {
 ///
 /// Those of the fields, one behind the other, and `Overflow` without a position.
 impl<'a> EncodeValue for TbsCertificate<'a> {
-    ghost value_size = { λ v. ⟦<TbsCertificateFields<'a> as Encode>⟧.size (((v.version, v.serial_number), ((v.signature, v.issuer), v.validity)), ((v.subject, v.subject_public_key_info), ((v.issuer_unique_id, v.subject_unique_id), v.extensions))) };
+    ghost value_size = { λ v. ⟦<TbsCertificateFields<'a> as Encode>⟧.size (
+      (
+        (
+          v.version,
+          v.serial_number,
+        ),
+        ((v.signature, v.issuer), v.validity),
+      ),
+      (
+        (
+          v.subject,
+          v.subject_public_key_info,
+        ),
+        ((v.issuer_unique_id, v.subject_unique_id), v.extensions),
+      ),
+    ) };
 
-    ghost encode_value_answers = { λ v. ⟦<TbsCertificateFields<'a> as Encode>⟧.encode_answers
-        (((v.version, v.serial_number), ((v.signature, v.issuer), v.validity)), ((v.subject, v.subject_public_key_info), ((v.issuer_unique_id, v.subject_unique_id), v.extensions))) };
+    ghost encode_value_answers = { λ v. ⟦<TbsCertificateFields<'a> as Encode>⟧.encode_answers (
+      ((v.version, v.serial_number), ((v.signature, v.issuer), v.validity)),
+      (
+        (
+          v.subject,
+          v.subject_public_key_info,
+        ),
+        ((v.issuer_unique_id, v.subject_unique_id), v.extensions),
+      ),
+    ) };
 
     fn value_len(&self) -> Result<Length, Error> {
         (

@@ -25,8 +25,10 @@ pub struct Validity {
 pub type ValidityFields = (Time, Time);
 
 impl Described for Validity {
-    ghost element = { sequence (two_fields (field (either (alternative ⟦<UtcTime as Described>⟧.element) (alternative ⟦<GeneralizedTime as Described>⟧.element)))
-        (field (either (alternative ⟦<UtcTime as Described>⟧.element) (alternative ⟦<GeneralizedTime as Described>⟧.element))))
+    ghost element = { sequence (two_fields (field (either (alternative
+        ⟦<UtcTime as Described>⟧.element) (alternative ⟦<GeneralizedTime as Described>⟧.element)))
+        (field (either (alternative ⟦<UtcTime as Described>⟧.element) (alternative
+        ⟦<GeneralizedTime as Described>⟧.element))))
         (λ v. (v.not_before, v.not_after)) };
 }
 

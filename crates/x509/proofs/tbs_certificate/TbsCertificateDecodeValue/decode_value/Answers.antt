@@ -1,10 +1,11 @@
 use Rattle.std.proofs.lemmas.Result.{err_from_is_err_and}
+use Rattle.x509.specs.TbsCertificate.{halves}
 use Rattle.x509.proofs.tbs_certificate.TbsCertificateDecodeValue.decode_value.Goals as goal
 
 pub returns-in_err-issued-clause-complete : goal.returns-in_err-issued-clause-complete
 returns-in_err-issued-clause-complete g c v =
     let p = err_from_is_err_and c.from_residual.result c.from_residual.ensures.1 in
-    rw (p.1, p.2) (c.in_err-issued.ensures.complete (record { version = v.version; serial_number = v.serial_number; signature = v.signature; issuer = v.issuer; validity = v.validity }, record { subject = v.subject; subject_public_key_info = v.subject_public_key_info; issuer_unique_id = v.issuer_unique_id; subject_unique_id = v.subject_unique_id; extensions = v.extensions }))
+    rw (p.1, p.2) (c.in_err-issued.ensures.complete (halves v))
 
 pub returns-in_err-issued-clause-exact : goal.returns-in_err-issued-clause-exact
 returns-in_err-issued-clause-exact g c =
@@ -12,7 +13,7 @@ returns-in_err-issued-clause-exact g c =
     rw (p.1, p.2) c.in_err-issued.ensures.exact
 
 pub returns-clause-complete : goal.returns-clause-complete
-returns-clause-complete g c v = c.in_ok-issued.ensures.complete (record { version = v.version; serial_number = v.serial_number; signature = v.signature; issuer = v.issuer; validity = v.validity }, record { subject = v.subject; subject_public_key_info = v.subject_public_key_info; issuer_unique_id = v.issuer_unique_id; subject_unique_id = v.subject_unique_id; extensions = v.extensions })
+returns-clause-complete g c v = c.in_ok-issued.ensures.complete (halves v)
 
 pub returns-clause-exact : goal.returns-clause-exact
 returns-clause-exact g c = c.in_ok-issued.ensures.exact
