@@ -1,8 +1,9 @@
 //! What `bench/` measures the speed of: walks over the elements of an input, the decoding of keys,
-//! of byte strings and of texts, the comparison of elements, the reading of messages in indefinite
+//! of certificates, of byte strings and of texts, the comparison of elements, the reading of messages in indefinite
 //! lengths, and writing.
 #![tactic(auto)]
 
+mod certificates;
 mod decode;
 mod headers;
 mod nested;

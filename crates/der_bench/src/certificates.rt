@@ -1,0 +1,30 @@
+//! Certificates, decoded.
+use crate::Totals;
+use crate::decode::{Counted, decode_each};
+use der::EncodingRules;
+use std::alloc::Global;
+use x509::Certificate;
+
+impl<'a> Counted for Certificate<'a> {
+    #[inline(always)]
+    fn contents(&self) -> usize {
+        self.signature.octets().len()
+    }
+
+    #[inline(always)]
+    fn first_octet(&self) -> u8 {
+        self.tbs_certificate
+            .serial_number
+            .octets()
+            .first()
+            .copied()
+            .unwrap_or(0)
+    }
+}
+
+/// Decodes certificates, one behind the other, until the octets end, or an error. The contents are
+/// those of signatures, and the first octets those of serial numbers.
+#[unsafe(no_mangle)]
+pub extern "C" fn der_bench_certificates(alloc: Global, bytes: &[u8]) -> Totals {
+    decode_each::<Certificate<'_>>(alloc, bytes, EncodingRules::Der)
+}

@@ -1,0 +1,36 @@
+//! Attributes of RFC 5958, 2.
+ghost use Rattle.std.specs.Prelude.{◌≡◌};
+ghost use Rattle.std.proofs.Common.{arith};
+ghost use Rattle.der.specs.Prelude.{Set};
+ghost use Rattle.der_asn1.specs.Forms.{octets_form};
+
+use der::{FixedTag, Tag};
+use der_asn1::{Checked, Form};
+
+/// The form of attributes: any octets.
+pub struct AttributesForm;
+
+/// The attributes of a private key, lent by the input as octets that are not looked at.
+pub type Attributes<'a> = Checked<'a, AttributesForm>;
+
+impl FixedTag for AttributesForm {
+    ghost tag_is = { Set };
+
+    const TAG: Tag = Tag::Set;
+
+    fn fixed_tag() -> Tag
+        ensures { result ≡ Set }
+    {
+        Tag::Set
+    }
+}
+
+impl Form for AttributesForm {
+    ghost form = { octets_form };
+
+    fn has_form(_octets: &[u8]) -> bool {
+        true
+    }
+
+    ghost numbered = { Prim.omega arith };
+}

@@ -1,0 +1,168 @@
+//! PrivateKeyInfo of RFC 5208, 5, which RFC 5958, 2 calls OneAsymmetricKey.
+ghost use Rattle.std.specs.Prelude.{◌≡◌, false};
+ghost use Rattle.std.proofs.Common.{refl};
+ghost use Rattle.der.specs.Prelude.{Sequence, map_ok};
+ghost use Rattle.der_asn1.specs.Meaning.{alternative, field, optional, sequence, two_fields};
+
+use crate::attributes::Attributes;
+use crate::version::Version;
+use der::{
+    Decode, DecodeValue, Encode, EncodeRef, EncodeValue, Error, FixedTag, Header, Lawful, Length,
+    ReadValue, Reader, SliceReader, Tag, Writer, WrittenValue, decode_contents,
+};
+use der_asn1::{BitStringRef, Described, Implicit, OctetStringRef, Optional};
+use spki::AlgorithmIdentifierRef;
+use std::alloc::Global;
+
+/// A private key, with its algorithm, lent by the input.
+#[derive(Drop)]
+pub struct PrivateKeyInfo<'a> {
+    /// The version.
+    pub version: Version<'a>,
+    /// The algorithm.
+    pub private_key_algorithm: AlgorithmIdentifierRef<'a>,
+    /// The key, whose octets are those of its algorithm and are not looked at.
+    pub private_key: OctetStringRef<'a>,
+    /// What else is said of the key.
+    pub attributes: Optional<Implicit<Attributes<'a>, 0>>,
+    /// The public key, in version 2.
+    pub public_key: Optional<Implicit<BitStringRef<'a>, 1>>,
+}
+
+/// Its fields, one behind the other.
+pub type PrivateKeyInfoFields<'a> = (
+    (Version<'a>, AlgorithmIdentifierRef<'a>),
+    (
+        (OctetStringRef<'a>, Optional<Implicit<Attributes<'a>, 0>>),
+        Optional<Implicit<BitStringRef<'a>, 1>>,
+    ),
+);
+
+impl<'a> Described for PrivateKeyInfo<'a> {
+    ghost element = { sequence (two_fields (two_fields (field (alternative
+        ⟦<Version<'a> as Described>⟧.element))
+        (field (alternative ⟦<AlgorithmIdentifierRef<'a> as Described>⟧.element)))
+        (two_fields (two_fields (field (alternative ⟦<OctetStringRef<'a> as Described>⟧.element))
+        (optional (alternative ⟦<Implicit<Attributes<'a>, 0> as Described>⟧.element)))
+        (optional (alternative ⟦<Implicit<BitStringRef<'a>, 1> as Described>⟧.element))))
+        (λ v. ((v.version, v.private_key_algorithm), ((v.private_key, v.attributes), v.public_key))) };
+}
+
+impl<'a> FixedTag for PrivateKeyInfo<'a> {
+    ghost tag_is = { Sequence };
+
+    const TAG: Tag = Tag::Sequence;
+
+    fn fixed_tag() -> Tag
+        ensures { result ≡ Sequence }
+    {
+        Tag::Sequence
+    }
+}
+
+impl<'a> ReadValue for PrivateKeyInfo<'a> {
+    ghost valid = { ⟦<PrivateKeyInfo<'a> as Described>⟧.element.valid };
+
+    ghost takes = { ⟦<PrivateKeyInfo<'a> as Described>⟧.element.takes };
+
+    ghost value_levels = { ⟦<PrivateKeyInfo<'a> as Described>⟧.element.levels };
+
+    ghost allocates = { false };
+
+    ghost takes_valid = { ⟦<PrivateKeyInfo<'a> as Described>⟧.element.holds refl };
+}
+
+/// # Errors
+///
+/// Those of the fields, one behind the other.
+impl<'a, R: Reader<Lent = &'a [u8]>> DecodeValue<R> for PrivateKeyInfo<'a> {
+    type Error = Error;
+
+    ghost decode_value_answers = { λ h s result t.
+        ⟦<PrivateKeyInfoFields<'a> as Decode<SliceReader<'a>>>⟧.decode_answers s
+        (map_ok (λ v. (
+          (v.version, v.private_key_algorithm),
+          (
+            (v.private_key, v.attributes),
+            v.public_key,
+          ),
+        )) result) t };
+
+    fn decode_value(alloc: Global, reader: &mut R, header: Header) -> Result<Self, Error> {
+        let fields = decode_contents::<R, PrivateKeyInfoFields<'a>>(alloc, reader, header)?;
+        let ((version, private_key_algorithm), ((private_key, attributes), public_key)) = fields;
+        Ok(PrivateKeyInfo {
+            version,
+            private_key_algorithm,
+            private_key,
+            attributes,
+            public_key,
+        })
+    }
+
+    fn is_value(&self) {
+        <Version<'a> as DecodeValue<R>>::is_value(&self.version);
+        <AlgorithmIdentifierRef<'a> as DecodeValue<R>>::is_value(&self.private_key_algorithm);
+        <OctetStringRef<'a> as DecodeValue<R>>::is_value(&self.private_key);
+        if let Some(value) = &self.attributes.0 {
+            <Implicit<Attributes<'a>, 0> as DecodeValue<R>>::is_value(value);
+        }
+        if let Some(value) = &self.public_key.0 {
+            <Implicit<BitStringRef<'a>, 1> as DecodeValue<R>>::is_value(value);
+        }
+    }
+}
+
+impl<'a> WrittenValue for PrivateKeyInfo<'a> {
+    ghost contents = { ⟦<PrivateKeyInfo<'a> as Described>⟧.element.contents };
+
+    ghost writable = { ⟦<PrivateKeyInfo<'a> as Described>⟧.element.valid };
+}
+
+/// # Errors
+///
+/// Those of the fields, one behind the other, and `Overflow` without a position.
+impl<'a> EncodeValue for PrivateKeyInfo<'a> {
+    ghost value_size = { λ v. ⟦<PrivateKeyInfoFields<'a> as Encode>⟧.size (
+      (
+        v.version,
+        v.private_key_algorithm,
+      ),
+      ((v.private_key, v.attributes), v.public_key),
+    ) };
+
+    ghost encode_value_answers = { λ v. ⟦<PrivateKeyInfoFields<'a> as Encode>⟧.encode_answers
+        ((v.version, v.private_key_algorithm), ((v.private_key, v.attributes), v.public_key)) };
+
+    fn value_len(&self) -> Result<Length, Error> {
+        (
+            (
+                EncodeRef(&self.version),
+                EncodeRef(&self.private_key_algorithm),
+            ),
+            (
+                (EncodeRef(&self.private_key), EncodeRef(&self.attributes)),
+                EncodeRef(&self.public_key),
+            ),
+        )
+            .encoded_len()
+    }
+
+    fn encode_value<W: Writer>(&self, writer: &mut W) -> Result<(), Error> {
+        (
+            (
+                EncodeRef(&self.version),
+                EncodeRef(&self.private_key_algorithm),
+            ),
+            (
+                (EncodeRef(&self.private_key), EncodeRef(&self.attributes)),
+                EncodeRef(&self.public_key),
+            ),
+        )
+            .encode(writer)
+    }
+}
+
+impl<'a> Lawful for PrivateKeyInfo<'a> {
+    ghost lawful = { ⟦<PrivateKeyInfo<'a> as Described>⟧.element.lawful refl };
+}
