@@ -1,5 +1,5 @@
-//! Tests of `der_asn1`, made from outside as a user makes them: forms of contents, fields, tags, and
-//! public keys that `openssl genpkey` made, as `openssl pkey -pubout -outform DER` writes them.
+//! Tests of `der_asn1`, made from outside as a user makes them: forms of contents, fields, tags,
+//! lists and times.
 #![tactic(auto)]
 
 #[cfg(test)]
@@ -14,8 +14,6 @@ mod defaults;
 mod fields;
 #[cfg(test)]
 mod forms;
-#[cfg(test)]
-mod keys;
 #[cfg(test)]
 mod lists;
 #[cfg(test)]

@@ -1,8 +1,8 @@
 //! Public keys.
 use crate::checks::{holds, same_at};
-use der::{Encode, Error, ErrorKind, Length, Tag};
-use der_asn1::key_from_der;
+use der::{DecodeBytes, Encode, Error, ErrorKind, Length, Tag};
 use der_fixtures::errors::{incomplete, unexpected};
+use spki::SubjectPublicKeyInfoRef;
 use std::alloc::Global;
 
 // RSA with 1024 bits.
@@ -46,7 +46,7 @@ fn is_read(
     parameters: Option<usize>,
     key: usize,
 ) -> bool {
-    let Ok(info) = key_from_der(alloc, octets) else {
+    let Ok(info) = SubjectPublicKeyInfoRef::from_der(alloc, octets) else {
         return false;
     };
     let Ok(written) = info.to_der(alloc) else {
@@ -56,7 +56,7 @@ fn is_read(
         Some(any) => Some(any.contents.len()),
         None => None,
     };
-    info.algorithm.algorithm.octets() == algorithm
+    info.algorithm.oid.octets() == algorithm
         && told == parameters
         && info.subject_public_key.octets().len() == key
         && written.as_slice() == octets
@@ -76,7 +76,7 @@ fn keys_are_read_and_written(rt: HostRuntime) {
 
 // The error of a key of these octets, if there is one.
 fn refusal(alloc: Global, octets: &[u8]) -> Option<Error> {
-    key_from_der(alloc, octets).err()
+    SubjectPublicKeyInfoRef::from_der(alloc, octets).err()
 }
 
 #[test]

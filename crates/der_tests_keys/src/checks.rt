@@ -1,0 +1,19 @@
+//! Assertions as calls. The checker proves `assert_eq!` anew at each place where it is written, and
+//! that takes it seconds; of these calls it does so once.
+use std::fmt::{Debug, Display};
+use std::process::Abort;
+
+/// Ends the test where the answer is not what is expected, and says at which row.
+pub fn same_at<K: Display + Drop, T: PartialEq + Debug + Drop>(
+    rt: &impl Abort,
+    row: K,
+    answer: T,
+    expected: T,
+) {
+    assert_eq!(rt; answer, expected, "at {row}");
+}
+
+/// Ends the test where the fact is false.
+pub fn holds(rt: &impl Abort, fact: bool) {
+    assert!(rt; fact);
+}

@@ -1,0 +1,12 @@
+//! Tests of `spki`, `pkcs8` and `x509` over keys and certificates that `openssl` made, as it writes
+//! them with `-outform DER`.
+#![tactic(auto)]
+
+#[cfg(test)]
+mod certificates;
+#[cfg(test)]
+mod checks;
+#[cfg(test)]
+mod private_keys;
+#[cfg(test)]
+mod public_keys;
