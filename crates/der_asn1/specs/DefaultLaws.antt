@@ -5,8 +5,7 @@ use Rattle.der_asn1.specs.Follow.{either_tags}
 use Rattle.der_asn1.specs.Default.{DefaultAhead, absent, present, IsDefaulted, default_encoding}
 use Rattle.der_asn1.specs.Default.{DefaultPrecedes}
 use Rattle.der_asn1.specs.DefaultLemmas.{defaults_are_fields, default_may_start, default_precedes}
-use Rattle.der_asn1.specs.FieldLaws.{FieldLaws, SomeLaws, seen_laws}
-use Rattle.der_asn1.specs.declared.defaulted.Defaulted.{Defaulted}
+use Rattle.der_asn1.specs.FieldLaws.{FieldLaws, SomeLaws}
 
 pub default_holds : {A : Type 0} (tags : Tag → Type 0) (is_default : A → Bool)
     {Ahead : A → EncodingRules → List ℕ → ℕ → Type 0} {valid : A → Type 0}
@@ -32,11 +31,3 @@ default_laws {Ahead = Ahead} {valid} is_default one =
       precedes = default_precedes one.laws.tags is_default one.laws.precedes;
       holds = default_holds one.laws.tags is_default one.laws.holds;
     }
-
--- and in a `Defaulted`
-abbrev pub default_field : {A : Type 0} {Ahead : A → EncodingRules → List ℕ → ℕ → Type 0}
-    {valid : A → Type 0} {encoding : A → List ℕ} (is_default : A → Bool)
-    (one : SomeLaws Ahead valid encoding)
-    → FieldLaws (λ (p : Defaulted A). DefaultAhead one.laws.tags is_default Ahead p.0)
-    (λ p. IsDefaulted is_default valid p.0) (λ p. default_encoding is_default encoding p.0)
-default_field is_default one = seen_laws (λ p. p.0) (default_laws is_default one)

@@ -12,10 +12,9 @@ use Rattle.der_asn1.specs.Optional.{OptionAhead, IsOptional, option_encoding, Op
 use Rattle.der_asn1.specs.FollowLemmas.{encodings_are_fields, fields_follow, fields_lawful}
 use Rattle.der_asn1.specs.FollowLemmas.{lawful_starts, anything_precedes, pair_precedes}
 use Rattle.der_asn1.specs.FollowLemmas.{pair_precedes_absent, pair_may_start, starts_so_may}
-use Rattle.der_asn1.specs.FollowLemmas.{starts_append, starts_wider, last_of}
+use Rattle.der_asn1.specs.FollowLemmas.{last_of}
 use Rattle.der_asn1.specs.AnyElement.{AnyElementAhead, IsLawfulChoice}
 use Rattle.der_asn1.specs.AnyElementLemmas.{choices_are_encodings, choices_start}
-use Rattle.der_asn1.specs.declared.optional.Optional.{Optional}
 use Rattle.der_asn1.specs.OptionalLemmas.{options_are_fields, option_may_start, option_precedes}
 
 -- all that is known of a field: it is read as it is written, which tags it may begin with, and
@@ -125,13 +124,6 @@ seen_laws f one =
       holds = λ b. one.holds (f b);
     }
 
--- and in an `Optional`
-abbrev pub optional_field : {A : Type 0} {Ahead : A → EncodingRules → List ℕ → ℕ → Type 0}
-    {valid : A → Type 0} {encoding : A → List ℕ} (one : SomeLaws Ahead valid encoding)
-    → FieldLaws (λ (p : Optional A). OptionAhead one.laws.tags Ahead p.0)
-    (λ p. IsOptional valid p.0) (λ p. option_encoding encoding p.0)
-optional_field one = seen_laws (λ p. p.0) (optional_laws one)
-
 -- a field before one that always has octets, none of whose tags it may not stand before
 abbrev pub pair_laws : {A B : Type 0} {First : A → EncodingRules → List ℕ → ℕ → Type 0}
     {Second : B → EncodingRules → List ℕ → ℕ → Type 0} {is_first : A → Type 0}
@@ -174,39 +166,6 @@ pair_laws_absent {second = second} one two apart =
         one.holds v.0 rules octets f.first f.ahead,
         two.holds v.1 rules (drop f.first octets) f.second f.behind,
       );
-    }
-
--- so two fields always have octets, where the first has
-abbrev pub some_before : {A B : Type 0} {First : A → EncodingRules → List ℕ → ℕ → Type 0}
-    {Second : B → EncodingRules → List ℕ → ℕ → Type 0} {is_first : A → Type 0}
-    {is_second : B → Type 0} {first : A → List ℕ} {second : B → List ℕ}
-    (one : SomeLaws First is_first first) (two : FieldLaws Second is_second second)
-    → ((t : Tag) → one.laws.stops t → two.tags t → ⊥)
-    → SomeLaws (FieldsAhead First Second) (λ v. is_first v.0 × is_second v.1)
-    (λ v. first v.0 ++ second v.1)
-some_before {first = first} {second} one two apart =
-    record {
-      laws = pair_laws_absent one.laws two apart;
-      some = record {
-        starts = λ v is. starts_append (first v.0) (second v.1)
-            (starts_wider (λ t h. inl h) (one.some.starts v.0 is.0));
-      };
-    }
-
-abbrev pub some_before_some : {A B : Type 0} {First : A → EncodingRules → List ℕ → ℕ → Type 0}
-    {Second : B → EncodingRules → List ℕ → ℕ → Type 0} {is_first : A → Type 0}
-    {is_second : B → Type 0} {first : A → List ℕ} {second : B → List ℕ}
-    (one : SomeLaws First is_first first) (two : SomeLaws Second is_second second)
-    → ((t : Tag) → one.laws.stops t → two.laws.tags t → ⊥)
-    → SomeLaws (FieldsAhead First Second) (λ v. is_first v.0 × is_second v.1)
-    (λ v. first v.0 ++ second v.1)
-some_before_some {first = first} {second} one two apart =
-    record {
-      laws = pair_laws one.laws two apart;
-      some = record {
-        starts = λ v is. starts_append (first v.0) (second v.1)
-            (starts_wider (λ t h. inl h) (one.some.starts v.0 is.0));
-      };
     }
 
 -- fields that are all the contents of a type make it lawful

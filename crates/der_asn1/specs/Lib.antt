@@ -23,7 +23,6 @@ pub mod PairLaws
 pub mod AnyLaws
 pub mod Either
 pub mod EitherLaws
-pub mod ElementLaws
 pub mod Times
 pub mod SetOf
 pub mod Arcs
