@@ -9,6 +9,8 @@ mod arcs;
 #[cfg(test)]
 mod checks;
 #[cfg(test)]
+mod choices;
+#[cfg(test)]
 mod defaults;
 #[cfg(test)]
 mod fields;
