@@ -1,6 +1,6 @@
 //! Certificates.
 use crate::checks::{holds, same_at};
-use der::{DecodeBytes, Encode, Error, ErrorKind, Length, Tag};
+use der::{DecodeBytes, Encode, Error, ErrorKind, Length, Tag, TagNumber};
 use der_asn1::{DateTime, Either};
 use std::alloc::Global;
 use x509::{Certificate, Time};
@@ -151,5 +151,30 @@ fn a_certificate_with_another_octet_is_refused_where_it_stands(rt: HostRuntime) 
             actual_len: Length::new(321),
         }
         .at(Length::new(321))),
+    );
+}
+
+// The version is [0], behind which octet 12 stands. The extensions' octets begin at octet 151, and
+// `critical` of the third ends at octet 225.
+#[test]
+fn a_default_that_a_certificate_writes_is_refused_behind_it(rt: HostRuntime) {
+    let written = |tag: Tag, end: u32| -> Option<Error> {
+        Some(ErrorKind::Noncanonical { tag }.at(Length::new(end)))
+    };
+    let version = Tag::ContextSpecific {
+        constructed: true,
+        number: TagNumber(0),
+    };
+    same_at(
+        &rt,
+        "version 1",
+        refusal_with(rt.alloc(), 11, 0),
+        written(version, 12),
+    );
+    same_at(
+        &rt,
+        "critical FALSE",
+        refusal_with(rt.alloc(), 224, 0),
+        written(Tag::Boolean, 225 - 151),
     );
 }

@@ -7,6 +7,10 @@ mod certificates;
 #[cfg(test)]
 mod checks;
 #[cfg(test)]
+mod first_version;
+#[cfg(test)]
+mod names;
+#[cfg(test)]
 mod private_keys;
 #[cfg(test)]
 mod public_keys;
