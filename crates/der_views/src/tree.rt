@@ -3,7 +3,8 @@
 use crate::contents::write_contents;
 use crate::element::Element;
 use crate::failure::Failure;
-use der::{EncodingRules, Error, ErrorKind, Length};
+use crate::options::Options;
+use der::{Error, ErrorKind, Length};
 use std::alloc::{AllocError, Global};
 use std::fmt::Write;
 
@@ -24,8 +25,7 @@ pub fn write_tree(
     alloc: Global,
     text: &mut String,
     octets: &[u8],
-    rules: EncodingRules,
-    has_offsets: bool,
+    options: Options,
 ) -> Result<(), Failure> {
     let whole_end = u32::from(Length::try_from(octets.len())?);
     let mut around: Vec<Part> = Vec::new(alloc);
@@ -36,8 +36,8 @@ pub fn write_tree(
         if position >= end {
             return Ok(());
         }
-        let element = Element::read(octets, position, end, rules)?;
-        write_line(text, &element, around.len(), has_offsets)?;
+        let element = Element::read(octets, position, end, options.rules)?;
+        write_line(text, &element, around.len(), options.has_offsets)?;
         position = element.end;
         if element.header.is_constructed() {
             position = element.contents_start;
