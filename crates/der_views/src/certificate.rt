@@ -31,7 +31,11 @@ pub fn write_certificate(
 /// Writes version, serial number and algorithm.
 fn write_head(text: &mut String, tbs: &TbsCertificate<'_>) -> Result<(), AllocError> {
     if let [version, ..] = tbs.version.0.0.octets() {
-        writeln!(text, "Version: {} ({version:#x})", version.saturating_add(1))?;
+        writeln!(
+            text,
+            "Version: {} ({version:#x})",
+            version.saturating_add(1)
+        )?;
     }
     text.push_str("Serial Number: ")?;
     write_serial_number(text, &tbs.serial_number)?;

@@ -6,7 +6,10 @@ use std::alloc::AllocError;
 use std::fmt::Write;
 
 /// Writes the name of an identifier where it has one here, and its arcs.
-pub fn write_identifier(text: &mut String, oid: &ObjectIdentifierRef<'_>) -> Result<(), AllocError> {
+pub fn write_identifier(
+    text: &mut String,
+    oid: &ObjectIdentifierRef<'_>,
+) -> Result<(), AllocError> {
     match name_of(oid.octets()) {
         Some(name) => {
             write!(text, "{name} (")?;

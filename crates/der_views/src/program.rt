@@ -6,10 +6,9 @@ use crate::view::write_view;
 use der::Error;
 use std::alloc::{AllocError, Global};
 use std::env::Args;
-use std::fs;
-use std::io;
 use std::io::{Read, Write};
 use std::rt::Files;
+use std::{fs, io};
 
 const USAGE: &str = "usage: der_show [--offsets] [--ber] [FILE]\n";
 
@@ -35,11 +34,7 @@ pub fn run_arguments<R: Files + Input + AllocGlobal, W: Write>(
     }
 }
 
-fn run<R: Files + Input + AllocGlobal, W: Write>(
-    rt: &R,
-    command: Command<'_>,
-    out: &mut W,
-) -> u8 {
+fn run<R: Files + Input + AllocGlobal, W: Write>(rt: &R, command: Command<'_>, out: &mut W) -> u8 {
     match read_octets(rt, command.file) {
         Ok(octets) => match view(rt.alloc(), &octets, command.options) {
             Ok((text, status)) => say(&text, status, out),
@@ -50,10 +45,7 @@ fn run<R: Files + Input + AllocGlobal, W: Write>(
 }
 
 /// The octets of the file, or of standard input.
-fn read_octets<R: Files + Input + AllocGlobal>(
-    rt: &R,
-    file: Option<&str>,
-) -> io::Result<Vec<u8>> {
+fn read_octets<R: Files + Input + AllocGlobal>(rt: &R, file: Option<&str>) -> io::Result<Vec<u8>> {
     match file {
         Some(path) => fs::read(rt, path),
         None => {

@@ -23,16 +23,38 @@ pub fn write_public_key(
     text.push_str("Public Key Algorithm: ")?;
     write_identifier(text, algorithm)?;
     let octets = key.subject_public_key.octets().get(1..).unwrap_or(&[]);
-    if algorithm.octets() == RSA {
-        if let Ok(bits) = modulus_bits(octets) {
-            return write!(text, "\nPublic-Key: ({bits} bit)\n");
-        }
+    match key_bits(key, octets) {
+        Some(bits) => writeln!(text, "\nPublic-Key: ({bits} bit)")?,
+        None => writeln!(text, "\nPublic-Key: {} octets", octets.len())?,
     }
-    writeln!(text, "\nPublic-Key: {} octets", octets.len())?;
     if algorithm.octets() == ELLIPTIC_CURVE {
         return write_curve(text, key);
     }
     Ok(())
+}
+
+/// How many bits a key of an algorithm that is known here is said to have.
+fn key_bits(key: &SubjectPublicKeyInfoRef<'_>, octets: &[u8]) -> Option<u64> {
+    let algorithm = key.algorithm.oid.octets();
+    if algorithm == RSA {
+        return modulus_bits(octets).ok();
+    }
+    if algorithm == ELLIPTIC_CURVE {
+        if let Some(parameters) = &key.algorithm.parameters.0 {
+            return curve_bits(parameters.contents);
+        }
+    }
+    None
+}
+
+/// How many bits the order of a named curve has (RFC 5480, 2.1.1.1).
+fn curve_bits(curve: &[u8]) -> Option<u64> {
+    match curve {
+        [0x2a, 0x86, 0x48, 0xce, 0x3d, 0x03, 0x01, 0x07] => Some(256),
+        [0x2b, 0x81, 0x04, 0x00, 0x22] => Some(384),
+        [0x2b, 0x81, 0x04, 0x00, 0x23] => Some(521),
+        _ => None,
+    }
 }
 
 /// Writes the line of the curve that the parameters name.
@@ -76,7 +98,9 @@ fn bits_from_first(octets: &[u8]) -> u64 {
         [] => 0,
         [first, rest @ ..] => {
             let first_bits = 8u32.saturating_sub(first.leading_zeros());
-            (rest.len() as u64).saturating_mul(8).saturating_add(first_bits as u64)
+            (rest.len() as u64)
+                .saturating_mul(8)
+                .saturating_add(first_bits as u64)
         }
     }
 }
