@@ -1,0 +1,62 @@
+//! Contents of primitive elements.
+
+use crate::identifier::write_identifier;
+use der::Tag;
+use der_asn1::ObjectIdentifierRef;
+use std::alloc::AllocError;
+use std::fmt::Write;
+use std::str;
+
+/// How many octets are shown of contents that are not text.
+const SHOWN_OCTETS: usize = 32;
+
+/// Writes what is in an element: an identifier by its arcs, text as it is, and octets of anything
+/// else in hexadecimal, of which the first 32.
+pub fn write_contents(text: &mut String, tag: Tag, contents: &[u8]) -> Result<(), AllocError> {
+    if tag == Tag::ObjectIdentifier {
+        if let Some(oid) = ObjectIdentifierRef::new(contents) {
+            return write_identifier(text, &oid);
+        }
+    }
+    match shown_text(tag, contents) {
+        Some(shown) => text.push_str(shown),
+        None => write_first_octets(text, contents),
+    }
+}
+
+/// The text that the contents of a string or a time are, where a line can show it: UTF-8 without
+/// control characters.
+pub fn shown_text(tag: Tag, contents: &[u8]) -> Option<&str> {
+    match tag {
+        Tag::Utf8String
+        | Tag::PrintableString
+        | Tag::Ia5String
+        | Tag::VisibleString
+        | Tag::NumericString
+        | Tag::UtcTime
+        | Tag::GeneralizedTime => match str::from_utf8(contents) {
+            Ok(shown) if shown.chars().all(|c| !c.is_control()) => Some(shown),
+            _ => None,
+        },
+        _ => None,
+    }
+}
+
+/// Writes octets in upper case hexadecimal.
+pub fn write_octets(text: &mut String, octets: &[u8]) -> Result<(), AllocError> {
+    for octet in octets {
+        write!(text, "{octet:02X}")?;
+    }
+    Ok(())
+}
+
+/// Writes the first octets, and points where there are more.
+pub fn write_first_octets(text: &mut String, octets: &[u8]) -> Result<(), AllocError> {
+    match octets.get(..SHOWN_OCTETS) {
+        Some(first) if octets.len() > SHOWN_OCTETS => {
+            write_octets(text, first)?;
+            text.push_str("..")
+        }
+        _ => write_octets(text, octets),
+    }
+}

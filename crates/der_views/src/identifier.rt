@@ -1,0 +1,37 @@
+//! Object identifiers.
+
+use crate::names::name_of;
+use der_asn1::ObjectIdentifierRef;
+use std::alloc::AllocError;
+use std::fmt::Write;
+
+/// Writes the name of an identifier where it has one here, and its arcs.
+pub fn write_identifier(
+    text: &mut String,
+    oid: &ObjectIdentifierRef<'_>,
+) -> Result<(), AllocError> {
+    match name_of(oid.octets()) {
+        Some(name) => {
+            write!(text, "{name} (")?;
+            write_arcs(text, oid)?;
+            text.push(')')
+        }
+        None => write_arcs(text, oid),
+    }
+}
+
+/// Writes the arcs of an identifier, with points between them; `?` for one of more than 32 bits.
+pub fn write_arcs(text: &mut String, oid: &ObjectIdentifierRef<'_>) -> Result<(), AllocError> {
+    let mut is_first = true;
+    for arc in oid.arcs() {
+        if !is_first {
+            text.push('.')?;
+        }
+        is_first = false;
+        match arc {
+            Some(number) => write!(text, "{number}")?,
+            None => text.push('?')?,
+        }
+    }
+    Ok(())
+}

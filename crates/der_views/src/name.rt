@@ -1,0 +1,71 @@
+//! Names of issuers and subjects.
+
+use crate::contents::{shown_text, write_first_octets};
+use crate::identifier::write_arcs;
+use crate::names::name_of;
+use std::alloc::{AllocError, Global};
+use x509::{AttributeTypeAndValue, Name, RelativeDistinguishedName};
+
+/// Writes a name, its levels from the outermost, with commas between them.
+pub fn write_name(alloc: Global, text: &mut String, name: &Name<'_>) -> Result<(), AllocError> {
+    let mut levels = name.levels.items();
+    for at in 0..name.levels.octets().len() {
+        let Some(level) = levels.next(alloc) else {
+            return Ok(());
+        };
+        if at > 0 {
+            text.push_str(", ")?;
+        }
+        write_level(alloc, text, &level)?;
+    }
+    Ok(())
+}
+
+fn write_level(
+    alloc: Global,
+    text: &mut String,
+    level: &RelativeDistinguishedName<'_>,
+) -> Result<(), AllocError> {
+    let mut attributes = level.items();
+    for at in 0..level.octets().len() {
+        let Some(attribute) = attributes.next(alloc) else {
+            return Ok(());
+        };
+        if at > 0 {
+            text.push_str(" + ")?;
+        }
+        write_attribute(text, &attribute)?;
+    }
+    Ok(())
+}
+
+/// Writes an attribute: its type, and its value as text, or in hexadecimal behind `#`.
+fn write_attribute(
+    text: &mut String,
+    attribute: &AttributeTypeAndValue<'_>,
+) -> Result<(), AllocError> {
+    match name_of(attribute.oid.octets()) {
+        Some(name) => text.push_str(name)?,
+        None => write_arcs(text, &attribute.oid)?,
+    }
+    text.push('=')?;
+    let value = &attribute.value;
+    match shown_text(value.tag, value.contents) {
+        Some(shown) => write_escaped(text, shown),
+        None => {
+            text.push('#')?;
+            write_first_octets(text, value.contents)
+        }
+    }
+}
+
+/// Writes text, with a backslash before what has a meaning in a name (RFC 4514, 2.4).
+fn write_escaped(text: &mut String, shown: &str) -> Result<(), AllocError> {
+    for c in shown.chars() {
+        if matches!(c, ',' | '+' | '"' | '\\' | '<' | '>' | ';' | '#' | '=') {
+            text.push('\\')?;
+        }
+        text.push(c)?;
+    }
+    Ok(())
+}

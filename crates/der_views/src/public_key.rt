@@ -1,0 +1,106 @@
+//! Public keys.
+
+use crate::contents::write_first_octets;
+use crate::identifier::write_identifier;
+use der::{Error, Reader, SliceReader, Tag, decode_header};
+use der_asn1::ObjectIdentifierRef;
+use spki::SubjectPublicKeyInfoRef;
+use std::alloc::AllocError;
+use std::fmt::Write;
+
+/// rsaEncryption (RFC 8017, C).
+const RSA: &[u8] = &[0x2a, 0x86, 0x48, 0x86, 0xf7, 0x0d, 0x01, 0x01, 0x01];
+
+/// id-ecPublicKey (RFC 5480, 2.1.1).
+const ELLIPTIC_CURVE: &[u8] = &[0x2a, 0x86, 0x48, 0xce, 0x3d, 0x02, 0x01];
+
+/// Writes the lines of a public key: its algorithm, its size and the curve that it names.
+pub fn write_public_key(
+    text: &mut String,
+    key: &SubjectPublicKeyInfoRef<'_>,
+) -> Result<(), AllocError> {
+    let algorithm = &key.algorithm.oid;
+    text.push_str("Public Key Algorithm: ")?;
+    write_identifier(text, algorithm)?;
+    let octets = key.subject_public_key.octets().get(1..).unwrap_or(&[]);
+    match key_bits(key, octets) {
+        Some(bits) => writeln!(text, "\nPublic-Key: ({bits} bit)")?,
+        None => writeln!(text, "\nPublic-Key: {} octets", octets.len())?,
+    }
+    if algorithm.octets() == ELLIPTIC_CURVE {
+        return write_curve(text, key);
+    }
+    Ok(())
+}
+
+/// How many bits a key of an algorithm that is known here is said to have.
+fn key_bits(key: &SubjectPublicKeyInfoRef<'_>, octets: &[u8]) -> Option<u64> {
+    let algorithm = key.algorithm.oid.octets();
+    if algorithm == RSA {
+        return modulus_bits(octets).ok();
+    }
+    if algorithm == ELLIPTIC_CURVE {
+        if let Some(parameters) = &key.algorithm.parameters.0 {
+            return curve_bits(parameters.contents);
+        }
+    }
+    None
+}
+
+/// How many bits the order of a named curve has (RFC 5480, 2.1.1.1).
+fn curve_bits(curve: &[u8]) -> Option<u64> {
+    match curve {
+        [0x2a, 0x86, 0x48, 0xce, 0x3d, 0x03, 0x01, 0x07] => Some(256),
+        [0x2b, 0x81, 0x04, 0x00, 0x22] => Some(384),
+        [0x2b, 0x81, 0x04, 0x00, 0x23] => Some(521),
+        _ => None,
+    }
+}
+
+/// Writes the line of the curve that the parameters name.
+fn write_curve(text: &mut String, key: &SubjectPublicKeyInfoRef<'_>) -> Result<(), AllocError> {
+    let Some(parameters) = &key.algorithm.parameters.0 else {
+        return Ok(());
+    };
+    match ObjectIdentifierRef::new(parameters.contents) {
+        Some(curve) if parameters.tag == Tag::ObjectIdentifier => {
+            text.push_str("ASN1 OID: ")?;
+            write_identifier(text, &curve)?;
+        }
+        _ => {
+            text.push_str("Parameters: ")?;
+            write_first_octets(text, parameters.contents)?;
+        }
+    }
+    text.push('\n')
+}
+
+/// How many bits the modulus has, of an RSAPublicKey (RFC 8017, A.1.1).
+fn modulus_bits(octets: &[u8]) -> Result<u64, Error> {
+    let mut reader = SliceReader::new(octets)?;
+    let key = decode_header(&mut reader)?;
+    let _is_key = key.tag().assert_eq(Tag::Sequence)?;
+    let modulus = decode_header(&mut reader)?;
+    let _is_integer = modulus.tag().assert_eq(Tag::Integer)?;
+    Ok(bit_count(reader.read_slice(modulus.length())?))
+}
+
+/// How many bits a natural number has, whose octets begin with no more than one of zeros.
+fn bit_count(octets: &[u8]) -> u64 {
+    match octets {
+        [0, rest @ ..] => bits_from_first(rest),
+        all => bits_from_first(all),
+    }
+}
+
+fn bits_from_first(octets: &[u8]) -> u64 {
+    match octets {
+        [] => 0,
+        [first, rest @ ..] => {
+            let first_bits = 8u32.saturating_sub(first.leading_zeros());
+            (rest.len() as u64)
+                .saturating_mul(8)
+                .saturating_add(first_bits as u64)
+        }
+    }
+}
