@@ -5,6 +5,7 @@
 
 mod decode;
 mod headers;
+mod keys;
 mod nested;
 mod orders;
 mod scan;
