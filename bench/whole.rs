@@ -56,7 +56,11 @@ macro_rules! making {
         ];
         #[cfg(beside)]
         ways.push(run(By::Crate, beside::$hand));
-        tell(&row($name, $bound, $size, octets, wanted.len()), &ways, &mut ());
+        tell(
+            &row($name, $bound, $size, octets, wanted.len()),
+            &ways,
+            &mut (),
+        );
     }};
 }
 
@@ -98,7 +102,14 @@ fn main() {
         for bound in [33, 513] {
             making!("counted", count_keys, count, bound, size, &lent);
             tell_putting(bound, size, &lent);
-            making!("by encode_to_slice", keys_to_slice, to_slice, bound, size, &lent);
+            making!(
+                "by encode_to_slice",
+                keys_to_slice,
+                to_slice,
+                bound,
+                size,
+                &lent
+            );
             making!("by to_der", keys_to_der, to_der, bound, size, &lent);
         }
     }
