@@ -27,6 +27,7 @@ unsafe extern "C" {
     // A slice is handed over as a pointer and then a length.
     fn der_bench_nested(octets: *const u8, len: usize) -> Totals;
     fn der_bench_values(octets: *const u8, len: usize) -> Totals;
+    fn der_bench_halves(octets: *const u8, len: usize) -> Totals;
 }
 
 fn nested_proved(bytes: &[u8]) -> Totals {
@@ -37,6 +38,11 @@ fn nested_proved(bytes: &[u8]) -> Totals {
 fn values_proved(bytes: &[u8]) -> Totals {
     // SAFETY: as above.
     unsafe { der_bench_values(bytes.as_ptr(), bytes.len()) }
+}
+
+fn halves_proved(bytes: &[u8]) -> Totals {
+    // SAFETY: as above.
+    unsafe { der_bench_halves(bytes.as_ptr(), bytes.len()) }
 }
 
 pub fn pass(totals: &mut Totals, contents: &[u8]) {
@@ -110,9 +116,13 @@ fn walk_by_ends(bytes: &[u8]) -> Totals {
 )]
 fn tell_walks(size: usize, bytes: &[u8]) {
     let count = walk_by_calls(bytes).elements;
-    let library: [(&str, fn(&[u8]) -> Totals); 2] = [
+    let library: [(&str, fn(&[u8]) -> Totals); 3] = [
         ("certificates, by read_nested", nested_proved),
         ("certificates, by read_value", values_proved),
+        (
+            "certificates, by enter_nested and leave_nested",
+            halves_proved,
+        ),
     ];
     for (name, proved) in library {
         let row = Row {

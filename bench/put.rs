@@ -64,7 +64,7 @@ pub fn sequences(numbers: &[u64], out: &mut [u8]) -> Totals {
 }
 
 #[inline(always)]
-fn put_octet(out: &mut [u8], at: usize, octet: u8) -> Option<usize> {
+pub fn put_octet(out: &mut [u8], at: usize, octet: u8) -> Option<usize> {
     *out.get_mut(at)? = octet;
     Some(at + 1)
 }
@@ -84,7 +84,7 @@ fn put_tag(out: &mut [u8], at: usize, leading: u8, number: u32) -> Option<usize>
 }
 
 #[inline(always)]
-fn put_length(out: &mut [u8], at: usize, length: u32) -> Option<usize> {
+pub fn put_length(out: &mut [u8], at: usize, length: u32) -> Option<usize> {
     if length < 0x80 {
         return put_octet(out, at, length as u8);
     }

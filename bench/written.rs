@@ -23,8 +23,18 @@ impl Wanted {
     }
 }
 
+/// A key that is wanted, of octets that are lent: how many of them its algorithm has and itself,
+/// and its month.
+#[repr(C)]
+#[derive(Clone, Copy)]
+pub struct WantedKey {
+    pub algorithm: u32,
+    pub key: u32,
+    pub month: u8,
+}
+
 mod library {
-    use super::{Totals, Wanted};
+    use super::{Totals, Wanted, WantedKey};
 
     // Slices are handed over as pointers and then lengths; the allocator has no octets.
     unsafe extern "C" {
@@ -36,6 +46,32 @@ mod library {
         pub fn der_bench_to_slice(_: *const u64, _: usize) -> Totals;
         pub fn der_bench_to_der(_: *const u64, _: usize) -> Totals;
         pub fn der_bench_to_vec(_: *const u64, _: usize) -> Totals;
+        pub fn der_bench_count_keys(
+            _: *const WantedKey,
+            _: usize,
+            _: *const u8,
+            _: usize,
+        ) -> Totals;
+        pub fn der_bench_keys_to_slice(
+            _: *const WantedKey,
+            _: usize,
+            _: *const u8,
+            _: usize,
+        ) -> Totals;
+        pub fn der_bench_keys_to_der(
+            _: *const WantedKey,
+            _: usize,
+            _: *const u8,
+            _: usize,
+        ) -> Totals;
+        pub fn der_bench_put_keys(
+            _: *const WantedKey,
+            _: usize,
+            _: *const u8,
+            _: usize,
+            _: *mut u8,
+            _: usize,
+        ) -> Totals;
     }
 }
 
@@ -57,6 +93,28 @@ macro_rules! handed {
     };
 }
 
+/// The same of keys, and of the octets that are lent to them.
+macro_rules! keys {
+    ($name:ident, $library:ident) => {
+        pub fn $name(wanted: &[WantedKey], lent: &[u8]) -> Totals {
+            let (at, len) = (lent.as_ptr(), lent.len());
+            // SAFETY: pointers and lengths are those of slices, which the call only reads.
+            unsafe { library::$library(wanted.as_ptr(), wanted.len(), at, len) }
+        }
+    };
+}
+
+pub fn keys(wanted: &[WantedKey], lent: &[u8], out: &mut [u8]) -> Totals {
+    let (at, len) = (out.as_mut_ptr(), out.len());
+    let (from, count) = (lent.as_ptr(), lent.len());
+    // SAFETY: pointers and lengths are those of slices: the call reads the first two, and writes
+    // to the third.
+    unsafe { library::der_bench_put_keys(wanted.as_ptr(), wanted.len(), from, count, at, len) }
+}
+
+keys!(count_keys, der_bench_count_keys);
+keys!(keys_to_slice, der_bench_keys_to_slice);
+keys!(keys_to_der, der_bench_keys_to_der);
 handed!(headers, der_bench_put_headers, Wanted);
 handed!(known, der_bench_put_known, u32);
 handed!(elements, der_bench_put_elements, u64);

@@ -6,6 +6,7 @@
 mod certificates;
 mod decode;
 mod headers;
+mod keys;
 mod nested;
 mod orders;
 mod scan;

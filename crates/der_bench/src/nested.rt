@@ -1,8 +1,11 @@
 //! Walks over elements, and over those inside them.
+ghost use Rattle.std.specs.Prelude.{◌≡◌, length};
 ghost use Rattle.der.specs.Prelude.{Same, slice_state};
 
 use crate::Totals;
-use der::{Error, Header, Reader, ReaderExt, SliceReader, decode_header, read_value};
+use der::{
+    Error, Header, Length, Reader, ReaderExt, Resumption, SliceReader, decode_header, read_value,
+};
 
 // How many parts stand inside each other at most.
 const LEVELS: u8 = 64;
@@ -84,6 +87,60 @@ fn walk_values(reader: &mut SliceReader<'_>, levels: u8, totals: &mut Totals) ->
                 contents.len(),
                 contents.first().copied().unwrap_or(0) as u64,
             );
+        }
+    }
+    Ok(())
+}
+
+/// The same by a loop that enters parts by `enter_nested` and leaves them by `leave_nested`, without
+/// a closure or a call of itself.
+#[unsafe(no_mangle)]
+pub extern "C" fn der_bench_halves(bytes: &[u8]) -> Totals {
+    let mut totals = Totals::none();
+    if let Ok(mut reader) = SliceReader::new(bytes) {
+        let _ = walk_halves(&mut reader, bytes.len(), &mut totals);
+    }
+    totals
+}
+
+// The same over a reader whose input has so many octets.
+#[inline(always)]
+fn walk_halves(
+    reader: &mut SliceReader<'_>,
+    len: usize,
+    totals: &mut Totals,
+) -> Result<(), Error>
+    requires { length (slice_state reader.old).input ≡ len }
+{
+    let mut ends = [0u32; 64];
+    let mut level = 0usize;
+    // Each element has an octet at least, and each part is left once.
+    for _ in 0..len.saturating_mul(2) {
+        if reader.is_finished() {
+            if level == 0 {
+                break;
+            }
+            level -= 1;
+            let end = ends[level];
+            // What `leave_nested` asks is looked at in place of a proof that it is so.
+            if end as usize > len || u32::from(reader.position()) > end {
+                break;
+            }
+            reader.leave_nested(Resumption::new(Length::new(end), level as u8));
+        } else {
+            let header = decode_header(reader)?;
+            if header.is_constructed() && level < 64 {
+                totals.pass(0, 0);
+                let outer = reader.enter_nested(header.length())?;
+                ends[level] = u32::from(outer.input_len());
+                level += 1;
+            } else {
+                let contents = reader.read_slice(header.length())?;
+                totals.pass(
+                    contents.len(),
+                    contents.first().copied().unwrap_or(0) as u64,
+                );
+            }
         }
     }
     Ok(())

@@ -83,7 +83,7 @@ pub extern "C" fn der_bench_to_slice(numbers: &[u64]) -> Totals {
 // The last octet, or zero. By a call, for which all octets have to be written, and not this one
 // alone.
 #[inline(never)]
-fn last_of(octets: &[u8]) -> u8 {
+pub(crate) fn last_of(octets: &[u8]) -> u8 {
     octets.last().copied().unwrap_or(0)
 }
 

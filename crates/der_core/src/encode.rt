@@ -148,6 +148,7 @@ impl<T: EncodeValue + Tagged> Encode for T {
     ghost encode_answers = { λ v. ElementWritten (T.tag_of v) (T.value_size v)
         (T.encode_value_answers v) };
 
+    #[inline(always)]
     fn encoded_len(&self) -> Result<Length, Error> {
         encoded_len_tlv(self)
     }
@@ -167,6 +168,7 @@ impl<T: EncodeValue + Tagged> Encode for T {
 ///
 /// - Those of [`EncodeValue::value_len`].
 /// - `Overflow` without a position, where there are more octets than 4294967295.
+#[inline(always)]
 pub fn encoded_len_tlv<T: EncodeValue + Tagged>(value: &T) -> Result<Length, Error>
     ensures ok { Counts (element_octets (T.tag_of value.now) (T.contents value.now)) result }
     ensures succeeds { T.writable value.now

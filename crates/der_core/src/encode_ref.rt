@@ -35,10 +35,12 @@ impl<'a, T: Encode> Encode for EncodeRef<'a, T> {
 
     ghost encode_answers = { λ v. T.encode_answers v.0.now };
 
+    #[inline(always)]
     fn encoded_len(&self) -> Result<Length, Error> {
         self.0.encoded_len()
     }
 
+    #[inline(always)]
     fn encode<W: Writer>(&self, writer: &mut W) -> Result<(), Error> {
         self.0.encode(writer)
     }

@@ -326,7 +326,7 @@ impl DerOrd for Header {
 
     ghost delimited = { λ _. headers_delimited head_of };
 
-    #[inline]
+    #[inline(always)]
     #[tactic(auto, using(der_base::proofs::OrderLemmas::header_order))]
     fn der_cmp(&self, other: &Self) -> Result<Ordering, Error> {
         match self.tag().der_cmp(&other.tag())? {

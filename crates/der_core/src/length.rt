@@ -224,7 +224,7 @@ impl DerOrd for Length {
 
     ghost delimited = { λ _. lengths_delimited };
 
-    #[inline]
+    #[inline(always)]
     #[tactic(auto, using(der_base::proofs::OrderLemmas::length_order))]
     fn der_cmp(&self, other: &Self) -> Result<Ordering, Error> {
         Ok(u32::from(*self).cmp(&u32::from(*other)))

@@ -78,7 +78,7 @@ impl<T: EncodeValue + ValueOrd + Tagged> DerOrd for T {
 
     ghost delimited = { λ _. elements_delimited T.tag_of T.contents };
 
-    #[inline]
+    #[inline(always)]
     fn der_cmp(&self, other: &Self) -> Result<Ordering, Error> {
         der_cmp_tlv(self, other)
     }

@@ -375,8 +375,11 @@ impl DerOrd for Tag {
 
     ghost delimited = { λ _. tags_delimited };
 
-    #[inline]
+    #[inline(always)]
     fn der_cmp(&self, other: &Self) -> Result<Ordering, Error> {
+        if *self == *other {
+            return Ok(Ordering::Equal);
+        }
         Ok(left_aligned(*self).cmp(&left_aligned(*other)))
     }
 }

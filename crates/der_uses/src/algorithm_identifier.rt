@@ -70,10 +70,12 @@ impl<'a> EncodeValue for AlgorithmIdentifier<'a> {
 
     ghost encode_value_answers = { AlgorithmWritten };
 
+    #[inline(always)]
     fn value_len(&self) -> Result<Length, Error> {
         (EncodeRef(&self.algorithm), EncodeRef(&self.month)).encoded_len()
     }
 
+    #[inline(always)]
     fn encode_value<W: Writer>(&self, writer: &mut W) -> Result<(), Error> {
         (EncodeRef(&self.algorithm), EncodeRef(&self.month)).encode(writer)
     }

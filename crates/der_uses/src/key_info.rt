@@ -71,10 +71,12 @@ impl<'a> EncodeValue for KeyInfo<'a> {
 
     ghost encode_value_answers = { KeyInfoWritten };
 
+    #[inline(always)]
     fn value_len(&self) -> Result<Length, Error> {
         (EncodeRef(&self.algorithm), EncodeRef(&self.key)).encoded_len()
     }
 
+    #[inline(always)]
     fn encode_value<W: Writer>(&self, writer: &mut W) -> Result<(), Error> {
         (EncodeRef(&self.algorithm), EncodeRef(&self.key)).encode(writer)
     }

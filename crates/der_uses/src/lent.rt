@@ -70,10 +70,12 @@ impl<'a> EncodeValue for Lent<'a> {
 
     ghost encode_value_answers = { LentWritten };
 
+    #[inline(always)]
     fn value_len(&self) -> Result<Length, Error> {
         Length::new_usize(self.octets.len())
     }
 
+    #[inline(always)]
     fn encode_value<W: Writer>(&self, writer: &mut W) -> Result<(), Error> {
         writer.write(self.octets)
     }
@@ -82,6 +84,7 @@ impl<'a> EncodeValue for Lent<'a> {
 impl<'a> ValueOrd for Lent<'a> {
     ghost value_order = { lent_order };
 
+    #[inline(always)]
     fn value_cmp(&self, other: &Self) -> Result<Ordering, Error> {
         Ok(self.octets.cmp(other.octets))
     }

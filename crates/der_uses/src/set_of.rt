@@ -33,6 +33,7 @@ pub fn set_of_der(alloc: Global, elements: &mut [BorrowedOctets<'_>]) -> Result<
 }
 
 // The order of two elements by their encodings.
+#[inline(always)]
 fn encoding_order(a: &BorrowedOctets<'_>, b: &BorrowedOctets<'_>) -> Ordering
     ensures { result ≡ byte_order (string_octets (borrowed_octets a.now))
         (string_octets (borrowed_octets b.now)) }
@@ -162,6 +163,7 @@ fn pass_elements(alloc: Global, reader: &mut SliceReader<'_>) -> Result<(), Erro
 }
 
 // The next element, which may not come before the one ahead of it.
+#[inline(always)]
 fn next_behind<'a>(
     alloc: Global,
     reader: &mut SliceReader<'a>,
@@ -187,6 +189,7 @@ fn next_behind<'a>(
 }
 
 // The next element.
+#[inline(always)]
 fn next_element<'a>(
     alloc: Global,
     reader: &mut SliceReader<'a>,

@@ -79,10 +79,12 @@ impl<'a> EncodeValue for BorrowedOctets<'a> {
 
     ghost encode_value_answers = { OctetsWritten borrowed_octets };
 
+    #[inline(always)]
     fn value_len(&self) -> Result<Length, Error> {
         self.octets.value_len()
     }
 
+    #[inline(always)]
     fn encode_value<W: Writer>(&self, writer: &mut W) -> Result<(), Error> {
         self.octets.encode_value(writer)
     }
@@ -96,6 +98,7 @@ impl<'a> Lawful for BorrowedOctets<'a> {
 impl<'a> ValueOrd for BorrowedOctets<'a> {
     ghost value_order = { octets_order borrowed_octets };
 
+    #[inline(always)]
     fn value_cmp(&self, other: &Self) -> Result<Ordering, Error> {
         self.octets.der_cmp(&other.octets)
     }

@@ -94,6 +94,7 @@ impl Lawful for JoinedOctets {
 impl ValueOrd for JoinedOctets {
     ghost value_order = { octets_order joined_octets };
 
+    #[inline(always)]
     fn value_cmp(&self, other: &Self) -> Result<Ordering, Error> {
         self.octets.der_cmp(&other.octets)
     }

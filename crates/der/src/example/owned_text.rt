@@ -94,6 +94,7 @@ impl Lawful for OwnedText {
 impl ValueOrd for OwnedText {
     ghost value_order = { octets_order owned_text_octets };
 
+    #[inline(always)]
     fn value_cmp(&self, other: &Self) -> Result<Ordering, Error> {
         Ok(self.text.as_bytes().cmp(other.text.as_bytes()))
     }

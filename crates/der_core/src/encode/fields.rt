@@ -22,12 +22,20 @@ impl<A: Encode, B: Encode> Encode for (A, B) {
 
     ghost encode_answers = { λ v. FieldsWritten (A.encode_answers v.0) (B.encode_answers v.1) };
 
+    #[inline(always)]
     fn encoded_len(&self) -> Result<Length, Error> {
         self.0.encoded_len()? + self.1.encoded_len()?
     }
 
+    #[inline(always)]
     fn encode<W: Writer>(&self, writer: &mut W) -> Result<(), Error> {
-        self.0.encode(writer)?;
-        self.1.encode(writer)
+        // an answer is matched where it is made, as by `encode_tlv`
+        if let Err(error) = self.0.encode(writer) {
+            return Err(error);
+        }
+        if let Err(error) = self.1.encode(writer) {
+            return Err(error);
+        }
+        Ok(())
     }
 }

@@ -17,7 +17,7 @@ use std::cmp::Ordering;
 ///
 /// - Those of [`EncodeValue::header`], of the first value before the second.
 /// - Those of [`ValueOrd::value_cmp`], where the headers are equal.
-#[inline]
+#[inline(always)]
 pub fn der_cmp_tlv<T: EncodeValue + ValueOrd + Tagged>(
     value: &T,
     other: &T,

@@ -39,6 +39,7 @@ pub trait OrdIsValueOrd: Ord + EncodeValue {
 impl<T: OrdIsValueOrd> ValueOrd for T {
     ghost value_order = { λ v w. Ok (T.cmp v w) };
 
+    #[inline(always)]
     fn value_cmp(&self, other: &Self) -> Result<Ordering, Error> {
         Ok(self.cmp(other))
     }

@@ -101,6 +101,7 @@ impl DerOrd for BytesOwned {
 
     ghost delimited = { λ none. absurd none };
 
+    #[inline(always)]
     fn der_cmp(&self, other: &Self) -> Result<Ordering, Error> {
         Ok(self.as_slice().cmp(other.as_slice()))
     }

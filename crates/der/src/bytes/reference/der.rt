@@ -94,6 +94,7 @@ impl<'a> DerOrd for BytesRef<'a> {
 
     ghost delimited = { λ none. absurd none };
 
+    #[inline(always)]
     fn der_cmp(&self, other: &Self) -> Result<Ordering, Error> {
         Ok(self.as_slice().cmp(other.as_slice()))
     }

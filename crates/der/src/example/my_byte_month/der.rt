@@ -73,10 +73,12 @@ impl EncodeValue for MyByteMonth {
 
     ghost encode_value_answers = { MonthWritten };
 
+    #[inline(always)]
     fn value_len(&self) -> Result<Length, Error> {
         Ok(Length::ONE)
     }
 
+    #[inline(always)]
     fn encode_value<W: Writer>(&self, writer: &mut W) -> Result<(), Error> {
         writer.write_byte(self.number)
     }
@@ -90,6 +92,7 @@ impl Lawful for MyByteMonth {
 impl ValueOrd for MyByteMonth {
     ghost value_order = { octets_order month_contents };
 
+    #[inline(always)]
     fn value_cmp(&self, other: &Self) -> Result<Ordering, Error> {
         Ok(self.number.cmp(&other.number))
     }

@@ -1,11 +1,22 @@
-use Rattle.std.proofs.Common.{◌≡◌, ℕ, Ok, ◌∙◌, ap}
+use Rattle.std.proofs.Common.{◌≡◌, ℕ, Ok, ◌∙◌, ap, sym}
 use Rattle.std.specs.Ordering.{nat_cmp}
 use Rattle.std.specs.Int.Digits.{number_from_digits}
 use Rattle.der_base.specs.Order.{byte_order}
 use Rattle.der_base.specs.Tag.{tag_octets}
+use Rattle.der_base.proofs.EqualityLemmas.{tag_equality}
+use Rattle.der_base.proofs.OrderLemmas.{equal_octets}
 use Rattle.der_core.specs.DerOrd.{six_octets}
 use Rattle.der_core.proofs.TagOrderLemmas.{tag_order}
 use Rattle.der_core.proofs.tag.TagDerOrd.der_cmp.Goals as goal
+
+pub returns-then-eq : goal.returns-then-eq
+returns-then-eq c =
+    let t = c.args.self.now in
+    let u = c.args.other.now in
+    let told = tag_equality t u in
+    let same : t ≡ u = told.0 (sym c.eq.ensures ∙ c.if-eq.true) in
+    let e = sym (equal_octets (tag_octets t) (tag_octets u) (ap tag_octets same)) in
+    record { ok = λ _. e; complete = λ _ _ _. ap Ok e; exact = ap Ok e }
 
 pub returns : goal.returns
 returns c =

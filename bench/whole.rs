@@ -1,0 +1,116 @@
+//! Counts the octets of keys and writes keys, each a whole value, by the proved library and by
+//! hand, and tells how long one takes each.
+#[cfg(beside)]
+#[path = "whole_beside.rs"]
+mod beside;
+#[allow(dead_code, reason = "other drivers use the rest")]
+mod common;
+#[allow(dead_code, reason = "as above")]
+mod put;
+mod put_keys;
+mod rounds;
+#[allow(dead_code, reason = "as above")]
+mod written;
+
+use common::{Numbers, Totals};
+use rounds::{By, Row, SIZES, tell, way};
+use written::WantedKey;
+
+/// A way to make something of keys, and one to write them to octets.
+type Making = fn(&[WantedKey], &[u8]) -> Totals;
+type Putting = fn(&[WantedKey], &[u8], &mut [u8]) -> Totals;
+
+/// How many octets are lent: those of a key at most.
+const LENT: usize = 512;
+
+/// Keys with as many octets as this bound allows, until they have about so many together.
+fn wanted_keys(bound: u64, size: usize) -> Vec<WantedKey> {
+    let mut numbers = Numbers(0x9E37_79B9_7F4A_7C15);
+    let mut wanted = Vec::new();
+    let mut octets = 0;
+    while octets < size {
+        let len = numbers.below(bound) as u32;
+        wanted.push(WantedKey {
+            algorithm: 5 + len % 5,
+            key: len,
+            month: (len % 12) as u8,
+        });
+        octets += 18 + len as usize;
+    }
+    wanted
+}
+
+/// A row of what is made of keys, by the library, by hand and by the crate.
+macro_rules! making {
+    ($name:literal, $library:ident, $hand:ident, $bound:expr, $size:expr, $lent:expr) => {{
+        let wanted = wanted_keys($bound, $size);
+        let octets = put_keys::count(&wanted, $lent).contents as usize;
+        let run = |by, make: Making| {
+            let (wanted, lent) = (&wanted[..], $lent);
+            way(by, move |()| make(wanted, lent))
+        };
+        #[allow(unused_mut, reason = "the crate's way may not be there")]
+        let mut ways = vec![
+            run(By::Library, written::$library),
+            run(By::Hand, put_keys::$hand),
+        ];
+        #[cfg(beside)]
+        ways.push(run(By::Crate, beside::$hand));
+        tell(
+            &row($name, $bound, $size, octets, wanted.len()),
+            &ways,
+            &mut (),
+        );
+    }};
+}
+
+fn row(name: &str, bound: u64, size: usize, octets: usize, count: usize) -> Row {
+    Row {
+        name: format!("keys of 0 to {} octets, {name}", bound - 1),
+        size,
+        octets,
+        count: count as u64,
+    }
+}
+
+fn tell_putting(bound: u64, size: usize, lent: &[u8]) {
+    let wanted = wanted_keys(bound, size);
+    let octets = put_keys::count(&wanted, lent).contents as usize;
+    let mut out = vec![0; octets];
+    let run = |by, put: Putting| {
+        let wanted = &wanted[..];
+        way(by, move |out: &mut Vec<u8>| put(wanted, lent, out))
+    };
+    #[allow(unused_mut, reason = "as above")]
+    let mut ways = vec![
+        run(By::Library, written::keys),
+        run(By::Hand, put_keys::keys),
+    ];
+    #[cfg(beside)]
+    ways.push(run(By::Crate, beside::keys));
+    tell(
+        &row("into one writer", bound, size, octets, wanted.len()),
+        &ways,
+        &mut out,
+    );
+}
+
+fn main() {
+    let mut numbers = Numbers(0x2545_F491_4F6C_DD1D);
+    let lent: Vec<u8> = (0..LENT).map(|_| numbers.next() as u8).collect();
+    for size in SIZES {
+        for bound in [33, 513] {
+            making!("counted", count_keys, count, bound, size, &lent);
+            tell_putting(bound, size, &lent);
+            making!(
+                "by encode_to_slice",
+                keys_to_slice,
+                to_slice,
+                bound,
+                size,
+                &lent
+            );
+            making!("by to_der", keys_to_der, to_der, bound, size, &lent);
+        }
+    }
+}

@@ -1,0 +1,106 @@
+//! Keys that are written, each a whole value: a SEQUENCE with another one inside it.
+use crate::Totals;
+use crate::writing::last_of;
+use der::example::MyByteMonth;
+use der::{Encode, SliceWriter};
+use der_uses::algorithm_identifier::AlgorithmIdentifier;
+use der_uses::key_info::KeyInfo;
+use der_uses::lent::Lent;
+use std::alloc::Global;
+
+/// A key that is wanted, of octets that are lent.
+#[repr(C)]
+pub struct WantedKey {
+    /// How many of them its algorithm has.
+    pub algorithm: u32,
+    /// How many of them it has itself.
+    pub key: u32,
+    /// The algorithm's month, below 12.
+    pub month: u8,
+}
+
+#[inline(always)]
+fn key_of<'a>(wanted: &WantedKey, lent: &'a [u8]) -> Option<KeyInfo<'a>> {
+    let algorithm = lent.get(..wanted.algorithm as usize)?;
+    let key = lent.get(..wanted.key as usize)?;
+    let month = MyByteMonth::new(wanted.month)?;
+    Some(KeyInfo {
+        algorithm: AlgorithmIdentifier {
+            algorithm: Lent { octets: algorithm },
+            month,
+        },
+        key: Lent { octets: key },
+    })
+}
+
+/// Counts the octets of the keys' encodings, until all are counted, or an error.
+#[unsafe(no_mangle)]
+pub extern "C" fn der_bench_count_keys(wanted: &[WantedKey], lent: &[u8]) -> Totals {
+    let mut totals = Totals::none();
+    for one in wanted {
+        let Some(key) = key_of(one, lent) else {
+            return totals;
+        };
+        let Ok(len) = key.encoded_len() else {
+            return totals;
+        };
+        totals.pass(u32::from(len) as usize, 0);
+    }
+    totals
+}
+
+/// Writes the keys, one behind the other, until all are written, or an error: how many, and how
+/// many octets they have.
+#[unsafe(no_mangle)]
+pub extern "C" fn der_bench_put_keys(wanted: &[WantedKey], lent: &[u8], out: &mut [u8]) -> Totals {
+    let mut totals = Totals::none();
+    let mut writer = SliceWriter::new(out);
+    for one in wanted {
+        let Some(key) = key_of(one, lent) else {
+            return totals;
+        };
+        if key.encode(&mut writer).is_err() {
+            return totals;
+        }
+        totals.pass(0, 0);
+    }
+    totals.written(writer.finish())
+}
+
+/// Writes each key to the beginning of the same octets. The sum of first octets is that of the
+/// keys' last ones.
+#[unsafe(no_mangle)]
+pub extern "C" fn der_bench_keys_to_slice(wanted: &[WantedKey], lent: &[u8]) -> Totals {
+    let mut totals = Totals::none();
+    let mut buf = [0u8; 1024];
+    for one in wanted {
+        let Some(key) = key_of(one, lent) else {
+            return totals;
+        };
+        let Ok(octets) = key.encode_to_slice(&mut buf) else {
+            return totals;
+        };
+        totals.pass(octets.len(), last_of(octets) as u64);
+    }
+    totals
+}
+
+/// The same into a vector of its own.
+#[unsafe(no_mangle)]
+pub extern "C" fn der_bench_keys_to_der(
+    alloc: Global,
+    wanted: &[WantedKey],
+    lent: &[u8],
+) -> Totals {
+    let mut totals = Totals::none();
+    for one in wanted {
+        let Some(key) = key_of(one, lent) else {
+            return totals;
+        };
+        let Ok(octets) = key.to_der(alloc) else {
+            return totals;
+        };
+        totals.pass(octets.len(), last_of(octets.as_slice()) as u64);
+    }
+    totals
+}
