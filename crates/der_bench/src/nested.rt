@@ -105,11 +105,7 @@ pub extern "C" fn der_bench_halves(bytes: &[u8]) -> Totals {
 
 // The same over a reader whose input has so many octets.
 #[inline(always)]
-fn walk_halves(
-    reader: &mut SliceReader<'_>,
-    len: usize,
-    totals: &mut Totals,
-) -> Result<(), Error>
+fn walk_halves(reader: &mut SliceReader<'_>, len: usize, totals: &mut Totals) -> Result<(), Error>
     requires { length (slice_state reader.old).input ≡ len }
 {
     let mut ends = [0u32; 64];
