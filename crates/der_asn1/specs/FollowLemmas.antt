@@ -119,11 +119,6 @@ starts_so_may one = record { starts = λ v is. inr (one.starts v is) }
 pub anything_precedes : {A : Type 0} (valid : A → Type 0) (stops : Tag → Type 0) → PrecedesBut valid Anything stops
 anything_precedes valid stops = record { precedes = λ v behind is none. tt }
 
-module _ {A B : Type 0} {is_first : A → Type 0} (is_second : B → Type 0) {first : A → List ℕ} (second : B → List ℕ) {tags : Tag → Type 0} where
-  -- of two fields the first starts, where it always has octets
-  pub pair_starts : Starts is_first first tags → Starts (λ (v : A × B). is_first v.0 × is_second v.1) (λ v. first v.0 ++ second v.1) tags
-  pair_starts one = record { starts = λ v is. starts_append (first v.0) (second v.1) (one.starts v.0 is.0) }
-
 pub pair_may_start : {A B : Type 0} {is_first : A → Type 0} {is_second : B → Type 0} {first : A → List ℕ} {second : B → List ℕ} {tags more : Tag → Type 0} → MayStart is_first first tags → MayStart is_second second more
     → MayStart (λ (v : A × B). is_first v.0 × is_second v.1) (λ v. first v.0 ++ second v.1) (either_tags tags more)
 pair_may_start {A} {B} {first = first} {second} {tags} {more} one two = record { starts = λ v is. go v (one.starts v.0 is.0) (two.starts v.1 is.1) }
