@@ -18,8 +18,7 @@ use Rattle.der_asn1.specs.FieldLaws.{contents_laws, contents_hold}
 use Rattle.der_asn1.specs.Follow.{Anything, BothPrecede, this_tag, any_tag, either_tags}
 use Rattle.der_asn1.specs.Optional.{OptionAhead, IsOptional, option_encoding, OptionPrecedes}
 use Rattle.der_asn1.specs.PairLaws.{pair_set}
-use Rattle.der_asn1.specs.SequenceOf.{TakesList, IsList, list_lawful, list_holds}
-use Rattle.der_asn1.specs.SetOf.{TakesSet, IsSet, set_lawful, set_holds}
+use Rattle.der_asn1.specs.Lent.{TakesLent, IsLent, lent_lawful, lent_holds}
 use Rattle.der_asn1.specs.SetLaws.{SetLaws, ToldLaws, laws_of, element_told, told_set, pair_stops}
 use Rattle.der_asn1.specs.SetLaws.{optional_set, default_set, seen_set}
 use Rattle.der_asn1.specs.TagSets.{are_apart}
@@ -203,7 +202,7 @@ is_small n = nat_lt n (2 ^ 32)
 pub small : (n : ℕ) → is_small n ≡ true → n < 2 ^ 32
 small n e = ltb-true n (2 ^ 32) e
 
--- contents of a form, and lists and sets of elements
+-- contents of a form, and octets of which something holds, such as lists and sets of elements
 abbrev pub of_form : {A : Type 0} → Tag → (List ℕ → Bool) → (A → List ℕ) → Element A
 of_form tag form octets =
     record {
@@ -217,32 +216,17 @@ of_form tag form octets =
       holds = λ e v rules h octets taken. subst (λ x. form x ≡ true) (sym taken.1) taken.0;
     }
 
-abbrev pub list_of : {A B : Type 0} → Tag → Tag → (A → Type 0) → (A → List ℕ) → (B → List ℕ)
-    → Element B
-list_of outer tag valid contents octets =
+abbrev pub lent : {B : Type 0} → Tag → (List ℕ → Type 0) → (B → List ℕ) → Element B
+lent tag Holds octets =
     record {
-      tag = outer;
-      takes = TakesList tag valid contents octets;
-      valid = IsList tag valid contents octets;
+      tag = tag;
+      takes = TakesLent Holds octets;
+      valid = IsLent Holds octets;
       contents = octets;
       levels = λ _. 0;
-      fits = is_small (label outer).number;
-      lawful = λ e. list_lawful outer tag valid contents octets (small (label outer).number e);
-      holds = λ e. list_holds tag valid contents octets;
-    }
-
-abbrev pub set_of : {A B : Type 0} → Tag → Tag → (A → Type 0) → (A → List ℕ) → (B → List ℕ)
-    → Element B
-set_of outer tag valid contents octets =
-    record {
-      tag = outer;
-      takes = TakesSet tag valid contents octets;
-      valid = IsSet tag valid contents octets;
-      contents = octets;
-      levels = λ _. 0;
-      fits = is_small (label outer).number;
-      lawful = λ e. set_lawful outer tag valid contents octets (small (label outer).number e);
-      holds = λ e. set_holds tag valid contents octets;
+      fits = is_small (label tag).number;
+      lawful = λ e. lent_lawful tag Holds octets (small (label tag).number e);
+      holds = λ e. lent_holds Holds octets;
     }
 
 -- it fits, and nests at most 62 levels, so that it may stand in another element

@@ -4,12 +4,12 @@ ghost use Rattle.std.proofs.Common.{arith};
 ghost use Rattle.der.specs.Prelude.{Sequence, element_octets, rest_of, Reads, slice_state};
 ghost use Rattle.der.specs.Decode.{SucceedsOrLacks};
 ghost use Rattle.der_asn1.specs.Checked.{form_size, FormWritten};
-ghost use Rattle.der_asn1.specs.SequenceOf.{AreElements, IsAtItem, TakesList, IsList};
-ghost use Rattle.der_asn1.specs.SequenceOf.{list_lawful, list_holds};
+ghost use Rattle.der_asn1.specs.SequenceOf.{AreElements, IsAtItem};
+ghost use Rattle.der_asn1.specs.Lent.{TakesLent, IsLent, lent_lawful, lent_holds};
 ghost use Rattle.der_asn1.specs.ListAnswers.{ItemAnswer, ListWalked, ListRead};
 ghost use Rattle.der.specs.Prelude.{map_ok};
 ghost use Rattle.der.specs.Element.{ElementRead};
-ghost use Rattle.der_asn1.specs.Meaning.{list_of};
+ghost use Rattle.der_asn1.specs.Meaning.{lent};
 
 use crate::described::Described;
 use crate::explicit::Nestable;
@@ -102,15 +102,15 @@ impl<'a, T: Lawful> FixedTag for SequenceOf<'a, T> {
 }
 
 impl<'a, T: Lawful> ReadValue for SequenceOf<'a, T> {
-    ghost valid = { IsList T.tag_is T.valid T.contents (λ v. v.octets.now) };
+    ghost valid = { IsLent (AreElements T.tag_is T.valid T.contents) (λ v. v.octets.now) };
 
-    ghost takes = { TakesList T.tag_is T.valid T.contents (λ v. v.octets.now) };
+    ghost takes = { TakesLent (AreElements T.tag_is T.valid T.contents) (λ v. v.octets.now) };
 
     ghost value_levels = { λ _. 0 };
 
     ghost allocates = { T.allocates };
 
-    ghost takes_valid = { list_holds T.tag_is T.valid T.contents (λ v. v.octets.now) };
+    ghost takes_valid = { lent_holds (AreElements T.tag_is T.valid T.contents) (λ v. v.octets.now) };
 }
 
 /// The contents are lent, and every element in them is read once, under DER.
@@ -147,7 +147,7 @@ impl<'a, T: Lawful + DecodeValue<SliceReader<'a>>, R: Reader<Lent = &'a [u8]>> D
 impl<'a, T: Lawful> WrittenValue for SequenceOf<'a, T> {
     ghost contents = { λ v. v.octets.now };
 
-    ghost writable = { IsList T.tag_is T.valid T.contents (λ v. v.octets.now) };
+    ghost writable = { IsLent (AreElements T.tag_is T.valid T.contents) (λ v. v.octets.now) };
 }
 
 /// # Errors
@@ -169,7 +169,7 @@ impl<'a, T: Lawful> EncodeValue for SequenceOf<'a, T> {
 }
 
 impl<'a, T: Lawful> Lawful for SequenceOf<'a, T> {
-    ghost lawful = { list_lawful Sequence T.tag_is T.valid T.contents (λ v. v.octets.now)
+    ghost lawful = { lent_lawful Sequence (AreElements T.tag_is T.valid T.contents) (λ v. v.octets.now)
         (Prim.omega arith) };
 }
 
@@ -275,5 +275,5 @@ impl<'a, T: Lawful + DecodeValue<SliceReader<'a>>> Items<'a, T> {
 }
 
 impl<'a, T: Lawful> Described for SequenceOf<'a, T> {
-    ghost element = { list_of Sequence T.tag_is T.valid T.contents (λ v. v.octets.now) };
+    ghost element = { lent Sequence (AreElements T.tag_is T.valid T.contents) (λ v. v.octets.now) };
 }

@@ -5,12 +5,12 @@ ghost use Rattle.der.specs.Prelude.{Set as SetTag, rest_of, Reads, slice_state, 
 ghost use Rattle.der.specs.Decode.{SucceedsOrLacks};
 ghost use Rattle.der_asn1.specs.Checked.{form_size, FormWritten};
 ghost use Rattle.der_asn1.specs.SequenceOf.{AreElements, IsAtItem};
-ghost use Rattle.der_asn1.specs.SetOf.{AreAscending, IsElement, TakesSet, IsSet, set_lawful};
-ghost use Rattle.der_asn1.specs.SetOf.{set_holds};
+ghost use Rattle.der_asn1.specs.SetOf.{AreAscending, IsElement};
+ghost use Rattle.der_asn1.specs.Lent.{TakesLent, IsLent, lent_lawful, lent_holds};
 ghost use Rattle.der_asn1.specs.ListAnswers.{NextAnswer, SetWalked, ListRead};
 ghost use Rattle.der.specs.Prelude.{map_ok};
 ghost use Rattle.der.specs.Element.{ElementRead};
-ghost use Rattle.der_asn1.specs.Meaning.{set_of};
+ghost use Rattle.der_asn1.specs.Meaning.{lent};
 
 use crate::described::Described;
 use crate::explicit::Nestable;
@@ -124,15 +124,15 @@ impl<'a, T: Lawful> FixedTag for SetOf<'a, T> {
 }
 
 impl<'a, T: Lawful> ReadValue for SetOf<'a, T> {
-    ghost valid = { IsSet T.tag_is T.valid T.contents (λ v. v.elements.octets.now) };
+    ghost valid = { IsLent (AreAscending T.tag_is T.valid T.contents) (λ v. v.elements.octets.now) };
 
-    ghost takes = { TakesSet T.tag_is T.valid T.contents (λ v. v.elements.octets.now) };
+    ghost takes = { TakesLent (AreAscending T.tag_is T.valid T.contents) (λ v. v.elements.octets.now) };
 
     ghost value_levels = { λ _. 0 };
 
     ghost allocates = { T.allocates };
 
-    ghost takes_valid = { set_holds T.tag_is T.valid T.contents (λ v. v.elements.octets.now) };
+    ghost takes_valid = { lent_holds (AreAscending T.tag_is T.valid T.contents) (λ v. v.elements.octets.now) };
 }
 
 /// The contents are lent, and every element in them is read once, under DER; also under BER the
@@ -172,7 +172,7 @@ impl<'a, T: Lawful + DecodeValue<SliceReader<'a>>, R: Reader<Lent = &'a [u8]>> D
 impl<'a, T: Lawful> WrittenValue for SetOf<'a, T> {
     ghost contents = { λ v. v.elements.octets.now };
 
-    ghost writable = { IsSet T.tag_is T.valid T.contents (λ v. v.elements.octets.now) };
+    ghost writable = { IsLent (AreAscending T.tag_is T.valid T.contents) (λ v. v.elements.octets.now) };
 }
 
 /// # Errors
@@ -194,7 +194,7 @@ impl<'a, T: Lawful> EncodeValue for SetOf<'a, T> {
 }
 
 impl<'a, T: Lawful> Lawful for SetOf<'a, T> {
-    ghost lawful = { set_lawful SetTag T.tag_is T.valid T.contents (λ v. v.elements.octets.now)
+    ghost lawful = { lent_lawful SetTag (AreAscending T.tag_is T.valid T.contents) (λ v. v.elements.octets.now)
         (Prim.omega arith) };
 }
 
@@ -251,5 +251,5 @@ impl<'a, T: Lawful> SetOf<'a, T> {
 }
 
 impl<'a, T: Lawful> Described for SetOf<'a, T> {
-    ghost element = { set_of SetTag T.tag_is T.valid T.contents (λ v. v.elements.octets.now) };
+    ghost element = { lent SetTag (AreAscending T.tag_is T.valid T.contents) (λ v. v.elements.octets.now) };
 }

@@ -1,0 +1,38 @@
+-- Octets of which something holds, lent by the input: elements of a list or of a set.
+use Rattle.std.specs.Prelude.{◌≡◌, ℕ, ◌^◌, ◌<◌, List, length}
+use Rattle.std.proofs.Common.{arith, subst, sym}
+use Rattle.der.specs.Prelude.{Head, Tag, EncodingRules, Der, IsLawful}
+use Rattle.der.specs.Lawful.{definite_head}
+use Rattle.der.specs.Tag.{label}
+
+-- contents of which it holds are taken as they stand, whatever the rules
+abbrev pub TakesLent : {B : Type 0} → (List ℕ → Type 0) → (B → List ℕ) → B → EncodingRules → Head
+    → List ℕ → Type 0
+TakesLent Holds octets_of v rules h octets =
+    ∥ Holds octets ∥₁ × (length octets < 2 ^ 32) × (octets_of v ≡ octets)
+
+abbrev pub IsLent : {B : Type 0} → (List ℕ → Type 0) → (B → List ℕ) → B → Type 0
+IsLent Holds octets_of v = ∥ Holds (octets_of v) ∥₁ × (length (octets_of v) < 2 ^ 32)
+
+-- so it holds of the contents of such a value
+pub lent_holds : {B : Type 0} (Holds : List ℕ → Type 0) (octets_of : B → List ℕ) (v : B)
+    (rules : EncodingRules) (h : Head) (octets : List ℕ)
+    → TakesLent Holds octets_of v rules h octets → IsLent Holds octets_of v
+lent_holds Holds octets_of v rules h octets taken = (
+  subst (λ x. ∥ Holds x ∥₁) (sym taken.2) taken.0,
+  subst (λ x. length x < 2 ^ 32) (sym taken.2) taken.1,
+)
+
+-- it is read as it is written
+pub lent_lawful : {B : Type 0} (outer : Tag) (Holds : List ℕ → Type 0) (octets_of : B → List ℕ)
+    → (label outer).number < 2 ^ 32
+    → IsLawful outer (TakesLent Holds octets_of) (IsLent Holds octets_of) octets_of (λ _. 0)
+lent_lawful outer Holds octets_of numbered =
+    record {
+      exact = λ octets v short. (
+        λ h. (lent_holds Holds octets_of v Der (definite_head outer 0) octets h, h.2),
+        λ h. (subst (λ x. ∥ Holds x ∥₁) h.1 h.0.0, short, h.1),
+      );
+      shallow = omega arith;
+      numbered = numbered;
+    }
