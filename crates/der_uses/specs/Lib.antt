@@ -2,3 +2,4 @@ pub mod Lent
 pub mod AlgorithmIdentifier
 pub mod KeyInfo
 pub mod SetOf
+pub mod Version

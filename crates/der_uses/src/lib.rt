@@ -9,7 +9,13 @@ pub mod key_info;
 pub mod lent;
 pub mod message;
 pub mod nested;
+pub mod public_key;
+#[cfg(test)]
+mod public_key_tests;
 pub mod reader;
 pub mod sequence;
 pub mod set_of;
+pub mod version;
+#[cfg(test)]
+mod version_tests;
 pub mod writer;

@@ -1,0 +1,62 @@
+//! A public key, read field by field: SubjectPublicKeyInfo of RFC 5280, 4.1.
+ghost use Rattle.std.specs.Prelude.{◌≡◌};
+ghost use Rattle.der.specs.Prelude.{Same, slice_state};
+
+use der::{Error, ErrorKind, Reader, ReaderExt, SliceReader, Tag, decode_header};
+
+/// A public key, lent by the input.
+#[derive(Clone, Copy, Debug, PartialEq, Eq)]
+pub struct PublicKey<'a> {
+    /// The contents of the OBJECT IDENTIFIER that names the algorithm.
+    pub algorithm: &'a [u8],
+    /// The parameters of the algorithm, a whole element, where there are any.
+    pub parameters: Option<&'a [u8]>,
+    /// The octets of the key.
+    pub key: &'a [u8],
+}
+
+/// The public key that all the octets are.
+pub fn public_key(octets: &[u8]) -> Result<PublicKey<'_>, Error> {
+    let mut reader = SliceReader::new(octets)?;
+    let key = reader.sequence(read_fields)?;
+    reader.finish()?;
+    Ok(key)
+}
+
+// The fields of the outer SEQUENCE.
+fn read_fields<'a>(reader: &mut SliceReader<'a>) -> Result<PublicKey<'a>, Error>
+    ensures { Same (slice_state reader.old) (slice_state reader.new) }
+{
+    let (algorithm, parameters) = reader.sequence(read_algorithm)?;
+    let bits = read_contents(reader, Tag::BitString)?;
+    // The first octet counts bits of the last one that are not used (X.690 8.6.2); a key has none.
+    match bits.split_first() {
+        Some((0, key)) => Ok(PublicKey {
+            algorithm,
+            parameters,
+            key,
+        }),
+        _ => Err(reader.error(Tag::BitString.value_error())),
+    }
+}
+
+// The fields of the SEQUENCE that tells the algorithm, of which the second may be absent.
+fn read_algorithm<'a>(reader: &mut SliceReader<'a>) -> Result<(&'a [u8], Option<&'a [u8]>), Error>
+    ensures { Same (slice_state reader.old) (slice_state reader.new) }
+{
+    let algorithm = read_contents(reader, Tag::ObjectIdentifier)?;
+    if reader.is_finished() {
+        return Ok((algorithm, None));
+    }
+    let parameters = reader.tlv_bytes()?;
+    Ok((algorithm, Some(parameters)))
+}
+
+// The contents of the element ahead, which has to have this tag.
+fn read_contents<'a>(reader: &mut SliceReader<'a>, tag: Tag) -> Result<&'a [u8], Error>
+    ensures { Same (slice_state reader.old) (slice_state reader.new) }
+{
+    let header = decode_header(reader)?;
+    header.tag().assert_eq(tag)?;
+    reader.read_slice(header.length())
+}

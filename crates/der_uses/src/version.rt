@@ -1,0 +1,101 @@
+//! A type of a user's own that has three values alone: a version, as an INTEGER of one octet.
+ghost use Rattle.std.specs.Prelude.{◌≡◌, false};
+ghost use Rattle.der.specs.Prelude.{Integer};
+ghost use Rattle.der_uses.specs.Version.{IsVersion, TakesVersion, VersionRead, VersionWritten, version_contents, version_lawful, version_number, version_size};
+
+use der::{
+    DecodeValue, EncodeValue, Error, FixedTag, Header, Lawful, Length, ReadValue, Reader,
+    ReaderExt, Tag, Writer, WrittenValue,
+};
+use std::alloc::Global;
+
+/// A version of a certificate (RFC 5280, 4.1.2.1).
+#[derive(Clone, Copy, Debug, PartialEq, Eq)]
+pub enum Version {
+    /// It is written as 0.
+    V1,
+    /// It is written as 1.
+    V2,
+    /// It is written as 2.
+    V3,
+}
+
+impl Version {
+    /// The number that is written.
+    pub fn number(self) -> u8
+        ensures { result ≡ version_number self }
+    {
+        match self {
+            Version::V1 => 0,
+            Version::V2 => 1,
+            Version::V3 => 2,
+        }
+    }
+}
+
+impl FixedTag for Version {
+    ghost tag_is = { Integer };
+
+    const TAG: Tag = Tag::Integer;
+
+    fn fixed_tag() -> Tag {
+        Self::TAG
+    }
+}
+
+impl ReadValue for Version {
+    ghost valid = { IsVersion };
+
+    ghost takes = { TakesVersion };
+
+    ghost value_levels = { λ _. 0 };
+
+    ghost allocates = { false };
+
+    ghost takes_valid = { λ v rules h octets taken. tt };
+}
+
+impl WrittenValue for Version {
+    ghost contents = { version_contents };
+
+    ghost writable = { IsVersion };
+}
+
+impl Lawful for Version {
+    ghost lawful = { version_lawful };
+}
+
+/// # Errors
+///
+/// - `Failed`, `Overflow` and `Incomplete`, as by [`ReaderExt::read_byte`].
+/// - `Value` behind an octet that is no version; the reader has failed then.
+impl<R: Reader> DecodeValue<R> for Version {
+    type Error = Error;
+
+    ghost decode_value_answers = { VersionRead };
+
+    fn decode_value(_alloc: Global, reader: &mut R, _header: Header) -> Result<Self, Error> {
+        match reader.read_byte()? {
+            0 => Ok(Version::V1),
+            1 => Ok(Version::V2),
+            2 => Ok(Version::V3),
+            _ => Err(reader.error(Tag::Integer.value_error())),
+        }
+    }
+
+    fn is_value(&self) {}
+}
+
+impl EncodeValue for Version {
+    ghost value_size = { version_size };
+
+    ghost encode_value_answers = { VersionWritten };
+
+    fn value_len(&self) -> Result<Length, Error> {
+        Ok(Length::ONE)
+    }
+
+    fn encode_value<W: Writer>(&self, writer: &mut W) -> Result<(), Error> {
+        writer.write_byte(self.number())
+    }
+}
