@@ -7,10 +7,10 @@ use Rattle.der_base.specs.declared.tag.Tag.{Tag}
 use Rattle.der_base.specs.declared.encoding_rules.EncodingRules.TheVariants.{Ber}
 use Rattle.der_core.specs.Encode.{element_octets}
 
--- a list of whole elements with this tag, and what they are joined to, in the order of the elements:
--- a primitive one of definite length gives its contents; a constructed one, where a level is left,
--- gives what its own contents are joined to, with one level fewer: those of a definite length, or
--- those of an indefinite one without the end mark
+-- a list of whole elements with this tag, and what they are joined to, in the order of the
+-- elements: a primitive one of definite length gives its contents; a constructed one, where a level
+-- is left, gives what its own contents are joined to, with one level fewer: those of a definite
+-- length, or those of an indefinite one without the end mark
 pub data Joined (tag : Tag) : ℕ → List ℕ → List ℕ → Type 0 where
   none : {levels : ℕ} → Joined tag levels [] []
   segment : {levels : ℕ} {more out : List ℕ} (contents : List ℕ)

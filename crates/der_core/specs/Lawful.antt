@@ -1,4 +1,6 @@
--- What it means that exactly the encodings of values are read.
+-- What it means that exactly the encodings of values are read: `IsLawful` is what the author of a
+-- type proves; of its elements `ReadsEncodings`, `ReadsWholeEncodings`, `PassesEncodings` and
+-- `ReadsWritten` follow, and of tags, lengths and headers `ReadsExactly`.
 use Rattle.std.specs.Prelude.{◌≡◌, ◌↔◌, ℕ, ◌^◌, ◌<◌, ◌≤◌, List, ◌++◌, length}
 use Rattle.der_base.specs.Length.{number, definite_length}
 use Rattle.der_base.specs.Tag.{label}

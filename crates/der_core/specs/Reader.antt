@@ -1,4 +1,5 @@
--- The tables of a reader's calls.
+-- The tables of a reader's calls, each named after its call: `read_slice_outcome` and so on.
+-- `VecMeets` has the rows of `read_vec_in`, which `VecRefused` refuses.
 use Rattle.std.specs.Prelude.{◌≡◌, ℕ, zero, suc, ◌+◌, ◌-◌, ◌*◌, ◌/◌, ◌^◌, ◌⊎◌, Bool, true, List, [], ◌∷◌, take, min, Result, Ok, Err, IsOk, if◌then◌else◌, nat_lt, nat_le, ◌==◌, ◌&&◌, not}
 use Rattle.der_base.specs.Length.{number, is_indefinite, definite_length}
 use Rattle.der_base.specs.Error.{error_at, error_of_kind, missing_refusal, end_refusal}

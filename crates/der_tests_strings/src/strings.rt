@@ -12,6 +12,7 @@ use std::alloc::Global;
 use std::test::Fail;
 
 mod borrowed;
+mod constants;
 mod cows;
 mod examples;
 mod orders;

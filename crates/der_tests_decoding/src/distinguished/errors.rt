@@ -33,7 +33,7 @@ impl DecodeError for OctetError {
 
 // An octet, of any number.
 #[derive(Clone, Copy, Debug, PartialEq, Eq)]
-struct Octet {
+pub(super) struct Octet {
     number: u8,
 }
 
