@@ -1,4 +1,4 @@
--- An OCTET STRING whose octets are borrowed (X.690 8.7).
+-- An OCTET STRING whose octets, `borrowed_octets`, are borrowed (X.690 8.7).
 use Rattle.std.specs.Prelude.{ℕ, List}
 use Rattle.std.proofs.Common.{arith}
 use Rattle.der_base.specs.declared.tag.Tag.TheVariants.{OctetString}

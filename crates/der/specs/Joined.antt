@@ -1,6 +1,7 @@
--- Octets that are joined of segments (X.690 8.7.3).
+-- Octets that are joined of segments (X.690 8.7.3): `Joined`.
 use Rattle.std.specs.Prelude.{◌≡◌, ℕ, suc, ◌^◌, ◌<◌, true, false, List, [], ◌∷◌, ◌++◌, length}
 use Rattle.der_base.specs.Body.{Body}
+use Rattle.der_base.specs.FixedOctets.{indefinite_octet, end_of_contents}
 use Rattle.der_base.specs.Length.{length_octets}
 use Rattle.der_base.specs.Tag.{label, IsIdentifier}
 use Rattle.der_base.specs.declared.tag.Tag.{Tag}
@@ -22,6 +23,7 @@ pub data Joined (tag : Tag) : ℕ → List ℕ → List ℕ → Type 0 where
       → Joined tag (suc levels) ((id ++ (length_octets (length contents) ++ contents)) ++ more)
       (within ++ out)
   indefinite_segments : {levels parts : ℕ} {id more within out : List ℕ} (contents : List ℕ)
-      → IsIdentifier Ber id tag true → Body 1 parts (contents ++ 0 ∷ 0 ∷ [])
+      → IsIdentifier Ber id tag true → Body 1 parts (contents ++ end_of_contents)
       → Joined tag levels contents within → Joined tag (suc levels) more out
-      → Joined tag (suc levels) ((id ++ 128 ∷ (contents ++ 0 ∷ 0 ∷ [])) ++ more) (within ++ out)
+      → Joined tag (suc levels)
+      ((id ++ indefinite_octet ∷ (contents ++ end_of_contents)) ++ more) (within ++ out)

@@ -1,4 +1,5 @@
--- A month as one octet.
+-- A month as one octet: which there are (`IsMonth`), how contents are taken (`TakesMonth`), and the
+-- rows of reading and writing one (`MonthRead`, `MonthWritten`).
 use Rattle.std.specs.Prelude.{◌≡◌, ℕ, ◌<◌, List, [], ◌∷◌, Result, Ok, nat_lt, if◌then◌else◌}
 use Rattle.std.proofs.Common.{arith}
 use Rattle.der_base.specs.HeaderGrammar.{Head}

@@ -1,4 +1,4 @@
--- A UTF8String in memory of its own (X.690 8.23).
+-- A UTF8String whose octets, `owned_text_octets`, are in memory of their own (X.690 8.23).
 use Rattle.std.specs.Prelude.{ℕ, List}
 use Rattle.std.proofs.Common.{arith}
 use Rattle.der_base.specs.declared.tag.Tag.TheVariants.{Utf8String}

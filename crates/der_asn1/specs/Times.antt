@@ -1,4 +1,6 @@
--- Dates with times of the day, and how they are written (X.690 11.7, 11.8; RFC 5280, 4.1.2.5).
+-- Dates with times of the day (`is_date_time`, `is_utc_time`), and how they are written
+-- (`generalized_octets`, `utc_octets`) and read (`generalized_reading`, `utc_reading`; X.690 11.7,
+-- 11.8; RFC 5280, 4.1.2.5).
 use Rattle.std.specs.Prelude.{ℕ, ◌+◌, ◌*◌, ◌/◌, ◌%◌, ◌==◌, ◌&&◌, ◌||◌, not, Bool, nat_lt, nat_le}
 use Rattle.std.specs.Prelude.{List, [], ◌∷◌, ◌++◌, length, if◌then◌else◌, slice_index_or}
 use Rattle.std.specs.Str.{bytes_eq}
