@@ -20,8 +20,13 @@ pub element_passes : {A E : Type 0} (takes : A → EncodingRules → Head → Li
 element_passes takes s t tag (Err e) P h = tt
 element_passes takes s t tag (Ok v) P h =
     λ w. let p = h w in
-    record { octets = p.octets; working = p.working;
-    ahead = record { tag = tag; element = p.ahead }; there = p.there; leaves = p.leaves }
+    record {
+      octets = p.octets;
+      working = p.working;
+      ahead = record { tag = tag; element = p.ahead };
+      there = p.there;
+      leaves = p.leaves;
+    }
 
 -- its octets are exactly its encoding
 module _ {A : Type 0} {tag_of : A → Tag} {takes : A → EncodingRules → Head → List ℕ → Type 0}
@@ -57,20 +62,28 @@ module _ {A : Type 0} {tag_of : A → Tag} {takes : A → EncodingRules → Head
           (element_octets (tag_of v) (contents v)) + length e.behind =
           ap length e.split ∙ length-append (element_octets (tag_of v) (contents v)) e.behind in
           let few : length (contents v) < 2 ^ 32 =
-          omega (arith, size, short,
-          length-append (header_octets (tag_of v) (length (contents v))) (contents v)) in
+          omega (
+            arith,
+            size,
+            short,
+            length-append (header_octets (tag_of v) (length (contents v))) (contents v),
+          ) in
           let numbered = laws.numbered v e.is_valid in
           let front =
           element_der (tag_of v) takes (contents v) e.behind v numbered few
           ((laws.exact (contents v) (tag_of v) v few numbered).1 (e.is_valid, refl, refl)) in
-          record { tag = tag_of v;
-              element =
-              subst (λ x. ElementAhead (tag_of v) takes v Der octets x) (sym e.whole)
-              (subst (λ x. ElementAhead (tag_of v) takes v Der x
-              (length (element_octets (tag_of v) (contents v)))) (sym e.split) front) }
+          record {
+            tag = tag_of v;
+            element =
+                subst (λ x. ElementAhead (tag_of v) takes v Der octets x) (sym e.whole)
+                (subst (λ x. ElementAhead (tag_of v) takes v Der x
+                (length (element_octets (tag_of v) (contents v)))) (sym e.split) front);
+          }
 
   pub choices_start : (tags : Tag → Type 0) → ((v : A) → valid v → tags (tag_of v))
       → Starts valid (λ v. element_octets (tag_of v) (contents v)) tags
   choices_start tags among =
-      record { starts = λ v is. starts_wider (λ t e. subst tags (sym e) (among v is))
-      (element_starts (tag_of v) (contents v) (laws.numbered v is)) }
+      record {
+        starts = λ v is. starts_wider (λ t e. subst tags (sym e) (among v is))
+            (element_starts (tag_of v) (contents v) (laws.numbered v is));
+      }

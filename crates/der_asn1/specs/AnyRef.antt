@@ -34,8 +34,9 @@ AnyWritten v s result t = Writes (write_outcome (any_contents v) s) result t
 pub any_lawful : IsLawfulChoice (λ v. v.tag) TakesAny IsAny any_contents
 any_lawful =
     record {
-      exact = λ octets t v short small.
-          (λ h. (h.numbered, h.tagged, h.same),
-          λ h. record { tagged = h.1; same = h.2; numbered = h.0 });
+      exact = λ octets t v short small. (
+        λ h. (h.numbered, h.tagged, h.same),
+        λ h. record { tagged = h.1; same = h.2; numbered = h.0 },
+      );
       numbered = λ v is. is;
     }

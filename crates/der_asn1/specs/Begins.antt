@@ -12,10 +12,16 @@ header_begins {rules} {octets} {h} {m} tag ahead tagged = go (header_view ahead)
   where
     go : HeaderView h rules octets m → TagIn (this_tag tag) rules octets
     go (header_view_of id more d la ok e c) =
-        record { tag = h.tag; count = length id;
-            ahead = (h.constructed,
+        record {
+          tag = h.tag;
+          count = length id;
+          ahead = (
+            h.constructed,
             subst (λ x. IdentifierAhead (h.tag, h.constructed) rules x (length id)) (sym e)
-            (identifier more d)); among = tagged }
+                (identifier more d),
+          );
+          among = tagged;
+        }
 
 pub element_begins : {A : Type 0} {tag : Tag} {takes : A → EncodingRules → Head → List ℕ → Type 0}
     {v : A} {rules : EncodingRules} {octets : List ℕ} {m : ℕ}

@@ -87,7 +87,10 @@ pub default_precedes : {A : Type 0} (tags : Tag → Type 0) {valid : A → Type 
     → PrecedesBut (IsDefaulted is_default valid) (DefaultPrecedes tags is_default P)
     (either_tags tags stops)
 default_precedes tags {valid} is_default one =
-    record { precedes = λ v behind is none.
-        (λ _. fewer_tags (λ t h. inl h) none,
+    record {
+      precedes = λ v behind is none. (
+        λ _. fewer_tags (λ t h. inl h) none,
         λ f. one.precedes v behind (valid_of valid is_default v is f)
-        (fewer_tags (λ t h. inr h) none)) }
+            (fewer_tags (λ t h. inr h) none),
+      );
+    }

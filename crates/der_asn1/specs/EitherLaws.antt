@@ -27,12 +27,22 @@ module _ {A B : Type 0} {one_tags two_tags : Tag → Type 0}
       (EitherPrecedes P Q) v octets m
   from octets (First v) m h =
       let e = one.reads.only octets v m h in
-      record { is_valid = e.is_valid; behind = e.behind; split = e.split; whole = e.whole;
-      precedes = e.precedes }
+      record {
+        is_valid = e.is_valid;
+        behind = e.behind;
+        split = e.split;
+        whole = e.whole;
+        precedes = e.precedes;
+      }
   from octets (Second v) m h =
       let e = two.reads.only octets v m h.0 in
-      record { is_valid = e.is_valid; behind = e.behind; split = e.split; whole = e.whole;
-      precedes = e.precedes }
+      record {
+        is_valid = e.is_valid;
+        behind = e.behind;
+        split = e.split;
+        whole = e.whole;
+        precedes = e.precedes;
+      }
 
   to : (octets : List ℕ) (v : Either A B) (m : ℕ) → length octets < 2 ^ 32
       → FieldAhead (IsEither is_one is_two) (either_encoding one_octets two_octets)
@@ -40,14 +50,24 @@ module _ {A B : Type 0} {one_tags two_tags : Tag → Type 0}
       → EitherAhead one_tags One Two v Der octets m
   to octets (First v) m short e =
       one.reads.every octets v m short
-      (record { is_valid = e.is_valid; behind = e.behind; split = e.split; whole = e.whole;
-      precedes = e.precedes })
+      (record {
+        is_valid = e.is_valid;
+        behind = e.behind;
+        split = e.split;
+        whole = e.whole;
+        precedes = e.precedes;
+      })
   to octets (Second v) m short e = (
     two.reads.every octets v m short
-        (record { is_valid = e.is_valid; behind = e.behind; split = e.split; whole = e.whole;
-        precedes = e.precedes }),
+        (record {
+          is_valid = e.is_valid;
+          behind = e.behind;
+          split = e.split;
+          whole = e.whole;
+          precedes = e.precedes;
+        }),
     subst (λ x. NoTagIn one_tags Der x) (sym e.split)
-    (starts_apart (two_octets v) e.behind tags_apart (two.starts.starts v e.is_valid)),
+        (starts_apart (two_octets v) e.behind tags_apart (two.starts.starts v e.is_valid)),
   )
 
   begin : (v : Either A B) → IsEither is_one is_two v
@@ -78,8 +98,13 @@ module _ {A B : Type 0} {one_tags two_tags : Tag → Type 0}
       (EitherAhead one_tags One Two) (IsEither is_one is_two)
       (either_encoding one_octets two_octets)
   both_told =
-      record { reads = record { only = from; every = to }; starts = record { starts = begin };
-      among = among_both; precedes = record { precedes = may_stand }; holds = hold }
+      record {
+        reads = record { only = from; every = to };
+        starts = record { starts = begin };
+        among = among_both;
+        precedes = record { precedes = may_stand };
+        holds = hold;
+      }
 
 -- two whose tests hold, and of which no tag is one of both
 pub either_told : {A B : Type 0} {one_fits two_fits : Bool} {one_tags two_tags : Tag → Type 0}

@@ -118,11 +118,21 @@ seen_reads f reads =
     record {
       only = λ octets b m h.
           (let e = reads.only octets (f b) m h in
-          record { is_valid = e.is_valid; behind = e.behind; split = e.split; whole = e.whole;
-          precedes = e.precedes });
+          record {
+            is_valid = e.is_valid;
+            behind = e.behind;
+            split = e.split;
+            whole = e.whole;
+            precedes = e.precedes;
+          });
       every = λ octets b m short e. reads.every octets (f b) m short
-          (record { is_valid = e.is_valid; behind = e.behind; split = e.split; whole = e.whole;
-          precedes = e.precedes });
+          (record {
+            is_valid = e.is_valid;
+            behind = e.behind;
+            split = e.split;
+            whole = e.whole;
+            precedes = e.precedes;
+          });
     }
 
 abbrev pub seen_laws : {A B : Type 0} {Ahead : A → EncodingRules → List ℕ → ℕ → Type 0}

@@ -21,8 +21,13 @@ encodings_are_fields reads =
     record {
       only = λ octets v m h.
           (let e = reads.only octets v m h in
-          record { is_valid = e.is_valid; behind = e.behind; split = e.split; whole = e.whole;
-          precedes = tt });
+          record {
+            is_valid = e.is_valid;
+            behind = e.behind;
+            split = e.split;
+            whole = e.whole;
+            precedes = tt;
+          });
       every = λ octets v m short f. reads.every octets v m short
           (record { is_valid = f.is_valid; behind = f.behind; split = f.split; whole = f.whole });
     }
@@ -69,13 +74,23 @@ fields_follow {A} {B} {First} {Second} {is_first} {is_second} {first} {second} {
           first = length (first v.0);
           second = length (second v.1);
           ahead = one.every octets v.0 _ short
-              (record { is_valid = e.is_valid.0; behind = second v.1 ++ e.behind; split = whole;
-              whole = refl; precedes = e.precedes.0 });
+              (record {
+                is_valid = e.is_valid.0;
+                behind = second v.1 ++ e.behind;
+                split = whole;
+                whole = refl;
+                precedes = e.precedes.0;
+              });
           behind =
               two.every (drop (length (first v.0)) octets) v.1 _
               (omega (arith, short, length-drop (length (first v.0)) octets))
-              (record { is_valid = e.is_valid.1; behind = e.behind; split = left; whole = refl;
-              precedes = e.precedes.1 });
+              (record {
+                is_valid = e.is_valid.1;
+                behind = e.behind;
+                split = left;
+                whole = refl;
+                precedes = e.precedes.1;
+              });
           whole = e.whole ∙ length-append (first v.0) (second v.1);
         }
 
@@ -102,8 +117,13 @@ whole_fields {A} {Ahead} {valid} {encoding} {P} reads last = record { only = fro
         → Whole (Ahead v) Der octets
     to octets v short is e =
         reads.every octets v (length octets) short
-        (record { is_valid = is; behind = []; split = e ∙ sym (append-nil (encoding v));
-        whole = ap length e; precedes = last v is })
+        (record {
+          is_valid = is;
+          behind = [];
+          split = e ∙ sym (append-nil (encoding v));
+          whole = ap length e;
+          precedes = last v is;
+        })
 
 -- a type whose contents are wholly fields, seen as another's values, is lawful
 pub fields_lawful : {A B : Type 0} {Ahead : A → EncodingRules → List ℕ → ℕ → Type 0}
@@ -114,9 +134,10 @@ pub fields_lawful : {A B : Type 0} {Ahead : A → EncodingRules → List ℕ →
 fields_lawful {A} {B} {Ahead} {valid} {encoding} tag levels f reads last shallow numbered =
     record {
       exact = λ octets b short.
-          (let whole = whole_fields reads last in
-          (λ h. (let e = whole.only octets (f b) h in (e.0, sym e.1)),
-          λ h. whole.every octets (f b) short h.0 (sym h.1)));
+          (let whole = whole_fields reads last in (
+            λ h. (let e = whole.only octets (f b) h in (e.0, sym e.1)),
+            λ h. whole.every octets (f b) short h.0 (sym h.1),
+          ));
       shallow = shallow;
       numbered = numbered;
     }
@@ -147,23 +168,37 @@ starts_apart {tags} {stops} octets behind apart s =
 pub starts_append : {tags : Tag → Type 0} (octets behind : List ℕ) → StartsIn tags octets
     → StartsIn tags (octets ++ behind)
 starts_append octets behind s =
-    record { tag = s.tag; more = s.more ++ behind;
-        split = ap (λ x. x ++ behind) s.split ∙ append_assoc (tag_octets s.tag) s.more behind;
-        numbered = s.numbered; among = s.among }
+    record {
+      tag = s.tag;
+      more = s.more ++ behind;
+      split = ap (λ x. x ++ behind) s.split ∙ append_assoc (tag_octets s.tag) s.more behind;
+      numbered = s.numbered;
+      among = s.among;
+    }
 
 pub starts_wider : {tags more : Tag → Type 0} {octets : List ℕ} → ((t : Tag) → tags t → more t)
     → StartsIn tags octets → StartsIn more octets
 starts_wider wider s =
-    record { tag = s.tag; more = s.more; split = s.split; numbered = s.numbered;
-    among = wider s.tag s.among }
+    record {
+      tag = s.tag;
+      more = s.more;
+      split = s.split;
+      numbered = s.numbered;
+      among = wider s.tag s.among;
+    }
 
 -- an element starts with its tag
 pub element_starts : (t : Tag) (contents : List ℕ) → (label t).number < 2 ^ 32
     → StartsIn (this_tag t) (element_octets t contents)
 element_starts t contents numbered =
-    record { tag = t; more = length_octets (length contents) ++ contents;
-    split = append_assoc (tag_octets t) (length_octets (length contents)) contents; numbered =
-    numbered; among = refl }
+    record {
+      tag = t;
+      more = length_octets (length contents) ++ contents;
+      split = append_assoc (tag_octets t) (length_octets (length contents)) contents;
+      numbered =
+          numbered;
+      among = refl;
+    }
 
 pub lawful_starts : {A : Type 0} {tag : Tag} {takes : A → EncodingRules → Head → List ℕ → Type 0}
     {valid : A → Type 0} {contents : A → List ℕ} {levels : EncodingRules → ℕ}
@@ -208,10 +243,13 @@ module _ {A B : Type 0} {is_first : A → Type 0} {is_second : B → Type 0} {se
       → PrecedesBut (λ (v : A × B). is_first v.0 × is_second v.1)
       (BothPrecede second P Q) second_stops
   pair_precedes one two follow apart =
-      record { precedes = λ v behind is none.
-          (one.precedes v.0 (second v.1 ++ behind) is.0
-          (starts_apart (second v.1) behind apart (follow.starts v.1 is.1)),
-          two.precedes v.1 behind is.1 none) }
+      record {
+        precedes = λ v behind is none. (
+          one.precedes v.0 (second v.1 ++ behind) is.0
+              (starts_apart (second v.1) behind apart (follow.starts v.1 is.1)),
+          two.precedes v.1 behind is.1 none,
+        );
+      }
 
   -- a field before one that may be absent: what may not stand behind either counts
   pub pair_precedes_absent : PrecedesBut is_first P first_stops
@@ -220,9 +258,12 @@ module _ {A B : Type 0} {is_first : A → Type 0} {is_second : B → Type 0} {se
       → PrecedesBut (λ (v : A × B). is_first v.0 × is_second v.1) (BothPrecede second P Q)
       (either_tags first_stops second_stops)
   pair_precedes_absent one two follow apart =
-      record { precedes = λ v behind is none.
-          (one.precedes v.0 (second v.1 ++ behind) is.0 (go v behind none (follow.starts v.1 is.1)),
-          two.precedes v.1 behind is.1 (fewer_tags (λ t h. inr h) none)) }
+      record {
+        precedes = λ v behind is none. (
+          one.precedes v.0 (second v.1 ++ behind) is.0 (go v behind none (follow.starts v.1 is.1)),
+          two.precedes v.1 behind is.1 (fewer_tags (λ t h. inr h) none),
+        );
+      }
     where
       go : (v : A × B) (behind : List ℕ) → NoTagIn (either_tags first_stops second_stops) Der behind
           → (second v.1 ≡ []) ⊎ StartsIn tags (second v.1)

@@ -21,8 +21,13 @@ module _ {A : Type 0} {tags : Tag → Type 0} {Ahead : A → EncodingRules → L
           record { is_valid = tt; behind = octets; split = refl; whole = h.0; precedes = h.1 }
       from octets (Some v) m h =
           let e = reads.only octets v m h in
-          record { is_valid = e.is_valid; behind = e.behind; split = e.split; whole = e.whole;
-          precedes = e.precedes }
+          record {
+            is_valid = e.is_valid;
+            behind = e.behind;
+            split = e.split;
+            whole = e.whole;
+            precedes = e.precedes;
+          }
 
       to : (octets : List ℕ) (v : Option A) (m : ℕ) → length octets < 2 ^ 32
           → FieldAhead (IsOptional valid) (option_encoding encoding)
@@ -30,8 +35,13 @@ module _ {A : Type 0} {tags : Tag → Type 0} {Ahead : A → EncodingRules → L
       to octets None m short e = (e.whole, subst (NoTagIn tags Der) (sym e.split) e.precedes)
       to octets (Some v) m short e =
           reads.every octets v m short
-          (record { is_valid = e.is_valid; behind = e.behind; split = e.split; whole = e.whole;
-          precedes = e.precedes })
+          (record {
+            is_valid = e.is_valid;
+            behind = e.behind;
+            split = e.split;
+            whole = e.whole;
+            precedes = e.precedes;
+          })
 
 -- fields may be absent, and where they are no tag of theirs may follow
 pub option_may_start : {A : Type 0} {tags : Tag → Type 0} {valid : A → Type 0}

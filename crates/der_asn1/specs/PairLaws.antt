@@ -21,8 +21,10 @@ module _ {A B : Type 0} {a b : Bool} {first second one_stops two_stops : List (O
       → Starts {A = A × B} (λ v. is_first v.0 × is_second v.1)
       (λ v. one_octets v.0 ++ two_octets v.1) (either_tags (IsIn first) (IsIn second))
   first_some e =
-      record { starts = λ v is. starts_append (one_octets v.0) (two_octets v.1)
-      (starts_wider (λ t h. inl h) ((one.some e).starts v.0 is.0)) }
+      record {
+        starts = λ v is. starts_append (one_octets v.0) (two_octets v.1)
+            (starts_wider (λ t h. inl h) ((one.some e).starts v.0 is.0));
+      }
 
   second_some : b ≡ true
       → Starts {A = A × B} (λ v. is_first v.0 × is_second v.1)

@@ -68,31 +68,57 @@ module _ {A : Type 0} {Ahead : A → EncodingRules → List ℕ → ℕ → Type
       → (always ≡ true → Starts valid encoding one.tags)
       → SetLaws always first stops one.Precedes Ahead valid encoding
   set_of always first stops one first_in stops_in some =
-      record { reads = one.reads; starts = may_starts first_in one.starts;
-          some = λ e. starts_more first_in (some e); precedes =
-          precedes_fewer stops_in one.precedes; holds = one.holds }
+      record {
+        reads = one.reads;
+        starts = may_starts first_in one.starts;
+        some = λ e. starts_more first_in (some e);
+        precedes =
+            precedes_fewer stops_in one.precedes;
+        holds = one.holds;
+      }
 
   abbrev pub laws_of : {always : Bool} {first stops : List (Option Tag)} {P : A → List ℕ → Type 0}
       → SetLaws always first stops P Ahead valid encoding → FieldLaws Ahead valid encoding
   laws_of {first = first} {stops} {P} one =
-      record { Precedes = P; tags = IsIn first; stops = IsIn stops; reads = one.reads;
-      starts = one.starts; precedes = one.precedes; holds = one.holds }
+      record {
+        Precedes = P;
+        tags = IsIn first;
+        stops = IsIn stops;
+        reads = one.reads;
+        starts = one.starts;
+        precedes = one.precedes;
+        holds = one.holds;
+      }
 
   abbrev pub some_of : {tags : Tag → Type 0} {first stops : List (Option Tag)}
       {P : A → List ℕ → Type 0} → ToldLaws tags first stops P Ahead valid encoding
       → SomeLaws Ahead valid encoding
   some_of {tags} {stops = stops} {P} one =
-      record { laws = record { Precedes = P; tags = tags; stops = IsIn stops; reads = one.reads;
-      starts = may_starts (λ t h. h) (record { starts = λ v is. inr (one.starts.starts v is) });
-      precedes = one.precedes; holds = one.holds }; some = one.starts }
+      record {
+        laws = record {
+          Precedes = P;
+          tags = tags;
+          stops = IsIn stops;
+          reads = one.reads;
+          starts = may_starts (λ t h. h) (record { starts = λ v is. inr (one.starts.starts v is) });
+          precedes = one.precedes;
+          holds = one.holds;
+        };
+        some = one.starts;
+      }
 
   pub told_of : (tags : Tag → Type 0) (first stops : List (Option Tag))
       (one : SomeLaws Ahead valid encoding) → Starts valid encoding tags
       → ((t : Tag) → tags t → IsIn first t) → ((t : Tag) → one.laws.stops t → IsIn stops t)
       → ToldLaws tags first stops one.laws.Precedes Ahead valid encoding
   told_of tags first stops one starts first_in stops_in =
-      record { reads = one.laws.reads; starts = starts; among = first_in;
-          precedes = precedes_fewer stops_in one.laws.precedes; holds = one.laws.holds }
+      record {
+        reads = one.laws.reads;
+        starts = starts;
+        among = first_in;
+        precedes = precedes_fewer stops_in one.laws.precedes;
+        holds = one.laws.holds;
+      }
 
   pub told_set : {tags : Tag → Type 0} {first stops : List (Option Tag)} {P : A → List ℕ → Type 0}
       → ToldLaws tags first stops P Ahead valid encoding

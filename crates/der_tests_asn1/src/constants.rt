@@ -40,9 +40,5 @@ fn types_of_others_tell_their_tags_alike(rt: HostRuntime) {
     let third = TagNumber(3);
     tags_agree::<Explicit<IntRef<'_>, 3>>(&rt, third.context_specific(true), true);
     tags_agree::<Implicit<IntRef<'_>, 3>>(&rt, third.context_specific(false), false);
-    tags_agree::<Implicit<SequenceOf<'_, IntRef<'_>>, 3>>(
-        &rt,
-        third.context_specific(true),
-        true,
-    );
+    tags_agree::<Implicit<SequenceOf<'_, IntRef<'_>>, 3>>(&rt, third.context_specific(true), true);
 }

@@ -29,7 +29,7 @@ pub fn joined_of_ber(alloc: Global, octets: &[u8]) -> Result<JoinedOctets, Error
     JoinedOctets::from_ber(alloc, octets)
 }
 
-/// Likewise, under the Distinguished Encoding Rules.
+/// An OCTET STRING that may stand in segments, under the Distinguished Encoding Rules.
 pub fn joined_of_der(alloc: Global, octets: &[u8]) -> Result<JoinedOctets, Error> {
     JoinedOctets::from_der(alloc, octets)
 }
