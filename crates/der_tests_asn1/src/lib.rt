@@ -30,3 +30,5 @@ mod tags;
 mod texts;
 #[cfg(test)]
 mod times;
+#[cfg(test)]
+mod walks;
