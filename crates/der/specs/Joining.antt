@@ -28,6 +28,7 @@ abbrev pub levels_at : EncodingRules → ℕ → ℕ
 levels_at Ber depth = 64 - depth
 levels_at Der depth = 0
 
+-- how many levels a reader has left so
 abbrev pub levels_left : ReaderState → ℕ
 levels_left s = levels_at s.rules s.depth
 

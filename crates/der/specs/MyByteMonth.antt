@@ -45,7 +45,7 @@ month_size month = Ok (definite_length 1)
 abbrev pub MonthWritten : MyByteMonth → WriterAnswer
 MonthWritten month s result t = Writes (write_outcome (month_contents month) s) result t
 
--- it is read as it is written
+-- a month is read as it is written
 pub month_lawful : IsLawful OctetString TakesMonth IsMonth month_contents (λ _. 0)
 month_lawful =
     record {

@@ -10,7 +10,7 @@ use Rattle.der.specs.declared.example.owned_text.OwnedText.{OwnedText}
 abbrev pub owned_text_octets : OwnedText → List ℕ
 owned_text_octets t = owned_text t.text
 
--- it is read as it is written
+-- such a UTF8String is read as it is written
 pub owned_text_lawful : IsLawful Utf8String (TakesOctets IsText owned_text_octets)
     (λ t. IsText (owned_text_octets t)) owned_text_octets (λ _. 0)
 owned_text_lawful = octets_lawful Utf8String IsText owned_text_octets (omega arith)

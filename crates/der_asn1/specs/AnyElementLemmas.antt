@@ -28,7 +28,7 @@ element_passes takes s t tag (Ok v) P h =
       leaves = p.leaves;
     }
 
--- its octets are exactly its encoding
+-- the octets of such an element are exactly its encoding
 module _ {A : Type 0} {tag_of : A → Tag} {takes : A → EncodingRules → Head → List ℕ → Type 0}
     {valid : A → Type 0} {contents : A → List ℕ}
     (laws : IsLawfulChoice tag_of takes valid contents) where

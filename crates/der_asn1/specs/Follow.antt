@@ -79,7 +79,7 @@ any_tag t = Unit {0}
 abbrev pub either_tags : (Tag → Type 0) → (Tag → Type 0) → Tag → Type 0
 either_tags f g t = f t ⊎ g t
 
--- one may stand before another, and that before what follows both
+-- one value may stand before another, and that before what follows both
 abbrev pub BothPrecede : {A B : Type 0} → (B → List ℕ) → (A → List ℕ → Type 0)
     → (B → List ℕ → Type 0) → A × B → List ℕ → Type 0
 BothPrecede second first_precedes second_precedes v behind =

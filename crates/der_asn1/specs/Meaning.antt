@@ -117,7 +117,7 @@ any_element =
       laws = λ e. any_told;
     }
 
--- a field that may be absent, and one that is absent where it is the default
+-- a field that may be absent
 abbrev pub optional : {A : Type 0} → Alternative A → Field (Optional A)
 optional one =
     record {
@@ -133,6 +133,7 @@ optional one =
       laws = λ e. optional_set (one.laws e) (λ v. v.0);
     }
 
+-- a field that is absent where it is the default
 abbrev pub defaulted : {A : Type 0} → (A → Bool) → Alternative A → Field (Defaulted A)
 defaulted is_default one =
     record {
@@ -204,7 +205,7 @@ is_small n = nat_lt n (2 ^ 32)
 pub small : (n : ℕ) → is_small n ≡ true → n < 2 ^ 32
 small n e = ltb-true n (2 ^ 32) e
 
--- contents of a form, and octets of which something holds, such as lists and sets of elements
+-- contents of a form
 abbrev pub of_form : {A : Type 0} → Tag → (List ℕ → Bool) → (A → List ℕ) → Element A
 of_form tag form octets =
     record {
@@ -218,6 +219,7 @@ of_form tag form octets =
       holds = λ e v rules h octets taken. subst (λ x. form x ≡ true) (sym taken.1) taken.0;
     }
 
+-- octets of which something holds, such as lists and sets of elements
 abbrev pub lent : {B : Type 0} → Tag → (List ℕ → Type 0) → (B → List ℕ) → Element B
 lent tag Holds octets =
     record {
@@ -271,6 +273,7 @@ module _ {A : Type 0} {fits always : Bool} {first stops : List (Option Tag)}
       (laws_of (laws (both_true fits (nat_lt (levels Der) 63) e).0)) (omega (arith, low))
       (omega arith)
 
+-- a SEQUENCE of fields, which are wholly its contents
 abbrev pub sequence : {A B : Type 0} → Field A → (B → A) → Element B
 sequence one f =
     record {
@@ -298,7 +301,7 @@ renamed one f =
       holds = λ e b. one.holds e (f b);
     }
 
--- context-specific tags: another one for the same contents, and one around an element
+-- a context-specific tag for the same contents
 abbrev pub implicit : {A B : Type 0} → ℕ → Element A → (B → A) → Element B
 implicit n one f =
     record {
@@ -316,6 +319,7 @@ implicit n one f =
           (retagged one.tag h) octets taken;
     }
 
+-- a context-specific tag around an element
 abbrev pub explicit : {A B : Type 0} → ℕ → Element A → (B → A) → Element B
 explicit n one f =
     record {

@@ -23,7 +23,7 @@ is_date_time t =
     && (nat_le t.day (days_of t.year t.month) && (nat_lt t.hour 24 && (nat_lt t.minute 60
     && nat_lt t.second 60))))))
 
--- those of the years that two digits tell
+-- there is such a time, in a year that two digits tell
 abbrev pub is_utc_time : DateTime → Bool
 is_utc_time t = nat_le 1950 t.year && (nat_lt t.year 2050 && is_date_time t)
 

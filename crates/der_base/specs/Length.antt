@@ -1,6 +1,6 @@
 -- Lengths (X.690 8.1.3): `number` and `is_indefinite` are what one is, `definite_length` and
 -- `indefinite_length` make one, and `length_octets` are its octets, spelled in `digits`.
-use Rattle.std.specs.Prelude.{ℕ, ◌+◌, ◌==◌, Bool, true, false, List, [], ◌∷◌, length, nat_lt, if◌then◌else◌}
+use Rattle.std.specs.Prelude.{ℕ, ◌==◌, Bool, true, false, List, [], ◌∷◌, length, nat_lt, if◌then◌else◌}
 use Rattle.std.specs.Int.Digits.{digits_of}
 use Rattle.der_base.specs.FixedOctets.{long_form}
 use Rattle.der_base.specs.declared.length.Length.{Length}

@@ -50,7 +50,7 @@ order_number Less = negsuc 0
 order_number Equal = pos 0
 order_number Greater = pos 1
 
--- both are elements, and their byte order is told; or one is not, which is told
+-- two lists of octets are elements, and their byte order is told; or one is not, which is told
 pub data Compares (first second : List ℕ) (result : DerError) (old new : ℤ) : Type 0 where
   compared : IsOneElement first → IsOneElement second → result ≡ no_error
       → new ≡ order_number (byte_order first second) → Compares first second result old new

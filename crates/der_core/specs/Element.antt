@@ -1,6 +1,6 @@
 -- Elements (X.690 8.1.1): a header, contents, and the end mark of an indefinite length
 -- (`ElementAhead`); what reading one answers (`ElementRead`, and by a closure `ElementReadBy`).
-use Rattle.std.specs.Prelude.{◌≡◌, ◌≢◌, ℕ, ◌+◌, Bool, true, false, List, [], ◌∷◌, ◌++◌, length, drop, Result, Err}
+use Rattle.std.specs.Prelude.{◌≡◌, ◌≢◌, ℕ, ◌+◌, Bool, true, false, List, [], ◌++◌, length, drop, Result, Err}
 use Rattle.der_base.specs.Arithmetic.{sans_eoc}
 use Rattle.der_base.specs.ScanGrammar.{BodyFault}
 use Rattle.der_base.specs.Error.{unexpected_tag}

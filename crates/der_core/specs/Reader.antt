@@ -82,7 +82,7 @@ VecRefused n s e t =
     Gives (read_slice_outcome n) s (Err e) t
     ⊎ ((e ≡ error_of_kind OutOfMemory) × (t ≡ s) × IsOk (read_slice_outcome n s).answer)
 
--- they are answered as they are lent; a reliable reader refuses them only so
+-- octets in memory of their own are answered as they are lent; a reliable reader refuses them only so
 abbrev pub VecMeets : Bool → ℕ → ReaderState → Result (List ℕ) Error → ReaderState → Type 0
 VecMeets reliable n s (Ok octets) t = Gives (read_slice_outcome n) s (Ok octets) t
 VecMeets reliable n s (Err e) t = reliable ≡ true → VecRefused n s e t
@@ -103,7 +103,7 @@ end_mark_outcome s (suc o ∷ more) = kind_outcome (Unit {0}) IndefiniteLength (
 abbrev pub read_eoc_outcome : ReaderState → Outcome (Unit {0})
 read_eoc_outcome s = outcome_unless_failed s (end_mark_outcome s (rest_of s))
 
--- one octet of it, which was read
+-- one octet of an end mark, which was read
 abbrev pub zero_octet_outcome : ℕ → ReaderState → Outcome (Unit {0})
 zero_octet_outcome o s =
     if o == 0 then outcome_of (Ok tt) s
