@@ -1,5 +1,6 @@
--- What a call on a reader answers and leaves: a table, whose cases are the rows of that call in the
--- order of their refusals.
+-- What a call on a reader answers and leaves (`Outcome`): a table, whose cases are the rows of that
+-- call in the order of their refusals. A call gives what its table says (`Gives`), or owes it
+-- (`Meets`, `IsBinding`); where the reader stays, it owes the answer (`AnswersAs`, `PeeksAs`).
 use Rattle.std.specs.Prelude.{◌≡◌, Bool, true, Option, Some, None, Result, Ok, Err, IsErr}
 use Rattle.der_base.specs.Error.{Refusal}
 use Rattle.der_base.specs.declared.error.Error.{Error}

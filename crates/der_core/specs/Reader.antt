@@ -82,7 +82,8 @@ VecRefused n s e t =
     Gives (read_slice_outcome n) s (Err e) t
     ⊎ ((e ≡ error_of_kind OutOfMemory) × (t ≡ s) × IsOk (read_slice_outcome n s).answer)
 
--- octets in memory of their own are answered as they are lent; a reliable reader refuses them only so
+-- octets in memory of their own are answered as they are lent; a reliable reader refuses them only
+-- so
 abbrev pub VecMeets : Bool → ℕ → ReaderState → Result (List ℕ) Error → ReaderState → Type 0
 VecMeets reliable n s (Ok octets) t = Gives (read_slice_outcome n) s (Ok octets) t
 VecMeets reliable n s (Err e) t = reliable ≡ true → VecRefused n s e t

@@ -6,8 +6,8 @@ use der::{Decode, DecodeBytes, EncodingRules, Error, Reader, SliceReader};
 use der_uses::reader::CopyingReader;
 use std::alloc::Global;
 
-/// A reader of these octets under the Distinguished Encoding Rules. What a contract says of a reader
-/// costs the checker seconds at each call, and few tests need it: so nothing is said here.
+/// A reader of these octets under the Distinguished Encoding Rules. What a contract says of a
+/// reader costs the checker seconds at each call, and few tests need it: so nothing is said here.
 pub fn der_reader(octets: &[u8]) -> Result<SliceReader<'_>, Error> {
     SliceReader::new(octets)
 }

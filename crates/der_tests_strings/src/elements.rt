@@ -1,5 +1,5 @@
-//! Elements of `example`, read and written. The tests take nothing from what a contract says of these
-//! calls, and it would be made out anew in each function that calls: so nothing is said here.
+//! Elements of `example`, read and written. The tests take nothing from what a contract says of
+//! these calls, and it would be made out anew in each function that calls: so nothing is said here.
 use der::example::{BorrowedOctets, JoinedOctets, OwnedText};
 use der::{DecodeBytes, Encode, Error};
 use std::alloc::Global;

@@ -202,7 +202,8 @@ fn tags_are_equal_and_hashed_equally_exactly_where_all_is_equal(rt: HostRuntime)
     }
 }
 
-/// A derived hash feeds the place of the variant in 8 octets, the lowest first, and then the fields.
+/// A derived hash feeds the place of the variant in 8 octets, the lowest first, and then the
+/// fields.
 #[test]
 fn a_hasher_gets_the_variant_and_then_the_fields(rt: HostRuntime) {
     same(&rt, recorded(&TagNumber(0x01020304)), 0x01_04030201);

@@ -1,5 +1,5 @@
-//! Readers one of whose reads fails, for each read in turn until none does: no other answer comes of
-//! it than without that failure.
+//! Readers one of whose reads fails, for each read in turn until none does: no other answer comes
+//! of it than without that failure.
 ghost use Rattle.std.specs.Prelude.{◌≡◌};
 ghost use Rattle.der.specs.Prelude.{Same};
 
