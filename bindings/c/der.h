@@ -165,9 +165,9 @@ bool der_is_finished(const der_reader *reader);
 der_error der_finish(const der_reader *reader);
 
 /* der_read_header reads a header (X.690 8.1.2, 8.1.3, 10.1). Refused by DER_FAILED, DER_INCOMPLETE,
- * DER_OVERFLOW, DER_TAG_UNKNOWN, DER_TAG_NUMBER_INVALID, DER_INDEFINITE_LENGTH and DER_LENGTH. The reader has
- * then failed, and refuses every later call; a fault found ahead behind octet 80, and DER_OVERFLOW, leave it at
- * work. */
+ * DER_OVERFLOW, DER_TAG_UNKNOWN, DER_TAG_NUMBER_INVALID, DER_INDEFINITE_LENGTH, DER_LENGTH and, where bodies of
+ * indefinite lengths ahead stand inside each other too deeply, DER_NESTING_DEPTH. The reader has then failed, and
+ * refuses every later call; a fault found ahead behind octet 0x80, and DER_OVERFLOW, leave it at work. */
 der_error der_read_header(der_reader *reader, der_header *header);
 
 /* der_read_element reads a header and its contents, and passes the end mark of an indefinite length. Refused as
@@ -191,7 +191,7 @@ der_error der_enter(der_reader *reader, der_tag tag, der_reader *inside);
 der_error der_open(const der_reader *reader, const der_element *element, der_reader *inside);
 
 /* der_scan passes the body of an indefinite length, and sets |*count| to its octets, with the end mark that
- * closes it (X.690 8.1.3.6). The reader stands behind octet 80. Refused by DER_ENCODING_RULES where the reader
+ * closes it (X.690 8.1.3.6). The reader stands behind octet 0x80. Refused by DER_ENCODING_RULES where the reader
  * does not read by the Basic Encoding Rules, and by what is wrong with the body; the reader has then failed. */
 der_error der_scan(der_reader *reader, uint32_t *count);
 

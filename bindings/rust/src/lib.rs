@@ -288,7 +288,7 @@ impl<'a> Reader<'a> {
         answer(sys::der_skip(&mut self.0))
     }
 
-    /// Passes the body of an indefinite length, behind octet 80, and tells how many octets it has, with its end mark.
+    /// Passes the body of an indefinite length, behind octet `0x80`, and tells how many octets it has, with its end mark.
     pub fn scan(&mut self) -> Result<u32, Error> {
         let mut count = 0;
         answer(sys::der_scan(&mut self.0, &mut count))?;

@@ -211,7 +211,7 @@ joined_behind (indefinite_segments {id = id} {more = m} c d body into h) q b y e
 pub one_joined : {tag : Tag} {levels : ℕ} {s x y : List ℕ} → Joined tag levels s x → Joined tag levels s y → x ≡ y
 one_joined {s = s} {x = x} {y = y} h g = sym (whole_behind (joined_behind h [] s y (sym (append-nil s)) g))
 
--- and with more levels they are joined to it too
+-- octets that are joined are joined to the same list with more levels
 pub joined_up : {tag : Tag} {levels : ℕ} {s out : List ℕ} → Joined tag levels s out → (n : ℕ) → levels ≤ n → Joined tag n s out
 joined_up none n l = none
 joined_up (segment c bit small h) n l = segment c bit small (joined_up h n l)

@@ -34,7 +34,7 @@ body_ends (item_first {item = item} {body = body} i b) = (let r = body_ends b in
 pub under_ber : {tag : Tag} {h : Header} {s u : ReaderState} → PassesSegmentHeader tag h s u → (head_of h).constructed ≡ true → s.rules ≡ Ber
 under_ber {s = s} p bit = ber_or_der s.rules (λ der. (let no : true ≡ false = sym bit ∙ p.primitive der in cc))
 
--- and inside it one level fewer is left
+-- inside a part one level fewer is left
 pub levels_deeper : (s i : ReaderState) → s.rules ≡ Ber → i.rules ≡ s.rules → i.depth ≡ s.depth + 1 → s.depth < 64 → levels_left s ≡ suc (levels_left i)
 levels_deeper s i ber rules depth less =
     let here : levels_left s ≡ 64 - s.depth = ap (λ r. levels_at r s.depth) ber in
@@ -137,7 +137,7 @@ module _ {tag : Tag} {s u i : ReaderState} {h : Header} {l : Length} {end depth 
       go (indefinite_header id c behind d f body long reads left) =
           (behind, rest_advanced u (contents_number h) part_left ∙ ap (drop (contents_number h)) left ∙ drop_at c (0 ∷ 0 ∷ behind) (contents_number h) long)
 
--- and q where the segments inside were read, t where the segment was left
+-- a segment that was entered: q is where the segments inside were read, t where it was left
 module _ {tag : Tag} (s u i q t : ReaderState) (h : Header) (l : Length) (end depth : ℕ) (e : EntersSegment tag s u i h l end depth) where
   nested_joined : {old new : List ℕ} → JoinsRest tag (levels_left i) i old new q → Behind (is_indefinite l) (resumed_state q end depth) t → AppendsSegment tag (levels_left s) s old new t
   nested_joined {old} {new} all behind = go (constructed_header e.header e.bit) behind

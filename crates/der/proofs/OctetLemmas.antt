@@ -32,7 +32,7 @@ partial_ordering_then_equal Less s = refl
 partial_ordering_then_equal Equal s = refl
 partial_ordering_then_equal Greater s = refl
 
--- so is that of octets behind their count
+-- the derived partial order of octets behind their count is `counted_order`
 pub partial_ordering_then_counted : (a b : List ℕ)
     → partial_ordering_then (partial_ordering_then (Some (nat_cmp (length a) (length b)))
     (Some (bool_cmp false false))) (slice_partial_cmp (λ x y. Some (nat_cmp x y)) a b)

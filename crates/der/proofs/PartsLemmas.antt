@@ -57,7 +57,7 @@ module _ {tag : Tag} {h : Head} (s : ReaderState) (stands : StandsIn s (number h
       let left : levels_left s ≡ 64 - s.depth = ap (λ r. levels_at r s.depth) has.ber in
       as_segments has (joined_up joins.joined levels_inside (omega (arith, left, stands.nested)))
 
-  -- and contents that are taken are refused nothing but memory
+  -- contents that are taken are refused nothing but memory
   pub parts_lacking : (out : List ℕ) (t : ReaderState) (e : Error) → IsSound s → s.depth + joined_levels s.rules ≤ 64 → TakesParts tag out s.rules h (rest_of s) → RefusesParts tag h s e t
       → ((x : List ℕ) → HasSegments h s.rules → Joined tag (levels_left s) (rest_of s) x → (false ≡ true) ⊎ (e ≡ error_of_kind OutOfMemory)) → e ≡ error_of_kind OutOfMemory
   parts_lacking out t e sound few (as_they_stand bit same) r complete = go r

@@ -135,7 +135,7 @@ mutual
       subst (λ x. Joined tag x (rest_of (nested_state u n)) w.out) same (subst (λ x. Joined tag w.below x w.out) (sym contents) w.joined) in
       segments_refused r (sound_inside n (header_sound s u h sound a passes) can) (ap (λ (x : ReaderState). x.failed) passes.leaves ∙ working) numbered w.out here
 
-  -- and segments that are all there
+  -- segments that are all there and joined are refused nothing but memory
   pub segments_refused : {tag : Tag} {s t : ReaderState} {e : Error} → RefusesSegments tag s e t → IsSound s → s.failed ≡ false → (label tag).number < 2 ^ 32
       → (out : List ℕ) → Joined tag (levels_left s) (rest_of s) out → e ≡ error_of_kind OutOfMemory
   segments_refused {tag} {s = s} (behind_segments u octets before reads joined less r) sound working numbered out all =

@@ -1,4 +1,4 @@
--- An OCTET STRING whose octets are borrowed (X.690 8.7).
+-- An OCTET STRING whose octets, `borrowed_octets`, are borrowed (X.690 8.7).
 use Rattle.std.specs.Prelude.{ℕ, List}
 use Rattle.std.proofs.Common.{arith}
 use Rattle.der_base.specs.declared.tag.Tag.TheVariants.{OctetString}
@@ -10,7 +10,7 @@ use Rattle.der.specs.declared.example.borrowed_octets.BorrowedOctets.{BorrowedOc
 abbrev pub borrowed_octets : BorrowedOctets → List ℕ
 borrowed_octets b = reference_octets b.octets
 
--- it is read as it is written
+-- such an OCTET STRING is read as it is written
 pub borrowed_lawful : IsLawful OctetString (TakesOctets IsCounted borrowed_octets)
     (λ b. IsCounted (borrowed_octets b)) borrowed_octets (λ _. 0)
 borrowed_lawful = octets_lawful OctetString IsCounted borrowed_octets (omega arith)

@@ -1,4 +1,5 @@
--- Octets that are borrowed or in memory of their own.
+-- Octets that are borrowed (`IsBorrowedOctets`) or in memory of their own: `cow_octets` are what a
+-- `BytesCow` means.
 use Rattle.std.specs.Prelude.{ℕ, List}
 use Rattle.der.specs.BytesRef.{reference_octets}
 use Rattle.der.specs.BytesOwned.{owned_octets}

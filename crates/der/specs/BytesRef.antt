@@ -1,4 +1,4 @@
--- Octets that are borrowed.
+-- Octets that are borrowed: `reference_octets` are what a `BytesRef` means.
 use Rattle.std.specs.Prelude.{ℕ, List}
 use Rattle.der.specs.declared.bytes.reference.BytesRef.{BytesRef}
 

@@ -1,4 +1,5 @@
--- An OCTET STRING whose segments are joined (X.690 8.7).
+-- An OCTET STRING whose segments are joined to `joined_octets` (X.690 8.7): how contents are taken
+-- (`TakesJoined`), and the rows of reading it (`JoinedRead`).
 use Rattle.std.specs.Prelude.{◌≡◌, ℕ, true, false, List, Result}
 use Rattle.std.proofs.Common.{arith, refl, sym, ◌∙◌}
 use Rattle.der_base.specs.HeaderGrammar.{Head}

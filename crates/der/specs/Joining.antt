@@ -1,4 +1,6 @@
--- What joining segments answers.
+-- What joining segments answers: `JoinsAll` and `RefusesJoining` are the rows of
+-- `read_constructed_vec`; what it reads on the way is appended (`AppendsOctets`, `AppendsJoined`)
+-- or refused (`RefusesSegment`, `RefusesSegments`).
 use Rattle.std.specs.Prelude.{◌≡◌, ◌≢◌, ℕ, ◌+◌, ◌-◌, ◌<◌, ◌≤◌, ◌⊎◌, true, false, List, ◌++◌, length, take, Err}
 use Rattle.der_base.specs.Arithmetic.{sans_eoc}
 use Rattle.der_base.specs.ScanGrammar.{BodyFault}
@@ -26,6 +28,7 @@ abbrev pub levels_at : EncodingRules → ℕ → ℕ
 levels_at Ber depth = 64 - depth
 levels_at Der depth = 0
 
+-- how many levels a reader has left so
 abbrev pub levels_left : ReaderState → ℕ
 levels_left s = levels_at s.rules s.depth
 
@@ -115,7 +118,8 @@ mutual
         → Reads s u octets → Joined tag (levels_left s) octets out → u.position < u.end
         → RefusesSegment tag u e t → RefusesSegments tag s e t
 
--- under DER the length is definite; memory of the length's number is refused; or a segment is
+-- joining is refused: under DER the length is definite; memory of the length's number is refused;
+-- or a segment is
 pub data RefusesJoining (l : Length) (tag : Tag) (s : ReaderState) (e : Error) (t : ReaderState)
     : Type 0 where
   definite_form : s.rules ≡ Der → is_indefinite l ≡ false

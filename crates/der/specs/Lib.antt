@@ -18,6 +18,7 @@ pub mod ErrorKinds
 pub mod Classes
 pub mod TagModes
 pub use Rattle.der_base.specs.Order
+pub use Rattle.der_base.specs.FixedOctets
 pub use Rattle.der_base.specs.Length
 pub use Rattle.der_base.specs.Class
 pub use Rattle.der_base.specs.Tag

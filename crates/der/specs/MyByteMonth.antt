@@ -1,4 +1,5 @@
--- A month as one octet.
+-- A month as one octet: which there are (`IsMonth`), how contents are taken (`TakesMonth`), and the
+-- rows of reading and writing one (`MonthRead`, `MonthWritten`).
 use Rattle.std.specs.Prelude.{◌≡◌, ℕ, ◌<◌, List, [], ◌∷◌, Result, Ok, nat_lt, if◌then◌else◌}
 use Rattle.std.proofs.Common.{arith}
 use Rattle.der_base.specs.HeaderGrammar.{Head}
@@ -44,7 +45,7 @@ month_size month = Ok (definite_length 1)
 abbrev pub MonthWritten : MyByteMonth → WriterAnswer
 MonthWritten month s result t = Writes (write_outcome (month_contents month) s) result t
 
--- it is read as it is written
+-- a month is read as it is written
 pub month_lawful : IsLawful OctetString TakesMonth IsMonth month_contents (λ _. 0)
 month_lawful =
     record {

@@ -1,5 +1,6 @@
--- Values whose contents are octets, or a text of them: which there are, and how they are read and
--- written.
+-- Values whose contents are octets, or a text of them: which there are (`IsCounted`, `IsText`), and
+-- how they are taken (`TakesOctets`), read (`LentOctetsRead` and its kin) and written
+-- (`OctetsWritten`).
 use Rattle.std.specs.Prelude.{◌≡◌, ℕ, ◌+◌, ◌^◌, ◌<◌, ◌≤◌, ◌⊎◌, Bool, true, false, List, length, drop, take, nat_lt, nat_le, Result, Ok, Err, IsOk, if◌then◌else◌}
 use Rattle.std.proofs.Common.{arith}
 use Rattle.std.specs.Str.{is_utf8}
@@ -27,7 +28,7 @@ use Rattle.der_core.specs.Writer.{Writes, write_outcome}
 abbrev pub IsCounted : List ℕ → Type 0
 IsCounted octets = length octets < 2 ^ 32
 
--- and that are UTF-8
+-- octets that are UTF-8, and that a length can count
 abbrev pub IsText : List ℕ → Type 0
 IsText octets = (is_utf8 octets ≡ true) × IsCounted octets
 
@@ -80,7 +81,8 @@ LentOctetsRead octets_of h s result t =
 
 abbrev pub OwnedOctetsRead : {A : Type 0} → (A → List ℕ)
     → Head → ReaderState → Result A Error → ReaderState → Type 0
-OwnedOctetsRead octets_of h s result t = VecMeets true (number h.length) s (map_ok octets_of result) t
+OwnedOctetsRead octets_of h s result t =
+    VecMeets true (number h.length) s (map_ok octets_of result) t
 
 abbrev pub LentTextRead : {A : Type 0} → (A → List ℕ)
     → Head → ReaderState → Result A Error → ReaderState → Type 0

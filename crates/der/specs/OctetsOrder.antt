@@ -1,4 +1,5 @@
--- How values of octets are ordered and hashed.
+-- How values of octets are ordered and hashed: `counted_order` and `counted_writes` are those of
+-- `BytesOwned`, `octets_order` compares the octets alone.
 use Rattle.std.specs.Prelude.{ℕ, false, List, length, ◌++◌, Ok}
 use Rattle.std.specs.Hash as fed
 use Rattle.std.specs.Hash.{HashWrites}

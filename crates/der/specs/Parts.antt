@@ -1,4 +1,5 @@
--- Contents that stand as they are or in segments.
+-- Contents that stand as they are or in segments (`HasSegments`, `TakesParts`); `ReadsParts` and
+-- `RefusesParts` are the rows of `decode_value_parts`.
 use Rattle.std.specs.Prelude.{◌≡◌, ℕ, ◌-◌, true, false, List, Result, Ok, Err}
 use Rattle.der_base.specs.Error.{error_at}
 use Rattle.der_base.specs.HeaderGrammar.{Head}
@@ -32,15 +33,16 @@ pub data TakesParts (tag : Tag) (out : List ℕ) (rules : EncodingRules) (h : He
   as_segments : HasSegments h rules → Joined tag levels_inside octets out
       → TakesParts tag out rules h octets
 
--- what is read so
+-- what contents behind a header are read as: their octets, or what their segments are joined to
 pub data ReadsParts (tag : Tag) (h : Head) (s : ReaderState) (out : List ℕ) (t : ReaderState)
     : Type 0 where
   reads_octets : h.constructed ≡ false
       → Gives (read_slice_outcome (number h.length)) s (Ok out) t → ReadsParts tag h s out t
   reads_segments : HasSegments h s.rules → JoinsAll h.length tag s out t → ReadsParts tag h s out t
 
--- octets are refused, or segments are; or the header is constructed under DER, which is told at its
--- last octet, and no reader fails by it
+-- contents that stand as they are or in segments are refused: their octets are, or their segments;
+-- or the header is constructed under DER, which is told at its last octet, and no reader fails by
+-- it
 pub data RefusesParts (tag : Tag) (h : Head) (s : ReaderState) (e : Error) (t : ReaderState)
     : Type 0 where
   no_octets : h.constructed ≡ false → VecRefused (number h.length) s e t
@@ -51,7 +53,7 @@ pub data RefusesParts (tag : Tag) (h : Head) (s : ReaderState) (e : Error) (t : 
       → e ≡ error_at (Noncanonical h.tag) (definite_length (s.position - 1)) → t ≡ s
       → RefusesParts tag h s e t
 
--- both
+-- contents that stand as they are or in segments are read as a value, or refused
 abbrev pub PartsRead : {A : Type 0} → Tag → (A → List ℕ)
     → Head → ReaderState → Result A Error → ReaderState → Type 0
 PartsRead tag octets_of h s (Ok v) t = ReadsParts tag h s (octets_of v) t

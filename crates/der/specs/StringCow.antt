@@ -1,4 +1,5 @@
--- Texts that are borrowed or in memory of their own.
+-- Texts that are borrowed (`IsBorrowedText`) or in memory of their own: `cow_text` are the octets
+-- that a `StringCow` means.
 use Rattle.std.specs.Prelude.{ℕ, List}
 use Rattle.der.specs.StringRef.{reference_text}
 use Rattle.der.specs.StringOwned.{owned_text}

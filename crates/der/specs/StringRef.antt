@@ -1,4 +1,4 @@
--- Texts that are borrowed.
+-- Texts that are borrowed: `reference_text` are the octets that a `StringRef` means.
 use Rattle.std.specs.Prelude.{ℕ, List}
 use Rattle.der.specs.declared.string.reference.StringRef.{StringRef}
 

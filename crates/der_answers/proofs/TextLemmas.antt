@@ -84,7 +84,7 @@ module _ (rules : EncodingRules) (octets : List ℕ) where
       let printed = refused_text e refused in
       AnswersHead.refused record { error = e; reason = printed.0; refused = refused; says = printed.1; line = tells printed.0 printed.1 }
 
-  -- and so does each that missing elements are told as
+  -- each error that missing elements are told as has a text
   missing_text : (e : Error) → NoElement rules octets e → HasText (error_text e)
   missing_text e (NoElement.no_header refused) = refused_text e refused
   missing_text e (NoElement.past_every_length h count small ahead far) = (_, refl)
@@ -98,7 +98,7 @@ module _ (rules : EncodingRules) (octets : List ℕ) where
       let printed = missing_text e refused in
       AnswersTlv.refused record { error = e; reason = printed.0; refused = refused; says = printed.1; line = tells printed.0 printed.1 }
 
--- and so does each of octets that are not wholly an element, alone or as one of two
+-- each error of octets that are not wholly an element has a text, alone or as one of two
 whole_text : (octets : List ℕ) (e : Error) → NoWholeElement octets e → HasText (error_text e)
 whole_text octets e (NoWholeElement.no_header refused) = refused_text Der octets e refused
 whole_text octets e (NoWholeElement.past_every_length h count small ahead far) = (_, refl)

@@ -37,7 +37,7 @@ words_with_order name first second e =
     let s : name ≡ codes "order" = (bytes_eq-Decides name (codes "order")).0 (sym e) in
     cc
 
--- such words are a command only by these texts
+-- the word `order` and two others are a command only where these are octets
 pub command_with_order : (first second : List ℕ) → IsCommand (order_words first second) → IsHex first × IsHex second
 command_with_order first second (inl (Der, n, h, named, digits, is)) = absurd (grind arith)
 command_with_order first second (inl (Ber, n, h, inl named, digits, is)) = absurd (let is_order : n ≡ codes "order" = grind arith in let no : codes "head" ≡ codes "order" = sym named ∙ is_order in cc)
@@ -51,7 +51,7 @@ words_with_join name hex e =
     let s : name ≡ codes "join" = (bytes_eq-Decides name (codes "join")).0 (sym e) in
     cc
 
--- such words are a command only by this text
+-- the word `join` and another are a command only where that is octets
 pub command_with_join : (hex : List ℕ) → IsCommand (join_words hex) → IsHex hex
 command_with_join hex (inl (Ber, n, h, named, digits, is)) = absurd (grind arith)
 command_with_join hex (inl (Der, n, h, inl named, digits, is)) = absurd (let is_join : n ≡ codes "join" = grind arith in let no : true ≡ false = ap (bytes_eq (codes "head")) (sym named ∙ is_join) in cc)

@@ -34,7 +34,7 @@ IsRefusedFor rules octets e =
     ⊎ ((r : Refusal) × (length octets < 2 ^ 32) × HeaderFault BodyFault rules 0 octets r
     × (e ≡ r.error))
 
--- so many octets were read, and others are left behind them, up to an end
+-- the error where so many octets were read, and others are left behind them, up to an end
 abbrev pub trailing_error : ℕ → ℕ → Error
 trailing_error passed end =
     error_at (TrailingData (definite_length passed) (definite_length (end - passed)))

@@ -134,7 +134,7 @@ first_two n = ⊎_elim (λ l. let e : first_arc n ≡ 0 = cond-true (nat_lt n 40
     ⊎_elim (λ l. let f : first_arc n ≡ 1 = e ∙ cond-true (nat_lt n 80) 1 2 (lt-ltb n 80 l) in omega (arith, f, g)) (λ h. let f : first_arc n ≡ 2 = e ∙ cond-false (nat_lt n 80) 1 2 (le-ltb n 80 h) in omega (arith, f, h)) (cases_lt n 80))
     (cases_lt n 40)
 
--- and those of the arcs that they are
+-- the contents of the arcs that contents are, are those contents
 pub arcs_again : (octets : List ℕ) → AllBelowBase 256 octets → oid_form octets ≡ true → oid_octets (arcs_of (subidentifiers 0 octets)) ≡ octets
 arcs_again [] below form = refl
 arcs_again (o ∷ os) below form = whole (subidentifiers 0 (o ∷ os)) ∙ told_again 0 (o ∷ os) below form

@@ -61,7 +61,7 @@ module _ {A : Type 0} (tags : Tag → Type 0) (is_default : A → Bool) (Ahead :
       pub default_reads : ReadsOrLacks {E = E} oom takes s m (Ok a) t
       default_reads = inl (refl, default_moves)
 
-      -- and what was read is not the default
+      -- what was read of a field that stands ahead is not a default that is written under DER
       pub default_not_written : ((x w : A) (rules : EncodingRules) (octets : List ℕ) (k n : ℕ) → Ahead x rules octets k → Ahead w rules octets n → is_default x ≡ is_default w)
           → (s.failed ≡ false → t.failed ≡ false → Passes (Ahead a) s t) → t.rules ≡ Der → is_default a ≡ true → ⊥
       default_not_written told ok der d =

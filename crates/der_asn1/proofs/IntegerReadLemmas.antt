@@ -191,7 +191,7 @@ module _ (negative : Bool) (n : ℕ) where
 both_true : (b c : Bool) → b ≡ true → c ≡ true → (b && c) ≡ true
 both_true b c q r = rw (q, r)
 
--- so the contents of numbers below a limit have the form
+-- the contents of numbers below a limit have the form
 pub made_signed : (negative : Bool) (n limit : ℕ) → n < limit → signed_form limit (integer_octets negative n) ≡ true
 made_signed negative n limit h = both_true (integer_form (integer_octets negative n)) (nat_lt (magnitude (integer_octets negative n)) limit) (made_form negative n) (ap (λ k. nat_lt k limit) (made_number negative n) ∙ lt-ltb n limit h)
 

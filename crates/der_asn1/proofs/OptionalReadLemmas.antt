@@ -63,12 +63,12 @@ module _ {A : Type 0} (tags : Tag → Type 0) (Ahead : A → EncodingRules → L
       go (nothing e) = rest_before_end s sound not e
       go (other t n ahead apart) = not_refused tag_grammar (p.1.refused reliable) working ahead
 
-  -- where another tag stands, none does
+  -- where another tag stands, no value does
   pub absent_before : {reliable : Bool} {t : Tag} (o : Option A) (m : ℕ) → Peeks TagAhead IdentifierFault reliable s (Ok t) → (tags t → ⊥) → OptionAhead tags Ahead o s.rules (rest_of s) m → m ≡ 0
   absent_before None m p not h = h.0
   absent_before (Some v) m p not h = let b = begins v s.rules (rest_of s) m h in absurd (not (subst tags (one_tag b.ahead (peeked p)).0 b.among))
 
-  -- and where one of its tags does, a value
+  -- where one of its tags stands, a value does
   pub present_before : {reliable : Bool} {t : Tag} (o : Option A) (m : ℕ) → Peeks TagAhead IdentifierFault reliable s (Ok t) → tags t → OptionAhead tags Ahead o s.rules (rest_of s) m → (v : A) × Ahead v s.rules (rest_of s) m
   present_before {t = t} None m p is h = absurd (go h.1)
     where

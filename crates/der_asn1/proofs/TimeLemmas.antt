@@ -63,7 +63,7 @@ same_time : (t : DateTime) (y o d h m s : ℕ) → y ≡ t.year → o ≡ t.mont
     → record { year = y; month = o; day = d; hour = h; minute = m; second = s } ≡ t
 same_time t y o d h m s ey eo ed eh em es = rw (ey, eo, ed, eh, em, es) refl
 
--- so the contents of a time tell it
+-- the contents of a time tell it
 pub generalized_told : (t : DateTime) → is_date_time t ≡ true → generalized_reading (generalized_octets t) ≡ t
 generalized_told t is =
     let b = bounded t is in
@@ -83,7 +83,7 @@ utc_told t is =
     same_time t _ _ _ _ _ _ (ap utc_year (last_digits_tell t.year) ∙ same_year t.year (leb-true 1950 t.year u.0) (ltb-true t.year 2050 v.0)) (digits_tell t.month (omega (arith, b.month))) (digits_tell t.day (omega (arith, b.day))) (digits_tell t.hour (omega (arith, b.hour)))
     (digits_tell t.minute (omega (arith, b.minute))) (digits_tell t.second (omega (arith, b.second)))
 
--- and have the form
+-- the contents of a time have the form
 pub generalized_formed : (t : DateTime) → is_date_time t ≡ true → generalized_form (generalized_octets t) ≡ true
 generalized_formed t is =
     let told = generalized_told t is in

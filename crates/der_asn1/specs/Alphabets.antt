@@ -1,4 +1,5 @@
--- The forms of further strings (X.690 8.23, X.680 41).
+-- The forms of further strings (X.690 8.23, X.680 41): `visible_form`, `numeric_form` and
+-- `bmp_form`.
 use Rattle.std.specs.Prelude.{ℕ, ◌==◌, ◌&&◌, ◌||◌, not, Bool, true, false, nat_lt, List, [], ◌∷◌}
 use Rattle.std.specs.Prelude.{if◌then◌else◌}
 

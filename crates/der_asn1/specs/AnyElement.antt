@@ -1,4 +1,5 @@
--- Elements whose tag is one of many: ANY, and a CHOICE.
+-- Elements whose tag is one of many, as ANY and a CHOICE have it (`AnyElementAhead`), the rows of
+-- reading one (`AnyElementRead`), and that such a type is read as it is written (`IsLawfulChoice`).
 use Rattle.std.specs.Prelude.{◌≡◌, ◌↔◌, ℕ, ◌^◌, ◌<◌, true, List, length, Result, Err}
 use Rattle.der.specs.Arithmetic.{sans_eoc}
 use Rattle.der.specs.ScanGrammar.{BodyFault}

@@ -1,4 +1,5 @@
--- An element of any tag.
+-- An element of any tag: which there are (`IsAny`), how contents are taken (`TakesAny`), and the
+-- rows of reading and writing one (`AnyRead`, `AnyWritten`).
 use Rattle.std.specs.Prelude.{◌≡◌, ℕ, ◌^◌, ◌<◌, List, length, Result}
 use Rattle.der.specs.Prelude.{checked_length, Head, number, Length, Error, EncodingRules}
 use Rattle.der.specs.Prelude.{WriterAnswer, Gives, map_ok, read_slice_outcome, ReaderState, Writes}
@@ -29,10 +30,13 @@ any_size v = checked_length (length (any_contents v))
 abbrev pub AnyWritten : AnyRef → WriterAnswer
 AnyWritten v s result t = Writes (write_outcome (any_contents v) s) result t
 
--- it is read as it is written
+-- an element of any tag is read as it is written
 pub any_lawful : IsLawfulChoice (λ v. v.tag) TakesAny IsAny any_contents
 any_lawful =
     record {
-      exact = λ octets t v short small. (λ h. (h.numbered, h.tagged, h.same), λ h. record { tagged = h.1; same = h.2; numbered = h.0 });
+      exact = λ octets t v short small. (
+        λ h. (h.numbered, h.tagged, h.same),
+        λ h. record { tagged = h.1; same = h.2; numbered = h.0 },
+      );
       numbered = λ v is. is;
     }

@@ -1,4 +1,5 @@
--- The arcs of an object identifier (X.690 8.19).
+-- The arcs of an object identifier (X.690 8.19): `oid_octets` are the contents of arcs, and
+-- `oid_arcs` the arcs of contents, which a walk tells one by one (`arc_items`).
 use Rattle.std.specs.Prelude.{◌≡◌, ℕ, ◌+◌, ◌-◌, ◌*◌, ◌^◌, nat_lt, List, [], ◌∷◌}
 use Rattle.std.specs.Prelude.{Option, Some, None, if◌then◌else◌, drop, map}
 use Rattle.std.specs.List.{flat_map}

@@ -7,7 +7,7 @@ use Rattle.der_base.proofs.DigitLemmas.{same_length_front}
 use Rattle.der_base.proofs.HeaderLemmas.{one_header}
 use Rattle.der_asn1.specs.Checked.{TakesForm}
 
--- of two that stand in the same place the contents are the same
+-- of two elements that stand in the same place the contents are the same
 one_contents : {A B : Type 0} {tag : Tag} {takes : A → EncodingRules → Head → List ℕ → Type 0}
     {gives : B → EncodingRules → Head → List ℕ → Type 0} {v : A} {w : B} {rules : EncodingRules}
     {octets : List ℕ} {m n : ℕ} (one : ElementAhead tag takes v rules octets m)
@@ -16,19 +16,20 @@ one_contents {octets = octets} one two =
     let same = one_header one.ahead two.ahead in
     let size : length one.contents ≡ length two.contents =
     one.sized ∙ ap (λ (h : Head). number (sans_eoc h.length)) same.0 ∙ sym two.sized in
-    let split : one.contents ++ (one.mark ++ one.behind) ≡ two.contents ++ (two.mark ++ two.behind) =
+    let split : one.contents ++ (one.mark ++ one.behind) ≡ two.contents ++
+    (two.mark ++ two.behind) =
     sym one.split ∙ ap (λ k. drop k octets) same.1 ∙ two.split in
     (same_length_front one.contents two.contents (one.mark ++ one.behind)
     (two.mark ++ two.behind) size split).0
 
--- so octets of a form are the same
+-- two values of a form that stand in the same place have the same octets
 pub one_form : {A : Type 0} {tag : Tag} {form : List ℕ → Bool} {contents : A → List ℕ} {v w : A}
     {rules : EncodingRules} {octets : List ℕ} {m n : ℕ}
     → ElementAhead tag (TakesForm form contents) v rules octets m
     → ElementAhead tag (TakesForm form contents) w rules octets n → contents v ≡ contents w
 one_form one two = one.taken.1 ∙ one_contents one two ∙ sym two.taken.1
 
--- and in an element around them
+-- two values of a form in elements around them have the same octets, where those stand in one place
 pub one_explicit_form : {A B : Type 0} {outer tag : Tag} {form : List ℕ → Bool}
     {contents : A → List ℕ} (f : B → A) {v w : B} {rules : EncodingRules} {octets : List ℕ}
     {m n : ℕ} → ElementAhead outer

@@ -1,5 +1,5 @@
--- Context-specific tags: IMPLICIT in the place of another one, EXPLICIT around an element
--- (X.690 8.14).
+-- Context-specific tags (`context_tag`): IMPLICIT in the place of another one (`TakesImplicit`),
+-- EXPLICIT around an element (X.690 8.14).
 use Rattle.std.specs.Prelude.{◌≡◌, ◌||◌, ℕ, ◌^◌, ◌<◌, ◌≤◌, Bool, true, false, List, length}
 use Rattle.std.proofs.Common.{arith, refl, sym, ap, subst, ◌∙◌}
 use Rattle.der.specs.Prelude.{Head, is_indefinite, definite_length, Tag, ContextSpecific}
@@ -17,6 +17,7 @@ context_tag constructed n = ContextSpecific constructed (tag_number n)
 abbrev pub retagged : Tag → Head → Head
 retagged t h = head t h.length ((label t).constructed || is_indefinite h.length)
 
+-- contents behind another tag are taken as behind their own
 abbrev pub TakesImplicit : {A B : Type 0} → Tag → (A → EncodingRules → Head → List ℕ → Type 0)
     → (B → A) → B → EncodingRules → Head → List ℕ → Type 0
 TakesImplicit tag takes value v rules h octets = takes (value v) rules (retagged tag h) octets
@@ -28,7 +29,7 @@ same_head t u n true e =
 same_head t u n false e =
     ap (λ c. head t (definite_length n) (c || false)) e ∙ ap (head t (definite_length n)) (sym e)
 
--- another tag for the same contents
+-- a lawful type behind another tag is lawful
 pub implicit_lawful : {A B : Type 0} {tag : Tag}
     {takes : A → EncodingRules → Head → List ℕ → Type 0} {valid : A → Type 0}
     {contents : A → List ℕ} {levels : EncodingRules → ℕ} (outer : Tag) (value : B → A)
@@ -49,7 +50,7 @@ implicit_lawful {tag = tag} {takes} outer value numbered laws =
       numbered = numbered;
     }
 
--- an element around an element; the inner one has to nest a level less
+-- a lawful type in an element of its own is lawful; it has to nest a level less
 pub explicit_lawful : {A B : Type 0} {tag : Tag}
     {takes : A → EncodingRules → Head → List ℕ → Type 0} {valid : A → Type 0}
     {contents : A → List ℕ} {levels : EncodingRules → ℕ} (outer : Tag) (value : B → A)
@@ -66,4 +67,5 @@ pub explicit_holds : {A B : Type 0} {tag : Tag}
     → ((v : A) (rules : EncodingRules) (h : Head) (octets : List ℕ) → takes v rules h octets
     → valid v) → (b : B) (rules : EncodingRules) (h : Head) (octets : List ℕ)
     → TakesWhole (ElementAhead tag takes) (value b) rules h octets → valid (value b)
-explicit_holds value holds b rules h octets taken = holds (value b) rules _ taken.contents taken.taken
+explicit_holds value holds b rules h octets taken =
+    holds (value b) rules _ taken.contents taken.taken

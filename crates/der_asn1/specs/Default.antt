@@ -1,4 +1,6 @@
--- Fields with a default, which are absent exactly where they have it under DER (X.690 11.5).
+-- Fields with a default, which are absent exactly where they have it under DER (X.690 11.5):
+-- `DefaultAhead`, the values that there are (`IsDefaulted`), and the rows of reading and writing
+-- one (`DefaultRead`, `DefaultWritten`).
 use Rattle.std.specs.Prelude.{◌≡◌, ℕ, ◌⊎◌, Bool, true, false, List, [], Result, Ok, Err}
 use Rattle.std.specs.Prelude.{if◌then◌else◌}
 use Rattle.der.specs.Prelude.{Tag, EncodingRules, Der, Error, error_at, definite_length, Length}
@@ -22,7 +24,7 @@ pub data DefaultAhead {A : Type 0} (tags : Tag → Type 0) (is_default : A → B
 abbrev pub default_encoding : {A : Type 0} → (A → Bool) → (A → List ℕ) → A → List ℕ
 default_encoding is_default encoding v = if is_default v then [] else encoding v
 
--- the default is valid, and others as they are
+-- a value is the default, or valid
 abbrev pub IsDefaulted : {A : Type 0} → (A → Bool) → (A → Type 0) → A → Type 0
 IsDefaulted is_default valid v = (is_default v ≡ true) ⊎ valid v
 
@@ -49,7 +51,8 @@ pub data DefaultRead {A E : Type 0} (tags : Tag → Type 0) (is_default : A → 
       → DefaultRead tags is_default converts answers s result t
   default_written : (u : Tag) (v : A) (r : ReaderState) (e : E)
       → Peeks TagAhead IdentifierFault true s (Ok u) → tags u → answers s (Ok v) r
-      → r.rules ≡ Der → is_default v ≡ true → converts (error_at (Noncanonical u) (reader_position r)) e
+      → r.rules ≡ Der → is_default v ≡ true
+      → converts (error_at (Noncanonical u) (reader_position r)) e
       → result ≡ Err e → t ≡ stopped_state r r.position
       → DefaultRead tags is_default converts answers s result t
   default_other : (u : Tag) (v : A) → Peeks TagAhead IdentifierFault true s (Ok u) → tags u
@@ -60,6 +63,7 @@ abbrev pub default_size : {A : Type 0} → (A → Bool) → (A → Result Length
     → Result Length Error
 default_size is_default size v = if is_default v then Ok (definite_length 0) else size v
 
+-- the rows of writing: the default is no octets
 abbrev pub DefaultWritten : {A : Type 0} → (A → Bool) → (A → WriterAnswer) → A → WriterAnswer
 DefaultWritten is_default answers v s result t =
     (is_default v ≡ true → (result ≡ Ok tt) × (t ≡ s))

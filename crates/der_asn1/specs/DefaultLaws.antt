@@ -13,9 +13,10 @@ pub default_holds : {A : Type 0} (tags : Tag → Type 0) (is_default : A → Boo
     → (v : A) (rules : EncodingRules) (octets : List ℕ) (m : ℕ)
     → DefaultAhead tags is_default Ahead v rules octets m → IsDefaulted is_default valid v
 default_holds tags is_default holds v rules octets m (absent d e none) = inl d
-default_holds tags is_default holds v rules octets m (present differs h) = inr (holds v rules octets m h)
+default_holds tags is_default holds v rules octets m (present differs h) =
+    inr (holds v rules octets m h)
 
--- one that is absent where it is the default
+-- the laws of a field that is absent where it is the default
 abbrev pub default_laws : {A : Type 0} {Ahead : A → EncodingRules → List ℕ → ℕ → Type 0}
     {valid : A → Type 0} {encoding : A → List ℕ} (is_default : A → Bool)
     (one : SomeLaws Ahead valid encoding)

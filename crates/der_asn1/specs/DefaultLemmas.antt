@@ -9,18 +9,27 @@ use Rattle.der_asn1.specs.Default.{DefaultPrecedes}
 use Rattle.der_asn1.specs.FollowLemmas.{fewer_tags}
 
 -- a value that is not the default is valid
-valid_of : {A : Type 0} (valid : A → Type 0) (is_default : A → Bool) (v : A) → (is_default v ≡ true) ⊎ valid v → is_default v ≡ false → valid v
+valid_of : {A : Type 0} (valid : A → Type 0) (is_default : A → Bool) (v : A) → (is_default v ≡ true)
+    ⊎ valid v → is_default v ≡ false → valid v
 valid_of valid is_default v (inl e) f = absurd (let no : true ≡ false = sym e ∙ f in cc)
 valid_of valid is_default v (inr is) f = is
 
-module _ {A : Type 0} {tags : Tag → Type 0} {Ahead : A → EncodingRules → List ℕ → ℕ → Type 0} {valid : A → Type 0} {encoding : A → List ℕ} {P : A → List ℕ → Type 0} (is_default : A → Bool) where
-  pub defaults_are_fields : ReadsFields Ahead valid encoding P → ReadsFields (DefaultAhead tags is_default Ahead) (IsDefaulted is_default valid) (default_encoding is_default encoding) (DefaultPrecedes tags is_default P)
-  defaults_are_fields reads = record { only = from; every = λ octets v m short. to octets v m short (is_default v) refl }
+module _ {A : Type 0} {tags : Tag → Type 0} {Ahead : A → EncodingRules → List ℕ → ℕ → Type 0}
+    {valid : A → Type 0} {encoding : A → List ℕ} {P : A → List ℕ → Type 0}
+    (is_default : A → Bool) where
+  pub defaults_are_fields : ReadsFields Ahead valid encoding P
+      → ReadsFields (DefaultAhead tags is_default Ahead) (IsDefaulted is_default valid)
+      (default_encoding is_default encoding) (DefaultPrecedes tags is_default P)
+  defaults_are_fields reads =
+      record { only = from; every = λ octets v m short. to octets v m short (is_default v) refl }
     where
-      written : (v : A) (b : Bool) → is_default v ≡ b → default_encoding is_default encoding v ≡ (if b then [] else encoding v)
+      written : (v : A) (b : Bool) → is_default v ≡ b
+          → default_encoding is_default encoding v ≡ (if b then [] else encoding v)
       written v b e = ap (λ x. if x then [] else encoding v) e
 
-      from : (octets : List ℕ) (v : A) (m : ℕ) → DefaultAhead tags is_default Ahead v Der octets m → FieldAhead (IsDefaulted is_default valid) (default_encoding is_default encoding) (DefaultPrecedes tags is_default P) v octets m
+      from : (octets : List ℕ) (v : A) (m : ℕ) → DefaultAhead tags is_default Ahead v Der octets m
+          → FieldAhead (IsDefaulted is_default valid) (default_encoding is_default encoding)
+          (DefaultPrecedes tags is_default P) v octets m
       from octets v m (absent e none h) =
           record {
             is_valid = inl e;
@@ -40,9 +49,15 @@ module _ {A : Type 0} {tags : Tag → Type 0} {Ahead : A → EncodingRules → L
             precedes = (λ f. absurd (let no : true ≡ false = sym f ∙ not in cc), λ _. e.precedes);
           }
 
-      to : (octets : List ℕ) (v : A) (m : ℕ) → length octets < 2 ^ 32 → (b : Bool) → is_default v ≡ b → FieldAhead (IsDefaulted is_default valid) (default_encoding is_default encoding) (DefaultPrecedes tags is_default P) v octets m
+      to : (octets : List ℕ) (v : A) (m : ℕ) → length octets < 2 ^ 32 → (b : Bool)
+          → is_default v ≡ b
+          → FieldAhead (IsDefaulted is_default valid) (default_encoding is_default encoding)
+          (DefaultPrecedes tags is_default P) v octets m
           → DefaultAhead tags is_default Ahead v Der octets m
-      to octets v m short true d e = absent d (e.whole ∙ ap length (written v true d)) (subst (NoTagIn tags Der) (sym (e.split ∙ ap (λ x. x ++ e.behind) (written v true d))) (e.precedes.0 d))
+      to octets v m short true d e =
+          absent d (e.whole ∙ ap length (written v true d))
+          (subst (NoTagIn tags Der) (sym (e.split ∙ ap (λ x. x ++ e.behind) (written v true d)))
+          (e.precedes.0 d))
       to octets v m short false d e =
           present (λ _. d) (reads.every octets v m short (record {
             is_valid = valid_of valid is_default v e.is_valid d;
@@ -52,14 +67,30 @@ module _ {A : Type 0} {tags : Tag → Type 0} {Ahead : A → EncodingRules → L
             precedes = e.precedes.1 d;
           }))
 
-pub default_may_start : {A : Type 0} {tags : Tag → Type 0} {valid : A → Type 0} {encoding : A → List ℕ} (is_default : A → Bool) → Starts valid encoding tags → MayStart (IsDefaulted is_default valid) (default_encoding is_default encoding) tags
-default_may_start {A} {tags} {valid} {encoding} is_default one = record { starts = λ v is. go v (is_default v) refl is }
+pub default_may_start : {A : Type 0} {tags : Tag → Type 0} {valid : A → Type 0}
+    {encoding : A → List ℕ} (is_default : A → Bool) → Starts valid encoding tags
+    → MayStart (IsDefaulted is_default valid) (default_encoding is_default encoding) tags
+default_may_start {A} {tags} {valid} {encoding} is_default one =
+    record { starts = λ v is. go v (is_default v) refl is }
   where
-    go : (v : A) (b : Bool) → is_default v ≡ b → (is_default v ≡ true) ⊎ valid v → (default_encoding is_default encoding v ≡ []) ⊎ StartsIn tags (default_encoding is_default encoding v)
+    go : (v : A) (b : Bool) → is_default v ≡ b → (is_default v ≡ true) ⊎ valid v
+        → (default_encoding is_default encoding v ≡ [])
+        ⊎ StartsIn tags (default_encoding is_default encoding v)
     go v true d is = inl (ap (λ x. if x then [] else encoding v) d)
-    go v false d is = inr (subst (StartsIn tags) (sym (ap (λ x. if x then [] else encoding v) d)) (one.starts v (valid_of valid is_default v is d)))
+    go v false d is =
+        inr (subst (StartsIn tags) (sym (ap (λ x. if x then [] else encoding v) d))
+        (one.starts v (valid_of valid is_default v is d)))
 
-pub default_precedes : {A : Type 0} (tags : Tag → Type 0) {valid : A → Type 0} {P : A → List ℕ → Type 0} {stops : Tag → Type 0} (is_default : A → Bool) → PrecedesBut valid P stops
-    → PrecedesBut (IsDefaulted is_default valid) (DefaultPrecedes tags is_default P) (either_tags tags stops)
+pub default_precedes : {A : Type 0} (tags : Tag → Type 0) {valid : A → Type 0}
+    {P : A → List ℕ → Type 0} {stops : Tag → Type 0} (is_default : A → Bool)
+    → PrecedesBut valid P stops
+    → PrecedesBut (IsDefaulted is_default valid) (DefaultPrecedes tags is_default P)
+    (either_tags tags stops)
 default_precedes tags {valid} is_default one =
-    record { precedes = λ v behind is none. (λ _. fewer_tags (λ t h. inl h) none, λ f. one.precedes v behind (valid_of valid is_default v is f) (fewer_tags (λ t h. inr h) none)) }
+    record {
+      precedes = λ v behind is none. (
+        λ _. fewer_tags (λ t h. inl h) none,
+        λ f. one.precedes v behind (valid_of valid is_default v is f)
+            (fewer_tags (λ t h. inr h) none),
+      );
+    }

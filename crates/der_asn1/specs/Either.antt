@@ -1,4 +1,5 @@
--- CHOICE of two types (X.690 8.13): the element of the one or of the other, told by its tag.
+-- CHOICE of two types (X.690 8.13): the element of the one or of the other, told by its tag
+-- (`EitherAhead`), and the rows of reading and writing one (`EitherRead`, `EitherWritten`).
 use Rattle.std.specs.Prelude.{◌≡◌, ℕ, true, List, Option, Some, None, Result, Ok, Err}
 use Rattle.der.specs.Prelude.{Tag, EncodingRules, Error, error_at, Length, WriterAnswer, map_ok}
 use Rattle.der.specs.Prelude.{ReaderState, reader_position}
@@ -12,10 +13,12 @@ use Rattle.der_asn1.specs.declared.either.Either.{Either}
 use Rattle.der_asn1.specs.declared.either.Either.TheVariants.{First, Second}
 
 -- the first stands, or the second where no tag of the first does
-abbrev pub EitherAhead : {A B : Type 0} → (Tag → Type 0) → (A → EncodingRules → List ℕ → ℕ → Type 0)
-    → (B → EncodingRules → List ℕ → ℕ → Type 0) → Either A B → EncodingRules → List ℕ → ℕ → Type 0
+abbrev pub EitherAhead : {A B : Type 0} → (Tag → Type 0)
+    → (A → EncodingRules → List ℕ → ℕ → Type 0) → (B → EncodingRules → List ℕ → ℕ → Type 0)
+    → Either A B → EncodingRules → List ℕ → ℕ → Type 0
 EitherAhead tags One Two (First v) rules octets m = One v rules octets m
-EitherAhead tags One Two (Second v) rules octets m = Two v rules octets m × NoTagIn tags rules octets
+EitherAhead tags One Two (Second v) rules octets m =
+    Two v rules octets m × NoTagIn tags rules octets
 
 abbrev pub IsEither : {A B : Type 0} → (A → Type 0) → (B → Type 0) → Either A B → Type 0
 IsEither one two (First v) = one v
@@ -55,6 +58,7 @@ abbrev pub either_size : {A B : Type 0} → (A → Result Length Error) → (B �
 either_size one two (First v) = one v
 either_size one two (Second v) = two v
 
+-- the rows of writing: those of the type whose value it is
 abbrev pub EitherWritten : {A B : Type 0} → (A → WriterAnswer) → (B → WriterAnswer) → Either A B
     → WriterAnswer
 EitherWritten one two (First v) = one v

@@ -1,4 +1,6 @@
--- Laws of fields, as they are put together.
+-- Laws of fields, as they are put together: `FieldLaws` and `SomeLaws` are all that is known of
+-- one; `element_laws`, `choice_laws` and `optional_laws` make them, `pair_laws` puts two together,
+-- and `contents_laws` makes of them that a type is lawful.
 use Rattle.std.proofs.Common.{inl, ℕ, ◌^◌, ◌<◌, ◌≤◌, List, ◌++◌, length, drop, Option, Some, None}
 use Rattle.der.specs.Prelude.{Head, Tag, EncodingRules, Der, ElementAhead, element_octets}
 use Rattle.der.specs.Prelude.{FieldsAhead, TakesWhole, IsLawful}
@@ -31,13 +33,13 @@ pub record FieldLaws {A : Type 0} (Ahead : A → EncodingRules → List ℕ → 
   pub holds : (v : A) (rules : EncodingRules) (octets : List ℕ) (m : ℕ) → Ahead v rules octets m
       → valid v
 
--- of one that always has octets
+-- all that is known of a field that always has octets
 pub record SomeLaws {A : Type 0} (Ahead : A → EncodingRules → List ℕ → ℕ → Type 0)
     (valid : A → Type 0) (encoding : A → List ℕ) : Type 1 where
   pub laws : FieldLaws Ahead valid encoding
   pub some : Starts valid encoding laws.tags
 
--- octets that anything may follow
+-- the laws of encodings that anything may follow
 abbrev pub encoding_laws : {A : Type 0} {Ahead : A → EncodingRules → List ℕ → ℕ → Type 0}
     {valid : A → Type 0} {encoding : A → List ℕ} {tags : Tag → Type 0}
     → ReadsEncodings Ahead valid encoding → Starts valid encoding tags
@@ -57,34 +59,41 @@ encoding_laws {valid = valid} {tags = tags} reads some holds =
       some = some;
     }
 
--- an element of a lawful type
-abbrev pub element_laws : {A : Type 0} {tag : Tag} {takes : A → EncodingRules → Head → List ℕ → Type 0}
+-- the laws of an element of a lawful type
+abbrev pub element_laws : {A : Type 0} {tag : Tag}
+    {takes : A → EncodingRules → Head → List ℕ → Type 0}
     {valid : A → Type 0} {contents : A → List ℕ} {levels : EncodingRules → ℕ}
     → IsLawful tag takes valid contents levels
-    → ((v : A) (rules : EncodingRules) (h : Head) (octets : List ℕ) → takes v rules h octets → valid v)
+    → ((v : A) (rules : EncodingRules) (h : Head) (octets : List ℕ) → takes v rules h octets
+    → valid v)
     → SomeLaws (ElementAhead tag takes) valid (λ v. element_octets tag (contents v))
 element_laws lawful takes_valid =
     encoding_laws (elements_are_encodings lawful) (lawful_starts lawful)
     (λ v rules octets m e. takes_valid v rules (head_sans_eoc e.says) e.contents e.taken)
 
--- an element of a tag of its own
-abbrev pub choice_laws : {A : Type 0} {tag_of : A → Tag} {takes : A → EncodingRules → Head → List ℕ → Type 0}
+-- the laws of an element with a tag of its own
+abbrev pub choice_laws : {A : Type 0} {tag_of : A → Tag}
+    {takes : A → EncodingRules → Head → List ℕ → Type 0}
     {valid : A → Type 0} {contents : A → List ℕ} (tags : Tag → Type 0)
     → IsLawfulChoice tag_of takes valid contents → ((v : A) → valid v → tags (tag_of v))
-    → ((v : A) (rules : EncodingRules) (h : Head) (octets : List ℕ) → takes v rules h octets → valid v)
+    → ((v : A) (rules : EncodingRules) (h : Head) (octets : List ℕ) → takes v rules h octets
+    → valid v)
     → SomeLaws (AnyElementAhead takes) valid (λ v. element_octets (tag_of v) (contents v))
 choice_laws tags lawful among takes_valid =
     encoding_laws (choices_are_encodings lawful) (choices_start lawful tags among)
     (λ v rules octets m e. takes_valid v rules (head_sans_eoc e.element.says) e.element.contents
     e.element.taken)
 
-pub option_holds : {A : Type 0} (tags : Tag → Type 0) {Ahead : A → EncodingRules → List ℕ → ℕ → Type 0}
-    {valid : A → Type 0} → ((v : A) (rules : EncodingRules) (octets : List ℕ) (m : ℕ) → Ahead v rules octets m → valid v)
-    → (v : Option A) (rules : EncodingRules) (octets : List ℕ) (m : ℕ) → OptionAhead tags Ahead v rules octets m → IsOptional valid v
+pub option_holds : {A : Type 0} (tags : Tag → Type 0)
+    {Ahead : A → EncodingRules → List ℕ → ℕ → Type 0}
+    {valid : A → Type 0}
+    → ((v : A) (rules : EncodingRules) (octets : List ℕ) (m : ℕ) → Ahead v rules octets m → valid v)
+    → (v : Option A) (rules : EncodingRules) (octets : List ℕ) (m : ℕ)
+    → OptionAhead tags Ahead v rules octets m → IsOptional valid v
 option_holds tags holds None rules octets m h = tt
 option_holds tags holds (Some v) rules octets m h = holds v rules octets m h
 
--- an optional one, seen as another's value
+-- the laws of a field that may be absent
 abbrev pub optional_laws : {A : Type 0} {Ahead : A → EncodingRules → List ℕ → ℕ → Type 0}
     {valid : A → Type 0} {encoding : A → List ℕ} (one : SomeLaws Ahead valid encoding)
     → FieldLaws (OptionAhead one.laws.tags Ahead) (IsOptional valid) (option_encoding encoding)
@@ -99,15 +108,31 @@ optional_laws one =
       holds = option_holds one.laws.tags one.laws.holds;
     }
 
--- the same value in another type
-pub seen_reads : {A B : Type 0} {Ahead : A → EncodingRules → List ℕ → ℕ → Type 0} {valid : A → Type 0}
+-- a field in another type is read as it is written
+pub seen_reads : {A B : Type 0} {Ahead : A → EncodingRules → List ℕ → ℕ → Type 0}
+    {valid : A → Type 0}
     {encoding : A → List ℕ} {P : A → List ℕ → Type 0} (f : B → A)
     → ReadsFields Ahead valid encoding P
     → ReadsFields (λ b. Ahead (f b)) (λ b. valid (f b)) (λ b. encoding (f b)) (λ b. P (f b))
 seen_reads f reads =
     record {
-      only = λ octets b m h. (let e = reads.only octets (f b) m h in record { is_valid = e.is_valid; behind = e.behind; split = e.split; whole = e.whole; precedes = e.precedes });
-      every = λ octets b m short e. reads.every octets (f b) m short (record { is_valid = e.is_valid; behind = e.behind; split = e.split; whole = e.whole; precedes = e.precedes });
+      only = λ octets b m h.
+          (let e = reads.only octets (f b) m h in
+          record {
+            is_valid = e.is_valid;
+            behind = e.behind;
+            split = e.split;
+            whole = e.whole;
+            precedes = e.precedes;
+          });
+      every = λ octets b m short e. reads.every octets (f b) m short
+          (record {
+            is_valid = e.is_valid;
+            behind = e.behind;
+            split = e.split;
+            whole = e.whole;
+            precedes = e.precedes;
+          });
     }
 
 abbrev pub seen_laws : {A B : Type 0} {Ahead : A → EncodingRules → List ℕ → ℕ → Type 0}
@@ -120,11 +145,12 @@ seen_laws f one =
       stops = one.stops;
       reads = seen_reads f one.reads;
       starts = record { starts = λ b is. one.starts.starts (f b) is };
-      precedes = record { precedes = λ b behind is none. one.precedes.precedes (f b) behind is none };
+      precedes =
+          record { precedes = λ b behind is none. one.precedes.precedes (f b) behind is none };
       holds = λ b. one.holds (f b);
     }
 
--- a field before one that always has octets, none of whose tags it may not stand before
+-- the laws of a field before one that always has octets, none of whose tags it may not stand before
 abbrev pub pair_laws : {A B : Type 0} {First : A → EncodingRules → List ℕ → ℕ → Type 0}
     {Second : B → EncodingRules → List ℕ → ℕ → Type 0} {is_first : A → Type 0}
     {is_second : B → Type 0} {first : A → List ℕ} {second : B → List ℕ}
@@ -146,7 +172,7 @@ pair_laws {second = second} one two apart =
       );
     }
 
--- and before one that may be absent
+-- the laws of a field before one that may be absent
 abbrev pub pair_laws_absent : {A B : Type 0} {First : A → EncodingRules → List ℕ → ℕ → Type 0}
     {Second : B → EncodingRules → List ℕ → ℕ → Type 0} {is_first : A → Type 0}
     {is_second : B → Type 0} {first : A → List ℕ} {second : B → List ℕ}
@@ -178,5 +204,6 @@ contents_laws tag levels f one shallow numbered =
 
 pub contents_hold : {A : Type 0} {Ahead : A → EncodingRules → List ℕ → ℕ → Type 0}
     {valid : A → Type 0} {encoding : A → List ℕ} → FieldLaws Ahead valid encoding → (v : A)
-    (rules : EncodingRules) (h : Head) (octets : List ℕ) → TakesWhole Ahead v rules h octets → valid v
+    (rules : EncodingRules) (h : Head) (octets : List ℕ) → TakesWhole Ahead v rules h octets
+    → valid v
 contents_hold one v rules h octets taken = one.holds v rules octets (length octets) taken

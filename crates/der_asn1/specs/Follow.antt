@@ -1,4 +1,6 @@
--- What it means that fields are read as they are written, where what follows one may decide.
+-- What it means that fields are read as they are written, where what follows one may decide
+-- (`FieldAhead`, `ReadsFields`): which tags stand ahead (`TagIn`, `NoTagIn`), with which one
+-- encodings begin (`Starts`, `MayStart`), and before which a value may stand (`PrecedesBut`).
 use Rattle.std.specs.Prelude.{◌≡◌, ℕ, ◌^◌, ◌<◌, ◌⊎◌, List, [], ◌++◌, length}
 use Rattle.der.specs.HeaderGrammar.{TagAhead}
 use Rattle.der.specs.Tag.{label}
@@ -48,11 +50,12 @@ pub record StartsIn (tags : Tag → Type 0) (octets : List ℕ) : Type 0 where
   pub numbered : (label tag).number < 2 ^ 32
   pub among : tags tag
 
--- the encodings of valid values begin with one of these tags; or they may be empty too
+-- the encodings of valid values begin with one of these tags
 pub record Starts {A : Type 0} (valid : A → Type 0) (encoding : A → List ℕ) (tags : Tag → Type 0)
     : Type 0 where
   pub starts : (v : A) → valid v → StartsIn tags (encoding v)
 
+-- the encodings of valid values begin with one of these tags, or are empty
 pub record MayStart {A : Type 0} (valid : A → Type 0) (encoding : A → List ℕ)
     (tags : Tag → Type 0) : Type 0 where
   pub starts : (v : A) → valid v → (encoding v ≡ []) ⊎ StartsIn tags (encoding v)
@@ -76,7 +79,7 @@ any_tag t = Unit {0}
 abbrev pub either_tags : (Tag → Type 0) → (Tag → Type 0) → Tag → Type 0
 either_tags f g t = f t ⊎ g t
 
--- one may stand before another, and that before what follows both
+-- one value may stand before another, and that before what follows both
 abbrev pub BothPrecede : {A B : Type 0} → (B → List ℕ) → (A → List ℕ → Type 0)
     → (B → List ℕ → Type 0) → A × B → List ℕ → Type 0
 BothPrecede second first_precedes second_precedes v behind =

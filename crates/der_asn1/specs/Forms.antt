@@ -1,8 +1,11 @@
--- The forms of contents of the small types under DER.
+-- The forms of contents of the small types under DER, each named after its type: `oid_form`,
+-- `bits_form`, `integer_form`, `null_form`, `octets_form`, `boolean_form`, `ia5_form` and
+-- `printable_form`.
 use Rattle.std.specs.Prelude.{ℕ, ◌%◌, ◌^◌, ◌==◌, ◌&&◌, ◌||◌, not, Bool, true, false, nat_lt}
 use Rattle.std.specs.Prelude.{List, [], ◌∷◌, if◌then◌else◌}
 
--- subidentifiers one behind the other: none begins with octet 80, and the last ends (X.690 8.19.2)
+-- subidentifiers one behind the other: none begins with octet `0x80`, and the last ends (X.690
+-- 8.19.2)
 abbrev pub ends_subidentifiers : Bool → List ℕ → Bool
 ends_subidentifiers starts [] = starts
 ends_subidentifiers starts (o ∷ os) =

@@ -1,4 +1,6 @@
--- Integers as numbers: digits in base 256, in two's complement (X.690 8.3).
+-- Integers as numbers: digits in base 256, in two's complement (X.690 8.3). `integer_octets` and
+-- `signed_octets` are the contents of a number, `signed_form` and `unsigned_form` tell contents of
+-- one below a limit.
 use Rattle.std.specs.Prelude.{ℕ, ◌-◌, ◌&&◌, not, Bool, true, false, nat_lt, List, [], ◌∷◌, map}
 use Rattle.std.specs.Prelude.{ℤ, pos, negsuc, if◌then◌else◌}
 use Rattle.std.specs.Int.Digits.{digits_of, number_from_digits}

@@ -1,4 +1,6 @@
--- What a walk over elements answers, by what decoding each of them answers.
+-- What a walk over elements answers, by what decoding each of them answers: `ListWalked` has the
+-- rows of `SequenceOf::new`, `SetWalked` those of `SetOf::new`, and `ListRead` those of reading
+-- contents.
 use Rattle.std.specs.Prelude.{◌≡◌, ℕ, true, false, List, [], ◌++◌, Result, Ok, Err}
 use Rattle.std.proofs.Common.{Bor}
 use Rattle.der.specs.Prelude.{Head, number, Error, Der, Gives, error_at, reader_position}
@@ -17,7 +19,7 @@ pub data ItemAnswer {T E : Type 0} (converts : Error → E → Type 0)
       → converts (error_at Failed (reader_position u)) e → result ≡ Err e
       → ItemAnswer converts reads s result t
 
--- the same where the octets of an element are answered in the place of its value
+-- an element is read, whose octets are answered in the place of its value, or refused
 abbrev pub NextAnswer : {T E : Type 0} → (Error → E → Type 0)
     → (ReaderState → Result T E → ReaderState → Type 0) → ReaderState
     → Result (Bor (List ℕ)) E → ReaderState → Type 0
@@ -37,14 +39,14 @@ pub data WalkAnswer {T E : Type 0} (converts : Error → E → Type 0)
       → ItemAnswer converts reads s (Err e) t → result ≡ Err e
       → WalkAnswer converts reads result s
 
--- of a SEQUENCE OF with these contents
+-- elements are read up to the end of these contents
 abbrev pub ListWalked : {T E : Type 0} → (Error → E → Type 0)
     → (ReaderState → Result T E → ReaderState → Type 0) → Result (Unit {0}) E → List ℕ → Type 0
 ListWalked converts reads result octets =
     WalkAnswer converts reads result (initial_state Der octets)
 
--- behind octets elements are read likewise, and one that comes before the octets ahead of it is
--- refused where it begins (X.690 11.6)
+-- behind octets elements are read up to the end, or up to the first that is refused; one that comes
+-- before the octets ahead of it is refused where it begins (X.690 11.6)
 pub data SetAnswer {T E : Type 0} (converts : Error → E → Type 0)
     (reads : ReaderState → Result T E → ReaderState → Type 0) (result : Result (Unit {0}) E)
     : List ℕ → ReaderState → Type 0 where
@@ -63,7 +65,7 @@ pub data SetAnswer {T E : Type 0} (converts : Error → E → Type 0)
       → converts (error_at SetOrdering (reader_position s)) e → result ≡ Err e
       → SetAnswer converts reads result ahead s
 
--- of a SET OF with these contents
+-- elements are read so up to the end of these contents
 abbrev pub SetWalked : {T E : Type 0} → (Error → E → Type 0)
     → (ReaderState → Result T E → ReaderState → Type 0) → Result (Unit {0}) E → List ℕ → Type 0
 SetWalked converts reads result octets =

@@ -1,5 +1,5 @@
 -- What the parts of a SEQUENCE mean, with their laws, so that what is put together of them has its
--- laws too.
+-- laws too: a `Field`, an `Alternative`, an `Element`, and the words that make them of others.
 use Rattle.std.proofs.Common.{◌≡◌, ℕ, ◌^◌, ◌<◌, ◌≤◌, ◌&&◌, ◌||◌, Bool, true, false, List, [], ◌∷◌, ◌++◌, Option, Some, None, nat_lt, arith, subst, sym, ltb-true}
 use Rattle.der.specs.Prelude.{Head, Tag, Sequence as SequenceTag, EncodingRules, Der, ElementAhead}
 use Rattle.der.specs.Prelude.{element_octets, element_levels, fields_levels, FieldsAhead, IsLawful}
@@ -30,8 +30,8 @@ use Rattle.der_asn1.specs.declared.optional.Optional.{Optional}
 
 -- a field: which values stand at the front of octets and in how many of them, which there are and
 -- how they are written, how deep they nest, and whether they always have octets; the tags that they
--- may begin with, and those that may not follow them; and the laws of it, where a test says that its
--- own parts may stand as they do
+-- may begin with, and those that may not follow them; and the laws of it, where a test says that
+-- its own parts may stand as they do
 pub record Field (A : Type 0) : Type 1 where
   pub stands : A → EncodingRules → List ℕ → ℕ → Type 0
   pub valid : A → Type 0
@@ -44,7 +44,7 @@ pub record Field (A : Type 0) : Type 1 where
   pub fits : Bool
   pub laws : fits ≡ true → SetLaws always first stops precedes stands valid encoding
 
--- one that always has octets, of which the tag ahead tells whether it stands there
+-- a field that always has octets, of which the tag ahead tells whether it stands there
 pub record Alternative (A : Type 0) : Type 1 where
   pub stands : A → EncodingRules → List ℕ → ℕ → Type 0
   pub valid : A → Type 0
@@ -57,7 +57,7 @@ pub record Alternative (A : Type 0) : Type 1 where
   pub fits : Bool
   pub laws : fits ≡ true → ToldLaws tags first stops precedes stands valid encoding
 
--- one with a tag of its own, which is a lawful type where a test says so
+-- a field with a tag of its own, which is a lawful type where a test says so
 pub record Element (A : Type 0) : Type 1 where
   pub tag : Tag
   pub takes : A → EncodingRules → Head → List ℕ → Type 0
@@ -69,6 +69,7 @@ pub record Element (A : Type 0) : Type 1 where
   pub holds : fits ≡ true → (v : A) (rules : EncodingRules) (h : Head) (octets : List ℕ)
       → takes v rules h octets → valid v
 
+-- an element as a field whose tag tells it
 abbrev pub alternative : {A : Type 0} → Element A → Alternative A
 alternative one =
     record {
@@ -84,6 +85,7 @@ alternative one =
       laws = λ e. element_told (one.lawful e) (one.holds e);
     }
 
+-- a field that always has octets, as any field
 abbrev pub field : {A : Type 0} → Alternative A → Field A
 field one =
     record {
@@ -115,7 +117,7 @@ any_element =
       laws = λ e. any_told;
     }
 
--- one that may be absent, and one that is absent where it is the default
+-- a field that may be absent
 abbrev pub optional : {A : Type 0} → Alternative A → Field (Optional A)
 optional one =
     record {
@@ -131,6 +133,7 @@ optional one =
       laws = λ e. optional_set (one.laws e) (λ v. v.0);
     }
 
+-- a field that is absent where it is the default
 abbrev pub defaulted : {A : Type 0} → (A → Bool) → Alternative A → Field (Defaulted A)
 defaulted is_default one =
     record {
@@ -146,8 +149,8 @@ defaulted is_default one =
       laws = λ e. default_set (one.laws e) is_default (λ v. v.0);
     }
 
--- two, one behind the other: the second may not begin with a tag that decides whether the first is
--- absent
+-- two fields, one behind the other: the second may not begin with a tag that decides whether the
+-- first is absent
 abbrev pub two_fields : {A B : Type 0} → Field A → Field B → Field (A × B)
 two_fields one two =
     record {
@@ -179,7 +182,7 @@ seen f one =
       laws = λ e. seen_set f (one.laws e);
     }
 
--- one or the other: no tag is one of both
+-- one field or the other: no tag is one of both
 abbrev pub either : {A B : Type 0} → Alternative A → Alternative B → Alternative (Either A B)
 either one two =
     record {
@@ -202,7 +205,7 @@ is_small n = nat_lt n (2 ^ 32)
 pub small : (n : ℕ) → is_small n ≡ true → n < 2 ^ 32
 small n e = ltb-true n (2 ^ 32) e
 
--- contents of a form, and octets of which something holds, such as lists and sets of elements
+-- contents of a form
 abbrev pub of_form : {A : Type 0} → Tag → (List ℕ → Bool) → (A → List ℕ) → Element A
 of_form tag form octets =
     record {
@@ -216,6 +219,7 @@ of_form tag form octets =
       holds = λ e v rules h octets taken. subst (λ x. form x ≡ true) (sym taken.1) taken.0;
     }
 
+-- octets of which something holds, such as lists and sets of elements
 abbrev pub lent : {B : Type 0} → Tag → (List ℕ → Type 0) → (B → List ℕ) → Element B
 lent tag Holds octets =
     record {
@@ -229,7 +233,7 @@ lent tag Holds octets =
       holds = λ e. lent_holds Holds octets;
     }
 
--- it fits, and nests at most 62 levels, so that it may stand in another element
+-- an element fits, and nests at most 62 levels, so that it may stand in another one
 abbrev pub is_shallow : Bool → (EncodingRules → ℕ) → Bool
 is_shallow fits levels = fits && nat_lt (levels Der) 63
 
@@ -269,6 +273,7 @@ module _ {A : Type 0} {fits always : Bool} {first stops : List (Option Tag)}
       (laws_of (laws (both_true fits (nat_lt (levels Der) 63) e).0)) (omega (arith, low))
       (omega arith)
 
+-- a SEQUENCE of fields, which are wholly its contents
 abbrev pub sequence : {A B : Type 0} → Field A → (B → A) → Element B
 sequence one f =
     record {
@@ -282,7 +287,7 @@ sequence one f =
       holds = sequence_holds one.levels one.laws f;
     }
 
--- the same element in another type
+-- an element in another type
 abbrev pub renamed : {A B : Type 0} → Element A → (B → A) → Element B
 renamed one f =
     record {
@@ -296,7 +301,7 @@ renamed one f =
       holds = λ e b. one.holds e (f b);
     }
 
--- context-specific tags: another one for the same contents, and one around an element
+-- a context-specific tag for the same contents
 abbrev pub implicit : {A B : Type 0} → ℕ → Element A → (B → A) → Element B
 implicit n one f =
     record {
@@ -309,10 +314,12 @@ implicit n one f =
       lawful = λ e. (let p = both_true (is_small n) one.fits e in
           implicit_lawful (context_tag (label one.tag).constructed n) f (small n p.0)
           (one.lawful p.1));
-      holds = λ e b rules h octets taken. one.holds (both_true (is_small n) one.fits e).1 (f b) rules
+      holds = λ e b rules h octets taken. one.holds (both_true (is_small n) one.fits e).1
+          (f b) rules
           (retagged one.tag h) octets taken;
     }
 
+-- a context-specific tag around an element
 abbrev pub explicit : {A B : Type 0} → ℕ → Element A → (B → A) → Element B
 explicit n one f =
     record {

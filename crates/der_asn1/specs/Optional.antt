@@ -1,4 +1,5 @@
--- Fields that may be absent (X.690 8.9.3).
+-- Fields that may be absent (X.690 8.9.3): `OptionAhead`, and the rows of reading and writing one
+-- (`OptionRead`, `OptionWritten`).
 use Rattle.std.specs.Prelude.{◌≡◌, ℕ, true, List, [], Option, Some, None, Result, Ok, Err}
 use Rattle.der.specs.Prelude.{Tag, EncodingRules, Der, Error, definite_length, Length, WriterAnswer}
 use Rattle.der.specs.Prelude.{map_ok, ReaderState}
@@ -44,6 +45,7 @@ abbrev pub option_size : {A : Type 0} → (A → Result Length Error) → Option
 option_size size None = Ok (definite_length 0)
 option_size size (Some v) = size v
 
+-- the rows of writing: nothing is no octets
 abbrev pub OptionWritten : {A : Type 0} → (A → WriterAnswer) → Option A → WriterAnswer
 OptionWritten answers None s result t = (result ≡ Ok tt) × (t ≡ s)
 OptionWritten answers (Some v) s result t = answers v s result t

@@ -1,8 +1,9 @@
--- Elements of one type, one behind the other, as in a SEQUENCE OF (X.690 8.10).
+-- Elements of one type, one behind the other, as in a SEQUENCE OF (X.690 8.10): `IsListOf` of
+-- encodings, `AreElements` of elements; `IsAtItem` is a reader that stands before them.
 use Rattle.std.specs.Prelude.{◌≡◌, ℕ, false, List, [], ◌∷◌, ◌++◌}
 use Rattle.der.specs.Prelude.{Tag, Der, ReaderState, element_octets}
 
--- each is valid, and the encodings one behind the other
+-- each value of a list is valid, and their encodings one behind the other
 abbrev pub AllValid : {A : Type 0} → (A → Type 0) → List A → Type 0
 AllValid valid [] = Unit {0}
 AllValid valid (v ∷ vs) = valid v × AllValid valid vs
@@ -18,7 +19,7 @@ pub record IsListOf {A : Type 0} (valid : A → Type 0) (encoding : A → List �
   pub are_valid : AllValid valid items
   pub joined : octets ≡ joined_encodings encoding items
 
--- they are the elements of such values with this tag
+-- octets are the elements of valid values with this tag, one behind the other
 abbrev pub AreElements : {A : Type 0} → Tag → (A → Type 0) → (A → List ℕ) → List ℕ → Type 0
 AreElements tag valid contents octets = IsListOf valid (λ v. element_octets tag (contents v)) octets
 

@@ -1,5 +1,5 @@
--- The laws of fields whose tags are sets that a test tells apart: so whether fields may stand one
--- behind the other is a test.
+-- The laws of fields whose tags are sets that a test tells apart (`SetLaws`, `ToldLaws`): whether
+-- fields may stand one behind the other is a test.
 use Rattle.std.proofs.Common.{◌≡◌, ◌⊎◌, inl, inr, ℕ, Bool, true, false}
 use Rattle.std.proofs.Common.{if◌then◌else◌, List, [], ◌∷◌, ◌++◌, Option, Some}
 use Rattle.der.specs.Prelude.{Head, Tag, EncodingRules, ElementAhead, element_octets}
@@ -15,8 +15,8 @@ use Rattle.der_asn1.specs.Optional.{OptionAhead, IsOptional, option_encoding, Op
 use Rattle.der_asn1.specs.TagSets.{IsIn}
 use Rattle.der_asn1.specs.TagSetLemmas.{in_either}
 
--- a field is read as it is written, begins with a tag of the first set, may stand before what begins
--- with none of the second, and where `always` is true has octets
+-- a field is read as it is written, begins with a tag of the first set, may stand before what
+-- begins with none of the second, and where `always` is true has octets
 pub record SetLaws {A : Type 0} (always : Bool) (first stops : List (Option Tag))
     (Precedes : A → List ℕ → Type 0) (Ahead : A → EncodingRules → List ℕ → ℕ → Type 0)
     (valid : A → Type 0) (encoding : A → List ℕ) : Type 0 where
@@ -27,7 +27,7 @@ pub record SetLaws {A : Type 0} (always : Bool) (first stops : List (Option Tag)
   pub holds : (v : A) (rules : EncodingRules) (octets : List ℕ) (m : ℕ) → Ahead v rules octets m
       → valid v
 
--- one that always has octets, where the tag ahead tells whether it stands there
+-- a field that always has octets, where the tag ahead tells whether it stands there
 pub record ToldLaws {A : Type 0} (tags : Tag → Type 0) (first stops : List (Option Tag))
     (Precedes : A → List ℕ → Type 0) (Ahead : A → EncodingRules → List ℕ → ℕ → Type 0)
     (valid : A → Type 0) (encoding : A → List ℕ) : Type 0 where
@@ -38,77 +38,150 @@ pub record ToldLaws {A : Type 0} (tags : Tag → Type 0) (first stops : List (Op
   pub holds : (v : A) (rules : EncodingRules) (octets : List ℕ) (m : ℕ) → Ahead v rules octets m
       → valid v
 
-pub may_starts : {A : Type 0} {valid : A → Type 0} {encoding : A → List ℕ} {tags more : Tag → Type 0} → ((t : Tag) → tags t → more t) → MayStart valid encoding tags → MayStart valid encoding more
-may_starts {A} {valid} {encoding} {tags} {more} wider one = record { starts = λ v is. go v (one.starts v is) }
+pub may_starts : {A : Type 0} {valid : A → Type 0} {encoding : A → List ℕ}
+    {tags more : Tag → Type 0} → ((t : Tag) → tags t → more t) → MayStart valid encoding tags
+    → MayStart valid encoding more
+may_starts {A} {valid} {encoding} {tags} {more} wider one =
+    record { starts = λ v is. go v (one.starts v is) }
   where
-    go : (v : A) → (encoding v ≡ []) ⊎ StartsIn tags (encoding v) → (encoding v ≡ []) ⊎ StartsIn more (encoding v)
+    go : (v : A) → (encoding v ≡ []) ⊎ StartsIn tags (encoding v) → (encoding v ≡ [])
+        ⊎ StartsIn more (encoding v)
     go v (inl e) = inl e
     go v (inr s) = inr (starts_wider wider s)
 
-starts_more : {A : Type 0} {valid : A → Type 0} {encoding : A → List ℕ} {tags more : Tag → Type 0} → ((t : Tag) → tags t → more t) → Starts valid encoding tags → Starts valid encoding more
+starts_more : {A : Type 0} {valid : A → Type 0} {encoding : A → List ℕ} {tags more : Tag → Type 0}
+    → ((t : Tag) → tags t → more t) → Starts valid encoding tags → Starts valid encoding more
 starts_more wider one = record { starts = λ v is. starts_wider wider (one.starts v is) }
 
-precedes_fewer : {A : Type 0} {valid : A → Type 0} {P : A → List ℕ → Type 0} {stops more : Tag → Type 0} → ((t : Tag) → stops t → more t) → PrecedesBut valid P stops → PrecedesBut valid P more
-precedes_fewer wider one = record { precedes = λ v behind is none. one.precedes v behind is (fewer_tags wider none) }
+precedes_fewer : {A : Type 0} {valid : A → Type 0} {P : A → List ℕ → Type 0}
+    {stops more : Tag → Type 0} → ((t : Tag) → stops t → more t) → PrecedesBut valid P stops
+    → PrecedesBut valid P more
+precedes_fewer wider one =
+    record { precedes = λ v behind is none. one.precedes v behind is (fewer_tags wider none) }
 
 -- laws whose tags are in sets
-module _ {A : Type 0} {Ahead : A → EncodingRules → List ℕ → ℕ → Type 0} {valid : A → Type 0} {encoding : A → List ℕ} where
-  pub set_of : (always : Bool) (first stops : List (Option Tag)) (one : FieldLaws Ahead valid encoding)
+module _ {A : Type 0} {Ahead : A → EncodingRules → List ℕ → ℕ → Type 0} {valid : A → Type 0}
+    {encoding : A → List ℕ} where
+  pub set_of : (always : Bool) (first stops : List (Option Tag))
+      (one : FieldLaws Ahead valid encoding)
       → ((t : Tag) → one.tags t → IsIn first t) → ((t : Tag) → one.stops t → IsIn stops t)
       → (always ≡ true → Starts valid encoding one.tags)
       → SetLaws always first stops one.Precedes Ahead valid encoding
   set_of always first stops one first_in stops_in some =
-      record { reads = one.reads; starts = may_starts first_in one.starts; some = λ e. starts_more first_in (some e); precedes = precedes_fewer stops_in one.precedes; holds = one.holds }
+      record {
+        reads = one.reads;
+        starts = may_starts first_in one.starts;
+        some = λ e. starts_more first_in (some e);
+        precedes =
+            precedes_fewer stops_in one.precedes;
+        holds = one.holds;
+      }
 
-  abbrev pub laws_of : {always : Bool} {first stops : List (Option Tag)} {P : A → List ℕ → Type 0} → SetLaws always first stops P Ahead valid encoding → FieldLaws Ahead valid encoding
-  laws_of {first = first} {stops} {P} one = record { Precedes = P; tags = IsIn first; stops = IsIn stops; reads = one.reads; starts = one.starts; precedes = one.precedes; holds = one.holds }
+  abbrev pub laws_of : {always : Bool} {first stops : List (Option Tag)} {P : A → List ℕ → Type 0}
+      → SetLaws always first stops P Ahead valid encoding → FieldLaws Ahead valid encoding
+  laws_of {first = first} {stops} {P} one =
+      record {
+        Precedes = P;
+        tags = IsIn first;
+        stops = IsIn stops;
+        reads = one.reads;
+        starts = one.starts;
+        precedes = one.precedes;
+        holds = one.holds;
+      }
 
-  abbrev pub some_of : {tags : Tag → Type 0} {first stops : List (Option Tag)} {P : A → List ℕ → Type 0} → ToldLaws tags first stops P Ahead valid encoding → SomeLaws Ahead valid encoding
-  some_of {tags} {stops = stops} {P} one = record { laws = record { Precedes = P; tags = tags; stops = IsIn stops; reads = one.reads; starts = may_starts (λ t h. h) (record { starts = λ v is. inr (one.starts.starts v is) }); precedes = one.precedes; holds = one.holds }; some = one.starts }
+  abbrev pub some_of : {tags : Tag → Type 0} {first stops : List (Option Tag)}
+      {P : A → List ℕ → Type 0} → ToldLaws tags first stops P Ahead valid encoding
+      → SomeLaws Ahead valid encoding
+  some_of {tags} {stops = stops} {P} one =
+      record {
+        laws = record {
+          Precedes = P;
+          tags = tags;
+          stops = IsIn stops;
+          reads = one.reads;
+          starts = may_starts (λ t h. h) (record { starts = λ v is. inr (one.starts.starts v is) });
+          precedes = one.precedes;
+          holds = one.holds;
+        };
+        some = one.starts;
+      }
 
-  pub told_of : (tags : Tag → Type 0) (first stops : List (Option Tag)) (one : SomeLaws Ahead valid encoding) → Starts valid encoding tags
+  pub told_of : (tags : Tag → Type 0) (first stops : List (Option Tag))
+      (one : SomeLaws Ahead valid encoding) → Starts valid encoding tags
       → ((t : Tag) → tags t → IsIn first t) → ((t : Tag) → one.laws.stops t → IsIn stops t)
       → ToldLaws tags first stops one.laws.Precedes Ahead valid encoding
   told_of tags first stops one starts first_in stops_in =
-      record { reads = one.laws.reads; starts = starts; among = first_in; precedes = precedes_fewer stops_in one.laws.precedes; holds = one.laws.holds }
+      record {
+        reads = one.laws.reads;
+        starts = starts;
+        among = first_in;
+        precedes = precedes_fewer stops_in one.laws.precedes;
+        holds = one.laws.holds;
+      }
 
-  pub told_set : {tags : Tag → Type 0} {first stops : List (Option Tag)} {P : A → List ℕ → Type 0} → ToldLaws tags first stops P Ahead valid encoding → SetLaws true first stops P Ahead valid encoding
-  told_set {first = first} {stops} one = set_of true first stops (some_of one).laws one.among (λ t h. h) (λ e. one.starts)
+  pub told_set : {tags : Tag → Type 0} {first stops : List (Option Tag)} {P : A → List ℕ → Type 0}
+      → ToldLaws tags first stops P Ahead valid encoding
+      → SetLaws true first stops P Ahead valid encoding
+  told_set {first = first} {stops} one =
+      set_of true first stops (some_of one).laws one.among (λ t h. h) (λ e. one.starts)
 
 -- an element of a lawful type
 pub element_told : {A : Type 0} {tag : Tag} {takes : A → EncodingRules → Head → List ℕ → Type 0}
     {valid : A → Type 0} {contents : A → List ℕ} {levels : EncodingRules → ℕ}
     → IsLawful tag takes valid contents levels
-    → ((v : A) (rules : EncodingRules) (h : Head) (octets : List ℕ) → takes v rules h octets → valid v)
-    → ToldLaws (this_tag tag) (Some tag ∷ []) [] Anything (ElementAhead tag takes) valid (λ v. element_octets tag (contents v))
+    → ((v : A) (rules : EncodingRules) (h : Head) (octets : List ℕ) → takes v rules h octets
+    → valid v)
+    → ToldLaws (this_tag tag) (Some tag ∷ []) [] Anything (ElementAhead tag takes) valid
+    (λ v. element_octets tag (contents v))
 element_told {tag = tag} lawful takes_valid =
-    told_of (this_tag tag) (Some tag ∷ []) [] (element_laws lawful takes_valid) (element_laws lawful takes_valid).some (λ t h. inl h) (λ t h. h)
+    told_of (this_tag tag) (Some tag ∷ []) [] (element_laws lawful takes_valid)
+    (element_laws lawful takes_valid).some (λ t h. inl h) (λ t h. h)
 
-either_in : (ts us : List (Option Tag)) (f g : Tag → Type 0) → ((t : Tag) → f t → IsIn ts t) → ((t : Tag) → g t → IsIn us t) → (t : Tag) → either_tags f g t → IsIn (ts ++ us) t
+either_in : (ts us : List (Option Tag)) (f g : Tag → Type 0) → ((t : Tag) → f t → IsIn ts t)
+    → ((t : Tag) → g t → IsIn us t) → (t : Tag) → either_tags f g t → IsIn (ts ++ us) t
 either_in ts us f g one two t (inl h) = in_either ts us t (inl (one t h))
 either_in ts us f g one two t (inr h) = in_either ts us t (inr (two t h))
 
--- one that may be absent, and one with a default; each seen as another's value
-module _ {A B : Type 0} {tags : Tag → Type 0} {first stops : List (Option Tag)} {P : A → List ℕ → Type 0}
+-- a field that may be absent, and one with a default; each seen as another's value
+module _ {A B : Type 0} {tags : Tag → Type 0} {first stops : List (Option Tag)}
+    {P : A → List ℕ → Type 0}
     {Ahead : A → EncodingRules → List ℕ → ℕ → Type 0} {valid : A → Type 0} {encoding : A → List ℕ}
     (one : ToldLaws tags first stops P Ahead valid encoding) where
-  pub optional_set : (f : B → Option A) → SetLaws false first (first ++ stops) (λ b. OptionPrecedes tags P (f b)) (λ b. OptionAhead tags Ahead (f b)) (λ b. IsOptional valid (f b)) (λ b. option_encoding encoding (f b))
-  optional_set f = set_of false first (first ++ stops) (seen_laws f (optional_laws (some_of one))) one.among (either_in first stops tags (IsIn stops) one.among (λ t h. h)) (λ e. absurd (let no : false ≡ true = e in cc))
+  pub optional_set : (f : B → Option A)
+      → SetLaws false first (first ++ stops) (λ b. OptionPrecedes tags P (f b))
+      (λ b. OptionAhead tags Ahead (f b)) (λ b. IsOptional valid (f b))
+      (λ b. option_encoding encoding (f b))
+  optional_set f =
+      set_of false first (first ++ stops) (seen_laws f (optional_laws (some_of one))) one.among
+      (either_in first stops tags (IsIn stops) one.among (λ t h. h))
+      (λ e. absurd (let no : false ≡ true = e in cc))
 
-  pub default_set : (is_default : A → Bool) (f : B → A) → SetLaws false first (first ++ stops) (λ b. DefaultPrecedes tags is_default P (f b)) (λ b. DefaultAhead tags is_default Ahead (f b)) (λ b. IsDefaulted is_default valid (f b)) (λ b. default_encoding is_default encoding (f b))
-  default_set is_default f = set_of false first (first ++ stops) (seen_laws f (default_laws is_default (some_of one))) one.among (either_in first stops tags (IsIn stops) one.among (λ t h. h)) (λ e. absurd (let no : false ≡ true = e in cc))
+  pub default_set : (is_default : A → Bool) (f : B → A)
+      → SetLaws false first (first ++ stops) (λ b. DefaultPrecedes tags is_default P (f b))
+      (λ b. DefaultAhead tags is_default Ahead (f b)) (λ b. IsDefaulted is_default valid (f b))
+      (λ b. default_encoding is_default encoding (f b))
+  default_set is_default f =
+      set_of false first (first ++ stops)
+      (seen_laws f (default_laws is_default (some_of one))) one.among
+      (either_in first stops tags (IsIn stops) one.among (λ t h. h))
+      (λ e. absurd (let no : false ≡ true = e in cc))
 
--- the same field in another type
-pub seen_set : {A B : Type 0} {always : Bool} {first stops : List (Option Tag)} {P : A → List ℕ → Type 0}
-    {Ahead : A → EncodingRules → List ℕ → ℕ → Type 0} {valid : A → Type 0} {encoding : A → List ℕ} (f : B → A)
+-- a field in another type
+pub seen_set : {A B : Type 0} {always : Bool} {first stops : List (Option Tag)}
+    {P : A → List ℕ → Type 0}
+    {Ahead : A → EncodingRules → List ℕ → ℕ → Type 0} {valid : A → Type 0} {encoding : A → List ℕ}
+    (f : B → A)
     → SetLaws always first stops P Ahead valid encoding
-    → SetLaws always first stops (λ b. P (f b)) (λ b. Ahead (f b)) (λ b. valid (f b)) (λ b. encoding (f b))
+    → SetLaws always first stops (λ b. P (f b)) (λ b. Ahead (f b)) (λ b. valid (f b))
+    (λ b. encoding (f b))
 seen_set f one =
     record {
       reads = seen_reads f one.reads;
       starts = record { starts = λ b is. one.starts.starts (f b) is };
       some = λ e. record { starts = λ b is. (one.some e).starts (f b) is };
-      precedes = record { precedes = λ b behind is none. one.precedes.precedes (f b) behind is none };
+      precedes =
+          record { precedes = λ b behind is none. one.precedes.precedes (f b) behind is none };
       holds = λ b. one.holds (f b);
     }
 

@@ -1,4 +1,4 @@
--- Sets of tags that a test tells apart.
+-- Sets of tags (`IsIn`) that a test tells apart (`are_apart`).
 use Rattle.std.proofs.Common.{◌≡◌, ◌⊎◌, ◌==◌, ◌&&◌, Bool, true, false, not, List, [], ◌∷◌, Option, Some, None}
 use Rattle.der.specs.Prelude.{Tag}
 use Rattle.der.specs.Tag.{label}

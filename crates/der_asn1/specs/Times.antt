@@ -1,4 +1,6 @@
--- Dates with times of the day, and how they are written (X.690 11.7, 11.8; RFC 5280, 4.1.2.5).
+-- Dates with times of the day (`is_date_time`, `is_utc_time`), and how they are written
+-- (`generalized_octets`, `utc_octets`) and read (`generalized_reading`, `utc_reading`; X.690 11.7,
+-- 11.8; RFC 5280, 4.1.2.5).
 use Rattle.std.specs.Prelude.{ℕ, ◌+◌, ◌*◌, ◌/◌, ◌%◌, ◌==◌, ◌&&◌, ◌||◌, not, Bool, nat_lt, nat_le}
 use Rattle.std.specs.Prelude.{List, [], ◌∷◌, ◌++◌, length, if◌then◌else◌, slice_index_or}
 use Rattle.std.specs.Str.{bytes_eq}
@@ -21,7 +23,7 @@ is_date_time t =
     && (nat_le t.day (days_of t.year t.month) && (nat_lt t.hour 24 && (nat_lt t.minute 60
     && nat_lt t.second 60))))))
 
--- those of the years that two digits tell
+-- there is such a time, in a year that two digits tell
 abbrev pub is_utc_time : DateTime → Bool
 is_utc_time t = nat_le 1950 t.year && (nat_lt t.year 2050 && is_date_time t)
 

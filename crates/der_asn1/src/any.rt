@@ -46,7 +46,7 @@ impl<'a> ReadValue for AnyRef<'a> {
 ///
 /// # Errors
 ///
-/// `Failed`, `Overflow` and `Incomplete`, as by [`Reader::read_slice`].
+/// As by [`Reader::read_slice`].
 impl<'a, R: Reader<Lent = &'a [u8]>> DecodeValue<R> for AnyRef<'a> {
     type Error = Error;
 
@@ -67,7 +67,7 @@ impl<'a, R: Reader<Lent = &'a [u8]>> DecodeValue<R> for AnyRef<'a> {
 
 /// # Errors
 ///
-/// Those of [`decode_element`].
+/// As by [`decode_element`].
 impl<'a, R: Reader<Lent = &'a [u8]>> Decode<R> for AnyRef<'a> {
     type Error = Error;
 
@@ -92,7 +92,7 @@ impl<'a> WrittenValue for AnyRef<'a> {
 
 /// # Errors
 ///
-/// - `Overflow` where there are more than 4294967295 octets.
+/// - `Overflow` without a position, where there are more than 4294967295 octets.
 /// - The writer's errors, as by [`Writer::write`].
 impl<'a> EncodeValue for AnyRef<'a> {
     ghost value_size = { any_size };

@@ -9,7 +9,7 @@ use crate::default_form::DefaultForm;
 use crate::form::Form;
 use der::{FixedTag, Tag};
 
-/// The form of a BOOLEAN: octet 00 is false, and FF true (X.690 8.2, 11.1).
+/// The form of a BOOLEAN: octet `0x00` is false, and `0xFF` true (X.690 8.2, 11.1).
 pub struct BooleanForm;
 
 /// A BOOLEAN, lent by the input.

@@ -22,7 +22,7 @@ pub struct Checked<'a, F: Form> {
     ghost checked: { F.form octets.now ≡ true },
 }
 
-/// The same octets; it takes no memory.
+/// A clone has the same octets; it takes no memory.
 impl<'a, F: Form> Clone for Checked<'a, F> {
     ghost is_clone = { λ p q. q ≡ p };
 
@@ -100,7 +100,7 @@ impl<'a, F: Form> ReadValue for Checked<'a, F> {
 ///
 /// # Errors
 ///
-/// - `Failed`, `Overflow` and `Incomplete`, as by [`Reader::read_slice`].
+/// - Those of the contents, as by [`Reader::read_slice`].
 /// - `Value` of the tag behind octets that have not the form; the reader has failed then.
 impl<'a, F: Form, R: Reader<Lent = &'a [u8]>> DecodeValue<R> for Checked<'a, F> {
     type Error = Error;
@@ -128,7 +128,7 @@ impl<'a, F: Form> WrittenValue for Checked<'a, F> {
 
 /// # Errors
 ///
-/// - `Overflow` where there are more than 4294967295 octets.
+/// - `Overflow` without a position, where there are more than 4294967295 octets.
 /// - The writer's errors, as by [`Writer::write`].
 impl<'a, F: Form> EncodeValue for Checked<'a, F> {
     ghost value_size = { λ v. form_size v.octets.now };

@@ -23,7 +23,7 @@ pub trait DefaultValue: Sized {
         ensures { result ≡ is_default self.now };
 }
 
-/// Such types that are decoded.
+/// Types with a default that are decoded.
 ///
 /// Ghost member: `told` is the law that the octets decide whether a value is the default.
 pub trait HasDefault<R: Reader>: Choice<R> + DefaultValue {

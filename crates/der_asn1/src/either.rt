@@ -22,8 +22,8 @@ pub enum Either<A, B> {
 /// # Errors
 ///
 /// - Those of [`Tag::peek`], where no tag is read; the reader stays.
-/// - `TagUnexpected` without an expected tag, where neither begins with the tag ahead; the reader
-///   has failed then.
+/// - `TagUnexpected` without an expected tag, at the position, where neither begins with the tag
+///   ahead; the reader has failed then.
 /// - Those of the value.
 impl<R: Reader, A: Choice<R>, B: Choice<R> + Decode<R, Error = <A as Decode<R>>::Error>> Decode<R>
     for Either<A, B> {

@@ -15,7 +15,7 @@ use std::alloc::Global;
 
 /// Types whose elements may stand in another element.
 pub trait Nestable: ReadValue {
-    // such a value wants at most 62 levels
+    // a value wants at most 62 levels, one fewer than the element around it leaves
     ghost nestable: { Self.value_levels Der ≤ 62 };
 }
 

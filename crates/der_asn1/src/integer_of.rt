@@ -62,9 +62,9 @@ impl<N: IntegerNumber> ReadValue for IntegerOf<N> {
 ///
 /// # Errors
 ///
-/// - `Failed`, `Overflow` and `Incomplete`, as by [`Reader::read_slice`].
-/// - `Value` of an INTEGER behind contents of no number of the type, or that are not as short as can
-///   be; the reader has failed then.
+/// - Those of the contents, as by [`Reader::read_slice`].
+/// - `Value` of an INTEGER behind contents of no number of the type, or that are not as short as
+///   can be; the reader has failed then.
 impl<'a, N: IntegerNumber, R: Reader<Lent = &'a [u8]>> DecodeValue<R> for IntegerOf<N> {
     type Error = Error;
 

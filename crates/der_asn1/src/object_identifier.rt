@@ -8,8 +8,8 @@ use crate::checked::Checked;
 use crate::form::Form;
 use der::{FixedTag, Tag};
 
-/// The form of an OBJECT IDENTIFIER: one subidentifier at least, none of which begins with octet 80
-/// (X.690 8.19.2, 8.19.3).
+/// The form of an OBJECT IDENTIFIER: one subidentifier at least, none of which begins with octet
+/// `0x80` (X.690 8.19.2, 8.19.3).
 pub struct ObjectIdentifierForm;
 
 /// An OBJECT IDENTIFIER, lent by the input.

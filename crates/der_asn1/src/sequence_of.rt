@@ -1,7 +1,8 @@
 //! SEQUENCE OF, lent by the input: checked once, and then walked without a failure.
-ghost use Rattle.std.specs.Prelude.{◌≡◌, ◌^◌, ◌<◌, false, [], None, length, IfOk, OnOk, IfSome, ⊤};
+ghost use Rattle.std.specs.Prelude.{◌≡◌, ◌^◌, ◌<◌, ◌≤◌, false, [], None, length, IfOk, OnOk, IsErrAnd, IfSome, ⊤};
 ghost use Rattle.std.proofs.Common.{arith};
-ghost use Rattle.der.specs.Prelude.{Sequence, element_octets, rest_of, Reads, slice_state};
+ghost use Rattle.der.specs.Prelude.{Sequence, element_octets, rest_of, Reads, slice_state, error_of_kind};
+ghost use Rattle.der.specs.ErrorKinds.{Overflow};
 ghost use Rattle.der.specs.Decode.{SucceedsOrLacks};
 ghost use Rattle.der_asn1.specs.Checked.{form_size, FormWritten};
 ghost use Rattle.der_asn1.specs.SequenceOf.{AreElements, IsAtItem};
@@ -57,6 +58,8 @@ fn check_items<'a, T: Lawful + DecodeValue<SliceReader<'a>>>(
     ensures complete { length octets.now < 2 ^ 32
         → AreElements T.tag_is T.valid T.contents octets.now
         → SucceedsOrLacks T.Error.out_of_memory T.allocates result }
+    ensures too_long { 2 ^ 32 ≤ length octets.now
+        → IsErrAnd result (λ e. T.Error.from_gives (error_of_kind Overflow) e) }
     ensures exact { length octets.now < 2 ^ 32 → ListWalked T.Error.from_gives
         (ElementRead T.tag_is T.Error.from_gives T.decode_value_answers) result octets.now }
 {
@@ -76,7 +79,7 @@ pub struct SequenceOf<'a, T: Lawful> {
     ghost checked: { ∥ AreElements T.tag_is T.valid T.contents octets.now ∥₁ },
 }
 
-/// The same elements; it takes no memory.
+/// A clone has the same elements; it takes no memory.
 impl<'a, T: Lawful> Clone for SequenceOf<'a, T> {
     ghost is_clone = { λ p q. q ≡ p };
 
@@ -110,15 +113,17 @@ impl<'a, T: Lawful> ReadValue for SequenceOf<'a, T> {
 
     ghost allocates = { T.allocates };
 
-    ghost takes_valid = { lent_holds (AreElements T.tag_is T.valid T.contents) (λ v. v.octets.now) };
+    ghost takes_valid = { lent_holds (AreElements T.tag_is T.valid T.contents)
+        (λ v. v.octets.now) };
 }
 
 /// The contents are lent, and every element in them is read once, under DER.
 ///
 /// # Errors
 ///
-/// - `Failed`, `Overflow` and `Incomplete`, as by [`Reader::read_slice`].
-/// - Those of the elements, with positions counted from the beginning of the contents.
+/// - Those of the contents, as by [`Reader::read_slice`].
+/// - Those of the first element that is refused, as by [`SequenceOf::new`], with positions counted
+///   from the beginning of the contents; the reader stands behind them and has not failed.
 impl<'a, T: Lawful + DecodeValue<SliceReader<'a>>, R: Reader<Lent = &'a [u8]>> DecodeValue<R>
     for SequenceOf<'a, T> {
     type Error = <T as DecodeValue<SliceReader<'a>>>::Error;
@@ -152,7 +157,7 @@ impl<'a, T: Lawful> WrittenValue for SequenceOf<'a, T> {
 
 /// # Errors
 ///
-/// - `Overflow` where there are more than 4294967295 octets.
+/// - `Overflow` without a position, where there are more than 4294967295 octets.
 /// - The writer's errors, as by [`Writer::write`].
 impl<'a, T: Lawful> EncodeValue for SequenceOf<'a, T> {
     ghost value_size = { λ v. form_size v.octets.now };
@@ -169,8 +174,8 @@ impl<'a, T: Lawful> EncodeValue for SequenceOf<'a, T> {
 }
 
 impl<'a, T: Lawful> Lawful for SequenceOf<'a, T> {
-    ghost lawful = { lent_lawful Sequence (AreElements T.tag_is T.valid T.contents) (λ v. v.octets.now)
-        (Prim.omega arith) };
+    ghost lawful = { lent_lawful Sequence (AreElements T.tag_is T.valid T.contents)
+        (λ v. v.octets.now) (Prim.omega arith) };
 }
 
 impl<'a, T: Lawful> Nestable for SequenceOf<'a, T> {
@@ -193,8 +198,10 @@ impl<'a, T: Lawful + DecodeValue<SliceReader<'a>>> SequenceOf<'a, T> {
     ///
     /// # Errors
     ///
-    /// - `Overflow` where there are more than 4294967295 octets.
+    /// - `Overflow` without a position, where there are more than 4294967295 octets.
     /// - Those of the first element that is refused, as by [`decode_tlv`].
+    /// - `Failed` at the position behind an element, where the type answers its value and leaves
+    ///   the reader failed.
     pub fn new(
         alloc: Global,
         octets: &'a [u8],
@@ -204,6 +211,8 @@ impl<'a, T: Lawful + DecodeValue<SliceReader<'a>>> SequenceOf<'a, T> {
         ensures complete { length octets.now < 2 ^ 32
             → AreElements T.tag_is T.valid T.contents octets.now
             → SucceedsOrLacks T.Error.out_of_memory T.allocates result }
+        ensures too_long { 2 ^ 32 ≤ length octets.now
+            → IsErrAnd result (λ e. T.Error.from_gives (error_of_kind Overflow) e) }
         ensures exact { length octets.now < 2 ^ 32 → ListWalked T.Error.from_gives
             (ElementRead T.tag_is T.Error.from_gives T.decode_value_answers)
             (map_ok (λ _. tt) result) octets.now }

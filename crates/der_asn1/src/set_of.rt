@@ -1,7 +1,8 @@
 //! SET OF, lent by the input: checked once, its order too, and then walked without a failure.
-ghost use Rattle.std.specs.Prelude.{◌≡◌, ◌^◌, ◌<◌, ◌↔◌, false, true, [], length, IfOk, OnOk, ⊤};
+ghost use Rattle.std.specs.Prelude.{◌≡◌, ◌^◌, ◌<◌, ◌≤◌, ◌↔◌, false, true, [], length, IfOk, OnOk, IsErrAnd, ⊤};
 ghost use Rattle.std.proofs.Common.{arith};
-ghost use Rattle.der.specs.Prelude.{Set as SetTag, rest_of, Reads, slice_state, IsBefore};
+ghost use Rattle.der.specs.Prelude.{Set as SetTag, rest_of, Reads, slice_state, IsBefore, error_of_kind};
+ghost use Rattle.der.specs.ErrorKinds.{Overflow};
 ghost use Rattle.der.specs.Decode.{SucceedsOrLacks};
 ghost use Rattle.der_asn1.specs.Checked.{form_size, FormWritten};
 ghost use Rattle.der_asn1.specs.SequenceOf.{AreElements, IsAtItem};
@@ -74,6 +75,8 @@ fn check_set<'a, T: Lawful + DecodeValue<SliceReader<'a>>>(
     ensures complete { length octets.now < 2 ^ 32
         → AreAscending T.tag_is T.valid T.contents octets.now
         → SucceedsOrLacks T.Error.out_of_memory T.allocates result }
+    ensures too_long { 2 ^ 32 ≤ length octets.now
+        → IsErrAnd result (λ e. T.Error.from_gives (error_of_kind Overflow) e) }
     ensures exact { length octets.now < 2 ^ 32 → SetWalked T.Error.from_gives
         (ElementRead T.tag_is T.Error.from_gives T.decode_value_answers) result octets.now }
 {
@@ -98,7 +101,7 @@ pub struct SetOf<'a, T: Lawful> {
     ghost ascending: { ∥ AreAscending T.tag_is T.valid T.contents elements.octets.now ∥₁ },
 }
 
-/// The same elements; it takes no memory.
+/// A clone has the same elements; it takes no memory.
 impl<'a, T: Lawful> Clone for SetOf<'a, T> {
     ghost is_clone = { λ p q. q ≡ p };
 
@@ -124,15 +127,18 @@ impl<'a, T: Lawful> FixedTag for SetOf<'a, T> {
 }
 
 impl<'a, T: Lawful> ReadValue for SetOf<'a, T> {
-    ghost valid = { IsLent (AreAscending T.tag_is T.valid T.contents) (λ v. v.elements.octets.now) };
+    ghost valid = { IsLent (AreAscending T.tag_is T.valid T.contents)
+        (λ v. v.elements.octets.now) };
 
-    ghost takes = { TakesLent (AreAscending T.tag_is T.valid T.contents) (λ v. v.elements.octets.now) };
+    ghost takes = { TakesLent (AreAscending T.tag_is T.valid T.contents)
+        (λ v. v.elements.octets.now) };
 
     ghost value_levels = { λ _. 0 };
 
     ghost allocates = { T.allocates };
 
-    ghost takes_valid = { lent_holds (AreAscending T.tag_is T.valid T.contents) (λ v. v.elements.octets.now) };
+    ghost takes_valid = { lent_holds (AreAscending T.tag_is T.valid T.contents)
+        (λ v. v.elements.octets.now) };
 }
 
 /// The contents are lent, and every element in them is read once, under DER; also under BER the
@@ -140,10 +146,9 @@ impl<'a, T: Lawful> ReadValue for SetOf<'a, T> {
 ///
 /// # Errors
 ///
-/// - `Failed`, `Overflow` and `Incomplete`, as by [`Reader::read_slice`].
-/// - Those of the elements, with positions counted from the beginning of the contents.
-/// - `SetOrdering` at the position, so counted, at which the first element begins that comes before
-///   the one ahead of it.
+/// - Those of the contents, as by [`Reader::read_slice`].
+/// - Those of the first element that is refused, as by [`SetOf::new`], with positions counted from
+///   the beginning of the contents; the reader stands behind them and has not failed.
 impl<'a, T: Lawful + DecodeValue<SliceReader<'a>>, R: Reader<Lent = &'a [u8]>> DecodeValue<R>
     for SetOf<'a, T> {
     type Error = <T as DecodeValue<SliceReader<'a>>>::Error;
@@ -172,12 +177,13 @@ impl<'a, T: Lawful + DecodeValue<SliceReader<'a>>, R: Reader<Lent = &'a [u8]>> D
 impl<'a, T: Lawful> WrittenValue for SetOf<'a, T> {
     ghost contents = { λ v. v.elements.octets.now };
 
-    ghost writable = { IsLent (AreAscending T.tag_is T.valid T.contents) (λ v. v.elements.octets.now) };
+    ghost writable = { IsLent (AreAscending T.tag_is T.valid T.contents)
+        (λ v. v.elements.octets.now) };
 }
 
 /// # Errors
 ///
-/// - `Overflow` where there are more than 4294967295 octets.
+/// - `Overflow` without a position, where there are more than 4294967295 octets.
 /// - The writer's errors, as by [`Writer::write`].
 impl<'a, T: Lawful> EncodeValue for SetOf<'a, T> {
     ghost value_size = { λ v. form_size v.elements.octets.now };
@@ -194,8 +200,8 @@ impl<'a, T: Lawful> EncodeValue for SetOf<'a, T> {
 }
 
 impl<'a, T: Lawful> Lawful for SetOf<'a, T> {
-    ghost lawful = { lent_lawful SetTag (AreAscending T.tag_is T.valid T.contents) (λ v. v.elements.octets.now)
-        (Prim.omega arith) };
+    ghost lawful = { lent_lawful SetTag (AreAscending T.tag_is T.valid T.contents)
+        (λ v. v.elements.octets.now) (Prim.omega arith) };
 }
 
 impl<'a, T: Lawful> Nestable for SetOf<'a, T> {
@@ -208,8 +214,10 @@ impl<'a, T: Lawful + DecodeValue<SliceReader<'a>>> SetOf<'a, T> {
     ///
     /// # Errors
     ///
-    /// - `Overflow` where there are more than 4294967295 octets.
+    /// - `Overflow` without a position, where there are more than 4294967295 octets.
     /// - Those of the first element that is refused, as by [`decode_tlv`](der::decode_tlv).
+    /// - `Failed` at the position behind an element, where the type answers its value and leaves
+    ///   the reader failed.
     /// - `SetOrdering` at the position at which the first element begins that comes before the one
     ///   ahead of it.
     pub fn new(
@@ -221,6 +229,8 @@ impl<'a, T: Lawful + DecodeValue<SliceReader<'a>>> SetOf<'a, T> {
         ensures complete { length octets.now < 2 ^ 32
             → AreAscending T.tag_is T.valid T.contents octets.now
             → SucceedsOrLacks T.Error.out_of_memory T.allocates result }
+        ensures too_long { 2 ^ 32 ≤ length octets.now
+            → IsErrAnd result (λ e. T.Error.from_gives (error_of_kind Overflow) e) }
         ensures exact { length octets.now < 2 ^ 32 → SetWalked T.Error.from_gives
             (ElementRead T.tag_is T.Error.from_gives T.decode_value_answers)
             (map_ok (λ _. tt) result) octets.now }
@@ -251,5 +261,6 @@ impl<'a, T: Lawful> SetOf<'a, T> {
 }
 
 impl<'a, T: Lawful> Described for SetOf<'a, T> {
-    ghost element = { lent SetTag (AreAscending T.tag_is T.valid T.contents) (λ v. v.elements.octets.now) };
+    ghost element = { lent SetTag (AreAscending T.tag_is T.valid T.contents)
+        (λ v. v.elements.octets.now) };
 }

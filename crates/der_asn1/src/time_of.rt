@@ -23,7 +23,7 @@ pub struct TimeOf<F: TimeForm> {
     ghost held: { F.holds time ≡ true },
 }
 
-/// The same time; it takes no memory.
+/// A clone is the same time; it takes no memory.
 impl<F: TimeForm> Clone for TimeOf<F> {
     ghost is_clone = { λ p q. q ≡ p };
 
@@ -90,7 +90,7 @@ impl<F: TimeForm> ReadValue for TimeOf<F> {
 ///
 /// # Errors
 ///
-/// - `Failed`, `Overflow` and `Incomplete`, as by [`Reader::read_slice`].
+/// - Those of the contents, as by [`Reader::read_slice`].
 /// - `Value` of the tag behind contents of no time; the reader has failed then.
 impl<'a, F: TimeForm, R: Reader<Lent = &'a [u8]>> DecodeValue<R> for TimeOf<F> {
     type Error = Error;

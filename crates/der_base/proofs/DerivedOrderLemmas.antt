@@ -58,7 +58,7 @@ Agrees (part ∷ parts) each said =
 abbrev position : (parts : List (List Field)) → Choice parts → ℕ
 position parts c = tag (rowss parts) (intoss parts c)
 
--- so two values of one variant are
+-- two values of one variant stand as they are said to, where the fields of each variant do
 agrees : (parts : List (List Field)) (each : Each Ordering parts) (said : Choice parts → Choice parts → Ordering) → Agrees parts each said
     → (c d : Choice parts) → position parts c ≡ position parts d → by Less Greater parts each c d ≡ said c d
 agrees [] each said all c d e = absurd c

@@ -31,7 +31,7 @@ Tells {A} test = (x y : A) → test x y ≡ true → x ≡ y
 exact : {A : Type 0} (test : A → A → Bool) → IsEquivalence test → Tells test → (x y : A) → IsTrue (test x y) ↔ (x ≡ y)
 exact test laws told x y = (told x y, λ e. sym (ap (test x) e) ∙ laws.refl x)
 
--- so do the tests of the fields of each variant
+-- what the tests of the fields of each variant find equal is one value
 abbrev EachTells : (parts : List (List Field)) → Each Bool parts → Type 0
 EachTells [] each = Unit {0}
 EachTells (part ∷ parts) each = Tells {A = Values part} each.0 × EachTells parts each.1

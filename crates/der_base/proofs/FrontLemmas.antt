@@ -60,7 +60,7 @@ module _ (rules : EncodingRules) (at o : ℕ) (above : 64 ≤ o) (high : o < 256
       (λ begun. further (omega arith))
       (cases_eq v 0)
 
--- an octet below 64 is a universal tag, octet 24 under BER, or refused
+-- an octet below `0x40` is a universal tag, octet `0x24` under BER, or refused
 low_front : (rules : EncodingRules) (at o : ℕ) (rest : List ℕ) → o < 64 → IdentifierFront rules at (o ∷ rest)
 low_front rules at o rest low = go (universal_tag o) refl
   where
@@ -86,7 +86,7 @@ identifier_or_fault rules at (o ∷ rest) =
     (cases_lt o 256))
     (cases_lt o 64)
 
--- octets begin with octet 80, with a definite length, or have a fault of one
+-- octets begin with octet `0x80`, with a definite length, or have a fault of one
 pub data LengthFront (F : ℕ → List ℕ → Refusal → Type 0) (wrong : ErrorKind) (rules : EncodingRules) (at : ℕ) (octets : List ℕ) : Type 0 where
   opens : (rest : List ℕ) → octets ≡ 128 ∷ rest → LengthFront F wrong rules at octets
   counts : (n : ℕ) (rest : List ℕ) → n < 2 ^ 32 → octets ≡ length_octets n ++ rest → LengthFront F wrong rules at octets
@@ -99,7 +99,7 @@ module _ (F : ℕ → List ℕ → Refusal → Type 0) (wrong : ErrorKind) (rule
       longer k ds rest some four size
       (λ n large same. wide (subst (AllBelowBase 256) (sym (same ∙ digits_positive 256 n (omega arith))) (all_below_base_digits_of 256 n (omega arith))))
 
-  -- so many octets behind an octet from 129 to 132
+  -- so many octets behind an octet from `0x81` to `0x84`
   digits_front : (o : ℕ) (ds rest : List ℕ) → 128 < o → o < 133 → length ds ≡ o - 128 → LengthFront F wrong rules at (o ∷ (ds ++ rest))
   digits_front o ds rest low high size =
       ⊎_elim

@@ -46,7 +46,7 @@ one_identifier {rules} {s} {x} {y} {m} {n} h g = go (identifier_view h) (identif
 pub one_tag : {rules : EncodingRules} {s : List ℕ} {t u : Tag} {m n : ℕ} → TagAhead t rules s m → TagAhead u rules s n → (t ≡ u) × (m ≡ n)
 one_tag h g = let one = one_identifier h.1 g.1 in (ap (λ z. z.0) one.0, one.1)
 
--- a length ahead: a definite one, or octet 80 and a body
+-- a length ahead: a definite one, or octet `0x80` and a body
 pub data LengthView (l : Length) (rules : EncodingRules) (s : List ℕ) (m : ℕ) : Type 0 where
   view_definite : (n : ℕ) (rest : List ℕ) → n < 2 ^ 32 → s ≡ length_octets n ++ rest → l ≡ definite_length n → m ≡ length (length_octets n) → LengthView l rules s m
   view_indefinite : {parts : ℕ} (body rest : List ℕ) → rules ≡ Ber → Body 1 parts body → s ≡ 128 ∷ (body ++ rest) → l ≡ indefinite_length (length body) → m ≡ 1 → LengthView l rules s m

@@ -38,11 +38,11 @@ long_identifier o n low high set large small =
     let tag : (label (other_tag o n)).number < 2 ^ 32 = omega (arith, other_number o n low high) in
     identifier_at (other_octets o n low high set large) (other_constructed o n low high) (of_tag tag)
 
--- under BER the octet 24 is an identifier
+-- under BER the octet `0x24` is an identifier
 pub segments_identifier : (o : ℕ) → o ≡ 36 → IsIdentifier Ber (o ∷ []) OctetString true
 segments_identifier o e = subst (λ x. IsIdentifier Ber (x ∷ []) OctetString true) (sym e) of_segments
 
--- an identifier is a tag's, or the octet 24 under BER
+-- an identifier is a tag's, or the octet `0x24` under BER
 pub data IdentifierView (rules : EncodingRules) (a : List ℕ) (t : Tag) (c : Bool) : Type 0 where
   tagged : (label t).number < 2 ^ 32 → a ≡ tag_octets t → c ≡ (label t).constructed → IdentifierView rules a t c
   segmented : rules ≡ Ber → a ≡ 36 ∷ [] → t ≡ OctetString → c ≡ true → IdentifierView rules a t c
@@ -126,7 +126,7 @@ fault_above {rules} at o rest big =
     subst (λ n. IdentifierFault rules at (o ∷ rest) (refusal (identifier_kind [] o) n)) here
     (refused [] o rest (some_identifier rules) (none_with [] o big))
 
--- octet 31 is refused as a wrong number
+-- octet `0x1F` is refused as a wrong number
 pub kind_invalid : (o : ℕ) → o ≡ 31 → identifier_kind [] o ≡ TagNumberInvalid
 kind_invalid o h = rw h refl
 

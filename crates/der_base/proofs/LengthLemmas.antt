@@ -132,7 +132,7 @@ fault_longer at k ds rest pos four n small = longer k ds rest pos four n (not_sh
 count_back : (o : ℕ) → 128 ≤ o → 128 + (o - 128) ≡ o
 count_back o h = omega arith
 
--- the same by the first octet o: a length is found
+-- a length is found by its first octet o, which says how many octets follow
 pub octet_found : {rules : EncodingRules} (o : ℕ) (ds rest : List ℕ) → 128 < o → o < 133 → length ds ≡ o - 128 → AllBelowBase 256 ds → least_of (o - 128) ≤ number_from_digits 256 ds → LengthAhead (definite_length (number_from_digits 256 ds)) rules (o ∷ (ds ++ rest)) (1 + (o - 128))
 octet_found {rules} o ds rest low high n all large =
     subst (λ x. LengthAhead (definite_length (number_from_digits 256 ds)) rules (x ∷ (ds ++ rest)) (1 + (o - 128))) (count_back o (omega arith))
@@ -179,7 +179,7 @@ no_definite_fault n t h f e = ⊎_elim (λ a. small n t a f (e ∙ ap (λ l. l +
     large n t h a (indefinite_form der rest) e = let f : 128 ≡ 128 + length (digits_of 256 n) = cc in omega (arith, length_digits_positive 256 n (omega arith) (omega arith))
     large n t h a (no_body ber rest g) e = let f : 128 ≡ 128 + length (digits_of 256 n) = cc in omega (arith, length_digits_positive 256 n (omega arith) (omega arith))
 
--- under BER octet 80 and a body have no fault
+-- under BER octet `0x80` and a body have no fault
 pub no_open_fault : {F : ℕ → List ℕ → Refusal → Type 0} → IsBodyFault F → {wrong : ErrorKind} {at parts : ℕ} {rules : EncodingRules} {s body : List ℕ} {r : Refusal} → Body 1 parts body → (t : List ℕ) → rules ≡ Ber → LengthFault F wrong rules at s r → s ≡ 128 ∷ (body ++ t) → ⊥
 no_open_fault laws d t b nothing e = cc
 no_open_fault laws d t b (few k ds p q) e = let f : 128 + k ≡ 128 = cc in omega arith

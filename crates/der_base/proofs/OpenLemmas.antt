@@ -36,7 +36,7 @@ past_items q rest (then_item {items = s} {item = i} h g) t e =
     let r = past_items (i ++ q) rest h t (sym (append_assoc s i q) ∙ e) in
     past_item q r.rest g r.is r.split
 
--- behind an identifier and octet 80 a body of the next level stands
+-- behind an identifier and octet `0x80` a body of the next level stands
 past_opening : {k n : ℕ} {id b : List ℕ} {t : Tag} {c : Bool} (q rest : List ℕ) → IsIdentifier Ber id t c → Body k n b → id ++ 128 ∷ q ≡ b ++ rest → BodyIn (suc k) q
 past_opening q rest d (ends at) e = absurd (no_marks (128 ∷ q) (0 ∷ rest) d e)
 past_opening {id = id} q rest d (more {body = b} (definite {id = a} at g contents l) t) e =
@@ -61,7 +61,7 @@ pub data Step : ℕ → ℕ → List ℕ → Type 0 where
   counted : {k : ℕ} {t : Tag} {c : Bool} {id : List ℕ} → IsIdentifier Ber id t c → (contents : List ℕ) → length contents < 2 ^ 32 → Step k k (id ++ (length_octets (length contents) ++ contents))
   opened : {k : ℕ} {t : Tag} {id : List ℕ} → IsIdentifier Ber id t true → k < 64 → Step k (suc k) (id ++ 128 ∷ [])
 
--- so many steps
+-- a path: a number of steps from level 1, the level that they end at, and their octets
 pub data Path : ℕ → ℕ → List ℕ → Type 0 where
   start : Path 0 1 []
   go : {n k l : ℕ} {p x : List ℕ} → Path n k p → Step k l x → Path (suc n) l (p ++ x)

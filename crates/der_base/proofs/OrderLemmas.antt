@@ -23,7 +23,7 @@ use Rattle.der_base.proofs.TagLemmas.{tag_front}
 pub same_octets : (a b : List ℕ) → byte_order a b ≡ Equal → a ≡ b
 same_octets = exact_bytes
 
--- and the other way round
+-- lists that are equal are equal in byte order
 pub equal_octets : (a b : List ℕ) → a ≡ b → byte_order a b ≡ Equal
 equal_octets a b e = ap (byte_order a) (sym e) ∙ tied_itself nat_list_cmp_total a
 
@@ -168,7 +168,7 @@ length_order m n =
 pub header_parts : (t u : Tag) (m n : ℕ) → byte_order (header_octets t m) (header_octets u n) ≡ ordering_then (byte_order (tag_octets t) (tag_octets u)) (byte_order (length_octets m) (length_octets n))
 header_parts t u m n = order_parts (tag_octets t) (tag_octets u) (length_octets m) (length_octets n) (λ x y e. ap tag_octets (tag_front t u x y e).0)
 
--- and so by their numbers
+-- headers stand by their tags, and then by their numbers
 pub header_order : (t u : Tag) (m n : ℕ) → byte_order (header_octets t m) (header_octets u n) ≡ ordering_then (byte_order (tag_octets t) (tag_octets u)) (nat_cmp m n)
 header_order t u m n = header_parts t u m n ∙ ap (ordering_then (byte_order (tag_octets t) (tag_octets u))) (length_order m n)
 

@@ -65,7 +65,7 @@ shape (too_deep {id = id} {t = t} rest deep d) = behind_it true t id (128 ∷ re
 shape (no_length {id = id} {more = others} {t = t} {b = b} d f) = behind_it b t id others d refl (length_wrong f)
 shape (short {id = id} {t = t} {b = b} n rest d small less) = behind_it b t id (length_octets n ++ rest) d refl (too_few n rest small less refl refl)
 
--- octet 80 is no fault of a definite length
+-- octet `0x80` is no fault of a definite length
 no_fault_at_opening : {wrong : ErrorKind} {at : ℕ} {q : List ℕ} {r : Refusal} (t : List ℕ) → LengthFault NoBodyFault wrong Ber at q r → q ≡ 128 ∷ t → ⊥
 no_fault_at_opening t no_octet e = cc
 no_fault_at_opening t (few k ds p q) e = let f : 128 + k ≡ 128 = cc in omega arith

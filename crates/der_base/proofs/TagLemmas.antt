@@ -105,7 +105,7 @@ same_label t u e = let f : Some t ≡ Some u = sym (tag_of_label t) ∙ ap tag_o
 pub tag_front : (t u : Tag) (x y : List ℕ) → tag_octets t ++ x ≡ tag_octets u ++ y → (t ≡ u) × (x ≡ y)
 tag_front t u x y e = let r = label_front (label t) (label u) x y e in (same_label t u r.0, r.1)
 
--- octet 24 begins no tag
+-- octet `0x24` begins no tag
 pub no_segments : (t : Tag) (x y : List ℕ) → tag_octets t ++ x ≡ 36 ∷ y → ⊥
 unfolding tag_of
 no_segments t x y e =

@@ -1,4 +1,5 @@
--- Numbers of octets, added and taken away.
+-- Numbers of octets, added and taken away: `checked_length` and `checked_difference` are answers of
+-- calls, `element_count` is the size of an element, and `sans_eoc` takes an end mark away.
 use Rattle.std.specs.Prelude.{ℕ, ◌+◌, ◌-◌, ◌^◌, length, min, nat_lt, Result, Ok, Err, if◌then◌else◌}
 use Rattle.der_base.specs.Length.{number, is_indefinite, definite_length, indefinite_length, length_octets}
 use Rattle.der_base.specs.Tag.{tag_octets}

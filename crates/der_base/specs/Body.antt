@@ -1,5 +1,7 @@
--- The body of an indefinite length (X.690 8.1.3.6, 8.1.5).
+-- The body of an indefinite length (X.690 8.1.3.6, 8.1.5): `Item` and `Body` are its grammar, and
+-- `Items` and `Open` what stands before the end of one.
 use Rattle.std.specs.Prelude.{ℕ, suc, ◌+◌, ◌^◌, ◌<◌, ◌≤◌, Bool, true, List, [], ◌∷◌, ◌++◌, length}
+use Rattle.der_base.specs.FixedOctets.{indefinite_octet, end_of_contents}
 use Rattle.der_base.specs.Length.{length_octets}
 use Rattle.der_base.specs.Tag.{IsIdentifier}
 use Rattle.der_base.specs.declared.tag.Tag.{Tag}
@@ -18,11 +20,11 @@ mutual
         → Item level 1 (id ++ (length_octets (length contents) ++ contents))
     indefinite : {level parts : ℕ} {id body : List ℕ} {t : Tag} → IsLevel level
         → IsIdentifier Ber id t true → Body (suc level) parts body
-        → Item level (suc parts) (id ++ 128 ∷ body)
+        → Item level (suc parts) (id ++ indefinite_octet ∷ body)
 
-  -- a body at a level: the end mark, two zero octets, or an item and a body
+  -- a body at a level: the end mark alone, or an item and a body
   pub data Body : ℕ → ℕ → List ℕ → Type 0 where
-    ends : {level : ℕ} → IsLevel level → Body level 1 (0 ∷ 0 ∷ [])
+    ends : {level : ℕ} → IsLevel level → Body level 1 end_of_contents
     more : {level m n : ℕ} {item body : List ℕ} → Item level m item → Body level n body
         → Body level (m + n) (item ++ body)
 
@@ -37,4 +39,4 @@ pub data Open : ℕ → ℕ → List ℕ → Type 0 where
   first : {n : ℕ} {items : List ℕ} → Items 1 n items → Open 1 n items
   deeper : {level m n : ℕ} {p id items : List ℕ} {t : Tag} → Open level m p
       → IsIdentifier Ber id t true → Items (suc level) n items
-      → Open (suc level) (m + suc n) (p ++ (id ++ 128 ∷ items))
+      → Open (suc level) (m + suc n) (p ++ (id ++ indefinite_octet ∷ items))

@@ -1,4 +1,4 @@
--- Classes of tags (X.690 8.1.2.2, table 1).
+-- Classes of tags (X.690 8.1.2.2, table 1), by their `class_number`.
 use Rattle.std.specs.Prelude.{ℕ}
 use Rattle.der_base.specs.declared.tag.class.Class.{Class}
 use Rattle.der_base.specs.declared.tag.class.Class.TheVariants.{Universal, Application, ContextSpecific, Private}

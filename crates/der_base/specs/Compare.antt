@@ -1,4 +1,5 @@
--- Comparisons. The order of tags is not that of their octets.
+-- Comparisons: `length_order` and `tag_order`, which is not that of their octets, and `tag_writes`,
+-- which a hasher gets.
 use Rattle.std.specs.Prelude.{ℕ, pos, [], ◌++◌}
 use Rattle.std.specs.Hash as fed
 use Rattle.std.specs.Hash.{HashWrites}

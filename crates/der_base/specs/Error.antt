@@ -1,4 +1,6 @@
--- Errors: a kind, and a position or none. Refusals: an error, and how it leaves a reader.
+-- Errors are a kind, and a position or none: `error_of_kind`, `error_at` and others make them.
+-- A `Refusal` is an error, and how it leaves a reader: `refusal`, `missing_refusal` and
+-- `end_refusal` make one.
 use Rattle.std.specs.Prelude.{ℕ, ◌+◌, ◌-◌, ◌^◌, ◌==◌, nat_lt, Bool, true, Option, Some, None, if◌then◌else◌}
 use Rattle.der_base.specs.Length.{number, definite_length}
 use Rattle.der_base.specs.declared.length.Length.{Length}
@@ -7,6 +9,7 @@ use Rattle.der_base.specs.declared.error.Error.{Error}
 use Rattle.der_base.specs.declared.error.ErrorKind.{ErrorKind}
 use Rattle.der_base.specs.declared.error.ErrorKind.TheVariants.{Incomplete, Overflow, TagUnexpected}
 
+-- what an error holds
 abbrev pub kind_of : Error → ErrorKind
 kind_of e = e.kind
 

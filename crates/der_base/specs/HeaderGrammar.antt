@@ -1,6 +1,8 @@
--- Tags, lengths and headers at the front of octets, and where octets begin with none
--- (X.690 8.1.2, 8.1.3, 10.1).
+-- Tags, lengths and headers at the front of octets, and where octets begin with none (X.690 8.1.2,
+-- 8.1.3, 10.1): `IdentifierAhead`, `TagAhead`, `LengthAhead` and `HeadAhead`, whose value comes
+-- first, `LengthFault` and `HeaderFault`. `Head` is what a header says.
 use Rattle.std.specs.Prelude.{◌≡◌, ◌≢◌, ℕ, ◌+◌, ◌^◌, ◌<◌, ◌≤◌, Bool, true, false, List, [], ◌∷◌, ◌++◌, length}
+use Rattle.der_base.specs.FixedOctets.{indefinite_octet, long_form}
 use Rattle.der_base.specs.Length.{is_indefinite, definite_length, indefinite_length, digits, length_octets}
 use Rattle.der_base.specs.Tag.{tag_octets, IsIdentifier, IdentifierFault}
 use Rattle.der_base.specs.Body.{Body}
@@ -12,6 +14,7 @@ use Rattle.der_base.specs.declared.error.ErrorKind.TheVariants.{IndefiniteLength
 use Rattle.der_base.specs.declared.encoding_rules.EncodingRules.{EncodingRules}
 use Rattle.der_base.specs.declared.encoding_rules.EncodingRules.TheVariants.{Ber, Der}
 
+-- the octets of a tag, and behind them those of a number of octets
 abbrev pub header_octets : Tag → ℕ → List ℕ
 header_octets t n = tag_octets t ++ length_octets n
 
@@ -20,17 +23,17 @@ pub data IdentifierAhead (x : Tag × Bool) (rules : EncodingRules) : List ℕ �
   identifier : {id : List ℕ} (rest : List ℕ) → IsIdentifier rules id x.0 x.1
       → IdentifierAhead x rules (id ++ rest) (length id)
 
--- the same of the tag alone
+-- the first m octets of a list are an identifier of this tag, with either constructed bit
 abbrev pub TagAhead : Tag → EncodingRules → List ℕ → ℕ → Type 0
 TagAhead t rules octets m = (b : Bool) × IdentifierAhead (t, b) rules octets m
 
--- the first m octets of a list are a length: a definite one, or under BER octet 80, which a body
--- follows, whose octets it counts (8.1.3.6)
+-- the first m octets of a list are a length: a definite one, or under BER octet `0x80`, which a
+-- body follows, whose octets it counts (8.1.3.6)
 pub data LengthAhead : Length → EncodingRules → List ℕ → ℕ → Type 0 where
   definite : {rules : EncodingRules} (n : ℕ) (rest : List ℕ) → n < 2 ^ 32
       → LengthAhead (definite_length n) rules (length_octets n ++ rest) (length (length_octets n))
   indefinite : {parts : ℕ} {body : List ℕ} (rest : List ℕ) → Body 1 parts body
-      → LengthAhead (indefinite_length (length body)) Ber (128 ∷ (body ++ rest)) 1
+      → LengthAhead (indefinite_length (length body)) Ber (indefinite_octet ∷ (body ++ rest)) 1
 
 -- what a header says: a tag, a length, and the constructed bit of the identifier
 pub record Head : Type 0 where
@@ -51,21 +54,23 @@ pub data HeadAhead (h : Head) (rules : EncodingRules) : List ℕ → ℕ → Typ
 
 -- octets at a position begin with no length; a spelling that is not the shortest, or has more than
 -- four octets behind the first, is refused as the wrong kind, the first only after it was read; the
--- fault of a body is found by looking ahead, and the reader stays behind octet 80
+-- fault of a body is found by looking ahead, and the reader stays behind octet `0x80`
 pub data LengthFault (BodyFault : ℕ → List ℕ → Refusal → Type 0) (wrong : ErrorKind)
     (rules : EncodingRules) (at : ℕ) : List ℕ → Refusal → Type 0 where
   nothing : LengthFault BodyFault wrong rules at [] (end_refusal at)
   few : (k : ℕ) (ds : List ℕ) → k ≤ 4 → length ds < k
-      → LengthFault BodyFault wrong rules at ((128 + k) ∷ ds) (end_refusal (at + 1 + length ds))
-  far : (o : ℕ) (rest : List ℕ) → 133 ≤ o
+      → LengthFault BodyFault wrong rules at (long_form k ∷ ds) (end_refusal (at + 1 + length ds))
+  far : (o : ℕ) (rest : List ℕ) → long_form 5 ≤ o
       → LengthFault BodyFault wrong rules at (o ∷ rest) (refusal wrong (at + 1))
   longer : (k : ℕ) (ds rest : List ℕ) → 1 ≤ k → k ≤ 4 → length ds ≡ k
       → ((n : ℕ) → 128 ≤ n → ds ≢ digits 256 n)
-      → LengthFault BodyFault wrong rules at ((128 + k) ∷ (ds ++ rest)) (refusal wrong (at + 1 + k))
+      → LengthFault BodyFault wrong rules at (long_form k ∷ (ds ++ rest))
+      (refusal wrong (at + 1 + k))
   indefinite_form : rules ≡ Der → (rest : List ℕ)
-      → LengthFault BodyFault wrong rules at (128 ∷ rest) (refusal IndefiniteLength (at + 1))
+      → LengthFault BodyFault wrong rules at (indefinite_octet ∷ rest)
+      (refusal IndefiniteLength (at + 1))
   no_body : {r : Refusal} → rules ≡ Ber → (rest : List ℕ) → BodyFault (at + 1) rest r
-      → LengthFault BodyFault wrong rules at (128 ∷ rest)
+      → LengthFault BodyFault wrong rules at (indefinite_octet ∷ rest)
       (record r { position = at + 1; fails = false })
 
 -- octets at a position begin with no header: with no identifier; with one and no length behind it;

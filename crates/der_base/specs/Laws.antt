@@ -1,5 +1,7 @@
--- Laws of the octets of tags, lengths, headers and bodies. The crate proves each of them.
+-- Laws of the octets of tags, lengths, headers and bodies. The crate proves each of them;
+-- `IsGrammar` and `IsBodyFault` are several of one grammar.
 use Rattle.std.specs.Prelude.{◌≡◌, ℕ, zero, suc, ◌*◌, ◌≤◌, ◌⊎◌, Bool, List, [], ◌∷◌, ◌++◌, length, replicate}
+use Rattle.der_base.specs.FixedOctets.{indefinite_octet, end_of_contents}
 use Rattle.der_base.specs.Length.{length_octets}
 use Rattle.der_base.specs.Tag.{label, tag_octets, IsIdentifier}
 use Rattle.der_base.specs.HeaderGrammar.{header_octets}
@@ -19,8 +21,8 @@ abbrev pub NoTagBeginsAnother : Type 0
 NoTagBeginsAnother =
     (t u : Tag) (x y : List ℕ) → tag_octets t ++ x ≡ tag_octets u ++ y → (t ≡ u) × (x ≡ y)
 
--- no identifier begins another, and each says one tag and one constructed bit, octet 24 under BER
--- too (X.690 8.1.2, 8.7.1)
+-- no identifier begins another, and each says one tag and one constructed bit, octet `0x24` under
+-- BER too (X.690 8.1.2, 8.7.1)
 abbrev pub NoIdentifierBeginsAnother : Type 0
 NoIdentifierBeginsAnother =
     (rules : EncodingRules) (a b : List ℕ) (t u : Tag) (p q : Bool) (x y : List ℕ)
@@ -92,9 +94,9 @@ NothingOpenOutsideLevels =
     (level parts : ℕ) (octets : List ℕ) → Open level parts octets
     → (1 ≤ level) × (level ≤ 64)
 
--- and there are bodies at each of these
+-- there are bodies at each level from 1 to 64
 abbrev pub BodiesAtEachLevel : Type 0
-BodiesAtEachLevel = (level : ℕ) → 1 ≤ level → level ≤ 64 → Body level 1 (0 ∷ 0 ∷ [])
+BodiesAtEachLevel = (level : ℕ) → 1 ≤ level → level ≤ 64 → Body level 1 end_of_contents
 
 -- a body has an end mark at least, and each of its parts has two octets at least
 abbrev pub PartsHaveTwoOctets : Type 0
@@ -105,11 +107,11 @@ PartsHaveTwoOctets =
 -- so many openings of a SEQUENCE in the indefinite form, and what stands behind them
 abbrev pub nested_openings : ℕ → List ℕ → List ℕ
 nested_openings zero behind = behind
-nested_openings (suc n) behind = 48 ∷ 128 ∷ nested_openings n behind
+nested_openings (suc n) behind = 48 ∷ indefinite_octet ∷ nested_openings n behind
 
 -- identifiers and end marks counted by hand: 4 of an OCTET STRING with one segment, whose two zero
 -- octets are no end mark; 128 of NULL within 63 openings, the most that can be nested; and no body
--- where there is one opening more, which is refused behind its octet 80
+-- where there is one opening more, which is refused behind its octet `0x80`
 abbrev pub ExamplesOfParts : Type 0
 ExamplesOfParts =
     Body 1 4 (36 ∷ 128 ∷ 4 ∷ 2 ∷ 0 ∷ 0 ∷ 0 ∷ 0 ∷ 0 ∷ 0 ∷ [])

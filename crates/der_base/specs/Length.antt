@@ -1,6 +1,8 @@
--- Lengths (X.690 8.1.3), and the digits that numbers are spelled in.
-use Rattle.std.specs.Prelude.{ℕ, ◌+◌, ◌==◌, Bool, true, false, List, [], ◌∷◌, length, nat_lt, if◌then◌else◌}
+-- Lengths (X.690 8.1.3): `number` and `is_indefinite` are what one is, `definite_length` and
+-- `indefinite_length` make one, and `length_octets` are its octets, spelled in `digits`.
+use Rattle.std.specs.Prelude.{ℕ, ◌==◌, Bool, true, false, List, [], ◌∷◌, length, nat_lt, if◌then◌else◌}
 use Rattle.std.specs.Int.Digits.{digits_of}
+use Rattle.der_base.specs.FixedOctets.{long_form}
 use Rattle.der_base.specs.declared.length.Length.{Length}
 
 -- how many octets, and whether that was read in the indefinite form
@@ -10,6 +12,7 @@ number l = l.inner
 abbrev pub is_indefinite : Length → Bool
 is_indefinite l = l.indefinite
 
+-- a length of so many octets, in the definite and in the indefinite form
 abbrev pub definite_length : ℕ → Length
 definite_length n = record { inner = n; indefinite = false }
 
@@ -23,4 +26,4 @@ digits base n = if n == 0 then 0 ∷ [] else digits_of base n
 
 -- the length octets of a number: the fewest possible (8.1.3.4, 8.1.3.5, 10.1)
 abbrev pub length_octets : ℕ → List ℕ
-length_octets n = if nat_lt n 128 then n ∷ [] else (128 + length (digits 256 n)) ∷ digits 256 n
+length_octets n = if nat_lt n 128 then n ∷ [] else long_form (length (digits 256 n)) ∷ digits 256 n

@@ -1,4 +1,5 @@
 pub mod Order
+pub mod FixedOctets
 pub mod Length
 pub mod Class
 pub mod Tag

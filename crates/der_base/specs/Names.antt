@@ -1,4 +1,4 @@
--- Names that are read, letter by letter.
+-- Names that are read, letter by letter: `mode_of_name` and `rules_of_name`.
 use Rattle.std.specs.Prelude.{ℕ, ◌||◌, Bool, List, codes, Result, Ok, Err, if◌then◌else◌}
 use Rattle.std.specs.Str.{bytes_eq}
 use Rattle.der_base.specs.Error.{error_of_kind}

@@ -1,5 +1,6 @@
--- The order of lists of octets (X.690 11.6). That section pads the shorter encoding with zero
--- octets; no whole encoding begins another, so the padding never decides.
+-- The order of lists of octets (X.690 11.6): `IsBefore`, and `byte_order`, which answers by it.
+-- That section pads the shorter encoding with zero octets; no whole encoding begins another
+-- (`AreApart`), so the padding never decides.
 use Rattle.std.specs.Prelude.{◌≡◌, ◌≢◌, ℕ, ◌<◌, List, [], ◌∷◌, ◌++◌}
 use Rattle.std.specs.Cmp.Lexicographic.{slice_cmp}
 use Rattle.std.specs.Ordering.{nat_cmp}

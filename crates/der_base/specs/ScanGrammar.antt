@@ -1,5 +1,7 @@
--- What a scan finds: a body of an indefinite length, or why there is none (X.690 8.1.3.6, 8.1.5).
+-- What a scan finds (X.690 8.1.3.6, 8.1.5): a body of an indefinite length (`BodyAhead`,
+-- `PartsAhead`), or why there is none (`BodyFault`, which is one of the nine of `ScanFault`).
 use Rattle.std.specs.Prelude.{◌≡◌, ◌≢◌, ℕ, ◌+◌, ◌-◌, ◌*◌, ◌/◌, ◌^◌, ◌<◌, min, Bool, true, false, List, [], ◌∷◌, ◌++◌, length}
+use Rattle.der_base.specs.FixedOctets.{indefinite_octet}
 use Rattle.der_base.specs.Length.{indefinite_length, length_octets}
 use Rattle.der_base.specs.Tag.{IsIdentifier, IsCutIdentifier, identifier_kind}
 use Rattle.der_base.specs.Body.{Body, Open}
@@ -25,7 +27,7 @@ pub record BodyAhead (l : Length) (rules : EncodingRules) (octets : List ℕ) (m
   pub sized : m ≡ length body
   pub counts : l ≡ indefinite_length m
 
--- a scan reads lengths by itself, and looks for no body behind octet 80
+-- a scan reads lengths by itself, and looks for no body behind octet `0x80`
 abbrev pub NoBodyFault : ℕ → List ℕ → Refusal → Type 0
 NoBodyFault at octets r = ⊥
 
@@ -42,8 +44,8 @@ short_refusal n left at =
 
 -- a scan stands at a position with so many levels open, and cannot go on: nothing follows; half an
 -- end mark does; a zero octet and another; an identifier that is refused, or one that is cut; a
--- primitive identifier and octet 80; a constructed one and 80, with all levels open; an identifier
--- and no length; or a length of more octets than are left
+-- primitive identifier and octet `0x80`; a constructed one and `0x80`, with all levels open; an
+-- identifier and no length; or a length of more octets than are left
 pub data ScanFault (level at : ℕ) : List ℕ → Refusal → Type 0 where
   nothing : ScanFault level at [] (end_refusal at)
   half_mark : ScanFault level at (0 ∷ []) (end_refusal (at + 1))
@@ -56,9 +58,11 @@ pub data ScanFault (level at : ℕ) : List ℕ → Refusal → Type 0 where
   cut_identifier : (o : ℕ) (s : List ℕ) → IsCutIdentifier Ber (o ∷ s)
       → ScanFault level at (o ∷ s) (end_refusal (at + length (o ∷ s)))
   primitive : {id : List ℕ} {t : Tag} (rest : List ℕ) → IsIdentifier Ber id t false
-      → ScanFault level at (id ++ 128 ∷ rest) (refusal IndefiniteLength (at + length id + 1))
+      → ScanFault level at (id ++ indefinite_octet ∷ rest)
+      (refusal IndefiniteLength (at + length id + 1))
   too_deep : {id : List ℕ} {t : Tag} (rest : List ℕ) → level ≡ 64 → IsIdentifier Ber id t true
-      → ScanFault level at (id ++ 128 ∷ rest) (refusal NestingDepth (at + length id + 1))
+      → ScanFault level at (id ++ indefinite_octet ∷ rest)
+      (refusal NestingDepth (at + length id + 1))
   no_length : {id more : List ℕ} {t : Tag} {b : Bool} {r : Refusal} → IsIdentifier Ber id t b
       → LengthFault NoBodyFault (IncorrectLength t) Ber (at + length id) more r
       → ScanFault level at (id ++ more) r

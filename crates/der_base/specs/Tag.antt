@@ -1,5 +1,8 @@
--- Tags, their identifier octets, and where octets begin with none (X.690 8.1.2).
+-- Tags and their identifier octets (X.690 8.1.2): `label` is what a tag says, `tag_octets` are its
+-- octets, `IsIdentifier` and `IdentifierFault` say of octets that they are an identifier, and why
+-- they begin with none.
 use Rattle.std.specs.Prelude.{ℕ, ◌+◌, ◌*◌, ◌/◌, ◌%◌, ◌^◌, ◌<◌, ◌==◌, Bool, true, false, nat_lt, nat_eq, Option, Some, None, List, [], ◌∷◌, ◌++◌, length, if◌then◌else◌}
+use Rattle.der_base.specs.FixedOctets.{high_number, segments_octet}
 use Rattle.der_base.specs.Length.{digits}
 use Rattle.der_base.specs.Error.{Refusal, refusal, end_refusal}
 use Rattle.der_base.specs.declared.tag.number.TagNumber.{TagNumber}
@@ -19,7 +22,8 @@ pub record Label : Type 0 where
 abbrev pub label_of : ℕ → Bool → ℕ → Label
 label_of c b n = record { class = c; constructed = b; number = n }
 
--- the 22 universal tags that are known (X.680 8.6, table 1), and the three other classes
+-- what a tag says: the 22 universal tags that are known (X.680 8.6, table 1), and the three other
+-- classes
 abbrev pub label : Tag → Label
 label Boolean = label_of 0 false 1
 label Integer = label_of 0 false 2
@@ -57,11 +61,12 @@ continuation_octets [] = []
 continuation_octets (d ∷ []) = d ∷ []
 continuation_octets (d ∷ e ∷ ds) = (128 + d) ∷ continuation_octets (e ∷ ds)
 
--- one octet for numbers to 30 (8.1.2.2), else the number in base 128 behind it (8.1.2.4)
+-- the octets of a tag: one for numbers to 30 (8.1.2.2), else the number in base 128 behind it
+-- (8.1.2.4)
 abbrev pub tag_octets : Tag → List ℕ
 tag_octets t =
-    if nat_lt (label t).number 31 then leading_octet (label t) (label t).number ∷ []
-    else leading_octet (label t) 31 ∷ continuation_octets (digits 128 (label t).number)
+    if nat_lt (label t).number high_number then leading_octet (label t) (label t).number ∷ []
+    else leading_octet (label t) high_number ∷ continuation_octets (digits 128 (label t).number)
 
 -- the universal tags by their first octets, which are all that they have
 abbrev pub universal_rows : List (ℕ × Tag)
@@ -89,29 +94,29 @@ is_constructed o = nat_eq (o / 32 % 2) 1
 abbrev pub tag_number : ℕ → TagNumber
 tag_number n = record { 0 = n }
 
--- the tag of another class that a first octet from 64 on says, with a number
+-- the tag of another class that a first octet from `0x40` on says, with a number
 abbrev pub other_tag : ℕ → ℕ → Tag
 other_tag o n =
     if nat_lt o 128 then Application (is_constructed o) (tag_number n)
     else if nat_lt o 192 then ContextSpecific (is_constructed o) (tag_number n)
     else Private (is_constructed o) (tag_number n)
 
--- the octets of a tag, with its constructed bit; under BER also octet 24, an OCTET STRING that is
--- constructed (8.7.1)
+-- the octets of a tag, with its constructed bit; under BER also octet `0x24`, an OCTET STRING that
+-- is constructed (8.7.1)
 pub data IsIdentifier : EncodingRules → List ℕ → Tag → Bool → Type 0 where
   of_tag : {rules : EncodingRules} {t : Tag} → (label t).number < 2 ^ 32
       → IsIdentifier rules (tag_octets t) t (label t).constructed
-  of_segments : IsIdentifier Ber (36 ∷ []) OctetString true
+  of_segments : IsIdentifier Ber (segments_octet ∷ []) OctetString true
 
 -- some identifier begins so, and goes on
 abbrev pub IsCutIdentifier : EncodingRules → List ℕ → Type 0
 IsCutIdentifier rules s =
     (o : ℕ) × (more : List ℕ) × (t : Tag) × (b : Bool) × IsIdentifier rules (s ++ o ∷ more) t b
 
--- of an octet that begins no identifier, else of one in a long number; 31 begins a long number,
--- which no universal tag has
+-- the kind that an octet is refused as: one that begins no identifier, else one in a long number;
+-- `0x1F` begins a long number, which no universal tag has
 abbrev pub identifier_kind : List ℕ → ℕ → ErrorKind
-identifier_kind [] o = if o == 31 then TagNumberInvalid else TagUnknown o
+identifier_kind [] o = if o == high_number then TagNumberInvalid else TagUnknown o
 identifier_kind (first ∷ s) o = TagNumberInvalid
 
 -- octets at a position begin with no identifier: they are cut, or an octet is refused after which

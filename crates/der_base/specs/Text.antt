@@ -1,4 +1,5 @@
--- Printed texts.
+-- Printed texts: `length_text`, `class_text`, `mode_text`, `rules_text`, `tag_text`, `kind_text`
+-- and `error_text`; `length_debug` and `tag_debug` are those of `Debug`.
 use Rattle.std.specs.Prelude.{ℕ, ◌-◌, Bool, true, false, List, [], ◌++◌, length, replicate, codes, Option, Some, None, if◌then◌else◌}
 use Rattle.std.specs.Fmt.{decimal, digits, option_append}
 use Rattle.der_base.specs.Length.{number, is_indefinite}

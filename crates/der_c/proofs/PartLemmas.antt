@@ -53,7 +53,7 @@ module _ (buffer : List ℕ) (start position more : ℕ) (begun : 1 ≤ start) (
         ap length joined ∙ length-append (front ++ (octets ++ inside)) behind ∙ omega (arith, size, length-drop (position + more) buffer, room),
       )
 
--- so the state of the writer is as it is told
+-- the state of a writer whose contents were moved, and whose length was put, is as it is told
 pub state_put : (w : DerWriter) (octets put : List ℕ) (start more : ℕ) → more ≡ length octets - 1
     → take (w.position + more) put ≡ take (start - 1) (take w.position w.octets.now) ++ (octets ++ drop start (take w.position w.octets.now))
     → drop (w.position + more) put ≡ drop more (drop w.position w.octets.now) → length put ≡ length w.octets.now

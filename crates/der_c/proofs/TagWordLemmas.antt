@@ -113,7 +113,7 @@ word_octet word t e = let h = tag_octet_small t in omega arith
 pub word_number : (word : ℕ) (t : Tag) → tag_word t ≡ word → word / 256 ≡ long_number t
 word_number word t e = let h = tag_octet_small t in omega arith
 
--- so its tag is said
+-- the parts of a word that is a tag's say that tag
 pub word_said : (word : ℕ) (t : Tag) → IsTagWord word t → said_tag (word % 256) (word / 256) ≡ Some t
 word_said word t is =
     ap (λ o. said_tag o (word / 256)) (word_octet word t is.1) ∙ ap (said_tag (tag_octet t)) (word_number word t is.1) ∙ tag_said t

@@ -19,7 +19,7 @@ short_octet : (b : Bool) (k o : ℕ) → 64 * k + constructed_bit b + 31 ≡ o �
 short_octet true k o e h = omega arith
 short_octet false k o e h = omega arith
 
--- so it is the word of its tag
+-- an octet that is a tag by itself is the word of that tag
 pub tag_short : (t : Tag) (o : ℕ) (more : List ℕ) → tag_octets t ≡ o ∷ more → o % 32 < 31 → o ≡ tag_word t
 tag_short t o more e h =
     ⊎_elim

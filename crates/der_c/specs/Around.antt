@@ -1,4 +1,4 @@
--- A reader inside parts, and what it tells from there on.
+-- A reader inside parts (`AreAround`), and what it tells from there on (`NodesFrom`, `Tells`).
 use Rattle.std.specs.Prelude.{◌≡◌, ◌≢◌, ◌⊎◌, ℕ, zero, suc, ◌<◌, ◌≤◌, ◌==◌, List, ◌++◌, length, if◌then◌else◌, get_or}
 use Rattle.der_core.specs.ReaderState.{ReaderState}
 use Rattle.der_c.specs.Tree.{Stop, finished, Nodes}
@@ -33,7 +33,7 @@ AreAround a s =
 abbrev pub outer_end : Around → ReaderState → ℕ
 outer_end a s = if a.level == 0 then s.end else get_or a.ends 0 0
 
--- the same reader, elsewhere
+-- a reader that differs from another by its position and its end alone
 abbrev pub Moved : ReaderState → ReaderState → Type 0
 Moved s t = t ≡ record s { position = t.position; end = t.end }
 

@@ -1,4 +1,5 @@
--- What a comparison of elements tells C.
+-- What a comparison of elements tells C (`Compares`): each is one (`IsOneElement`), or why one is
+-- none (`RefusesWhole`, `RefusesEither`).
 use Rattle.std.specs.Prelude.{◌≡◌, ℕ, ◌+◌, ◌^◌, ◌≤◌, ◌⊎◌, ℤ, pos, negsuc, List, length, Ok, Err}
 use Rattle.std.specs.declared.cmp.Ordering.{Ordering}
 use Rattle.std.specs.declared.cmp.Ordering.TheVariants.{Less, Equal, Greater}
@@ -26,8 +27,8 @@ pub record IsOneElement (octets : List ℕ) : Type 0 where
   pub ahead : HeadAhead head Der octets count
   pub whole : count + number head.length ≡ length octets
 
--- why they are not: no length counts them; a reader of them refuses the header, or contents that
--- are not all there; or octets are left behind the element
+-- octets are not wholly one element: no length counts them; a reader of them refuses the header, or
+-- contents that are not all there; or octets are left behind the element
 pub data RefusesWhole (octets : List ℕ) (e : Error) : Type 0 where
   too_long : 2 ^ 32 ≤ length octets → e ≡ error_of_kind Overflow → RefusesWhole octets e
   no_header : (t : ReaderState)
@@ -39,7 +40,7 @@ pub data RefusesWhole (octets : List ℕ) (e : Error) : Type 0 where
       → Gives (read_slice_outcome (number (head_of h).length)) u (Ok contents) t
       → finish_answer t ≡ Err e → RefusesWhole octets e
 
--- the first of two is not, or the second alone
+-- the first of two is not wholly one element, or the second alone
 abbrev pub RefusesEither : List ℕ → List ℕ → Error → Type 0
 RefusesEither first second e =
     RefusesWhole first e ⊎ (IsOneElement first × RefusesWhole second e)
@@ -49,7 +50,7 @@ order_number Less = negsuc 0
 order_number Equal = pos 0
 order_number Greater = pos 1
 
--- both are elements, and their byte order is told; or one is not, which is told
+-- two lists of octets are elements, and their byte order is told; or one is not, which is told
 pub data Compares (first second : List ℕ) (result : DerError) (old new : ℤ) : Type 0 where
   compared : IsOneElement first → IsOneElement second → result ≡ no_error
       → new ≡ order_number (byte_order first second) → Compares first second result old new

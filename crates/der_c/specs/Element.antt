@@ -1,7 +1,9 @@
--- What reading an element tells C.
+-- What reading an element tells C, and how it leaves its readers: `ReadsElement`, `SkipsElement`,
+-- `ExpectsElement`, `EntersElement` and `OpensElement`, each of the call of that name.
 use Rattle.std.specs.Prelude.{◌≡◌, ◌≢◌, ℕ, ◌∷◌, ◌+◌, ◌<◌, ◌≤◌, ◌/◌, ◌%◌, ◌^◌, List, length, take, true, false, Ok, Err}
 use Rattle.der_base.specs.Arithmetic.{sans_eoc}
 use Rattle.der_base.specs.Error.{error_at, error_of_kind}
+use Rattle.der_base.specs.FixedOctets.{high_number, segments_octet}
 use Rattle.der_base.specs.Length.{number, is_indefinite, definite_length}
 use Rattle.der_base.specs.HeaderGrammar.{Head, HeaderFault}
 use Rattle.der_base.specs.ScanGrammar.{BodyFault}
@@ -54,7 +56,7 @@ pub data ReadsElement (s : ReaderState) (result : DerError) (e : DerElement) (t 
 abbrev pub SkipsElement : ReaderState → DerError → ReaderState → Type 0
 SkipsElement s result t = (e : DerElement) × ReadsElement s result e t
 
--- another tag was expected than this one, in words; only 32 bits of a number are told
+-- the error where another tag was expected, by the words of both; only 32 bits of a number are told
 abbrev pub unexpected_code : ℕ → ℕ → DerError
 unexpected_code expected actual =
     coded 17 (expected % 256) (actual % 256) (expected / 256 % 2 ^ 32) (actual / 256 % 2 ^ 32)
@@ -124,4 +126,4 @@ IsFirstAhead s o =
 
 -- an octet is the word of a tag, unless it is that of segments or begins a long number
 abbrev pub TellsTag : ℕ → Tag → Type 0
-TellsTag o t = o % 32 < 31 → o ≢ 36 → o ≡ tag_word t
+TellsTag o t = o % 32 < high_number → o ≢ segments_octet → o ≡ tag_word t

@@ -1,4 +1,5 @@
--- Errors as C sees them.
+-- Errors as C sees them, 16 octets (`error_code`): by the kind (`kind_code`), its tags (`tag_code`)
+-- and numbers, and by the position (`placed_code`).
 use Rattle.std.specs.Prelude.{ℕ, true, false, Option, Some, None}
 use Rattle.der_base.specs.Length.{number}
 use Rattle.der_base.specs.Error.{kind_of, position_of}
@@ -26,7 +27,7 @@ coded k expected actual m n =
 abbrev pub no_error : DerError
 no_error = coded 0 0 0 0 0
 
--- of one tag
+-- an error of a kind and of one tag
 abbrev pub tag_code : ℕ → Tag → DerError
 tag_code k t = coded k 0 (tag_octet t) 0 (long_number t)
 

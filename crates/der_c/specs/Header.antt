@@ -1,4 +1,4 @@
--- What reading a header tells C.
+-- What reading a header tells C (`ReadsHeader`).
 use Rattle.std.specs.Prelude.{◌≡◌}
 use Rattle.der_base.specs.Length.{number, is_indefinite}
 use Rattle.der_base.specs.HeaderGrammar.{Head, HeaderFault}

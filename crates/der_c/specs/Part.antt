@@ -1,4 +1,6 @@
--- What writing an element by its begin and its end tells C.
+-- What writing an element by its begin and its end tells C (`BeginsElement`, `EndsElement`): where
+-- its contents begin (`IsBegun`), and how they and their length stand then (`IsMoved`,
+-- `ended_state`).
 use Rattle.std.specs.Prelude.{◌≡◌, ◌⊎◌, ℕ, ◌+◌, ◌-◌, ◌<◌, ◌≤◌, true, false, List, ◌++◌, length, take, drop, Ok, Err}
 use Rattle.der_base.specs.Error.{error_at}
 use Rattle.der_base.specs.Length.{length_octets}
@@ -28,7 +30,7 @@ pub data BeginsElement (word : ℕ) (s : WriterState) (result : DerError) (old n
 abbrev pub IsBegun : ℕ → WriterState → Type 0
 IsBegun start s = (1 ≤ start) × (start ≤ length s.octets)
 
--- how many octets their length has more than this one
+-- how many octets the length of contents has more than the one ahead of them
 abbrev pub more_octets : ℕ → WriterState → ℕ
 more_octets start s = length (length_octets (length s.octets - start)) - 1
 
@@ -40,7 +42,7 @@ IsMoved start position more old new =
     × (drop (start + more) new
     ≡ take (position - start) (drop start old) ++ drop (position + more) old)
 
--- with these octets in that place
+-- a writer with these octets in the place of the one ahead of contents
 abbrev pub put_state : ℕ → List ℕ → WriterState → WriterState
 put_state start octets s =
     record s {
@@ -48,7 +50,7 @@ put_state start octets s =
       behind = drop (length octets - 1) s.behind;
     }
 
--- with their length in it
+-- a writer with the length of contents in the place of the octet ahead of them
 abbrev pub ended_state : ℕ → WriterState → WriterState
 ended_state start s = put_state start (length_octets (length s.octets - start)) s
 

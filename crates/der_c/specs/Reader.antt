@@ -1,4 +1,4 @@
--- What a reader in C means.
+-- What a reader in C means (`reader_state`), by its rules (`rules_of`).
 use Rattle.std.specs.Prelude.{Bool, true, false, Result, Ok, Err}
 use Rattle.der_base.specs.declared.error.Error.{Error}
 use Rattle.der_c.specs.Error.{no_error, error_code}

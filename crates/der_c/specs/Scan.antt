@@ -1,4 +1,4 @@
--- What a scan of a body tells C.
+-- What a scan of a body tells C (`ScansBody`).
 use Rattle.std.specs.Prelude.{◌≡◌, ℕ}
 use Rattle.der_base.specs.Length.{number}
 use Rattle.der_base.specs.Error.{error_of_kind}

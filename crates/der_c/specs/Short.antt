@@ -1,4 +1,5 @@
--- What reading an element with a header of two octets tells.
+-- What reading an element with a header of two octets tells (`PassesShort`, `ReadsShort`,
+-- `EntersShort`), where nothing is refused.
 use Rattle.std.specs.Prelude.{◌≡◌, ℕ, false, List, take, Ok}
 use Rattle.der_base.specs.Length.{definite_length}
 use Rattle.der_base.specs.Tag.{is_constructed}

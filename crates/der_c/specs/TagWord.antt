@@ -1,18 +1,22 @@
--- Tags as words of C: the first octet of an identifier, and behind it a number that does not stand
--- there.
+-- Tags as words of C (`tag_word`): the first octet of an identifier, and behind it a number that
+-- does not stand there. `IsTagWord` and `NoTagWord` tell the words that are a tag's from the
+-- others.
 use Rattle.std.specs.Prelude.{◌≡◌, ℕ, ◌+◌, ◌*◌, ◌%◌, ◌^◌, ◌<◌, Option, Some, nat_lt, if◌then◌else◌}
+use Rattle.der_base.specs.FixedOctets.{high_number}
 use Rattle.der_base.specs.Tag.{label, leading_octet, universal_tag, other_tag}
 use Rattle.der_base.specs.declared.tag.Tag.{Tag}
 
 -- the first octet of a tag's identifier
 abbrev pub tag_octet : Tag → ℕ
-tag_octet t = leading_octet (label t) (if nat_lt (label t).number 31 then (label t).number else 31)
+tag_octet t =
+    leading_octet (label t)
+    (if nat_lt (label t).number high_number then (label t).number else high_number)
 
--- its number, where that does not stand in the first octet
+-- a tag's number, where that does not stand in the first octet
 abbrev pub long_number : Tag → ℕ
-long_number t = if nat_lt (label t).number 31 then 0 else (label t).number
+long_number t = if nat_lt (label t).number high_number then 0 else (label t).number
 
--- both in one word: of a short tag it is the octet
+-- the first octet and the number in one word: of a short tag it is the octet
 abbrev pub tag_word : Tag → ℕ
 tag_word t = tag_octet t + 256 * long_number t
 
@@ -27,4 +31,4 @@ NoTagWord word = (t : Tag) → IsTagWord word t → ⊥
 abbrev pub said_tag : ℕ → ℕ → Option Tag
 said_tag octet long =
     if nat_lt octet 64 then universal_tag octet
-    else Some (other_tag octet (if nat_lt (octet % 32) 31 then octet % 32 else long))
+    else Some (other_tag octet (if nat_lt (octet % 32) high_number then octet % 32 else long))

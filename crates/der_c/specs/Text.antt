@@ -1,4 +1,5 @@
--- Texts that are cut where the room for them ends.
+-- Texts of errors (`TellsText`), by what C sees of them (`IsSeenAs`), cut where the room for a text
+-- ends (`IsCut`).
 use Rattle.std.specs.Prelude.{◌≡◌, ◌⊎◌, ℕ, ◌+◌, List, ◌++◌, length, take, drop, min, IfSome, codes}
 use Rattle.der_base.specs.Text.{error_text}
 use Rattle.der_base.specs.declared.error.Error.{Error}

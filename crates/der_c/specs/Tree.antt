@@ -1,4 +1,5 @@
--- What reading a tree tells C: elements in order, each before what is inside it.
+-- What reading a tree tells C (`TellsTree`): elements in order, each before what is inside it
+-- (`Nodes`), and how they end (`Stop`).
 use Rattle.std.specs.Prelude.{◌≡◌, ◌≢◌, ℕ, suc, ◌+◌, ◌<◌, ◌≤◌, true, List, [], ◌∷◌, ◌++◌, length, take, drop}
 use Rattle.der_base.specs.Error.{error_of_kind}
 use Rattle.der_base.specs.declared.error.ErrorKind.TheVariants.{Overlength}
@@ -27,7 +28,7 @@ abbrev pub inside_state : DerElement → ReaderState → ReaderState
 inside_state e s =
     record s { position = e.contents_start; end = e.contents_start + length e.contents.now }
 
--- such an element is looked into
+-- an element is looked into where it is constructed and stands inside fewer than 32 others
 abbrev pub IsLookedInto : ℕ → DerElement → Type 0
 IsLookedInto level e = (e.constructed ≡ true) × (level < 32)
 

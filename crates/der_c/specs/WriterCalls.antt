@@ -1,4 +1,6 @@
--- What the calls on a writer tell C.
+-- What the calls on a writer tell C: what is written, refused and left (`WritesOctets`,
+-- `WritesHeader`, `WritesElement`, and of a header of two octets `WritesShort`), and the size of an
+-- element (`Measures`).
 use Rattle.std.specs.Prelude.{◌≡◌, ℕ, ◌^◌, ◌<◌, ◌≤◌, List, length, Result, Ok}
 use Rattle.der_base.specs.Length.{definite_length}
 use Rattle.der_base.specs.Error.{error_of_kind}
@@ -34,7 +36,8 @@ pub record WritesShort (word n : ℕ) (s t : WriterState) : Type 0 where
   pub few : n < 2 ^ 32
   pub writes : Writes (header_outcome tag n s) (Ok tt) t
 
--- the same, or the word is no tag's
+-- the header of the tag that a word is, and of n octets, is written or refused; or the word is no
+-- tag's
 pub data WritesHeader (word n : ℕ) (s : WriterState) (result : DerError) (t : WriterState)
     : Type 0 where
   no_tag : NoTagWord word → RefusesBy TagNumberInvalid s result t → WritesHeader word n s result t
@@ -42,7 +45,7 @@ pub data WritesHeader (word n : ℕ) (s : WriterState) (result : DerError) (t : 
       → Writes (header_outcome tag n s) answer t → result ≡ answer_code answer
       → WritesHeader word n s result t
 
--- the same of an element
+-- an element with the tag that a word is is written or refused; or the word is no tag's
 pub data WritesElement (word : ℕ) (contents : List ℕ) (s : WriterState) (result : DerError)
     (t : WriterState) : Type 0 where
   too_long : 2 ^ 32 ≤ length contents → RefusesBy Overflow s result t

@@ -124,7 +124,7 @@ pub(crate) fn read_element<'a>(reader: &mut DerReader<'a>, element: &mut DerElem
     error
 }
 
-// The same with each error looked at.
+// Reads an element with each error looked at.
 #[inline(never)]
 fn read_slowly<'a>(reader: &mut DerReader<'a>, element: &mut DerElement<'a>) -> DerError
     ensures same { Same (reader_state reader.old) (reader_state reader.new) }
@@ -138,7 +138,7 @@ fn read_slowly<'a>(reader: &mut DerReader<'a>, element: &mut DerElement<'a>) -> 
     }
 }
 
-// Another tag was expected.
+// The error where another tag was expected, by the words of both.
 #[cold]
 #[inline(never)]
 fn unexpected(expected: u64, actual: u64) -> DerError
@@ -184,7 +184,7 @@ pub extern "C" fn der_expect<'a>(
     expect_slowly(reader, tag, element)
 }
 
-// The same with each error looked at.
+// Reads an element with this tag, with each error looked at.
 #[inline(never)]
 fn expect_slowly<'a>(reader: &mut DerReader<'a>, tag: u64, element: &mut DerElement<'a>) -> DerError
     ensures same { Same (reader_state reader.old) (reader_state reader.new) }
@@ -232,7 +232,7 @@ pub extern "C" fn der_enter<'a>(
     enter_slowly(reader, tag, inside)
 }
 
-// The same with each error looked at.
+// Enters an element with this tag, with each error looked at.
 #[inline(never)]
 fn enter_slowly<'a>(reader: &mut DerReader<'a>, tag: u64, inside: &mut DerReader<'a>) -> DerError
     ensures same { Same (reader_state reader.old) (reader_state reader.new) }
@@ -283,8 +283,8 @@ fn enter<'a>(reader: &mut DerReader<'a>, header: Header, inside: &mut DerReader<
 /// Makes a reader of the contents of an element that this reader, or one like it, has read.
 ///
 /// Refused by `Reader` without a position, where the element is not one of these octets, by
-/// `Failed` where the reader has failed, and by `NestingDepth` at the contents inside 64 others;
-/// `inside` is unchanged then.
+/// `Failed` without one, where the reader has failed, and by `NestingDepth` at the contents inside
+/// 64 others; `inside` is unchanged then.
 #[unsafe(no_mangle)]
 pub extern "C" fn der_open<'a>(
     reader: &DerReader<'a>,

@@ -97,7 +97,7 @@ fn coded_kind(kind: ErrorKind) -> DerError
     }
 }
 
-// Another tag was expected.
+// The error where another tag was expected, if that is known.
 fn coded_tags(expected: Option<Tag>, actual: Tag) -> DerError
     ensures { result ≡ kind_code (ErrorKind.TagUnexpected expected actual) }
 {

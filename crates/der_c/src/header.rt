@@ -42,7 +42,7 @@ fn told_header(header: Header) -> DerHeader
 /// Reads a header, as `decode_header` does.
 ///
 /// Refused by `Failed`, `Overflow`, `Incomplete`, `TagUnknown`, `TagNumberInvalid`,
-/// `IndefiniteLength` and `Length`; the header is unchanged then.
+/// `IndefiniteLength`, `Length` and `NestingDepth`; the header is unchanged then.
 #[unsafe(no_mangle)]
 pub extern "C" fn der_read_header(reader: &mut DerReader<'_>, header: &mut DerHeader) -> DerError
     ensures same { Same (reader_state reader.old) (reader_state reader.new) }

@@ -13,8 +13,8 @@ use std::marker::Brand;
 use std::sync::ledger::{Blank, Ledger};
 
 /// Passes the body of an indefinite length, and tells how many octets it has, with the end mark
-/// that closes it (X.690 8.1.3.6). The reader stands behind octet 80 before, and behind the mark
-/// then.
+/// that closes it (X.690 8.1.3.6). The reader stands behind octet `0x80` before, and behind the
+/// mark then.
 ///
 /// Refused by `EncodingRules` without a position, where the reader does not read by the Basic
 /// Encoding Rules, which leaves it as it is, and as by `decode_indefinite_length`; `count` is
@@ -36,7 +36,7 @@ pub extern "C" fn der_scan(reader: &mut DerReader<'_>, count: &mut u32) -> DerEr
     }
 }
 
-// The same with a counter of turns, which takes no memory.
+// Passes the body, with a counter of turns, which takes no memory.
 fn scan_counted<L: Ledger>(reader: &mut DerReader<'_>, blank: Blank) -> Result<Length, Error>
     requires name { blank.name ≡ L.name }
     requires parts { blank.parts ≡ L.parts }

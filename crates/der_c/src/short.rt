@@ -47,7 +47,7 @@ pub(crate) fn pass_short(reader: &mut DerReader<'_>) -> Option<(u8, u8)>
         (reader_state reader.new)) }
 {
     let (first, count) = short_header(reader)?;
-    if first % 32 < 31 && first != 36 {
+    if first % 32 < 31 && first != 0x24 {
         if let Ok(_) = reader.read_slice(Length::new(2)) {
             return Some((first, count));
         }

@@ -27,18 +27,18 @@ pub(crate) fn tag_of_word(word: u64) -> Option<Tag>
 pub(crate) fn tag_of(octet: u8, long: u32) -> Option<Tag>
     ensures { result ≡ said_tag octet long }
 {
-    if octet < 64 {
+    if octet < 0x40 {
         return universal(octet);
     }
     let constructed = octet / 32 % 2 == 1;
     let low = octet % 32;
     let number = TagNumber(if low < 31 { low as u32 } else { long });
-    Some(if octet < 128 {
+    Some(if octet < 0x80 {
         Tag::Application {
             constructed,
             number,
         }
-    } else if octet < 192 {
+    } else if octet < 0xC0 {
         Tag::ContextSpecific {
             constructed,
             number,
@@ -92,11 +92,11 @@ pub(crate) fn first_octet(tag: Tag) -> u8
     let low = if number < 31 { number as u8 } else { 31 };
     let class = match tag.class() {
         Class::Universal => 0u8,
-        Class::Application => 64,
-        Class::ContextSpecific => 128,
-        Class::Private => 192,
+        Class::Application => 0x40,
+        Class::ContextSpecific => 0x80,
+        Class::Private => 0xC0,
     };
-    let form = if tag.is_constructed() { 32u8 } else { 0 };
+    let form = if tag.is_constructed() { 0x20u8 } else { 0 };
     class + form + low
 }
 
@@ -109,7 +109,7 @@ pub(crate) fn number_behind(tag: Tag) -> u32
     if number < 31 { 0 } else { number }
 }
 
-/// Both in one word: of a short tag it is the octet.
+/// A tag as a word: its first octet, and 256 times the number behind it.
 #[inline(always)]
 pub(crate) fn word_of(tag: Tag) -> u64
     ensures { result ≡ tag_word tag }

@@ -49,7 +49,7 @@ module _ {A : Type 0} {Ahead : A → EncodingRules → List ℕ → ℕ → Type
   pub decodes_reliably : {reliable : Bool} {s t : ReaderState} {answer : Result A Error} → reliable ≡ true → Decodes Ahead Fault reliable s answer t → Decodes Ahead Fault true s answer t
   decodes_reliably is h = record { same = h.same; ok = h.ok; refused = λ _. h.refused is }
 
-  -- and what any reader owes that answered
+  -- what any reader owes that answered, a reliable one does
   pub decodes_bound : {s t : ReaderState} (reliable : Bool) (answer : Result A Error) → IsBinding reliable answer → Decodes Ahead Fault reliable s answer t → Decodes Ahead Fault true s answer t
   decodes_bound reliable (Ok v) owed h = record { same = h.same; ok = h.ok; refused = λ _. tt }
   decodes_bound reliable (Err e) owed h = decodes_reliably owed h
@@ -66,7 +66,7 @@ module _ {A : Type 0} {Ahead : A → EncodingRules → List ℕ → ℕ → Type
       (ap Ok one.0, h.ok.leaves ∙ ap (advanced_state s) one.1)
   accepts laws s t (Err e) v m h working ahead = absurd (not_refused laws (h.refused refl) working ahead)
 
-  -- so what was promised is not lost
+  -- what stands ahead is read, as a decoder that may lack memory promises it
   pub reads : IsGrammar Ahead Fault → {reliable : Bool} {s t : ReaderState} {answer : Result A Error} (oom : Error → Bool) (takes : Bool) (v : A) (m : ℕ) → Decodes Ahead Fault reliable s answer t → reliable ≡ true → s.failed ≡ false
       → Ahead v s.rules (rest_of s) m → s.depth + grammar_levels s.rules ≤ 64 → ReadsOrLacks oom takes s m answer t
   reads laws {s = s} {t} {answer} oom takes v m h reliable working ahead enough =

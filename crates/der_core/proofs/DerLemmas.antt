@@ -65,7 +65,7 @@ header_read {s} {h} {m} ahead = go (header_view ahead)
           octets = c ∙ ap (λ x. length x + k) r.octets ∙ ap (λ x. length (tag_octets h.tag) + x) l.octets ∙ sym (length-append (tag_octets h.tag) (length_octets l.count));
         }
 
--- and such octets are a header
+-- the octets of a tag and of a number of octets are a header
 pub header_written : (t : Tag) (n : ℕ) (behind : List ℕ) → (label t).number < 2 ^ 32 → n < 2 ^ 32 → HeadAhead (definite_head t n) Der (header_octets t n ++ behind) (length (header_octets t n))
 header_written t n behind numbered small =
     let ahead : HeadAhead (definite_head t n) Der (tag_octets t ++ (length_octets n ++ behind)) (length (tag_octets t) + length (length_octets n)) =

@@ -26,11 +26,11 @@ use Rattle.der_core.proofs.ContentsLemmas.{rest_advanced, rest_inside, part_pass
 pub at_contents : {x : Header} (h : Header) (F : Head → Type 0) → x ≡ header_sans_eoc h → F (head_of x) → F (head_sans_eoc (head_of h))
 at_contents h F e f = subst (λ x. F (head_of x)) e f
 
--- of a closure that reads contents, where it answers a value
+-- what a closure that reads contents tells, where it answers a value
 abbrev pub Tells : {A : Type 0} → (A → EncodingRules → Head → List ℕ → Type 0) → ReaderState → A → ReaderState → Head → Type 0
 Tells takes s v t h = StandsIn s (number h.length) → IsAtEnd t → takes v s.rules h (rest_of s)
 
--- and where a value stands there
+-- what a closure that reads contents vows, where a value stands there
 abbrev pub Vows : {A E : Type 0} → (A → EncodingRules → Head → List ℕ → Type 0) → (E → Bool) → Bool → (EncodingRules → ℕ) → ReaderState → Result A E → ReaderState → Head → Type 0
 Vows {A} takes oom allocates levels s a t h = (w : A) → ContentsAhead (takes w) h s → s.depth + levels s.rules ≤ 64 → EndsOrLacks oom allocates a t
 
@@ -38,7 +38,7 @@ pub reliable_owes : {T E : Type 0} (reliable : Bool) (r : Result T E) → reliab
 reliable_owes reliable (Ok v) h = tt
 reliable_owes reliable (Err e) h = h
 
--- the same of what a closure vows
+-- what is made of the answer of a closure is made of what its type answers
 pub value_told : {P Q T E : Type 0} {converts : Error → E → Type 0} {post : P → Result T E → Q → Type 0} {before : P → ReaderState} {after : Q → ReaderState} {answers : ReaderState → Result T E → ReaderState → Type 0} {l : Length}
     {s t : ReaderState} {result : Result T E} → ((p : P) (a : Result T E) (q : Q) → post p a q → answers (before p) a (after q)) → ValueAnswer converts post before after l s result t
     → ValueAnswer converts answers (λ p. p) (λ q. q) l s result t

@@ -143,7 +143,7 @@ appended_both s xs ys =
 appended_none : (s : WriterState) → appended_state s [] ≡ s
 appended_none s = ap (λ l. record s { octets = l; behind = s.behind }) (append-nil s.octets)
 
--- it is appended by two writes
+-- a length is appended by two writes
 pub length_appended : (k n : ℕ) (q : List ℕ) (s t u : WriterState) (r : Result (Unit {0}) Error) → 1 ≤ k → k ≤ 4 → length (length_octets n) ≡ k + 1 → q ≡ drop (4 - k) (to_be_bytes w32 n)
     → t ≡ appended_state s ((128 + k) ∷ []) → OnOk r (u ≡ appended_state t q) → OnOk r (u ≡ appended_state s (length_octets n))
 length_appended k n q s t u (Err e) pos few size same first next = next
@@ -151,7 +151,7 @@ length_appended k n q s t u (Ok x) pos few size same first next =
     let parts : length_octets n ≡ (128 + k) ∷ q = length_parts k n pos few size ∙ ap (λ l. (128 + k) ∷ l) (sym same) in
     next ∙ ap (λ v. appended_state v q) first ∙ appended_both s ((128 + k) ∷ []) q ∙ ap (appended_state s) (sym parts)
 
--- and its outcome is theirs
+-- the outcome of a length is that of its two writes
 pub length_outcome_of : (k n : ℕ) (q : List ℕ) (s t u : WriterState) (r : Result (Unit {0}) Error) → 1 ≤ k → k ≤ 4 → length (length_octets n) ≡ k + 1 → q ≡ drop (4 - k) (to_be_bytes w32 n)
     → Writes (write_outcome ((128 + k) ∷ []) s) (Ok tt) t → Writes (write_outcome q t) r u → Writes (length_outcome n s) r u
 length_outcome_of k n q s t u r pos few size same first next =
@@ -192,7 +192,7 @@ room_then xs k s t first alive room =
     let stop : t.stop ≡ s.stop = ap (λ (v : WriterState). v.stop) first in
     (ap (λ (v : WriterState). v.failed) first ∙ alive, omega (arith, size, stop, room))
 
--- the same, by the first octet and the number
+-- the octets of a tag with a long number, by its first octet and the number
 pub tag_spelled : (t : Tag) (x n : ℕ) → x ≡ leading_octet (label t) 31 → n ≡ (label t).number → 31 ≤ n → tag_octets t ≡ x ∷ (high_digits (n / 128) ++ n % 128 ∷ [])
 tag_spelled t x n e f large =
     tag_parts t (omega (arith, f, large)) ∙ ap (λ m. leading_octet (label t) 31 ∷ (high_digits (m / 128) ++ m % 128 ∷ [])) (sym f) ∙ ap (λ o. o ∷ (high_digits (n / 128) ++ n % 128 ∷ [])) (sym e)
@@ -201,7 +201,7 @@ tag_spelled t x n e f large =
 pub has_room : (n : ℕ) (s : WriterState) → HasRoom s n → (s.failed ≡ false) × (length s.octets + n ≤ s.stop) × (written_count s + n < 2 ^ 32)
 has_room n s a = (grind (rules, nat_tests), grind (arith, nat_tests), grind (arith, nat_tests))
 
--- so it is granted whatever comes of it
+-- n octets that there is room for are granted, whatever comes of them
 in_room : (n : ℕ) (s g : WriterState) → s.failed ≡ false → length s.octets + n ≤ s.stop → written_count s + n < 2 ^ 32 → room_outcome n s g ≡ success_outcome g
 in_room n s g alive room few = rw (alive, lt-ltb (written_count s + n) (2 ^ 32) few, le-ltb s.stop (length s.octets + n) room)
 
@@ -218,7 +218,7 @@ singles_in_room (o ∷ l) s alive room few =
     piece_in_room (o ∷ []) s (write_pieces (single_octets l)) alive (omega (arith, room)) (omega (arith, few))
     ∙ singles_in_room l (appended_state s (o ∷ [])) alive (omega (arith, more, room)) (omega (arith, more, few)) ∙ ap success_outcome (appended_both s (o ∷ []) l)
 
--- and an octet and then others
+-- octets of which the first goes out alone, where there is room for all
 others_in_room : (l : List ℕ) (s : WriterState) → s.failed ≡ false → length s.octets + length l ≤ s.stop → written_count s + length l < 2 ^ 32 → write_pieces (first_and_others l) s ≡ success_outcome (appended_state s l)
 others_in_room [] s alive room few = ap success_outcome (sym (appended_none s))
 others_in_room (o ∷ []) s alive room few = piece_in_room (o ∷ []) s success_outcome alive room few
@@ -236,7 +236,7 @@ header_in_room t n s has =
     ap (λ (o : WriterOutcome). chained_write o.answer o.after (length_outcome n)) (singles_in_room (tag_octets t) s facts.0 (omega (arith, facts.1, sum)) (omega (arith, facts.2, sum)))
     ∙ others_in_room (length_octets n) (appended_state s (tag_octets t)) facts.0 (omega (arith, facts.1, sum, more)) (omega (arith, facts.2, sum, more)) ∙ ap success_outcome (appended_both s (tag_octets t) (length_octets n))
 
--- so one write of its octets is what writing the header is
+-- one write of the octets of a header is what writing the header is, where there is room
 pub header_at_once : (t : Tag) (n : ℕ) (octets : List ℕ) (s u : WriterState) (r : Result (Unit {0}) Error) → octets ≡ header_octets t n → HasRoom s (length octets)
     → Writes (write_outcome octets s) r u → Writes (header_outcome t n s) r u
 header_at_once t n octets s u r same has wrote =

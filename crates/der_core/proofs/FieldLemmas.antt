@@ -60,7 +60,7 @@ module _ {A B E : Type 0} (First : A → EncodingRules → List ℕ → ℕ → 
       let lacks = lacks_only A out_of_memory s u ahead.first (first_ahead (Err e) working ahead deep complete) in
       inr (rw lacks.0 refl, lacks.1)
 
-  -- and the second behind it
+  -- the second stands behind the first
   module _ (a : A) (t : ReaderState) (sound : IsSound s) (same : Same s u) (working : s.failed ≡ false) (ahead : FieldsAhead First Second v s.rules (rest_of s) m)
       (deep : s.depth + fields_levels needs_first needs_second s.rules ≤ 64)
       (complete : (w : A) (n : ℕ) → s.failed ≡ false → First w s.rules (rest_of s) n → s.depth + needs_first s.rules ≤ 64 → ReadsOrLacks out_of_memory takes_first s n (Ok a) u) where

@@ -207,7 +207,7 @@ each_place stands h [] ys = tt
 each_place stands h (x ∷ xs) [] = tt
 each_place stands h (x ∷ xs) (y ∷ ys) = (h x y, each_place stands h xs ys)
 
--- and with it what holds of all items of both lists
+-- what holds of any two items holds at each place, with what holds of all items of both lists
 pub each_place_all : {A : Type 0} (stands : A → A → Type 0) (holds : A → Type 0) → ((x y : A) → stands x y) → (xs ys : List A) → AllByRecursion holds xs → AllByRecursion holds ys
     → EachPlace (λ x y. stands x y × holds x × holds y) xs ys
 each_place_all stands holds h [] ys p q = tt

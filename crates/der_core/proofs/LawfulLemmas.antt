@@ -50,7 +50,7 @@ der_element {A} {tag} {takes} {octets} {v} {m} e =
       whole = e.whole ∙ omega (arith, h.octets, ap length same_header, ap length mark, length-append (header_octets tag (length e.contents)) e.contents);
     }
 
--- and such octets are an element
+-- the header of a tag and contents that are taken are an element under DER
 pub element_der : {A : Type 0} (tag : Tag) (takes : A → EncodingRules → Head → List ℕ → Type 0) (contents behind : List ℕ) (v : A) → (label tag).number < 2 ^ 32 → length contents < 2 ^ 32
     → takes v Der (definite_head tag (length contents)) contents → ElementAhead tag takes v Der (element_octets tag contents ++ behind) (length (element_octets tag contents))
 element_der tag takes contents behind v numbered small taken =

@@ -18,6 +18,7 @@ pub mod TagAssertedLemmas
 pub mod ElementLemmas
 pub mod DerLemmas
 pub mod LawfulLemmas
+pub mod ExactLemmas
 pub mod FieldLemmas
 pub mod OrdLemmas
 pub mod TagOrderLemmas

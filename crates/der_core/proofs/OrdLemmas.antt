@@ -39,7 +39,7 @@ element_bytes t u c d (Ok m) (Ok n) v h k orderly i j =
 element_bytes t u c d (Ok m) (Err e) v h k orderly i j = cc
 element_bytes t u c d (Err e) q v h k orderly i j = cc
 
--- and so it is wherever there is an answer
+-- where the comparison of such elements has an answer it is byte order
 pub element_sorted : (t u : Tag) (c d : List ℕ) (p q : Result Length Error) (v : Compared) → Counts c p → Counts d q → AreOrderly t u c d v
     → IfOk (element_order t u p q v) (λ o. o ≡ byte_order (element_octets t c) (element_octets u d))
 element_sorted t u c d (Ok m) (Ok n) v h k orderly =

@@ -101,7 +101,7 @@ long_number t x n e f large =
     ∙ ap (λ (y : ℕ). number_from_digits_after 256 y (high_digits (n / 128) ++ n % 128 ∷ [])) (omega arith)
     ∙ number_after_append 256 x (high_digits (n / 128)) (n % 128 ∷ [])
 
--- the same of a tag with one octet
+-- the octet of a tag that has one, as a number
 pub short_number : (t : Tag) (x n : ℕ) → x ≡ leading_octet (label t) n → n ≡ (label t).number → n < 31 → number_from_digits 256 (tag_octets t) ≡ x
 short_number t x n e f small =
     ap (number_from_digits 256) (label_small (label t) (omega (arith, f, small)))

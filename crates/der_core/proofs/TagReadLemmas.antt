@@ -199,12 +199,12 @@ behind_refused {a} {b} {t} {o} {e} working h n =
     let fault : IdentifierFault a.rules a.position (o ∷ rest_of b) r.0 = subst (λ rules. IdentifierFault rules a.position (o ∷ rest_of b) r.0) (rules_on h) r.1 in
     at_fault r.0 working (subst (λ l. IdentifierFault a.rules a.position l r.0) (sym h.split) fault) (stops_on h r.2).told (stops_on h r.2).leaves
 
--- so an identifier is decoded
+-- an identifier is decoded by its first octet and what stands behind it
 pub tag_found : {a b t : ReaderState} {o : ℕ} {x : Tag} {bit : Bool} → a.failed ≡ false → Reads a b (o ∷ []) → IdentifierBehind o x bit b t → Passes (IdentifierAhead (x, bit)) a t
 tag_found {o = o} {x} {bit} working h found =
     passed_tag working (reads_on h found.2) (subst (λ rules. IsIdentifier rules (o ∷ found.0) x bit) (rules_on h) found.1)
 
--- and told as its tag and bit
+-- an identifier that is passed is told as any tag and bit that are its own
 pub passes_as : {a t : ReaderState} {x y : Tag} {b d : Bool} → x ≡ y → b ≡ d → Passes (IdentifierAhead (y, d)) a t → Passes (IdentifierAhead (x, b)) a t
 passes_as {a} {t} {x} {y} {b} {d} p q h =
     subst (λ z. Passes (IdentifierAhead (z, b)) a t) (sym p) (subst (λ z. Passes (IdentifierAhead (y, z)) a t) (sym q) h)

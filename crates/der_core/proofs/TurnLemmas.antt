@@ -77,7 +77,7 @@ module _ (s : ReaderState) (n : ℕ) (sound : IsSound s) (working : s.failed ≡
       (λ enough. (omega (arith, length-rest s sound), h.leaves ∙ ap (λ o. o.after) (drain_enough s n working some enough)))
       (cases_lt s.end (s.position + n))) (cases_eq n 0)
 
--- the same of a length that is this number
+-- a drain by a length that is this number is a drain by the number
 drained_as : {l : Length} {n : ℕ} {s t : ReaderState} {answer : Result (Unit {0}) Error} → l ≡ definite_length n → Gives (drain_outcome l) s answer t → Gives (drain_outcome (definite_length n)) s answer t
 drained_as {s = s} {t} {answer} e h = subst (λ l. Gives (drain_outcome l) s answer t) e h
 
@@ -115,7 +115,7 @@ module _ (level : ℕ) {a : ReaderState} where
   stops_at : {t : ReaderState} {e : Error} {q : List ℕ} {r : Refusal} → a.failed ≡ false → rest_of a ≡ q → ScanFault level a.position q r → Stops a r e t → RefusesPart level a e t
   stops_at {r = r} working octets fault stops = at_fault r working (subst (λ l. ScanFault level a.position l r) (sym octets) fault) stops.told stops.leaves
 
-  -- the same, told at the position where a reader stands behind some of the octets
+  -- a fault that is told at the position where a reader stands behind some of the octets
   stops_there : {b t : ReaderState} {x : List ℕ} {e : Error} {q : List ℕ} {n : ℕ} (f : ℕ → Refusal) → a.failed ≡ false → Reads a b x → n ≡ b.position → rest_of a ≡ q
       → ScanFault level a.position q (f n) → Stops b (f b.position) e t → RefusesPart level a e t
   stops_there {t = t} {e = e} f working h here octets fault stops = stops_at working octets fault (subst (λ k. Stops a (f k) e t) (sym here) (stops_on h stops))
@@ -138,7 +138,7 @@ module _ (level : ℕ) {a : ReaderState} where
         let both = reads_on h g in
         stops_there (refusal IndefiniteLength) working both (sym (position_on both)) (both.split ∙ ap (λ x. x ∷ second ∷ rest_of c) is) (no_mark second (rest_of c) other) stops
 
-    -- another octet that begins no identifier
+    -- an octet that is not zero and begins no identifier
     pub part_refused : {t : ReaderState} {e : Error} → a.rules ≡ Ber → o ≢ 0 → RefusesIdentifier o b e t → RefusesPart level a e t
     part_refused {t} {e} ber other n =
         let r = n a.position (position_on h) (failed_on h ∙ working) in
@@ -152,7 +152,7 @@ module _ (level : ℕ) {a : ReaderState} where
         let r = cut_refused (failed_on i.read ∙ i.working) cannot in
         stops_there end_refusal i.working i.read (sym (position_on i.read)) (i.read.split ∙ ap (λ q. id ++ q) r.0) (no_length i.is no_octet) r.1
 
-    -- and behind octet 80
+    -- behind an identifier and octet `0x80`
     module _ {f : ReaderState} {octet : ℕ} (j : Reads c f (octet ∷ [])) (opens : octet ≡ 128) where
       pub part_primitive : {t : ReaderState} {e : Error} → bit ≡ false → e ≡ error_at IndefiniteLength (reader_position f) → t ≡ stopped_state f f.position → RefusesPart level a e t
       part_primitive {t} {e} plain told leaves =

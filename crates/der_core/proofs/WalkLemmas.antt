@@ -35,7 +35,7 @@ walked_sound octets start index within small =
 pub walk_sound : (w : Walk) → IsSound (walk_state w)
 walk_sound w = walked_sound w.octets.now w.start w.index w.within w.addressable
 
--- the same reader is handed back, where octets were read
+-- the same reader is handed back where octets were read
 pub reads_same : {a b : ReaderState} {x : List ℕ} → IsSound b → Reads a b x → Same a b
 reads_same {a} {b} sound h =
     record {
@@ -49,7 +49,7 @@ reads_same {a} {b} sound h =
       failed = λ f. subst IsTrue (sym (failed_on h)) f;
     }
 
--- and where it was refused, no further than its end
+-- the same reader is handed back where it was refused, no further than its end
 pub after_same : (s : ReaderState) → IsSound s → (r : Refusal) → s.position ≤ r.position → r.position ≤ s.end → Same s (state_after s r)
 after_same s sound r forward within = record { input = refl; rules = refl; end = refl; depth = refl; marks = refl; forward = forward; within = within; failed = kept r.fails }
   where

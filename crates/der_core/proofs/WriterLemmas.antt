@@ -170,7 +170,7 @@ module _ (s q t : WriterState) (n : ℕ) (kept : Keeps (part_state s n) q) (with
   kept_behind a r (filled alive full leaves) =
       subst (Keeps s) (sym leaves) (record { start = refl; stop = refl; capacity = refl; reference = refl; before = kept.before; behind = kept.behind; fails = λ failing. failing })
 
--- so it is where a closure ran over the part
+-- the same writer is handed back where a closure ran over the part
 pub kept_round : (pre : Condition) (run : Run) (s t : WriterState) (n : ℕ) (r : Result (Unit {0}) Error) → HandsBackPart pre run s n → Runs run s n r t → Keeps s t
 kept_round pre run s t n r hands did =
     let v : SliceWriter = did.after.now in

@@ -1,5 +1,9 @@
--- What is read and refused behind a first octet, which stood at a position and was read.
+-- What is read and refused behind a first octet, which stood at a position and was read:
+-- `IdentifierBehind`, `DefiniteBehind` and `IsIndefiniteForm`; `RefusesNumber`,
+-- `RefusesIdentifier`, `RefusesLongLength` and `RefusesIndefinite`. `IsGuess`, `IsAlone`,
+-- `AreAhead` and `ToldHeadAhead` speak of what is read at once.
 use Rattle.std.specs.Prelude.{◌≡◌, ◌≢◌, ◌⊎◌, ℕ, ◌+◌, ◌%◌, ◌^◌, ◌<◌, ◌≤◌, Bool, false, Option, Some, None, List, ◌∷◌, nat_lt, if◌then◌else◌}
+use Rattle.der_base.specs.FixedOctets.{high_number, indefinite_octet}
 use Rattle.der_base.specs.Error.{Refusal}
 use Rattle.der_base.specs.Tag.{IsIdentifier, IdentifierFault, universal_tag, other_tag, is_constructed}
 use Rattle.der_base.specs.Length.{length_octets}
@@ -20,16 +24,16 @@ pub record Stops (s : ReaderState) (r : Refusal) (e : Error) (t : ReaderState) :
   pub told : e ≡ r.error
   pub leaves : t ≡ state_after s r
 
--- it is refused as by a reader that is handed back
+-- a refusal is told as by a reader that is handed back
 abbrev pub IsToldBy : (ReaderState → Error → ReaderState → Type 0) → ReaderState → Error → Type 0
 IsToldBy refuses s e = (t : ReaderState) × Same s t × refuses s e t
 
--- a tag that is known, or else that of octet 24
+-- a tag that is known, or else that of octet `0x24`
 abbrev pub tag_or_segments : Option Tag → Tag
 tag_or_segments (Some t) = t
 tag_or_segments None = OctetString
 
--- the tag that a first octet under BER says, from octet 40 on with a number
+-- the tag that a first octet under BER says, from `0x40` on with a number
 abbrev pub identifier_tag : ℕ → ℕ → Tag
 identifier_tag o n = if nat_lt o 64 then tag_or_segments (universal_tag o) else other_tag o n
 
@@ -40,9 +44,10 @@ IsGuess (Some x) = universal_tag x.0 ≡ Some x.1
 
 -- an octet that is an identifier by itself
 abbrev pub IsAlone : ℕ → Type 0
-IsAlone o = (universal_tag o ≢ None) ⊎ ((64 ≤ o) × (o < 256) × (o % 32 < 31))
+IsAlone o = (universal_tag o ≢ None) ⊎ ((64 ≤ o) × (o < 256) × (o % 32 < high_number))
 
--- such an octet and a length of one octet are the first of the rest
+-- an octet that is an identifier by itself and a length of one octet are the first of the rest, or
+-- nothing is known of it
 abbrev pub AreAhead : ReaderState → Option (ℕ × ℕ) → Type 0
 AreAhead s None = Unit {0}
 AreAhead s (Some x) =
@@ -54,11 +59,11 @@ abbrev pub ToldHeadAhead : ℕ × ℕ × Length → EncodingRules → List ℕ �
 ToldHeadAhead x =
     HeadAhead (head (identifier_tag x.0 x.1) x.2 (is_constructed x.0))
 
--- a long tag number, behind any first octet that one follows
+-- a long tag number that is refused, behind any first octet that one follows
 abbrev pub RefusesNumber : ReaderState → Error → ReaderState → Type 0
 RefusesNumber s e t =
     (at first : ℕ) → s.position ≡ at + 1 → s.failed ≡ false → 64 ≤ first → first < 256
-    → first % 32 ≡ 31
+    → first % 32 ≡ high_number
     → (r : Refusal) × IdentifierFault s.rules at (first ∷ rest_of s) r × Stops s r e t
 
 -- an identifier of a tag and a constructed bit, behind this first octet
@@ -66,7 +71,7 @@ abbrev pub IdentifierBehind : ℕ → Tag → Bool → ReaderState → ReaderSta
 IdentifierBehind first t b s u =
     (l : List ℕ) × IsIdentifier s.rules (first ∷ l) t b × Reads s u l
 
--- and its refusal there
+-- an identifier that is refused behind this first octet
 abbrev pub RefusesIdentifier : ℕ → ReaderState → Error → ReaderState → Type 0
 RefusesIdentifier first s e t =
     (at : ℕ) → s.position ≡ at + 1 → s.failed ≡ false
@@ -88,7 +93,8 @@ abbrev pub DefiniteBehind : ℕ → ℕ → ReaderState → ReaderState → Type
 DefiniteBehind first n s t =
     (l : List ℕ) × (length_octets n ≡ first ∷ l) × Reads s t l × (n < 2 ^ 32)
 
--- and its refusal there; one that is not spelled as it has to be is told as this kind
+-- a definite length that is refused behind this first octet; one that is not spelled as it has to
+-- be is told as this kind
 abbrev pub RefusesLongLength : ErrorKind → ℕ → ReaderState → Error → ReaderState → Type 0
 RefusesLongLength wrong first s e t =
     (at : ℕ) → s.position ≡ at + 1 → s.failed ≡ false
@@ -101,8 +107,9 @@ pub record IsIndefiniteForm (l : Length) (s t : ReaderState) : Type 0 where
   pub ahead : BodyAhead l s.rules (rest_of s) octets
   pub leaves : t ≡ s
 
--- and its refusal there
+-- the indefinite form that is refused behind its octet
 abbrev pub RefusesIndefinite : ReaderState → Error → ReaderState → Type 0
 RefusesIndefinite s e t =
     (wrong : ErrorKind) (at : ℕ) → s.position ≡ at + 1 → s.failed ≡ false
-    → (r : Refusal) × LengthFault BodyFault wrong s.rules at (128 ∷ rest_of s) r × Stops s r e t
+    → (r : Refusal) × LengthFault BodyFault wrong s.rules at (indefinite_octet ∷ rest_of s) r
+    × Stops s r e t

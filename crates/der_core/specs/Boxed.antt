@@ -1,4 +1,4 @@
--- Values in memory of their own.
+-- Values in memory of their own: `BoxedRead` has the rows of reading one.
 use Rattle.std.specs.Prelude.{◌≡◌, Result, Ok, Err}
 use Rattle.der_base.specs.Error.{error_of_kind}
 use Rattle.der_base.specs.declared.error.Error.{Error}

@@ -1,4 +1,6 @@
--- What decoding answers.
+-- What decoding answers: `Decodes`, `Peeks` and `Accepts` of a grammar, by `Passes` and
+-- `IsRefusedBy`; of any type the rows of `decode`, `from_der`, `from_ber` and `from_der_partial`,
+-- of `tlv_bytes`, and of `peek_matches`.
 use Rattle.std.specs.Prelude.{◌≡◌, ℕ, ◌^◌, ◌<◌, ◌≤◌, ◌⊎◌, Bool, true, false, List, length, Result, Ok, Err, IsOk, IfOk, IsErr, IfErr, IsErrAnd, IsTrue, ◌↔◌, ◌+◌}
 use Rattle.der_base.specs.Error.{error_at, error_of_kind, Refusal}
 use Rattle.der_base.specs.Length.{number, definite_length}
@@ -105,7 +107,8 @@ WholeThen converts (Ok v) t result =
     ((finish_answer t ≡ Ok tt) × (result ≡ Ok v))
     ⊎ ((e : Error) × (finish_answer t ≡ Err e) × IsErrAnd result (λ f. converts e f))
 
--- a value at the front of octets, and one of all the octets
+-- the rows of `from_der_partial`, which answers a value at the front of octets, and those of
+-- `from_der` and `from_ber`, which answer one of all the octets
 abbrev pub PartialAnswer : {A E : Type 0} → EncodingRules
     → (ReaderState → Result A E → ReaderState → Type 0)
     → (Error → E → Type 0) → List ℕ → Result (A × List ℕ) E → Type 0
@@ -120,8 +123,8 @@ WholeAnswer rules answers converts = BytesAnswer rules answers converts (WholeTh
 abbrev pub Whole : (EncodingRules → List ℕ → ℕ → Type 0) → EncodingRules → List ℕ → Type 0
 Whole Ahead rules octets = Ahead rules octets (length octets)
 
--- the octets of a whole element: its header is looked at first, which leaves the reader; header and
--- contents together are then lent, or pass every length
+-- the rows of `tlv_bytes`, the octets of a whole element: its header is looked at first, which
+-- leaves the reader; header and contents together are then lent, or pass every length
 pub data TlvAnswer (s : ReaderState) (answer : Result (List ℕ) Error) (t : ReaderState)
     : Type 0 where
   no_header : (e : Error) → Peeks HeaderAhead (HeaderFault BodyFault) true s (Err e)
@@ -130,8 +133,8 @@ pub data TlvAnswer (s : ReaderState) (answer : Result (List ℕ) Error) (t : Rea
   with_header : (h : Header) (m : ℕ) → HeaderAhead h s.rules (rest_of s) m → s.failed ≡ false
       → Gives (tlv_outcome (m + number (head_of h).length)) s answer t → TlvAnswer s answer t
 
--- a reader decodes: one that has failed refuses, and any refusal leaves it failed; a reliable one
--- owes the decoder's answer too
+-- the rows of a reader's `decode`: one that has failed refuses, and any refusal leaves it failed; a
+-- reliable one owes the decoder's answer too
 pub data ReaderDecodes {A E : Type 0} (reliable : Bool)
     (answers : ReaderState → Result A E → ReaderState → Type 0) (converts : Error → E → Type 0)
     (s : ReaderState)
@@ -145,7 +148,8 @@ pub data ReaderDecodes {A E : Type 0} (reliable : Bool)
       → (reliable ≡ true → answers s result u)
       → t ≡ stopped_state u u.position → ReaderDecodes reliable answers converts s result t
 
--- whether the tag ahead has this class and number: none is ahead of a finished reader
+-- the rows of `peek_matches`: whether the tag ahead has this class and number; none is ahead of a
+-- finished reader
 pub data MatchAnswer (class number : ℕ) (s : ReaderState) (answer : Result Bool Error)
     : Type 0 where
   finished : s.position ≡ s.end → answer ≡ Ok false → MatchAnswer class number s answer

@@ -1,4 +1,5 @@
--- What decoding of contents answers.
+-- What decoding of contents answers (`TakesContents`, `EndsOrLacks`), by a reader that stands in
+-- them (`StandsIn`, `ContentsAhead`) and by one at their end (`IsAtEnd`).
 use Rattle.std.specs.Prelude.{◌≡◌, ℕ, ◌≤◌, ◌⊎◌, Bool, true, false, List, length, Result, IfOk, IsOk, IsErrAnd}
 use Rattle.der_base.specs.Length.{number}
 use Rattle.der_base.specs.HeaderGrammar.{Head}

@@ -1,4 +1,5 @@
--- What comparisons of values by their encodings answer (X.690 11.6).
+-- What comparisons of values by their encodings answer (X.690 11.6): `element_order` has the rows
+-- of `der_cmp` of elements; `IsOrderly` and `OrdersContents` are what makes them byte order.
 use Rattle.std.specs.Prelude.{◌≡◌, ◌≢◌, ℕ, ◌-◌, List, ◌++◌, length, replicate, Result, Ok, Err}
 use Rattle.std.specs.declared.cmp.Ordering.{Ordering}
 use Rattle.std.specs.declared.cmp.Ordering.TheVariants.{Less, Equal, Greater}
@@ -38,7 +39,7 @@ element_order t u (Err e) n contents = Err e
 abbrev pub AreOrderly : Tag → Tag → List ℕ → List ℕ → Compared → Type 0
 AreOrderly t u c d answer = t ≡ u → length c ≡ length d → answer ≡ Ok (byte_order c d)
 
--- and so are those of any two values of a type
+-- the contents of any two values of a type are compared in byte order so
 abbrev pub IsOrderly : {A : Type 0} → (A → Tag) → (A → List ℕ) → (A → A → Compared) → Type 0
 IsOrderly {A} tag_of contents order =
     (v w : A) → AreOrderly (tag_of v) (tag_of w) (contents v) (contents w) (order v w)

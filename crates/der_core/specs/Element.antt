@@ -1,8 +1,10 @@
--- Elements: a header, contents, and the end mark of an indefinite length (X.690 8.1.1).
-use Rattle.std.specs.Prelude.{◌≡◌, ◌≢◌, ℕ, ◌+◌, Bool, true, false, List, [], ◌∷◌, ◌++◌, length, drop, Result, Err}
+-- Elements (X.690 8.1.1): a header, contents, and the end mark of an indefinite length
+-- (`ElementAhead`); what reading one answers (`ElementRead`, and by a closure `ElementReadBy`).
+use Rattle.std.specs.Prelude.{◌≡◌, ◌≢◌, ℕ, ◌+◌, Bool, true, false, List, [], ◌++◌, length, drop, Result, Err}
 use Rattle.der_base.specs.Arithmetic.{sans_eoc}
 use Rattle.der_base.specs.ScanGrammar.{BodyFault}
 use Rattle.der_base.specs.Error.{unexpected_tag}
+use Rattle.der_base.specs.FixedOctets.{end_of_contents}
 use Rattle.der_base.specs.Length.{number, is_indefinite}
 use Rattle.der_base.specs.HeaderGrammar.{Head, head, HeadAhead, HeaderFault}
 use Rattle.der_base.specs.declared.tag.Tag.{Tag}
@@ -18,10 +20,10 @@ use Rattle.der_core.specs.declared.header.Header.{Header}
 abbrev pub head_sans_eoc : Head → Head
 head_sans_eoc h = head h.tag (sans_eoc h.length) h.constructed
 
--- two zero octets close contents of an indefinite length (8.1.5), nothing those of a definite one
+-- the end mark closes contents of an indefinite length (8.1.5), nothing those of a definite one
 abbrev pub IsEndMark : Bool → List ℕ → Type 0
 IsEndMark false octets = octets ≡ []
-IsEndMark true octets = octets ≡ 0 ∷ 0 ∷ []
+IsEndMark true octets = octets ≡ end_of_contents
 
 -- the first m octets of a list are an element with this tag, whose contents are taken as the value
 pub record ElementAhead {A : Type 0} (tag : Tag)
@@ -60,7 +62,7 @@ pub data ElementReadBy {P Q T E : Type 0} (tag : Tag) (converts : Error → E �
       (sans_eoc (head_of h).length) u result t
       → ElementReadBy tag converts post before after s result t
 
--- the same where the contents are read as a value, by what its type answers
+-- an element is read: its header, its tag, and its contents as a value, by what its type answers
 abbrev pub ElementRead : {T E : Type 0} → Tag → (Error → E → Type 0)
     → (Head → ReaderState → Result T E → ReaderState → Type 0)
     → ReaderState → Result T E → ReaderState → Type 0

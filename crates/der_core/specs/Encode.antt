@@ -1,4 +1,6 @@
--- What is written, in which pieces, and what encoding answers.
+-- What is written, in which pieces (`tag_outcome`, `length_outcome`, `header_outcome`), and what
+-- encoding answers: `ElementWritten` has the rows of an element, `SliceAnswer` and `VecAnswer`
+-- those of `encode_to_slice`, and of `encode_to_vec` and `to_der`.
 use Rattle.std.specs.Prelude.{◌≡◌, ℕ, ◌+◌, ◌^◌, ◌<◌, ◌≤◌, ◌||◌, true, false, List, [], ◌∷◌, ◌++◌, length, map, Option, Some, None, ◌⊎◌, Result, Ok, Err, take, OnOk, IfOk, IsOk, IsErrAnd, if◌then◌else◌}
 use Rattle.std.specs.Int.Digits.{digits_of}
 use Rattle.der_base.specs.Length.{number, is_indefinite, definite_length, length_octets}
@@ -59,13 +61,15 @@ first_and_others [] = []
 first_and_others (o ∷ []) = (o ∷ []) ∷ []
 first_and_others (o ∷ p ∷ more) = (o ∷ []) ∷ (p ∷ more) ∷ []
 
+-- the writes of a tag, octet by octet
 abbrev pub tag_outcome : Tag → WriterState → WriterOutcome
 tag_outcome t = write_pieces (single_octets (tag_octets t))
 
+-- the writes of a length: its first octet, and then all others
 abbrev pub length_outcome : ℕ → WriterState → WriterOutcome
 length_outcome n = write_pieces (first_and_others (length_octets n))
 
--- the tag, and then the length
+-- the writes of a header: those of the tag, and then those of the length
 abbrev pub header_outcome : Tag → ℕ → WriterState → WriterOutcome
 header_outcome t n s = chained_write (tag_outcome t s).answer (tag_outcome t s).after
     (length_outcome n)

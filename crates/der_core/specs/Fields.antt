@@ -1,4 +1,6 @@
 -- Fields: elements that stand one behind the other, as in the contents of a SEQUENCE (X.690 8.9).
+-- `FieldsAhead` is a pair of them, `FieldsRead` and `FieldsWritten` have the rows of reading and
+-- writing one, and `TakesWhole` makes contents of it.
 use Rattle.std.specs.Prelude.{◌≡◌, ℕ, ◌+◌, List, drop, max, Result, Ok, Err}
 use Rattle.der_base.specs.Arithmetic.{checked_length}
 use Rattle.der_base.specs.HeaderGrammar.{Head}

@@ -1,10 +1,11 @@
--- What a header says.
+-- What a header says (`head_of`), and that one stands ahead (`HeaderAhead`).
 use Rattle.der_base.specs.Arithmetic.{sans_eoc}
 use Rattle.std.specs.Prelude.{ℕ, List}
 use Rattle.der_base.specs.HeaderGrammar.{Head, HeadAhead}
 use Rattle.der_base.specs.declared.encoding_rules.EncodingRules.{EncodingRules}
 use Rattle.der_core.specs.declared.header.Header.{Header}
 
+-- the tag, the length and the constructed bit of a header
 abbrev pub head_of : Header → Head
 head_of h = record { tag = h.tag; length = h.length; constructed = h.constructed }
 

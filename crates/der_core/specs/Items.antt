@@ -1,4 +1,6 @@
--- Comparisons of items, place by place.
+-- Comparisons of items, place by place: `lists_order` has the rows of `iter_cmp` over what two
+-- iterators give (`ComparesItems`, `OfItems`); `ComparesJoined` and `SortsJoined` make them byte
+-- order.
 use Rattle.std.specs.Prelude.{◌≡◌, ◌≢◌, ℕ, List, [], ◌∷◌, Option, Some, None, Ok, Err, IfOk}
 use Rattle.std.specs.Iterator.{YieldsThen, AlwaysYields}
 use Rattle.std.specs.List.{AllZip, flat_map}
@@ -66,7 +68,8 @@ abbrev pub ComparesJoined : {A : Type 0} → (A → A → Type 0) → (A → Lis
 ComparesJoined stands octets answer xs ys =
     EachPlace stands xs ys → answer ≡ Ok (byte_order (flat_map octets xs) (flat_map octets ys))
 
--- the same of an answer, if there is one
+-- where the items at each place stand so, an answer is the byte order of all octets joined, if
+-- there is one
 abbrev pub SortsJoined : {A : Type 0} → (A → A → Type 0) → (A → List ℕ) → Compared
     → List A → List A → Type 0
 SortsJoined stands octets answer xs ys =

@@ -1,4 +1,6 @@
--- What it means that exactly the encodings of values are read.
+-- What it means that exactly the encodings of values are read: `IsLawful` is what the author of a
+-- type proves; of its elements `ReadsEncodings`, `ReadsWholeEncodings`, `PassesEncodings` and
+-- `ReadsWritten` follow, and of tags, lengths and headers `ReadsExactly`.
 use Rattle.std.specs.Prelude.{◌≡◌, ◌↔◌, ℕ, ◌^◌, ◌<◌, ◌≤◌, List, ◌++◌, length}
 use Rattle.der_base.specs.Length.{number, definite_length}
 use Rattle.der_base.specs.Tag.{label}
@@ -56,7 +58,7 @@ pub record ReadsEncodings {A : Type 0} (Ahead : A → EncodingRules → List ℕ
   pub every : (octets : List ℕ) (v : A) (m : ℕ) → length octets < 2 ^ 32
       → EncodingAhead valid encoding v octets m → Ahead v Der octets m
 
--- so under DER they are wholly a value only where they are its encoding, and wherever they are
+-- under DER octets are wholly a value only where they are its encoding, and wherever they are
 pub record ReadsWholeEncodings {A : Type 0} (Ahead : A → EncodingRules → List ℕ → ℕ → Type 0)
     (valid : A → Type 0) (encoding : A → List ℕ) : Type 0 where
   pub only : (octets : List ℕ) (v : A) → Whole (Ahead v) Der octets
@@ -64,15 +66,33 @@ pub record ReadsWholeEncodings {A : Type 0} (Ahead : A → EncodingRules → Lis
   pub every : (octets : List ℕ) (v : A) → length octets < 2 ^ 32 → valid v
       → octets ≡ encoding v → Whole (Ahead v) Der octets
 
--- and a DER reader that has passed a value has passed its encoding, and nothing else
+-- a DER reader that has passed a value has passed its encoding, and nothing else
 abbrev pub PassesEncodings : {A : Type 0} → (A → EncodingRules → List ℕ → ℕ → Type 0)
     → (A → Type 0) → (A → List ℕ) → Type 0
 PassesEncodings {A} Ahead valid encoding =
     (s t : ReaderState) (v : A) → s.rules ≡ Der → Passes (Ahead v) s t
     → valid v × Reads s t (encoding v)
 
--- and what was written is read, whatever follows: the value stands there, and each that stands
--- there has the same contents
+-- under DER what was written is read, whatever follows: the value that it was written for stands
+-- there, and no other
+pub record ReadsBack {A : Type 0} (Ahead : A → EncodingRules → List ℕ → ℕ → Type 0)
+    (valid : A → Type 0) (encoding : A → List ℕ) : Type 0 where
+  pub ahead : (v : A) (more : List ℕ) → valid v → length (encoding v ++ more) < 2 ^ 32
+      → Ahead v Der (encoding v ++ more) (length (encoding v))
+  pub alone : (v w : A) (more : List ℕ) (m : ℕ) → valid v → Ahead w Der (encoding v ++ more) m
+      → (w ≡ v) × (m ≡ length (encoding v))
+
+-- under DER values are read of exactly their encodings: at the front of octets, of all of them, by
+-- a reader, and of what was written
+pub record ReadsExactly {A : Type 0} (Ahead : A → EncodingRules → List ℕ → ℕ → Type 0)
+    (valid : A → Type 0) (encoding : A → List ℕ) : Type 0 where
+  pub front : ReadsEncodings Ahead valid encoding
+  pub whole : ReadsWholeEncodings Ahead valid encoding
+  pub passed : PassesEncodings Ahead valid encoding
+  pub written : ReadsBack Ahead valid encoding
+
+-- under DER an element that was written is read, whatever follows: its value stands there, and each
+-- that stands there has the same contents
 pub record ReadsWritten {A : Type 0} (tag : Tag)
     (takes : A → EncodingRules → Head → List ℕ → Type 0) (valid : A → Type 0)
     (contents : A → List ℕ) : Type 0 where

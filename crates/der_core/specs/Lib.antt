@@ -23,6 +23,7 @@ pub mod Fields
 pub mod DerOrd
 pub mod Items
 pub use Rattle.der_base.specs.Order
+pub use Rattle.der_base.specs.FixedOctets
 pub use Rattle.der_base.specs.Length
 pub use Rattle.der_base.specs.Class
 pub use Rattle.der_base.specs.Tag

@@ -1,4 +1,6 @@
--- Reading a part by a closure.
+-- Reading a part by a closure: when one may be entered and left (`CanNest`, `CanLeave`), what the
+-- closure owes (`HandsBack`), and the rows of `close_nested` (`Closes`), `close_value`
+-- (`ClosesValue`), `read_nested` (`NestedAnswer`) and `read_value` (`ValueAnswer`).
 use Rattle.std.specs.Prelude.{◌≡◌, ℕ, ◌+◌, ◌-◌, ◌<◌, ◌≤◌, Bool, true, false, length, Result, Ok, Err}
 use Rattle.der_base.specs.Error.{error_at}
 use Rattle.der_base.specs.Length.{number, is_indefinite, definite_length}

@@ -1,10 +1,12 @@
--- What a call on a reader answers and leaves: a table, whose cases are the rows of that call in the
--- order of their refusals.
+-- What a call on a reader answers and leaves (`Outcome`): a table, whose cases are the rows of that
+-- call in the order of their refusals. A call gives what its table says (`Gives`), or owes it
+-- (`Meets`, `IsBinding`); where the reader stays, it owes the answer (`AnswersAs`, `PeeksAs`).
 use Rattle.std.specs.Prelude.{◌≡◌, Bool, true, Option, Some, None, Result, Ok, Err, IsErr}
 use Rattle.der_base.specs.Error.{Refusal}
 use Rattle.der_base.specs.declared.error.Error.{Error}
 use Rattle.der_core.specs.ReaderState.{ReaderState, state_after}
 
+-- what a call answers, and how it leaves the reader
 pub record Outcome (A : Type 0) : Type 0 where
   pub answer : Result A Error
   pub after : ReaderState
@@ -29,7 +31,8 @@ abbrev pub Meets : {A : Type 0}
 Meets reliable table s (Ok a) t = Gives table s (Ok a) t
 Meets reliable table s (Err e) t = reliable ≡ true → Gives table s (Err e) t
 
--- the same of the answer alone, where the reader stays as it is
+-- where the reader stays as it is, a table is owed for its answer alone: by a reader that answers
+-- Ok, and by a reliable one always
 abbrev pub AnswersAs : {A : Type 0} → Bool → (ReaderState → Outcome A) → ReaderState
     → Result A Error → Type 0
 AnswersAs reliable table s (Ok a) = Ok a ≡ (table s).answer
@@ -54,7 +57,8 @@ abbrev pub map_ok : {A B F : Type 0} → (A → B) → Result A F → Result B F
 map_ok f (Ok a) = Ok (f a)
 map_ok f (Err e) = Err e
 
--- whether there is an answer, without its error
+-- where an error is not told, the answer of a table is owed if there is one, and by a reliable
+-- reader that there is none
 abbrev pub PeeksAs : {A : Type 0} → Bool → Result A Error → Option A → Type 0
 PeeksAs reliable answer (Some a) = answer ≡ Ok a
 PeeksAs reliable answer None = reliable ≡ true → IsErr answer

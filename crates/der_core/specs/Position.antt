@@ -1,4 +1,5 @@
--- What a `Position` means, and the tables of its calls.
+-- What a `Position` means (`position_place`), and the tables of its calls, by which it moves
+-- (`Moves`).
 use Rattle.std.specs.Prelude.{◌≡◌, ℕ, ◌+◌, ◌^◌, Result, Ok, Err, if◌then◌else◌, nat_lt, not}
 use Rattle.der_base.specs.Length.{definite_length}
 use Rattle.der_base.specs.Error.{error_at, error_of_kind, end_refusal}

@@ -1,4 +1,5 @@
--- The tables of a reader's calls.
+-- The tables of a reader's calls, each named after its call: `read_slice_outcome` and so on.
+-- `VecMeets` has the rows of `read_vec_in`, which `VecRefused` refuses.
 use Rattle.std.specs.Prelude.{◌≡◌, ℕ, zero, suc, ◌+◌, ◌-◌, ◌*◌, ◌/◌, ◌^◌, ◌⊎◌, Bool, true, List, [], ◌∷◌, take, min, Result, Ok, Err, IsOk, if◌then◌else◌, nat_lt, nat_le, ◌==◌, ◌&&◌, not}
 use Rattle.der_base.specs.Length.{number, is_indefinite, definite_length}
 use Rattle.der_base.specs.Error.{error_at, error_of_kind, missing_refusal, end_refusal}
@@ -81,7 +82,8 @@ VecRefused n s e t =
     Gives (read_slice_outcome n) s (Err e) t
     ⊎ ((e ≡ error_of_kind OutOfMemory) × (t ≡ s) × IsOk (read_slice_outcome n s).answer)
 
--- they are answered as they are lent; a reliable reader refuses them only so
+-- octets in memory of their own are answered as they are lent; a reliable reader refuses them only
+-- so
 abbrev pub VecMeets : Bool → ℕ → ReaderState → Result (List ℕ) Error → ReaderState → Type 0
 VecMeets reliable n s (Ok octets) t = Gives (read_slice_outcome n) s (Ok octets) t
 VecMeets reliable n s (Err e) t = reliable ≡ true → VecRefused n s e t
@@ -102,7 +104,7 @@ end_mark_outcome s (suc o ∷ more) = kind_outcome (Unit {0}) IndefiniteLength (
 abbrev pub read_eoc_outcome : ReaderState → Outcome (Unit {0})
 read_eoc_outcome s = outcome_unless_failed s (end_mark_outcome s (rest_of s))
 
--- one octet of it, which was read
+-- one octet of an end mark, which was read
 abbrev pub zero_octet_outcome : ℕ → ReaderState → Outcome (Unit {0})
 zero_octet_outcome o s =
     if o == 0 then outcome_of (Ok tt) s

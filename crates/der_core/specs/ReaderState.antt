@@ -1,10 +1,12 @@
--- What a reader means.
+-- What a reader means (`ReaderState`), which states it may have (`IsSound`), and how a call may
+-- leave it (`Same`, `Reads`).
 use Rattle.std.specs.Prelude.{◌≡◌, ℕ, ◌+◌, ◌-◌, ◌^◌, ◌<◌, ◌≤◌, Bool, true, false, IsTrue, List, ◌++◌, length, take, drop, if◌then◌else◌}
 use Rattle.der_base.specs.Length.{definite_length}
 use Rattle.der_base.specs.Error.{Refusal}
 use Rattle.der_base.specs.declared.length.Length.{Length}
 use Rattle.der_base.specs.declared.encoding_rules.EncodingRules.{EncodingRules}
 
+-- an input, the rules that it is read by, how far it was read and may be, and whether that failed
 pub record ReaderState : Type 0 where
   pub input : List ℕ
   pub rules : EncodingRules

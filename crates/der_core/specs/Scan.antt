@@ -1,4 +1,5 @@
--- What a scan of an indefinite length answers, and how many turns it takes.
+-- What a scan of an indefinite length answers (`Scans`, `ScansAhead`), and how many turns it takes
+-- (`IsTurned`).
 use Rattle.std.specs.Prelude.{◌≡◌, ℕ, ◌+◌, ◌/◌, ◌≤◌, Bool, List, length, Result, Ok, Err}
 use Rattle.der_base.specs.ScanGrammar.{BodyAhead, BodyFault, PartsAhead}
 use Rattle.der_base.specs.declared.length.Length.{Length}
@@ -10,7 +11,7 @@ use Rattle.der_core.specs.Decode.{Decodes, Peeks}
 abbrev pub Scans : Bool → ReaderState → Result Length Error → ReaderState → Type 0
 Scans = Decodes BodyAhead (λ rules. BodyFault)
 
--- the same ahead of a reader, which stays
+-- a body ahead of a reader, which stays, is counted, or its fault is told
 abbrev pub ScansAhead : Bool → ReaderState → Result Length Error → Type 0
 ScansAhead = Peeks BodyAhead (λ rules. BodyFault)
 

@@ -1,5 +1,6 @@
--- What one turn of a scan reads.
+-- What one turn of a scan reads (`PartRead`), and where it is refused (`RefusesPart`).
 use Rattle.std.specs.Prelude.{◌≡◌, ℕ, ◌<◌, true, false, List, [], ◌∷◌, ◌++◌}
+use Rattle.der_base.specs.FixedOctets.{indefinite_octet, end_of_contents}
 use Rattle.der_base.specs.Tag.{IsIdentifier}
 use Rattle.der_base.specs.Body.{Item}
 use Rattle.der_base.specs.ScanGrammar.{ScanFault}
@@ -12,12 +13,12 @@ use Rattle.der_core.specs.declared.length.indefinite.Part.{Part}
 use Rattle.der_core.specs.declared.length.indefinite.Part.TheVariants.{Ends, Passes, Opens}
 
 -- the octets of a part, with so many levels open: an end mark, an item of a definite length, or an
--- identifier and octet 80, where one more level may be open
+-- identifier and octet `0x80`, where one more level may be open
 abbrev pub PartOctets : ℕ → Part → List ℕ → Type 0
-PartOctets level Ends octets = octets ≡ 0 ∷ 0 ∷ []
+PartOctets level Ends octets = octets ≡ end_of_contents
 PartOctets level Passes octets = Item level 1 octets
 PartOctets level Opens octets =
-    (id : List ℕ) × (t : Tag) × IsIdentifier Ber id t true × (octets ≡ id ++ 128 ∷ [])
+    (id : List ℕ) × (t : Tag) × IsIdentifier Ber id t true × (octets ≡ id ++ indefinite_octet ∷ [])
     × (level < 64)
 
 -- a part was read

@@ -17,5 +17,6 @@ walked_state octets start index =
       marks = true;
     }
 
+-- what a walk means
 abbrev pub walk_state : Walk → ReaderState
 walk_state w = walked_state w.octets.now w.start w.index

@@ -1,4 +1,5 @@
--- What a writer means, and what a write answers and leaves.
+-- What a writer means (`WriterState`), what a write answers and leaves (`room_outcome` is the one
+-- table of what is refused), and how a call may leave the writer (`Keeps`, `Appends`, `Fits`).
 use Rattle.std.specs.Prelude.{◌≡◌, ℕ, ◌+◌, ◌-◌, ◌^◌, Bool, true, false, List, [], ◌∷◌, ◌++◌, length, take, drop, Result, Ok, Err, OnOk, IsOk, ◌≤◌, min, nat_lt, if◌then◌else◌}
 use Rattle.der_base.specs.Length.{definite_length}
 use Rattle.der_base.specs.Error.{error_at}
@@ -98,7 +99,7 @@ room_outcome n s granted =
     else success_outcome granted)
     else refusal_outcome (error_at Overflow (writer_position s)) (failed_state s)
 
--- n octets more are granted
+-- n octets more are granted, which `has_room` says where it answers true
 abbrev pub HasRoom : WriterState → ℕ → Type 0
 HasRoom s n = (room_outcome n s s).answer ≡ Ok tt
 

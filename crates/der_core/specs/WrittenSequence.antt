@@ -1,5 +1,6 @@
 -- A SEQUENCE (X.690 8.9) that is written by a closure: its header, and a part of the buffer for its
--- contents.
+-- contents. `HandsBackPart` is what the closure owes, and `SequenceAnswer` has the rows of the
+-- call.
 use Rattle.std.specs.Prelude.{◌≡◌, ℕ, ◌+◌, ◌<◌, ◌≤◌, true, false, length, take, ◌++◌, Result, Ok, Err, OnOk}
 use Rattle.std.specs.Borrow.{MutBor}
 use Rattle.der_base.specs.Length.{definite_length}

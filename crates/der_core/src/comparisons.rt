@@ -49,7 +49,8 @@ fn encodings_are_compared<T: Orderly>(value: &T, other: &T) -> Result<Ordering, 
     value.der_cmp(other)
 }
 
-/// Likewise of many values: they stand as their encodings do, joined.
+/// Many values of an orderly type stand as all their encodings do in byte order, one behind the
+/// other, where each header can be computed, and wherever there is an answer.
 fn joined_encodings_are_compared<T: Orderly>(these: &[T], those: &[T]) -> Result<Ordering, Error>
     ensures ok { IfOk result (λ o. o ≡ byte_order (joined_elements T.tag_of T.contents these.now)
         (joined_elements T.tag_of T.contents those.now)) }

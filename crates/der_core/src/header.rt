@@ -96,8 +96,7 @@ impl Header {
 ///
 /// # Errors
 ///
-/// `Failed`, `Overflow`, `Incomplete`, `TagUnknown`, `TagNumberInvalid`, `IndefiniteLength` and
-/// `Length`, as by [`Header::decode`].
+/// As by [`Header::decode`].
 #[inline(always)]
 pub fn decode_header<R: Reader>(reader: &mut R) -> Result<Header, Error>
     ensures { Decodes HeaderAhead (HeaderFault BodyFault) R.reliable (R.state reader.old) result
@@ -107,8 +106,8 @@ pub fn decode_header<R: Reader>(reader: &mut R) -> Result<Header, Error>
     Ok(told_header(first, number, length, None))
 }
 
-// The same with a guess at the tag, and in pieces always: where a value is decoded by it, all of
-// that stays small enough to be part of its caller.
+// Decodes a header with a guess at its tag, and in pieces always: where a value is decoded by it,
+// all of that stays small enough to be part of its caller.
 #[inline(always)]
 pub(crate) fn decode_guessed_header<R: Reader>(
     reader: &mut R,
@@ -137,7 +136,8 @@ fn told_header(first: u8, number: u32, length: Length, guess: Option<(u8, Tag)>)
 }
 
 // Decodes a header, and tells the first octet of its identifier, and its number where that octet is
-// 40 or more. An identifier and a length of one octet each are read at once where they are lent.
+// `0x40` or more. An identifier and a length of one octet each are read at once where they are
+// lent.
 #[inline(always)]
 fn decode_parts<R: Reader>(reader: &mut R) -> Result<(u8, u32, Length), Error>
     ensures { Decodes ToldHeadAhead (HeaderFault BodyFault) R.reliable (R.state reader.old)
@@ -150,7 +150,7 @@ fn decode_parts<R: Reader>(reader: &mut R) -> Result<(u8, u32, Length), Error>
     decode_in_pieces(reader)
 }
 
-// The same octet by octet.
+// Decodes a header octet by octet, and tells its parts so.
 #[inline(always)]
 fn decode_in_pieces<R: Reader>(reader: &mut R) -> Result<(u8, u32, Length), Error>
     ensures { Decodes ToldHeadAhead (HeaderFault BodyFault) R.reliable (R.state reader.old)
@@ -195,10 +195,10 @@ impl<R: Reader> Decode<R> for Header {
 
     ghost decode_answers = { Decodes HeaderAhead (HeaderFault BodyFault) true };
 
-    /// Decodes a header (X.690 8.1.2, 8.1.3, 10.1). Under the Basic Encoding Rules octet 24 is an
-    /// identifier too, and octet 80 a length behind a constructed one: it counts the octets of the
-    /// body ahead, with the end mark that closes it, and the reader stays behind octet 80 (X.690
-    /// 8.1.3.6).
+    /// Decodes a header (X.690 8.1.2, 8.1.3, 10.1). Under the Basic Encoding Rules octet `0x24` is
+    /// an identifier too, and octet `0x80` a length behind a constructed one: it counts the octets
+    /// of the body ahead, with the end mark that closes it, and the reader stays behind octet
+    /// `0x80` (X.690 8.1.3.6).
     ///
     /// # Errors
     ///
@@ -210,14 +210,14 @@ impl<R: Reader> Decode<R> for Header {
     ///   reader stands there and has not failed.
     /// - `Incomplete` at the end, where an octet is missing at any other position.
     /// - `TagUnknown` with the octet, behind a first octet that begins no tag.
-    /// - `TagNumberInvalid` behind octet 1F where it is the first, or behind an octet with which no
-    ///   tag number goes on (X.690 8.1.2.4).
-    /// - `IndefiniteLength` behind an octet 80 where the length begins, under the Distinguished
+    /// - `TagNumberInvalid` behind octet `0x1F` where it is the first, or behind an octet with
+    ///   which no tag number goes on (X.690 8.1.2.4).
+    /// - `IndefiniteLength` behind an octet `0x80` where the length begins, under the Distinguished
     ///   Encoding Rules; under the Basic Encoding Rules where the identifier is primitive and a
     ///   body stands ahead.
-    /// - Those of the scan behind octet 80, as by
+    /// - `NestingDepth` and the others of the scan behind octet `0x80`, as by
     ///   [`decode_indefinite_length`](crate::decode_indefinite_length), under the Basic Encoding
-    ///   Rules; the reader stands behind octet 80 and has not failed.
+    ///   Rules; the reader stands behind octet `0x80` and has not failed.
     /// - `Length` with the tag, behind the length's octets where fewer would do, or behind the
     ///   first of them where it announces more than four.
     #[inline(always)]
@@ -234,9 +234,7 @@ impl Header {
     ///
     /// # Errors
     ///
-    /// `Failed`, `Overflow`, `Incomplete`, `TagUnknown`, `TagNumberInvalid`, `IndefiniteLength` and
-    /// `Length`, where and with the positions that [`Header::decode`] says; the reader is
-    /// unchanged.
+    /// As by [`Header::decode`], with the same positions; the reader is unchanged.
     pub fn peek<R: Reader>(reader: &R) -> Result<Self, Error>
         ensures { Peeks HeaderAhead (HeaderFault BodyFault) R.reliable (R.state reader.now)
             result }

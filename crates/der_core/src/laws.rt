@@ -11,7 +11,7 @@ ghost use Rattle.der_core.specs.Element.{ElementAhead};
 ghost use Rattle.der_core.specs.DerOrd.{NoElementBeginsAnother, PaddingNeverDecides};
 ghost use Rattle.der_core.specs.Encode.{element_octets};
 ghost use Rattle.der_core.specs.Header.{head_of, HeaderAhead};
-ghost use Rattle.der_core.specs.Lawful.{IsDefinite, IsDefiniteHeader, PassesEncodings, ReadsEncodings, ReadsWholeEncodings, ReadsWritten};
+ghost use Rattle.der_core.specs.Lawful.{IsDefinite, IsDefiniteHeader, PassesEncodings, ReadsEncodings, ReadsExactly, ReadsWholeEncodings, ReadsWritten};
 
 use crate::decode::Lawful;
 use std::marker::PhantomData;
@@ -25,14 +25,16 @@ fn what_stands_ahead_is_read()
     ensures headers { Accepts HeaderAhead (HeaderFault BodyFault) }
 {}
 
-/// Under DER tags, lengths and headers stand at the front of octets exactly where their encodings
-/// do; nothing is encoded as no octets.
+/// Under DER tags, lengths, headers, and `PhantomData`, whose encoding is no octets, are read of
+/// exactly their encodings: they stand at the front of octets where those do; octets are wholly one
+/// of them where they are its encoding; a reader that has passed one has passed the encoding; and
+/// what is written is read as itself, whatever follows. Tag numbers and lengths have 32 bits.
 fn grammars_read_encodings<T>()
-    ensures tags { ReadsEncodings TagAhead (λ t. (label t).number < 2 ^ 32) tag_octets }
-    ensures lengths { ReadsEncodings LengthAhead IsDefinite (λ l. length_octets (number l)) }
-    ensures headers { ReadsEncodings HeaderAhead IsDefiniteHeader
+    ensures tags { ReadsExactly TagAhead (λ t. (label t).number < 2 ^ 32) tag_octets }
+    ensures lengths { ReadsExactly LengthAhead IsDefinite (λ l. length_octets (number l)) }
+    ensures headers { ReadsExactly HeaderAhead IsDefiniteHeader
         (λ h. header_octets (head_of h).tag (number (head_of h).length)) }
-    ensures nothing { ReadsEncodings (λ (v : PhantomData T) _ _ m. m ≡ 0) (λ _. Unit {0})
+    ensures nothing { ReadsExactly (λ (v : PhantomData T) _ _ m. m ≡ 0) (λ _. Unit {0})
         (λ _. []) }
 {}
 

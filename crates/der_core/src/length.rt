@@ -33,8 +33,7 @@ pub(crate) const INDEFINITE: u8 = 0x80;
 ///
 /// # Errors
 ///
-/// `Failed`, `Overflow`, `Incomplete`, `IndefiniteLength` and `Overlength`, as by
-/// [`Length::decode`].
+/// As by [`Length::decode`].
 #[inline(always)]
 pub fn decode_length<R: Reader>(reader: &mut R) -> Result<Length, Error>
     ensures { Decodes LengthAhead (LengthFault BodyFault Overlength) R.reliable
@@ -43,8 +42,8 @@ pub fn decode_length<R: Reader>(reader: &mut R) -> Result<Length, Error>
     decode_length_behind(reader, None)
 }
 
-// The same behind an identifier of this first octet and number, with whose tag a length is told
-// that is not spelled as it has to be.
+// Decodes a length behind an identifier of this first octet and number, with whose tag a length is
+// told that is not spelled as it has to be.
 #[inline(always)]
 pub(crate) fn decode_length_behind<R: Reader>(
     reader: &mut R,
@@ -64,7 +63,7 @@ pub(crate) fn decode_length_behind<R: Reader>(
     Ok(Length::new(number))
 }
 
-// The length behind octet 80: under the Basic Encoding Rules it counts the body ahead, which is
+// The length behind octet `0x80`: under the Basic Encoding Rules it counts the body ahead, which is
 // not passed (X.690 8.1.3.6).
 #[inline(always)]
 fn decode_indefinite_form<R: Reader>(reader: &mut R) -> Result<Length, Error>
@@ -83,7 +82,7 @@ fn decode_indefinite_form<R: Reader>(reader: &mut R) -> Result<Length, Error>
     }
 }
 
-// The rest of a length behind a first octet from 81 on: so many octets in base 256, the fewest
+// The rest of a length behind a first octet from `0x81` on: so many octets in base 256, the fewest
 // possible.
 #[inline(always)]
 pub(crate) fn decode_long_length<R: Reader>(
@@ -149,9 +148,9 @@ impl<R: Reader> Decode<R> for Length {
 
     ghost decode_answers = { Decodes LengthAhead (LengthFault BodyFault Overlength) true };
 
-    /// Decodes a length (X.690 8.1.3, 10.1). Under the Basic Encoding Rules octet 80 is one too: it
-    /// counts the octets of the body ahead, with the end mark that closes it, and the reader stays
-    /// behind octet 80 (X.690 8.1.3.6).
+    /// Decodes a length (X.690 8.1.3, 10.1). Under the Basic Encoding Rules octet `0x80` is one
+    /// too: it counts the octets of the body ahead, with the end mark that closes it, and the
+    /// reader stays behind octet `0x80` (X.690 8.1.3.6).
     ///
     /// # Errors
     ///
@@ -162,10 +161,11 @@ impl<R: Reader> Decode<R> for Length {
     /// - `Overflow` without a position, where an octet is missing at position 4294967295; the
     ///   reader stands there and has not failed.
     /// - `Incomplete` at the end, where an octet is missing at any other position.
-    /// - `IndefiniteLength` behind octet 80 where it is the first, under the Distinguished Encoding
-    ///   Rules.
-    /// - Those of the scan behind octet 80, as by [`decode_indefinite_length`], under the Basic
-    ///   Encoding Rules; the reader stands behind octet 80 and has not failed.
+    /// - `IndefiniteLength` behind octet `0x80` where it is the first, under the Distinguished
+    ///   Encoding Rules.
+    /// - `TagUnknown`, `TagNumberInvalid`, `Length`, `NestingDepth` and the others of the scan
+    ///   behind octet `0x80`, as by [`decode_indefinite_length`], under the Basic Encoding Rules;
+    ///   the reader stands behind octet `0x80` and has not failed.
     /// - `Overlength` behind the length's octets where fewer would do, or behind the first of them
     ///   where it announces more than four.
     #[inline(always)]

@@ -70,7 +70,7 @@ pub trait Reader: Sized + Drop {
     /// Whether the reader can lend octets at all.
     const CAN_READ_SLICE: bool;
 
-    /// The same as a function, which generic code calls.
+    /// Whether the reader can lend, as a function, which generic code calls.
     fn can_lend() -> bool
         ensures { result ≡ lends };
 
@@ -168,11 +168,11 @@ pub trait Reader: Sized + Drop {
             (map_ok (λ v. v.items) result)
             (state self.new) };
 
-    /// The same in memory of the global allocator.
+    /// The next `len` octets in memory of the global allocator.
     ///
     /// # Errors
     ///
-    /// `Failed`, `Incomplete`, `Overflow` and `OutOfMemory`, as by [`Reader::read_vec_in`].
+    /// As by [`Reader::read_vec_in`].
     final fn read_vec(&mut self, alloc: Global, len: Length) -> Result<Vec<u8>, Error>
         ensures same { Same (Self.state self.old) (Self.state self.new) }
         ensures exact { VecMeets Self.reliable (number len) (Self.state self.old)

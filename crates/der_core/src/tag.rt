@@ -121,8 +121,9 @@ fn other(first: u8, number: u32) -> Tag
 }
 
 // The tag of an identifier under the Basic Encoding Rules, by its first octet, and by its number
-// where that is 40 or more. It is told once the octets behind are read: where ways meet at which a
-// reader stands in different places, a choice among tags would be a jump for each, not a table.
+// where that is `0x40` or more. It is told once the octets behind are read: where ways meet at
+// which a reader stands in different places, a choice among tags would be a jump for each, not a
+// table.
 #[inline(always)]
 fn tag_of(first: u8, number: u32) -> Tag
     ensures { result ≡ identifier_tag first number }
@@ -136,7 +137,7 @@ fn tag_of(first: u8, number: u32) -> Tag
     }
 }
 
-// The same for a refusal, which is told by a call.
+// The tag of an identifier that a refusal tells, which a call computes.
 #[cold]
 #[inline(never)]
 pub(crate) fn tag_of_identifier(first: u8, number: u32) -> Tag
@@ -145,7 +146,7 @@ pub(crate) fn tag_of_identifier(first: u8, number: u32) -> Tag
     tag_of(first, number)
 }
 
-// The same with a guess at the tag: where it is the one, no tag is looked for.
+// The tag of an identifier, with a guess at it: where it is the one, no tag is looked for.
 #[inline(always)]
 pub(crate) fn guessed_tag(first: u8, number: u32, guess: Option<(u8, Tag)>) -> Tag
     requires { IsGuess guess }
@@ -190,7 +191,7 @@ pub(crate) fn decode_identifier<R: Reader>(reader: &mut R) -> Result<(u8, u32), 
     Ok((first, number))
 }
 
-// The rest of an identifier behind its first octet: the number of one from octet 40 on.
+// The rest of an identifier behind its first octet: the number of one from octet `0x40` on.
 #[inline(always)]
 pub(crate) fn decode_number_behind<R: Reader>(reader: &mut R, first: u8) -> Result<u32, Error>
     ensures same { Same (R.state reader.old) (R.state reader.new) }
@@ -278,7 +279,7 @@ impl<R: Reader> Decode<R> for Tag {
 
     ghost decode_answers = { Decodes TagAhead IdentifierFault true };
 
-    /// Decodes a tag (X.690 8.1.2). Under the Basic Encoding Rules octet 24 is read as the tag
+    /// Decodes a tag (X.690 8.1.2). Under the Basic Encoding Rules octet `0x24` is read as the tag
     /// OCTET STRING too (X.690 8.7.1).
     ///
     /// # Errors
@@ -291,8 +292,8 @@ impl<R: Reader> Decode<R> for Tag {
     ///   reader stands there and has not failed.
     /// - `Incomplete` at the end, where an octet is missing at any other position.
     /// - `TagUnknown` with the octet, behind a first octet that begins no tag.
-    /// - `TagNumberInvalid` behind octet 1F where it is the first, or behind an octet with which no
-    ///   tag number goes on (X.690 8.1.2.4).
+    /// - `TagNumberInvalid` behind octet `0x1F` where it is the first, or behind an octet with
+    ///   which no tag number goes on (X.690 8.1.2.4).
     #[inline(always)]
     fn decode(_alloc: Global, reader: &mut R) -> Result<Tag, Error>
         ensures { Decodes TagAhead IdentifierFault R.reliable (R.state reader.old) result

@@ -1,7 +1,7 @@
 //! Octets with bodies of indefinite lengths, which several tests read.
 use std::alloc::{AllocError, Global};
 
-/// A SEQUENCE with an OCTET STRING of one segment: two bodies, ten octets behind the first octet 80.
+/// A SEQUENCE with an OCTET STRING of one segment: two bodies, ten octets behind the first `0x80`.
 pub const SEGMENT_OF_ZEROS: [u8; 12] = [
     0x30, 0x80, 0x24, 0x80, 0x04, 0x02, 0x00, 0x00, 0x00, 0x00, 0x00, 0x00,
 ];

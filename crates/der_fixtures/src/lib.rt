@@ -4,6 +4,7 @@
 
 pub mod bodies;
 pub mod calls;
+pub mod constants;
 pub mod encodings;
 pub mod errors;
 pub mod readers;

@@ -6,13 +6,13 @@ use der::{Decode, DecodeBytes, EncodingRules, Error, Reader, SliceReader};
 use der_uses::reader::CopyingReader;
 use std::alloc::Global;
 
-/// A reader of these octets under the Distinguished Encoding Rules. What a contract says of a reader
-/// costs the checker seconds at each call, and few tests need it: so nothing is said here.
+/// A reader of these octets under the Distinguished Encoding Rules. What a contract says of a
+/// reader costs the checker seconds at each call, and few tests need it: so nothing is said here.
 pub fn der_reader(octets: &[u8]) -> Result<SliceReader<'_>, Error> {
     SliceReader::new(octets)
 }
 
-/// Likewise, under the Basic Encoding Rules.
+/// A reader of these octets under the Basic Encoding Rules, of which nothing is said either.
 pub fn ber_reader(octets: &[u8]) -> Result<SliceReader<'_>, Error> {
     ruled_reader(octets)
 }
@@ -32,7 +32,7 @@ pub fn der_unlent(octets: &[u8]) -> Result<CopyingReader<'_>, Error> {
     }
 }
 
-/// Likewise, under the Basic Encoding Rules.
+/// A reader that lends nothing, under the Basic Encoding Rules.
 pub fn ber_unlent(octets: &[u8]) -> Result<CopyingReader<'_>, Error>
     ensures { IfOk result (λ r. (slice_state r.inner).rules ≡ Ber) }
 {
@@ -42,7 +42,8 @@ pub fn ber_unlent(octets: &[u8]) -> Result<CopyingReader<'_>, Error>
     }
 }
 
-/// Likewise, with a read that fails: the one of this number, the first being 1.
+/// A reader that lends nothing, under the Basic Encoding Rules, with a read that fails: the one of
+/// this number, the first being 1.
 pub fn ber_failing(octets: &[u8], read: u32) -> Result<CopyingReader<'_>, Error>
     ensures { IfOk result (λ r. (slice_state r.inner).rules ≡ Ber) }
 {
@@ -52,7 +53,7 @@ pub fn ber_failing(octets: &[u8], read: u32) -> Result<CopyingReader<'_>, Error>
     }
 }
 
-/// Likewise, under the Distinguished Encoding Rules.
+/// A reader that lends nothing, under the Distinguished Encoding Rules, with a read that fails.
 pub fn der_failing(octets: &[u8], read: u32) -> Result<CopyingReader<'_>, Error> {
     match SliceReader::new(octets) {
         Ok(inner) => Ok(CopyingReader::failing(inner, read)),

@@ -85,7 +85,8 @@ fn owned_octets(alloc: Global) -> Result<BoxedSlice<u8>, Error> {
     Ok(read?.into_box())
 }
 
-// Three octets of a reader that lends nothing; likewise.
+// Three octets of a reader that lends nothing; one that has moved then, or has failed, is told as
+// failed.
 fn owned_cow(alloc: Global) -> Result<u32, Error> {
     let mut reader = CopyingReader::new(SliceReader::new(&OCTETS)?);
     let header = Header::new(Tag::OctetString, Length::new(3));

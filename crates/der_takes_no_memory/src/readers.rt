@@ -114,7 +114,7 @@ fn scanned(ahead: bool) -> Result<u32, Error> {
     counted::<Brand>(ahead, Blank::new(1))
 }
 
-// Likewise, by a counter of turns of its own.
+// How many octets a body has, counted by a ledger that the caller names.
 fn counted<L: Ledger>(ahead: bool, blank: Blank) -> Result<u32, Error>
     requires name { blank.name ≡ L.name }
     requires parts { blank.parts ≡ L.parts }

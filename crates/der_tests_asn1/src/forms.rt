@@ -48,7 +48,7 @@ fn printable_string<'a>(alloc: Global, octets: &'a [u8]) -> Result<&'a [u8], Err
     Ok(value.octets())
 }
 
-// Likewise under BER.
+// The contents of an integer under BER.
 fn integer_of_ber<'a>(alloc: Global, octets: &'a [u8]) -> Result<&'a [u8], Error> {
     let value: IntRef<'a> = IntRef::from_ber(alloc, octets)?;
     Ok(value.octets())

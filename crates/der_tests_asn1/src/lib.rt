@@ -11,6 +11,8 @@ mod checks;
 #[cfg(test)]
 mod choices;
 #[cfg(test)]
+mod constants;
+#[cfg(test)]
 mod defaults;
 #[cfg(test)]
 mod fields;
@@ -28,3 +30,5 @@ mod tags;
 mod texts;
 #[cfg(test)]
 mod times;
+#[cfg(test)]
+mod walks;

@@ -1,55 +1,34 @@
 //! SEQUENCE OF INTEGER.
 use crate::checks::{holds, same_at};
+use crate::walks::{FirstTwo, first_two};
 use der::{Encode, Error, ErrorKind, Length, Tag};
 use der_asn1::{Explicit, IntRef, SequenceOf, lawful_from_der};
 use der_fixtures::errors::{incomplete, unexpected};
 use std::alloc::Global;
 
-// The first two integers of a list, whether that is all, and whether it is written as it was read.
-fn walked<'a>(
-    alloc: Global,
-    octets: &'a [u8],
-) -> Result<(Option<&'a [u8]>, Option<&'a [u8]>, bool, bool), Error> {
+// What a walk over a list tells, and whether the list is written as it was read.
+fn walked<'a>(alloc: Global, octets: &'a [u8]) -> Result<(FirstTwo<'a>, bool), Error> {
     let list: SequenceOf<'a, IntRef<'a>> = lawful_from_der(alloc, octets)?;
     let written = list.to_der(alloc)?;
-    let mut items = list.items();
-    let first = match items.next(alloc) {
-        Some(item) => Some(item.octets()),
-        None => None,
-    };
-    let second = match items.next(alloc) {
-        Some(item) => Some(item.octets()),
-        None => None,
-    };
-    let ends = items.next(alloc).is_none();
-    Ok((first, second, ends, written.as_slice() == octets))
+    Ok((first_two(alloc, list.items()), written.as_slice() == octets))
 }
 
 #[test]
 fn integers_of_a_list_are_walked(rt: HostRuntime) {
-    let rows: [(&[u8], Option<&[u8]>, Option<&[u8]>, bool); 4] = [
-        (&[0x30, 0], None, None, true),
-        (&[0x30, 3, 2, 1, 5], Some(&[5]), None, true),
+    let rows: [(&[u8], FirstTwo); 4] = [
+        (&[0x30, 0], (None, None, true)),
+        (&[0x30, 3, 2, 1, 5], (Some(&[5]), None, true)),
         (
             &[0x30, 7, 2, 1, 5, 2, 2, 1, 0],
-            Some(&[5]),
-            Some(&[1, 0]),
-            true,
+            (Some(&[5]), Some(&[1, 0]), true),
         ),
         (
             &[0x30, 9, 2, 1, 5, 2, 1, 6, 2, 1, 7],
-            Some(&[5]),
-            Some(&[6]),
-            false,
+            (Some(&[5]), Some(&[6]), false),
         ),
     ];
-    for (row, (octets, first, second, ends)) in rows.into_iter().enumerate() {
-        same_at(
-            &rt,
-            row,
-            walked(rt.alloc(), octets),
-            Ok((first, second, ends, true)),
-        );
+    for (row, (octets, told)) in rows.into_iter().enumerate() {
+        same_at(&rt, row, walked(rt.alloc(), octets), Ok((told, true)));
     }
 }
 

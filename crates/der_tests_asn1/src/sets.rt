@@ -1,52 +1,33 @@
 //! SET OF INTEGER: the encodings stand in order (X.690 11.6).
 use crate::checks::same_at;
+use crate::walks::{FirstTwo, first_two};
 use der::{DecodeBytes, Encode, Error, ErrorKind, Length, Tag};
 use der_asn1::{IntRef, SetOf, lawful_from_der};
 use der_fixtures::errors::{incomplete, unexpected};
 use std::alloc::Global;
 
-// The first two integers of a set, whether that is all, and whether it is written as it was read.
-fn walked<'a>(
-    alloc: Global,
-    octets: &'a [u8],
-) -> Result<(Option<&'a [u8]>, Option<&'a [u8]>, bool, bool), Error> {
+// What a walk over a set tells, and whether the set is written as it was read.
+fn walked<'a>(alloc: Global, octets: &'a [u8]) -> Result<(FirstTwo<'a>, bool), Error> {
     let set: SetOf<'a, IntRef<'a>> = lawful_from_der(alloc, octets)?;
     let written = set.to_der(alloc)?;
-    let mut items = set.items();
-    let first = match items.next(alloc) {
-        Some(item) => Some(item.octets()),
-        None => None,
-    };
-    let second = match items.next(alloc) {
-        Some(item) => Some(item.octets()),
-        None => None,
-    };
-    let ends = items.next(alloc).is_none();
-    Ok((first, second, ends, written.as_slice() == octets))
+    Ok((first_two(alloc, set.items()), written.as_slice() == octets))
 }
 
 // The shorter element comes first, so -128 comes before 255. Equal ones may follow each other.
 #[test]
 fn integers_of_a_set_are_walked(rt: HostRuntime) {
-    let rows: [(&[u8], Option<&[u8]>, Option<&[u8]>, bool); 5] = [
-        (&[0x31, 0], None, None, true),
-        (&[0x31, 3, 2, 1, 5], Some(&[5]), None, true),
-        (&[0x31, 6, 2, 1, 5, 2, 1, 6], Some(&[5]), Some(&[6]), true),
-        (&[0x31, 6, 2, 1, 5, 2, 1, 5], Some(&[5]), Some(&[5]), true),
+    let rows: [(&[u8], FirstTwo); 5] = [
+        (&[0x31, 0], (None, None, true)),
+        (&[0x31, 3, 2, 1, 5], (Some(&[5]), None, true)),
+        (&[0x31, 6, 2, 1, 5, 2, 1, 6], (Some(&[5]), Some(&[6]), true)),
+        (&[0x31, 6, 2, 1, 5, 2, 1, 5], (Some(&[5]), Some(&[5]), true)),
         (
             &[0x31, 11, 2, 1, 0x80, 2, 2, 0, 0xFF, 2, 2, 1, 0],
-            Some(&[0x80]),
-            Some(&[0, 0xFF]),
-            false,
+            (Some(&[0x80]), Some(&[0, 0xFF]), false),
         ),
     ];
-    for (row, (octets, first, second, ends)) in rows.into_iter().enumerate() {
-        same_at(
-            &rt,
-            row,
-            walked(rt.alloc(), octets),
-            Ok((first, second, ends, true)),
-        );
+    for (row, (octets, told)) in rows.into_iter().enumerate() {
+        same_at(&rt, row, walked(rt.alloc(), octets), Ok((told, true)));
     }
 }
 

@@ -11,7 +11,7 @@ fn told_utc(alloc: Global, octets: &[u8]) -> Result<(DateTime, bool), Error> {
     Ok((value.date_time(), written.as_slice() == octets))
 }
 
-// The GeneralizedTime of these contents, likewise.
+// The GeneralizedTime of these contents.
 fn told_generalized(alloc: Global, octets: &[u8]) -> Result<(DateTime, bool), Error> {
     let value: GeneralizedTime = lawful_from_der(alloc, octets)?;
     let written = value.to_der(alloc)?;

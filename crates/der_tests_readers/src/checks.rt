@@ -8,7 +8,7 @@ pub fn same<T: PartialEq + Debug + Drop>(rt: &impl Abort, answer: T, expected: T
     assert_eq!(rt; answer, expected);
 }
 
-/// Likewise, and says at which row.
+/// Ends the test where the answer is not what is expected, and says at which row.
 pub fn same_at<K: Display + Drop, T: PartialEq + Debug + Drop>(
     rt: &impl Abort,
     row: K,
@@ -18,7 +18,7 @@ pub fn same_at<K: Display + Drop, T: PartialEq + Debug + Drop>(
     assert_eq!(rt; answer, expected, "at {row}");
 }
 
-/// Likewise for octets, which may be given as an array.
+/// Ends the test where the octets are not those that are expected, which may be an array.
 pub fn same_octets(rt: &impl Abort, answer: &[u8], expected: &[u8]) {
     assert_eq!(rt; answer, expected);
 }
@@ -28,7 +28,7 @@ pub fn holds(rt: &impl Abort, fact: bool) {
     assert!(rt; fact);
 }
 
-/// Likewise, and says at which row.
+/// Ends the test where the fact is false, and says at which row.
 pub fn holds_at<K: Display + Drop>(rt: &impl Abort, row: K, fact: bool) {
     assert!(rt; fact, "at {row}");
 }

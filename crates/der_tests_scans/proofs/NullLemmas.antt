@@ -28,7 +28,7 @@ nulls_scanned s r e (t, h) =
     let ahead : BodyAhead (indefinite_length 8) s.rules (rest_of s) 8 = record { parts = 4; body = nulls; behind = []; is_body = nulls_body; split = nulls_left s e; sized = refl; counts = refl } in
     (accepts body_grammar s t r (indefinite_length 8) 8 h (ap (λ (x : ReaderState). x.failed) e) ahead).0
 
--- and takes a turn for each of their four parts
+-- a scan takes a turn for each of the four parts of these octets
 pub nulls_turned : (s : ReaderState) (r : Result Length Error) (before after : ℕ) → s ≡ initial_state Ber nulls → ScansAhead true s r → IsTurned (rest_of s) r before after → after ≡ before + 4
 nulls_turned s (Ok l) before after e scans (parts, (body, behind, is, split), counted) =
     let one = body_front is nulls_body behind [] (sym split ∙ nulls_left s e) in

@@ -1,6 +1,6 @@
-//! Readers that stand where a scan begins, and what tests read by readers of slices. What a contract
-//! says of a call is made out anew in each test that makes it, and few tests need it: so of most of
-//! these nothing is said.
+//! Readers that stand where a scan begins, and what tests read by readers of slices. What a
+//! contract says of a call is made out anew in each test that makes it, and few tests need it: so
+//! of most of these nothing is said.
 ghost use Rattle.std.specs.Prelude.{◌≡◌, IfOk};
 ghost use Rattle.der.specs.Prelude.{Ber, slice_state};
 

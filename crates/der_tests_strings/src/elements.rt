@@ -1,5 +1,5 @@
-//! Elements of `example`, read and written. The tests take nothing from what a contract says of these
-//! calls, and it would be made out anew in each function that calls: so nothing is said here.
+//! Elements of `example`, read and written. The tests take nothing from what a contract says of
+//! these calls, and it would be made out anew in each function that calls: so nothing is said here.
 use der::example::{BorrowedOctets, JoinedOctets, OwnedText};
 use der::{DecodeBytes, Encode, Error};
 use std::alloc::Global;
@@ -29,7 +29,7 @@ pub fn joined_of_ber(alloc: Global, octets: &[u8]) -> Result<JoinedOctets, Error
     JoinedOctets::from_ber(alloc, octets)
 }
 
-/// Likewise, under the Distinguished Encoding Rules.
+/// An OCTET STRING that may stand in segments, under the Distinguished Encoding Rules.
 pub fn joined_of_der(alloc: Global, octets: &[u8]) -> Result<JoinedOctets, Error> {
     JoinedOctets::from_der(alloc, octets)
 }

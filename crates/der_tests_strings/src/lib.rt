@@ -1,4 +1,5 @@
-//! Tests of byte strings, texts and segments that are joined, made from outside as a user makes them.
+//! Tests of byte strings, texts and segments that are joined, made from outside as a user makes
+//! them.
 #![tactic(auto)]
 
 #[cfg(test)]

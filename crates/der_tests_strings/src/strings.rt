@@ -12,6 +12,7 @@ use std::alloc::Global;
 use std::test::Fail;
 
 mod borrowed;
+mod constants;
 mod cows;
 mod examples;
 mod orders;
@@ -37,7 +38,7 @@ fn text_of(text: &str) -> Result<StringRef<'_>, Error> {
     StringRef::new(text)
 }
 
-// Likewise, of the octets of a text.
+// A text that is borrowed, of its octets.
 fn text_from(octets: &[u8]) -> Result<StringRef<'_>, Error> {
     StringRef::from_bytes(octets)
 }
@@ -47,12 +48,12 @@ fn owned_text(alloc: Global, octets: &[u8]) -> Result<StringOwned, Error> {
     StringOwned::from_bytes(alloc, octets)
 }
 
-// Likewise, of a text that is borrowed.
+// A text in memory of its own, of one that is borrowed.
 fn copied_text(alloc: Global, text: &StringRef<'_>) -> Result<StringOwned, Error> {
     text.ref_to_owned(alloc)
 }
 
-// Likewise, of another one.
+// A text in memory of its own, of another one.
 fn cloned_text(alloc: Global, text: &StringOwned) -> Result<StringOwned, Error> {
     text.clone_in(alloc)
 }

@@ -8,7 +8,7 @@ pub fn same<T: PartialEq + Debug + Drop>(rt: &impl Abort, answer: T, expected: T
     assert_eq!(rt; answer, expected);
 }
 
-/// Likewise, and says at which row.
+/// Ends the test where the answer is not what is expected, and says at which row.
 pub fn same_at<K: Display + Drop, T: PartialEq + Debug + Drop>(
     rt: &impl Abort,
     row: K,

@@ -54,7 +54,7 @@ decoded_working (had_failed f refused leaves) = absurd refused
 decoded_working (decodes w ok answers) = element_working (answers refl)
 decoded_working (refuses u w refused answers leaves) = absurd (let no : false ≡ true = refused in cc)
 
--- and has read its encoding
+-- a reader that has answered an OCTET STRING has read its encoding
 pub string_read : {converts : Error → Error → Type 0} {s t : ReaderState} (result : Result BorrowedOctets Error) → s.rules ≡ Der
     → IfOk result (λ v. t.failed ≡ false → Passes (ElementAhead OctetString (TakesOctets IsCounted borrowed_octets) v) s t)
     → ReaderDecodes true (ElementRead OctetString converts (LentOctetsRead borrowed_octets)) converts s result t → IfOk result (λ v. Reads s t (string_octets (borrowed_octets v)))
@@ -65,7 +65,7 @@ string_read {s = s} {t = t} (Ok v) der ok exact = (passed_encodings (elements_ar
 pub string_counted : (s : ReaderState) (x more : List ℕ) → IsSound s → rest_of s ≡ string_octets x ++ more → length x < 2 ^ 32
 string_counted s x more sound ahead = omega (arith, length-rest s sound, sound.in_input, sound.addressable, ap length ahead, length-append (string_octets x) more, length-append (header_octets OctetString (length x)) x)
 
--- and is an element
+-- an OCTET STRING that stands ahead is an element
 pub string_ahead : (s : ReaderState) (v : BorrowedOctets) (more : List ℕ) → IsSound s → s.rules ≡ Der → rest_of s ≡ string_octets (borrowed_octets v) ++ more
     → ElementAhead OctetString (TakesOctets IsCounted borrowed_octets) v s.rules (rest_of s) (length (string_octets (borrowed_octets v)))
 string_ahead s v more sound der ahead =
@@ -172,7 +172,7 @@ pub first_refused : (s : ReaderState) (strings : List (List ℕ)) (result : Resu
 first_refused s [] result e was sound unfinished are complete = something_left s sound unfinished are
 first_refused s (x ∷ more) result e was sound unfinished are complete = not_both result e was (complete x (joined_strings more) are)
 
--- another is refused where it comes before the one ahead of it
+-- a string is refused where it comes before the one ahead of it
 pub next_refused : {s t : ReaderState} (x : List ℕ) (strings : List (List ℕ)) (result : Result BorrowedOctets Error) (e : Error) → result ≡ Err e → IsSound t → t.end ≢ t.position → PassedTo s t x → rest_of s ≡ joined_strings strings
     → ((y more : List ℕ) → rest_of t ≡ string_octets y ++ more
     → IsOk result ⊎ (IsBefore (string_octets y) (string_octets x) × (result ≡ Err (error_at SetOrdering (reader_position t)))))
@@ -205,7 +205,7 @@ set_ahead s n more sound der small ahead =
     (headers_are_encodings.every (rest_of s) (header_of_set n) _ (omega (arith, length-rest s sound, sound.in_input, sound.addressable))
     (record { is_valid = record { says = refl; numbered = omega arith; small = small }; behind = more; split = ahead; whole = refl }))
 
--- and nothing else is read then
+-- where the header of a SET stands ahead nothing else is read
 pub set_alone : {s t : ReaderState} (h : Header) (n : ℕ) (more : List ℕ) → s.rules ≡ Der → Passes (HeaderAhead h) s t → rest_of s ≡ header_octets Set n ++ more → (head_of h).tag ≡ Set
 set_alone {s} {t} h n more der passed ahead =
     let reads = (passed_encodings headers_are_encodings s t h der passed).1 in
@@ -284,7 +284,7 @@ module _ (octets : List ℕ) (s t : ReaderState) (n : ℕ) (begun : s ≡ initia
       let count : n ≡ length all = omega (arith, passed, position_on r.reads) in
       (r.strings, r.ascend, whole_octets ∙ ap (λ l. header_octets Set n ++ l) left ∙ ap (λ k. header_octets Set k ++ all) count, (remaining_ok t contents lent).1 ∙ left)
 
-  -- and it is finished
+  -- a reader behind the last of the strings is finished
   pub set_finished : (u : ReaderState) (strings : List (List ℕ)) → IsSound t → octets ≡ set_octets strings → ReadsAscending t u → u.position ≡ t.position + n → finish_answer u ≡ Ok tt
   set_finished u strings sound e r passed =
       let counted = header_count strings e in

@@ -23,7 +23,7 @@ impl<'a> CopyingReader<'a> {
         CopyingReader { inner, reads: 0 }
     }
 
-    /// The same, where the read of this number fails, the first being 1.
+    /// Reads on where this reader stands; the read of this number fails, the first being 1.
     pub fn failing(inner: SliceReader<'a>, reads: u32) -> Self
         ensures inner { result.inner ≡ inner.entry }
     {

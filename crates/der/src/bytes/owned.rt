@@ -104,7 +104,7 @@ impl BytesOwned {
         BytesRef::counted(self.as_slice())
     }
 
-    /// The same as [`BytesOwned::as_bytes_ref`].
+    /// The octets as ones that are borrowed, as by [`BytesOwned::as_bytes_ref`].
     pub fn owned_to_ref(&self) -> BytesRef<'_>
         ensures { result.bytes.now ≡ boxed_slice_items self.now.inner }
     {

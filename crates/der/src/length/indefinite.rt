@@ -26,8 +26,7 @@ use std::alloc::Global;
 ///   the Distinguished Encoding Rules; the reader has failed then.
 /// - `OutOfMemory` without a position, where memory for as many octets as `length` says is refused;
 ///   the reader is unchanged.
-/// - `Failed`, `Overflow`, `Incomplete`, `TagUnknown`, `TagNumberInvalid`, `IndefiniteLength`,
-///   `Length` and `NestingDepth` of a segment's header, as by [`Header::decode`](der_core::Header).
+/// - Those of a segment's header, as by [`Header::decode`](der_core::Header).
 /// - `TagUnexpected` without a position, where a segment has another tag; the reader stands behind
 ///   its header and has not failed.
 /// - `Noncanonical` with the tag, one before the position behind the header of a segment that is

@@ -82,7 +82,7 @@ impl StringOwned {
         StringRef::counted(self.as_str())
     }
 
-    /// The same as [`StringOwned::as_string_ref`].
+    /// The text as one that is borrowed, as by [`StringOwned::as_string_ref`].
     pub fn owned_to_ref(&self) -> StringRef<'_>
         ensures { result.text.now ≡ string_bytes self.now.inner }
     {

@@ -7,7 +7,7 @@ use crate::error::{Error, ErrorKind};
 use crate::length::Length;
 use crate::tag::{Class, Tag, TagMode, TagNumber};
 
-/// The same number and the same flag.
+/// Equal lengths have the same number and the same flag.
 fn length_equality(a: Length, b: Length) -> bool
     ensures parts { IsTrue result
         ↔ ((number a ≡ number b) × (is_indefinite a ≡ is_indefinite b)) }
@@ -16,49 +16,49 @@ fn length_equality(a: Length, b: Length) -> bool
     a == b
 }
 
-/// The same variant, constructed bit and number.
+/// Equal tags have the same variant, constructed bit and number.
 fn tag_equality(a: Tag, b: Tag) -> bool
     ensures { IsTrue result ↔ (a ≡ b) }
 {
     a == b
 }
 
-/// The same number.
+/// Equal tag numbers are the same number.
 fn tag_number_equality(a: TagNumber, b: TagNumber) -> bool
     ensures { IsTrue result ↔ (a ≡ b) }
 {
     a == b
 }
 
-/// The same class.
+/// Equal classes are the same class.
 fn class_equality(a: Class, b: Class) -> bool
     ensures { IsTrue result ↔ (a ≡ b) }
 {
     a == b
 }
 
-/// The same mode.
+/// Equal modes are the same mode.
 fn mode_equality(a: TagMode, b: TagMode) -> bool
     ensures { IsTrue result ↔ (a ≡ b) }
 {
     a == b
 }
 
-/// The same rules.
+/// Equal rules are the same rules.
 fn rules_equality(a: EncodingRules, b: EncodingRules) -> bool
     ensures { IsTrue result ↔ (a ≡ b) }
 {
     a == b
 }
 
-/// The same kind, with the same lengths, tags, octet or error of std.
+/// Equal kinds are the same kind, with the same lengths, tags, octet or error of std.
 fn error_kind_equality(a: ErrorKind, b: ErrorKind) -> bool
     ensures { IsTrue result ↔ (a ≡ b) }
 {
     a == b
 }
 
-/// The same kind, and the same position or none.
+/// Equal errors have the same kind, and the same position or none.
 fn error_equality(a: Error, b: Error) -> bool
     ensures { IsTrue result ↔ (a ≡ b) }
 {

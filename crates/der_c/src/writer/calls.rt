@@ -71,7 +71,7 @@ pub extern "C" fn der_write_header(writer: &mut DerWriter<'_>, tag: u64, length:
     header_slowly(writer, tag, length)
 }
 
-// The same of any tag and length.
+// Writes the header of any tag and length.
 #[inline(never)]
 fn header_slowly(writer: &mut DerWriter<'_>, tag: u64, length: u32) -> DerError
     ensures { WritesHeader tag length (writer_state writer.old) result (writer_state writer.new) }
@@ -102,7 +102,7 @@ pub extern "C" fn der_write_element(
     element_slowly(writer, tag, contents)
 }
 
-// The same of any tag and length.
+// Writes an element with any tag and any contents.
 #[inline(never)]
 fn element_slowly(writer: &mut DerWriter<'_>, tag: u64, contents: &[u8]) -> DerError
     ensures { WritesElement tag contents.now (writer_state writer.old) result

@@ -27,7 +27,7 @@ pub extern "C" fn der_begin(writer: &mut DerWriter<'_>, tag: u64, start: &mut us
     begin_slowly(writer, tag, start)
 }
 
-// The same of any tag.
+// Begins an element with any tag.
 #[inline(never)]
 fn begin_slowly(writer: &mut DerWriter<'_>, tag: u64, start: &mut usize) -> DerError
     ensures { BeginsElement tag (writer_state writer.old) result start.old start.new

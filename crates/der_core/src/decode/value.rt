@@ -86,8 +86,7 @@ pub trait DecodeValue<R: Reader>: ReadValue + Drop {
 ///
 /// # Errors
 ///
-/// - `Failed`, `Overflow`, `Incomplete`, `TagUnknown`, `TagNumberInvalid`, `IndefiniteLength` and
-///   `Length` of the header, as by [`Header::decode`].
+/// - Those of the header, as by [`Header::decode`].
 /// - `TagUnexpected` without a position, where the header has another tag; the reader stands behind
 ///   the header and has not failed.
 /// - `Overflow`, `Incomplete` and `NestingDepth` of contents that cannot be entered, as by

@@ -28,7 +28,7 @@ enum Part {
     Ends,
     // an item of a definite length
     Passes,
-    // an identifier and octet 80
+    // an identifier and octet `0x80`
     Opens,
 }
 
@@ -45,12 +45,12 @@ enum Part {
 /// - `Failed` at the position, where the reader had failed; it is unchanged.
 /// - `Overflow` without a position, where `Incomplete` would name a length past 4294967295; the
 ///   reader stands where the refused octets were to be read and has not failed.
-/// - `Incomplete` at the end, where no octet is left, or half an end mark, an identifier that is
-///   cut, or one without a whole length.
-/// - `IndefiniteLength` behind a zero octet and another octet, and behind octet 80 where the
+/// - `Incomplete` at the end, where no octet is left, half an end mark, an identifier that is cut,
+///   or one without a whole length.
+/// - `IndefiniteLength` behind a zero octet and another octet, and behind octet `0x80` where the
 ///   identifier before it is primitive.
 /// - `TagUnknown` and `TagNumberInvalid` of an identifier, as by [`Tag::decode`](crate::Decode).
-/// - `NestingDepth` behind octet 80, where 64 bodies are open.
+/// - `NestingDepth` behind octet `0x80`, where 64 bodies are open.
 /// - `Length` with the tag, behind the length's octets where fewer would do, or behind the first of
 ///   them where it announces more than four.
 /// - `Incomplete` of contents that are not all there, as by [`Reader::drain`].

@@ -51,7 +51,7 @@ pub trait ReaderExt: Reader {
         Ok(octet[0])
     }
 
-    /// The same as [`Reader::position`].
+    /// How many octets were read, as [`Reader::position`] answers.
     final fn offset(&self) -> Length
         ensures { result ≡ definite_length (Self.state self.now).position }
     {
@@ -163,8 +163,7 @@ pub trait ReaderExt: Reader {
     ///
     /// # Errors
     ///
-    /// `Overflow`, `Failed` and `Incomplete`, where and with the positions that
-    /// [`Reader::read_into`] says; buffer and reader are unchanged.
+    /// As by [`Reader::read_into`], with the same positions; buffer and reader are unchanged.
     final fn peek_into(&self, buf: &mut [u8]) -> Result<(), Error>
         ensures exact { AnswersAs Self.reliable (read_into_outcome (length buf.old))
             (Self.state self.now) (map_ok (λ _. buf.new) result) }
@@ -178,9 +177,7 @@ pub trait ReaderExt: Reader {
     ///
     /// # Errors
     ///
-    /// `Failed`, `Overflow`, `Incomplete`, `TagUnknown`, `TagNumberInvalid`, `IndefiniteLength` and
-    /// `Length`, where and with the positions that [`Header::decode`] says; the reader is
-    /// unchanged.
+    /// As by [`Header::decode`], with the same positions; the reader is unchanged.
     final fn peek_header(&self) -> Result<Header, Error>
         ensures { Peeks HeaderAhead (HeaderFault BodyFault) Self.reliable (Self.state self.now)
             result }
@@ -193,8 +190,7 @@ pub trait ReaderExt: Reader {
     ///
     /// # Errors
     ///
-    /// `Failed`, `Overflow`, `Incomplete`, `TagUnknown` and `TagNumberInvalid`, where and with the
-    /// positions that [`Tag::decode`] says; the reader is unchanged.
+    /// As by [`Tag::decode`], with the same positions; the reader is unchanged.
     final fn peek_tag(&self) -> Result<Tag, Error>
         ensures { Peeks TagAhead IdentifierFault Self.reliable (Self.state self.now) result }
     {
@@ -212,7 +208,7 @@ pub trait ReaderExt: Reader {
     ///
     /// # Errors
     ///
-    /// Those of [`decode_indefinite_length`](crate::decode_indefinite_length), with their
+    /// As by [`decode_indefinite_length`](crate::decode_indefinite_length), with the same
     /// positions; the reader is unchanged.
     final fn scan_indefinite<L: Ledger>(&self, turns: &mut Turns<L>) -> Result<Length, Error>
         requires ber { (Self.state self.now).rules ≡ Ber }
@@ -226,8 +222,7 @@ pub trait ReaderExt: Reader {
     ///
     /// # Errors
     ///
-    /// - `Failed`, `Overflow`, `Incomplete`, `TagUnknown`, `TagNumberInvalid`, `IndefiniteLength`
-    ///   and `Length` of the header, as by [`ReaderExt::peek_header`]; the reader is unchanged.
+    /// - Those of the header, as by [`ReaderExt::peek_header`]; the reader is unchanged.
     /// - `Overflow` without a position, where the octets of header and contents pass 4294967295, or
     ///   are not all there and do so together with the position; the reader is unchanged.
     /// - `Incomplete` at the position, before the header, where the contents are not all there; the
@@ -291,8 +286,7 @@ pub trait ReaderExt: Reader {
     ///
     /// # Errors
     ///
-    /// - `Failed`, `Overflow`, `Incomplete`, `TagUnknown`, `TagNumberInvalid`, `IndefiniteLength`
-    ///   and `Length` of the header, as by [`Header::decode`].
+    /// - Those of the header, as by [`Header::decode`].
     /// - `TagUnexpected` without a position, where the header has another tag; the reader stands
     ///   behind the header and has not failed.
     /// - `Overflow`, `Incomplete` and `NestingDepth` of contents that cannot be entered, as by

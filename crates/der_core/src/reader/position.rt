@@ -18,7 +18,7 @@ pub struct Position {
     ghost counted: { position < 2 ^ 32 },
 }
 
-/// The same place; it takes no memory.
+/// A clone stands at the same place; it takes no memory.
 impl Clone for Position {
     ghost use Rattle.std.specs.Prelude.{⊤};
 

@@ -124,7 +124,7 @@ pub fn read_value<
     close_value(reader, length, outer, answer)
 }
 
-// The same for a closure that wants no header: the contents of so many octets.
+// Reads contents of so many octets by a closure that wants no header.
 #[inline(always)]
 pub(crate) fn read_contents<
     R: Reader,

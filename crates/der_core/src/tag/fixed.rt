@@ -14,7 +14,7 @@ pub trait FixedTag {
     /// The tag.
     const TAG: Tag;
 
-    /// The same as a function, which generic code calls. Has to answer `Self::TAG`: no clause can
+    /// The tag as a function, which generic code calls. Has to answer `Self::TAG`: no clause can
     /// name the constant, so this is the implementation's duty.
     fn fixed_tag() -> Tag
         ensures { result ≡ tag_is };
@@ -59,8 +59,9 @@ pub trait IsConstructed {
     /// Whether the tag has the constructed bit.
     const CONSTRUCTED: bool;
 
-    /// The same as a function, which generic code calls. Has to answer `Self::CONSTRUCTED`: no
-    /// clause can name the constant, so this is the implementation's duty.
+    /// Whether the tag has the constructed bit, as a function, which generic code calls. Has to
+    /// answer `Self::CONSTRUCTED`: no clause can name the constant, so this is the implementation's
+    /// duty.
     fn has_constructed_bit() -> bool
         ensures { result ≡ constructed };
 }

@@ -16,8 +16,8 @@ pub trait TagPeek: Sized {
     ///
     /// # Errors
     ///
-    /// `Failed`, `Overflow`, `Incomplete`, `TagUnknown` and `TagNumberInvalid`, where and with the
-    /// positions that [`Tag::decode`](crate::Decode::decode) says; the reader is unchanged.
+    /// As by [`Tag::decode`](crate::Decode::decode), with the same positions; the reader is
+    /// unchanged.
     fn peek<R: Reader>(reader: &R) -> Result<Self, Error>;
 
     /// Whether the tag ahead has this class and number; false where no octets are left, also on a
@@ -25,8 +25,8 @@ pub trait TagPeek: Sized {
     ///
     /// # Errors
     ///
-    /// `Failed`, `Overflow`, `Incomplete`, `TagUnknown` and `TagNumberInvalid`, where and with the
-    /// positions that [`Tag::decode`](crate::Decode::decode) says; the reader is unchanged.
+    /// As by [`Tag::decode`](crate::Decode::decode), with the same positions; the reader is
+    /// unchanged.
     fn peek_matches<R: Reader>(
         reader: &mut R,
         expected_class: Class,
@@ -37,8 +37,7 @@ pub trait TagPeek: Sized {
     ///
     /// # Errors
     ///
-    /// `Failed`, `Overflow`, `Incomplete`, `TagUnknown` and `TagNumberInvalid`, as by
-    /// [`Tag::decode`](crate::Decode::decode).
+    /// As by [`Tag::decode`](crate::Decode::decode).
     fn decode_with_constructed_bit<R: Reader>(reader: &mut R) -> Result<(Self, bool), Error>;
 }
 

@@ -76,7 +76,7 @@ fn each_beginning_of_a_tag_and_of_a_length_is_refused(rt: HostRuntime) -> Result
     Ok(())
 }
 
-// Likewise, of octets that are made.
+// A body of indefinite length, whose octets are made here.
 #[test]
 fn each_beginning_of_a_long_body_is_refused(rt: HostRuntime) -> Result<(), Fail> {
     let alloc = rt.alloc();

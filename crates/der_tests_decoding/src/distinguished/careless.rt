@@ -8,7 +8,7 @@ use der::{DecodeValue, FixedTag, ReadValue};
 
 // An octet, answered although the one behind it was refused; so no contents are read as it.
 #[derive(Clone, Copy)]
-struct Hasty {
+pub(super) struct Hasty {
     octet: u8,
 }
 
@@ -82,7 +82,7 @@ fn what_stands_behind_an_ignored_refusal_is_refused(rt: HostRuntime) {
 
 // Contents that are not read.
 #[derive(Clone, Copy)]
-struct Unread;
+pub(super) struct Unread;
 
 impl FixedTag for Unread {
     ghost tag_is = { OctetString };

@@ -9,7 +9,7 @@ use crate::checks::{holds, same, same_at};
 use der::{DecodeError, DecodeValue, FixedTag, ReadValue};
 
 #[derive(Clone, Copy, Debug, PartialEq, Eq)]
-struct OctetError {
+pub(super) struct OctetError {
     error: Error,
 }
 
@@ -33,7 +33,7 @@ impl DecodeError for OctetError {
 
 // An octet, of any number.
 #[derive(Clone, Copy, Debug, PartialEq, Eq)]
-struct Octet {
+pub(super) struct Octet {
     number: u8,
 }
 

@@ -1,5 +1,5 @@
-//! What is decoded in the worked cases of all tests, as data; tags and lengths by themselves stand in
-//! `der_fixtures`.
+//! What is decoded in the worked cases of all tests, as data; tags and lengths by themselves stand
+//! in `der_fixtures`.
 use der::EncodingRules::{self, Ber, Der};
 use der_fixtures::bodies::{ENCRYPTED_CONTENT_INFO, SEGMENT_OF_ZEROS};
 

@@ -1,4 +1,4 @@
-//! Octet 24: the identifier of a string of segments, which the Basic Encoding Rules alone know.
+//! Octet `0x24`: the identifier of a string of segments, which the Basic Encoding Rules alone know.
 use super::*;
 use crate::checks::{same, same_at, same_octets};
 use der::{Encode, TagPeek};

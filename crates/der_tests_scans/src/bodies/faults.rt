@@ -1,5 +1,5 @@
-//! Readers one of whose reads fails, for each read in turn until none does: no other answer comes of
-//! it than without that failure.
+//! Readers one of whose reads fails, for each read in turn until none does: no other answer comes
+//! of it than without that failure.
 ghost use Rattle.std.specs.Prelude.{◌≡◌};
 ghost use Rattle.der.specs.Prelude.{Same};
 
@@ -69,7 +69,7 @@ fn a_scan_is_refused_at_whichever_read_fails(rt: HostRuntime) -> Result<(), Fail
     Ok(())
 }
 
-// A primitive identifier before octet 80 is never taken, whichever read fails.
+// A primitive identifier before octet `0x80` is never taken, whichever read fails.
 #[test]
 fn a_wrong_body_is_never_taken_whichever_read_fails(rt: HostRuntime) -> Result<(), Fail> {
     let octets = [0x30, 0x80, 0x04, 0x80, 0x00, 0x00, 0x00, 0x00];

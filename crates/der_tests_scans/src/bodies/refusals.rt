@@ -26,7 +26,7 @@ fn refused_each(rt: &impl Abort, rows: &[(&[u8], Error)]) -> Result<(), Fail> {
     Ok(())
 }
 
-// A refused header leaves the reader behind octet 80, and it has not failed.
+// A refused header leaves the reader behind octet `0x80`, and it has not failed.
 fn header_refused<R: Reader>(rt: &impl Abort, mut reader: R, error: Error) {
     let end = u32::from(reader.input_len());
     same_at(rt, error, reader.peek_header(), Err(error));

@@ -9,7 +9,7 @@ fn drain_both<R: Reader, S: Reader>(rt: &impl Abort, mut reader: R, mut steps: S
     same_at(rt, amount, place_of(&reader), place_of(&steps));
 }
 
-// The same where the first octets are read, and where both have failed behind them.
+// Both readers drain alike where the first octets are read, and where both have failed behind them.
 fn drain_behind(rt: &impl Abort, octets: &[u8], passed: u32, amount: Length) -> Result<(), Error> {
     let mut reader = ber_reader(octets)?;
     let mut steps = ber_unlent(octets)?;

@@ -1,8 +1,14 @@
 //! A reader that lends what is left, and refuses each read.
-use super::lending_reader::ber_lending;
+use super::lending_reader::{LendingReader, ber_lending};
 use super::scans::scans;
 use super::*;
 use crate::checks::same;
+use der_fixtures::constants::lending_agrees;
+
+#[test]
+fn constant_and_function_say_alike_that_it_lends(rt: HostRuntime) {
+    lending_agrees::<LendingReader>(&rt, true);
+}
 
 // The scan ahead walks what is lent. One that passes the body has to read it.
 #[test]

@@ -32,7 +32,7 @@ fn scans_counted<R: Reader, L: Ledger>(reader: &R, blank: Blank) -> (Answer, Ans
     (ahead, decode_indefinite_length(&mut fork, &mut turns))
 }
 
-// The same inside a part, whose octets are passed.
+// What both scans answer inside a part, whose octets are passed.
 fn scans_of_part<R: Reader>(reader: &mut R) -> Result<(Answer, Answer), Error>
     requires ber { (R.state reader.old).rules ≡ Ber }
     ensures { Same (R.state reader.old) (R.state reader.new) }

@@ -48,7 +48,7 @@ fn wholly_under_ber(rt: &impl Abort, alloc: Global, octets: &[u8], answer: Resul
     same_at(rt, octets.len(), octets_of(&whole), answer);
 }
 
-// Likewise under the Distinguished Encoding Rules.
+// Under the Distinguished Encoding Rules, by every call that decodes.
 fn under_der(
     rt: &impl Abort,
     alloc: Global,

@@ -116,8 +116,8 @@ fn segments_are_joined_that_have_the_tag_asked_for(rt: HostRuntime) -> Result<()
     Ok(())
 }
 
-// Under the Distinguished Encoding Rules segments are primitive, also where the tag that is asked for
-// is not.
+// Under the Distinguished Encoding Rules segments are primitive, also where the tag that is asked
+// for is not.
 #[test]
 fn der_refuses_segments_with_a_constructed_tag(rt: HostRuntime) -> Result<(), Fail> {
     let alloc = rt.alloc();

@@ -45,7 +45,7 @@ fn octets_of(read: &Result<BytesOwned, Error>) -> Result<&[u8], Error> {
     }
 }
 
-// Likewise under the Basic Encoding Rules, whether the reader lends or not.
+// Contents are decoded so under the Basic Encoding Rules, whether the reader lends or not.
 fn under_ber(
     rt: &impl Abort,
     alloc: Global,
@@ -59,7 +59,7 @@ fn under_ber(
     Ok(())
 }
 
-// Likewise under the Distinguished Encoding Rules.
+// Contents are decoded so under the Distinguished Encoding Rules, whether the reader lends or not.
 fn under_der(
     rt: &impl Abort,
     alloc: Global,

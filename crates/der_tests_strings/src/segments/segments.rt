@@ -19,7 +19,7 @@ fn joining<R: Joins>(
     same_at(rt, end, reader.place(), (position, end, failed));
 }
 
-// Likewise, whether the reader lends or not.
+// Segments are joined so, whether the reader lends or not.
 fn joining_each(
     rt: &impl Abort,
     alloc: Global,

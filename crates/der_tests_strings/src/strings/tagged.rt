@@ -10,7 +10,7 @@ use crate::checks::{holds, same};
 use der::{FixedTag, Lawful, ReadValue, Writer, WrittenValue};
 
 #[derive(Drop)]
-struct CowOctets<'a> {
+pub(super) struct CowOctets<'a> {
     octets: BytesCow<'a>,
 }
 

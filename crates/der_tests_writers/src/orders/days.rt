@@ -7,6 +7,7 @@ ghost use Rattle.der_base.proofs.OrderLemmas.{then_equal};
 
 use super::*;
 use crate::checks::same;
+use der_fixtures::constants::tags_agree;
 
 // A day, whose derived order is that of its octet.
 #[derive(Clone, Copy, Debug, PartialEq, Eq, PartialOrd, Ord)]
@@ -53,6 +54,11 @@ fn compare_days(a: Day, b: Day) -> Result<Ordering, Error>
     ensures { result ≡ Ok (byte_order (2 ∷ 1 ∷ a.number ∷ []) (2 ∷ 1 ∷ b.number ∷ [])) }
 {
     a.der_cmp(&b)
+}
+
+#[test]
+fn constants_and_functions_tell_the_same_tag(rt: HostRuntime) {
+    tags_agree::<Day>(&rt, Tag::Integer, false);
 }
 
 #[test]

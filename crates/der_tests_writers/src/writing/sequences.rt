@@ -138,7 +138,7 @@ fn refused_within(writer: &mut SliceWriter<'_>) -> Result<(), Error>
     })
 }
 
-// Likewise, by an author who does not look at the refusal.
+// The part is written by an author who does not look at the refusal.
 fn ignored_within(writer: &mut SliceWriter<'_>) -> Result<(), Error>
     ensures { Keeps (slice_writer_state writer.old) (slice_writer_state writer.new) }
 {

@@ -31,7 +31,8 @@ impl ReadValue for StringOwned {
 ///   cannot lend.
 /// - `Utf8` without a position, where they are no text; the reader stands behind them and has not
 ///   failed.
-/// - `OutOfMemory` without a position, where memory is refused; likewise.
+/// - `OutOfMemory` without a position, where memory is refused; the reader stands behind them and
+///   has not failed.
 impl<R: Reader> DecodeValue<R> for StringOwned {
     type Error = Error;
 

@@ -143,7 +143,7 @@ impl<'a> Walk<'a> {
         Ok(Part::Passes)
     }
 
-    // The rest of an identifier behind its first octet: the number of one from octet 40 on.
+    // The rest of an identifier behind its first octet: the number of one from octet `0x40` on.
     #[inline(always)]
     fn read_identifier(&mut self, first: u8) -> Result<u32, Error>
         ensures ok { IfOk result (λ n. IdentifierBehind first (identifier_tag first n)
