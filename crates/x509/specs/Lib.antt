@@ -1,2 +1,3 @@
+pub mod Checks
 pub mod TbsCertificate
 pub mod Version
