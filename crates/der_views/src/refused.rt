@@ -2,7 +2,8 @@
 
 use crate::failure::Failure;
 use crate::refused_certificate::search_certificate;
-use crate::refused_keys::{search_private_key, search_public_key};
+use crate::refused_fields::search_public_key;
+use crate::refused_private_key::search_private_key;
 use crate::refused_request::search_request;
 use crate::search::Search;
 use crate::shape::Shape;
@@ -20,21 +21,29 @@ pub fn refuse(
     error: Error,
 ) -> Result<(), Failure> {
     let mut search = Search::new(alloc, octets, error)?;
-    search_shape(alloc, &mut search, shape)?;
-    write!(text, "{} refused", shape_name(shape))?;
-    if !search.path.is_empty() {
-        write!(text, ": {} (offset {})", search.path, search.start)?;
+    search_shape(&mut search, shape);
+    if search.lacks_memory {
+        return Err(Failure::OutOfMemory);
     }
-    text.push('\n')?;
+    write_refused(text, shape, &search)?;
     Err(Failure::Refused(search.error))
 }
 
-fn search_shape(alloc: Global, search: &mut Search<'_>, shape: Shape) -> Result<(), AllocError> {
+fn write_refused(text: &mut String, shape: Shape, search: &Search<'_>) -> Result<(), AllocError> {
+    text.push_str(shape_name(shape))?;
+    text.push_str(" refused")?;
+    if !search.path.is_empty() {
+        write!(text, ": {} (offset {})", search.path, search.start)?;
+    }
+    text.push('\n')
+}
+
+fn search_shape(search: &mut Search<'_>, shape: Shape) {
     match shape {
-        Shape::Certificate => search_certificate(alloc, search),
-        Shape::Request => search_request(alloc, search),
-        Shape::PublicKey => search_public_key(alloc, search),
-        Shape::PrivateKey => search_private_key(alloc, search),
+        Shape::Certificate => search_certificate(search),
+        Shape::Request => search_request(search),
+        Shape::PublicKey => search_public_key(search),
+        Shape::PrivateKey => search_private_key(search),
     }
 }
 

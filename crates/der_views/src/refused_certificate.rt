@@ -1,120 +1,79 @@
-//! Fields of a certificate that are refused, by the names of RFC 5280, 4.1.
+//! Fields of a certificate, by the names of RFC 5280, 4.1.
 
-use crate::refused_keys::{search_algorithm, search_public_key};
+use crate::refused_fields::{
+    search_algorithm, search_bits, search_first_bits, search_identifier, search_key, search_name,
+};
 use crate::search::Search;
 use der::{Tag, TagNumber};
 use der_asn1::{
-    AnyRef, BitStringRef, BooleanRef, Defaulted, Explicit, Implicit, IntRef, ObjectIdentifierRef,
-    OctetStringRef, Optional,
+    BitStringRef, BooleanRef, Defaulted, Explicit, Implicit, IntRef, OctetStringRef, Optional,
 };
-use spki::{AlgorithmIdentifierRef, SubjectPublicKeyInfoRef};
-use std::alloc::{AllocError, Global};
-use x509::{
-    AttributeTypeAndValue, Extension, Extensions, Name, RelativeDistinguishedName, TbsCertificate,
-    Time, Validity, Version,
-};
+use x509::{Extension, Extensions, TbsCertificate, Time, Validity, Version};
 
-/// Looks for the field of a certificate that is refused.
-pub fn search_certificate(alloc: Global, search: &mut Search<'_>) -> Result<(), AllocError> {
-    if !search.enter(Tag::Sequence) {
-        return Ok(());
-    }
-    if search.is_refused::<TbsCertificate<'_>>(alloc, "tbsCertificate")? {
-        return search_issued(alloc, search);
-    }
-    if search.is_refused::<AlgorithmIdentifierRef<'_>>(alloc, "signatureAlgorithm")? {
-        return search_algorithm(alloc, search);
-    }
-    let _found = search.is_refused::<BitStringRef<'_>>(alloc, "signatureValue")?;
-    Ok(())
+/// Looks inside a certificate that is refused.
+pub fn search_certificate(search: &mut Search<'_>) {
+    let _found = search.enter(Tag::Sequence)
+        && (search_signed(search)
+            || search_algorithm(search, "signatureAlgorithm")
+            || search_bits(search, "signatureValue"));
 }
 
-/// Looks among the fields of a TBSCertificate, the first ones first.
-fn search_issued(alloc: Global, search: &mut Search<'_>) -> Result<(), AllocError> {
-    if !search.enter(Tag::Sequence)
-        || search.is_refused::<Defaulted<Explicit<Version<'_>, 0>>>(alloc, "version")?
-        || search.is_refused::<IntRef<'_>>(alloc, "serialNumber")?
-    {
-        return Ok(());
+/// A TBSCertificate.
+fn search_signed(search: &mut Search<'_>) -> bool {
+    if !search.is_refused::<TbsCertificate<'_>>("tbsCertificate") {
+        return false;
     }
-    if search.is_refused::<AlgorithmIdentifierRef<'_>>(alloc, "signature")? {
-        return search_algorithm(alloc, search);
-    }
-    if search.is_refused::<Name<'_>>(alloc, "issuer")? {
-        return search_name(alloc, search);
-    }
-    if search.is_refused::<Validity>(alloc, "validity")? {
-        return search_validity(alloc, search);
-    }
-    search_subject(alloc, search)
+    let _found = search.enter(Tag::Sequence) && (search_issued(search) || search_subject(search));
+    true
 }
 
-/// Looks among the fields from the subject on.
-fn search_subject(alloc: Global, search: &mut Search<'_>) -> Result<(), AllocError> {
-    if search.is_refused::<Name<'_>>(alloc, "subject")? {
-        return search_name(alloc, search);
-    }
-    if search.is_refused::<SubjectPublicKeyInfoRef<'_>>(alloc, "subjectPublicKeyInfo")? {
-        return search_public_key(alloc, search);
-    }
-    if search.is_refused::<Optional<Implicit<BitStringRef<'_>, 1>>>(alloc, "issuerUniqueID")?
-        || search.is_refused::<Optional<Implicit<BitStringRef<'_>, 2>>>(alloc, "subjectUniqueID")?
-    {
-        return Ok(());
-    }
-    if search.is_refused::<Optional<Explicit<Extensions<'_>, 3>>>(alloc, "extensions")? {
-        return search_extensions(alloc, search);
-    }
-    Ok(())
+/// Its first fields.
+fn search_issued(search: &mut Search<'_>) -> bool {
+    search.is_refused::<Defaulted<Explicit<Version<'_>, 0>>>("version")
+        || search.is_refused::<IntRef<'_>>("serialNumber")
+        || search_algorithm(search, "signature")
+        || search_name(search, "issuer")
+        || search_validity(search)
 }
 
-/// Looks among the times of a validity.
-fn search_validity(alloc: Global, search: &mut Search<'_>) -> Result<(), AllocError> {
-    if search.enter(Tag::Sequence) {
-        let _found = search.is_refused::<Time>(alloc, "notBefore")?
-            || search.is_refused::<Time>(alloc, "notAfter")?;
-    }
-    Ok(())
+/// Its fields from the subject on.
+fn search_subject(search: &mut Search<'_>) -> bool {
+    search_name(search, "subject")
+        || search_key(search, "subjectPublicKeyInfo")
+        || search_first_bits(search, "issuerUniqueID")
+        || search.is_refused::<Optional<Implicit<BitStringRef<'_>, 2>>>("subjectUniqueID")
+        || search_extensions(search)
 }
 
-/// Looks among the levels of a name, and among their attributes.
-pub fn search_name(alloc: Global, search: &mut Search<'_>) -> Result<(), AllocError> {
-    if !search.enter(Tag::Sequence)
-        || !search.is_item_refused::<RelativeDistinguishedName<'_>>(alloc)?
-        || !search.enter(Tag::Set)
-    {
-        return Ok(());
+/// A validity, with its times.
+fn search_validity(search: &mut Search<'_>) -> bool {
+    if !search.is_refused::<Validity>("validity") {
+        return false;
     }
-    search_level(alloc, search)
+    let _found = search.enter(Tag::Sequence)
+        && (search_time(search, "notBefore") || search_time(search, "notAfter"));
+    true
 }
 
-/// Looks among the attributes of a level.
-fn search_level(alloc: Global, search: &mut Search<'_>) -> Result<(), AllocError> {
-    if !search.is_member_refused::<AttributeTypeAndValue<'_>>(alloc)?
-        || !search.enter(Tag::Sequence)
-    {
-        return Ok(());
-    }
-    let _found = search.is_refused::<ObjectIdentifierRef<'_>>(alloc, "type")?
-        || search.is_refused::<AnyRef<'_>>(alloc, "value")?;
-    Ok(())
+fn search_time(search: &mut Search<'_>, name: &str) -> bool {
+    search.is_refused::<Time>(name)
 }
 
-/// Looks among the extensions, and among the fields of each.
-fn search_extensions(alloc: Global, search: &mut Search<'_>) -> Result<(), AllocError> {
+/// Extensions, where there are some, and the fields of each.
+fn search_extensions(search: &mut Search<'_>) -> bool {
+    if !search.is_refused::<Optional<Explicit<Extensions<'_>, 3>>>("extensions") {
+        return false;
+    }
     let around = Tag::ContextSpecific {
         constructed: true,
         number: TagNumber(3),
     };
-    if !search.enter(around)
-        || !search.enter(Tag::Sequence)
-        || !search.is_item_refused::<Extension<'_>>(alloc)?
-        || !search.enter(Tag::Sequence)
-    {
-        return Ok(());
-    }
-    let _found = search.is_refused::<ObjectIdentifierRef<'_>>(alloc, "extnID")?
-        || search.is_refused::<Defaulted<BooleanRef<'_>>>(alloc, "critical")?
-        || search.is_refused::<OctetStringRef<'_>>(alloc, "extnValue")?;
-    Ok(())
+    let _found = search.enter(around)
+        && search.enter(Tag::Sequence)
+        && search.is_item_refused::<Extension<'_>>()
+        && search.enter(Tag::Sequence)
+        && (search_identifier(search, "extnID")
+            || search.is_refused::<Defaulted<BooleanRef<'_>>>("critical")
+            || search.is_refused::<OctetStringRef<'_>>("extnValue"));
+    true
 }

@@ -1,59 +1,47 @@
-//! Fields of a request that are refused, by the names of RFC 2986, 4.
+//! Fields of a request, by the names of RFC 2986, 4.
 
-use crate::refused_certificate::search_name;
-use crate::refused_keys::{search_algorithm, search_public_key};
+use crate::refused_fields::{
+    search_algorithm, search_bits, search_identifier, search_key, search_name,
+};
 use crate::search::Search;
 use der::{Tag, TagNumber};
-use der_asn1::{BitStringRef, Implicit, ObjectIdentifierRef};
-use spki::{AlgorithmIdentifierRef, SubjectPublicKeyInfoRef};
-use std::alloc::{AllocError, Global};
-use x509::{Attribute, AttributeValues, Attributes, CertReqInfo, CertReqVersion, Name};
+use der_asn1::Implicit;
+use x509::{Attribute, AttributeValues, Attributes, CertReqInfo, CertReqVersion};
 
-/// Looks for the field of a request that is refused.
-pub fn search_request(alloc: Global, search: &mut Search<'_>) -> Result<(), AllocError> {
-    if !search.enter(Tag::Sequence) {
-        return Ok(());
-    }
-    if search.is_refused::<CertReqInfo<'_>>(alloc, "certificationRequestInfo")? {
-        return search_info(alloc, search);
-    }
-    if search.is_refused::<AlgorithmIdentifierRef<'_>>(alloc, "signatureAlgorithm")? {
-        return search_algorithm(alloc, search);
-    }
-    let _found = search.is_refused::<BitStringRef<'_>>(alloc, "signature")?;
-    Ok(())
+/// Looks inside a request that is refused.
+pub fn search_request(search: &mut Search<'_>) {
+    let _found = search.enter(Tag::Sequence)
+        && (search_info(search)
+            || search_algorithm(search, "signatureAlgorithm")
+            || search_bits(search, "signature"));
 }
 
-/// Looks among the fields of a CertificationRequestInfo.
-fn search_info(alloc: Global, search: &mut Search<'_>) -> Result<(), AllocError> {
-    if !search.enter(Tag::Sequence) || search.is_refused::<CertReqVersion<'_>>(alloc, "version")? {
-        return Ok(());
+/// A CertificationRequestInfo.
+fn search_info(search: &mut Search<'_>) -> bool {
+    if !search.is_refused::<CertReqInfo<'_>>("certificationRequestInfo") {
+        return false;
     }
-    if search.is_refused::<Name<'_>>(alloc, "subject")? {
-        return search_name(alloc, search);
-    }
-    if search.is_refused::<SubjectPublicKeyInfoRef<'_>>(alloc, "subjectPKInfo")? {
-        return search_public_key(alloc, search);
-    }
-    if search.is_refused::<Implicit<Attributes<'_>, 0>>(alloc, "attributes")? {
-        return search_attributes(alloc, search);
-    }
-    Ok(())
+    let _found = search.enter(Tag::Sequence)
+        && (search.is_refused::<CertReqVersion<'_>>("version")
+            || search_name(search, "subject")
+            || search_key(search, "subjectPKInfo")
+            || search_attributes(search));
+    true
 }
 
-/// Looks among the attributes, and among the fields of each.
-fn search_attributes(alloc: Global, search: &mut Search<'_>) -> Result<(), AllocError> {
+/// Attributes, and the fields of each.
+fn search_attributes(search: &mut Search<'_>) -> bool {
+    if !search.is_refused::<Implicit<Attributes<'_>, 0>>("attributes") {
+        return false;
+    }
     let around = Tag::ContextSpecific {
         constructed: true,
         number: TagNumber(0),
     };
-    if !search.enter(around)
-        || !search.is_member_refused::<Attribute<'_>>(alloc)?
-        || !search.enter(Tag::Sequence)
-    {
-        return Ok(());
-    }
-    let _found = search.is_refused::<ObjectIdentifierRef<'_>>(alloc, "type")?
-        || search.is_refused::<AttributeValues<'_>>(alloc, "values")?;
-    Ok(())
+    let _found = search.enter(around)
+        && search.is_member_refused::<Attribute<'_>>()
+        && search.enter(Tag::Sequence)
+        && (search_identifier(search, "type")
+            || search.is_refused::<AttributeValues<'_>>("values"));
+    true
 }
