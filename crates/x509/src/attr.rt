@@ -12,14 +12,14 @@ use der::{
 };
 use der_asn1::{Described, ObjectIdentifierRef, SetOf};
 use std::alloc::Global;
-pub use values::{AttributeValues, AttributeValuesForm};
+pub use values::AttributeValues;
 
 /// An attribute of a request, lent by the input.
 #[derive(Drop)]
 pub struct Attribute<'a> {
     /// The type of the attribute.
     pub oid: ObjectIdentifierRef<'a>,
-    /// Its values, of any type, whose octets are not looked at.
+    /// Its values, of any type.
     pub values: AttributeValues<'a>,
 }
 

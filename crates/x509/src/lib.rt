@@ -18,7 +18,7 @@ mod time;
 mod validity;
 mod version;
 
-pub use attr::{Attribute, AttributeFields, AttributeValues, AttributeValuesForm, Attributes};
+pub use attr::{Attribute, AttributeFields, AttributeValues, Attributes};
 pub use attribute::{AttributeTypeAndValue, AttributeTypeAndValueFields};
 pub use certificate::{Certificate, CertificateFields};
 pub use extension::{Extension, ExtensionFields};
