@@ -1,5 +1,5 @@
-//! Tells what a file of DER or BER is: the fields of a certificate or of a public key, a line for
-//! each, and of anything else a line for each element.
+//! Tells what a file of DER or BER is: the fields of a certificate or a key, a line for each, or which
+//! of them is refused; and of anything else a line for each element.
 #![tactic(auto)]
 
 use der_views::run_arguments;

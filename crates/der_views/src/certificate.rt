@@ -3,44 +3,75 @@
 use crate::contents::write_octets;
 use crate::identifier::write_identifier;
 use crate::name::write_name;
+use crate::offsets::Offsets;
 use crate::public_key::write_public_key;
 use crate::time::write_time;
-use der_asn1::{IntRef, ObjectIdentifierRef};
+use crate::version::write_version;
+use der_asn1::{BitStringRef, Implicit, IntRef, ObjectIdentifierRef, Optional};
 use std::alloc::{AllocError, Global};
 use std::fmt::Write;
 use x509::{Certificate, Extension, Extensions, TbsCertificate};
 
-/// Writes a line for each field, in the words of `openssl x509 -text`.
+/// Writes a line for each field, in the words of `openssl x509 -text`. The offsets are those of the
+/// octets that the certificate was read from.
 pub fn write_certificate(
     alloc: Global,
     text: &mut String,
     certificate: &Certificate<'_>,
+    offsets: &mut Offsets<'_>,
 ) -> Result<(), AllocError> {
     let tbs = &certificate.tbs_certificate;
-    write_head(text, tbs)?;
-    write_parties(alloc, text, tbs)?;
-    write_public_key(text, &tbs.subject_public_key_info)?;
+    offsets.enter();
+    offsets.enter();
+    write_head(text, tbs, offsets)?;
+    write_parties(alloc, text, tbs, offsets)?;
+    write_public_key(text, &tbs.subject_public_key_info, offsets)?;
+    write_unique_id(text, "Issuer", &tbs.issuer_unique_id, offsets)?;
+    write_unique_id(text, "Subject", &tbs.subject_unique_id, offsets)?;
     if let Some(extensions) = &tbs.extensions.0 {
-        write_extensions(alloc, text, &extensions.0)?;
+        write_extensions(alloc, text, &extensions.0, offsets)?;
     }
-    write_algorithm(text, &certificate.signature_algorithm.oid)?;
-    let signature_len = certificate.signature.octets().len().saturating_sub(1);
-    write!(text, "Signature Value: {signature_len} octets\n")
+    write_signature_algorithm(text, &certificate.signature_algorithm.oid, offsets)?;
+    write_signature(text, &certificate.signature, offsets)?;
+    write_warnings(text, certificate, offsets)
+}
+
+/// Writes a line for each rule that the certificate breaks, of those that reading does not ask for.
+fn write_warnings(
+    text: &mut String,
+    certificate: &Certificate<'_>,
+    offsets: &Offsets<'_>,
+) -> Result<(), AllocError> {
+    if !certificate.tbs_certificate.has_fields_of_version() {
+        offsets.put_none(text)?;
+        text.push_str("Warning: fields of a later version (RFC 5280, 4.1.2.8 and 4.1.2.9)\n")?;
+    }
+    if !certificate.has_same_algorithms() {
+        offsets.put_none(text)?;
+        text.push_str("Warning: two signature algorithms (RFC 5280, 4.1.1.2)\n")?;
+    }
+    Ok(())
 }
 
 /// Writes version, serial number and algorithm.
-fn write_head(text: &mut String, tbs: &TbsCertificate<'_>) -> Result<(), AllocError> {
-    if let [version, ..] = tbs.version.0.0.octets() {
-        writeln!(
-            text,
-            "Version: {} ({version:#x})",
-            version.saturating_add(1)
-        )?;
+fn write_head(
+    text: &mut String,
+    tbs: &TbsCertificate<'_>,
+    offsets: &mut Offsets<'_>,
+) -> Result<(), AllocError> {
+    let version = tbs.version.0.0.octets();
+    if version == [0].as_slice() {
+        // a default, which no element tells
+        offsets.put_none(text)?;
+    } else {
+        offsets.put(text)?;
     }
+    write_version(text, version)?;
+    offsets.put(text)?;
     text.push_str("Serial Number: ")?;
     write_serial_number(text, &tbs.serial_number)?;
     text.push('\n')?;
-    write_algorithm(text, &tbs.signature.oid)
+    write_signature_algorithm(text, &tbs.signature.oid, offsets)
 }
 
 /// Writes issuer, validity and subject.
@@ -48,14 +79,23 @@ fn write_parties(
     alloc: Global,
     text: &mut String,
     tbs: &TbsCertificate<'_>,
+    offsets: &mut Offsets<'_>,
 ) -> Result<(), AllocError> {
+    offsets.put(text)?;
     text.push_str("Issuer: ")?;
     write_name(alloc, text, &tbs.issuer)?;
-    text.push_str("\nNot Before: ")?;
+    text.push('\n')?;
+    offsets.enter();
+    offsets.put(text)?;
+    text.push_str("Not Before: ")?;
     write_time(text, &tbs.validity.not_before)?;
-    text.push_str("\nNot After : ")?;
+    text.push('\n')?;
+    offsets.put(text)?;
+    text.push_str("Not After : ")?;
     write_time(text, &tbs.validity.not_after)?;
-    text.push_str("\nSubject: ")?;
+    text.push('\n')?;
+    offsets.put(text)?;
+    text.push_str("Subject: ")?;
     write_name(alloc, text, &tbs.subject)?;
     text.push('\n')
 }
@@ -76,9 +116,42 @@ fn write_serial_number(text: &mut String, number: &IntRef<'_>) -> Result<(), All
     }
 }
 
-fn write_algorithm(text: &mut String, oid: &ObjectIdentifierRef<'_>) -> Result<(), AllocError> {
+/// Writes the line of the algorithm of a signature.
+pub fn write_signature_algorithm(
+    text: &mut String,
+    oid: &ObjectIdentifierRef<'_>,
+    offsets: &mut Offsets<'_>,
+) -> Result<(), AllocError> {
+    offsets.put(text)?;
     text.push_str("Signature Algorithm: ")?;
     write_identifier(text, oid)?;
+    text.push('\n')
+}
+
+/// Writes the line of a signature.
+pub fn write_signature(
+    text: &mut String,
+    signature: &BitStringRef<'_>,
+    offsets: &mut Offsets<'_>,
+) -> Result<(), AllocError> {
+    offsets.put(text)?;
+    let signature_len = signature.octets().len().saturating_sub(1);
+    writeln!(text, "Signature Value: {signature_len} octets")
+}
+
+/// Writes the line of a unique identifier, where there is one.
+fn write_unique_id<const N: u32>(
+    text: &mut String,
+    of: &str,
+    id: &Optional<Implicit<BitStringRef<'_>, N>>,
+    offsets: &mut Offsets<'_>,
+) -> Result<(), AllocError> {
+    let Some(id) = &id.0 else {
+        return Ok(());
+    };
+    offsets.put(text)?;
+    write!(text, "{of} Unique ID: ")?;
+    write_octets(text, id.0.octets().get(1..).unwrap_or(&[]))?;
     text.push('\n')
 }
 
@@ -86,14 +159,18 @@ fn write_extensions(
     alloc: Global,
     text: &mut String,
     extensions: &Extensions<'_>,
+    offsets: &mut Offsets<'_>,
 ) -> Result<(), AllocError> {
+    offsets.put_around(text)?;
     text.push_str("X509v3 extensions:\n")?;
+    offsets.enter();
     let mut items = extensions.items.items();
     for _ in 0..extensions.items.octets().len() {
-        match items.next(alloc) {
-            Some(extension) => write_extension(text, &extension)?,
-            None => return Ok(()),
-        }
+        let Some(extension) = items.next(alloc) else {
+            return Ok(());
+        };
+        offsets.put(text)?;
+        write_extension(text, &extension)?;
     }
     Ok(())
 }

@@ -1,19 +1,31 @@
-//! What the program `der_show` tells of a file: the fields of a certificate or of a public key, a
-//! line for each, and of any other DER or BER a line for each element.
+//! What the program `der_show` tells of a file: the fields of a certificate, a request or a key, a
+//! line for each, or which of them is refused; and of any other DER or BER a line for each element.
 #![tactic(auto)]
 
 mod certificate;
 mod contents;
 mod element;
 mod failure;
+mod fields;
 mod identifier;
 mod name;
 mod names;
+mod offsets;
 mod options;
+mod private_key;
 mod program;
 mod public_key;
+mod refused;
+mod refused_certificate;
+mod refused_fields;
+mod refused_private_key;
+mod refused_request;
+mod request;
+mod search;
+mod shape;
 mod time;
 mod tree;
+mod version;
 mod view;
 
 pub use options::Options;

@@ -9,6 +9,8 @@ pub struct Options {
     pub rules: EncodingRules,
     /// Whether each line tells where its element begins.
     pub has_offsets: bool,
+    /// Whether the elements are shown, whatever the octets are.
+    pub is_tree: bool,
 }
 
 /// What to read, and how it is shown.
@@ -26,6 +28,7 @@ impl<'a> Command<'a> {
         let mut options = Options {
             rules: EncodingRules::Der,
             has_offsets: false,
+            is_tree: false,
         };
         let mut file = None;
         for word in words {
@@ -35,6 +38,7 @@ impl<'a> Command<'a> {
             match word.as_str() {
                 "--ber" => options.rules = EncodingRules::Ber,
                 "--offsets" => options.has_offsets = true,
+                "--tree" => options.is_tree = true,
                 other if other.starts_with("--") => return None,
                 other => file = Some(other),
             }

@@ -10,7 +10,7 @@ use std::io::{Read, Write};
 use std::rt::Files;
 use std::{fs, io};
 
-const USAGE: &str = "usage: der_show [--offsets] [--ber] [FILE]\n";
+const USAGE: &str = "usage: der_show [--offsets] [--tree] [--ber] [FILE]\n";
 
 /// Tells the file that the arguments name, or standard input, on the output, and gives the status:
 /// 0 where the octets are told, 1 where they are refused or not read, memory is refused or the

@@ -2,9 +2,10 @@
 
 use crate::contents::write_first_octets;
 use crate::identifier::write_identifier;
+use crate::offsets::Offsets;
 use der::{Error, Reader, SliceReader, Tag, decode_header};
 use der_asn1::ObjectIdentifierRef;
-use spki::SubjectPublicKeyInfoRef;
+use spki::{AlgorithmIdentifierRef, SubjectPublicKeyInfoRef};
 use std::alloc::AllocError;
 use std::fmt::Write;
 
@@ -18,19 +19,21 @@ const ELLIPTIC_CURVE: &[u8] = &[0x2a, 0x86, 0x48, 0xce, 0x3d, 0x02, 0x01];
 pub fn write_public_key(
     text: &mut String,
     key: &SubjectPublicKeyInfoRef<'_>,
+    offsets: &mut Offsets<'_>,
 ) -> Result<(), AllocError> {
-    let algorithm = &key.algorithm.oid;
+    offsets.enter();
+    let mut parameters = offsets.fork();
+    offsets.put(text)?;
     text.push_str("Public Key Algorithm: ")?;
-    write_identifier(text, algorithm)?;
+    write_identifier(text, &key.algorithm.oid)?;
+    text.push('\n')?;
+    offsets.put(text)?;
     let octets = key.subject_public_key.octets().get(1..).unwrap_or(&[]);
     match key_bits(key, octets) {
-        Some(bits) => writeln!(text, "\nPublic-Key: ({bits} bit)")?,
-        None => writeln!(text, "\nPublic-Key: {} octets", octets.len())?,
+        Some(bits) => writeln!(text, "Public-Key: ({bits} bit)")?,
+        None => writeln!(text, "Public-Key: {} octets", octets.len())?,
     }
-    if algorithm.octets() == ELLIPTIC_CURVE {
-        return write_curve(text, key);
-    }
-    Ok(())
+    write_curve(text, &key.algorithm, &mut parameters)
 }
 
 /// How many bits a key of an algorithm that is known here is said to have.
@@ -57,11 +60,22 @@ fn curve_bits(curve: &[u8]) -> Option<u64> {
     }
 }
 
-/// Writes the line of the curve that the parameters name.
-fn write_curve(text: &mut String, key: &SubjectPublicKeyInfoRef<'_>) -> Result<(), AllocError> {
-    let Some(parameters) = &key.algorithm.parameters.0 else {
+/// Writes the line of the curve that the parameters of an algorithm name, where it is that of
+/// elliptic curves. The offsets are those of the algorithm's element.
+pub fn write_curve(
+    text: &mut String,
+    algorithm: &AlgorithmIdentifierRef<'_>,
+    offsets: &mut Offsets<'_>,
+) -> Result<(), AllocError> {
+    let Some(parameters) = &algorithm.parameters.0 else {
         return Ok(());
     };
+    if algorithm.oid.octets() != ELLIPTIC_CURVE {
+        return Ok(());
+    }
+    offsets.enter();
+    offsets.pass();
+    offsets.put(text)?;
     match ObjectIdentifierRef::new(parameters.contents) {
         Some(curve) if parameters.tag == Tag::ObjectIdentifier => {
             text.push_str("ASN1 OID: ")?;

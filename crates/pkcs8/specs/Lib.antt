@@ -1,1 +1,2 @@
+pub mod PrivateKeyInfo
 pub mod Version

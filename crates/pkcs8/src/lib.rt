@@ -3,6 +3,7 @@
 #![tactic(auto)]
 
 mod attributes;
+mod checks;
 mod private_key_info;
 mod version;
 

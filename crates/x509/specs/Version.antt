@@ -10,3 +10,9 @@ version_form (o ∷ p ∷ os) = false
 abbrev pub is_version_1 : List ℕ → Bool
 is_version_1 [] = false
 is_version_1 (o ∷ os) = o == 0
+
+-- of a request there is one: 0 (RFC 2986, 4.1)
+abbrev pub request_version_form : List ℕ → Bool
+request_version_form [] = false
+request_version_form (o ∷ []) = o == 0
+request_version_form (o ∷ p ∷ os) = false

@@ -1,26 +1,33 @@
-//! Certificates (RFC 5280, 4.1), lent by the input. Each type is lawful: it is read exactly where
-//! the octets are its encoding. No memory is taken.
+//! Certificates (RFC 5280, 4.1), and requests for them (RFC 2986, 4), lent by the input. Each type is
+//! lawful: it is read exactly where the octets are its encoding. No memory is taken.
 #![tactic(auto)]
 
+mod attr;
 mod attribute;
 mod certificate;
+mod checks;
 mod extension;
 mod extensions;
 mod issued;
 mod name;
 mod relative_distinguished_name;
+mod request;
 mod subject;
 mod tbs_certificate;
 mod time;
 mod validity;
 mod version;
 
+pub use attr::{Attribute, AttributeFields, AttributeValues, Attributes};
 pub use attribute::{AttributeTypeAndValue, AttributeTypeAndValueFields};
 pub use certificate::{Certificate, CertificateFields};
 pub use extension::{Extension, ExtensionFields};
 pub use extensions::Extensions;
 pub use name::Name;
 pub use relative_distinguished_name::RelativeDistinguishedName;
+pub use request::{
+    CertReq, CertReqFields, CertReqInfo, CertReqInfoFields, CertReqVersion, CertReqVersionForm,
+};
 pub use tbs_certificate::{TbsCertificate, TbsCertificateFields};
 pub use time::Time;
 pub use validity::{Validity, ValidityFields};

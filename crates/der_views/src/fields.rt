@@ -1,0 +1,67 @@
+//! Fields of certificates, requests and keys.
+
+use crate::certificate::write_certificate;
+use crate::failure::Failure;
+use crate::offsets::Offsets;
+use crate::private_key::write_private_key;
+use crate::public_key::write_public_key;
+use crate::refused::refuse;
+use crate::request::write_request;
+use crate::shape::Shape;
+use der::{Decode, DecodeBytes, Error, SliceReader};
+use pkcs8::PrivateKeyInfo;
+use spki::SubjectPublicKeyInfoRef;
+use std::alloc::Global;
+use x509::{CertReq, Certificate};
+
+/// Writes a line for each field of what the octets are meant to be, or which of them is refused.
+pub fn write_fields(
+    alloc: Global,
+    text: &mut String,
+    octets: &[u8],
+    shape: Shape,
+    has_offsets: bool,
+) -> Result<(), Failure> {
+    let mut offsets = Offsets::new(octets, has_offsets)?;
+    match write_accepted(alloc, text, octets, shape, &mut offsets) {
+        Err(Failure::Refused(error)) => refuse(alloc, text, octets, shape, error),
+        result => result,
+    }
+}
+
+/// Writes the fields of what is read.
+fn write_accepted(
+    alloc: Global,
+    text: &mut String,
+    octets: &[u8],
+    shape: Shape,
+    offsets: &mut Offsets<'_>,
+) -> Result<(), Failure> {
+    match shape {
+        Shape::Certificate => {
+            let certificate = read::<Certificate<'_>>(alloc, octets)?;
+            write_certificate(alloc, text, &certificate, offsets)?;
+        }
+        Shape::Request => {
+            let request = read::<CertReq<'_>>(alloc, octets)?;
+            write_request(alloc, text, &request, offsets)?;
+        }
+        Shape::PublicKey => {
+            let key = read::<SubjectPublicKeyInfoRef<'_>>(alloc, octets)?;
+            write_public_key(text, &key, offsets)?;
+        }
+        Shape::PrivateKey => {
+            let key = read::<PrivateKeyInfo<'_>>(alloc, octets)?;
+            write_private_key(text, &key, offsets)?;
+        }
+    }
+    Ok(())
+}
+
+/// The value that the octets are.
+fn read<'a, T: Decode<SliceReader<'a>, Error = Error>>(
+    alloc: Global,
+    octets: &'a [u8],
+) -> Result<T, Error> {
+    T::from_der(alloc, octets)
+}

@@ -1,0 +1,17 @@
+//! Fields of a private key, by the names of RFC 5958, 2.
+
+use crate::refused_fields::{search_algorithm, search_first_bits};
+use crate::search::Search;
+use der::Tag;
+use der_asn1::{Implicit, OctetStringRef, Optional};
+use pkcs8::{Attributes, Version};
+
+/// Looks inside a private key that is refused.
+pub fn search_private_key(search: &mut Search<'_>) {
+    let _found = search.enter(Tag::Sequence)
+        && (search.is_refused::<Version<'_>>("version")
+            || search_algorithm(search, "privateKeyAlgorithm")
+            || search.is_refused::<OctetStringRef<'_>>("privateKey")
+            || search.is_refused::<Optional<Implicit<Attributes<'_>, 0>>>("attributes")
+            || search_first_bits(search, "publicKey"));
+}

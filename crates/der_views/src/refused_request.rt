@@ -1,0 +1,47 @@
+//! Fields of a request, by the names of RFC 2986, 4.
+
+use crate::refused_fields::{
+    search_algorithm, search_bits, search_identifier, search_key, search_name,
+};
+use crate::search::Search;
+use der::{Tag, TagNumber};
+use der_asn1::Implicit;
+use x509::{Attribute, AttributeValues, Attributes, CertReqInfo, CertReqVersion};
+
+/// Looks inside a request that is refused.
+pub fn search_request(search: &mut Search<'_>) {
+    let _found = search.enter(Tag::Sequence)
+        && (search_info(search)
+            || search_algorithm(search, "signatureAlgorithm")
+            || search_bits(search, "signature"));
+}
+
+/// A CertificationRequestInfo.
+fn search_info(search: &mut Search<'_>) -> bool {
+    if !search.is_refused::<CertReqInfo<'_>>("certificationRequestInfo") {
+        return false;
+    }
+    let _found = search.enter(Tag::Sequence)
+        && (search.is_refused::<CertReqVersion<'_>>("version")
+            || search_name(search, "subject")
+            || search_key(search, "subjectPKInfo")
+            || search_attributes(search));
+    true
+}
+
+/// Attributes, and the fields of each.
+fn search_attributes(search: &mut Search<'_>) -> bool {
+    if !search.is_refused::<Implicit<Attributes<'_>, 0>>("attributes") {
+        return false;
+    }
+    let around = Tag::ContextSpecific {
+        constructed: true,
+        number: TagNumber(0),
+    };
+    let _found = search.enter(around)
+        && search.is_member_refused::<Attribute<'_>>()
+        && search.enter(Tag::Sequence)
+        && (search_identifier(search, "type")
+            || search.is_refused::<AttributeValues<'_>>("values"));
+    true
+}

@@ -1,0 +1,56 @@
+//! Requests for certificates.
+
+use crate::certificate::{write_signature, write_signature_algorithm};
+use crate::identifier::write_identifier;
+use crate::name::write_name;
+use crate::offsets::Offsets;
+use crate::public_key::write_public_key;
+use crate::version::write_version;
+use std::alloc::{AllocError, Global};
+use std::fmt::Write;
+use x509::{Attributes, CertReq};
+
+/// Writes a line for each field, in the words of `openssl req -text`.
+pub fn write_request(
+    alloc: Global,
+    text: &mut String,
+    request: &CertReq<'_>,
+    offsets: &mut Offsets<'_>,
+) -> Result<(), AllocError> {
+    let info = &request.info;
+    offsets.enter();
+    offsets.enter();
+    offsets.put(text)?;
+    write_version(text, info.version.octets())?;
+    offsets.put(text)?;
+    text.push_str("Subject: ")?;
+    write_name(alloc, text, &info.subject)?;
+    text.push('\n')?;
+    write_public_key(text, &info.public_key, offsets)?;
+    write_attributes(alloc, text, &info.attributes.0, offsets)?;
+    write_signature_algorithm(text, &request.algorithm.oid, offsets)?;
+    write_signature(text, &request.signature, offsets)
+}
+
+/// Writes a line for each attribute: its identifier, and how many octets its values have, in which
+/// nothing is looked at.
+fn write_attributes(
+    alloc: Global,
+    text: &mut String,
+    attributes: &Attributes<'_>,
+    offsets: &mut Offsets<'_>,
+) -> Result<(), AllocError> {
+    offsets.put_around(text)?;
+    text.push_str("Attributes:\n")?;
+    let mut items = attributes.items();
+    for _ in 0..attributes.octets().len() {
+        let Some(attribute) = items.next(alloc) else {
+            return Ok(());
+        };
+        offsets.put(text)?;
+        text.push_str("    ")?;
+        write_identifier(text, &attribute.oid)?;
+        writeln!(text, ": {} octets", attribute.values.octets().len())?;
+    }
+    Ok(())
+}

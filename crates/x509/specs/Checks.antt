@@ -1,0 +1,38 @@
+-- What reading a certificate does not look at, and what is asked apart (RFC 5280, 4.1).
+use Rattle.std.specs.Prelude.{◌≡◌, ◌≤◌, ℕ, List, [], ◌∷◌, Option, Some, None, IsSome}
+use Rattle.der.specs.Prelude.{Tag}
+use Rattle.der_asn1.specs.AnyRef.{any_contents}
+use Rattle.der_asn1.specs.declared.any.AnyRef.{AnyRef}
+use Rattle.spki.specs.declared.algorithm_identifier.AlgorithmIdentifierRef.{AlgorithmIdentifierRef}
+use Rattle.x509.specs.declared.certificate.Certificate.{Certificate}
+use Rattle.x509.specs.declared.tbs_certificate.TbsCertificate.{TbsCertificate}
+
+-- 0, 1 or 2, for version 1, 2 or 3 (4.1.2.1)
+abbrev pub version_number : List ℕ → ℕ
+version_number [] = 0
+version_number (o ∷ os) = o
+
+abbrev pub version_of : TbsCertificate → ℕ
+version_of v = version_number v.version.0.0.octets.now
+
+-- unique identifiers stand in version 2 or 3 alone (4.1.2.8), and extensions in version 3 (4.1.2.9)
+abbrev pub HasFieldsOfVersion : TbsCertificate → Type 0
+HasFieldsOfVersion v =
+    (IsSome v.issuer_unique_id.0 → 1 ≤ version_of v)
+    × (IsSome v.subject_unique_id.0 → 1 ≤ version_of v)
+    × (IsSome v.extensions.0 → version_of v ≡ 2)
+
+-- the parameters of an algorithm: none, or an element of a tag
+abbrev pub parameters_of : Option AnyRef → Option (Tag × List ℕ)
+parameters_of None = None
+parameters_of (Some v) = Some (v.tag, any_contents v)
+
+-- the same algorithm, with the same parameters (4.1.1.2)
+abbrev pub IsSameAlgorithm : AlgorithmIdentifierRef → AlgorithmIdentifierRef → Type 0
+IsSameAlgorithm v w =
+    (v.oid.octets.now ≡ w.oid.octets.now)
+    × (parameters_of v.parameters.0 ≡ parameters_of w.parameters.0)
+
+-- what the signature is made with is what the signed part says (4.1.1.2, 4.1.2.3)
+abbrev pub HasSameAlgorithms : Certificate → Type 0
+HasSameAlgorithms v = IsSameAlgorithm v.signature_algorithm v.tbs_certificate.signature

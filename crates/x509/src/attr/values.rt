@@ -1,0 +1,131 @@
+//! Values of an attribute of RFC 2986, 4.1: a SET OF elements of any tags.
+ghost use Rattle.std.specs.Prelude.{◌≡◌, ◌^◌, ◌<◌, false, length, ⊤};
+ghost use Rattle.std.proofs.Common.{arith};
+ghost use Rattle.der.specs.Prelude.{Set};
+ghost use Rattle.der_asn1.specs.Checked.{form_size, FormWritten};
+ghost use Rattle.der_asn1.specs.Lent.{TakesLent, IsLent, lent_lawful, lent_holds};
+ghost use Rattle.der_asn1.specs.ListAnswers.{ListRead};
+ghost use Rattle.der_asn1.specs.Meaning.{lent};
+ghost use Rattle.x509.specs.AttributeValues.{AreValues, HandsOn, ValuesWalked};
+
+mod walk;
+
+use der::{
+    DecodeValue, EncodeValue, Error, FixedTag, Header, Lawful, Length, ReadValue, Reader, Tag,
+    Writer, WrittenValue,
+};
+use der_asn1::Described;
+use std::alloc::{AllocError, Global};
+use walk::check_values;
+
+/// The values of an attribute, lent by the input: a SET OF elements of any tags, in the order of
+/// their encodings, which was seen once. Their contents are not looked at.
+pub struct AttributeValues<'a> {
+    octets: &'a [u8],
+    ghost short: { length octets.now < 2 ^ 32 },
+    ghost ascending: { ∥ AreValues octets.now ∥₁ },
+}
+
+/// The same values; it takes no memory.
+impl<'a> Clone for AttributeValues<'a> {
+    ghost is_clone = { λ p q. q ≡ p };
+
+    ghost is_infallible = { λ _. ⊤ };
+
+    fn clone(&self) -> Result<Self, AllocError> {
+        Ok(*self)
+    }
+}
+
+impl<'a> Copy for AttributeValues<'a> {}
+
+impl<'a> AttributeValues<'a> {
+    /// The contents.
+    pub fn octets(&self) -> &'a [u8]
+        ensures value { result.now ≡ self.now.octets.now }
+        ensures ascending { ∥ AreValues result.now ∥₁ }
+    {
+        self.octets
+    }
+}
+
+impl<'a> Described for AttributeValues<'a> {
+    ghost element = { lent Set AreValues (λ v. v.octets.now) };
+}
+
+impl<'a> FixedTag for AttributeValues<'a> {
+    ghost tag_is = { Set };
+
+    const TAG: Tag = Tag::Set;
+
+    fn fixed_tag() -> Tag
+        ensures { result ≡ Set }
+    {
+        Tag::Set
+    }
+}
+
+impl<'a> ReadValue for AttributeValues<'a> {
+    ghost valid = { IsLent AreValues (λ v. v.octets.now) };
+
+    ghost takes = { TakesLent AreValues (λ v. v.octets.now) };
+
+    ghost value_levels = { λ _. 0 };
+
+    ghost allocates = { false };
+
+    ghost takes_valid = { lent_holds AreValues (λ v. v.octets.now) };
+}
+
+/// The contents are lent, and every element in them is read once, under DER; also under BER they
+/// stand in the order of their encodings, and equal ones may follow each other.
+///
+/// # Errors
+///
+/// - `Failed`, `Overflow` and `Incomplete`, as by [`Reader::read_slice`].
+/// - Those of the elements, with positions counted from the beginning of the contents.
+/// - `SetOrdering` at the position, so counted, at which the first element begins that comes before
+///   the one ahead of it.
+impl<'a, R: Reader<Lent = &'a [u8]>> DecodeValue<R> for AttributeValues<'a> {
+    type Error = Error;
+
+    ghost decode_value_answers = { ListRead HandsOn ValuesWalked (λ v. v.octets.now) };
+
+    fn decode_value(alloc: Global, reader: &mut R, header: Header) -> Result<Self, Error> {
+        let octets = reader.read_slice(header.length())?;
+        check_values(alloc, octets)?;
+        Ok(AttributeValues { octets })
+    }
+
+    fn is_value(&self) {
+        let _octets = self.octets();
+    }
+}
+
+impl<'a> WrittenValue for AttributeValues<'a> {
+    ghost contents = { λ v. v.octets.now };
+
+    ghost writable = { IsLent AreValues (λ v. v.octets.now) };
+}
+
+/// # Errors
+///
+/// - `Overflow` where there are more than 4294967295 octets.
+/// - The writer's errors, as by [`Writer::write`].
+impl<'a> EncodeValue for AttributeValues<'a> {
+    ghost value_size = { λ v. form_size v.octets.now };
+
+    ghost encode_value_answers = { λ v. FormWritten v.octets.now };
+
+    fn value_len(&self) -> Result<Length, Error> {
+        Length::new_usize(self.octets.len())
+    }
+
+    fn encode_value<W: Writer>(&self, writer: &mut W) -> Result<(), Error> {
+        writer.write(self.octets)
+    }
+}
+
+impl<'a> Lawful for AttributeValues<'a> {
+    ghost lawful = { lent_lawful Set AreValues (λ v. v.octets.now) (Prim.omega arith) };
+}

@@ -1,0 +1,81 @@
+//! What reading a certificate does not look at.
+ghost use Rattle.std.specs.Prelude.{◌≡◌, ◌↔◌, true, Some};
+ghost use Rattle.x509.specs.Checks.{HasFieldsOfVersion, HasSameAlgorithms, IsSameAlgorithm};
+ghost use Rattle.x509.specs.Checks.{parameters_of, version_number};
+
+use crate::certificate::Certificate;
+use crate::tbs_certificate::TbsCertificate;
+use der::Tag;
+use der_asn1::AnyRef;
+use spki::AlgorithmIdentifierRef;
+
+// 0, 1 or 2, of the octets of a version.
+fn number_of(octets: &[u8]) -> u8
+    ensures { result ≡ version_number octets.now }
+{
+    match octets {
+        [octet, ..] => *octet,
+        [] => 0,
+    }
+}
+
+impl TbsCertificate<'_> {
+    /// Whether unique identifiers stand in version 2 or 3 alone, and extensions in version 3 (RFC
+    /// 5280, 4.1.2.1, 4.1.2.8, 4.1.2.9). Reading does not ask for it.
+    pub fn has_fields_of_version(&self) -> bool
+        ensures { (result ≡ true) ↔ HasFieldsOfVersion self.now }
+    {
+        let number = number_of(self.version.0.0.octets());
+        if self.extensions.0.is_some() && number != 2 {
+            return false;
+        }
+        let has_unique_id = self.issuer_unique_id.0.is_some() || self.subject_unique_id.0.is_some();
+        !has_unique_id || number >= 1
+    }
+}
+
+impl Certificate<'_> {
+    /// Whether the algorithm of the signature is the one that the signed part says: the same
+    /// identifier, and the same parameters or none (RFC 5280, 4.1.1.2). Reading does not ask for
+    /// it.
+    pub fn has_same_algorithms(&self) -> bool
+        ensures { (result ≡ true) ↔ HasSameAlgorithms self.now }
+    {
+        is_same_algorithm(&self.signature_algorithm, &self.tbs_certificate.signature)
+    }
+}
+
+// Whether two algorithms are the same, with the same parameters.
+fn is_same_algorithm(
+    first: &AlgorithmIdentifierRef<'_>,
+    second: &AlgorithmIdentifierRef<'_>,
+) -> bool
+    ensures { (result ≡ true) ↔ IsSameAlgorithm first.now second.now }
+{
+    first.oid.octets() == second.oid.octets()
+        && are_same_parameters(&first.parameters.0, &second.parameters.0)
+}
+
+// Whether there are none, or two elements with one tag and the same contents.
+fn are_same_parameters(first: &Option<AnyRef<'_>>, second: &Option<AnyRef<'_>>) -> bool
+    ensures { (result ≡ true) ↔ (parameters_of first.now ≡ parameters_of second.now) }
+{
+    match (first, second) {
+        (Some(first), Some(second)) => is_same_element(first, second),
+        (None, None) => true,
+        _ => false,
+    }
+}
+
+fn is_same_element(first: &AnyRef<'_>, second: &AnyRef<'_>) -> bool
+    ensures { (result ≡ true)
+        ↔ (parameters_of (Some first.now) ≡ parameters_of (Some second.now)) }
+{
+    is_same_tag(first.tag, second.tag) && first.contents == second.contents
+}
+
+fn is_same_tag(first: Tag, second: Tag) -> bool
+    ensures { (result ≡ true) ↔ (first ≡ second) }
+{
+    first == second
+}

@@ -1,0 +1,139 @@
+//! CertificationRequestInfo of RFC 2986, 4.1.
+ghost use Rattle.std.specs.Prelude.{◌≡◌, false};
+ghost use Rattle.std.proofs.Common.{refl};
+ghost use Rattle.der.specs.Prelude.{Sequence, map_ok};
+ghost use Rattle.der_asn1.specs.Meaning.{alternative, field, sequence, two_fields};
+
+use crate::attr::Attributes;
+use crate::name::Name;
+use crate::request::version::CertReqVersion;
+use der::{
+    Decode, DecodeValue, Encode, EncodeRef, EncodeValue, Error, FixedTag, Header, Lawful, Length,
+    ReadValue, Reader, SliceReader, Tag, Writer, WrittenValue, decode_contents,
+};
+use der_asn1::{Described, Implicit};
+use spki::SubjectPublicKeyInfoRef;
+use std::alloc::Global;
+
+/// What a request asks for, which its signature is over.
+#[derive(Drop)]
+pub struct CertReqInfo<'a> {
+    /// The version.
+    pub version: CertReqVersion<'a>,
+    /// To whom a certificate is to be issued.
+    pub subject: Name<'a>,
+    /// The key that it is to be for.
+    pub public_key: SubjectPublicKeyInfoRef<'a>,
+    /// What else is said of the subject, or asked for, as extensions are.
+    pub attributes: Implicit<Attributes<'a>, 0>,
+}
+
+/// Its fields, one behind the other.
+pub type CertReqInfoFields<'a> = (
+    (CertReqVersion<'a>, Name<'a>),
+    (SubjectPublicKeyInfoRef<'a>, Implicit<Attributes<'a>, 0>),
+);
+
+impl<'a> Described for CertReqInfo<'a> {
+    ghost element = { sequence (two_fields (two_fields (field (alternative
+        ⟦<CertReqVersion<'a> as Described>⟧.element))
+        (field (alternative ⟦<Name<'a> as Described>⟧.element)))
+        (two_fields (field (alternative ⟦<SubjectPublicKeyInfoRef<'a> as Described>⟧.element))
+        (field (alternative ⟦<Implicit<Attributes<'a>, 0> as Described>⟧.element))))
+        (λ v. ((v.version, v.subject), (v.public_key, v.attributes))) };
+}
+
+impl<'a> FixedTag for CertReqInfo<'a> {
+    ghost tag_is = { Sequence };
+
+    const TAG: Tag = Tag::Sequence;
+
+    fn fixed_tag() -> Tag
+        ensures { result ≡ Sequence }
+    {
+        Tag::Sequence
+    }
+}
+
+impl<'a> ReadValue for CertReqInfo<'a> {
+    ghost valid = { ⟦<CertReqInfo<'a> as Described>⟧.element.valid };
+
+    ghost takes = { ⟦<CertReqInfo<'a> as Described>⟧.element.takes };
+
+    ghost value_levels = { ⟦<CertReqInfo<'a> as Described>⟧.element.levels };
+
+    ghost allocates = { false };
+
+    ghost takes_valid = { ⟦<CertReqInfo<'a> as Described>⟧.element.holds refl };
+}
+
+/// # Errors
+///
+/// Those of the fields, one behind the other.
+impl<'a, R: Reader<Lent = &'a [u8]>> DecodeValue<R> for CertReqInfo<'a> {
+    type Error = Error;
+
+    ghost decode_value_answers = { λ h s result t.
+        ⟦<CertReqInfoFields<'a> as Decode<SliceReader<'a>>>⟧.decode_answers s
+        (map_ok (λ v. ((v.version, v.subject), (v.public_key, v.attributes))) result) t };
+
+    fn decode_value(alloc: Global, reader: &mut R, header: Header) -> Result<Self, Error> {
+        let fields = decode_contents::<R, CertReqInfoFields<'a>>(alloc, reader, header)?;
+        let ((version, subject), (public_key, attributes)) = fields;
+        Ok(CertReqInfo {
+            version,
+            subject,
+            public_key,
+            attributes,
+        })
+    }
+
+    fn is_value(&self) {
+        <CertReqVersion<'a> as DecodeValue<R>>::is_value(&self.version);
+        <Name<'a> as DecodeValue<R>>::is_value(&self.subject);
+        <SubjectPublicKeyInfoRef<'a> as DecodeValue<R>>::is_value(&self.public_key);
+        <Implicit<Attributes<'a>, 0> as DecodeValue<R>>::is_value(&self.attributes);
+    }
+}
+
+impl<'a> WrittenValue for CertReqInfo<'a> {
+    ghost contents = { ⟦<CertReqInfo<'a> as Described>⟧.element.contents };
+
+    ghost writable = { ⟦<CertReqInfo<'a> as Described>⟧.element.valid };
+}
+
+/// # Errors
+///
+/// Those of the fields, one behind the other, and `Overflow` without a position.
+impl<'a> EncodeValue for CertReqInfo<'a> {
+    ghost value_size = { λ v. ⟦<CertReqInfoFields<'a> as Encode>⟧.size (
+      (
+        v.version,
+        v.subject,
+      ),
+      (v.public_key, v.attributes),
+    ) };
+
+    ghost encode_value_answers = { λ v. ⟦<CertReqInfoFields<'a> as Encode>⟧.encode_answers
+        ((v.version, v.subject), (v.public_key, v.attributes)) };
+
+    fn value_len(&self) -> Result<Length, Error> {
+        (
+            (EncodeRef(&self.version), EncodeRef(&self.subject)),
+            (EncodeRef(&self.public_key), EncodeRef(&self.attributes)),
+        )
+            .encoded_len()
+    }
+
+    fn encode_value<W: Writer>(&self, writer: &mut W) -> Result<(), Error> {
+        (
+            (EncodeRef(&self.version), EncodeRef(&self.subject)),
+            (EncodeRef(&self.public_key), EncodeRef(&self.attributes)),
+        )
+            .encode(writer)
+    }
+}
+
+impl<'a> Lawful for CertReqInfo<'a> {
+    ghost lawful = { ⟦<CertReqInfo<'a> as Described>⟧.element.lawful refl };
+}
