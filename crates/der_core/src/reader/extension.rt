@@ -195,6 +195,7 @@ pub trait ReaderExt: Reader {
     ///
     /// `Failed`, `Overflow`, `Incomplete`, `TagUnknown` and `TagNumberInvalid`, where and with the
     /// positions that [`Tag::decode`] says; the reader is unchanged.
+    #[inline(always)]
     final fn peek_tag(&self) -> Result<Tag, Error>
         ensures { Peeks TagAhead IdentifierFault Self.reliable (Self.state self.now) result }
     {
