@@ -52,6 +52,7 @@ impl<'a, R: Reader<Lent = &'a [u8]>> DecodeValue<R> for AnyRef<'a> {
 
     ghost decode_value_answers = { AnyRead };
 
+    #[inline(always)]
     fn decode_value(_alloc: Global, reader: &mut R, header: Header) -> Result<Self, Error> {
         let contents = reader.read_slice(header.length())?;
         Ok(AnyRef {
@@ -79,6 +80,7 @@ impl<'a, R: Reader<Lent = &'a [u8]>> Decode<R> for AnyRef<'a> {
 
     ghost decode_answers = { AnyElementRead (λ e f. f ≡ e) AnyRead };
 
+    #[inline(always)]
     fn decode(alloc: Global, reader: &mut R) -> Result<Self, Error> {
         decode_element::<R, AnyRef<'a>>(alloc, reader)
     }
@@ -99,10 +101,12 @@ impl<'a> EncodeValue for AnyRef<'a> {
 
     ghost encode_value_answers = { AnyWritten };
 
+    #[inline(always)]
     fn value_len(&self) -> Result<Length, Error> {
         Length::new_usize(self.contents.len())
     }
 
+    #[inline(always)]
     fn encode_value<W: Writer>(&self, writer: &mut W) -> Result<(), Error> {
         writer.write(self.contents)
     }

@@ -20,6 +20,7 @@ impl FixedTag for BitStringForm {
 
     const TAG: Tag = Tag::BitString;
 
+    #[inline(always)]
     fn fixed_tag() -> Tag {
         Self::TAG
     }
@@ -28,6 +29,7 @@ impl FixedTag for BitStringForm {
 impl Form for BitStringForm {
     ghost form = { bits_form };
 
+    #[inline(always)]
     fn has_form(octets: &[u8]) -> bool {
         let [unused, bits @ ..] = octets else {
             return false;
@@ -39,6 +41,7 @@ impl Form for BitStringForm {
 }
 
 // Whether so many of the last bits are zero.
+#[inline(always)]
 fn ends_in_zeros(unused: u8, bits: &[u8]) -> bool
     requires { unused < 8 }
     ensures { result ≡ has_low_zeros unused bits.now }

@@ -20,6 +20,7 @@ impl FixedTag for BooleanForm {
 
     const TAG: Tag = Tag::Boolean;
 
+    #[inline(always)]
     fn fixed_tag() -> Tag {
         Self::TAG
     }
@@ -28,6 +29,7 @@ impl FixedTag for BooleanForm {
 impl Form for BooleanForm {
     ghost form = { boolean_form };
 
+    #[inline(always)]
     fn has_form(octets: &[u8]) -> bool {
         match octets {
             [octet] => *octet == 0 || *octet == 0xFF,
@@ -54,10 +56,12 @@ impl<'a> Checked<'a, BooleanForm> {
 impl DefaultForm for BooleanForm {
     ghost default_form = { is_false };
 
+    #[inline(always)]
     fn default_octets() -> &'static [u8] {
         &[0]
     }
 
+    #[inline(always)]
     fn is_default(octets: &[u8]) -> bool {
         match octets {
             [octet, ..] => *octet == 0,

@@ -37,6 +37,7 @@ impl<'a, F: Form> Copy for Checked<'a, F> {}
 
 impl<'a, F: Form> Checked<'a, F> {
     /// The octets, where they have the form.
+    #[inline(always)]
     pub fn new(octets: &'a [u8]) -> Option<Self>
         ensures some { IsSome result ↔ (F.form octets.now ≡ true) }
         ensures same { IfSome result (λ v. v.octets.now ≡ octets.now) }
@@ -52,6 +53,7 @@ impl<'a, F: Form> Checked<'a, F> {
     }
 
     // These octets, which have the form.
+    #[inline(always)]
     pub(crate) fn formed(octets: &'a [u8]) -> Self
         requires { F.form octets.now ≡ true }
         ensures { result.octets.now ≡ octets.now }
@@ -63,6 +65,7 @@ impl<'a, F: Form> Checked<'a, F> {
     }
 
     /// The octets.
+    #[inline(always)]
     pub fn octets(&self) -> &'a [u8]
         ensures value { result.now ≡ self.now.octets.now }
         ensures formed { F.form result.now ≡ true }
@@ -76,6 +79,7 @@ impl<'a, F: Form> FixedTag for Checked<'a, F> {
 
     const TAG: Tag = F::TAG;
 
+    #[inline(always)]
     fn fixed_tag() -> Tag
         ensures { result ≡ F.tag_is }
     {
@@ -107,6 +111,7 @@ impl<'a, F: Form, R: Reader<Lent = &'a [u8]>> DecodeValue<R> for Checked<'a, F> 
 
     ghost decode_value_answers = { FormRead F.form F.tag_is (λ v. v.octets.now) };
 
+    #[inline(always)]
     fn decode_value(_alloc: Global, reader: &mut R, header: Header) -> Result<Self, Error> {
         let octets = reader.read_slice(header.length())?;
         match Checked::new(octets) {
@@ -135,10 +140,12 @@ impl<'a, F: Form> EncodeValue for Checked<'a, F> {
 
     ghost encode_value_answers = { λ v. FormWritten v.octets.now };
 
+    #[inline(always)]
     fn value_len(&self) -> Result<Length, Error> {
         Length::new_usize(self.octets.len())
     }
 
+    #[inline(always)]
     fn encode_value<W: Writer>(&self, writer: &mut W) -> Result<(), Error> {
         writer.write(self.octets)
     }

@@ -26,6 +26,7 @@ pub trait Choice<R: Reader>: Decode<R> {
 impl<R: Reader, T: DecodeValue<R> + FixedTag> Choice<R> for T {
     ghost chooses = { this_tag T.tag_is };
 
+    #[inline(always)]
     fn can_decode(tag: Tag) -> bool {
         tag == T::fixed_tag()
     }
@@ -36,6 +37,7 @@ impl<R: Reader, T: DecodeValue<R> + FixedTag> Choice<R> for T {
 impl<'a, R: Reader<Lent = &'a [u8]>> Choice<R> for AnyRef<'a> {
     ghost chooses = { any_tag };
 
+    #[inline(always)]
     fn can_decode(_tag: Tag) -> bool {
         true
     }

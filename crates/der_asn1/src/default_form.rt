@@ -32,6 +32,7 @@ impl<'a, F: DefaultForm> DefaultValue for Checked<'a, F> {
         Checked::formed(F::default_octets())
     }
 
+    #[inline(always)]
     fn has_default(&self) -> bool {
         F::is_default(self.octets())
     }
@@ -48,6 +49,7 @@ impl<'a, F: DefaultForm, const N: u32> DefaultValue for Explicit<Checked<'a, F>,
         Explicit(Checked::default_value())
     }
 
+    #[inline(always)]
     fn has_default(&self) -> bool {
         self.0.has_default()
     }

@@ -34,6 +34,7 @@ pub trait HasDefault<R: Reader>: Choice<R> + DefaultValue {
 }
 
 // Whether a value that was read is a default that may not be written.
+#[inline(always)]
 fn is_written_default<R: Reader, T: HasDefault<R>>(rules: EncodingRules, value: &T) -> bool
     ensures { IsTrue result ↔ ((rules ≡ Der) × (T.is_default value.now ≡ true)) }
 {
@@ -63,6 +64,7 @@ impl<R: Reader, T: HasDefault<R>> Decode<R> for Defaulted<T> {
     ghost decode_answers = { λ s result t. DefaultRead T.chooses T.is_default T.Error.from_gives
         T.decode_answers s (map_ok (λ v. v.0) result) t };
 
+    #[inline(always)]
     fn decode(alloc: Global, reader: &mut R) -> Result<Self, <T as Decode<R>>::Error> {
         if reader.is_finished() {
             return Ok(Defaulted(T::default_value()));
@@ -93,6 +95,7 @@ impl<T: Encode + DefaultValue> Encode for Defaulted<T> {
 
     ghost encode_answers = { λ v. DefaultWritten T.is_default T.encode_answers v.0 };
 
+    #[inline(always)]
     fn encoded_len(&self) -> Result<Length, Error> {
         if self.0.has_default() {
             return Ok(Length::ZERO);
@@ -100,6 +103,7 @@ impl<T: Encode + DefaultValue> Encode for Defaulted<T> {
         self.0.encoded_len()
     }
 
+    #[inline(always)]
     fn encode<W: Writer>(&self, writer: &mut W) -> Result<(), Error> {
         if self.0.has_default() {
             return Ok(());

@@ -38,6 +38,7 @@ impl<R: Reader, A: Choice<R>, B: Choice<R> + Decode<R, Error = <A as Decode<R>>:
     ghost decode_answers = { EitherRead A.chooses B.chooses A.Error.from_gives A.decode_answers
         B.decode_answers };
 
+    #[inline(always)]
     fn decode(alloc: Global, reader: &mut R) -> Result<Self, <A as Decode<R>>::Error> {
         let tag = reader.peek_tag()?;
         if A::can_decode(tag) {
@@ -68,6 +69,7 @@ impl<A: Encode, B: Encode> Encode for Either<A, B> {
 
     ghost encode_answers = { EitherWritten A.encode_answers B.encode_answers };
 
+    #[inline(always)]
     fn encoded_len(&self) -> Result<Length, Error> {
         match self {
             Either::First(value) => value.encoded_len(),
@@ -75,6 +77,7 @@ impl<A: Encode, B: Encode> Encode for Either<A, B> {
         }
     }
 
+    #[inline(always)]
     fn encode<W: Writer>(&self, writer: &mut W) -> Result<(), Error> {
         match self {
             Either::First(value) => value.encode(writer),
@@ -87,6 +90,7 @@ impl<R: Reader, A: Choice<R>, B: Choice<R> + Decode<R, Error = <A as Decode<R>>:
     for Either<A, B> {
     ghost chooses = { either_tags A.chooses B.chooses };
 
+    #[inline(always)]
     fn can_decode(tag: Tag) -> bool {
         A::can_decode(tag) || B::can_decode(tag)
     }

@@ -31,6 +31,7 @@ impl<T, const N: u32> FixedTag for Explicit<T, N> {
         number: TagNumber(N),
     };
 
+    #[inline(always)]
     fn fixed_tag() -> Tag
         ensures { result ≡ context_tag true N }
     {
@@ -62,6 +63,7 @@ impl<R: Reader, T: DecodeValue<R> + FixedTag, const N: u32> DecodeValue<R> for E
     ghost decode_value_answers = { λ h s result t. ElementRead T.tag_is T.Error.from_gives
         T.decode_value_answers s (map_ok (λ v. v.0) result) t };
 
+    #[inline(always)]
     fn decode_value(
         alloc: Global,
         reader: &mut R,
@@ -91,10 +93,12 @@ impl<T: EncodeValue + FixedTag, const N: u32> EncodeValue for Explicit<T, N> {
     ghost encode_value_answers = { λ v. ElementWritten T.tag_is (T.value_size v.0)
         (T.encode_value_answers v.0) };
 
+    #[inline(always)]
     fn value_len(&self) -> Result<Length, Error> {
         self.0.encoded_len()
     }
 
+    #[inline(always)]
     fn encode_value<W: Writer>(&self, writer: &mut W) -> Result<(), Error> {
         self.0.encode(writer)
     }

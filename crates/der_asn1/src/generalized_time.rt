@@ -22,6 +22,7 @@ impl FixedTag for GeneralizedTimeForm {
 
     const TAG: Tag = Tag::GeneralizedTime;
 
+    #[inline(always)]
     fn fixed_tag() -> Tag {
         Self::TAG
     }
@@ -38,6 +39,7 @@ impl TimeForm for GeneralizedTimeForm {
         time.is_valid()
     }
 
+    #[inline(always)]
     fn from_contents(octets: &[u8]) -> Option<DateTime> {
         generalized_from(octets)
     }

@@ -28,6 +28,7 @@ impl<T: FixedTag, const N: u32> FixedTag for Implicit<T, N> {
         number: TagNumber(N),
     };
 
+    #[inline(always)]
     fn fixed_tag() -> Tag
         ensures { result ≡ context_tag (label T.tag_is).constructed N }
     {
@@ -60,6 +61,7 @@ impl<R: Reader, T: DecodeValue<R> + FixedTag, const N: u32> DecodeValue<R> for I
     ghost decode_value_answers = { λ h s result t. T.decode_value_answers (retagged T.tag_is h) s
         (map_ok (λ v. v.0) result) t };
 
+    #[inline(always)]
     fn decode_value(
         alloc: Global,
         reader: &mut R,
@@ -88,10 +90,12 @@ impl<T: EncodeValue, const N: u32> EncodeValue for Implicit<T, N> {
 
     ghost encode_value_answers = { λ v. T.encode_value_answers v.0 };
 
+    #[inline(always)]
     fn value_len(&self) -> Result<Length, Error> {
         self.0.value_len()
     }
 
+    #[inline(always)]
     fn encode_value<W: Writer>(&self, writer: &mut W) -> Result<(), Error> {
         self.0.encode_value(writer)
     }

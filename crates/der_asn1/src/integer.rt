@@ -19,6 +19,7 @@ impl FixedTag for IntegerForm {
 
     const TAG: Tag = Tag::Integer;
 
+    #[inline(always)]
     fn fixed_tag() -> Tag {
         Self::TAG
     }
@@ -27,6 +28,7 @@ impl FixedTag for IntegerForm {
 impl Form for IntegerForm {
     ghost form = { integer_form };
 
+    #[inline(always)]
     fn has_form(octets: &[u8]) -> bool {
         match octets {
             [] => false,

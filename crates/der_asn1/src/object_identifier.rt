@@ -20,6 +20,7 @@ impl FixedTag for ObjectIdentifierForm {
 
     const TAG: Tag = Tag::ObjectIdentifier;
 
+    #[inline(always)]
     fn fixed_tag() -> Tag {
         Self::TAG
     }
@@ -28,6 +29,7 @@ impl FixedTag for ObjectIdentifierForm {
 impl Form for ObjectIdentifierForm {
     ghost form = { oid_form };
 
+    #[inline(always)]
     fn has_form(octets: &[u8]) -> bool {
         let mut starts = true;
         for octet in octets {

@@ -18,6 +18,7 @@ impl FixedTag for OctetStringForm {
 
     const TAG: Tag = Tag::OctetString;
 
+    #[inline(always)]
     fn fixed_tag() -> Tag {
         Self::TAG
     }
@@ -26,6 +27,7 @@ impl FixedTag for OctetStringForm {
 impl Form for OctetStringForm {
     ghost form = { octets_form };
 
+    #[inline(always)]
     fn has_form(_octets: &[u8]) -> bool {
         true
     }

@@ -28,6 +28,7 @@ impl<R: Reader, T: Choice<R>> Decode<R> for Optional<T> {
     ghost decode_answers = { λ s result t. OptionRead T.chooses T.Error.from_gives
         T.decode_answers s (map_ok (λ v. v.0) result) t };
 
+    #[inline(always)]
     fn decode(alloc: Global, reader: &mut R) -> Result<Self, <T as Decode<R>>::Error> {
         if reader.is_finished() {
             return Ok(Optional(None));
@@ -55,6 +56,7 @@ impl<T: Encode> Encode for Optional<T> {
 
     ghost encode_answers = { λ v. OptionWritten T.encode_answers v.0 };
 
+    #[inline(always)]
     fn encoded_len(&self) -> Result<Length, Error> {
         match &self.0 {
             Some(value) => value.encoded_len(),
@@ -62,6 +64,7 @@ impl<T: Encode> Encode for Optional<T> {
         }
     }
 
+    #[inline(always)]
     fn encode<W: Writer>(&self, writer: &mut W) -> Result<(), Error> {
         match &self.0 {
             Some(value) => value.encode(writer),

@@ -22,6 +22,7 @@ use std::alloc::{AllocError, Global};
 use std::marker::PhantomData;
 
 // The element ahead.
+#[inline(always)]
 pub(crate) fn next_item<'a, T: Lawful + DecodeValue<SliceReader<'a>>>(
     alloc: Global,
     reader: &mut SliceReader<'a>,
@@ -97,6 +98,7 @@ impl<'a, T: Lawful> FixedTag for SequenceOf<'a, T> {
 
     const TAG: Tag = Tag::Sequence;
 
+    #[inline(always)]
     fn fixed_tag() -> Tag
         ensures { result ≡ Sequence }
     {
@@ -164,10 +166,12 @@ impl<'a, T: Lawful> EncodeValue for SequenceOf<'a, T> {
 
     ghost encode_value_answers = { λ v. FormWritten v.octets.now };
 
+    #[inline(always)]
     fn value_len(&self) -> Result<Length, Error> {
         Length::new_usize(self.octets.len())
     }
 
+    #[inline(always)]
     fn encode_value<W: Writer>(&self, writer: &mut W) -> Result<(), Error> {
         writer.write(self.octets)
     }
@@ -239,6 +243,7 @@ impl<'a, T: Lawful> SequenceOf<'a, T> {
     }
 
     /// The contents.
+    #[inline(always)]
     pub fn octets(&self) -> &'a [u8]
         ensures value { result.now ≡ self.now.octets.now }
         ensures checked { ∥ AreElements T.tag_is T.valid T.contents result.now ∥₁ }

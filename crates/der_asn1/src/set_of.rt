@@ -24,6 +24,7 @@ use std::alloc::{AllocError, Global};
 use std::cmp::Ordering;
 
 // What is left to the reader.
+#[inline(always)]
 fn octets_left<'a>(reader: &SliceReader<'a>) -> &'a [u8]
     requires { (slice_state reader.now).failed ≡ false }
     ensures { result.now ≡ rest_of (slice_state reader.now) }
@@ -35,6 +36,7 @@ fn octets_left<'a>(reader: &SliceReader<'a>) -> &'a [u8]
 }
 
 // Whether the first octets come before the others (X.690 11.6).
+#[inline(always)]
 fn comes_before(first: &[u8], second: &[u8]) -> bool
     ensures { (result ≡ true) ↔ IsBefore first.now second.now }
 {
@@ -45,6 +47,7 @@ fn comes_before(first: &[u8], second: &[u8]) -> bool
 }
 
 // The octets of the element ahead, which is checked.
+#[inline(always)]
 fn next_element<'a, T: Lawful + DecodeValue<SliceReader<'a>>>(
     alloc: Global,
     reader: &mut SliceReader<'a>,
@@ -119,6 +122,7 @@ impl<'a, T: Lawful> FixedTag for SetOf<'a, T> {
 
     const TAG: Tag = Tag::Set;
 
+    #[inline(always)]
     fn fixed_tag() -> Tag
         ensures { result ≡ SetTag }
     {
@@ -190,10 +194,12 @@ impl<'a, T: Lawful> EncodeValue for SetOf<'a, T> {
 
     ghost encode_value_answers = { λ v. FormWritten v.elements.octets.now };
 
+    #[inline(always)]
     fn value_len(&self) -> Result<Length, Error> {
         Length::new_usize(self.octets().len())
     }
 
+    #[inline(always)]
     fn encode_value<W: Writer>(&self, writer: &mut W) -> Result<(), Error> {
         writer.write(self.octets())
     }
@@ -244,6 +250,7 @@ impl<'a, T: Lawful + DecodeValue<SliceReader<'a>>> SetOf<'a, T> {
 
 impl<'a, T: Lawful> SetOf<'a, T> {
     /// The contents.
+    #[inline(always)]
     pub fn octets(&self) -> &'a [u8]
         ensures value { result.now ≡ self.now.elements.octets.now }
         ensures short { length result.now < 2 ^ 32 }

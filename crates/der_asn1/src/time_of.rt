@@ -66,6 +66,7 @@ impl<F: TimeForm> FixedTag for TimeOf<F> {
 
     const TAG: Tag = F::TAG;
 
+    #[inline(always)]
     fn fixed_tag() -> Tag
         ensures { result ≡ F.tag_is }
     {
@@ -97,6 +98,7 @@ impl<'a, F: TimeForm, R: Reader<Lent = &'a [u8]>> DecodeValue<R> for TimeOf<F> {
 
     ghost decode_value_answers = { FormRead F.form F.tag_is (λ v. F.contents_of v.time) };
 
+    #[inline(always)]
     fn decode_value(_alloc: Global, reader: &mut R, header: Header) -> Result<Self, Error> {
         let octets = reader.read_slice(header.length())?;
         match F::from_contents(octets) {
@@ -128,10 +130,12 @@ impl<F: TimeForm> EncodeValue for TimeOf<F> {
 
     ghost encode_value_answers = { λ v. FormWritten (F.contents_of v.time) };
 
+    #[inline(always)]
     fn value_len(&self) -> Result<Length, Error> {
         Length::new_usize(F::to_contents(&self.time).as_slice().len())
     }
 
+    #[inline(always)]
     fn encode_value<W: Writer>(&self, writer: &mut W) -> Result<(), Error> {
         writer.write(F::to_contents(&self.time).as_slice())
     }

@@ -22,6 +22,7 @@ impl FixedTag for UtcTimeForm {
 
     const TAG: Tag = Tag::UtcTime;
 
+    #[inline(always)]
     fn fixed_tag() -> Tag {
         Self::TAG
     }
@@ -38,6 +39,7 @@ impl TimeForm for UtcTimeForm {
         1950 <= time.year && time.year < 2050 && time.is_valid()
     }
 
+    #[inline(always)]
     fn from_contents(octets: &[u8]) -> Option<DateTime> {
         utc_from(octets)
     }

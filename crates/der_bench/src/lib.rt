@@ -1,10 +1,11 @@
 //! What `bench/` measures the speed of: walks over the elements of an input, the decoding of keys,
 //! of certificates, of byte strings and of texts, the comparison of elements, the reading of messages in indefinite
-//! lengths, and writing.
+//! lengths, and writing; and what `.ci/real_files` reads and writes back.
 #![tactic(auto)]
 
 mod certificates;
 mod decode;
+mod files;
 mod headers;
 mod keys;
 mod nested;

@@ -245,6 +245,14 @@ header_at_once t n octets s u r same has wrote =
     in_room (length octets) s (appended_state s octets) facts.0 facts.1 facts.2 ∙ ap (λ l. success_outcome (appended_state s l)) same ∙ sym (header_in_room t n s (subst (λ l. HasRoom s (length l)) same has)) in
     subst (λ (o : WriterOutcome). Writes o r u) outcome wrote
 
+-- and whatever that write answers, it succeeds
+pub header_written : (t : Tag) (n : ℕ) (octets : List ℕ) (s u : WriterState) (r : Result (Unit {0}) Error) → octets ≡ header_octets t n → HasRoom s (length octets)
+    → Writes (write_outcome octets s) r u → Writes (header_outcome t n s) (Ok tt) u
+header_written t n octets s u r same has wrote =
+    let facts = has_room (length octets) s has in
+    let granted : write_outcome octets s ≡ success_outcome (appended_state s octets) = in_room (length octets) s (appended_state s octets) facts.0 facts.1 facts.2 in
+    header_at_once t n octets s u (Ok tt) same has (record { answered = sym (ap (λ (o : WriterOutcome). o.answer) granted); leaves = wrote.leaves })
+
 -- the octets of a header whose tag has one, and whose length takes one to three
 pub header_of_two : (t : Tag) (n f x : ℕ) → (label t).number < 31 → f ≡ leading_octet (label t) (label t).number → length (length_octets n) ≡ 1 → x ≡ n % 256 → f ∷ x ∷ [] ≡ header_octets t n
 header_of_two t n f x small first one low =

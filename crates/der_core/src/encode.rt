@@ -13,6 +13,7 @@ mod phantom;
 mod value;
 mod vec;
 
+use crate::header::encode_header;
 use crate::tag::fixed::Tagged;
 use crate::writer::{SliceWriter, Writer};
 use der_base::{Error, Length};
@@ -155,7 +156,13 @@ impl<T: EncodeValue + Tagged> Encode for T {
 
     #[inline(always)]
     fn encode<W: Writer>(&self, writer: &mut W) -> Result<(), Error> {
-        if let Err(error) = encode_tlv(self, writer) {
+        // an answer is matched where it is made: `?` and a last call would move all of its octets
+        // first
+        let len = self.value_len()?;
+        if let Err(error) = encode_header(self.tag(), len, writer) {
+            return Err(error);
+        }
+        if let Err(error) = self.encode_value(writer) {
             return Err(error);
         }
         Ok(())
@@ -199,13 +206,5 @@ pub fn encode_tlv<T: EncodeValue + Tagged, W: Writer>(
     ensures exact { W.reliable ≡ true → ElementWritten (T.tag_of value.now) (T.value_size value.now)
         (T.encode_value_answers value.now) (W.state writer.old) result (W.state writer.new) }
 {
-    let header = value.header()?;
-    // an answer is matched where it is made: `?` and a last call would move all of its octets first
-    if let Err(error) = header.encode(writer) {
-        return Err(error);
-    }
-    if let Err(error) = value.encode_value(writer) {
-        return Err(error);
-    }
-    Ok(())
+    value.encode(writer)
 }

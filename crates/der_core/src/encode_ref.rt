@@ -42,6 +42,10 @@ impl<'a, T: Encode> Encode for EncodeRef<'a, T> {
 
     #[inline(always)]
     fn encode<W: Writer>(&self, writer: &mut W) -> Result<(), Error> {
-        self.0.encode(writer)
+        // an answer is matched where it is made, as by `encode_tlv`
+        if let Err(error) = self.0.encode(writer) {
+            return Err(error);
+        }
+        Ok(())
     }
 }

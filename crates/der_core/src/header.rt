@@ -262,6 +262,46 @@ impl Header {
     }
 }
 
+// Writes the header of a tag and a length ahead of contents: by a call where it has more octets than
+// two, so that what writes an element is small enough to be part of its caller.
+#[inline(always)]
+pub(crate) fn encode_header<W: Writer>(tag: Tag, len: Length, writer: &mut W) -> Result<(), Error>
+    ensures kept { Keeps (W.state writer.old) (W.state writer.new) }
+    ensures ok { Appends (W.state writer.old) (header_octets tag (number len)) result
+        (W.state writer.new) }
+    ensures succeeds { FitsCounted (W.state writer.old) (header_octets tag (number len)) result }
+    ensures exact { W.reliable ≡ true
+        → Writes (header_outcome tag (number len) (W.state writer.old)) result
+        (W.state writer.new) }
+{
+    let low = tag.number().0;
+    let count = u32::from(len);
+    if low < 31 && count < 0x80 {
+        let first = first_octet_of(tag, low as u8);
+        if writer.has_room(2) {
+            // it is known to succeed
+            let _ = writer.write(&[first, count as u8]);
+            return Ok(());
+        }
+        return Header::new(tag, len).encode_in_pieces(writer);
+    }
+    encode_long_header(tag, len, writer)
+}
+
+// The same by a call.
+#[inline(never)]
+fn encode_long_header<W: Writer>(tag: Tag, len: Length, writer: &mut W) -> Result<(), Error>
+    ensures kept { Keeps (W.state writer.old) (W.state writer.new) }
+    ensures ok { Appends (W.state writer.old) (header_octets tag (number len)) result
+        (W.state writer.new) }
+    ensures succeeds { FitsCounted (W.state writer.old) (header_octets tag (number len)) result }
+    ensures exact { W.reliable ≡ true
+        → Writes (header_outcome tag (number len) (W.state writer.old)) result
+        (W.state writer.new) }
+{
+    Header::new(tag, len).encode(writer)
+}
+
 /// The tag is written and then the length, of which the number alone counts; the constructed bit is
 /// that of the tag.
 ///

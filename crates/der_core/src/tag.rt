@@ -340,8 +340,14 @@ pub(crate) fn first_octet_of(tag: Tag, low: u8) -> u8
     requires { low < 32 }
     ensures { result ≡ leading_octet (label tag) low }
 {
-    let constructed = if tag.is_constructed() { 0x20 } else { 0 };
-    tag.class().bits() + constructed + low
+    let (class, constructed) = match tag {
+        Tag::Application { constructed, .. } => (0x40, constructed),
+        Tag::ContextSpecific { constructed, .. } => (0x80, constructed),
+        Tag::Private { constructed, .. } => (0xC0, constructed),
+        Tag::Sequence | Tag::Set => (0, true),
+        _ => (0, false),
+    };
+    class + if constructed { 0x20 } else { 0 } + low
 }
 
 // Writes the digits of a number in base 128, the most significant first, with bit 8 set on each

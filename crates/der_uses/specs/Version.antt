@@ -1,4 +1,5 @@
--- A version of a certificate, as an INTEGER of one octet (RFC 5280, 4.1.2.1).
+-- A version of a certificate, as an INTEGER of one octet (RFC 5280, 4.1.2.1): its number and its
+-- contents, what is taken as one, what reading and writing answer, and the law.
 use Rattle.std.specs.Prelude.{◌≡◌, ℕ, List, [], ◌∷◌, Result, Ok, nat_lt, if◌then◌else◌}
 use Rattle.std.proofs.Common.{arith}
 use Rattle.der.specs.ErrorKinds.{Value}
@@ -32,18 +33,18 @@ version_of octet s =
 abbrev pub version_outcome : ReaderState → Outcome ℕ
 version_outcome s = chained_outcome (read_byte_outcome s) version_of
 
--- what reading answers
+-- what reading a version answers
 abbrev pub VersionRead : Head → ReaderState → Result Version Error → ReaderState → Type 0
 VersionRead h s result t = Gives version_outcome s (map_ok version_number result) t
 
--- how many octets there are, and what writing answers
+-- how many octets a version has, and what writing it answers
 abbrev pub version_size : Version → Result Length Error
 version_size v = Ok (definite_length 1)
 
 abbrev pub VersionWritten : Version → WriterAnswer
 VersionWritten v s result t = Writes (write_outcome (version_contents v) s) result t
 
--- it is read as it is written
+-- a version is read as it is written
 pub version_lawful : IsLawful Integer TakesVersion IsVersion version_contents (λ _. 0)
 version_lawful =
     record {

@@ -191,6 +191,7 @@ pub trait ReaderExt: Reader {
     /// # Errors
     ///
     /// As by [`Tag::decode`], with the same positions; the reader is unchanged.
+    #[inline(always)]
     final fn peek_tag(&self) -> Result<Tag, Error>
         ensures { Peeks TagAhead IdentifierFault Self.reliable (Self.state self.now) result }
     {

@@ -180,6 +180,7 @@ impl<'a> Reader for SliceReader<'a> {
         Ok(&self.bytes[self.place.position..self.place.end as usize])
     }
 
+    #[inline(always)]
     fn fork(&self) -> Self {
         SliceReader {
             bytes: self.bytes,

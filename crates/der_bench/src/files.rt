@@ -1,0 +1,30 @@
+//! Files that are read, and written back.
+use der::{Decode, DecodeBytes, Encode, Error, SliceReader};
+use pkcs8::PrivateKeyInfo;
+use spki::SubjectPublicKeyInfoRef;
+use std::alloc::Global;
+use x509::Certificate;
+
+/// Reads a certificate (kind 0), a public key (1) or a private key (2), and writes it back: 0 where
+/// it is refused, 1 where the same octets are written, and 2 where others are, or none.
+#[unsafe(no_mangle)]
+pub extern "C" fn der_bench_reads_back(alloc: Global, kind: u8, octets: &[u8]) -> u8 {
+    match kind {
+        0 => reads_back::<Certificate<'_>>(alloc, octets),
+        1 => reads_back::<SubjectPublicKeyInfoRef<'_>>(alloc, octets),
+        _ => reads_back::<PrivateKeyInfo<'_>>(alloc, octets),
+    }
+}
+
+fn reads_back<'a, T: Decode<SliceReader<'a>, Error = Error> + Encode>(
+    alloc: Global,
+    octets: &'a [u8],
+) -> u8 {
+    let Ok(value) = T::from_der(alloc, octets) else {
+        return 0;
+    };
+    match value.to_der(alloc) {
+        Ok(written) if written.as_slice() == octets => 1,
+        _ => 2,
+    }
+}
