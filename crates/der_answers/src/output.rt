@@ -12,7 +12,7 @@ pub trait Output {
     // Whether it never fails, of which an `io::Write` says nothing.
     ghost reliable: { Bool };
 
-    /// Fits the text, and keeps none of it back.
+    /// Takes the text, and keeps none of it back.
     fn put(&mut self, text: &str) -> io::Result<()>
         ensures written { OnOk result (Appends (contents self.old) (contents self.new) text.now) }
         ensures succeeds { reliable ≡ true → IsOk result };

@@ -67,7 +67,7 @@ pub trait Encode {
         ensures exact { W.reliable ≡ true
             → encode_answers self.now (W.state writer.old) result (W.state writer.new) };
 
-    /// Writes the encoding to the beginning of the buffer, and answers it. Fits no memory.
+    /// Writes the encoding to the beginning of the buffer, and answers it. No memory is taken.
     ///
     /// # Errors
     ///

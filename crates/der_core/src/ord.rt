@@ -44,7 +44,7 @@ pub trait DerOrd {
 
     ghost delimited: { delimits → AreDelimited octets };
 
-    /// Compares two values. Fits no memory.
+    /// Compares two values. No memory is taken.
     ///
     /// # Errors
     ///

@@ -84,8 +84,8 @@ fn write_all(elements: &[BorrowedOctets<'_>], out: &mut Vec<u8>) -> Result<(), E
     Ok(())
 }
 
-/// The contents of the SET OF OCTET STRING whose encoding the octets are, all of them. Fits no
-/// memory.
+/// The contents of the SET OF OCTET STRING whose encoding the octets are, all of them. No
+/// memory is taken.
 ///
 /// # Errors
 ///

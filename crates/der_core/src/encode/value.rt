@@ -137,7 +137,7 @@ pub trait EncodeValue: WrittenValue {
             → encode_value_answers self.now (W.state writer.old) result (W.state writer.new) };
 }
 
-/// Writes the contents to the beginning of the buffer, and answers them. Fits no memory.
+/// Writes the contents to the beginning of the buffer, and answers them. No memory is taken.
 ///
 /// # Errors
 ///

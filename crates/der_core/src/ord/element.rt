@@ -11,7 +11,7 @@ use der_base::Error;
 use std::cmp::Ordering;
 
 /// Compares the elements of two values: their tags in byte order, the lengths of their contents,
-/// and then the contents by [`ValueOrd::value_cmp`]. Fits no memory.
+/// and then the contents by [`ValueOrd::value_cmp`]. No memory is taken.
 ///
 /// # Errors
 ///

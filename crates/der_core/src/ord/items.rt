@@ -11,8 +11,8 @@ pub use owned::iter_cmp_owned;
 use std::cmp::Ordering;
 
 /// Compares the values that two iterators refer to, place by place: the first two that are refused
-/// or not equal decide, else the iterator that ends first is the smaller. Fits no memory but what
-/// the iterators take.
+/// or not equal decide, else the iterator that ends first is the smaller. Memory is taken
+/// by the iterators alone.
 ///
 /// # Errors
 ///

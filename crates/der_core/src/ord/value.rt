@@ -14,7 +14,7 @@ use std::cmp::Ordering;
 pub trait ValueOrd {
     ghost value_order: { Self → Self → Compared };
 
-    /// Compares the contents of two values. Fits no memory.
+    /// Compares the contents of two values. No memory is taken.
     ///
     /// # Errors
     ///

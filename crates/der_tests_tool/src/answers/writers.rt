@@ -43,7 +43,7 @@ const ROWS: [(&str, u8, &str); 13] = [
     ("order --ber 3000 3000", 2, USAGE),
 ];
 
-/// Fits an octet at a call, and fails once the calls are used up.
+/// Takes an octet at a call, and fails once the calls are used up.
 #[derive(Drop)]
 struct Choppy {
     taken: Vec<u8>,
@@ -66,7 +66,7 @@ impl io::Write for Choppy {
     }
 }
 
-/// Fits nothing, or all of it and then fails to pass it on.
+/// Takes nothing, or all of it and then fails to pass it on.
 #[derive(Drop)]
 struct Broken {
     takes: bool,
