@@ -178,3 +178,28 @@ fn a_default_that_a_certificate_writes_is_refused_behind_it(rt: HostRuntime) {
         written(Tag::Boolean, 225 - 151),
     );
 }
+
+// Whether a certificate with another octet at a place has the fields of its version, and whether it
+// has the same algorithm twice.
+fn checks_with(alloc: Global, place: usize, octet: u8) -> Option<(bool, bool)> {
+    let mut octets = SELF_SIGNED;
+    if place < octets.len() {
+        octets[place] = octet;
+    }
+    let certificate = Certificate::from_der(alloc, &octets).ok()?;
+    Some((
+        certificate.tbs_certificate.has_fields_of_version(),
+        certificate.has_same_algorithms(),
+    ))
+}
+
+// The version is octet 11, and the algorithm of the signature ends with octet 254.
+#[test]
+fn the_checks_of_a_certificate_are_made_apart(rt: HostRuntime) {
+    let as_it_is = checks_with(rt.alloc(), 11, 2);
+    same_at(&rt, "as it is", as_it_is == Some((true, true)), true);
+    let version_2 = checks_with(rt.alloc(), 11, 1);
+    same_at(&rt, "version 2", version_2 == Some((false, true)), true);
+    let other = checks_with(rt.alloc(), 254, 0x71);
+    same_at(&rt, "another algorithm", other == Some((true, false)), true);
+}

@@ -1,5 +1,5 @@
-//! Tests of `spki`, `pkcs8` and `x509` over keys and certificates that `openssl` made, as it writes
-//! them with `-outform DER`.
+//! Tests of `spki`, `pkcs8` and `x509` over keys, certificates and requests that `openssl` made, as it
+//! writes them with `-outform DER`.
 #![tactic(auto)]
 
 #[cfg(test)]
@@ -14,3 +14,5 @@ mod names;
 mod private_keys;
 #[cfg(test)]
 mod public_keys;
+#[cfg(test)]
+mod requests;

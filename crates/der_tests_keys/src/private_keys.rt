@@ -121,3 +121,19 @@ fn other_octets_are_no_private_key(rt: HostRuntime) {
         Some(bits.at(Length::new(116))),
     );
 }
+
+// Whether a key with a public key and this version has the fields of that.
+fn has_fields_of_version(alloc: Global, version: u8) -> Option<bool> {
+    let mut octets = WITH_PUBLIC_KEY;
+    octets[4] = version;
+    let info = PrivateKeyInfo::from_der(alloc, &octets).ok()?;
+    Some(info.has_fields_of_version())
+}
+
+#[test]
+fn a_public_key_belongs_to_version_2(rt: HostRuntime) {
+    let first = has_fields_of_version(rt.alloc(), 0);
+    same_at(&rt, "version 1", first == Some(false), true);
+    let second = has_fields_of_version(rt.alloc(), 1);
+    same_at(&rt, "version 2", second == Some(true), true);
+}

@@ -1,6 +1,6 @@
-//! Fields that stand in several formats, by the names of RFC 5280, 4.1. Each function here and in
-//! its neighbours tells whether the field ahead is refused, and looks inside one that is. One that is
-//! not is passed.
+//! Fields that stand in several formats, by the names of RFC 5280, 4.1. A function, here and in its
+//! neighbours, that answers something tells whether the field ahead is refused. It looks inside one
+//! that is, and passes one that is not.
 
 use crate::search::Search;
 use der::Tag;

@@ -5,7 +5,7 @@ use crate::refused_fields::{
 };
 use crate::search::Search;
 use der::{Tag, TagNumber};
-use der_asn1::Implicit;
+use der_asn1::{AnyRef, Implicit};
 use x509::{Attribute, AttributeValues, Attributes, CertReqInfo, CertReqVersion};
 
 /// Looks inside a request that is refused.
@@ -41,7 +41,15 @@ fn search_attributes(search: &mut Search<'_>) -> bool {
     let _found = search.enter(around)
         && search.is_member_refused::<Attribute<'_>>()
         && search.enter(Tag::Sequence)
-        && (search_identifier(search, "type")
-            || search.is_refused::<AttributeValues<'_>>("values"));
+        && (search_identifier(search, "type") || search_values(search));
+    true
+}
+
+/// The values of an attribute.
+fn search_values(search: &mut Search<'_>) -> bool {
+    if !search.is_refused::<AttributeValues<'_>>("values") {
+        return false;
+    }
+    let _found = search.enter(Tag::Set) && search.is_member_refused::<AnyRef<'_>>();
     true
 }

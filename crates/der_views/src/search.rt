@@ -37,8 +37,8 @@ impl<'a> Search<'a> {
         })
     }
 
-    /// Whether the field ahead, of this name, is refused. One that is not is passed; before one that
-    /// is, the walk stays.
+    /// Whether the field ahead, of this name, is refused. One that is not is passed; before one
+    /// that is, the walk stays.
     pub fn is_refused<T: Decode<SliceReader<'a>, Error = Error>>(&mut self, name: &str) -> bool {
         if self.passes::<T>() {
             return false;

@@ -23,8 +23,8 @@ pub enum Shape {
 /// - A private key: an INTEGER, an algorithm and an OCTET STRING.
 /// - A certificate: a SEQUENCE, an algorithm and a BIT STRING, where the first of them begins with
 ///   `[0]`, or with an INTEGER, an algorithm and two SEQUENCEs.
-/// - A request: the same, where the first begins with an INTEGER, a SEQUENCE that is empty or begins
-///   with a SET, and another SEQUENCE.
+/// - A request: the same, where the first begins with an INTEGER, a SEQUENCE that is empty or
+///   begins with a SET, and another SEQUENCE.
 ///
 /// Nothing else is looked at, neither what is inside other elements nor what stands behind.
 pub fn shape_of(octets: &[u8]) -> Option<Shape> {
