@@ -1,36 +1,46 @@
-/* Certificates decoded by the library, by OpenSSL, and walked by hand: nanoseconds a certificate. */
+/* Certificates, one behind the other, read by OpenSSL and by mbedTLS, and walked: how many there are. And one, written by
+ * OpenSSL so many times. */
 #include <openssl/x509.h>
 #include <stdint.h>
-#include <stdio.h>
-#include <stdlib.h>
-#include <string.h>
-#include <time.h>
 
-enum { COPIES = 2000, ROUNDS = 15 };
-
-struct totals {
-    uint64_t elements, contents, first_octets;
-};
-
-struct totals der_bench_certificates(const uint8_t *octets, size_t len);
-
-static uint64_t by_library(const uint8_t *octets, size_t len)
-{
-    return der_bench_certificates(octets, len).elements;
-}
-
-static uint64_t by_openssl(const uint8_t *octets, size_t len)
+uint64_t openssl_certificates(const uint8_t *octets, size_t len)
 {
     const unsigned char *ahead = octets;
     uint64_t count = 0;
     while (ahead < octets + len) {
         X509 *certificate = d2i_X509(NULL, &ahead, octets + len - ahead);
         if (certificate == NULL)
-            return 0;
+            break;
         X509_free(certificate);
         count += 1;
     }
     return count;
+}
+
+/* What OpenSSL has read it keeps as octets, of which it writes the certificate's contents. */
+uint64_t openssl_written(const uint8_t *octets, size_t len, uint64_t times)
+{
+    const unsigned char *ahead = octets;
+    X509 *certificate = d2i_X509(NULL, &ahead, (long)len);
+    uint64_t count = 0;
+    while (certificate != NULL && count < times) {
+        unsigned char *written = NULL;
+        if (i2d_X509(certificate, &written) != (int)len)
+            break;
+        OPENSSL_free(written);
+        count += 1;
+    }
+    X509_free(certificate);
+    return count;
+}
+
+/* The length of the element ahead with its header, whose length has three octets; 0 where it is of another form. */
+static size_t element_len(const uint8_t *ahead, const uint8_t *end)
+{
+    if (end - ahead < 4 || ahead[0] != 0x30 || ahead[1] != 0x82)
+        return 0;
+    size_t len = 4 + (size_t)(ahead[2] << 8 | ahead[3]);
+    return len <= (size_t)(end - ahead) ? len : 0;
 }
 
 /* Each element, and those inside: no tag is asked for, and no contents are looked at. */
@@ -59,55 +69,35 @@ static int walk(const uint8_t *ahead, const uint8_t *end, uint64_t *elements)
     return 1;
 }
 
-static uint64_t by_hand(const uint8_t *octets, size_t len)
+uint64_t walked_certificates(const uint8_t *octets, size_t len)
 {
-    uint64_t elements = 0;
-    return walk(octets, octets + len, &elements) ? COPIES : 0;
-}
-
-static double seconds(void)
-{
-    struct timespec now;
-    clock_gettime(CLOCK_MONOTONIC, &now);
-    return (double)now.tv_sec + 1e-9 * (double)now.tv_nsec;
-}
-
-static double least(uint64_t (*read)(const uint8_t *, size_t), const uint8_t *octets, size_t len)
-{
-    double best = 1e9;
-    for (int round = 0; round < ROUNDS; round += 1) {
-        double start = seconds();
-        uint64_t count = read(octets, len);
-        double took = seconds() - start;
-        if (count != COPIES) {
-            fprintf(stderr, "%llu certificates were read\n", (unsigned long long)count);
-            exit(1);
-        }
-        best = took < best ? took : best;
+    uint64_t count = 0, elements = 0;
+    size_t one;
+    for (const uint8_t *ahead = octets; (one = element_len(ahead, octets + len)) != 0; ahead += one) {
+        if (!walk(ahead, ahead + one, &elements))
+            break;
+        count += 1;
     }
-    return best / COPIES * 1e9;
+    return elements == 0 ? 0 : count;
 }
 
-int main(int count, char **names)
+#ifdef MBEDTLS
+#include <mbedtls/x509_crt.h>
+
+/* The octets are lent, as to the library. */
+uint64_t mbedtls_certificates(const uint8_t *octets, size_t len)
 {
-    for (int i = 1; i < count; i += 1) {
-        uint8_t one[1 << 14];
-        FILE *file = fopen(names[i], "rb");
-        if (file == NULL)
-            return 1;
-        size_t len = fread(one, 1, sizeof one, file);
-        fclose(file);
-        uint8_t *octets = malloc(len * COPIES);
-        if (octets == NULL)
-            return 1;
-        for (size_t copy = 0; copy < COPIES; copy += 1)
-            memcpy(octets + copy * len, one, len);
-        double library = least(by_library, octets, len * COPIES);
-        double openssl = least(by_openssl, octets, len * COPIES);
-        double hand = least(by_hand, octets, len * COPIES);
-        printf("%s, %zu octets: library %.0f ns, d2i_X509 %.0f ns (ratio %.3f), a walk by hand %.0f ns\n",
-            names[i], len, library, openssl, library / openssl, hand);
-        free(octets);
+    uint64_t count = 0;
+    size_t one;
+    for (const uint8_t *ahead = octets; (one = element_len(ahead, octets + len)) != 0; ahead += one) {
+        mbedtls_x509_crt certificate;
+        mbedtls_x509_crt_init(&certificate);
+        int answer = mbedtls_x509_crt_parse_der_nocopy(&certificate, ahead, one);
+        mbedtls_x509_crt_free(&certificate);
+        if (answer != 0)
+            break;
+        count += 1;
     }
-    return 0;
+    return count;
 }
+#endif

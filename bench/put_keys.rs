@@ -18,7 +18,7 @@ fn length_len(length: usize) -> usize {
 }
 
 #[inline(always)]
-fn element_len(contents: usize) -> Option<usize> {
+pub fn element_len(contents: usize) -> Option<usize> {
     if contents > u32::MAX as usize {
         return None;
     }
@@ -53,7 +53,7 @@ fn key_of<'a>(wanted: &WantedKey, lent: &'a [u8]) -> Option<Key<'a>> {
 }
 
 #[inline(always)]
-fn put_header(out: &mut [u8], at: usize, first: u8, length: usize) -> Option<usize> {
+pub fn put_header(out: &mut [u8], at: usize, first: u8, length: usize) -> Option<usize> {
     let at = put_octet(out, at, first)?;
     put_length(out, at, u32::try_from(length).ok()?)
 }

@@ -3,6 +3,7 @@
 //! lengths, and writing; and what `.ci/real_files` reads and writes back.
 #![tactic(auto)]
 
+mod again;
 mod certificates;
 mod decode;
 mod files;

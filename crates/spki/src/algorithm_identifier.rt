@@ -94,10 +94,12 @@ impl<'a> EncodeValue for AlgorithmIdentifierRef<'a> {
     ghost encode_value_answers = { λ v. ⟦<AlgorithmIdentifierFields<'a> as Encode>⟧.encode_answers
         (v.oid, v.parameters) };
 
+    #[inline(always)]
     fn value_len(&self) -> Result<Length, Error> {
         (EncodeRef(&self.oid), EncodeRef(&self.parameters)).encoded_len()
     }
 
+    #[inline(always)]
     fn encode_value<W: Writer>(&self, writer: &mut W) -> Result<(), Error> {
         (EncodeRef(&self.oid), EncodeRef(&self.parameters)).encode(writer)
     }

@@ -98,6 +98,7 @@ impl<'a> EncodeValue for SubjectPublicKeyInfoRef<'a> {
     ghost encode_value_answers = { λ v. ⟦<SubjectPublicKeyInfoFields<'a> as Encode>⟧.encode_answers
         (v.algorithm, v.subject_public_key) };
 
+    #[inline(always)]
     fn value_len(&self) -> Result<Length, Error> {
         (
             EncodeRef(&self.algorithm),
@@ -106,6 +107,7 @@ impl<'a> EncodeValue for SubjectPublicKeyInfoRef<'a> {
             .encoded_len()
     }
 
+    #[inline(always)]
     fn encode_value<W: Writer>(&self, writer: &mut W) -> Result<(), Error> {
         (
             EncodeRef(&self.algorithm),

@@ -1,0 +1,172 @@
+//! Reads and writes certificates by the proved library, by hand, by OpenSSL and by mbedTLS, and tells
+//! how long one takes each. First each certificate is read with each octet in turn changed to each
+//! other value, by the library and by hand, which have to refuse the same. Those behind `--` are read
+//! so alone.
+#[allow(dead_code, reason = "other drivers use the rest")]
+mod common;
+#[allow(dead_code, reason = "as above")]
+mod elements;
+#[allow(dead_code, reason = "as above")]
+mod hand;
+#[allow(dead_code, reason = "as above")]
+mod put;
+#[allow(dead_code, reason = "as above")]
+mod put_keys;
+mod read_by_hand;
+#[allow(dead_code, reason = "as above")]
+mod rounds;
+#[path = "x509_ways.rs"]
+mod ways;
+mod write_by_hand;
+#[allow(dead_code, reason = "as above")]
+mod written;
+
+use common::Totals;
+use rounds::SIZES;
+use std::hint::black_box;
+use std::time::{Duration, Instant};
+
+/// How long the rounds of a row go on at least, and how many there are.
+const WHILE: Duration = Duration::from_secs(1);
+const ROUNDS: usize = 7;
+/// How often a row of writing writes.
+const TIMES: u64 = 1000;
+
+/// A way to do the work; all tell how many were read or written, and those of one row that tell more
+/// tell the same.
+type Way<'a> = (&'static str, Box<dyn Fn() -> Totals + 'a>);
+
+/// Sees that library and hand refuse the same where an octet is changed, and where it is cut.
+fn agree(name: &str, file: &[u8]) {
+    let same = |octets: &[u8], at: usize| {
+        let (library, hand) = (ways::read(octets), ways::read_by_hand(octets));
+        assert_eq!(library, hand, "{name} at {at}");
+    };
+    let mut changed = file.to_vec();
+    for at in 0..file.len() {
+        for by in 1..=255 {
+            changed[at] = file[at] ^ by;
+            same(&changed, at);
+        }
+        changed[at] = file[at];
+        same(&file[..at], at);
+    }
+    same(file, file.len());
+}
+
+/// The least time of each way, in nanoseconds a thing of which there are `count`; the rounds
+/// alternate, so that all see the same machine.
+fn tell(name: &str, size: usize, count: u64, ways: &[Way<'_>]) {
+    let wanted = (ways[0].1)();
+    assert_eq!(wanted.elements, count, "{name}");
+    for (way, run) in ways {
+        let told = run();
+        let tells_more = told.contents != 0;
+        assert_eq!(told.elements, count, "{name} by {way}");
+        assert!(!tells_more || told == wanted, "{name} by {way}");
+    }
+    let mut least = vec![f64::INFINITY; ways.len()];
+    let begun = Instant::now();
+    let mut rounds = 0;
+    while rounds < ROUNDS || begun.elapsed() < WHILE {
+        for ((_, run), least) in ways.iter().zip(&mut least) {
+            let start = Instant::now();
+            black_box(run());
+            *least = least.min(start.elapsed().as_nanos() as f64 / count as f64);
+        }
+        rounds += 1;
+    }
+    for ((way, _), least) in ways.iter().zip(least) {
+        println!("{name}|{size}|{way}|{least:.3}");
+    }
+}
+
+fn tell_reading(name: &str, file: &[u8]) {
+    for size in &SIZES[..2] {
+        let count = size / file.len();
+        let bytes = file.repeat(count);
+        let bytes = &bytes[..];
+        let ways: Vec<Way<'_>> = vec![
+            ("library", Box::new(|| ways::read(black_box(bytes)))),
+            ("by hand", Box::new(|| ways::read_by_hand(black_box(bytes)))),
+            ("OpenSSL", Box::new(|| ways::read_by_openssl(bytes))),
+            #[cfg(mbedtls)]
+            ("mbedTLS", Box::new(|| ways::read_by_mbedtls(bytes))),
+            ("a walk by hand", Box::new(|| ways::walked(bytes))),
+        ];
+        tell(&format!("{name} read"), *size, count as u64, &ways);
+    }
+}
+
+fn tell_writing(name: &str, file: &[u8]) {
+    let (mut out, mut other) = (vec![0; file.len()], vec![0; file.len()]);
+    ways::to_slice(file, 1, &mut out);
+    ways::to_slice_by_hand(file, 1, &mut other);
+    assert!(out == file && other == file, "{name}");
+    let (out, other) = (std::cell::RefCell::new(out), std::cell::RefCell::new(other));
+    let ways: Vec<Way<'_>> = vec![
+        (
+            "library",
+            Box::new(|| ways::to_slice(file, TIMES, &mut out.borrow_mut())),
+        ),
+        (
+            "by hand",
+            Box::new(|| ways::to_slice_by_hand(file, TIMES, &mut other.borrow_mut())),
+        ),
+    ];
+    tell(&format!("{name} by encode_to_slice"), 1, TIMES, &ways);
+    let ways: Vec<Way<'_>> = vec![
+        ("library", Box::new(|| ways::to_der(file, TIMES))),
+        ("by hand", Box::new(|| ways::to_der_by_hand(file, TIMES))),
+        (
+            "OpenSSL",
+            Box::new(|| ways::written_by_openssl(file, TIMES)),
+        ),
+    ];
+    tell(&format!("{name} by to_der"), 1, TIMES, &ways);
+}
+
+fn tell_writing_key(name: &str, file: &[u8]) {
+    let key = ways::public_key_of(file);
+    let (key, room) = (&key[..], std::cell::RefCell::new(vec![0; key.len()]));
+    let ways: Vec<Way<'_>> = vec![
+        (
+            "library",
+            Box::new(|| ways::key_to_slice(key, TIMES, &mut room.borrow_mut())),
+        ),
+        (
+            "by hand",
+            Box::new(|| ways::key_to_slice_by_hand(key, TIMES, &mut room.borrow_mut())),
+        ),
+    ];
+    tell(
+        &format!("its key of {} octets by encode_to_slice, {name}", key.len()),
+        1,
+        TIMES,
+        &ways,
+    );
+    let ways: Vec<Way<'_>> = vec![
+        ("library", Box::new(|| ways::key_to_der(key, TIMES))),
+        ("by hand", Box::new(|| ways::key_to_der_by_hand(key, TIMES))),
+    ];
+    tell(&format!("its key by to_der, {name}"), 1, TIMES, &ways);
+}
+
+fn main() {
+    let mut is_measured = true;
+    for path in std::env::args().skip(1) {
+        if path == "--" {
+            is_measured = false;
+            continue;
+        }
+        let file = std::fs::read(&path).expect("a file that can be read");
+        let name = path.rsplit('/').next().unwrap_or(&path);
+        agree(name, &file);
+        if is_measured {
+            let name = format!("{name}, {} octets,", file.len());
+            tell_reading(&name, &file);
+            tell_writing(&name, &file);
+            tell_writing_key(&name, &file);
+        }
+    }
+}
