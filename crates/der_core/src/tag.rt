@@ -333,7 +333,8 @@ impl Encode for Tag {
     }
 }
 
-// The first octet of a tag, with these five low bits.
+// The first octet of a tag, with these five low bits. The class is told here, as `Tag::class` stays a
+// call in each place that writes a header.
 #[inline(always)]
 pub(crate) fn first_octet_of(tag: Tag, low: u8) -> u8
     requires { low < 32 }
