@@ -45,6 +45,27 @@ fn halves_proved(bytes: &[u8]) -> Totals {
     unsafe { der_bench_halves(bytes.as_ptr(), bytes.len()) }
 }
 
+/// The same by the reader of mbedTLS, which looks at no tag but those of keys.
+#[cfg(mbedtls)]
+mod mbedtls {
+    use crate::Totals;
+
+    unsafe extern "C" {
+        fn mbedtls_nested(octets: *const u8, len: usize) -> Totals;
+        fn mbedtls_keys(octets: *const u8, len: usize) -> Totals;
+    }
+
+    pub fn walk(bytes: &[u8]) -> Totals {
+        // SAFETY: the pointer and the length are those of a slice, which the call only reads.
+        unsafe { mbedtls_nested(bytes.as_ptr(), bytes.len()) }
+    }
+
+    pub fn decode(bytes: &[u8]) -> Totals {
+        // SAFETY: as above.
+        unsafe { mbedtls_keys(bytes.as_ptr(), bytes.len()) }
+    }
+}
+
 pub fn pass(totals: &mut Totals, contents: &[u8]) {
     totals.elements = totals.elements.wrapping_add(1);
     totals.contents = totals.contents.wrapping_add(contents.len() as u64);
@@ -110,10 +131,7 @@ fn walk_by_ends(bytes: &[u8]) -> Totals {
     }
 }
 
-#[cfg_attr(
-    not(beside),
-    allow(unused_mut, reason = "the crate's ways are not there")
-)]
+#[allow(unused_mut, reason = "the ways of others may not be there")]
 fn tell_walks(size: usize, bytes: &[u8]) {
     let count = walk_by_calls(bytes).elements;
     let library: [(&str, fn(&[u8]) -> Totals); 3] = [
@@ -138,11 +156,13 @@ fn tell_walks(size: usize, bytes: &[u8]) {
         ];
         #[cfg(beside)]
         ways.push(way(By::Crate, |()| beside::walk(bytes)));
+        #[cfg(mbedtls)]
+        ways.push(way(By::Mbedtls, |()| mbedtls::walk(bytes)));
         tell(&row, &ways, &mut ());
     }
 }
 
-#[cfg_attr(not(beside), allow(unused_mut, reason = "as above"))]
+#[allow(unused_mut, reason = "as above")]
 fn tell_keys(size: usize, bound: u64) {
     let (bytes, count) = keys(bound, size);
     let row = Row {
@@ -158,6 +178,8 @@ fn tell_keys(size: usize, bound: u64) {
     ];
     #[cfg(beside)]
     ways.push(way(By::Crate, |()| beside::decode(&bytes)));
+    #[cfg(mbedtls)]
+    ways.push(way(By::Mbedtls, |()| mbedtls::decode(&bytes)));
     tell(&row, &ways, &mut ());
 }
 

@@ -25,6 +25,8 @@ pub enum By {
     /// The crate `der` 0.8.3.
     #[allow(dead_code, reason = "only the build beside the crate has it")]
     Crate,
+    #[allow(dead_code, reason = "only where its headers are there")]
+    Mbedtls,
 }
 
 /// A way to do the work; `S` is what it works on beside its input, as octets to write to.
@@ -62,7 +64,7 @@ pub fn tell<S: Clone + PartialEq>(row: &Row, ways: &[Way<'_, S>], scratch: &mut 
         assert_eq!((way.run)(&mut again), told, "{}", row.name);
         assert!(again == *scratch, "{}", row.name);
     }
-    let [library, by_hand, by_crate] = least_times(row, ways, scratch);
+    let [library, by_hand, by_crate, by_mbedtls] = least_times(row, ways, scratch);
     print!(
         "{}, {}: {} of {:.1} octets; library {library:.2} ns, by hand {by_hand:.2} ns, ratio {:.2}",
         row.name,
@@ -71,19 +73,18 @@ pub fn tell<S: Clone + PartialEq>(row: &Row, ways: &[Way<'_, S>], scratch: &mut 
         row.octets as f64 / row.count as f64,
         library / by_hand,
     );
-    if by_crate.is_finite() {
-        print!(
-            "; the crate {by_crate:.2} ns, ratio {:.2}",
-            library / by_crate
-        );
+    for (name, time) in [("the crate", by_crate), ("mbedTLS", by_mbedtls)] {
+        if time.is_finite() {
+            print!("; {name} {time:.2} ns, ratio {:.2}", library / time);
+        }
     }
     println!();
 }
 
-/// The least times by the library, by hand and by the crate, in nanoseconds; without a way they
-/// are infinite. The rounds alternate, so that all see the same machine.
-fn least_times<S>(row: &Row, ways: &[Way<'_, S>], scratch: &mut S) -> [f64; 3] {
-    let mut least = [f64::INFINITY; 3];
+/// The least times by the library, by hand, by the crate and by mbedTLS, in nanoseconds; without a
+/// way they are infinite. The rounds alternate, so that all see the same machine.
+fn least_times<S>(row: &Row, ways: &[Way<'_, S>], scratch: &mut S) -> [f64; 4] {
+    let mut least = [f64::INFINITY; 4];
     let begun = Instant::now();
     let mut rounds = 0;
     while rounds < ROUNDS || begun.elapsed() < WHILE {
