@@ -47,7 +47,7 @@ AlgorithmWritten v =
     FieldsWritten (ElementWritten OctetString (lent_size v.algorithm) (LentWritten v.algorithm))
     (ElementWritten OctetString (month_size v.month) (MonthWritten v.month))
 
--- such a SEQUENCE is read as it is written
+-- it is read as it is written
 pub algorithm_lawful : IsLawful Sequence TakesAlgorithm IsAlgorithm algorithm_contents
     algorithm_levels
 algorithm_lawful =

@@ -47,7 +47,7 @@ KeyInfoWritten v =
     (ElementWritten Sequence (algorithm_size v.algorithm) (AlgorithmWritten v.algorithm))
     (ElementWritten OctetString (lent_size v.key) (LentWritten v.key))
 
--- such a SEQUENCE is read as it is written
+-- it is read as it is written
 pub key_info_lawful : IsLawful Sequence TakesKeyInfo IsKeyInfo key_info_contents key_info_levels
 key_info_lawful =
     contents_lawful Sequence key_info_levels key_info_fields

@@ -10,7 +10,7 @@ lent_contents lent = lent.octets.now
 abbrev pub IsLent : Lent → Type 0
 IsLent lent = Unit {0}
 
--- octets that are lent are taken as they stand
+-- they are taken as they stand
 abbrev pub TakesLent : Lent → EncodingRules → Head → List ℕ → Type 0
 TakesLent lent rules h octets = lent_contents lent ≡ octets
 
@@ -25,11 +25,11 @@ lent_size lent = checked_length (length (lent_contents lent))
 abbrev pub LentWritten : Lent → WriterAnswer
 LentWritten lent s result t = Writes (write_outcome (lent_contents lent) s) result t
 
--- octets that are lent are compared octet by octet, which is never refused
+-- they are compared octet by octet, which is never refused
 abbrev pub lent_order : Lent → Lent → Compared
 lent_order v w = Ok (byte_order (lent_contents v) (lent_contents w))
 
--- octets that are lent are read as they are written
+-- it is read as it is written
 pub lent_lawful : IsLawful OctetString TakesLent IsLent lent_contents (λ _. 0)
 lent_lawful =
     record {
