@@ -42,7 +42,7 @@ impl<'a, T: Encode> Encode for EncodeRef<'a, T> {
 
     #[inline(always)]
     fn encode<W: Writer>(&self, writer: &mut W) -> Result<(), Error> {
-        // an answer is matched where it is made, as where an element is written
+        // an answer is matched where it is made, as by `encode_tlv`
         if let Err(error) = self.0.encode(writer) {
             return Err(error);
         }

@@ -334,8 +334,7 @@ impl Encode for Tag {
     }
 }
 
-// The first octet of a tag, with these five low bits. The class is told here, since `Tag::class`
-// would be a call in each place that writes a header.
+// The first octet of a tag, with these five low bits.
 #[inline(always)]
 pub(crate) fn first_octet_of(tag: Tag, low: u8) -> u8
     requires { low < 32 }

@@ -29,7 +29,7 @@ impl<A: Encode, B: Encode> Encode for (A, B) {
 
     #[inline(always)]
     fn encode<W: Writer>(&self, writer: &mut W) -> Result<(), Error> {
-        // an answer is matched where it is made, as where an element is written
+        // an answer is matched where it is made, as by `encode_tlv`
         if let Err(error) = self.0.encode(writer) {
             return Err(error);
         }
