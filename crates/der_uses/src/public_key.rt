@@ -2,7 +2,7 @@
 ghost use Rattle.std.specs.Prelude.{◌≡◌};
 ghost use Rattle.der.specs.Prelude.{Same, slice_state};
 
-use der::{Error, ErrorKind, Reader, ReaderExt, SliceReader, Tag, decode_header};
+use der::{Error, Reader, ReaderExt, SliceReader, Tag, decode_header};
 
 /// A public key, lent by the input.
 #[derive(Clone, Copy, Debug, PartialEq, Eq)]

@@ -1,5 +1,6 @@
 //! The constants of types, which no clause can name, and the functions that say the same.
 use super::*;
+use crate::checks::holds;
 use der_fixtures::constants::tags_agree;
 use der_uses::algorithm_identifier::AlgorithmIdentifier;
 use der_uses::key_info::KeyInfo;
@@ -7,13 +8,13 @@ use der_uses::lent::Lent;
 
 #[test]
 fn constants_and_functions_tell_the_same_tags(rt: HostRuntime) {
-    tags_agree::<MyByteMonth>(&rt, Tag::OctetString, false);
-    tags_agree::<Box<MyByteMonth>>(&rt, Tag::OctetString, false);
-    tags_agree::<Lent>(&rt, Tag::OctetString, false);
-    tags_agree::<AlgorithmIdentifier>(&rt, Tag::Sequence, true);
-    tags_agree::<KeyInfo>(&rt, Tag::Sequence, true);
-    tags_agree::<careless::Hasty>(&rt, Tag::OctetString, false);
-    tags_agree::<careless::Unread>(&rt, Tag::OctetString, false);
-    tags_agree::<errors::Octet>(&rt, Tag::OctetString, false);
-    tags_agree::<nests::Nest<1>>(&rt, Tag::OctetString, false);
+    holds(&rt, tags_agree::<MyByteMonth>(Tag::OctetString, false));
+    holds(&rt, tags_agree::<Box<MyByteMonth>>(Tag::OctetString, false));
+    holds(&rt, tags_agree::<Lent>(Tag::OctetString, false));
+    holds(&rt, tags_agree::<AlgorithmIdentifier>(Tag::Sequence, true));
+    holds(&rt, tags_agree::<KeyInfo>(Tag::Sequence, true));
+    holds(&rt, tags_agree::<careless::Hasty>(Tag::OctetString, false));
+    holds(&rt, tags_agree::<careless::Unread>(Tag::OctetString, false));
+    holds(&rt, tags_agree::<errors::Octet>(Tag::OctetString, false));
+    holds(&rt, tags_agree::<nests::Nest<1>>(Tag::OctetString, false));
 }

@@ -1,9 +1,10 @@
 //! Whether a reader lends, by its constant and by its function.
 use super::*;
+use crate::checks::holds;
 use der_fixtures::constants::lending_agrees;
 
 #[test]
 fn constant_and_function_say_alike_whether_a_reader_lends(rt: HostRuntime) {
-    lending_agrees::<SliceReader>(&rt, true);
-    lending_agrees::<CopyingReader>(&rt, false);
+    holds(&rt, lending_agrees::<SliceReader>(true));
+    holds(&rt, lending_agrees::<CopyingReader>(false));
 }

@@ -7,7 +7,7 @@ use der_fixtures::constants::lending_agrees;
 
 #[test]
 fn constant_and_function_say_alike_that_it_lends(rt: HostRuntime) {
-    lending_agrees::<LendingReader>(&rt, true);
+    same(&rt, lending_agrees::<LendingReader>(true), true);
 }
 
 // The scan ahead walks what is lent. One that passes the body has to read it.
