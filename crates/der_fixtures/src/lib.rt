@@ -1,10 +1,18 @@
-//! What the tests of several crates share: readers and calls of them, octets that they read,
-//! encodings of tags and lengths, and errors.
+//! Readers, writers and types that tests implement: each is proved to keep the contract of its trait.
 #![tactic(auto)]
 
-pub mod bodies;
-pub mod calls;
-pub mod constants;
-pub mod encodings;
-pub mod errors;
-pub mod readers;
+pub mod counter;
+pub mod cow_octets;
+pub mod day;
+pub mod half_written;
+pub mod hasty;
+pub mod lending_reader;
+pub mod month;
+pub mod nest;
+pub mod octet;
+pub mod ranked;
+pub mod recorder;
+pub mod sequence;
+pub mod turns;
+pub mod unread;
+pub mod zeros;

@@ -1,0 +1,47 @@
+//! A writer that counts its writes.
+ghost use Rattle.std.specs.Prelude.{true, false, []};
+
+use der::{Error, ErrorKind, Writer};
+use std::alloc::Global;
+
+/// A writer into a vector, which counts the calls of `write`.
+#[derive(Drop)]
+pub struct Counter {
+    /// The octets that were written.
+    pub octets: Vec<u8>,
+    /// The number of calls.
+    pub writes: u32,
+}
+
+impl Writer for Counter {
+    // a write may fail for memory at any time, so the state is that of a failed writer
+    ghost state = { λ w. record {
+      octets = w.octets.items;
+      behind = [];
+      start = 0;
+      stop = 0;
+      capacity = 0;
+      failed = true;
+      reference = 0;
+    } };
+
+    ghost reliable = { false };
+
+    fn write(&mut self, octets: &[u8]) -> Result<(), Error> {
+        self.writes = self.writes.saturating_add(1);
+        match self.octets.extend_from_slice(octets) {
+            Ok(()) => Ok(()),
+            Err(_) => Err(ErrorKind::OutOfMemory.to_error()),
+        }
+    }
+}
+
+impl Counter {
+    /// A counter with no octets.
+    pub fn new(alloc: Global) -> Self {
+        Counter {
+            octets: Vec::new(alloc),
+            writes: 0,
+        }
+    }
+}

@@ -1,0 +1,52 @@
+//! A careless type, which ignores that a read failed.
+ghost use Rattle.std.specs.Prelude.{false};
+ghost use Rattle.der.specs.Prelude.{OctetString};
+
+use der::{DecodeValue, Error, ErrorKind, FixedTag, Header, ReadValue, Reader, ReaderExt, Tag};
+use std::alloc::Global;
+
+/// An octet, returned although the next read failed: no contents are read as this value.
+#[derive(Clone, Copy)]
+pub struct Hasty {
+    /// The octet.
+    pub octet: u8,
+}
+
+impl FixedTag for Hasty {
+    ghost tag_is = { OctetString };
+
+    const TAG: Tag = Tag::OctetString;
+
+    fn fixed_tag() -> Tag {
+        Self::TAG
+    }
+}
+
+impl ReadValue for Hasty {
+    ghost valid = { λ _. Unit {0} };
+
+    ghost takes = { λ _ _ _ _. ⊥ };
+
+    ghost value_levels = { λ _. 0 };
+
+    ghost allocates = { false };
+
+    ghost takes_valid = { λ v rules h octets taken. tt };
+}
+
+impl<R: Reader> DecodeValue<R> for Hasty {
+    type Error = Error;
+
+    ghost decode_value_answers = { λ _ _ _ _. Unit {0} };
+
+    fn decode_value(_alloc: Global, reader: &mut R, _header: Header) -> Result<Self, Error> {
+        let octet = reader.read_byte()?;
+        let _ = reader.read_byte();
+        if !reader.is_failed() {
+            return Err(ErrorKind::Overlength.to_error());
+        }
+        Ok(Hasty { octet })
+    }
+
+    fn is_value(&self) {}
+}

@@ -1,0 +1,23 @@
+//! What the clauses of writing say of a type of one octet.
+ghost use Rattle.std.specs.Prelude.{◌≡◌, [], ◌∷◌, ◌++◌, IfOk, OnErr, OnOk};
+ghost use Rattle.der.specs.Prelude.{definite_length};
+
+use der::example::MyByteMonth;
+use der::{Encode, Error, Length};
+use std::alloc::Global;
+
+/// The encoding of a month, by the clauses that every type has.
+pub fn month_der(alloc: Global, month: &MyByteMonth) -> Result<Vec<u8>, Error>
+    ensures { IfOk result (λ v. v.items ≡ 4 ∷ 1 ∷ month.now.number ∷ []) }
+{
+    month.to_der(alloc)
+}
+
+/// Appends the encoding of a month, and returns its length.
+pub fn append_month(out: &mut Vec<u8>, month: &MyByteMonth) -> Result<Length, Error>
+    ensures count { IfOk result (λ n. n ≡ definite_length 3) }
+    ensures ok { OnOk result (out.new.items ≡ out.old.items ++ (4 ∷ 1 ∷ month.now.number ∷ [])) }
+    ensures refused { OnErr result (out.new.items ≡ out.old.items) }
+{
+    month.encode_to_vec(out)
+}

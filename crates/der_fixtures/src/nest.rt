@@ -1,0 +1,66 @@
+//! A type that reads its contents inside nested parts.
+ghost use Rattle.std.specs.Prelude.{false};
+ghost use Rattle.der.specs.Prelude.{OctetString, Same};
+
+use der::{DecodeValue, Error, FixedTag, Header, ReadValue, Reader, ReaderExt, Tag};
+use std::alloc::Global;
+
+/// A value whose contents are read inside `LEVELS` nested parts, each of which is all of them.
+#[derive(Clone, Copy)]
+pub struct Nest<const LEVELS: u8>;
+
+impl<const LEVELS: u8> FixedTag for Nest<LEVELS> {
+    ghost tag_is = { OctetString };
+
+    const TAG: Tag = Tag::OctetString;
+
+    fn fixed_tag() -> Tag {
+        Tag::OctetString
+    }
+}
+
+impl<const LEVELS: u8> ReadValue for Nest<LEVELS> {
+    ghost valid = { λ _. Unit {0} };
+
+    ghost takes = { λ _ _ _ _. Unit {0} };
+
+    // it is promised at no depth that it is read
+    ghost value_levels = { λ _. 64 };
+
+    ghost allocates = { false };
+
+    ghost takes_valid = { λ v rules h octets taken. tt };
+}
+
+impl<const LEVELS: u8, R: Reader> DecodeValue<R> for Nest<LEVELS> {
+    type Error = Error;
+
+    ghost decode_value_answers = { λ _ _ _ _. Unit {0} };
+
+    fn decode_value(_alloc: Global, reader: &mut R, _header: Header) -> Result<Self, Error> {
+        match pass_inside(reader, LEVELS) {
+            Ok(()) => Ok(Nest),
+            Err(error) => Err(error),
+        }
+    }
+
+    fn is_value(&self) {}
+}
+
+// Passes what is left inside so many parts.
+#[cycle(nest)]
+fn pass_inside<R: Reader>(reader: &mut R, levels: u8) -> Result<(), Error>
+    ensures same { Same (R.state reader.old) (R.state reader.new) }
+{
+    let left = reader.remaining_len();
+    if levels == 0 {
+        return reader.drain(left);
+    }
+    let inner = levels - 1;
+    reader.read_nested(
+        left,
+        |reader: &mut R| -> Result<(), Error>
+            ensures same { Same (R.state reader.old) (R.state reader.new) }
+        { pass_inside(reader, inner) },
+    )
+}

@@ -1,0 +1,31 @@
+//! A hasher that keeps its input.
+ghost use Rattle.std.specs.Prelude.{◌+◌, ◌*◌, ◌%◌, ◌^◌, fold};
+
+use std::hash::{Hash, Hasher};
+
+/// The octets so far as the digits of a number in base 256, after a leading 1; at most 15 octets.
+#[derive(Drop)]
+struct Recorder(u128);
+
+impl Hasher for Recorder {
+    ghost write = { λ s octets. record { 0 = fold (λ n o. ((n * 256) % 2 ^ 128 + o) % 2 ^ 128) s.0 octets } };
+
+    ghost finish = { λ _. 0 };
+
+    fn finish(&self) -> u64 {
+        0
+    }
+
+    fn write(&mut self, bytes: &[u8]) {
+        for octet in bytes {
+            self.0 = self.0.wrapping_mul(256).wrapping_add(u128::from(*octet));
+        }
+    }
+}
+
+/// The octets that `hash` feeds to a hasher, as such a number.
+pub fn recorded<T: Hash>(value: &T) -> u128 {
+    let mut recorder = Recorder(1);
+    value.hash(&mut recorder);
+    recorder.0
+}

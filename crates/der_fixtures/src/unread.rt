@@ -1,0 +1,45 @@
+//! A careless type, which does not read its contents.
+ghost use Rattle.std.specs.Prelude.{◌≡◌, [], false};
+ghost use Rattle.der.specs.Prelude.{OctetString};
+
+use der::{DecodeValue, Error, FixedTag, Header, ReadValue, Reader, Tag};
+use std::alloc::Global;
+
+/// A value whose contents are never read.
+#[derive(Clone, Copy)]
+pub struct Unread;
+
+impl FixedTag for Unread {
+    ghost tag_is = { OctetString };
+
+    const TAG: Tag = Tag::OctetString;
+
+    fn fixed_tag() -> Tag {
+        Self::TAG
+    }
+}
+
+impl ReadValue for Unread {
+    ghost valid = { λ _. Unit {0} };
+
+    // there has to be nothing to read
+    ghost takes = { λ _ _ _ octets. octets ≡ [] };
+
+    ghost value_levels = { λ _. 0 };
+
+    ghost allocates = { false };
+
+    ghost takes_valid = { λ v rules h octets taken. tt };
+}
+
+impl<R: Reader> DecodeValue<R> for Unread {
+    type Error = Error;
+
+    ghost decode_value_answers = { λ _ _ _ _. Unit {0} };
+
+    fn decode_value(_alloc: Global, _reader: &mut R, _header: Header) -> Result<Self, Error> {
+        Ok(Unread)
+    }
+
+    fn is_value(&self) {}
+}

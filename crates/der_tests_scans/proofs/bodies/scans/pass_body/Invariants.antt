@@ -1,4 +1,0 @@
-use Rattle.der_tests_scans.proofs.bodies.scans.pass_body.Given as goal
-
-abbrev pub ghosts-pass_counted : goal.ghosts-pass_counted
-ghosts-pass_counted g a = record { name = a.blank.name; parts = a.blank.parts }

@@ -1,0 +1,17 @@
+//! Tests of `der_asn1`, made from outside as a user makes them: forms of contents, fields, tags,
+//! lists and times.
+
+mod alphabets;
+mod arcs;
+mod choices;
+mod constants;
+mod defaults;
+mod fields;
+mod forms;
+mod lists;
+mod numbers;
+mod sets;
+mod tags;
+mod texts;
+mod times;
+mod walks;

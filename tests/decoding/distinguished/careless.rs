@@ -1,0 +1,43 @@
+//! Types of a careless author: what they leave, or read past the end, is refused.
+
+use super::*;
+use crate::checks::{holds, same};
+use der_fixtures::hasty::Hasty;
+use der_fixtures::unread::Unread;
+
+#[test]
+fn a_refusal_that_a_type_ignores_is_told_as_failed(rt: HostRuntime) -> Result<(), Fail> {
+    let octets = [0x04, 0x01, 0x09];
+    let failed = ErrorKind::Failed.at(Length::new(3));
+    same(
+        &rt,
+        Hasty::from_der(rt.alloc(), &octets).err(),
+        Some(failed),
+    );
+    same(
+        &rt,
+        Hasty::from_der_partial(rt.alloc(), &octets).err(),
+        Some(failed),
+    );
+    let mut reader = der_reader(&octets)?;
+    let hasty = Hasty::decode(rt.alloc(), &mut reader)?;
+    same(&rt, hasty.octet, 0x09);
+    holds(&rt, reader.is_failed());
+    Ok(())
+}
+
+#[test]
+fn what_stands_behind_an_ignored_refusal_is_refused(rt: HostRuntime) {
+    let octets = [0x04, 0x01, 0x09, 0x04, 0x01, 0x02];
+    let failed = ErrorKind::Failed.at(Length::new(3));
+    let refused = <(Hasty, MyByteMonth)>::from_der(rt.alloc(), &octets).err();
+    same(&rt, refused, Some(failed));
+}
+
+#[test]
+fn contents_that_a_type_leaves_are_refused(rt: HostRuntime) {
+    let alloc = rt.alloc();
+    let refused = Unread::from_der(alloc, &[0x04, 0x01, 0x09]).err();
+    same(&rt, refused, Some(trailing(2, 1)));
+    holds(&rt, Unread::from_der(alloc, &[0x04, 0x00]).is_ok());
+}

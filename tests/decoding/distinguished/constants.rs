@@ -1,0 +1,24 @@
+//! The constants of types, which no clause can name, and the functions that say the same.
+use super::*;
+use crate::checks::holds;
+use crate::fixtures::constants::tags_agree;
+use der_uses::algorithm_identifier::AlgorithmIdentifier;
+use der_uses::key_info::KeyInfo;
+use der_fixtures::hasty::Hasty;
+use der_fixtures::nest::Nest;
+use der_fixtures::octet::Octet;
+use der_fixtures::unread::Unread;
+use der_uses::lent::Lent;
+
+#[test]
+fn constants_and_functions_tell_the_same_tags(rt: HostRuntime) {
+    holds(&rt, tags_agree::<MyByteMonth>(Tag::OctetString, false));
+    holds(&rt, tags_agree::<Box<MyByteMonth>>(Tag::OctetString, false));
+    holds(&rt, tags_agree::<Lent>(Tag::OctetString, false));
+    holds(&rt, tags_agree::<AlgorithmIdentifier>(Tag::Sequence, true));
+    holds(&rt, tags_agree::<KeyInfo>(Tag::Sequence, true));
+    holds(&rt, tags_agree::<Hasty>(Tag::OctetString, false));
+    holds(&rt, tags_agree::<Unread>(Tag::OctetString, false));
+    holds(&rt, tags_agree::<Octet>(Tag::OctetString, false));
+    holds(&rt, tags_agree::<Nest<1>>(Tag::OctetString, false));
+}

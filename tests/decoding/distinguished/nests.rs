@@ -1,0 +1,14 @@
+//! A type that reads its contents inside so many parts, each of which is all of them.
+
+use super::*;
+use crate::checks::{holds, same};
+use crate::fixtures::errors::too_deep;
+use der_fixtures::nest::Nest;
+
+#[test]
+fn parts_in_contents_stand_63_levels_deep_and_no_deeper(rt: HostRuntime) {
+    let octets = [0x04, 0x00];
+    holds(&rt, Nest::<63>::from_der(rt.alloc(), &octets).is_ok());
+    let refused = Nest::<64>::from_der(rt.alloc(), &octets).err();
+    same(&rt, refused, Some(too_deep(2)));
+}

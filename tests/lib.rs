@@ -1,0 +1,23 @@
+//! Tests of the libraries, made from outside as a user makes them. They are run, and not proved.
+#![tactic(auto)]
+
+#[cfg(test)]
+mod asn1;
+#[cfg(test)]
+mod checks;
+#[cfg(test)]
+mod decoding;
+#[cfg(test)]
+mod fixtures;
+#[cfg(test)]
+mod keys;
+#[cfg(test)]
+mod readers;
+#[cfg(test)]
+mod scans;
+#[cfg(test)]
+mod strings;
+#[cfg(test)]
+mod values;
+#[cfg(test)]
+mod writers;

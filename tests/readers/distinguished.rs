@@ -1,0 +1,43 @@
+//! Worked cases of reading under the Distinguished Encoding Rules; what is expected is worked out
+//! by hand from X.690 and from the rules of refusals.
+use der::{
+    Decode, Error, ErrorKind, Header, Length, Octets, Reader, ReaderExt, SliceReader, Tag,
+    TagNumber, decode_header, decode_length,
+};
+use crate::fixtures::errors::{incomplete, trailing};
+use crate::fixtures::readers::{Placed, der_reader, der_unlent, front};
+use der_uses::reader::CopyingReader;
+use std::alloc::Global;
+use std::test::Fail;
+
+mod ahead;
+mod constants;
+mod depth;
+mod failed;
+mod headers;
+mod lengths;
+mod memory;
+mod nested;
+mod readers;
+mod tags;
+mod unlent;
+mod unlent_parts;
+mod unlent_peeks;
+
+// What is said of a call costs the checker seconds in each test that makes it. Few tests need it,
+// so they make those that several make by functions of which nothing is said.
+fn octet(reader: &mut SliceReader<'_>) -> Result<u8, Error> {
+    reader.read_byte()
+}
+
+fn tag_by(alloc: Global, reader: &mut SliceReader<'_>) -> Result<Tag, Error> {
+    reader.decode(alloc)
+}
+
+fn unlent_tag(alloc: Global, reader: &mut CopyingReader<'_>) -> Result<Tag, Error> {
+    reader.decode(alloc)
+}
+
+fn header_ahead(reader: &SliceReader<'_>) -> Result<Header, Error> {
+    Header::peek(reader)
+}

@@ -1,0 +1,54 @@
+//! The scan of a body ahead of a reader, and that of a fork which passes the body.
+
+use super::*;
+use crate::checks::same_at;
+use crate::scans::readers::ruled_behind;
+use der::decode_indefinite_length;
+use std::marker::Brand;
+use std::process::Abort;
+use std::sync::ledger::{Blank, Ledger};
+
+/// How many octets a body has, or why there is none.
+pub(super) type Answer = Result<Length, Error>;
+
+// What a scan ahead of the reader answers, and what a fork does that passes the body.
+pub(super) fn scans<R: Reader>(reader: &R) -> (Answer, Answer)
+{
+    scans_counted::<R, Brand>(reader, Blank::new(1))
+}
+
+fn scans_counted<R: Reader, L: Ledger>(reader: &R, blank: Blank) -> (Answer, Answer)
+{
+    let mut turns = Turns::<L>::new(blank);
+    let ahead = reader.scan_indefinite(&mut turns);
+    let mut fork = reader.fork();
+    (ahead, decode_indefinite_length(&mut fork, &mut turns))
+}
+
+// What both scans answer inside a part, whose octets are passed.
+fn scans_of_part<R: Reader>(reader: &mut R) -> Result<(Answer, Answer), Error>
+{
+    let answers = scans(reader);
+    let left = reader.input_len().saturating_sub(reader.position());
+    reader.drain(left)?;
+    Ok(answers)
+}
+
+// What both scans answer from a position on, up to an end, where a reader has no octets behind it
+// and where a part ends there.
+pub(super) fn answer_between(
+    rt: &impl Abort,
+    octets: &[u8],
+    position: u32,
+    end: u32,
+) -> Result<Answer, Error> {
+    let plain = ruled_behind(first_octets(octets, end as usize), position)?;
+    let (ahead, passed) = scans(&plain);
+    same_at(rt, end, ahead, passed);
+    let mut around = ruled_behind(octets, position)?;
+    let part = Length::new(end.saturating_sub(position));
+    let (ahead_in_part, passed_in_part) = around.read_nested(part, scans_of_part)?;
+    same_at(rt, end, ahead_in_part, passed_in_part);
+    same_at(rt, end, ahead_in_part, ahead);
+    Ok(ahead)
+}

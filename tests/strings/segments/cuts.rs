@@ -1,0 +1,76 @@
+//! Every beginning of elements in segments: each is refused where it was cut.
+use super::joined::ELEMENTS;
+use super::levels::{Forms, nested};
+use super::*;
+use crate::checks::same_at;
+use crate::strings::elements::joined_of_ber;
+use der::example::JoinedOctets;
+use std::process::Abort;
+
+// Where contents stand that a scan passes at once, and how many octets they have, 16 at most.
+pub(super) type Passed = (u32, u32);
+
+// What is missing of an element that was cut behind so many octets: the next one, or those that a
+// scan passes at once.
+fn missing(passed: &[Passed], cut: u32) -> Error {
+    for (start, count) in passed {
+        if cut >= *start && cut - *start < *count {
+            return incomplete(start.saturating_add(*count), cut, *start);
+        }
+    }
+    incomplete(cut.saturating_add(1), cut, cut)
+}
+
+// A beginning is refused by this error.
+fn refused(rt: &impl Abort, cut: usize, read: &Result<JoinedOctets, Error>, error: Error) {
+    match read {
+        Ok(_) => same_at(rt, cut, None, Some(error)),
+        Err(told) => same_at(rt, cut, Some(*told), Some(error)),
+    }
+}
+
+// The whole is joined to these octets.
+fn read(rt: &impl Abort, row: usize, read: &Result<JoinedOctets, Error>, joined: &[u8]) {
+    match read {
+        Ok(whole) => same_at(rt, row, whole.octets.as_slice(), joined),
+        Err(error) => same_at(rt, row, Some(*error), None),
+    }
+}
+
+// The element is joined to these octets, and of each beginning octets are missing.
+fn cut_everywhere(
+    rt: &impl Abort,
+    alloc: Global,
+    octets: &[u8],
+    joined: &[u8],
+    passed: &[Passed],
+) -> Result<(), Error> {
+    for cut in 0..octets.len() {
+        let (beginning, _) = octets.split_at(cut);
+        refused(
+            rt,
+            cut,
+            &joined_of_ber(alloc, beginning),
+            missing(passed, count_of(beginning)?),
+        );
+    }
+    read(rt, octets.len(), &joined_of_ber(alloc, octets), joined);
+    Ok(())
+}
+
+#[test]
+fn elements_in_segments_are_refused_wherever_they_are_cut(rt: HostRuntime) -> Result<(), Fail> {
+    for (octets, joined, passed) in ELEMENTS {
+        cut_everywhere(&rt, rt.alloc(), octets, joined, passed)?;
+    }
+    Ok(())
+}
+
+#[test]
+fn elements_64_levels_deep_are_refused_wherever_they_are_cut(rt: HostRuntime) -> Result<(), Fail> {
+    for forms in [Forms::Definite, Forms::Indefinite] {
+        let octets = nested(rt.alloc(), forms, 64, &[0x04, 0x01, 0x2A])?;
+        cut_everywhere(&rt, rt.alloc(), octets.as_slice(), &[0x2A], &[])?;
+    }
+    Ok(())
+}
