@@ -1,0 +1,47 @@
+//! Calls that allocate nothing, group by group, and then, after a line `allocating`, calls that
+//! allocate. Each line is the result of a call. `.ci/refused_memory` counts the requests for memory,
+//! which only a line `prepared` may follow before `allocating`, and refuses each of the later ones.
+#![tactic(auto)]
+
+mod allocating;
+mod decoding;
+mod orders;
+mod readers;
+mod refusals;
+mod strings;
+mod tell;
+mod values;
+mod writers;
+mod zeros;
+
+use std::io;
+
+fn main(rt: HostRuntime) -> io::Result<()> {
+    values::lengths(&rt)?;
+    values::sums(&rt)?;
+    values::tags(&rt)?;
+    values::numbers(&rt)?;
+    values::names(&rt)?;
+    values::errors(&rt)?;
+    readers::plain_calls(&rt)?;
+    readers::peeks(&rt)?;
+    readers::parts(&rt)?;
+    readers::scans(&rt)?;
+    readers::positions(&rt)?;
+    writers::pieces(&rt)?;
+    writers::sequences(&rt)?;
+    writers::values(&rt)?;
+    decoding::headers(&rt, rt.alloc())?;
+    decoding::elements(&rt, rt.alloc())?;
+    decoding::fronts(&rt, rt.alloc())?;
+    decoding::by_a_reader(&rt, rt.alloc())?;
+    strings::borrowed(&rt)?;
+    strings::owned(&rt, rt.alloc())?;
+    orders::values(&rt)?;
+    orders::lists(&rt)?;
+    refusals::of_reading(&rt, rt.alloc())?;
+    refusals::of_strings(&rt, rt.alloc())?;
+    refusals::of_writing(&rt, rt.alloc())?;
+    println!(rt; "allocating")?;
+    allocating::calls(&rt, rt.alloc())
+}
