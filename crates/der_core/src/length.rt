@@ -82,8 +82,8 @@ fn decode_indefinite_form<R: Reader>(reader: &mut R) -> Result<Length, Error>
     }
 }
 
-// The rest of a length after a first octet of `0x81` or more: as many octets in base 256 as that
-// octet announces, the fewest possible.
+// The rest of a length after a first octet of `0x81` or more: the announced number of base-256
+// digits, which has to be the fewest possible.
 #[inline(always)]
 pub(crate) fn decode_long_length<R: Reader>(
     reader: &mut R,
