@@ -26,7 +26,7 @@ remaining_err t e h = go t.failed refl h
     go true f h = (f, grind arith)
     go false f h = absurd (grind arith)
 
--- a failed decoder whose reader has not failed reports a failed allocation
+-- an error means that the decoder allocates and that an allocation failed
 pub lacks_only : {E : Type 0} (A : Type 0) (oom : E → Bool) {takes : Bool} (s t : ReaderState) (m : ℕ) {e : E} → ReadsOrLacks {A = A} oom takes s m (Err e) t
     → (takes ≡ true) × (oom e ≡ true)
 lacks_only A oom s t m (inl h) = absurd (let no : false ≡ true = h.0 in cc)
@@ -89,7 +89,7 @@ module _ {A E : Type 0} (rules : EncodingRules) (Ahead : A → EncodingRules →
       let few : s.depth + levels s.rules ≤ 64 = omega (arith, depth, ap levels same_rules) in
       complete working there few
 
-  -- no error follows a value that is guaranteed
+  -- the remaining octets after a guaranteed value are available
   pub not_lost : (octets : List ℕ) (s t : ReaderState) (v w : A) (m : ℕ) (e : Error) → s ≡ initial_state rules octets → Ahead v rules octets m → levels rules ≤ 64
       → (s.failed ≡ false → Ahead v s.rules (rest_of s) m → s.depth + levels s.rules ≤ 64 → ReadsOrLacks oom takes s m (Ok w) t) → Err e ≡ remaining_answer t → ⊥
   not_lost octets s t v w m e begun ahead enough complete lost =

@@ -15,7 +15,7 @@ use Rattle.der_core.specs.declared.length.indefinite.Part.{Part}
 use Rattle.der_core.specs.declared.length.indefinite.Part.TheVariants.{Ends, Passes as PassesItem, Opens}
 use Rattle.der_core.proofs.StateLemmas.{reads_none, reads_on, position_on, failed_on, stops_on, same_here, same_trans}
 
--- the beginning of a body was read, by a reader that had not failed if it is not empty
+-- the beginning of a body was read; unless nothing was read, the reader had not failed
 pub record Reached (a b : ReaderState) (level parts : ℕ) : Type 0 where
   pub passed : List ℕ
   pub is_open : Open level parts passed
@@ -27,7 +27,7 @@ pub reached_none : (s : ReaderState) → IsSound s → Reached s s 1 0
 reached_none s sound = record { passed = []; is_open = first (none (omega arith, omega arith)); reads = reads_none s; working = inl refl; same = same_here s sound }
 
 module _ {a b : ReaderState} {level parts : ℕ} (h : Reached a b level parts) where
-  -- a reader that read a part had not failed before
+  -- a reader that has not failed now had not failed at the start
   reached_working : b.failed ≡ false → a.failed ≡ false
   reached_working w = sym (failed_on h.reads) ∙ w
 
