@@ -8,8 +8,8 @@ use Rattle.der_base.specs.declared.error.Error.{Error}
 use Rattle.der_base.specs.declared.error.ErrorKind.TheVariants.{Failed, Overflow, Overlength}
 
 -- The meaning of a writer. One without a buffer starts at 0 with nothing written, chooses its own
--- `stop`, has nothing behind, and any capacity and reference: these two distinguish the writer that
--- a closure returns from other writers.
+-- `stop`, has nothing behind, and any capacity and reference: these two distinguish this writer
+-- from others.
 pub record WriterState : Type 0 where
   -- all octets written since the start of the buffer
   pub octets : List ℕ

@@ -59,7 +59,7 @@ impl<'a> Octets for &'a [u8] {
 ///   a failed state fails.
 /// - `lending` is the law that a reliable reader returns slices.
 pub trait Reader: Sized + Drop {
-    /// The octets that [`Reader::read_slice`] returns: a part of the input for a [`SliceReader`].
+    /// The octets that [`Reader::read_slice`] returns; for a [`SliceReader`] a slice of its input.
     type Lent: Octets;
 
     ghost state: { Self → ReaderState };

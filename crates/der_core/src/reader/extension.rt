@@ -125,7 +125,7 @@ pub trait ReaderExt: Reader {
     ///
     /// The caller must ensure that `f` may be called with this reader inside the part, provided
     /// that the part does not exceed the end and is nested in fewer than 64 others; and that `f`
-    /// returns the same reader: with input, rules, end and depth unchanged, at no earlier position,
+    /// leaves the same reader: with input, rules, end and depth unchanged, at no earlier position,
     /// and failed if it had failed before.
     ///
     /// # Errors
@@ -286,7 +286,7 @@ pub trait ReaderExt: Reader {
     ///
     /// The caller must ensure that, whatever header of a SEQUENCE is next, `f` may be called with
     /// this reader inside the contents, provided that they do not exceed the end and are nested in
-    /// fewer than 64 parts; and that `f` returns the same reader: with input, rules, end and depth
+    /// fewer than 64 parts; and that `f` leaves the same reader: with input, rules, end and depth
     /// unchanged, at no earlier position, and failed if it had failed before.
     ///
     /// # Errors

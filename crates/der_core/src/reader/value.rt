@@ -93,7 +93,7 @@ pub fn close_value<R: Reader, T: Drop, E: From<Error> + Drop>(
 ///
 /// The caller must ensure that `f` may be called with this reader inside the contents and with that
 /// header, provided that the contents do not exceed the end and are nested in fewer than 64 parts;
-/// and that `f` returns the same reader: with input, rules, end and depth unchanged, at no earlier
+/// and that `f` leaves the same reader: with input, rules, end and depth unchanged, at no earlier
 /// position, and failed if it had failed before.
 ///
 /// # Errors

@@ -130,12 +130,12 @@ impl<'a> SliceWriter<'a> {
     /// has its previous limits again, whatever `f` returned.
     ///
     /// The caller must ensure that `f` may be called with any writer limited to those octets, and
-    /// that `f` returns the same writer: the same slice and limits, the same octets before its
+    /// that `f` leaves the same writer: the same slice and limits, the same octets before its
     /// start, the slice after the written octets unchanged, and failed if it had failed before.
     ///
     /// # Errors
     ///
-    /// After each the writer is failed; if `f` was called, its position is after the contents. If
+    /// After each the writer is failed; if `f` was called, the position is after the contents. If
     /// several apply, the first is returned.
     ///
     /// - `Failed` at the position, if the writer had already failed; it is unchanged.
