@@ -1,4 +1,4 @@
--- How many octets tags and lengths take.
+-- The numbers of octets of tags and lengths.
 use Rattle.std.proofs.Common.{◌≡◌, ℕ, suc, ◌+◌, ◌^◌, ◌<◌, ◌≤◌, List, [], ◌∷◌, length, refl, ap, subst, arith}
 use Rattle.std.specs.Int.Digits.{digits_of}
 use Rattle.std.proofs.lemmas.Int.Digits.{number_lt, number_digits_of, length-digits_of-le, all_below_base_digits_of}
@@ -8,7 +8,7 @@ use Rattle.der_base.specs.Length.{length_octets, digits}
 use Rattle.der_base.specs.Tag.{label, tag_octets, continuation_octets}
 use Rattle.der_base.specs.declared.tag.Tag.{Tag}
 
--- a number with fewer than k + 1 digits is below the k-th power of the base
+-- a number of at least the k-th power of the base has more than k digits
 digits_of-long : (b k n : ℕ) → 2 ≤ b → b ^ k ≤ n → k < length (digits_of b n)
 digits_of-long b k n base least =
     let below : n < b ^ length (digits_of b n) = subst (λ (m : ℕ). m < b ^ length (digits_of b n)) (number_digits_of b n base) (number_lt b (digits_of b n) (all_below_base_digits_of b n base)) in
@@ -18,7 +18,7 @@ digits_of-long b k n base least =
 length-digits_of-is : (b k n : ℕ) → 2 ≤ b → b ^ k ≤ n → n < b ^ (k + 1) → length (digits_of b n) ≡ k + 1
 length-digits_of-is b k n base least most = omega (arith, digits_of-long b k n base least, length-digits_of-le b (k + 1) n base most)
 
--- of a number that is not 0
+-- the digits of a number that is not 0
 digits-is : (b n : ℕ) → 0 < n → digits b n ≡ digits_of b n
 digits-is b n h = grind (arith, nat_tests)
 
@@ -27,14 +27,14 @@ length-continued [] = refl
 length-continued (d ∷ []) = refl
 length-continued (d ∷ e ∷ ds) = ap (λ (n : ℕ). suc n) (length-continued (e ∷ ds))
 
--- a length from 128 on with k + 1 digits in base 256
+-- the length octets of a length from 128 on with k + 1 digits in base 256
 pub length-length_octets : (k n : ℕ) → 128 ≤ n → 256 ^ k ≤ n → n < 256 ^ (k + 1) → length (length_octets n) ≡ k + 2
 length-length_octets k n long least most =
     let e : digits 256 n ≡ digits_of 256 n = digits-is 256 n (omega arith) in
     let d : length (digits_of 256 n) ≡ k + 1 = length-digits_of-is 256 k n (omega arith) least most in
     grind (arith, nat_tests)
 
--- a tag with a number from 31 on that has k + 1 digits in base 128
+-- the octets of a tag with a number from 31 on that has k + 1 digits in base 128
 pub length-tag_octets : (k : ℕ) (t : Tag) → 31 ≤ (label t).number → 128 ^ k ≤ (label t).number → (label t).number < 128 ^ (k + 1) → length (tag_octets t) ≡ k + 2
 length-tag_octets k t long least most =
     let n : ℕ = (label t).number in

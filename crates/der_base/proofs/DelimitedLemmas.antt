@@ -1,4 +1,4 @@
--- Octets of tags, lengths, headers and elements can be told apart where they are joined.
+-- Concatenated octets of tags, lengths, headers and elements can be separated.
 use Rattle.std.proofs.Common.{◌≡◌, ◌≢◌, ℕ, ◌≤◌, List, [], ◌∷◌, ◌++◌, length, sym, ap, ◌∙◌, subst, append_assoc, arith}
 use Rattle.std.specs.Ordering.{ordering_then}
 use Rattle.der_base.specs.HeaderGrammar.{Head, header_octets}
@@ -13,13 +13,13 @@ use Rattle.der_base.proofs.LengthLemmas.{length_front, length_octets_some}
 use Rattle.der_base.proofs.OrderLemmas.{order_parts, then_unequal, same_octets}
 use Rattle.der_base.proofs.TagLemmas.{tag_front, tag_begins}
 
--- no header begins another
+-- no header is a proper prefix of another
 header_apart : (t u : Tag) (m n : ℕ) → AreApart (header_octets t m) (header_octets u n)
 header_apart t u m n x y e =
     let f = header_front t u m n x y e in
     ap (λ v. header_octets v m) f.0 ∙ ap (header_octets u) f.1
 
--- no whole element begins a different one
+-- no encoded element is a proper prefix of another
 pub element_front : (t u : Tag) (c d x y : List ℕ)
     → (header_octets t (length c) ++ c) ++ x ≡ (header_octets u (length d) ++ d) ++ y
     → (t ≡ u) × (c ≡ d) × (x ≡ y)
@@ -33,13 +33,13 @@ element_apart t u c d x y e =
     let f = element_front t u c d x y e in
     ap (λ v. header_octets v (length c) ++ c) f.0 ∙ ap (λ b. header_octets u (length b) ++ b) f.1
 
--- elements stand by their headers, and then by their contents
+-- elements compare by their headers, then by their contents
 pub element_parts : (t u : Tag) (c d : List ℕ)
     → byte_order (header_octets t (length c) ++ c) (header_octets u (length d) ++ d)
     ≡ ordering_then (byte_order (header_octets t (length c)) (header_octets u (length d))) (byte_order c d)
 element_parts t u c d = order_parts (header_octets t (length c)) (header_octets u (length d)) c d (header_apart t u (length c) (length d))
 
--- what follows two different lists that are apart does not decide
+-- what follows two different lists that are apart does not affect the comparison
 pub fronts_alone : (a b x y : List ℕ) → AreApart a b → a ≢ b → byte_order (a ++ x) (b ++ y) ≡ byte_order a b
 fronts_alone a b x y h different =
     order_parts a b x y h ∙ then_unequal (byte_order a b) (byte_order x y) (λ e. different (same_octets a b e))

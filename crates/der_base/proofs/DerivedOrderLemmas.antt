@@ -1,4 +1,4 @@
--- What the derived order of tags answers.
+-- The derived order of tags.
 use Rattle.std.proofs.Common.{◌≡◌, ℕ, ◌<◌, List, [], ◌∷◌, refl, sym, inl, inr, arith, rules}
 use Rattle.std.specs.declared.cmp.Ordering.{Ordering}
 use Rattle.std.specs.declared.cmp.Ordering.TheVariants.{Less, Greater}
@@ -49,7 +49,7 @@ derived-before s t h = sym (by_before Less Greater enum _ s t (omega (arith, pla
 derived-after : (s t : Tag) → variant_index t < variant_index s → ghosts.cmp s t ≡ Greater
 derived-after s t h = sym (by_after Less Greater enum _ s t (omega (arith, place-is s, place-is t)))
 
--- at each variant, two values of it are compared as said
+-- `said` compares two values of each variant as `each` does
 abbrev Agrees : (parts : List (List Field)) → Each Ordering parts → (Choice parts → Choice parts → Ordering) → Type 0
 Agrees [] each said = Unit {0}
 Agrees (part ∷ parts) each said =
@@ -58,7 +58,7 @@ Agrees (part ∷ parts) each said =
 abbrev position : (parts : List (List Field)) → Choice parts → ℕ
 position parts c = tag (rowss parts) (intoss parts c)
 
--- two values of one variant stand as they are said to, where the fields of each variant do
+-- two values of one variant compare as specified, if the fields of each variant do
 agrees : (parts : List (List Field)) (each : Each Ordering parts) (said : Choice parts → Choice parts → Ordering) → Agrees parts each said
     → (c d : Choice parts) → position parts c ≡ position parts d → by Less Greater parts each c d ≡ said c d
 agrees [] each said all c d e = absurd c

@@ -1,4 +1,4 @@
--- The derived `==` of tags, kinds of error and errors holds exactly where the two values are one.
+-- The derived `==` of tags, error kinds and errors holds exactly if the two values are the same.
 use Rattle.std.proofs.Common.{◌≡◌, ◌↔◌, IsTrue, ◌∙◌, ℕ, nat_eq, Bool, true, false, ◌&&◌, Option, Some, None, List, [], ◌∷◌, refl, sym, ap, inl, inr, rules}
 use Rattle.std.proofs.lemmas.Bool.{true≢false, and_parts, eqb-true}
 use Rattle.std.specs.Cmp.{IsEquivalence}
@@ -23,15 +23,15 @@ use Rattle.der_base.specs.declared.error.ErrorKind.{ErrorKind}
 use Rattle.der_base.specs.declared.length.Length.{Length}
 use Rattle.der_base.specs.declared.tag.Tag.{Tag}
 
--- what a test finds equal is one value
+-- values that a test finds equal are the same
 abbrev Tells : {A : Type 0} → (A → A → Bool) → Type 0
 Tells {A} test = (x y : A) → test x y ≡ true → x ≡ y
 
--- with the laws of `Eq`, such a test holds exactly of one value
+-- with the laws of `Eq`, such a test holds exactly for one and the same value
 exact : {A : Type 0} (test : A → A → Bool) → IsEquivalence test → Tells test → (x y : A) → IsTrue (test x y) ↔ (x ≡ y)
 exact test laws told x y = (told x y, λ e. sym (ap (test x) e) ∙ laws.refl x)
 
--- what the tests of the fields of each variant find equal is one value
+-- fields that the tests of each variant find equal are the same
 abbrev EachTells : (parts : List (List Field)) → Each Bool parts → Type 0
 EachTells [] each = Unit {0}
 EachTells (part ∷ parts) each = Tells {A = Values part} each.0 × EachTells parts each.1
@@ -94,7 +94,7 @@ error-told e f told =
     let parts = and_parts (kind_eq.ghosts.eq e.kind f.kind) (option_eq length_eq.ghosts.eq e.position f.position) told in
     λ i. record { kind = kind-told e.kind f.kind parts.0 i; position = option-told length-told e.position f.position parts.1 i }
 
--- ---- what `==` says
+-- ---- the meaning of `==`
 
 pub tag_equality : (s t : Tag) → IsTrue (tag_eq.ghosts.eq s t) ↔ (s ≡ t)
 tag_equality = exact tag_eq.ghosts.eq tag_laws.laws-law tag-told

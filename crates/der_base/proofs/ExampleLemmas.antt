@@ -1,4 +1,4 @@
--- Bodies with known numbers of identifiers and end marks.
+-- Bodies with known numbers of identifiers and end-of-contents.
 use Rattle.std.proofs.Common.{◌≡◌, ℕ, zero, suc, ◌+◌, ◌*◌, ◌<◌, ◌≤◌, true, List, [], ◌∷◌, ◌++◌, replicate, refl, sym, ap, ◌∙◌, subst, append_assoc, append-nil, arith}
 use Rattle.std.proofs.lemmas.List.{replicate-append-replicate}
 use Rattle.der_base.specs.Tag.{IsIdentifier, of_tag, of_segments}
@@ -14,7 +14,7 @@ use Rattle.der_base.proofs.GrowthLemmas.{body_at, open_at, open_deeper}
 sequence_identifier : IsIdentifier Ber (48 ∷ []) Sequence true
 sequence_identifier = of_tag (omega arith)
 
--- an OCTET STRING of one segment, whose contents are two zero octets
+-- an OCTET STRING with one segment, whose contents are two zero octets
 segments : Body 1 4 (36 ∷ 128 ∷ 4 ∷ 2 ∷ 0 ∷ 0 ∷ 0 ∷ 0 ∷ 0 ∷ 0 ∷ [])
 segments = more (indefinite (omega arith, omega arith) of_segments (more segment (ends (omega arith, omega arith)))) (ends (omega arith, omega arith))
   where
@@ -25,13 +25,13 @@ openings_append : (n : ℕ) (x y : List ℕ) → nested_openings n x ++ y ≡ ne
 openings_append zero x y = refl
 openings_append (suc n) x y = ap (λ l. 48 ∷ 128 ∷ l) (openings_append n x y)
 
--- one end mark more
+-- one more end-of-contents
 marks_append : (n : ℕ) (x : List ℕ) → (x ++ replicate (2 * n) 0) ++ 0 ∷ 0 ∷ [] ≡ x ++ replicate (2 * suc n) 0
 marks_append n x =
     let count : 2 * n + 2 ≡ 2 * suc n = omega arith in
     append_assoc x (replicate (2 * n) 0) (0 ∷ 0 ∷ []) ∙ ap (λ l. x ++ l) (replicate-append-replicate (2 * n) 2 0 ∙ ap (λ k. replicate k 0) count)
 
--- so many openings around a body, and their end marks, are a body so many levels further out
+-- n openings around a body, with their end-of-contents, are a body n levels further out
 nested : (n : ℕ) {level parts : ℕ} {body : List ℕ} → 1 ≤ level → level + n ≤ 64 → Body (level + n) parts body → Body level (parts + 2 * n) (nested_openings n (body ++ replicate (2 * n) 0))
 nested zero {level} {parts} {body} some few h =
     let same : level + 0 ≡ level = omega arith in
@@ -43,7 +43,7 @@ nested (suc n) {level} {parts} {body} some few h =
     (ap (λ l. 48 ∷ 128 ∷ l) (openings_append n (body ++ replicate (2 * n) 0) (0 ∷ 0 ∷ []) ∙ ap (nested_openings n) (marks_append n body)))
     (more (indefinite (omega arith, omega arith) sequence_identifier inner) (ends (omega arith, omega arith)))
 
--- so many openings alone are the beginning of a body
+-- n openings alone are the beginning of a body
 openings_open : (n : ℕ) → n < 64 → Open (suc n) n (nested_openings n [])
 openings_open zero few = first (none (omega arith, omega arith))
 openings_open (suc n) few =

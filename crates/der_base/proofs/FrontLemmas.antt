@@ -1,4 +1,4 @@
--- Octets begin with an identifier or have a fault of one; and so of lengths.
+-- Octets begin with an identifier or have a fault of one; the same for lengths.
 use Rattle.std.proofs.Common.{◌≡◌, ℕ, ◌+◌, ◌-◌, ◌*◌, ◌%◌, ◌^◌, ◌<◌, ◌≤◌, Bool, Option, Some, None, List, [], ◌∷◌, ◌++◌, length, take, drop, refl, sym, ap, ◌∙◌, subst, ⊎_elim, inl, inr, append_assoc, append-nil, arith}
 use Rattle.std.proofs.lemmas.Bool.{cases_lt, cases_eq}
 use Rattle.std.proofs.lemmas.List.{take-append-drop, length-take-le}
@@ -25,7 +25,8 @@ pub data IdentifierFront (rules : EncodingRules) (at : ℕ) (octets : List ℕ) 
 moved : {rules : EncodingRules} {at : ℕ} {a b : List ℕ} → a ≡ b → IdentifierFront rules at a → IdentifierFront rules at b
 moved {rules} {at} e h = subst (λ l. IdentifierFront rules at l) e h
 
--- behind a first octet with its five low bits set a number goes on, is cut, or is refused
+-- after a first octet whose five low bits are set, a number continues, is truncated, or has an
+-- error
 module _ (rules : EncodingRules) (at o : ℕ) (above : 64 ≤ o) (high : o < 256) (set : o % 32 ≡ 31) where
   number_ends : (s : List ℕ) (v p : ℕ) (rest : List ℕ) → SoFar s v → p < 128 → IdentifierFront rules at (o ∷ (s ++ p ∷ rest))
   number_ends s v p rest h low =
@@ -34,7 +35,7 @@ module _ (rules : EncodingRules) (at o : ℕ) (above : 64 ≤ o) (high : o < 256
       (λ large. found rest (number_identifier s v o p above high set h low large) (ap (λ l. o ∷ l) (sym (append_assoc s (p ∷ []) rest))))
       (cases_lt (v * 128 + p % 128) 31)
 
-  -- one octet more, and what is found where the number goes on
+  -- one more octet, and the result if the number continues
   number_octet : (s : List ℕ) (v p : ℕ) (rest : List ℕ) → SoFar s v → (SoFar (s ++ p ∷ []) (v * 128 + p % 128) → IdentifierFront rules at (o ∷ ((s ++ p ∷ []) ++ rest))) → 0 < v * 128 + p % 128 → IdentifierFront rules at (o ∷ (s ++ p ∷ rest))
   number_octet s v p rest h further positive =
       ⊎_elim
@@ -60,7 +61,7 @@ module _ (rules : EncodingRules) (at o : ℕ) (above : 64 ≤ o) (high : o < 256
       (λ begun. further (omega arith))
       (cases_eq v 0)
 
--- an octet below `0x40` is a universal tag, octet `0x24` under BER, or refused
+-- an octet below `0x40` is a universal tag, octet `0x24` under BER, or an error
 low_front : (rules : EncodingRules) (at o : ℕ) (rest : List ℕ) → o < 64 → IdentifierFront rules at (o ∷ rest)
 low_front rules at o rest low = go (universal_tag o) refl
   where
@@ -93,13 +94,13 @@ pub data LengthFront (F : ℕ → List ℕ → Refusal → Type 0) (wrong : Erro
   faulty : {r : Refusal} → LengthFault F wrong rules at octets r → LengthFront F wrong rules at octets
 
 module _ (F : ℕ → List ℕ → Refusal → Type 0) (wrong : ErrorKind) (rules : EncodingRules) (at : ℕ) where
-  -- digits that are not all octets are no length's
+  -- digits that are not all octets belong to no length
   no_octets : (k : ℕ) (ds rest : List ℕ) → 1 ≤ k → k ≤ 4 → length ds ≡ k → (AllBelowBase 256 ds → ⊥) → LengthFault F wrong rules at ((128 + k) ∷ (ds ++ rest)) (refusal wrong (at + 1 + k))
   no_octets k ds rest some four size wide =
       longer k ds rest some four size
       (λ n large same. wide (subst (AllBelowBase 256) (sym (same ∙ digits_positive 256 n (omega arith))) (all_below_base_digits_of 256 n (omega arith))))
 
-  -- so many octets behind an octet from `0x81` to `0x84`
+  -- as many octets as announced, after an octet from `0x81` to `0x84`
   digits_front : (o : ℕ) (ds rest : List ℕ) → 128 < o → o < 133 → length ds ≡ o - 128 → LengthFront F wrong rules at (o ∷ (ds ++ rest))
   digits_front o ds rest low high size =
       ⊎_elim

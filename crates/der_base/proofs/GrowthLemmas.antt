@@ -1,4 +1,4 @@
--- How the beginning of a body grows, and how many octets its parts have.
+-- Extending the beginning of a body, and the minimum size of what `parts` counts.
 use Rattle.std.proofs.Common.{◌≡◌, ℕ, suc, ◌+◌, ◌*◌, ◌<◌, ◌≤◌, true, List, [], ◌∷◌, ◌++◌, length, refl, sym, subst, append_assoc, length-append, add_assoc, zero-add, arith}
 use Rattle.der_base.specs.Length.{length_octets}
 use Rattle.der_base.specs.Tag.{IsIdentifier}
@@ -9,14 +9,14 @@ use Rattle.der_base.proofs.LengthLemmas.{length_octets_some}
 use Rattle.der_base.proofs.IdentifierLemmas.{identifier_some}
 use Rattle.der_base.proofs.BodyLemmas.{open_level, items_level}
 
--- moved to an equal number of parts and equal octets
+-- transport along an equal count and equal octets
 pub body_at : {k m n : ℕ} {a b : List ℕ} → m ≡ n → a ≡ b → Body k m a → Body k n b
 body_at {k} {m} {n} {a} {b} e f h = subst (λ l. Body k n l) f (subst (λ j. Body k j a) e h)
 
 pub open_at : {k m n : ℕ} {a b : List ℕ} → m ≡ n → a ≡ b → Open k m a → Open k n b
 open_at {k} {m} {n} {a} {b} e f h = subst (λ l. Open k n l) f (subst (λ j. Open k j a) e h)
 
--- items before a body are a body with it
+-- items followed by a body are a body
 items_body : {k m n : ℕ} {q b : List ℕ} → Items k m q → Body k n b → Body k (m + n) (q ++ b)
 items_body {n = n} (none at) t = body_at (sym (zero-add n)) refl t
 items_body {n = n} {b = b} (then_item {m = m} {n = l} {items = q} {item = i} h g) t =
@@ -33,7 +33,7 @@ open_deeper o d few = deeper o d (none (omega arith, omega arith))
 no_level : {m : ℕ} {p : List ℕ} → Open 0 m p → ⊥
 no_level h = let l = open_level h in absurd (omega (arith, l.0))
 
--- the end mark closes the level
+-- the end-of-contents octets close the level
 pub body_from_open : {m : ℕ} {p : List ℕ} → Open 1 m p → Body 1 (m + 1) (p ++ 0 ∷ 0 ∷ [])
 body_from_open (first h) = items_body h (ends (items_level h))
 body_from_open (deeper o d h) = absurd (no_level o)
@@ -42,7 +42,7 @@ pub open_ends : {k m : ℕ} {p : List ℕ} → Open (suc (suc k)) m p → Open (
 open_ends (deeper {m = m} {n = l} {p = p} {id = id} {items = q} o d h) =
     open_at (omega arith) (simp append_assoc) (open_item o (indefinite (open_level o) d (items_body h (ends (items_level h)))))
 
--- each part has two octets
+-- each counted identifier or end-of-contents accounts for at least two octets
 mutual
   pub item_parts : {k n : ℕ} {i : List ℕ} → Item k n i → (1 ≤ n) × (2 * n ≤ length i)
   item_parts (definite {id = id} at d c l) = (omega arith, omega (arith, identifier_some d, length_octets_some (length c), length-append id (length_octets (length c) ++ c), length-append (length_octets (length c)) c))

@@ -1,5 +1,5 @@
--- Tags, lengths and headers at the front of octets: there is one at most, and none where there is
--- a fault, and one fault at most.
+-- Tags, lengths and headers at the start of octets: there is at most one, none if there is a fault,
+-- and at most one fault.
 use Rattle.std.proofs.Common.{◌≡◌, ℕ, ◌+◌, ◌^◌, ◌<◌, ◌≤◌, Bool, true, false, List, ◌∷◌, ◌++◌, length, refl, sym, ap, ◌∙◌, subst, append_assoc, length-append, arith}
 use Rattle.der_base.specs.Length.{is_indefinite, definite_length, indefinite_length, length_octets, number}
 use Rattle.der_base.specs.Tag.{IsIdentifier, IdentifierFault}
@@ -18,21 +18,21 @@ use Rattle.der_base.proofs.IdentifierLemmas.{identifier_front, no_identifier_fau
 use Rattle.der_base.proofs.LengthLemmas.{length_front, length_definite, no_definite_fault, no_open_fault, one_length_fault, length_octets_some, length_octets_few}
 use Rattle.der_base.proofs.BodyLemmas.{body_front}
 
--- no header of a definite length begins another
+-- no header with a definite length is a proper prefix of another
 pub header_front : (t u : Tag) (m n : ℕ) (x y : List ℕ) → header_octets t m ++ x ≡ header_octets u n ++ y → (t ≡ u) × (m ≡ n) × (x ≡ y)
 header_front t u m n x y e =
     let one = tag_front t u (length_octets m ++ x) (length_octets n ++ y) (simp append_assoc at e) in
     let two = length_front m n x y one.1 in
     (one.0, two.0, two.1)
 
--- an identifier ahead, and what follows
+-- the octets begin with an identifier, and what follows it
 pub data IdentifierView (x : Tag × Bool) (rules : EncodingRules) (s : List ℕ) (m : ℕ) : Type 0 where
   identifier_view_of : (id rest : List ℕ) → IsIdentifier rules id x.0 x.1 → s ≡ id ++ rest → m ≡ length id → IdentifierView x rules s m
 
 pub identifier_view : {x : Tag × Bool} {rules : EncodingRules} {s : List ℕ} {m : ℕ} → IdentifierAhead x rules s m → IdentifierView x rules s m
 identifier_view (identifier {id = id} rest h) = identifier_view_of id rest h refl refl
 
--- octets begin with one identifier at most
+-- octets begin with at most one identifier
 pub one_identifier : {rules : EncodingRules} {s : List ℕ} {x y : Tag × Bool} {m n : ℕ} → IdentifierAhead x rules s m → IdentifierAhead y rules s n → (x ≡ y) × (m ≡ n)
 one_identifier {rules} {s} {x} {y} {m} {n} h g = go (identifier_view h) (identifier_view g)
   where
@@ -42,11 +42,11 @@ one_identifier {rules} {s} {x} {y} {m} {n} h g = go (identifier_view h) (identif
         let same : x ≡ y = ap (λ z. (z, x.1)) r.1 ∙ ap (λ z. (y.0, z)) r.2 in
         (same, f ∙ ap length r.0 ∙ sym k)
 
--- octets begin with one tag at most
+-- octets begin with at most one tag
 pub one_tag : {rules : EncodingRules} {s : List ℕ} {t u : Tag} {m n : ℕ} → TagAhead t rules s m → TagAhead u rules s n → (t ≡ u) × (m ≡ n)
 one_tag h g = let one = one_identifier h.1 g.1 in (ap (λ z. z.0) one.0, one.1)
 
--- a length ahead: a definite one, or octet `0x80` and a body
+-- the octets begin with a length: a definite one, or octet `0x80` and a body
 pub data LengthView (l : Length) (rules : EncodingRules) (s : List ℕ) (m : ℕ) : Type 0 where
   view_definite : (n : ℕ) (rest : List ℕ) → n < 2 ^ 32 → s ≡ length_octets n ++ rest → l ≡ definite_length n → m ≡ length (length_octets n) → LengthView l rules s m
   view_indefinite : {parts : ℕ} (body rest : List ℕ) → rules ≡ Ber → Body 1 parts body → s ≡ 128 ∷ (body ++ rest) → l ≡ indefinite_length (length body) → m ≡ 1 → LengthView l rules s m
@@ -55,7 +55,7 @@ pub length_view : {l : Length} {rules : EncodingRules} {s : List ℕ} {m : ℕ} 
 length_view (definite n rest h) = view_definite n rest h refl refl refl
 length_view (indefinite {body = body} rest h) = view_indefinite body rest refl h refl refl refl
 
--- octets begin with one length at most
+-- octets begin with at most one length
 pub one_length : {rules : EncodingRules} {s t : List ℕ} {l k : Length} {m n : ℕ} → LengthAhead l rules s m → LengthAhead k rules t n → s ≡ t → (l ≡ k) × (m ≡ n)
 one_length {rules} {s} {t} {l} {k} {m} {n} h g e = go (length_view h) (length_view g)
   where
@@ -70,7 +70,7 @@ one_length {rules} {s} {t} {l} {k} {m} {n} h g e = go (length_view h) (length_vi
         let r = body_front d g x y (cc) in
         (w ∙ ap (λ o. indefinite_length (length o)) r.0 ∙ sym f, z ∙ sym c)
 
--- a header ahead: an identifier, and a length behind it
+-- the octets begin with a header: an identifier, followed by a length
 pub data HeaderView (h : Head) (rules : EncodingRules) (s : List ℕ) (m : ℕ) : Type 0 where
   header_view_of : {k : ℕ} (id more : List ℕ) → IsIdentifier rules id h.tag h.constructed → LengthAhead h.length rules more k → (is_indefinite h.length ≡ true → h.constructed ≡ true) → s ≡ id ++ more → m ≡ length id + k → HeaderView h rules s m
 
@@ -80,7 +80,7 @@ header_view (header {id = id} {more = more} d l ok) = header_view_of id more d l
 same_head : {t u : Tag} {l k : Length} {b c : Bool} → t ≡ u → l ≡ k → b ≡ c → head t l b ≡ head u k c
 same_head {t} {u} {l} {k} {b} {c} p q r = ap (λ x. head x l b) p ∙ ap (λ x. head u x b) q ∙ ap (head u k) r
 
--- octets begin with one header at most
+-- octets begin with at most one header
 pub one_header : {rules : EncodingRules} {s : List ℕ} {h g : Head} {m n : ℕ} → HeadAhead h rules s m → HeadAhead g rules s n → (h ≡ g) × (m ≡ n)
 one_header {rules} {s} {h} {g} {m} {n} p q = go (header_view p) (header_view q)
   where
@@ -97,7 +97,7 @@ no_tag_fault {x} {rules} {m = m} {t = t} f h e = go (identifier_view h)
     go : IdentifierView x rules t m → ⊥
     go (identifier_view_of id rest d q c) = no_identifier_fault rest f d (e ∙ q)
 
--- over the fault of a body, of which its laws are premises
+-- for any fault of a body whose laws are premises
 module _ (Fault : ℕ → List ℕ → Refusal → Type 0) (laws : IsBodyFault Fault) where
   -- octets that begin with a length have no fault
   pub no_length_fault : {wrong : ErrorKind} {at m : ℕ} {rules : EncodingRules} {s t : List ℕ} {r : Refusal} {l : Length} → LengthFault Fault wrong rules at s r → LengthAhead l rules t m → s ≡ t → ⊥
@@ -120,12 +120,12 @@ module _ (Fault : ℕ → List ℕ → Refusal → Type 0) (laws : IsBodyFault F
           let same = one_length k l r.3 in
           let w : false ≡ true = r.2 ∙ ok (ap is_indefinite (sym same.0) ∙ flag) in cc
 
-  -- an indefinite length behind a primitive identifier, and no length there
+  -- not both: an indefinite length after a primitive identifier, and a fault of a length there
   not_both_behind : {rules : EncodingRules} {at m : ℕ} {wrong : ErrorKind} {a b x y : List ℕ} {t u : Tag} {p c : Bool} {r : Refusal} {l : Length}
       → IsIdentifier rules a t p → IsIdentifier rules b u c → LengthFault Fault wrong rules at x r → LengthAhead l rules y m → a ++ x ≡ b ++ y → ⊥
   not_both_behind {x = x} {y = y} d o f l e = no_length_fault f l (identifier_front d o x y e).3
 
-  -- octets have one fault of a header
+  -- octets have at most one fault of a header
   pub one_header_fault : {rules : EncodingRules} {at : ℕ} {s t : List ℕ} {r q : Refusal} → HeaderFault Fault rules at s r → HeaderFault Fault rules at t q → s ≡ t → r ≡ q
   one_header_fault (no_identifier f) (no_identifier g) e = one_identifier_fault f g e
   one_header_fault (no_identifier f) (no_length {more = more} d g) e = absurd (no_identifier_fault more f d e)
@@ -176,30 +176,30 @@ tag_grammar =
       never_both = λ rules at octets v m r h f. no_tag_fault f h.1 refl;
     }
 
--- an identifier ahead is within the octets
+-- the next identifier is within the octets
 pub identifier_fits : {x : Tag × Bool} {rules : EncodingRules} {s : List ℕ} {m : ℕ} → IdentifierAhead x rules s m → m ≤ length s
 identifier_fits (identifier {id = id} rest h) = omega (arith, length-append id rest)
 
--- a length ahead is within the octets
+-- the next length is within the octets
 pub length_fits : {l : Length} {rules : EncodingRules} {s : List ℕ} {m : ℕ} → LengthAhead l rules s m → m ≤ length s
 length_fits (definite n rest h) = omega (arith, length-append (length_octets n) rest)
 length_fits (indefinite {body = body} rest h) = omega arith
 
--- a length ahead has from one to five octets
+-- the next length has one to five octets
 pub length_size : {l : Length} {rules : EncodingRules} {s : List ℕ} {m : ℕ} → LengthAhead l rules s m → (1 ≤ m) × (m ≤ 5)
 length_size (definite n rest h) = (length_octets_some n, length_octets_few n h)
 length_size (indefinite {body = body} rest h) = (omega arith, omega arith)
 
--- a definite length ahead has 32 bits
+-- a definite length that is next has 32 bits
 pub length_bits : {l : Length} {rules : EncodingRules} {s : List ℕ} {m : ℕ} → LengthAhead l rules s m → is_indefinite l ≡ false → number l < 2 ^ 32
 length_bits (definite n rest h) e = h
 length_bits (indefinite {body = body} rest h) e = cc
 
--- under DER each length ahead is definite
+-- under DER the next length is definite
 pub length_definite_form : {l : Length} {rules : EncodingRules} {s : List ℕ} {m : ℕ} → rules ≡ Der → LengthAhead l rules s m → is_indefinite l ≡ false
 length_definite_form d (definite n rest h) = refl
 length_definite_form d (indefinite {body = body} rest h) = cc
 
--- a header ahead is within the octets
+-- the next header is within the octets
 pub header_fits : {h : Head} {rules : EncodingRules} {s : List ℕ} {m : ℕ} → HeadAhead h rules s m → m ≤ length s
 header_fits (header {id = id} {more = more} d l ok) = omega (arith, length-append id more, length_fits l)

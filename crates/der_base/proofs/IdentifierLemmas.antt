@@ -1,4 +1,4 @@
--- Identifiers at the front of octets, and where octets begin with none.
+-- Identifiers at the start of octets, and why octets do not begin with one.
 use Rattle.std.proofs.Common.{◌≡◌, ◌≢◌, ℕ, ◌+◌, ◌%◌, ◌^◌, ◌<◌, ◌≤◌, ◌⊎◌, Bool, true, false, Some, None, List, [], ◌∷◌, ◌++◌, length, refl, sym, ap, ◌∙◌, subst, ⊎_elim, append_assoc, append-nil, length-append, arith}
 use Rattle.std.proofs.lemmas.Bool.{cases_lt, cases_eq, ne_eqb}
 use Rattle.std.specs.Int.Digits.{AllBelowBase}
@@ -13,12 +13,12 @@ use Rattle.der_base.specs.declared.tag.Tag.TheVariants.{Boolean, OctetString}
 use Rattle.der_base.proofs.DigitLemmas.{two_fronts, below_among}
 use Rattle.der_base.proofs.TagLemmas.{label_small, label_large, tag_begins, tag_front, no_segments, universal_found, universal_octets, universal_is_tag, other_constructed, other_number, other_octet, other_octets}
 
--- no identifier begins so
+-- no identifier begins with these octets
 abbrev pub BeginsNoIdentifier : EncodingRules → List ℕ → Type 0
 BeginsNoIdentifier rules s =
     (more : List ℕ) (t : Tag) (b : Bool) → IsIdentifier rules (s ++ more) t b → ⊥
 
--- moved to equal octets and an equal bit
+-- transport along equal octets and an equal constructed bit
 pub identifier_at : {rules : EncodingRules} {a b : List ℕ} {t : Tag} {c d : Bool} → a ≡ b → c ≡ d → IsIdentifier rules a t c → IsIdentifier rules b t d
 identifier_at {rules} {a} {b} {t} {c} {d} e f h = subst (λ l. IsIdentifier rules l t d) e (subst (λ x. IsIdentifier rules a t x) f h)
 
@@ -32,17 +32,17 @@ short_identifier o low high small =
     let tag : (label (other_tag o (o % 32))).number < 2 ^ 32 = omega (arith, other_number o (o % 32) low high) in
     identifier_at (other_octet o low high small) (other_constructed o (o % 32) low high) (of_tag tag)
 
--- an octet with its five low bits set, and a number behind it, are an identifier of another class
+-- an octet whose five low bits are set, followed by a number, is an identifier of another class
 pub long_identifier : {rules : EncodingRules} (o n : ℕ) → 64 ≤ o → o < 256 → o % 32 ≡ 31 → 31 ≤ n → n < 2 ^ 32 → IsIdentifier rules (o ∷ continuation_octets (digits 128 n)) (other_tag o n) (is_constructed o)
 long_identifier o n low high set large small =
     let tag : (label (other_tag o n)).number < 2 ^ 32 = omega (arith, other_number o n low high) in
     identifier_at (other_octets o n low high set large) (other_constructed o n low high) (of_tag tag)
 
--- under BER the octet `0x24` is an identifier
+-- under BER octet `0x24` is an identifier
 pub segments_identifier : (o : ℕ) → o ≡ 36 → IsIdentifier Ber (o ∷ []) OctetString true
 segments_identifier o e = subst (λ x. IsIdentifier Ber (x ∷ []) OctetString true) (sym e) of_segments
 
--- an identifier is a tag's, or the octet `0x24` under BER
+-- an identifier is that of a tag, or octet `0x24` under BER
 pub data IdentifierView (rules : EncodingRules) (a : List ℕ) (t : Tag) (c : Bool) : Type 0 where
   tagged : (label t).number < 2 ^ 32 → a ≡ tag_octets t → c ≡ (label t).constructed → IdentifierView rules a t c
   segmented : rules ≡ Ber → a ≡ 36 ∷ [] → t ≡ OctetString → c ≡ true → IdentifierView rules a t c
@@ -51,25 +51,25 @@ pub identifier_view : {rules : EncodingRules} {a : List ℕ} {t : Tag} {c : Bool
 identifier_view (of_tag h) = tagged h refl refl
 identifier_view of_segments = segmented refl refl refl refl
 
--- an identifier has octets, and the first is not 0
+-- an identifier is not empty, and its first octet is not 0
 pub identifier_begins : {rules : EncodingRules} {a : List ℕ} {t : Tag} {c : Bool} → IsIdentifier rules a t c → (o : ℕ) × (rest : List ℕ) × (a ≡ o ∷ rest) × (o ≢ 0)
 identifier_begins (of_tag {t = t} h) = let b = tag_begins t in (b.0, b.1, b.2, b.3)
 identifier_begins of_segments = (36, [], refl, λ z. cc)
 
--- an identifier has octets
+-- an identifier is not empty
 pub identifier_some : {rules : EncodingRules} {a : List ℕ} {t : Tag} {c : Bool} → IsIdentifier rules a t c → 1 ≤ length a
 identifier_some d = let b = identifier_begins d in omega (arith, ap length b.2)
 
--- an identifier's octets are below 256
+-- the octets of an identifier are below 256
 pub identifier_below : {rules : EncodingRules} {a : List ℕ} {t : Tag} {c : Bool} → IsIdentifier rules a t c → AllBelowBase 256 a
 identifier_below (of_tag {t = t} h) = (tag_begins t).4
 identifier_below of_segments = (omega arith, tt)
 
--- no identifier has a number from 256 on among its octets
+-- no octet of an identifier is a number from 256 on
 pub none_with : {rules : EncodingRules} (s : List ℕ) (o : ℕ) → 256 ≤ o → BeginsNoIdentifier rules (s ++ o ∷ [])
 none_with s o big more t b h = omega (arith, below_among 256 s o more (subst (AllBelowBase 256) (append_assoc s (o ∷ []) more) (identifier_below h)))
 
--- no identifier begins another, and each says one tag and one bit
+-- no identifier is a proper prefix of another, and each has one tag and one constructed bit
 pub identifier_front : {rules : EncodingRules} {a b : List ℕ} {t u : Tag} {c d : Bool} → IsIdentifier rules a t c → IsIdentifier rules b u d → (x y : List ℕ) → a ++ x ≡ b ++ y → (a ≡ b) × (t ≡ u) × (c ≡ d) × (x ≡ y)
 identifier_front {rules} {a} {b} {t} {u} {c} {d} h k x y e = go (identifier_view h) (identifier_view k)
   where
@@ -83,17 +83,17 @@ identifier_front {rules} {a} {b} {t} {u} {c} {d} h k x y e = go (identifier_view
         let r : 36 ∷ x ≡ 36 ∷ y = ap (λ l. l ++ x) (sym f) ∙ e ∙ ap (λ l. l ++ y) v in
         (f ∙ sym v, g ∙ sym w, z ∙ sym s, cc)
 
--- some identifier begins with nothing
+-- the empty list is a proper prefix of an identifier
 some_identifier : (rules : EncodingRules) → IsCutIdentifier rules []
 some_identifier rules = (1, [], Boolean, false, of_tag (omega arith))
 
--- nothing is cut
+-- no octets are a truncated identifier
 pub fault_nothing : {rules : EncodingRules} (at : ℕ) → IdentifierFault rules at [] (end_refusal at)
 fault_nothing {rules} at =
     let here : at + 0 ≡ at = omega arith in
     subst (λ n. IdentifierFault rules at [] (end_refusal n)) here (cut [] (some_identifier rules))
 
--- a tag that begins with an octet below 64 is the universal one of that octet
+-- a tag that begins with an octet below 64 is the universal one with that octet
 below_64 : (t : Tag) (o : ℕ) (more : List ℕ) → o < 64 → tag_octets t ≡ o ∷ more → universal_tag o ≡ Some t
 below_64 t o more l e =
     ⊎_elim
@@ -104,7 +104,7 @@ below_64 t o more l e =
     (cases_lt (label t).number 31))
     (cases_eq (label t).class 0)
 
--- no identifier begins with an octet below 64 that is no universal tag, but with 24 under BER
+-- no identifier begins with an octet below 64 that is not a universal tag, except `0x24` under BER
 no_universal : (rules : EncodingRules) (o : ℕ) → o < 64 → universal_tag o ≡ None → (rules ≡ Der) ⊎ (o ≢ 36) → BeginsNoIdentifier rules (o ∷ [])
 no_universal rules o l none ok more t b h = go (identifier_view h)
   where
@@ -112,29 +112,29 @@ no_universal rules o l none ok more t b h = go (identifier_view h)
     go (tagged p f g) = let w : None ≡ Some t = sym none ∙ below_64 t o more l (sym f) in cc
     go (segmented p f g z) = ⊎_elim (λ d. let w : Ber ≡ Der = sym p ∙ d in cc) (λ ne. ne (cc)) ok
 
--- an octet below 64 that is no universal tag is refused
+-- an octet below 64 that is not a universal tag is an error
 pub fault_universal : {rules : EncodingRules} (at o : ℕ) (rest : List ℕ) → o < 64 → universal_tag o ≡ None → (rules ≡ Der) ⊎ (o ≢ 36) → IdentifierFault rules at (o ∷ rest) (refusal (identifier_kind [] o) (at + 1))
 fault_universal {rules} at o rest l none ok =
     let here : at + 0 + 1 ≡ at + 1 = omega arith in
     subst (λ n. IdentifierFault rules at (o ∷ rest) (refusal (identifier_kind [] o) n)) here
     (refused [] o rest (some_identifier rules) (no_universal rules o l none ok))
 
--- a number from 256 on is refused
+-- a number from 256 on is an error
 pub fault_above : {rules : EncodingRules} (at o : ℕ) (rest : List ℕ) → 256 ≤ o → IdentifierFault rules at (o ∷ rest) (refusal (identifier_kind [] o) (at + 1))
 fault_above {rules} at o rest big =
     let here : at + 0 + 1 ≡ at + 1 = omega arith in
     subst (λ n. IdentifierFault rules at (o ∷ rest) (refusal (identifier_kind [] o) n)) here
     (refused [] o rest (some_identifier rules) (none_with [] o big))
 
--- octet `0x1F` is refused as a wrong number
+-- octet `0x1F` is an invalid tag number
 pub kind_invalid : (o : ℕ) → o ≡ 31 → identifier_kind [] o ≡ TagNumberInvalid
 kind_invalid o h = rw h refl
 
--- another octet is refused as unknown
+-- another octet is an unknown tag
 pub kind_unknown : (o : ℕ) → o ≢ 31 → identifier_kind [] o ≡ TagUnknown o
 kind_unknown o h = rw (ne_eqb o 31 h) refl
 
--- octets that are cut are no identifier with more octets behind it
+-- a truncated identifier does not begin with a complete identifier
 no_cut_identifier : {rules : EncodingRules} {id : List ℕ} {t : Tag} {b : Bool} (s x : List ℕ) → IsIdentifier rules id t b → IsCutIdentifier rules s → s ≡ id ++ x → ⊥
 no_cut_identifier {id = id} s x d h e =
     let r = identifier_front d h.4 (x ++ h.0 ∷ h.1) [] (sym (append_assoc id x (h.0 ∷ h.1)) ∙ ap (λ l. l ++ h.0 ∷ h.1) (sym e) ∙ sym (append-nil (s ++ h.0 ∷ h.1))) in
@@ -153,11 +153,11 @@ no_identifier_fault {rules = rules} {id = id} {t = u} {b = b} x (refused s o res
     go [] g w = no_cut_identifier s [] d h (sym (append-nil s) ∙ sym g ∙ sym (append-nil id))
     go (p ∷ t) g w = let same : o ≡ p = cc in none t u b (subst (λ l. IsIdentifier rules l u b) (g ∙ ap (λ m. s ++ m ∷ t) (sym same) ∙ sym (append_assoc s (o ∷ []) t)) d)
 
--- octets that are cut go on with no octet that is refused
+-- a truncated identifier does not continue with an octet that is an error
 no_cut_refused : (rules : EncodingRules) (s t x : List ℕ) (o : ℕ) → IsCutIdentifier rules s → BeginsNoIdentifier rules (t ++ o ∷ []) → s ≡ t ++ o ∷ x → ⊥
 no_cut_refused rules s t x o (d, more, u, b, i) none e = none (x ++ d ∷ more) u b (subst (λ l. IsIdentifier rules l u b) (ap (λ l. l ++ d ∷ more) e ∙ simp append_assoc) i)
 
--- octets have one fault of an identifier
+-- octets have at most one fault of an identifier
 pub one_identifier_fault : {rules : EncodingRules} {at : ℕ} {a b : List ℕ} {r q : Refusal} → IdentifierFault rules at a r → IdentifierFault rules at b q → a ≡ b → r ≡ q
 one_identifier_fault {at = at} (cut s h) (cut t g) f = ap (λ l. end_refusal (at + length l)) f
 one_identifier_fault {rules = rules} (cut s h) (refused t o rest g none) f = absurd (no_cut_refused rules s t rest o h none f)

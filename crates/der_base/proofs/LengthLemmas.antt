@@ -1,4 +1,4 @@
--- Lengths: their octets, what a decoder sees of them, and where octets begin with none.
+-- Lengths: their octets, what a decoder reads of them, and why octets do not begin with one.
 use Rattle.std.proofs.Common.{◌≡◌, ◌≢◌, ℕ, max, ◌+◌, ◌-◌, ◌^◌, ◌<◌, ◌≤◌, ◌⊎◌, false, List, [], ◌∷◌, ◌++◌, length, get_or, refl, sym, ap, ◌∙◌, subst, ⊎_elim, length-append, arith}
 use Rattle.std.proofs.lemmas.Bool.{cases_lt, lt-ltb, le-ltb}
 use Rattle.std.proofs.lemmas.Int.Digits.{length-digits_of-le, first_digits_of, number_digits_of, number_lt, same_from_digits_of, all_below_base_digits_of}
@@ -24,7 +24,7 @@ length_large n h = rw (le-ltb n 128 h)
 large_of : (n : ℕ) → 128 ≤ n → length_octets n ≡ (128 + length (digits_of 256 n)) ∷ digits_of 256 n
 large_of n h = length_large n h ∙ ap (λ l. (128 + length l) ∷ l) (digits_positive 256 n (omega arith))
 
--- no definite length's octets begin another's
+-- no encoded definite length is a proper prefix of another
 pub length_front : (m n : ℕ) (x y : List ℕ) → length_octets m ++ x ≡ length_octets n ++ y → (m ≡ n) × (x ≡ y)
 length_front m n x y e =
     ⊎_elim
@@ -44,7 +44,7 @@ length_front m n x y e =
     (cases_lt n 128))
     (cases_lt m 128)
 
--- the octet of an indefinite length begins no definite one
+-- octet `0x80` begins no definite length
 pub length_definite : (n : ℕ) (x y : List ℕ) → length_octets n ++ x ≡ 128 ∷ y → ⊥
 length_definite n x y e =
     ⊎_elim
@@ -53,7 +53,7 @@ length_definite n x y e =
     let g : 128 + length (digits_of 256 n) ≡ 128 = cc in omega (arith, length_digits_positive 256 n (omega arith) (omega arith)))
     (cases_lt n 128)
 
--- a length of 32 bits has at most four octets behind the first
+-- a length of 32 bits has at most four octets after the first
 pub length_octets_few : (n : ℕ) → n < 2 ^ 32 → length (length_octets n) ≤ 5
 length_octets_few n h =
     ⊎_elim
@@ -61,7 +61,7 @@ length_octets_few n h =
     (λ a. subst (λ l. length l ≤ 5) (sym (large_of n a)) (omega (arith, length-digits_of-le 256 4 n (omega arith) h)))
     (cases_lt n 128)
 
--- a length has an octet
+-- a length has at least one octet
 pub length_octets_some : (n : ℕ) → 1 ≤ length (length_octets n)
 length_octets_some n =
     ⊎_elim
@@ -77,7 +77,7 @@ length_octets_below n h =
     (λ a. subst (AllBelowBase 256) (sym (large_of n a)) (omega (arith, length-digits_of-le 256 4 n (omega arith) h), all_below_base_digits_of 256 n (omega arith)))
     (cases_lt n 128)
 
--- the least length that takes so many octets behind the first
+-- the least length that requires k octets after the first
 abbrev pub least_of : ℕ → ℕ
 least_of k = max 128 (256 ^ (k - 1))
 
@@ -86,7 +86,7 @@ pub found_short : {rules : EncodingRules} (o : ℕ) (rest : List ℕ) → o < 12
 found_short {rules} o rest h =
     subst (λ l. LengthAhead (definite_length o) rules (l ++ rest) (length l)) (length_small o h) (definite o rest (omega arith))
 
--- k octets with a value that takes so many are the shortest spelling of it
+-- k octets with a value that requires k octets are its shortest encoding
 pub shortest : (k : ℕ) (ds : List ℕ) → 1 ≤ k → length ds ≡ k → AllBelowBase 256 ds → least_of k ≤ number_from_digits 256 ds → length_octets (number_from_digits 256 ds) ≡ (128 + k) ∷ ds
 shortest k [] pos n all large = absurd (omega arith)
 shortest k (d ∷ ds) pos n all large =
@@ -97,7 +97,8 @@ shortest k (d ∷ ds) pos n all large =
     let same : digits_of 256 (number_from_digits 256 (d ∷ ds)) ≡ d ∷ ds = digits_of_number 256 d ds (omega arith) z all in
     large_of (number_from_digits 256 (d ∷ ds)) (omega arith) ∙ ap (λ x. (128 + length x) ∷ x) same ∙ ap (λ x. (128 + x) ∷ d ∷ ds) n
 
--- an octet from 129 to 132 and so many octets behind it, with a value that takes so many, are a length
+-- an octet from 129 to 132 followed by the announced octets, whose value requires them all, is a
+-- length
 pub found_long : {rules : EncodingRules} (k : ℕ) (ds rest : List ℕ) → 1 ≤ k → k ≤ 4 → length ds ≡ k → AllBelowBase 256 ds → least_of k ≤ number_from_digits 256 ds → LengthAhead (definite_length (number_from_digits 256 ds)) rules ((128 + k) ∷ (ds ++ rest)) (1 + k)
 found_long {rules} k ds rest pos four n all large =
     let size : length ((128 + k) ∷ ds) ≡ 1 + k = omega arith in
@@ -109,7 +110,7 @@ at_least_power : (k : ℕ) (ds : List ℕ) → 1 ≤ k → length ds ≡ k → g
 at_least_power k [] pos n z = absurd (omega arith)
 at_least_power k (d ∷ ds) pos n z = let m : length ds ≡ k - 1 = omega arith in subst (λ j. 256 ^ j ≤ number_from_digits 256 (d ∷ ds)) m (number_at_least d ds z)
 
--- k octets with a lesser value are no length's digits
+-- k octets with a smaller value are not the digits of a length
 pub not_shortest : (k : ℕ) (ds : List ℕ) → 1 ≤ k → length ds ≡ k → number_from_digits 256 ds < least_of k → (n : ℕ) → 128 ≤ n → ds ≢ digits 256 n
 not_shortest k ds pos size small n large w =
     let same : ds ≡ digits_of 256 n = w ∙ digits_positive 256 n (omega arith) in
@@ -117,37 +118,37 @@ not_shortest k ds pos size small n large w =
     let z : get_or ds 0 0 ≢ 0 = omega (arith, first_digits_of 256 n (omega arith) (omega arith), ap (λ l. get_or l 0 0) same) in
     omega (arith, at_least_power k ds pos size z, v)
 
--- nor are they where the first is 0 or the value is below 128
+-- neither are they if the first is 0 or the value is below 128
 pub not_shortest_digits : (ds : List ℕ) → (get_or ds 0 0 ≡ 0) ⊎ (number_from_digits 256 ds < 128) → (n : ℕ) → 128 ≤ n → ds ≢ digits 256 n
 not_shortest_digits ds bad n large w =
     let same : ds ≡ digits_of 256 n = w ∙ digits_positive 256 n (omega arith) in
     let v : number_from_digits 256 ds ≡ n = ap (number_from_digits 256) same ∙ number_digits_of 256 n (omega arith) in
     ⊎_elim (λ z. omega (arith, first_digits_of 256 n (omega arith) (omega arith), ap (λ l. get_or l 0 0) same)) (λ z. omega arith) bad
 
--- k octets with a lesser value are refused
+-- k octets with a smaller value are an error
 pub fault_longer : {F : ℕ → List ℕ → Refusal → Type 0} {wrong : ErrorKind} {rules : EncodingRules} (at k : ℕ) (ds rest : List ℕ) → 1 ≤ k → k ≤ 4 → length ds ≡ k → number_from_digits 256 ds < least_of k → LengthFault F wrong rules at ((128 + k) ∷ (ds ++ rest)) (refusal wrong (at + 1 + k))
 fault_longer at k ds rest pos four n small = longer k ds rest pos four n (not_shortest k ds pos n small)
 
--- the octet that says so many digits
+-- the first octet from the number of digits that it announces
 count_back : (o : ℕ) → 128 ≤ o → 128 + (o - 128) ≡ o
 count_back o h = omega arith
 
--- a length is found by its first octet o, which says how many octets follow
+-- a length is found by its first octet o, which announces the number of octets that follow
 pub octet_found : {rules : EncodingRules} (o : ℕ) (ds rest : List ℕ) → 128 < o → o < 133 → length ds ≡ o - 128 → AllBelowBase 256 ds → least_of (o - 128) ≤ number_from_digits 256 ds → LengthAhead (definite_length (number_from_digits 256 ds)) rules (o ∷ (ds ++ rest)) (1 + (o - 128))
 octet_found {rules} o ds rest low high n all large =
     subst (λ x. LengthAhead (definite_length (number_from_digits 256 ds)) rules (x ∷ (ds ++ rest)) (1 + (o - 128))) (count_back o (omega arith))
     (found_long (o - 128) ds rest (omega arith) (omega arith) n all large)
 
--- the octets of a length, the first octet given
+-- the octets of a length, given the first octet
 pub octet_shortest : (o : ℕ) (ds : List ℕ) → 128 < o → length ds ≡ o - 128 → AllBelowBase 256 ds → least_of (o - 128) ≤ number_from_digits 256 ds → length_octets (number_from_digits 256 ds) ≡ o ∷ ds
 octet_shortest o ds low n all large = shortest (o - 128) ds (omega arith) n all large ∙ ap (λ x. x ∷ ds) (count_back o (omega arith))
 
--- too few octets behind the first octet o
+-- too few octets after the first octet o
 pub octet_cut : {F : ℕ → List ℕ → Refusal → Type 0} {wrong : ErrorKind} {rules : EncodingRules} (at o : ℕ) (ds : List ℕ) → 128 ≤ o → o < 133 → length ds < o - 128 → LengthFault F wrong rules at (o ∷ ds) (end_refusal (at + 1 + length ds))
 octet_cut {F} {wrong} {rules} at o ds low high short =
     subst (λ x. LengthFault F wrong rules at (x ∷ ds) (end_refusal (at + 1 + length ds))) (count_back o low) (few (o - 128) ds (omega arith) short)
 
--- a lesser value behind the first octet o
+-- a value that requires fewer octets after the first octet o
 pub octet_longer : {F : ℕ → List ℕ → Refusal → Type 0} {wrong : ErrorKind} {rules : EncodingRules} (at o : ℕ) (ds rest : List ℕ) → 128 < o → o < 133 → length ds ≡ o - 128 → number_from_digits 256 ds < least_of (o - 128) → LengthFault F wrong rules at (o ∷ (ds ++ rest)) (refusal wrong (at + 1 + (o - 128)))
 octet_longer {F} {wrong} {rules} at o ds rest low high n small =
     subst (λ x. LengthFault F wrong rules at (x ∷ (ds ++ rest)) (refusal wrong (at + 1 + (o - 128)))) (count_back o (omega arith)) (fault_longer at (o - 128) ds rest (omega arith) (omega arith) n small)
@@ -179,7 +180,7 @@ no_definite_fault n t h f e = ⊎_elim (λ a. small n t a f (e ∙ ap (λ l. l +
     large n t h a (indefinite_form der rest) e = let f : 128 ≡ 128 + length (digits_of 256 n) = cc in omega (arith, length_digits_positive 256 n (omega arith) (omega arith))
     large n t h a (no_body ber rest g) e = let f : 128 ≡ 128 + length (digits_of 256 n) = cc in omega (arith, length_digits_positive 256 n (omega arith) (omega arith))
 
--- under BER octet `0x80` and a body have no fault
+-- under BER octet `0x80` followed by a body has no fault
 pub no_open_fault : {F : ℕ → List ℕ → Refusal → Type 0} → IsBodyFault F → {wrong : ErrorKind} {at parts : ℕ} {rules : EncodingRules} {s body : List ℕ} {r : Refusal} → Body 1 parts body → (t : List ℕ) → rules ≡ Ber → LengthFault F wrong rules at s r → s ≡ 128 ∷ (body ++ t) → ⊥
 no_open_fault laws d t b nothing e = cc
 no_open_fault laws d t b (few k ds p q) e = let f : 128 + k ≡ 128 = cc in omega arith
@@ -190,7 +191,7 @@ no_open_fault {F} laws {at = at} {parts = parts} {body = body} d t b (no_body {r
     let f : rest ≡ body ++ t = cc in
     laws.never_both (at + 1) parts body t r d (subst (λ l. F (at + 1) l r) f g)
 
--- octets have one fault of a length
+-- octets have at most one fault of a length
 pub one_length_fault : {F : ℕ → List ℕ → Refusal → Type 0} → IsBodyFault F → {wrong : ErrorKind} {at : ℕ} {rules : EncodingRules} {s t : List ℕ} {r q : Refusal} → LengthFault F wrong rules at s r → LengthFault F wrong rules at t q → s ≡ t → r ≡ q
 one_length_fault laws nothing nothing e = refl
 one_length_fault laws nothing (few k ds p q) e = cc

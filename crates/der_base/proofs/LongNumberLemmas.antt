@@ -1,4 +1,4 @@
--- A tag number of 31 or more, octet by octet, and the octets that cannot go on.
+-- A tag number of 31 or more, octet by octet, and the octets with which none continues.
 use Rattle.std.proofs.Common.{◌≡◌, ◌≢◌, ℕ, ◌+◌, ◌-◌, ◌*◌, ◌/◌, ◌%◌, ◌^◌, ◌<◌, ◌≤◌, ◌⊎◌, List, [], ◌∷◌, ◌++◌, map, length, get_or, refl, sym, ap, ◌∙◌, ⊎_elim, inl, inr, append_assoc, arith}
 use Rattle.std.proofs.lemmas.Bool.{cases_lt}
 use Rattle.std.proofs.lemmas.Int.Digits.{first_digits_of, number_digits_of, number_push, number_after_append, number_after_ge, all_below_base_digits_of}
@@ -12,22 +12,22 @@ use Rattle.der_base.proofs.DigitLemmas.{digits_positive, length_digits_positive,
 use Rattle.der_base.proofs.TagLemmas.{label_small, label_large, octet_parts, octet_back}
 use Rattle.der_base.proofs.IdentifierLemmas.{BeginsNoIdentifier, none_with, IdentifierView, tagged, segmented, identifier_view, identifier_at, long_identifier}
 
--- digits that more digits follow
+-- digits that are followed by more digits
 abbrev pub going_on : List ℕ → List ℕ
 going_on = map (λ d. 128 + d)
 
--- the last digit, after digits that go on
+-- the last digit, after digits that continue
 pub continued_push : (ds : List ℕ) (d : ℕ) → continuation_octets (ds ++ d ∷ []) ≡ going_on ds ++ d ∷ []
 continued_push [] d = refl
 continued_push (c ∷ []) d = refl
 continued_push (c ∷ b ∷ ds) d = ap (λ l. (128 + c) ∷ l) (continued_push (b ∷ ds) d)
 
--- one digit more that goes on
+-- one more digit that continues
 pub going_on_push : (ds : List ℕ) (d : ℕ) → going_on (ds ++ d ∷ []) ≡ going_on ds ++ (128 + d) ∷ []
 going_on_push [] d = refl
 going_on_push (c ∷ ds) d = ap (λ l. (128 + c) ∷ l) (going_on_push ds d)
 
--- what begins with digits that go on has them, and more
+-- octets that begin with digits that continue consist of these and more
 continued_begins : (es ds more : List ℕ) → 0 < length es → AllBelowBase 128 es → continuation_octets es ≡ going_on ds ++ more → (r : List ℕ) × (es ≡ ds ++ r) × (0 < length r) × AllBelowBase 128 r × (continuation_octets r ≡ more)
 continued_begins [] ds more pos all e = absurd (omega arith)
 continued_begins (d ∷ es) [] more pos all e = (d ∷ es, refl, pos, all, e)
@@ -39,7 +39,7 @@ continued_begins (d ∷ b ∷ es) (c ∷ ds) more pos all e =
     let r = continued_begins (b ∷ es) ds more (omega arith) all.1 g in
     (r.0, ap (λ l. d ∷ l) r.1 ∙ ap (λ x. x ∷ (ds ++ r.0)) same, r.2, r.3, r.4)
 
--- the last octet of a number is below 128, and each other one from 128 on
+-- the last octet of a number is below 128, and every other one is 128 or more
 last_octet : (r : List ℕ) (o : ℕ) (more : List ℕ) → 0 < length r → AllBelowBase 128 r → continuation_octets r ≡ o ∷ more → ((o < 128) × (r ≡ o ∷ [])) ⊎ ((128 ≤ o) × (e : ℕ) × (t : List ℕ) × (r ≡ (o - 128) ∷ e ∷ t))
 last_octet [] o more pos all e = absurd (omega arith)
 last_octet (d ∷ []) o more pos all e = let f : d ≡ o = cc in inl (omega (arith, all.0), ap (λ x. x ∷ []) f)
@@ -48,7 +48,7 @@ last_octet (d ∷ c ∷ r) o more pos all e =
     let g : d ≡ o - 128 = omega arith in
     inr (omega arith, c, r, ap (λ x. x ∷ c ∷ r) g)
 
--- the octets so far are those of a number below 2 ^ 25 that goes on
+-- the octets so far are those of a number below 2 ^ 25 that continues
 pub record SoFar (s : List ℕ) (v : ℕ) : Type 0 where
   pub octets : s ≡ going_on (digits_of 128 v)
   pub small : v < 2 ^ 25
@@ -57,7 +57,7 @@ pub record SoFar (s : List ℕ) (v : ℕ) : Type 0 where
 pub so_far_none : SoFar [] 0
 so_far_none = record { octets = refl; small = omega arith }
 
--- one octet more that goes on; the first does not begin the number with a zero
+-- one more octet that continues; the first does not begin the number with a zero digit
 pub so_far_more : (s : List ℕ) (v p : ℕ) → SoFar s v → 128 ≤ p → p < 256 → 0 < v * 128 + p % 128 → v * 128 + p % 128 < 2 ^ 25 → SoFar (s ++ p ∷ []) (v * 128 + p % 128)
 so_far_more s v p h low high pos small =
     let octet : 128 + p % 128 ≡ p = omega arith in
@@ -75,7 +75,7 @@ so_far_last s v p h low pos =
     ∙ ap (λ l. l ++ (p % 128) ∷ []) (sym h.octets)
     ∙ ap (λ x. s ++ x ∷ []) octet)
 
--- a number of 31 or more is found at its last octet
+-- a number of 31 or more is complete at its last octet
 pub number_found : (s : List ℕ) (v p : ℕ) → SoFar s v → p < 128 → 31 ≤ v * 128 + p % 128 → (s ++ p ∷ [] ≡ continuation_octets (digits 128 (v * 128 + p % 128))) × (v * 128 + p % 128 < 2 ^ 32)
 number_found s v p h low large = (so_far_last s v p h low (omega arith), omega (arith, h.small))
 
@@ -85,7 +85,7 @@ number_identifier s v o p above high set h low large =
     let f = number_found s v p h low large in
     identifier_at (ap (λ l. o ∷ l) (sym f.0)) refl (long_identifier o (v * 128 + p % 128) above high set large f.1)
 
--- octets of a number that are cut: one from 31 on below 2 ^ 32 begins so, and goes on
+-- octets of a truncated number: a proper prefix of one from 31 on below 2 ^ 32
 IsCutNumber : List ℕ → Type 0
 IsCutNumber s = (n o : ℕ) × (more : List ℕ) × (31 ≤ n) × (n < 2 ^ 32) × (continuation_octets (digits 128 n) ≡ s ++ o ∷ more)
 
@@ -104,7 +104,7 @@ so_far_cut s v h =
       ap continuation_octets (digits_positive 128 (v * 128 + 127) pos ∙ digits_of_push 128 v 127 (omega arith) (omega arith) pos) ∙ continued_push (digits_of 128 v) 127 ∙ ap (λ l. l ++ 127 ∷ []) (sym h.octets),
     )
 
--- a number that goes on with this octet
+-- a number that continues with this octet
 module _ (s : List ℕ) (v p : ℕ) (h : SoFar s v) where
   goes_on : (n : ℕ) (more : List ℕ) → 31 ≤ n → continuation_octets (digits 128 n) ≡ (s ++ p ∷ []) ++ more → (r : List ℕ) × (digits_of 128 n ≡ digits_of 128 v ++ r) × (0 < length r) × AllBelowBase 128 r × (continuation_octets r ≡ p ∷ more)
   goes_on n more large e =
@@ -127,7 +127,7 @@ module _ (s : List ℕ) (v p : ℕ) (h : SoFar s v) where
       first_small [] p a = absurd (omega arith)
       first_small (x ∷ xs) p a = a.0
 
-  -- none is below 31
+  -- no number is below 31
   none_from_few : p < 128 → v * 128 + p % 128 < 31 → BeginsNoNumber (s ++ p ∷ [])
   unfolding BeginsNoNumber
   none_from_few low few n more large small e =
@@ -137,7 +137,7 @@ module _ (s : List ℕ) (v p : ℕ) (h : SoFar s v) where
       (λ a. omega (arith, a.0))
       (last_octet g.0 p more g.2 g.3 g.4)
 
-  -- none has more than 32 bits
+  -- no number has more than 32 bits
   none_from_many : 128 ≤ p → p < 256 → 2 ^ 25 ≤ v * 128 + p % 128 → BeginsNoNumber (s ++ p ∷ [])
   unfolding BeginsNoNumber
   none_from_many low high many n more large small e =
@@ -152,7 +152,7 @@ module _ (s : List ℕ) (v p : ℕ) (h : SoFar s v) where
       omega (arith, value, number_after_ge 128 ((v * 128 + (p - 128)) * 128 + a.1) a.2 (omega arith)))
       (last_octet g.0 p more g.2 g.3 g.4)
 
--- a first octet that a number follows
+-- a first octet that is followed by a number
 module _ (rules : EncodingRules) (o : ℕ) (above : 64 ≤ o) (high : o < 256) (set : o % 32 ≡ 31) where
   cut_behind : (s : List ℕ) → IsCutNumber s → IsCutIdentifier rules (o ∷ s)
   unfolding IsCutNumber
@@ -182,22 +182,22 @@ module _ (rules : EncodingRules) (o : ℕ) (above : 64 ≤ o) (high : o < 256) (
   number_refused : (at : ℕ) (s : List ℕ) (v p : ℕ) (rest : List ℕ) → SoFar s v → BeginsNoNumber (s ++ p ∷ []) → IdentifierFault rules at (o ∷ (s ++ p ∷ rest)) (refusal TagNumberInvalid (at + length (o ∷ s) + 1))
   number_refused at s v p rest h none = refused (o ∷ s) p rest (cut_behind s (so_far_cut s v h)) (none_behind (s ++ p ∷ []) none)
 
--- a number that goes on, and nothing behind it
+-- a number that continues, and no octet after it
 pub number_cut : {rules : EncodingRules} (at o v : ℕ) (s : List ℕ) → 64 ≤ o → o < 256 → o % 32 ≡ 31 → SoFar s v → IdentifierFault rules at (o ∷ s) (end_refusal (at + length (o ∷ s)))
 number_cut {rules} at o v s above high set h = cut (o ∷ s) (cut_behind rules o above high set s (so_far_cut s v h))
 
--- a number that begins with a zero digit is refused
+-- a number that begins with a zero digit is an error
 pub number_refused_first : {rules : EncodingRules} (at o v p : ℕ) (s rest : List ℕ) → 64 ≤ o → o < 256 → o % 32 ≡ 31 → SoFar s v → v ≡ 0 → p % 128 ≡ 0 → IdentifierFault rules at (o ∷ (s ++ p ∷ rest)) (refusal TagNumberInvalid (at + length (o ∷ s) + 1))
 number_refused_first {rules} at o v p s rest above high set h z q = number_refused rules o above high set at s v p rest h (none_from_zero s v p h z q)
 
--- a whole number below 31 is refused
+-- a complete number below 31 is an error
 pub number_refused_few : {rules : EncodingRules} (at o v p : ℕ) (s rest : List ℕ) → 64 ≤ o → o < 256 → o % 32 ≡ 31 → SoFar s v → p < 128 → v * 128 + p % 128 < 31 → IdentifierFault rules at (o ∷ (s ++ p ∷ rest)) (refusal TagNumberInvalid (at + length (o ∷ s) + 1))
 number_refused_few {rules} at o v p s rest above high set h low few = number_refused rules o above high set at s v p rest h (none_from_few s v p h low few)
 
--- a number that goes on at 2 ^ 25 or more would pass 32 bits, and is refused
+-- a number that continues from 2 ^ 25 or more would exceed 32 bits, and is an error
 pub number_refused_many : {rules : EncodingRules} (at o v p : ℕ) (s rest : List ℕ) → 64 ≤ o → o < 256 → o % 32 ≡ 31 → SoFar s v → 128 ≤ p → p < 256 → 2 ^ 25 ≤ v * 128 + p % 128 → IdentifierFault rules at (o ∷ (s ++ p ∷ rest)) (refusal TagNumberInvalid (at + length (o ∷ s) + 1))
 number_refused_many {rules} at o v p s rest above high set h low small many = number_refused rules o above high set at s v p rest h (none_from_many s v p h low small many)
 
--- a number from 256 on is refused among its octets
+-- a number from 256 on among its octets is an error
 pub number_refused_above : {rules : EncodingRules} (at o v p : ℕ) (s rest : List ℕ) → 64 ≤ o → o < 256 → o % 32 ≡ 31 → SoFar s v → 256 ≤ p → IdentifierFault rules at (o ∷ (s ++ p ∷ rest)) (refusal TagNumberInvalid (at + length (o ∷ s) + 1))
 number_refused_above {rules} at o v p s rest above high set h big = refused (o ∷ s) p rest (cut_behind rules o above high set s (so_far_cut s v h)) (none_with (o ∷ s) p big)

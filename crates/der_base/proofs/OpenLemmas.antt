@@ -1,4 +1,4 @@
--- How the beginning of a body goes on: what can follow it, and by which steps it is reached.
+-- How the beginning of a body continues: what can follow it, and by which steps it is reached.
 use Rattle.std.proofs.Common.{◌≡◌, ℕ, suc, ◌+◌, ◌^◌, ◌<◌, Bool, true, List, [], ◌∷◌, ◌++◌, length, refl, sym, ap, ◌∙◌, subst, ⊎_elim, append_assoc, append-nil, arith}
 use Rattle.std.proofs.lemmas.Bool.{cases_lt}
 use Rattle.der_base.specs.Length.{length_octets}
@@ -10,7 +10,7 @@ use Rattle.der_base.proofs.LengthLemmas.{length_definite}
 use Rattle.der_base.proofs.IdentifierLemmas.{identifier_begins, identifier_front}
 use Rattle.der_base.proofs.BodyLemmas.{body_level, items_level, definite_front, mixed_front, item_front, no_item_at_end}
 
--- some body of a level stands at the front
+-- octets begin with a body of this level
 pub record BodyIn (level : ℕ) (octets : List ℕ) : Type 0 where
   pub parts : ℕ
   pub body : List ℕ
@@ -21,11 +21,11 @@ pub record BodyIn (level : ℕ) (octets : List ℕ) : Type 0 where
 body_in : {level parts : ℕ} {body octets : List ℕ} (rest : List ℕ) → Body level parts body → octets ≡ body ++ rest → BodyIn level octets
 body_in {parts = n} {body = b} rest is e = record { parts = n; body = b; rest = rest; is = is; split = e }
 
--- no identifier begins with an end mark
+-- no identifier begins with a zero octet
 pub no_marks : {id : List ℕ} {t : Tag} {c : Bool} (x y : List ℕ) → IsIdentifier Ber id t c → id ++ x ≡ 0 ∷ y → ⊥
 no_marks x y d e = let h = identifier_begins d in h.3 (let f : h.0 ∷ (h.1 ++ x) ≡ 0 ∷ y = ap (λ l. l ++ x) (sym h.2) ∙ e in cc)
 
--- behind an item a body goes on
+-- after an item a body continues
 past_item : {k m n l : ℕ} {i b : List ℕ} (q rest : List ℕ) → Item l m i → Body k n b → i ++ q ≡ b ++ rest → BodyIn k q
 past_item q rest h (ends at) e = absurd (no_item_at_end h q (0 ∷ rest) e)
 past_item q rest h (more {item = i} {body = b} g t) e = body_in rest t (item_front h g q (b ++ rest) (e ∙ append_assoc i b rest)).2
@@ -36,7 +36,7 @@ past_items q rest (then_item {items = s} {item = i} h g) t e =
     let r = past_items (i ++ q) rest h t (sym (append_assoc s i q) ∙ e) in
     past_item q r.rest g r.is r.split
 
--- behind an identifier and octet `0x80` a body of the next level stands
+-- after an identifier and octet `0x80` there is a body of the next level
 past_opening : {k n : ℕ} {id b : List ℕ} {t : Tag} {c : Bool} (q rest : List ℕ) → IsIdentifier Ber id t c → Body k n b → id ++ 128 ∷ q ≡ b ++ rest → BodyIn (suc k) q
 past_opening q rest d (ends at) e = absurd (no_marks (128 ∷ q) (0 ∷ rest) d e)
 past_opening {id = id} q rest d (more {body = b} (definite {id = a} at g contents l) t) e =
@@ -47,7 +47,7 @@ past_opening {id = id} q rest d (more {body = b} (indefinite {parts = n} {id = a
     let f : 128 ∷ q ≡ 128 ∷ (inner ++ (b ++ rest)) = r.3 in
     body_in (b ++ rest) u (cc)
 
--- where a body begins so, what follows begins with a body of the level
+-- if a body begins with an open beginning, the rest begins with a body of the innermost level
 pub past_open : {k m n : ℕ} {p b : List ℕ} (q rest : List ℕ) → Open k m p → Body 1 n b → p ++ q ≡ b ++ rest → BodyIn k q
 past_open q rest (first h) t e = past_items q rest h t e
 past_open q rest (deeper {p = p} {id = id} {items = s} o d h) t e =
@@ -55,18 +55,19 @@ past_open q rest (deeper {p = p} {id = id} {items = s} o d h) t e =
     let i = past_opening (s ++ q) r.rest d r.is r.split in
     past_items q i.rest h i.is i.split
 
--- a step, from a level to a level: an end mark, an item of a definite length, or an opening
+-- a step from one level to another: the end-of-contents octets, an item with a definite length, or
+-- an opening
 pub data Step : ℕ → ℕ → List ℕ → Type 0 where
   marks : {k : ℕ} → Step (suc k) k (0 ∷ 0 ∷ [])
   counted : {k : ℕ} {t : Tag} {c : Bool} {id : List ℕ} → IsIdentifier Ber id t c → (contents : List ℕ) → length contents < 2 ^ 32 → Step k k (id ++ (length_octets (length contents) ++ contents))
   opened : {k : ℕ} {t : Tag} {id : List ℕ} → IsIdentifier Ber id t true → k < 64 → Step k (suc k) (id ++ 128 ∷ [])
 
--- a path: a number of steps from level 1, the level that they end at, and their octets
+-- a path: a number of steps from level 1, the level at which they end, and their octets
 pub data Path : ℕ → ℕ → List ℕ → Type 0 where
   start : Path 0 1 []
   go : {n k l : ℕ} {p x : List ℕ} → Path n k p → Step k l x → Path (suc n) l (p ++ x)
 
--- each step is the only one
+-- there is at most one next step
 one_step : {k l m : ℕ} {x y : List ℕ} → Step k l x → Step k m y → (s t : List ℕ) → x ++ s ≡ y ++ t → (l ≡ m) × (x ≡ y) × (s ≡ t)
 one_step marks marks s t e = (refl, refl, cc)
 one_step marks (counted {id = b} g d _) s t e = absurd (no_marks ((length_octets (length d) ++ d) ++ t) (0 ∷ s) g (sym (append_assoc b (length_octets (length d) ++ d) t) ∙ sym e))
@@ -98,14 +99,14 @@ path_items : {k m : ℕ} {q : List ℕ} → Items k m q → (n : ℕ) (p : List 
 path_items (none at) n p h = path_at (omega arith) (sym (append-nil p)) h
 path_items (then_item {m = m} {items = q} {item = i} g t) n p h = path_at (omega arith) (append_assoc p q i) (path_item t (n + m) (p ++ q) (path_items g n p h))
 
--- the beginning of a body is reached by as many steps as it has identifiers and end marks
+-- the beginning of a body is reached in one step for each identifier and end-of-contents in it
 pub path_open : {k m : ℕ} {p : List ℕ} → Open k m p → Path m k p
 path_open (first h) = path_at (omega arith) refl (path_items h 0 [] start)
 path_open (deeper {m = m} {p = p} {id = id} {items = q} o d h) =
     let deep = items_level h in
     path_at (omega arith) (append_assoc p (id ++ 128 ∷ []) q ∙ ap (λ x. p ++ x) (append_assoc id (128 ∷ []) q)) (path_items h (suc m) (p ++ (id ++ 128 ∷ [])) (go (path_open o) (opened d (omega (arith, deep.1)))))
 
--- paths of one length on one list are one
+-- paths with equal numbers of steps on one list are equal
 pub same_steps : {n k l : ℕ} {p r : List ℕ} → Path n k p → Path n l r → (q t : List ℕ) → p ++ q ≡ r ++ t → (k ≡ l) × (p ≡ r) × (q ≡ t)
 same_steps start start q t e = (refl, refl, e)
 same_steps (go {p = p} {x = x} h s) (go {l = l} {p = r} {x = y} g u) q t e =
@@ -113,7 +114,7 @@ same_steps (go {p = p} {x = x} h s) (go {l = l} {p = r} {x = y} g u) q t e =
     let b = one_step s (subst (λ j. Step j l y) (sym a.0) u) q t a.2 in
     (b.0, ap (λ w. w ++ x) a.1 ∙ ap (λ w. r ++ w) b.1, b.2)
 
--- a longer path goes on by a step
+-- a longer path continues by a step
 pub longer_steps : {n m k l : ℕ} {p r : List ℕ} → Path n k p → Path m l r → n < m → (q t : List ℕ) → p ++ q ≡ r ++ t → (j : ℕ) × (x y : List ℕ) × Step k j x × (q ≡ x ++ y)
 longer_steps h start lt q t e = absurd (omega arith)
 longer_steps {n = n} {k = k} {p = p} h (go {n = m} {l = l} {p = r} {x = x} g s) lt q t e =

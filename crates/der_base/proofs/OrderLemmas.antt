@@ -1,4 +1,4 @@
--- Byte order of lists that are joined of parts, and of the octets of tags, lengths and headers.
+-- Byte order of concatenated lists, and of the octets of tags, lengths and headers.
 use Rattle.std.proofs.Common.{◌≡◌, ◌≢◌, ℕ, ◌+◌, ◌*◌, ◌^◌, ◌<◌, ◌≤◌, List, [], ◌∷◌, ◌++◌, length, refl, sym, ap, ◌∙◌, subst, ⊎_elim, append-nil, arith}
 use Rattle.std.proofs.lemmas.Bool.{cases_lt}
 use Rattle.std.proofs.lemmas.Bool.Decides.{nat_tests}
@@ -19,11 +19,11 @@ use Rattle.der_base.proofs.DigitLemmas.{digits_positive}
 use Rattle.der_base.proofs.LengthLemmas.{length_small, length_large}
 use Rattle.der_base.proofs.TagLemmas.{tag_front}
 
--- lists that are equal in byte order are equal
+-- lists that compare equal in byte order are equal
 pub same_octets : (a b : List ℕ) → byte_order a b ≡ Equal → a ≡ b
 same_octets = exact_bytes
 
--- lists that are equal are equal in byte order
+-- equal lists compare equal in byte order
 pub equal_octets : (a b : List ℕ) → a ≡ b → byte_order a b ≡ Equal
 equal_octets a b e = ap (byte_order a) (sym e) ∙ tied_itself nat_list_cmp_total a
 
@@ -39,12 +39,13 @@ level m n h = grind (arith, nat_tests)
 first_less : (o p : ℕ) (a b : List ℕ) → o < p → byte_order (o ∷ a) (p ∷ b) ≡ Less
 first_less o p a b h = ap (λ x. ordering_then x (byte_order a b)) (less o p h)
 
--- behind a front that two lists share the rest decides
+-- after a common prefix the rest decides
 pub order_behind : (front a b : List ℕ) → byte_order (front ++ a) (front ++ b) ≡ byte_order a b
 order_behind [] a b = refl
 order_behind (o ∷ front) a b = ap (λ x. ordering_then x (byte_order (front ++ a) (front ++ b))) (level o o refl) ∙ order_behind front a b
 
--- a list that comes before another begins it, or has a smaller octet where they differ first
+-- a list that compares less is a proper prefix of the other, or has the smaller octet at the first
+-- difference
 pub before_from_less : (a b : List ℕ) → byte_order a b ≡ Less → IsBefore a b
 before_from_less [] [] h = cc
 before_from_less [] (q ∷ b) h = begins q b refl
@@ -74,7 +75,7 @@ parts_step Less s t r h = refl
 parts_step Equal s t r h = h refl
 parts_step Greater s t r h = refl
 
--- of lists that are joined the first parts decide, where neither begins the other, and then the rest
+-- for concatenated lists the first parts decide, if neither is a prefix of the other, then the rest
 pub order_parts : (a b x y : List ℕ) → AreApart a b → byte_order (a ++ x) (b ++ y) ≡ ordering_then (byte_order a b) (byte_order x y)
 order_parts [] [] x y h = refl
 order_parts [] (q ∷ b) x y h = let e : [] ≡ q ∷ b = h (q ∷ b) [] (sym (append-nil (q ∷ b))) in cc
@@ -91,7 +92,7 @@ then_equal Greater = refl
 shifted : (k d e : ℕ) → nat_cmp (k + d) (k + e) ≡ nat_cmp d e
 shifted k d e = grind (arith, nat_tests)
 
--- one digit more behind two numbers
+-- one more digit after two numbers
 digit_step : (b m n d e : ℕ) (o : Ordering) → d < b → e < b → ordering_then (nat_cmp m n) (ordering_then (nat_cmp d e) o) ≡ ordering_then (nat_cmp (m * b + d) (n * b + e)) o
 digit_step b m n d e o p q =
     ⊎_elim
@@ -106,7 +107,7 @@ digit_step b m n d e o p q =
     (cases_lt n m))
     (cases_lt m n)
 
--- as many digits behind two numbers
+-- equally many digits after two numbers
 digits_after : (b m n : ℕ) (ds es : List ℕ) → length ds ≡ length es → AllBelowBase b ds → AllBelowBase b es
     → ordering_then (nat_cmp m n) (byte_order ds es) ≡ nat_cmp (number_from_digits_after b m ds) (number_from_digits_after b n es)
 digits_after b m n [] [] l p q = then_equal (nat_cmp m n)
@@ -115,7 +116,7 @@ digits_after b m n (d ∷ ds) [] l p q = absurd (omega arith)
 digits_after b m n (d ∷ ds) (e ∷ es) l p q =
     digit_step b m n d e (byte_order ds es) p.0 q.0 ∙ digits_after b (m * b + d) (n * b + e) ds es (omega arith) p.1 q.1
 
--- as many digits stand as their numbers do
+-- equally many digits compare as their numbers do
 pub digits_order : (b : ℕ) (ds es : List ℕ) → length ds ≡ length es → AllBelowBase b ds → AllBelowBase b es
     → byte_order ds es ≡ nat_cmp (number_from_digits b ds) (number_from_digits b es)
 digits_order b ds es l p q = digits_after b 0 0 ds es l p q
@@ -126,7 +127,7 @@ first_greater o p a b h = ap (λ x. ordering_then x (byte_order a b)) (greater o
 large_of : (n : ℕ) → 128 ≤ n → length_octets n ≡ (128 + length (digits_of 256 n)) ∷ digits_of 256 n
 large_of n h = length_large n h ∙ ap (λ l. (128 + length l) ∷ l) (digits_positive 256 n (omega arith))
 
--- a number is below one with more digits
+-- a number with fewer digits is smaller
 fewer_digits : (m n : ℕ) → length (digits_of 256 m) < length (digits_of 256 n) → m < n
 fewer_digits m n h =
     ⊎_elim
@@ -150,7 +151,7 @@ both_large m n =
     (cases_lt (length (digits_of 256 n)) (length (digits_of 256 m))))
     (cases_lt (length (digits_of 256 m)) (length (digits_of 256 n)))
 
--- lengths stand as their numbers do
+-- encoded lengths compare as their numbers do
 pub length_order : (m n : ℕ) → byte_order (length_octets m) (length_octets n) ≡ nat_cmp m n
 length_order m n =
     ⊎_elim
@@ -164,15 +165,15 @@ length_order m n =
     (cases_lt n 128))
     (cases_lt m 128)
 
--- headers stand by their tags, and then by their lengths
+-- headers compare by their tags, then by their encoded lengths
 pub header_parts : (t u : Tag) (m n : ℕ) → byte_order (header_octets t m) (header_octets u n) ≡ ordering_then (byte_order (tag_octets t) (tag_octets u)) (byte_order (length_octets m) (length_octets n))
 header_parts t u m n = order_parts (tag_octets t) (tag_octets u) (length_octets m) (length_octets n) (λ x y e. ap tag_octets (tag_front t u x y e).0)
 
--- headers stand by their tags, and then by their numbers
+-- headers compare by their tags, then by their numbers
 pub header_order : (t u : Tag) (m n : ℕ) → byte_order (header_octets t m) (header_octets u n) ≡ ordering_then (byte_order (tag_octets t) (tag_octets u)) (nat_cmp m n)
 header_order t u m n = header_parts t u m n ∙ ap (ordering_then (byte_order (tag_octets t) (tag_octets u))) (length_order m n)
 
--- lists that are decided stand so whatever follows them
+-- unequal lists compare the same whatever follows them
 pub then_unequal : (o p : Ordering) → o ≢ Equal → ordering_then o p ≡ o
 then_unequal Less p h = refl
 then_unequal Equal p h = absurd (h refl)

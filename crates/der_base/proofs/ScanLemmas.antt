@@ -1,4 +1,4 @@
--- Octets begin with no body where they have a fault, and have one fault at most.
+-- Octets that have a fault do not begin with a body, and have at most one fault.
 use Rattle.std.proofs.Common.{◌≡◌, ◌≢◌, ℕ, ◌+◌, ◌^◌, ◌<◌, ⊎_elim, Bool, true, false, List, [], ◌∷◌, ◌++◌, length, refl, sym, ap, ◌∙◌, subst, append_assoc, length-append, arith}
 use Rattle.std.proofs.lemmas.Bool.{cases_order}
 use Rattle.der_base.specs.Length.{length_octets, indefinite_length}
@@ -19,23 +19,23 @@ use Rattle.der_base.proofs.IdentifierLemmas.{identifier_begins, identifier_front
 use Rattle.der_base.proofs.BodyLemmas.{body_level, body_front}
 use Rattle.der_base.proofs.OpenLemmas.{past_open, no_marks, Step, Path, marks, counted, opened, path_open, same_steps, longer_steps}
 
--- a scan looks for no body
+-- the scan itself does not search for a body
 no_body_fault_laws : IsBodyFault NoBodyFault
 no_body_fault_laws = record { one_fault = λ at octets r q f g. absurd f; never_both = λ at parts body rest r b f. f }
 
--- what stands behind an identifier in a body
+-- what follows an identifier in a body
 data Behind (k : ℕ) (c : Bool) (q : List ℕ) : Type 0 where
   opens : (t : List ℕ) → c ≡ true → k < 64 → q ≡ 128 ∷ t → Behind k c q
   counts : (contents t : List ℕ) → length contents < 2 ^ 32 → q ≡ length_octets (length contents) ++ (contents ++ t) → Behind k c q
 
--- what stands behind an identifier, where that is the fault
+-- what follows an identifier, if that is the fault
 data Wrong (k at : ℕ) (id : List ℕ) (t : Tag) (c : Bool) (q : List ℕ) (r : Refusal) : Type 0 where
   is_primitive : (rest : List ℕ) → c ≡ false → q ≡ 128 ∷ rest → r ≡ refusal IndefiniteLength (at + length id + 1) → Wrong k at id t c q r
   is_deep : (rest : List ℕ) → c ≡ true → k ≡ 64 → q ≡ 128 ∷ rest → r ≡ refusal NestingDepth (at + length id + 1) → Wrong k at id t c q r
   length_wrong : LengthFault NoBodyFault (IncorrectLength t) Ber (at + length id) q r → Wrong k at id t c q r
   too_few : (n : ℕ) (rest : List ℕ) → n < 2 ^ 32 → length rest < n → q ≡ length_octets n ++ rest → r ≡ short_refusal n (length rest) (at + length id + length (length_octets n)) → Wrong k at id t c q r
 
--- a fault by what the octets begin with
+-- a fault, by the first octets
 data Shape (k at : ℕ) (q : List ℕ) (r : Refusal) : Type 0 where
   at_end : q ≡ [] → r ≡ end_refusal at → Shape k at q r
   one_zero : q ≡ 0 ∷ [] → r ≡ end_refusal (at + 1) → Shape k at q r
@@ -43,7 +43,7 @@ data Shape (k at : ℕ) (q : List ℕ) (r : Refusal) : Type 0 where
   no_identifier : (o : ℕ) (rest : List ℕ) → o ≢ 0 → q ≡ o ∷ rest → IdentifierFault Ber at q r → Shape k at q r
   behind_it : (c : Bool) (t : Tag) (id x : List ℕ) → IsIdentifier Ber id t c → q ≡ id ++ x → Wrong k at id t c x r → Shape k at q r
 
--- an identifier that is cut does not begin with 0
+-- a truncated identifier does not begin with 0
 cut_begins : (s : List ℕ) (o : ℕ) → IsCutIdentifier Ber (o ∷ s) → o ≢ 0
 cut_begins s o h zero =
     let d = h.4 in
@@ -65,7 +65,7 @@ shape (too_deep {id = id} {t = t} rest deep d) = behind_it true t id (128 ∷ re
 shape (no_length {id = id} {more = others} {t = t} {b = b} d f) = behind_it b t id others d refl (length_wrong f)
 shape (short {id = id} {t = t} {b = b} n rest d small less) = behind_it b t id (length_octets n ++ rest) d refl (too_few n rest small less refl refl)
 
--- octet `0x80` is no fault of a definite length
+-- octet `0x80` is not a fault of a definite length
 no_fault_at_opening : {wrong : ErrorKind} {at : ℕ} {q : List ℕ} {r : Refusal} (t : List ℕ) → LengthFault NoBodyFault wrong Ber at q r → q ≡ 128 ∷ t → ⊥
 no_fault_at_opening t no_octet e = cc
 no_fault_at_opening t (few k ds p q) e = let f : 128 + k ≡ 128 = cc in omega arith
@@ -74,7 +74,7 @@ no_fault_at_opening t (longer k ds rest p q s u) e = let f : 128 + k ≡ 128 = c
 no_fault_at_opening t (indefinite_form der rest) e = cc
 no_fault_at_opening t (no_body ber rest f) e = f
 
--- no step goes on where a fault is
+-- no step continues where there is a fault
 wrong_behind : {k at : ℕ} {id q : List ℕ} {t : Tag} {c : Bool} {r : Refusal} → Wrong k at id t c q r → Behind k c q → ⊥
 wrong_behind (is_primitive rest a b f) (opens u v l g) = cc
 wrong_behind (is_primitive rest a b f) (counts d u l g) = length_definite (length d) (d ++ u) rest (sym g ∙ b)
@@ -87,7 +87,7 @@ wrong_behind (too_few n others s l v g) (counts d w m f) =
     let r = length_front n (length d) others (d ++ w) (sym v ∙ f) in
     omega (arith, r.0, ap length r.1, length-append d w)
 
--- an identifier begins with no 0
+-- no identifier begins with 0
 not_zero : {id : List ℕ} {t : Tag} {c : Bool} (q x rest : List ℕ) → IsIdentifier Ber id t c → q ≡ id ++ x → q ≡ 0 ∷ rest → ⊥
 not_zero q x rest d e f = no_marks x rest d (sym e ∙ f)
 
@@ -115,7 +115,7 @@ no_step y marks s g = shape_marks y s g
 no_step y (counted {id = id} d contents l) s g = shape_behind (length_octets (length contents) ++ (contents ++ y)) s d (g ∙ simp append_assoc) (counts contents y l refl)
 no_step y (opened {id = id} d l) s g = shape_behind (128 ∷ y) s d (g ∙ append_assoc id (128 ∷ []) y) (opens y refl l refl)
 
--- a body at the front goes on by a step
+-- a body at the start continues by a step, so there is no fault
 no_body_shape : {k n at : ℕ} {q b : List ℕ} {r : Refusal} (rest : List ℕ) → Shape k at q r → Body k n b → q ≡ b ++ rest → ⊥
 no_body_shape rest s (ends at) e = shape_marks rest s e
 no_body_shape rest s (more {body = b} (definite {id = id} at d contents l) t) e =
@@ -124,7 +124,7 @@ no_body_shape rest s (more {body = b} (indefinite {id = id} {body = inner} at d 
     let deep = body_level u in
     shape_behind (128 ∷ (inner ++ (b ++ rest))) s d (e ∙ simp append_assoc) (opens (inner ++ (b ++ rest)) refl (omega (arith, deep.1)) refl)
 
--- behind one identifier one fault
+-- after one identifier there is at most one fault
 same_wrong : {k at : ℕ} {id q : List ℕ} {t : Tag} {c : Bool} {r s : Refusal} → Wrong k at id t c q r → Wrong k at id t c q s → r ≡ s
 same_wrong (is_primitive rest a b f) (is_primitive others c d g) = f ∙ sym g
 same_wrong (is_primitive rest a b f) (is_deep others c z d g) = cc
@@ -174,7 +174,7 @@ same_shape {k = k} {at = at} {r = d} (behind_it c t id x i a w) (behind_it p u j
     let r = identifier_front i j x y (sym a ∙ b) in
     same_wrong (subst (λ l. Wrong k at jd u p l d) r.3 (subst (λ l. Wrong k at jd u l x d) r.2 (subst (λ l. Wrong k at jd l c x d) r.1 (subst (λ l. Wrong k at l t c x d) r.0 w)))) v
 
--- octets have one fault at most
+-- octets have at most one fault
 pub one_body_fault : {at : ℕ} {s : List ℕ} {r q : Refusal} → BodyFault at s r → BodyFault at s q → r ≡ q
 one_body_fault {at} {s} {r} {q} f g =
     ⊎_elim same (λ o. ⊎_elim
@@ -190,7 +190,7 @@ one_body_fault {at} {s} {r} {q} f g =
         let z = same_steps (subst (λ j. Path j f.level f.passed) n (path_open f.reached)) (path_open g.reached) f.left g.left join in
         same_shape (subst (λ l. Shape l (at + length g.passed) g.left r) z.0 (subst (λ l. Shape f.level (at + length l) g.left r) z.1 (subst (λ l. Shape f.level (at + length f.passed) l r) z.2 (shape f.stops)))) (shape g.stops)
 
--- the fault of a body is told once, and never where a body stands
+-- octets have at most one fault of a body, and none if they begin with a body
 pub body_fault_laws : IsBodyFault BodyFault
 body_fault_laws =
     record {
@@ -199,7 +199,7 @@ body_fault_laws =
           (let in_it = past_open f.left rest f.reached b (sym f.split) in no_body_shape in_it.rest (shape f.stops) in_it.is in_it.split);
     }
 
--- the grammar of bodies, as a scan answers them
+-- the grammar of bodies, as a scan reads them
 pub body_grammar : IsGrammar BodyAhead (λ rules. BodyFault)
 body_grammar =
     record {

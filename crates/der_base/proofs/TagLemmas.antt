@@ -1,4 +1,4 @@
--- Tags and their octets: what an octet says, and that no tag begins another.
+-- Tags and their octets: the content of an octet, and that no tag is a proper prefix of another.
 use Rattle.std.proofs.Common.{◌≡◌, ◌≢◌, ℕ, ◌+◌, ◌*◌, ◌/◌, ◌%◌, ◌^◌, ◌<◌, ◌≤◌, Bool, true, false, nat_eq, nat_lt, Option, Some, None, if◌then◌else◌, List, [], ◌∷◌, ◌++◌, refl, sym, ap, ◌∙◌, subst, ⊎_elim, arith, length}
 use Rattle.std.proofs.lemmas.Bool.{cases_lt, cases_eq, lt-ltb, le-ltb, ne_eqb, eq-eqb, eqb-true, eqb-false}
 use Rattle.std.proofs.lemmas.Int.Digits.{all_below_base_digits_of, length-digits_of-le}
@@ -9,25 +9,25 @@ use Rattle.der_base.specs.declared.tag.Tag.{Tag}
 use Rattle.der_base.specs.declared.tag.Tag.TheVariants.{Boolean, Integer, BitString, OctetString, Null, ObjectIdentifier, Real, Enumerated, Utf8String, RelativeOid, Sequence, Set, NumericString, PrintableString, TeletexString, VideotexString, Ia5String, UtcTime, GeneralizedTime, VisibleString, GeneralString, BmpString, Application, ContextSpecific, Private}
 use Rattle.der_base.proofs.DigitLemmas.{digits_positive, number_front, continued_octets, length_continued}
 
--- the number that the constructed bit adds to a first octet
+-- the value of the constructed bit in a first octet
 abbrev pub constructed_bit : Bool → ℕ
 constructed_bit constructed = if constructed then 32 else 0
 
--- the octets that a label is spelled by
+-- the octets that encode a label
 abbrev pub label_octets : Label → List ℕ
 label_octets l =
     if nat_lt l.number 31 then leading_octet l l.number ∷ []
     else leading_octet l 31 ∷ continuation_octets (digits 128 l.number)
 
--- a number below 31 stands in the first octet
+-- a number below 31 is in the first octet
 pub label_small : (l : Label) → l.number < 31 → label_octets l ≡ leading_octet l l.number ∷ []
 label_small l h = rw (lt-ltb l.number 31 h)
 
--- a number from 31 on stands behind the first octet
+-- a number from 31 on follows the first octet
 pub label_large : (l : Label) → 31 ≤ l.number → label_octets l ≡ leading_octet l 31 ∷ continuation_octets (digits 128 l.number)
 label_large l h = rw (le-ltb l.number 31 h)
 
--- the class, the bit and the five low bits that an octet has
+-- an octet determines the class, the constructed bit and the five low bits
 pub octet_parts : (l m : Label) (i j : ℕ) → i < 32 → j < 32 → leading_octet l i ≡ leading_octet m j → (l.class ≡ m.class) × (l.constructed ≡ m.constructed) × (i ≡ j)
 octet_parts l m i j = go l.constructed m.constructed l.class m.class i j
   where
@@ -37,11 +37,11 @@ octet_parts l m i j = go l.constructed m.constructed l.class m.class i j
     go true false k l m n p q e = absurd (omega arith)
     go false true k l m n p q e = absurd (omega arith)
 
--- labels of equal parts are equal
+-- labels with equal fields are equal
 pub same_parts : (l m : Label) → l.class ≡ m.class → l.constructed ≡ m.constructed → l.number ≡ m.number → l ≡ m
 same_parts l m a b c = ap (λ k. label_of k l.constructed l.number) a ∙ ap (λ k. label_of m.class k l.number) b ∙ ap (label_of m.class m.constructed) c
 
--- no label's octets begin another's
+-- no encoded label is a proper prefix of another
 pub label_front : (l m : Label) (x y : List ℕ) → label_octets l ++ x ≡ label_octets m ++ y → (l ≡ m) × (x ≡ y)
 label_front l m x y e =
     ⊎_elim
@@ -61,7 +61,7 @@ label_front l m x y e =
     (cases_lt m.number 31))
     (cases_lt l.number 31)
 
--- the tag that a label is of
+-- the tag with this label, if there is one
 tag_of : Label → Option Tag
 tag_of l =
     if nat_eq l.class 0 then universal_tag (constructed_bit l.constructed + l.number)
@@ -97,11 +97,11 @@ tag_of_label (Application b n) = refl
 tag_of_label (ContextSpecific b n) = refl
 tag_of_label (Private b n) = refl
 
--- a label is of one tag at most
+-- a label belongs to at most one tag
 pub same_label : (t u : Tag) → label t ≡ label u → t ≡ u
 same_label t u e = let f : Some t ≡ Some u = sym (tag_of_label t) ∙ ap tag_of e ∙ tag_of_label u in cc
 
--- no tag begins another
+-- no encoded tag is a proper prefix of another
 pub tag_front : (t u : Tag) (x y : List ℕ) → tag_octets t ++ x ≡ tag_octets u ++ y → (t ≡ u) × (x ≡ y)
 tag_front t u x y e = let r = label_front (label t) (label u) x y e in (same_label t u r.0, r.1)
 
@@ -112,14 +112,14 @@ no_segments t x y e =
     let r = label_front (label t) (label_of 0 true 4) x y e in
     let f : Some t ≡ None = sym (tag_of_label t) ∙ ap tag_of r.0 in cc
 
--- the two bits of a class
+-- a class has two bits
 pub class_small : (t : Tag) → (label t).class < 4
 class_small (Application b n) = omega arith
 class_small (ContextSpecific b n) = omega arith
 class_small (Private b n) = omega arith
 class_small t = omega arith
 
--- what a row of the universal tags says
+-- the properties of a row of the universal tags
 UniversalRow : ℕ → Tag → Type 0
 UniversalRow o t = (tag_octets t ≡ o ∷ []) × ((label t).number < 2 ^ 32) × ((label t).constructed ≡ is_constructed o) × ((label t).class ≡ 0)
 
@@ -152,17 +152,17 @@ universal_row o t = row_among universal_rows o t rows
         and (refl, omega arith, refl, refl) and (refl, omega arith, refl, refl) and (refl, omega arith, refl, refl) and (refl, omega arith, refl, refl)
         and (refl, omega arith, refl, refl) and (refl, omega arith, refl, refl) and none
 
--- a universal tag is one octet, the one that it is looked up by
+-- a universal tag has one octet, by which it is found
 pub universal_octets : (o : ℕ) (t : Tag) → universal_tag o ≡ Some t → tag_octets t ≡ o ∷ []
 unfolding UniversalRow
 universal_octets o t e = (universal_row o t e).0
 
--- a universal tag's number has 32 bits
+-- the number of a universal tag has 32 bits
 pub universal_is_tag : (o : ℕ) (t : Tag) → universal_tag o ≡ Some t → (label t).number < 2 ^ 32
 unfolding UniversalRow
 universal_is_tag o t e = (universal_row o t e).1
 
--- a universal tag is constructed where its octet says so
+-- a universal tag is constructed exactly if its octet has the constructed bit
 pub universal_constructed : (o : ℕ) (t : Tag) → universal_tag o ≡ Some t → (label t).constructed ≡ is_constructed o
 unfolding UniversalRow
 universal_constructed o t e = (universal_row o t e).2
@@ -200,7 +200,7 @@ universal_found (Application b n) h = absurd (omega arith)
 universal_found (ContextSpecific b n) h = absurd (omega arith)
 universal_found (Private b n) h = absurd (omega arith)
 
--- what the first octet of another class says
+-- the content of the first octet of another class
 pub label_other : (o n : ℕ) → 64 ≤ o → o < 256 → label (other_tag o n) ≡ label_of (o / 64) (is_constructed o) n
 label_other o n low high =
     ⊎_elim
@@ -211,11 +211,11 @@ label_other o n low high =
     (cases_lt o 192))
     (cases_lt o 128)
 
--- a tag of another class is constructed where its first octet says so
+-- a tag of another class is constructed exactly if its first octet has the constructed bit
 pub other_constructed : (o n : ℕ) → 64 ≤ o → o < 256 → (label (other_tag o n)).constructed ≡ is_constructed o
 other_constructed o n low high = ap (λ (l : Label). l.constructed) (label_other o n low high)
 
--- a tag of another class has the number that was given
+-- a tag of another class has the given number
 pub other_number : (o n : ℕ) → 64 ≤ o → o < 256 → (label (other_tag o n)).number ≡ n
 other_number o n low high = ap (λ (l : Label). l.number) (label_other o n low high)
 
@@ -223,7 +223,7 @@ bit_back : (o : ℕ) (b : Bool) → is_constructed o ≡ b → 64 * (o / 64) + c
 bit_back o true h = omega (arith, eqb-true (o / 32 % 2) 1 h)
 bit_back o false h = let ne = eqb-false (o / 32 % 2) 1 h in omega arith
 
--- an octet is made of its class, its bit and its five low bits
+-- an octet consists of its class, its constructed bit and its five low bits
 pub octet_back : (o n : ℕ) → leading_octet (label_of (o / 64) (is_constructed o) n) (o % 32) ≡ o
 octet_back o n = bit_back o (is_constructed o) refl
 
@@ -234,7 +234,7 @@ other_octet o low high small =
     ∙ label_small (label_of (o / 64) (is_constructed o) (o % 32)) small
     ∙ ap (λ x. x ∷ []) (octet_back o (o % 32))
 
--- an octet with its five low bits set, and a number behind it, are a tag of another class
+-- an octet whose five low bits are set, followed by a number, is a tag of another class
 pub other_octets : (o n : ℕ) → 64 ≤ o → o < 256 → o % 32 ≡ 31 → 31 ≤ n → tag_octets (other_tag o n) ≡ o ∷ continuation_octets (digits 128 n)
 other_octets o n low high set large =
     ap label_octets (label_other o n low high)
@@ -245,7 +245,7 @@ bit_small : (b : Bool) → constructed_bit b < 33
 bit_small true = omega arith
 bit_small false = omega arith
 
--- a tag has octets; the first is not 0, and all are below 256
+-- a tag is not empty; its first octet is not 0, and all are below 256
 pub tag_begins : (t : Tag) → (o : ℕ) × (rest : List ℕ) × (tag_octets t ≡ o ∷ rest) × (o ≢ 0) × AllBelowBase 256 (tag_octets t)
 tag_begins t =
     ⊎_elim

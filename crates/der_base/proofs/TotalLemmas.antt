@@ -1,4 +1,4 @@
--- Octets begin with a body of an indefinite length, or have a fault of one.
+-- Octets begin with the body of an indefinite length, or have a fault of one.
 use Rattle.std.proofs.Common.{◌≡◌, ◌≢◌, ℕ, zero, suc, ◌+◌, ◌^◌, ◌<◌, ◌≤◌, ◌⊎◌, Bool, true, false, List, [], ◌∷◌, ◌++◌, length, take, drop, refl, sym, ap, ◌∙◌, subst, ⊎_elim, inl, inr, append_assoc, length-append, arith}
 use Rattle.std.proofs.lemmas.Bool.{cases_lt, cases_eq}
 use Rattle.std.proofs.lemmas.List.{take-append-drop, length-take-le}
@@ -17,19 +17,19 @@ use Rattle.der_base.proofs.BodyLemmas.{open_level}
 use Rattle.der_base.proofs.OpenLemmas.{Step, marks, counted, opened}
 use Rattle.der_base.proofs.GrowthLemmas.{open_item, open_deeper, open_ends, body_from_open}
 
--- with so many levels open octets go on by a step, or have a fault
+-- with `level` bodies open, octets continue by a step, or have a fault
 data PartFront (level at : ℕ) (octets : List ℕ) : Type 0 where
   steps : {next : ℕ} {part : List ℕ} (rest : List ℕ) → Step level next part → octets ≡ part ++ rest → PartFront level at octets
   stops : {r : Refusal} → ScanFault level at octets r → PartFront level at octets
 
--- a fault of an identifier is one of the scan, where the first octet is not 0
+-- a fault of an identifier is one of the scan, if the first octet is not 0
 identifier_stops : {level at o : ℕ} {rest s : List ℕ} {r : Refusal} → o ≢ 0 → s ≡ o ∷ rest → IdentifierFault Ber at s r → PartFront level at s
 identifier_stops ne e (cut [] h) = stops nothing
 identifier_stops ne e (cut (p ∷ s) h) = stops (cut_identifier p s h)
 identifier_stops ne e (refused [] p more h never) = stops (refused_identifier [] p more (λ z. ne (cc)) h never)
 identifier_stops ne e (refused (q ∷ s) p more h never) = stops (refused_identifier (q ∷ s) p more (λ z. ne (cc)) h never)
 
--- what stands behind an identifier
+-- what follows an identifier
 module _ (level at : ℕ) (few : level ≤ 64) {id : List ℕ} {t : Tag} where
   opening_front : (b : Bool) → IsIdentifier Ber id t b → (rest : List ℕ) → PartFront level at (id ++ 128 ∷ rest)
   opening_front false d rest = stops (primitive rest d)
@@ -84,25 +84,25 @@ part_front level at (o ∷ rest) some few =
     (item_front level at o rest few)
     (cases_eq o 0)
 
--- a step has an octet
+-- a step has at least one octet
 step_some : {k l : ℕ} {x : List ℕ} → Step k l x → 1 ≤ length x
 step_some marks = omega arith
 step_some (counted {id = id} d contents small) = omega (arith, identifier_some d, length-append id (length_octets (length contents) ++ contents))
 step_some (opened {id = id} d room) = omega (arith, identifier_some d, length-append id (128 ∷ []))
 
--- by a step the beginning of a body becomes the whole, or a longer beginning
+-- a step makes the beginning of a body into a whole one, or into a longer beginning
 grown : {k l m : ℕ} {p x : List ℕ} → Open k m p → Step k l x → Body 1 (m + 1) (p ++ x) ⊎ Open l (m + 1) (p ++ x)
 grown o (marks {k = zero}) = inl (body_from_open o)
 grown o (marks {k = suc k}) = inr (open_ends o)
 grown o (counted d contents small) = inr (open_item o (definite (open_level o) d contents small))
 grown o (opened d room) = inr (open_deeper o d room)
 
--- the beginning of a body goes on to the whole or to a fault
+-- the beginning of a body continues to the whole body or to a fault
 module _ (at : ℕ) (octets : List ℕ) where
   abbrev BodyOrFault : Type 0
   BodyOrFault = ((parts : ℕ) × PartsAhead parts octets) ⊎ ((r : Refusal) × BodyFault at octets r)
 
-  -- where fewer octets than so many are left
+  -- for fewer than `most` remaining octets
   abbrev GoesOn : ℕ → Type 0
   GoesOn most =
       (level parts : ℕ) (passed left : List ℕ) → Open level parts passed → octets ≡ passed ++ left → length left < most → BodyOrFault

@@ -1,5 +1,5 @@
--- Numbers of octets, added and taken away: `checked_length` and `checked_difference` are answers of
--- calls, `element_count` is the size of an element, and `sans_eoc` takes an end mark away.
+-- Sums and differences of lengths: `checked_length` and `checked_difference` are results of calls,
+-- `element_count` is the size of an element, and `sans_eoc` subtracts the end-of-contents octets.
 use Rattle.std.specs.Prelude.{ℕ, ◌+◌, ◌-◌, ◌^◌, length, min, nat_lt, Result, Ok, Err, if◌then◌else◌}
 use Rattle.der_base.specs.Length.{number, is_indefinite, definite_length, indefinite_length, length_octets}
 use Rattle.der_base.specs.Tag.{tag_octets}
@@ -9,17 +9,17 @@ use Rattle.der_base.specs.declared.tag.Tag.{Tag}
 use Rattle.der_base.specs.declared.error.Error.{Error}
 use Rattle.der_base.specs.declared.error.ErrorKind.TheVariants.{Overflow}
 
--- so many octets, where 32 bits can count them
+-- the definite length n, if it fits into 32 bits
 abbrev pub checked_length : ℕ → Result Length Error
 checked_length n = if nat_lt n (2 ^ 32) then Ok (definite_length n)
     else Err (error_of_kind Overflow)
 
--- what is left of m octets without n of them, where there are so many
+-- the difference m - n as a definite length, if it is not negative
 abbrev pub checked_difference : ℕ → ℕ → Result Length Error
 checked_difference m n = if nat_lt m n then Err (error_of_kind Overflow)
     else Ok (definite_length (m - n))
 
--- a sum or a difference of which the first may be an error already, which is then the answer
+-- a sum or a difference whose left operand may be an error, which is then the result
 abbrev pub result_sum : Result Length Error → Length → Result Length Error
 result_sum (Ok a) b = checked_length (number a + number b)
 result_sum (Err e) b = Err e
@@ -28,15 +28,16 @@ abbrev pub result_difference : Result Length Error → Length → Result Length 
 result_difference (Ok a) b = checked_difference (number a) (number b)
 result_difference (Err e) b = Err e
 
--- the most that 32 bits can count, where there is more
+-- the number, or the greatest number of 32 bits if it is larger
 abbrev pub saturated_number : ℕ → ℕ
 saturated_number n = min n (2 ^ 32 - 1)
 
--- the octets of an element with so many octets of contents: of its tag, of its length, and those
+-- the size of an element with n contents octets: its identifier octets, its length octets and its
+-- contents
 abbrev pub element_count : Tag → ℕ → ℕ
 element_count t n = length (tag_octets t) + length (length_octets n) + n
 
--- the octets of a body without the end mark that closes it, two zero octets (8.1.5); a definite
--- length has none
+-- the length of an indefinite-length body without its end-of-contents octets, two zero octets
+-- (8.1.5); a definite length is unchanged
 abbrev pub sans_eoc : Length → Length
 sans_eoc l = if is_indefinite l then indefinite_length (number l - 2) else l

@@ -1,5 +1,5 @@
--- Comparisons: `length_order` and `tag_order`, which is not that of their octets, and `tag_writes`,
--- which a hasher gets.
+-- Derived comparisons: `length_order` and `tag_order`, which differs from the order of the encoded
+-- tags, and `tag_writes`, the hasher input for a tag.
 use Rattle.std.specs.Prelude.{ℕ, pos, [], ◌++◌}
 use Rattle.std.specs.Hash as fed
 use Rattle.std.specs.Hash.{HashWrites}
@@ -15,12 +15,12 @@ use Rattle.der_base.specs.declared.tag.mode.TagMode.TheVariants.{Explicit, Impli
 use Rattle.der_base.specs.declared.encoding_rules.EncodingRules.{EncodingRules}
 use Rattle.der_base.specs.declared.encoding_rules.EncodingRules.TheVariants.{Ber, Der}
 
--- by the number, then by the flag, the unflagged first
+-- by the number, then by the flag, the definite length first
 abbrev pub length_order : Length → Length → Ordering
 length_order a b = ordering_then (nat_cmp (number a) (number b))
     (bool_cmp (is_indefinite a) (is_indefinite b))
 
--- the place of a variant among the others
+-- the index of a variant in the declaration
 abbrev pub variant_index : Tag → ℕ
 variant_index tag.Boolean = 0
 variant_index tag.Integer = 1
@@ -55,18 +55,18 @@ tag_order a b =
     (ordering_then (bool_cmp (label a).constructed (label b).constructed)
     (nat_cmp (label a).number (label b).number))
 
--- the fields of a variant, as a hasher gets them
+-- the hasher input for the fields of a variant
 abbrev pub field_writes : Tag → HashWrites
 field_writes (tag.Application b n) = fed.bool b ++ fed.u32 n.0
 field_writes (tag.ContextSpecific b n) = fed.bool b ++ fed.u32 n.0
 field_writes (tag.Private b n) = fed.bool b ++ fed.u32 n.0
 field_writes other = []
 
--- what a hasher gets of a tag: the place of the variant as 64 bits, then its fields
+-- the hasher input for a tag: the index of the variant as 64 bits, then its fields
 abbrev pub tag_writes : Tag → HashWrites
 tag_writes t = fed.isize (pos (variant_index t)) ++ field_writes t
 
--- the places of the modes and of the rules
+-- the indices of the modes and of the rules
 abbrev pub mode_index : TagMode → ℕ
 mode_index Explicit = 0
 mode_index Implicit = 1

@@ -1,6 +1,6 @@
--- Errors are a kind, and a position or none: `error_of_kind`, `error_at` and others make them.
--- A `Refusal` is an error, and how it leaves a reader: `refusal`, `missing_refusal` and
--- `end_refusal` make one.
+-- An error is a kind and an optional position: `error_of_kind`, `error_at` and others construct
+-- one. A `Refusal` is an error together with the state in which it leaves a reader: `refusal`,
+-- `missing_refusal` and `end_refusal` construct one.
 use Rattle.std.specs.Prelude.{ℕ, ◌+◌, ◌-◌, ◌^◌, ◌==◌, nat_lt, Bool, true, Option, Some, None, if◌then◌else◌}
 use Rattle.der_base.specs.Length.{number, definite_length}
 use Rattle.der_base.specs.declared.length.Length.{Length}
@@ -9,7 +9,7 @@ use Rattle.der_base.specs.declared.error.Error.{Error}
 use Rattle.der_base.specs.declared.error.ErrorKind.{ErrorKind}
 use Rattle.der_base.specs.declared.error.ErrorKind.TheVariants.{Incomplete, Overflow, TagUnexpected}
 
--- what an error holds
+-- the fields of an error
 abbrev pub kind_of : Error → ErrorKind
 kind_of e = e.kind
 
@@ -23,7 +23,8 @@ error_of_kind k = record { kind = k; position = None }
 abbrev pub error_at : ErrorKind → Length → Error
 error_at k p = record { kind = k; position = Some p }
 
--- the input ends after so many octets, and one more is wanted, which 32 bits may not count
+-- the input ends after this many octets and one more is required; an overflow if that number
+-- exceeds 32 bits
 abbrev pub error_at_end : Length → Error
 error_at_end l =
     error_at (if number l == 2 ^ 32 - 1 then Overflow
@@ -33,19 +34,19 @@ error_at_end l =
 abbrev pub unexpected_tag : Tag → Tag → Error
 unexpected_tag expected actual = error_of_kind (TagUnexpected (Some expected) actual)
 
--- what a grammar refuses octets by: the error, where it leaves a reader, and whether that has
--- failed then
+-- the failure of a grammar on some octets: the error, the position where it leaves a reader, and
+-- whether that reader is then failed
 pub record Refusal : Type 0 where
   pub error : Error
   pub position : ℕ
   pub fails : Bool
 
--- of a kind, at a position
+-- an error of this kind at this position
 abbrev pub refusal : ErrorKind → ℕ → Refusal
 refusal k p = record { error = error_at k (definite_length p); position = p; fails = true }
 
--- an input of so many octets would have to have more; where no length can count those, that is an
--- overflow without a position, and no reader fails by it
+-- the input would need `expected` octets but has only `actual`; if a length cannot represent
+-- `expected`, this is an overflow without a position, which does not mark the reader failed
 abbrev pub missing_refusal : ℕ → ℕ → ℕ → Refusal
 missing_refusal expected actual p =
     record {
@@ -58,6 +59,6 @@ missing_refusal expected actual p =
       fails = nat_lt expected (2 ^ 32);
     }
 
--- the input ends at this position, and one octet more is wanted
+-- the input ends at this position and one more octet is required
 abbrev pub end_refusal : ℕ → Refusal
 end_refusal end = missing_refusal (end + 1) end end

@@ -1,6 +1,6 @@
--- Tags, lengths and headers at the front of octets, and where octets begin with none (X.690 8.1.2,
--- 8.1.3, 10.1): `IdentifierAhead`, `TagAhead`, `LengthAhead` and `HeadAhead`, whose value comes
--- first, `LengthFault` and `HeaderFault`. `Head` is what a header says.
+-- Tags, lengths and headers at the start of octets, and why octets do not begin with one (X.690
+-- 8.1.2, 8.1.3, 10.1): `IdentifierAhead`, `TagAhead`, `LengthAhead` and `HeadAhead`, whose first
+-- argument is the value, `LengthFault` and `HeaderFault`. `Head` is the content of a header.
 use Rattle.std.specs.Prelude.{◌≡◌, ◌≢◌, ℕ, ◌+◌, ◌^◌, ◌<◌, ◌≤◌, Bool, true, false, List, [], ◌∷◌, ◌++◌, length}
 use Rattle.der_base.specs.FixedOctets.{indefinite_octet, long_form}
 use Rattle.der_base.specs.Length.{is_indefinite, definite_length, indefinite_length, digits, length_octets}
@@ -14,7 +14,7 @@ use Rattle.der_base.specs.declared.error.ErrorKind.TheVariants.{IndefiniteLength
 use Rattle.der_base.specs.declared.encoding_rules.EncodingRules.{EncodingRules}
 use Rattle.der_base.specs.declared.encoding_rules.EncodingRules.TheVariants.{Ber, Der}
 
--- the octets of a tag, and behind them those of a number of octets
+-- the identifier octets of a tag, followed by the length octets of n
 abbrev pub header_octets : Tag → ℕ → List ℕ
 header_octets t n = tag_octets t ++ length_octets n
 
@@ -27,15 +27,15 @@ pub data IdentifierAhead (x : Tag × Bool) (rules : EncodingRules) : List ℕ �
 abbrev pub TagAhead : Tag → EncodingRules → List ℕ → ℕ → Type 0
 TagAhead t rules octets m = (b : Bool) × IdentifierAhead (t, b) rules octets m
 
--- the first m octets of a list are a length: a definite one, or under BER octet `0x80`, which a
--- body follows, whose octets it counts (8.1.3.6)
+-- the first m octets of a list are a length: a definite one, or under BER octet `0x80` followed by
+-- a body, whose octets it counts (8.1.3.6)
 pub data LengthAhead : Length → EncodingRules → List ℕ → ℕ → Type 0 where
   definite : {rules : EncodingRules} (n : ℕ) (rest : List ℕ) → n < 2 ^ 32
       → LengthAhead (definite_length n) rules (length_octets n ++ rest) (length (length_octets n))
   indefinite : {parts : ℕ} {body : List ℕ} (rest : List ℕ) → Body 1 parts body
       → LengthAhead (indefinite_length (length body)) Ber (indefinite_octet ∷ (body ++ rest)) 1
 
--- what a header says: a tag, a length, and the constructed bit of the identifier
+-- the content of a header: a tag, a length, and the constructed bit of the identifier
 pub record Head : Type 0 where
   pub tag : Tag
   pub length : Length
@@ -45,16 +45,17 @@ abbrev pub head : Tag → Length → Bool → Head
 head t l b = record { tag = t; length = l; constructed = b }
 
 -- the first m octets of a list are a header: an identifier and a length, which is indefinite only
--- where the identifier is constructed (8.1.3.2)
+-- if the identifier is constructed (8.1.3.2)
 pub data HeadAhead (h : Head) (rules : EncodingRules) : List ℕ → ℕ → Type 0 where
   header : {id more : List ℕ} {m : ℕ} → IsIdentifier rules id h.tag h.constructed
       → LengthAhead h.length rules more m
       → (is_indefinite h.length ≡ true → h.constructed ≡ true)
       → HeadAhead h rules (id ++ more) (length id + m)
 
--- octets at a position begin with no length; a spelling that is not the shortest, or has more than
--- four octets behind the first, is refused as the wrong kind, the first only after it was read; the
--- fault of a body is found by looking ahead, and the reader stays behind octet `0x80`
+-- why octets at a position do not begin with a length; an encoding that is not the shortest, or has
+-- more than four octets after the first, has kind `wrong` (the first of these only after all its
+-- octets were read); the fault of a body is found by scanning ahead, and the reader stays after
+-- octet `0x80`
 pub data LengthFault (BodyFault : ℕ → List ℕ → Refusal → Type 0) (wrong : ErrorKind)
     (rules : EncodingRules) (at : ℕ) : List ℕ → Refusal → Type 0 where
   nothing : LengthFault BodyFault wrong rules at [] (end_refusal at)
@@ -73,8 +74,8 @@ pub data LengthFault (BodyFault : ℕ → List ℕ → Refusal → Type 0) (wron
       → LengthFault BodyFault wrong rules at (indefinite_octet ∷ rest)
       (record r { position = at + 1; fails = false })
 
--- octets at a position begin with no header: with no identifier; with one and no length behind it;
--- or with a primitive one and an indefinite length, which is refused behind its octet
+-- why octets at a position do not begin with a header: no identifier; an identifier and no length
+-- after it; or a primitive identifier and an indefinite length, whose error is after octet `0x80`
 pub data HeaderFault (BodyFault : ℕ → List ℕ → Refusal → Type 0) (rules : EncodingRules) (at : ℕ)
     : List ℕ → Refusal → Type 0 where
   no_identifier : {s : List ℕ} {r : Refusal} → IdentifierFault rules at s r

@@ -1,5 +1,5 @@
--- Laws of the octets of tags, lengths, headers and bodies. The crate proves each of them;
--- `IsGrammar` and `IsBodyFault` are several of one grammar.
+-- Laws of the octets of tags, lengths, headers and bodies, each proved by this crate. `IsGrammar`
+-- and `IsBodyFault` each bundle several laws of one grammar.
 use Rattle.std.specs.Prelude.{◌≡◌, ℕ, zero, suc, ◌*◌, ◌≤◌, ◌⊎◌, Bool, List, [], ◌∷◌, ◌++◌, length, replicate}
 use Rattle.der_base.specs.FixedOctets.{indefinite_octet, end_of_contents}
 use Rattle.der_base.specs.Length.{length_octets}
@@ -12,43 +12,43 @@ use Rattle.der_base.specs.declared.tag.Tag.{Tag}
 use Rattle.der_base.specs.declared.error.ErrorKind.TheVariants.{NestingDepth}
 use Rattle.der_base.specs.declared.encoding_rules.EncodingRules.{EncodingRules}
 
--- class, constructed bit and number say which tag it is (X.690 8.1.2.2)
+-- class, constructed bit and number determine the tag (X.690 8.1.2.2)
 abbrev pub OneTagOfALabel : Type 0
 OneTagOfALabel = (t u : Tag) → label t ≡ label u → t ≡ u
 
--- no tag's octets begin another's (X.690 8.1.2)
+-- no encoded tag is a proper prefix of another (X.690 8.1.2)
 abbrev pub NoTagBeginsAnother : Type 0
 NoTagBeginsAnother =
     (t u : Tag) (x y : List ℕ) → tag_octets t ++ x ≡ tag_octets u ++ y → (t ≡ u) × (x ≡ y)
 
--- no identifier begins another, and each says one tag and one constructed bit, octet `0x24` under
--- BER too (X.690 8.1.2, 8.7.1)
+-- no identifier is a proper prefix of another, and each has one tag and one constructed bit; octet
+-- `0x24` under BER included (X.690 8.1.2, 8.7.1)
 abbrev pub NoIdentifierBeginsAnother : Type 0
 NoIdentifierBeginsAnother =
     (rules : EncodingRules) (a b : List ℕ) (t u : Tag) (p q : Bool) (x y : List ℕ)
     → IsIdentifier rules a t p → IsIdentifier rules b u q → a ++ x ≡ b ++ y
     → (a ≡ b) × (t ≡ u) × (p ≡ q) × (x ≡ y)
 
--- no definite length's octets begin another's (X.690 8.1.3)
+-- no encoded definite length is a proper prefix of another (X.690 8.1.3)
 abbrev pub NoLengthBeginsAnother : Type 0
 NoLengthBeginsAnother =
     (m n : ℕ) (x y : List ℕ) → length_octets m ++ x ≡ length_octets n ++ y → (m ≡ n) × (x ≡ y)
 
--- no header of a definite length begins another (X.690 8.1.2, 8.1.3)
+-- no header with a definite length is a proper prefix of another (X.690 8.1.2, 8.1.3)
 abbrev pub NoHeaderBeginsAnother : Type 0
 NoHeaderBeginsAnother =
     (t u : Tag) (m n : ℕ) (x y : List ℕ) → header_octets t m ++ x ≡ header_octets u n ++ y
     → (t ≡ u) × (m ≡ n) × (x ≡ y)
 
--- no body of an indefinite length begins another, and each has one number of identifiers and end
--- marks (X.690 8.1.3.6, 8.1.5)
+-- no indefinite-length body is a proper prefix of another, and each has one number of identifiers
+-- and end-of-contents (X.690 8.1.3.6, 8.1.5)
 abbrev pub NoBodyBeginsAnother : Type 0
 NoBodyBeginsAnother =
     (a b x y : List ℕ) (m n : ℕ) → Body 1 m a → Body 1 n b → a ++ x ≡ b ++ y
     → (a ≡ b) × (m ≡ n) × (x ≡ y)
 
--- octets begin with one value of a grammar at most, and with none where they have a fault; and they
--- have one fault at most
+-- octets begin with at most one value of a grammar, and with none if they have a fault; and they
+-- have at most one fault
 pub record IsGrammar {A : Type 0} (Ahead : A → EncodingRules → List ℕ → ℕ → Type 0)
     (Fault : EncodingRules → ℕ → List ℕ → Refusal → Type 0) : Type 0 where
   pub one : (rules : EncodingRules) (octets : List ℕ) (v w : A) (m n : ℕ)
@@ -58,22 +58,22 @@ pub record IsGrammar {A : Type 0} (Ahead : A → EncodingRules → List ℕ → 
   pub never_both : (rules : EncodingRules) (at : ℕ) (octets : List ℕ) (v : A) (m : ℕ) (r : Refusal)
       → Ahead v rules octets m → Fault rules at octets r → ⊥
 
--- what the laws of lengths and headers ask of the fault of a body: there is one at most, and none
--- where a body stands
+-- what the laws of lengths and headers require of the fault of a body: octets have at most one, and
+-- none if they begin with a body
 pub record IsBodyFault (BodyFault : ℕ → List ℕ → Refusal → Type 0) : Type 0 where
   pub one_fault : (at : ℕ) (octets : List ℕ) (r q : Refusal)
       → BodyFault at octets r → BodyFault at octets q → r ≡ q
   pub never_both : (at parts : ℕ) (body rest : List ℕ) (r : Refusal)
       → Body 1 parts body → BodyFault at (body ++ rest) r → ⊥
 
--- all lists of numbers, octets or not, begin with a body or have a fault of one (X.690 8.1.3.6,
+-- every list of numbers, octets or not, begins with a body or has a fault of one (X.690 8.1.3.6,
 -- 8.1.5)
 abbrev pub BodiesOrFaults : Type 0
 BodiesOrFaults =
     (at : ℕ) (octets : List ℕ)
     → ((parts : ℕ) × PartsAhead parts octets) ⊎ ((r : Refusal) × BodyFault at octets r)
 
--- bodies, their items and their beginnings stand at levels 1 to 64 alone
+-- bodies, their items and their beginnings exist only at levels 1 to 64
 abbrev pub NoBodyOutsideLevels : Type 0
 NoBodyOutsideLevels =
     (level parts : ℕ) (body : List ℕ) → Body level parts body
@@ -98,20 +98,22 @@ NothingOpenOutsideLevels =
 abbrev pub BodiesAtEachLevel : Type 0
 BodiesAtEachLevel = (level : ℕ) → 1 ≤ level → level ≤ 64 → Body level 1 end_of_contents
 
--- a body has an end mark at least, and each of its parts has two octets at least
+-- a body has at least its end-of-contents, and each identifier or end-of-contents counted in
+-- `parts` accounts for at least two octets
 abbrev pub PartsHaveTwoOctets : Type 0
 PartsHaveTwoOctets =
     (level parts : ℕ) (body : List ℕ) → Body level parts body
     → (1 ≤ parts) × (2 * parts ≤ length body)
 
--- so many openings of a SEQUENCE in the indefinite form, and what stands behind them
+-- n nested openings of a SEQUENCE in the indefinite form, followed by `behind`
 abbrev pub nested_openings : ℕ → List ℕ → List ℕ
 nested_openings zero behind = behind
 nested_openings (suc n) behind = 48 ∷ indefinite_octet ∷ nested_openings n behind
 
--- identifiers and end marks counted by hand: 4 of an OCTET STRING with one segment, whose two zero
--- octets are no end mark; 128 of NULL within 63 openings, the most that can be nested; and no body
--- where there is one opening more, which is refused behind its octet `0x80`
+-- identifiers and end-of-contents counted by hand: 4 for an OCTET STRING with one segment, whose
+-- two zero contents octets are no end-of-contents; 128 for NULL within 63 openings, the deepest
+-- nesting allowed; and with one opening more there is no body, and the error is after the last
+-- octet `0x80`
 abbrev pub ExamplesOfParts : Type 0
 ExamplesOfParts =
     Body 1 4 (36 ∷ 128 ∷ 4 ∷ 2 ∷ 0 ∷ 0 ∷ 0 ∷ 0 ∷ 0 ∷ 0 ∷ [])

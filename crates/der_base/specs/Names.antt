@@ -1,4 +1,4 @@
--- Names that are read, letter by letter: `mode_of_name` and `rules_of_name`.
+-- Parsing of names, compared octet by octet: `mode_of_name` and `rules_of_name`.
 use Rattle.std.specs.Prelude.{ℕ, ◌||◌, Bool, List, codes, Result, Ok, Err, if◌then◌else◌}
 use Rattle.std.specs.Str.{bytes_eq}
 use Rattle.der_base.specs.Error.{error_of_kind}
@@ -9,7 +9,7 @@ use Rattle.der_base.specs.declared.tag.mode.TagMode.TheVariants.{Explicit, Impli
 use Rattle.der_base.specs.declared.encoding_rules.EncodingRules.{EncodingRules}
 use Rattle.der_base.specs.declared.encoding_rules.EncodingRules.TheVariants.{Ber, Der}
 
--- a text is one of two names
+-- whether a text is one of two names
 abbrev pub is_either : List ℕ → List ℕ → List ℕ → Bool
 is_either text name other = bytes_eq text name || bytes_eq text other
 

@@ -1,4 +1,4 @@
--- Laws of the order of octets. The crate proves each of them.
+-- Laws of the order of octets, each proved by this crate.
 use Rattle.std.specs.Prelude.{◌≡◌, ◌↔◌, ℕ, false, List, ◌++◌}
 use Rattle.std.specs.Cmp.{IsTotalOrder}
 use Rattle.std.specs.Ordering.{nat_cmp, ordering_then}
@@ -11,33 +11,33 @@ use Rattle.der_base.specs.Tag.{tag_octets, tag_number}
 use Rattle.der_base.specs.declared.tag.Tag.{Tag}
 use Rattle.der_base.specs.declared.tag.Tag.TheVariants.{ContextSpecific}
 
--- a total order, in which a list is less where it comes before the other, and equal to itself alone
+-- a total order in which a list is less if it comes before the other, and equal only to itself
 -- (X.690 11.6)
 pub record IsByteOrder (order : List ℕ → List ℕ → Ordering) : Type 0 where
   pub total : IsTotalOrder order
   pub less : (a b : List ℕ) → order a b ≡ Less ↔ IsBefore a b
   pub same : (a b : List ℕ) → order a b ≡ Equal ↔ (a ≡ b)
 
--- where neither of two lists begins the other, they decide before what follows them; so the padding
--- of X.690 11.6 never does
+-- if neither of two lists is a prefix of the other, they decide before what follows them; so the
+-- padding of X.690 11.6 never affects the comparison
 abbrev pub FrontsDecide : Type 0
 FrontsDecide =
     (a b x y : List ℕ) → AreApart a b
     → byte_order (a ++ x) (b ++ y) ≡ ordering_then (byte_order a b) (byte_order x y)
 
--- lengths in byte order stand as their numbers do (X.690 8.1.3)
+-- the byte order of encoded lengths is the order of their numbers (X.690 8.1.3)
 abbrev pub LengthsStandAsNumbers : Type 0
 LengthsStandAsNumbers =
     (m n : ℕ) → byte_order (length_octets m) (length_octets n) ≡ nat_cmp m n
 
--- headers stand by their tags, and then by their numbers
+-- the byte order of headers is that of their tags, then that of their lengths
 abbrev pub HeadersStandByTags : Type 0
 HeadersStandByTags =
     (t u : Tag) (m n : ℕ) → byte_order (header_octets t m) (header_octets u n)
     ≡ ordering_then (byte_order (tag_octets t) (tag_octets u)) (nat_cmp m n)
 
--- tags in byte order do not stand as their numbers do: 16383, `9F FF 7F`, stands after 16384,
--- `9F 81 80 00`
+-- the byte order of encoded tags is not the order of their numbers: 16383, `9F FF 7F`, comes after
+-- 16384, `9F 81 80 00`
 abbrev pub TagsDoNotStandAsNumbers : Type 0
 TagsDoNotStandAsNumbers =
     byte_order (tag_octets (ContextSpecific false (tag_number 16383)))

@@ -1,5 +1,5 @@
--- What a scan finds (X.690 8.1.3.6, 8.1.5): a body of an indefinite length (`BodyAhead`,
--- `PartsAhead`), or why there is none (`BodyFault`, which is one of the nine of `ScanFault`).
+-- Results of a scan (X.690 8.1.3.6, 8.1.5): the body of an indefinite length (`BodyAhead`,
+-- `PartsAhead`), or why there is none (`BodyFault`, by one of the nine cases of `ScanFault`).
 use Rattle.std.specs.Prelude.{◌≡◌, ◌≢◌, ℕ, ◌+◌, ◌-◌, ◌*◌, ◌/◌, ◌^◌, ◌<◌, min, Bool, true, false, List, [], ◌∷◌, ◌++◌, length}
 use Rattle.der_base.specs.FixedOctets.{indefinite_octet}
 use Rattle.der_base.specs.Length.{indefinite_length, length_octets}
@@ -13,11 +13,11 @@ use Rattle.der_base.specs.declared.error.ErrorKind.TheVariants.{IndefiniteLength
 use Rattle.der_base.specs.declared.encoding_rules.EncodingRules.{EncodingRules}
 use Rattle.der_base.specs.declared.encoding_rules.EncodingRules.TheVariants.{Ber}
 
--- octets begin with a body of so many identifiers and end marks
+-- octets begin with a body that contains `parts` identifiers and end-of-contents
 abbrev pub PartsAhead : ℕ → List ℕ → Type 0
 PartsAhead parts octets = (body behind : List ℕ) × Body 1 parts body × (octets ≡ body ++ behind)
 
--- the first m octets of a list are a body, which a length counts in the indefinite form
+-- the first m octets of a list are a body, and the indefinite length l counts them
 pub record BodyAhead (l : Length) (rules : EncodingRules) (octets : List ℕ) (m : ℕ) : Type 0 where
   pub parts : ℕ
   pub body : List ℕ
@@ -27,25 +27,25 @@ pub record BodyAhead (l : Length) (rules : EncodingRules) (octets : List ℕ) (m
   pub sized : m ≡ length body
   pub counts : l ≡ indefinite_length m
 
--- a scan reads lengths by itself, and looks for no body behind octet `0x80`
+-- no fault of a body: a scan reads lengths itself and does not search for a body after octet `0x80`
 abbrev pub NoBodyFault : ℕ → List ℕ → Refusal → Type 0
 NoBodyFault at octets r = ⊥
 
--- the octets that whole steps of sixteen take of those that are left
+-- the octets in the whole steps of sixteen that fit into the `left` octets
 abbrev pub passed_steps : ℕ → ℕ
 passed_steps left = 16 * (left / 16)
 
--- n octets are wanted at a position, and fewer are left: whole steps of sixteen are passed, and
--- then a step is wanted, or what is left of the n octets
+-- n octets are required at a position and fewer are left: whole steps of sixteen are consumed, and
+-- the error is that of the next step, or of the rest of the n octets if that is shorter
 abbrev pub short_refusal : ℕ → ℕ → ℕ → Refusal
 short_refusal n left at =
     missing_refusal (at + passed_steps left + min 16 (n - passed_steps left)) (at + left)
     (at + passed_steps left)
 
--- a scan stands at a position with so many levels open, and cannot go on: nothing follows; half an
--- end mark does; a zero octet and another; an identifier that is refused, or one that is cut; a
--- primitive identifier and octet `0x80`; a constructed one and `0x80`, with all levels open; an
--- identifier and no length; or a length of more octets than are left
+-- a scan at a position with `level` bodies open cannot continue: nothing follows; half an
+-- end-of-contents; a zero octet and a nonzero one; an octet with which no identifier continues; a
+-- truncated identifier; a primitive identifier and octet `0x80`; a constructed one and `0x80`, with
+-- all levels open; an identifier and no length; or a length of more octets than are left
 pub data ScanFault (level at : ℕ) : List ℕ → Refusal → Type 0 where
   nothing : ScanFault level at [] (end_refusal at)
   half_mark : ScanFault level at (0 ∷ []) (end_refusal (at + 1))
@@ -71,8 +71,8 @@ pub data ScanFault (level at : ℕ) : List ℕ → Refusal → Type 0 where
       → ScanFault level at (id ++ (length_octets n ++ rest))
       (short_refusal n (length rest) (at + length id + length (length_octets n)))
 
--- octets at a position begin with no body, and why: the beginning of one was passed, cut between
--- items, and what is left behind it cannot go on
+-- octets at a position do not begin with a body: a beginning of a body, cut between items, was
+-- consumed, and the octets after it cannot continue it
 pub record BodyFault (at : ℕ) (octets : List ℕ) (r : Refusal) : Type 0 where
   pub level : ℕ
   pub parts : ℕ

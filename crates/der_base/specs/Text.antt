@@ -41,7 +41,7 @@ abbrev pub rules_text : EncodingRules → List ℕ
 rules_text rules.Ber = codes "BER"
 rules_text rules.Der = codes "DER"
 
--- the form of the contents of a tag that is not universal
+-- the form of the contents, for a tag that is not universal
 abbrev pub form_text : Bool → List ℕ
 form_text true = codes "constructed"
 form_text false = codes "primitive"
@@ -76,7 +76,7 @@ tag_text (tag.ContextSpecific b n) =
 tag_text (tag.Private b n) =
     codes "PRIVATE [" ++ decimal n.0 ++ codes "] (" ++ form_text b ++ codes ")"
 
--- in lower case hexadecimal, at least two digits
+-- in lower-case hexadecimal, with at least two digits
 abbrev pub hexadecimal : ℕ → List ℕ
 hexadecimal n = replicate (2 - length (digits 16 false n)) 48 ++ digits 16 false n
 
@@ -84,7 +84,7 @@ abbrev pub tag_debug : Tag → List ℕ
 tag_debug t =
     codes "Tag(0x" ++ (hexadecimal (label t).number ++ (codes ": " ++ (tag_text t ++ codes ")")))
 
--- the text of kind Utf8 is not said
+-- the text of kind `Utf8` is not specified
 abbrev pub kind_text : ErrorKind → Option (List ℕ)
 kind_text kind.DateTime = Some (codes "date/time error")
 kind_text kind.EncodingRules = Some (codes "invalid encoding rules")

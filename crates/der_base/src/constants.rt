@@ -1,5 +1,5 @@
-//! What constants and defaults are. Each function answers one of them, and its contract says which;
-//! nothing else uses these.
+//! States the values of constants and defaults. Each function returns one of them and its contract
+//! states the value; nothing else uses these functions.
 ghost use Rattle.std.specs.Prelude.{◌≡◌};
 ghost use Rattle.der_base.specs.Length.{definite_length};
 ghost use Rattle.der_base.specs.declared.encoding_rules.EncodingRules.TheVariants.{Der};
@@ -11,7 +11,7 @@ use crate::tag::{
     CLASS_APPLICATION, CLASS_CONTEXT_SPECIFIC, CLASS_PRIVATE, CLASS_UNIVERSAL, TagMode,
 };
 
-/// No octets.
+/// Zero octets.
 fn zero() -> Length
     ensures { result ≡ definite_length 0 }
 {
@@ -60,7 +60,7 @@ fn class_private() -> u8
     CLASS_PRIVATE
 }
 
-/// A length of no octets, unflagged.
+/// The definite length 0.
 fn default_length() -> Length
     ensures { result ≡ definite_length 0 }
 {

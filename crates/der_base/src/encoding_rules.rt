@@ -1,4 +1,4 @@
-//! The encoding rules that octets are read by.
+//! The encoding rules.
 ghost use Rattle.std.specs.Prelude.{◌≡◌, ◌↔◌, IsTrue, Some};
 ghost use Rattle.der_base.specs.declared.encoding_rules.EncodingRules.TheVariants.{Ber, Der};
 
@@ -6,11 +6,11 @@ use crate::error::{Error, ErrorKind, Result};
 use std::fmt;
 use std::str::FromStr;
 
-/// Which encoding rules a reader keeps to.
+/// The encoding rules of a reader.
 #[derive(Clone, Copy, Debug, Default, PartialEq, Eq, PartialOrd, Ord)]
 pub enum EncodingRules {
-    /// The Basic Encoding Rules, as far as this library takes them: lengths in the fewest octets,
-    /// the indefinite form, and OCTET STRINGs in segments.
+    /// The Basic Encoding Rules, as far as this library supports them: lengths in the fewest
+    /// octets, the indefinite form, and OCTET STRINGs in segments.
     Ber,
     /// The Distinguished Encoding Rules.
     #[default]
@@ -33,11 +33,11 @@ impl EncodingRules {
     }
 }
 
-/// Reads `ber`, `BER`, `der` and `DER`.
+/// Parses `ber`, `BER`, `der` and `DER`.
 ///
 /// # Errors
 ///
-/// - `EncodingRules` without a position, of any other text.
+/// - `EncodingRules` without a position, for any other text.
 impl FromStr for EncodingRules {
     type Err = Error;
 
@@ -54,7 +54,7 @@ impl FromStr for EncodingRules {
     }
 }
 
-/// The rules' abbreviation, in capitals.
+/// The abbreviation of the rules, in capitals.
 impl fmt::Display for EncodingRules {
     ghost use Rattle.der_base.specs.Text.{rules_text};
 

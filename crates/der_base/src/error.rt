@@ -11,8 +11,8 @@ pub use std::str::Utf8Error;
 /// A result with this crate's error.
 pub type Result<T> = std::result::Result<T, Error>;
 
-/// Why reading or writing was refused, and at which position where one is known. Positions count
-/// octets from the beginning of the input or of the output.
+/// An error of reading or writing: its kind, and its position if one is known. Positions count
+/// octets from the start of the input or of the output.
 #[derive(Clone, Copy, Debug, PartialEq, Eq)]
 pub struct Error {
     kind: ErrorKind,
@@ -32,8 +32,9 @@ impl Error {
         }
     }
 
-    /// The input ends after `actual_len` octets, and one more is wanted: kind `Incomplete`, or
-    /// `Overflow` where the wanted length would pass 4294967295. The position is the input's end.
+    /// The error of an input that ends after `actual_len` octets where one more is required: kind
+    /// `Incomplete`, or `Overflow` if the required length would exceed 4294967295. The position is
+    /// the end of the input.
     pub fn incomplete(actual_len: Length) -> Self
         ensures { result ≡ error_at_end actual_len }
     {
@@ -54,7 +55,7 @@ impl Error {
         self.kind
     }
 
-    /// The position, where one is known.
+    /// The position, if one is known.
     pub const fn position(self) -> Option<Length>
         ensures { result ≡ position_of self }
     {
@@ -73,7 +74,7 @@ impl From<ErrorKind> for Error {
     }
 }
 
-/// A number that does not fit is kind `Overflow`, without a position.
+/// Converts a failed integer conversion to kind `Overflow`, without a position.
 impl From<TryFromIntError> for Error {
     ghost use Rattle.der_base.specs.Error.{error_of_kind};
 
@@ -84,7 +85,7 @@ impl From<TryFromIntError> for Error {
     }
 }
 
-/// A text that is not UTF-8 is kind `Utf8`, without a position.
+/// Converts a UTF-8 error to kind `Utf8`, without a position.
 impl From<Utf8Error> for Error {
     ghost use Rattle.der_base.specs.Error.{error_of_kind};
 
@@ -98,55 +99,55 @@ impl From<Utf8Error> for Error {
 /// The kinds of error.
 #[derive(Clone, Copy, Debug, PartialEq, Eq)]
 pub enum ErrorKind {
-    /// A value is no date or time.
+    /// A value is not a date or time.
     DateTime,
-    /// A text names no encoding rules.
+    /// A text is not the name of encoding rules.
     EncodingRules,
-    /// The reader or writer had failed before.
+    /// The reader or writer had already failed.
     Failed,
     /// The input ends too early.
     Incomplete {
-        /// How many octets the input would have to have.
+        /// The number of octets that the input would need.
         expected_len: Length,
-        /// How many octets it has.
+        /// The number of octets that the input has.
         actual_len: Length,
     },
-    /// An indefinite length where none may stand, or one that is not closed rightly.
+    /// An indefinite length where none is allowed, or one that is not closed correctly.
     IndefiniteLength,
-    /// The length of an element with this tag is not spelled as it has to be, or is not the number
-    /// of octets that its contents have.
+    /// The length of an element with this tag is not encoded as required, or is not the number of
+    /// its contents octets.
     Length {
         /// The element's tag.
         tag: Tag,
     },
     /// Elements are nested too deeply.
     NestingDepth,
-    /// A value is not spelled canonically.
+    /// A value is not encoded canonically.
     Noncanonical {
         /// The value's tag.
         tag: Tag,
     },
     /// An object identifier is malformed.
     OidMalformed,
-    /// A SET OF holds an element twice.
+    /// A SET OF contains an element twice.
     SetDuplicate,
-    /// A SET OF is not in order.
+    /// The elements of a SET OF are not in order.
     SetOrdering,
-    /// A number of octets passes 4294967295, or what memory can count.
+    /// A number of octets exceeds 4294967295 or the greatest `usize`.
     Overflow,
-    /// A message, or the spelling of a length, is too long, or longer than the room for it.
+    /// A message or an encoded length is too long, or longer than the space for it.
     Overlength,
-    /// The reader cannot do what is asked.
+    /// The reader does not support the requested operation.
     Reader,
-    /// A text names no tagging mode.
+    /// A text is not the name of a tagging mode.
     TagModeUnknown,
-    /// A tag number is not spelled as it has to be, or passes 32 bits.
+    /// A tag number is not encoded as required, or exceeds 32 bits.
     TagNumberInvalid,
     /// Another tag was expected.
     TagUnexpected {
-        /// The tag that was expected, where there was one.
+        /// The expected tag, if there is one.
         expected: Option<Tag>,
-        /// The tag that was met.
+        /// The tag that was read.
         actual: Tag,
     },
     /// No universal tag has this first octet.
@@ -156,9 +157,9 @@ pub enum ErrorKind {
     },
     /// Octets are left at the end.
     TrailingData {
-        /// How many octets were read.
+        /// The number of octets that were read.
         decoded: Length,
-        /// How many are left.
+        /// The number of octets that are left.
         remaining: Length,
     },
     /// A text is not UTF-8.
@@ -168,7 +169,7 @@ pub enum ErrorKind {
         /// The value's tag.
         tag: Tag,
     },
-    /// Memory was refused.
+    /// An allocation failed.
     OutOfMemory,
 }
 
@@ -193,7 +194,7 @@ impl ErrorKind {
     }
 }
 
-/// What went wrong, with lengths and tags as they print.
+/// The error message of the kind, with lengths and tags in their printed forms.
 impl fmt::Display for ErrorKind {
     ghost use Rattle.der_base.specs.Text.{kind_text};
 
@@ -243,7 +244,7 @@ impl fmt::Display for ErrorKind {
     }
 }
 
-/// The kind's text, and the position where there is one.
+/// The kind's message, and the position if there is one.
 impl fmt::Display for Error {
     ghost use Rattle.der_base.specs.Text.{error_text};
 

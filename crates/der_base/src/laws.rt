@@ -1,6 +1,6 @@
-//! The laws of the octets of tags, lengths, headers and bodies. Each function does nothing; its
-//! contract is a law, whose statement is a word of `specs/Laws.antt` or
-//! `specs/OrderLaws.antt`. Nothing else uses these.
+//! Laws of the octets of tags, lengths, headers and indefinite-length bodies. Each function does
+//! nothing; its contract is the law, which `specs/Laws.antt` or `specs/OrderLaws.antt` states.
+//! Nothing else uses these functions.
 ghost use Rattle.der_base.specs.ScanGrammar.{BodyAhead, BodyFault};
 ghost use Rattle.der_base.specs.HeaderGrammar.{IdentifierAhead, TagAhead, LengthAhead, LengthFault, HeadAhead, HeaderFault};
 ghost use Rattle.der_base.specs.Order.{byte_order};

@@ -8,9 +8,9 @@ mod element;
 use crate::error::{ErrorKind, Result};
 use std::fmt;
 
-/// A number of octets, to 4294967295, and whether it was read in the indefinite form
-/// (X.690 8.1.3.6). Two lengths are equal where number and flag are; they are ordered by the
-/// number and then by the flag, the unflagged first.
+/// A number of octets, up to 4294967295, and a flag: whether it was read in the indefinite form
+/// (X.690 8.1.3.6). Two lengths are equal if both number and flag are equal. They are ordered by
+/// the number and then by the flag, the definite length first.
 #[derive(Clone, Copy, Default, PartialEq, Eq, PartialOrd, Ord, Hash)]
 pub struct Length {
     inner: u32,
@@ -21,7 +21,7 @@ impl Length {
     ghost use Rattle.der_base.specs.Length.{number, is_indefinite, definite_length, indefinite_length};
     ghost use Rattle.der_base.specs.Arithmetic.{checked_length, sans_eoc};
 
-    /// No octets.
+    /// Zero octets.
     pub const ZERO: Self = Length {
         inner: 0,
         indefinite: false,
@@ -39,7 +39,7 @@ impl Length {
         indefinite: false,
     };
 
-    /// A length of so many octets, unflagged.
+    /// A definite length of `value` octets.
     pub const fn new(value: u32) -> Self
         ensures { result ≡ definite_length value }
     {
@@ -49,7 +49,7 @@ impl Length {
         }
     }
 
-    /// A length of so many octets that was read in the indefinite form.
+    /// A length of `value` octets that was read in the indefinite form.
     pub const fn new_indefinite(value: u32) -> Self
         ensures { result ≡ indefinite_length value }
     {
@@ -59,11 +59,11 @@ impl Length {
         }
     }
 
-    /// A length of so many octets, unflagged.
+    /// A definite length of `value` octets.
     ///
     /// # Errors
     ///
-    /// - `Overflow` without a position, where the number is above 4294967295.
+    /// - `Overflow` without a position, if the number exceeds 4294967295.
     pub const fn new_usize(value: usize) -> Result<Self>
         ensures { result ≡ checked_length value }
     {
@@ -73,7 +73,7 @@ impl Length {
         Ok(Length::new(value as u32))
     }
 
-    /// Whether these are no octets, whatever the flag.
+    /// Whether the number of octets is zero, whatever the flag.
     pub const fn is_zero(self) -> bool
         ensures { IsTrue result ↔ (number self ≡ 0) }
     {
@@ -87,9 +87,9 @@ impl Length {
         self.indefinite
     }
 
-    /// The octets of an indefinite length without the end mark that it counts, two zero octets
-    /// (X.690 8.1.5), flagged as before; of fewer than two none. A definite length has no end mark
-    /// and is answered as it is.
+    /// The length without its end-of-contents octets: an indefinite length counts them, two zero
+    /// octets (X.690 8.1.5), so the result is smaller by 2, or 0 if the length is less than 2, and
+    /// stays flagged as indefinite. A definite length is returned unchanged.
     pub const fn sans_eoc(self) -> Self
         ensures { result ≡ sans_eoc self }
     {
@@ -112,7 +112,7 @@ impl fmt::Display for Length {
     }
 }
 
-/// `Length(5)`, or `Length([indefinite])` where the flag is set.
+/// `Length(5)`, or `Length([indefinite])` if the flag is set.
 impl fmt::Debug for Length {
     ghost use Rattle.der_base.specs.Text.{length_debug};
 

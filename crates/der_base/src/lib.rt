@@ -1,7 +1,7 @@
-//! The values of the Distinguished Encoding Rules' lowest layer, after the crate `der`: lengths,
-//! tags, classes, encoding rules and errors, with their printed texts. Nothing here takes memory.
+//! The basic values of the Distinguished Encoding Rules, after the crate `der`: lengths, tags,
+//! classes, encoding rules and errors, with their printed texts. Nothing here allocates.
 //!
-//! The definitions of the standard, ITU-T X.690, stand in `specs/`, apart from any code.
+//! The definitions of the standard, ITU-T X.690, are in `specs/`, separate from the code.
 #![tactic(auto)]
 
 mod comparisons;

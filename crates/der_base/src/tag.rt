@@ -12,9 +12,9 @@ pub use mode::TagMode;
 pub use number::TagNumber;
 use std::fmt;
 
-/// The tag of an element: a class, whether its contents are constructed, and a number
-/// (X.690 8.1.2). The derived order is that of the variants, then of the constructed bit, then of
-/// the number; it is not the order of the octets.
+/// The tag of an element: a class, whether the contents are constructed, and a number (X.690
+/// 8.1.2). The derived order compares the variants, then the constructed bits, then the numbers; it
+/// differs from the order of the identifier octets.
 #[derive(Clone, Copy, PartialEq, Eq, PartialOrd, Ord, Hash)]
 pub enum Tag {
     /// `BOOLEAN`, 1.
@@ -68,7 +68,7 @@ pub enum Tag {
         /// The number.
         number: TagNumber,
     },
-    /// A tag whose meaning the context gives.
+    /// A tag whose meaning depends on the context.
     ContextSpecific {
         /// Whether the contents are constructed.
         constructed: bool,
@@ -114,8 +114,8 @@ impl Tag {
         }
     }
 
-    // The number of a universal tag. It stands apart from the numbers that tags hold, so that all its
-    // answers are constants, which a table holds: one match for all tags would jump.
+    // The number of a universal tag. It is a separate function so that all its results are
+    // constants and compile to a table; one match over all tags would compile to a jump.
     #[inline(always)]
     const fn universal_number(self) -> u32
         requires { (label self).class ≡ 0 }
@@ -148,8 +148,8 @@ impl Tag {
         }
     }
 
-    /// Whether the contents are constructed: so they are of `Sequence` and `Set`, and of a tag
-    /// of another class where it says so.
+    /// Whether the contents are constructed: true for `Sequence` and `Set`, and for tags of other
+    /// classes as their field says.
     pub const fn is_constructed(self) -> bool
         ensures { result ≡ (label self).constructed }
     {
@@ -162,8 +162,8 @@ impl Tag {
         }
     }
 
-    /// How many octets the identifier takes (X.690 8.1.2), 1 to 6: one for numbers to 30, else one
-    /// more than the number has digits in base 128.
+    /// The number of identifier octets (X.690 8.1.2), 1 to 6: one for numbers up to 30, otherwise
+    /// one plus the number of base-128 digits of the tag number.
     pub const fn octet_count(self) -> u32
         ensures octets { result ≡ length (tag_octets self) }
         ensures most { result ≤ 6 }
@@ -212,11 +212,11 @@ impl Tag {
         matches!(self.class(), Class::Universal)
     }
 
-    /// This tag, where it is the expected one.
+    /// Returns this tag if it is the expected one.
     ///
     /// # Errors
     ///
-    /// - `TagUnexpected` with both tags, without a position, where it is another.
+    /// - `TagUnexpected` with both tags, without a position, if it is another tag.
     pub fn assert_eq(self, expected: Tag) -> Result<Tag>
         ensures expected_tag { self ≡ expected → result ≡ Ok self }
         ensures other_tag { self ≢ expected → result ≡ Err (unexpected_tag expected self) }
@@ -228,21 +228,21 @@ impl Tag {
         }
     }
 
-    /// Kind `Length` of this tag: the length of an element is not spelled as it has to be.
+    /// Kind `Length` of this tag: the length of an element is not encoded as required.
     pub const fn length_error(self) -> ErrorKind
         ensures { result ≡ ErrorKind.Length self }
     {
         ErrorKind::Length { tag: self }
     }
 
-    /// Kind `Noncanonical` of this tag: a value is not spelled canonically.
+    /// Kind `Noncanonical` of this tag: a value is not encoded canonically.
     pub const fn non_canonical_error(self) -> ErrorKind
         ensures { result ≡ ErrorKind.Noncanonical self }
     {
         ErrorKind::Noncanonical { tag: self }
     }
 
-    /// Kind `TagUnexpected`: this tag stands where another was expected, or where none can stand.
+    /// Kind `TagUnexpected`: this tag occurs where another was expected, or where none is allowed.
     pub const fn unexpected_error(self, expected: Option<Self>) -> ErrorKind
         ensures { result ≡ ErrorKind.TagUnexpected expected self }
     {
@@ -260,7 +260,7 @@ impl Tag {
     }
 }
 
-/// The name of a universal tag; class, number and constructed bit of another.
+/// The name of a universal tag; otherwise class, number and form (primitive or constructed).
 impl fmt::Display for Tag {
     ghost use Rattle.der_base.specs.Text.{tag_text};
 
@@ -317,7 +317,7 @@ fn form(constructed: bool) -> &'static str
     }
 }
 
-/// The number in hexadecimal and the printed name, as `Tag(0x10: SEQUENCE)`.
+/// The number in hexadecimal and the printed name, such as `Tag(0x10: SEQUENCE)`.
 impl fmt::Debug for Tag {
     ghost use Rattle.der_base.specs.Text.{tag_debug};
 

@@ -1,4 +1,4 @@
--- What the derived equality of headers answers.
+-- The derived equality of headers.
 use Rattle.std.proofs.Common.{◌≡◌, ◌↔◌, Bool, true, ◌&&◌, IsTrue, refl, sym, ap, ◌∙◌, subst, rules}
 use Rattle.std.specs.Cmp.{first_so, second_so}
 use Rattle.der_base.specs.contracts.tag.TagPartialEq.TheImpl as tag
@@ -49,6 +49,6 @@ same_header a b e =
     (subst (λ u. length.ghosts.eq a.length u ≡ true) (ap (λ (h : Head). h.length) e) (same_length a.length))
     (subst (λ u. bool.ghosts.eq a.constructed u ≡ true) (ap (λ (h : Head). h.constructed) e) (same_bit a.constructed))
 
--- two headers are told equal exactly where they say the same
+-- two headers compare equal exactly if their contents are equal
 pub headers_told : (a b : Header) (told : Bool) → told ≡ header.ghosts.eq a b → IsTrue told ↔ (head_of a ≡ head_of b)
 headers_told a b told e = (λ is. header_same a b (sym e ∙ is), λ same. e ∙ same_header a b same)

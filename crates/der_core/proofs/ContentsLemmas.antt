@@ -1,4 +1,4 @@
--- Contents, passed by a closure and closed.
+-- Contents that a closure consumed, and that were closed.
 use Rattle.std.proofs.Common.{◌≡◌, ℕ, zero, suc, ◌+◌, ◌-◌, ◌≤◌, Bool, true, false, Result, Ok, List, [], ◌∷◌, length, take, drop, refl, sym, ap, ◌∙◌, subst, take-take, length-take-le, arith}
 use Rattle.std.proofs.lemmas.List.{take-append-drop}
 use Rattle.der_base.specs.Length.{number, is_indefinite}
@@ -10,13 +10,13 @@ use Rattle.der_core.specs.Reader.{end_mark_outcome, read_eoc_outcome}
 use Rattle.der_core.specs.Nested.{CanNest, Closes, handed_on, left_over, whole, ClosesValue, part_refused, without_mark, with_mark, mark_refused, ValueAnswer, not_opened, opened}
 use Rattle.der_core.proofs.StateLemmas.{rest_after}
 
--- behind octets of what is left stands what is left behind them
+-- the remaining octets after n octets were consumed
 pub rest_advanced : (s : ReaderState) (n : ℕ) → n ≤ length (rest_of s) → rest_of (advanced_state s n) ≡ drop n (rest_of s)
 rest_advanced s n h =
     let long = length-take-le n (rest_of s) h in
     ap (λ k. rest_of (advanced_state s k)) (sym long) ∙ rest_after s (take n (rest_of s)) (drop n (rest_of s)) (sym (take-append-drop n (rest_of s)))
 
--- nested_state a part there are the next octets
+-- inside a nested part the remaining octets are the next n octets
 pub rest_inside : (s : ReaderState) (n : ℕ) → s.position + n ≤ s.end → rest_of (nested_state s n) ≡ take n (rest_of s)
 rest_inside s n h =
     let e : (s.position + n) - s.position ≡ n = omega arith in
@@ -31,11 +31,11 @@ same_state a b i r e p d f m =
     ∙ ap (λ x. record b { failed = x; marks = a.marks }) f
     ∙ ap (λ x. record b { marks = x }) m
 
--- a part that was read to its end is passed
+-- a nested part that was read to its end is consumed
 pub part_passed : (s q : ReaderState) (n : ℕ) → Same (nested_state s n) q → q.position ≡ q.end → q.failed ≡ s.failed → resumed_state q s.end s.depth ≡ advanced_state s n
 part_passed s q n same at_end failed = same_state (resumed_state q s.end s.depth) (advanced_state s n) same.input same.rules refl (at_end ∙ same.end) refl failed same.marks
 
--- the end mark, where it was read
+-- the end-of-contents octets, if they were read
 eoc_front_of : (s t : ReaderState) (q : List ℕ) → Gives (λ x. end_mark_outcome x q) s (Ok tt) t → (more : List ℕ) × (q ≡ 0 ∷ 0 ∷ more) × (t ≡ advanced_state s 2)
 eoc_front_of s t [] h = absurd (let a = h.answered in grind arith)
 eoc_front_of s t (zero ∷ []) h = absurd (let a = h.answered in grind arith)
@@ -59,7 +59,7 @@ end_mark_read s t h = go s.failed refl
         let r = eoc_front_of s t (rest_of s) (record { answered = h.answered ∙ ap (λ o. o.answer) table; leaves = h.leaves ∙ ap (λ o. o.after) table }) in
         record { working = f; behind = r.0; front = r.1; leaves = r.2 }
 
--- a closure that ran to the end of the contents, and the end mark behind them
+-- a closure that ran to the end of the contents, and the end-of-contents octets after them
 pub data Behind (marked : Bool) (s t : ReaderState) : Type 0 where
   unmarked : marked ≡ false → t ≡ s → Behind marked s t
   behind_mark : marked ≡ true → EndMarkRead s t → Behind marked s t

@@ -1,4 +1,4 @@
--- What is left behind a value, and what was promised of one that stands ahead.
+-- The remaining octets after a value, and the guarantees for a value that is next.
 use Rattle.std.proofs.Common.{◌≡◌, ℕ, ◌+◌, ◌≤◌, ◌^◌, ◌<◌, Bool, true, false, Result, Ok, Err, List, length, take, ◌-◌, refl, sym, ap, ◌∙◌, subst, inl, inr, arith}
 use Rattle.std.proofs.lemmas.List.{take_all}
 use Rattle.std.specs.Result.{is_ok}
@@ -26,7 +26,7 @@ remaining_err t e h = go t.failed refl h
     go true f h = (f, grind arith)
     go false f h = absurd (grind arith)
 
--- a reader that has only gone on is not failed
+-- an error means that the decoder allocates and that an allocation failed
 pub lacks_only : {E : Type 0} (A : Type 0) (oom : E → Bool) {takes : Bool} (s t : ReaderState) (m : ℕ) {e : E} → ReadsOrLacks {A = A} oom takes s m (Err e) t
     → (takes ≡ true) × (oom e ≡ true)
 lacks_only A oom s t m (inl h) = absurd (let no : false ≡ true = h.0 in cc)
@@ -38,35 +38,35 @@ read_on E oom s m v (inl h) = h.1
 read_on E oom s m v (inr h) = absurd h.1
 
 module _ {A : Type 0} {Ahead : A → EncodingRules → List ℕ → ℕ → Type 0} {Fault : EncodingRules → ℕ → List ℕ → Refusal → Type 0} where
-  -- a value that was read, and a refusal
+  -- a value that was read, and an error
   pub decoded_ok : {reliable : Bool} {s t : ReaderState} {v : A} → Same s t → Passes (Ahead v) s t → Decodes Ahead Fault reliable s (Ok v) t
   decoded_ok same read = record { same = same; ok = read; refused = λ _. tt }
 
   pub decoded_err : {reliable : Bool} {s t : ReaderState} {e : Error} → Same s t → (reliable ≡ true → IsRefusedBy Fault s e t) → Decodes Ahead Fault reliable s (Err e) t
   decoded_err same refused = record { same = same; ok = tt; refused = refused }
 
-  -- what a reliable reader owes
+  -- the outcome on a reliable reader
   pub decodes_reliably : {reliable : Bool} {s t : ReaderState} {answer : Result A Error} → reliable ≡ true → Decodes Ahead Fault reliable s answer t → Decodes Ahead Fault true s answer t
   decodes_reliably is h = record { same = h.same; ok = h.ok; refused = λ _. h.refused is }
 
-  -- what any reader owes that answered, a reliable one does
+  -- a binding result satisfies what a reliable reader guarantees
   pub decodes_bound : {s t : ReaderState} (reliable : Bool) (answer : Result A Error) → IsBinding reliable answer → Decodes Ahead Fault reliable s answer t → Decodes Ahead Fault true s answer t
   decodes_bound reliable (Ok v) owed h = record { same = h.same; ok = h.ok; refused = λ _. tt }
   decodes_bound reliable (Err e) owed h = decodes_reliably owed h
 
-  -- what stands ahead is not refused
+  -- a value that is next is not an error
   pub not_refused : IsGrammar Ahead Fault → {s t : ReaderState} {e : Error} {v : A} {m : ℕ} → IsRefusedBy Fault s e t → s.failed ≡ false → Ahead v s.rules (rest_of s) m → ⊥
   not_refused laws (has_failed f told leaves) working ahead = (let no : true ≡ false = sym f ∙ working in cc)
   not_refused laws {s} {v = v} {m = m} (at_fault r w fault told leaves) working ahead = laws.never_both s.rules s.position (rest_of s) v m r ahead fault
 
-  -- what stands ahead is read
+  -- a value that is next is read
   pub accepts : IsGrammar Ahead Fault → Accepts Ahead Fault
   accepts laws s t (Ok w) v m h working ahead =
       let one = laws.one s.rules (rest_of s) w v h.ok.octets m h.ok.ahead ahead in
       (ap Ok one.0, h.ok.leaves ∙ ap (advanced_state s) one.1)
   accepts laws s t (Err e) v m h working ahead = absurd (not_refused laws (h.refused refl) working ahead)
 
-  -- what stands ahead is read, as a decoder that may lack memory promises it
+  -- a value that is next is read, by a decoder that may fail to allocate
   pub reads : IsGrammar Ahead Fault → {reliable : Bool} {s t : ReaderState} {answer : Result A Error} (oom : Error → Bool) (takes : Bool) (v : A) (m : ℕ) → Decodes Ahead Fault reliable s answer t → reliable ≡ true → s.failed ≡ false
       → Ahead v s.rules (rest_of s) m → s.depth + grammar_levels s.rules ≤ 64 → ReadsOrLacks oom takes s m answer t
   reads laws {s = s} {t} {answer} oom takes v m h reliable working ahead enough =
@@ -76,7 +76,7 @@ module _ {A : Type 0} {Ahead : A → EncodingRules → List ℕ → ℕ → Type
 pub rest-beginning : (rules : EncodingRules) (octets : List ℕ) → rest_of (initial_state rules octets) ≡ octets
 rest-beginning rules octets = let e : length octets - 0 ≡ length octets = omega arith in ap (λ n. take n octets) e ∙ take_all (length octets) octets (omega arith)
 
--- what is promised of a reader at the beginning
+-- the guarantees for a reader at the start
 module _ {A E : Type 0} (rules : EncodingRules) (Ahead : A → EncodingRules → List ℕ → ℕ → Type 0) (levels : EncodingRules → ℕ) (oom : E → Bool) (takes : Bool) where
   pub promised : (octets : List ℕ) (s t : ReaderState) (v : A) (m : ℕ) (result : Result A E) → s ≡ initial_state rules octets → Ahead v rules octets m → levels rules ≤ 64
       → (s.failed ≡ false → Ahead v s.rules (rest_of s) m → s.depth + levels s.rules ≤ 64 → ReadsOrLacks oom takes s m result t) → ReadsOrLacks oom takes s m result t
@@ -89,7 +89,7 @@ module _ {A E : Type 0} (rules : EncodingRules) (Ahead : A → EncodingRules →
       let few : s.depth + levels s.rules ≤ 64 = omega (arith, depth, ap levels same_rules) in
       complete working there few
 
-  -- a value that was promised is not lost behind it
+  -- the remaining octets after a guaranteed value are available
   pub not_lost : (octets : List ℕ) (s t : ReaderState) (v w : A) (m : ℕ) (e : Error) → s ≡ initial_state rules octets → Ahead v rules octets m → levels rules ≤ 64
       → (s.failed ≡ false → Ahead v s.rules (rest_of s) m → s.depth + levels s.rules ≤ 64 → ReadsOrLacks oom takes s m (Ok w) t) → Err e ≡ remaining_answer t → ⊥
   not_lost octets s t v w m e begun ahead enough complete lost =

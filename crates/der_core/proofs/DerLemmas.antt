@@ -1,4 +1,4 @@
--- What stands ahead under DER: the octets that are written, and no others.
+-- Under DER the values that are next are those whose encoding is next.
 use Rattle.std.proofs.Common.{◌≡◌, ℕ, ◌+◌, ◌^◌, ◌<◌, Bool, List, [], ◌++◌, length, refl, sym, ap, subst, ◌∙◌, append_assoc, length-append}
 use Rattle.der_base.specs.Length.{number, definite_length, length_octets}
 use Rattle.der_base.specs.Tag.{label, tag_octets, IsIdentifier, of_tag, of_segments}
@@ -73,11 +73,11 @@ header_written t n behind numbered small =
     subst (λ m. HeadAhead (definite_head t n) Der (header_octets t n ++ behind) m) (sym (length-append (tag_octets t) (length_octets n)))
     (subst (λ x. HeadAhead (definite_head t n) Der x (length (tag_octets t) + length (length_octets n))) (sym (append_assoc (tag_octets t) (length_octets n) behind)) ahead)
 
--- a value ahead, at octets and a number that are told otherwise
+-- transport along equal octets and an equal number
 at_octets : {A : Type 0} (Ahead : A → EncodingRules → List ℕ → ℕ → Type 0) {v : A} {x y : List ℕ} {m n : ℕ} → x ≡ y → m ≡ n → Ahead v Der x m → Ahead v Der y n
 at_octets Ahead {v} {y = y} {m = m} e f h = subst (Ahead v Der y) f (subst (λ s. Ahead v Der s m) e h)
 
--- tags, lengths and headers ahead are the encodings of those with 32 bits
+-- tags, lengths and headers that are next are the encodings of those with 32 bits
 pub tags_are_encodings : ReadsEncodings TagAhead (λ t. (label t).number < 2 ^ 32) tag_octets
 tags_are_encodings = record { only = λ octets t m h. from octets t m (identifier_view h.1); every = λ octets t m short e. (_, at_octets (λ x. IdentifierAhead (x, (label x).constructed)) (sym e.split) (sym e.whole) (identifier e.behind (of_tag e.is_valid))) }
   where
@@ -123,6 +123,6 @@ headers_are_encodings = record { only = from; every = λ octets h m short e. at_
         subst (λ x. HeadAhead x Der (header_octets (head_of h).tag (number (head_of h).length) ++ e.behind) (length (header_octets (head_of h).tag (number (head_of h).length)))) (sym e.is_valid.says)
         (header_written (head_of h).tag (number (head_of h).length) e.behind e.is_valid.numbered e.is_valid.small)
 
--- no octets are the encoding of nothing
+-- the empty list is the encoding of `PhantomData`
 pub nothing_is_encoding : {A : Type 0} → ReadsEncodings (λ (_ : A) _ _ m. m ≡ 0) (λ _. Unit {0}) (λ _. [])
 nothing_is_encoding = record { only = λ octets v m e. record { is_valid = tt; behind = octets; split = refl; whole = e }; every = λ octets v m short e. e.whole }

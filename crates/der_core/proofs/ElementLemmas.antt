@@ -1,4 +1,4 @@
--- Elements, read by their contents.
+-- Reading elements by reading their contents.
 use Rattle.std.proofs.Common.{◌≡◌, ℕ, ◌+◌, ◌≤◌, ◌<◌, ◌^◌, inl, inr, Bool, true, false, Result, Ok, Err, IfOk, IsOk, IsErrAnd, List, [], ◌∷◌, ◌++◌, length, take, drop, refl, sym, ap, ◌∙◌, subst, length-take-le, length-append, length-drop, arith}
 use Rattle.std.proofs.lemmas.Bool.{lt-ltb, le-ltb}
 use Rattle.std.proofs.lemmas.List.{take-append-drop, take_at, drop_at}
@@ -22,15 +22,15 @@ use Rattle.der_core.specs.Nested.{CanNest, Closes, handed_on, left_over, whole, 
 use Rattle.der_core.proofs.StateLemmas.{length-rest}
 use Rattle.der_core.proofs.ContentsLemmas.{rest_advanced, rest_inside, part_passed, Behind, unmarked, behind_mark, Ran, closes_ok, value_ran}
 
--- what is said of the contents of a header
+-- a property of the contents of a header
 pub at_contents : {x : Header} (h : Header) (F : Head → Type 0) → x ≡ header_sans_eoc h → F (head_of x) → F (head_sans_eoc (head_of h))
 at_contents h F e f = subst (λ x. F (head_of x)) e f
 
--- what a closure that reads contents tells, where it answers a value
+-- the guarantee of a closure that reads contents if it returns a value
 abbrev pub Tells : {A : Type 0} → (A → EncodingRules → Head → List ℕ → Type 0) → ReaderState → A → ReaderState → Head → Type 0
 Tells takes s v t h = StandsIn s (number h.length) → IsAtEnd t → takes v s.rules h (rest_of s)
 
--- what a closure that reads contents vows, where a value stands there
+-- the guarantee of a closure that reads contents if they are a value
 abbrev pub Vows : {A E : Type 0} → (A → EncodingRules → Head → List ℕ → Type 0) → (E → Bool) → Bool → (EncodingRules → ℕ) → ReaderState → Result A E → ReaderState → Head → Type 0
 Vows {A} takes oom allocates levels s a t h = (w : A) → ContentsAhead (takes w) h s → s.depth + levels s.rules ≤ 64 → EndsOrLacks oom allocates a t
 
@@ -38,14 +38,14 @@ pub reliable_owes : {T E : Type 0} (reliable : Bool) (r : Result T E) → reliab
 reliable_owes reliable (Ok v) h = tt
 reliable_owes reliable (Err e) h = h
 
--- what is made of the answer of a closure is made of what its type answers
+-- the outcome of a closure is that of the type whose outcomes it has
 pub value_told : {P Q T E : Type 0} {converts : Error → E → Type 0} {post : P → Result T E → Q → Type 0} {before : P → ReaderState} {after : Q → ReaderState} {answers : ReaderState → Result T E → ReaderState → Type 0} {l : Length}
     {s t : ReaderState} {result : Result T E} → ((p : P) (a : Result T E) (q : Q) → post p a q → answers (before p) a (after q)) → ValueAnswer converts post before after l s result t
     → ValueAnswer converts answers (λ p. p) (λ q. q) l s result t
 value_told tells (not_opened e f h c r) = not_opened e f h c r
 value_told {before = before} {after = after} tells (opened p answer q can there ran closes) = opened (before p) answer (after q) can there (tells p answer q ran) closes
 
--- the flag stays when the end mark is taken away
+-- subtracting the end-of-contents octets keeps the flag
 pub flag_stays : (l : Length) → is_indefinite (sans_eoc l) ≡ is_indefinite l
 flag_stays l = go (is_indefinite l) refl
   where
@@ -53,7 +53,7 @@ flag_stays l = go (is_indefinite l) refl
     go true f = rw f refl
     go false f = rw f refl
 
--- contents and an end mark stand behind a header that was passed
+-- contents and end-of-contents octets follow a header that was consumed
 record IsPlaced (s u t : ReaderState) (h : Header) (mark behind : List ℕ) : Type 0 where
   pub can : u.position + number (sans_eoc (head_of h).length) ≤ u.end
   pub split : rest_of (advanced_state u (number (sans_eoc (head_of h).length))) ≡ mark ++ behind
@@ -94,15 +94,15 @@ placed_element tag takes s u t h v mark behind sound passed tagged placed taken 
       leaves = placed.leaves ∙ ap (λ x. advanced_state (advanced_state x n) (length mark)) passed.leaves ∙ ap (λ p. record s { position = p }) sum;
     }
 
--- a reader that is not failed now was not when the closure ended
+-- a reader that has not failed now had not failed when the closure ended
 ended_fine : {marked : Bool} (t q : ReaderState) (end depth : ℕ) → Behind marked (resumed_state q end depth) t → t.failed ≡ false → q.failed ≡ false
 ended_fine t q end depth (unmarked f e) w = sym (ap (λ (x : ReaderState). x.failed) e) ∙ w
 ended_fine t q end depth (behind_mark f e) w = e.working
 
--- an element that was read stands ahead
+-- an element that was read was next
 module _ {P Q A E : Type 0} {post : P → Result A E → Q → Type 0} {before : P → ReaderState} {after : Q → ReaderState} (tag : Tag) (takes : A → EncodingRules → Head → List ℕ → Type 0)
     (s u t : ReaderState) (h : Header) where
-  -- the header is passed, and contents and mark stand behind it
+  -- the header is consumed, and contents and end-of-contents octets follow it
   element_of : (v : A) → IsSound u → Passes (HeaderAhead h) s u → (head_of h).tag ≡ tag
       → ((p : P) (a : Result A E) (q : Q) → post p a q → Same (before p) (after q))
       → ((p : P) (q : Q) → post p (Ok v) q → Tells takes (before p) v (after q) (head_sans_eoc (head_of h)))
@@ -162,7 +162,7 @@ module _ {P Q A E : Type 0} {post : P → Result A E → Q → Type 0} {before :
   element_ok reliable (Ok v) sound passed tagged same ok answers =
       λ working. let ran = value_ran (answers tt) in element_of v sound passed tagged same (λ p q. ok p v q) ran (ended_fine t (after ran.last) u.end u.depth ran.behind working)
 
--- the octets of an element are counted by its header
+-- the header determines the number of octets of an element
 element_size : {A : Type 0} {tag : Tag} {takes : A → EncodingRules → Head → List ℕ → Type 0} {rules : EncodingRules} {octets : List ℕ} {v w : A} {m k : ℕ} → ElementAhead tag takes v rules octets m
     → ElementAhead tag takes w rules octets k → m ≡ k
 element_size x y =
@@ -182,7 +182,7 @@ pub header_tagged : {A : Type 0} {tag : Tag} {takes : A → EncodingRules → He
     → ElementAhead tag takes v s.rules (rest_of s) m → h.tag ≡ tag
 header_tagged passed e = ap (λ (x : Head). x.tag) (one_header passed.ahead e.ahead).0 ∙ e.tagged
 
--- a part that is there, with a level left, is entered
+-- a nested part that is available, with a level left, is entered
 pub entered_part : (s : ReaderState) (n : ℕ) → IsSound s → CanNest s n → (enter_nested_outcome n s).answer ≡ Ok (s.end, s.depth)
 entered_part s n sound can =
     let small : s.position + n < 2 ^ 32 = omega (arith, can.0, sound.in_input, sound.addressable) in
@@ -197,7 +197,7 @@ no_eoc_fault s t e more f front h =
     let no : Err e ≡ Ok tt = h.answered ∙ ap (λ o. o.answer) table in
     absurd (cc)
 
--- an answer that ended or was refused memory, refused by what follows it
+-- a result that reached the end or reported a failed allocation, and an error of what follows it
 module _ {A E : Type 0} (oom : E → Bool) (allocates : Bool) where
   lacked : (answer : Result A E) (e : E) → answer ≡ Err e → (q : ReaderState) → EndsOrLacks oom allocates answer q → (allocates ≡ true) × (oom e ≡ true)
   lacked answer e is q (inl z) = absurd (let err : Result A E = Err e in let no : IsOk err = subst (λ a. IsOk a) is z.0 in let w : false ≡ true = no in cc)
@@ -212,7 +212,7 @@ module _ {A E : Type 0} (oom : E → Bool) (allocates : Bool) where
   closes_err {answer = answer} {q = q} (left_over w x a less c r l) z = (let at = (ended answer w a q z).at_end in absurd (omega arith))
   closes_err (whole w a at r l) z = absurd (cc)
 
--- an element that stands ahead is read
+-- an element that is next is read
 module _ {P Q A E : Type 0} {post : P → Result A E → Q → Type 0} {before : P → ReaderState} {after : Q → ReaderState} (tag : Tag) (takes : A → EncodingRules → Head → List ℕ → Type 0) (oom : E → Bool)
     (allocates : Bool) (levels : EncodingRules → ℕ) (s u t : ReaderState) (h : Header) where
   pub element_complete : (converts : Error → E → Type 0) (result : Result A E) (v : A) (m : ℕ) → IsSound u → Passes (HeaderAhead h) s u → (head_of h).tag ≡ tag

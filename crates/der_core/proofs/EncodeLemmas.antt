@@ -22,7 +22,7 @@ abbrev low_digits : ℕ → ℕ → List ℕ
 low_digits zero n = []
 low_digits (suc k) n = low_digits k (n / 256) ++ n % 256 ∷ []
 
--- a number with k digits has no others
+-- a number with k digits has no other digits
 digits_low : (k n : ℕ) → length (digits_of 256 n) ≡ k → digits_of 256 n ≡ low_digits k n
 digits_low zero n e = empty (digits_of 256 n) e
   where
@@ -35,7 +35,7 @@ digits_low (suc k) n e =
     let fewer : length (digits_of 256 (n / 256)) ≡ k = omega (arith, length-digits_of_step 256 n (omega arith) (omega arith), e) in
     step ∙ ap (λ l. l ++ n % 256 ∷ []) (digits_low k (n / 256) fewer)
 
--- the last octets of a number, as many as it has digits, are its digits
+-- the last k big-endian octets of a number with k digits are its digits
 pub last_octets : (k n : ℕ) → 1 ≤ k → k ≤ 4 → length (digits_of 256 n) ≡ k → drop (4 - k) (to_be_bytes w32 n) ≡ digits_of 256 n
 last_octets zero n pos few e = absurd (omega arith)
 last_octets (suc zero) n pos few e = sym (digits_low 1 n e)
@@ -51,30 +51,30 @@ last_octets (suc (suc (suc (suc zero)))) n pos few e =
     sym (digits_low 4 n e ∙ cc)
 last_octets (suc (suc (suc (suc (suc k))))) n pos few e = absurd (omega arith)
 
--- an octet, and then others in one write
+-- an octet, then others in one write
 pub others : (o : ℕ) (ds : List ℕ) → 1 ≤ length ds → first_and_others (o ∷ ds) ≡ (o ∷ []) ∷ ds ∷ []
 others o [] some = absurd (omega arith)
 others o (d ∷ ds) some = refl
 
--- a call that succeeded, with more behind what follows it
+-- a call that succeeded, with more after what follows it
 after_call : (a : Result (Unit {0}) Error) (v : WriterState) (next longer : WriterState → WriterOutcome) (t u : WriterState) (r : Result (Unit {0}) Error)
     → Writes (chained_write a v next) (Ok tt) t → ((w : WriterState) → Writes (next w) (Ok tt) t → Writes (longer w) r u) → Writes (chained_write a v longer) r u
 after_call (Ok x) v next longer t u r w more = more v w
 after_call (Err e) v next longer t u r w more = let wrong = w.answered in cc
 
--- a call that was refused, or what follows it
+-- a call that failed, or what follows it
 stopped_call : (a : Result (Unit {0}) Error) (v : WriterState) (next longer : WriterState → WriterOutcome) (t : WriterState) (e : Error)
     → Writes (chained_write a v next) (Err e) t → ((w : WriterState) → Writes (next w) (Err e) t → Writes (longer w) (Err e) t) → Writes (chained_write a v longer) (Err e) t
 stopped_call (Ok x) v next longer t e w more = more v w
 stopped_call (Err f) v next longer t e w more = record { answered = w.answered; leaves = w.leaves }
 
--- pieces, and where they were written others
+-- pieces, and others if the first were written
 pub pieces_then : (ps qs : List (List ℕ)) (s t u : WriterState) (r : Result (Unit {0}) Error) → Writes (write_pieces ps s) (Ok tt) t → Writes (write_pieces qs t) r u → Writes (write_pieces (ps ++ qs) s) r u
 pieces_then [] qs s t u r first next = subst (λ v. Writes (write_pieces qs v) r u) first.leaves next
 pieces_then (p ∷ ps) qs s t u r first next =
     after_call (write_outcome p s).answer (write_outcome p s).after (write_pieces ps) (write_pieces (ps ++ qs)) t u r first (λ v w. pieces_then ps qs v t u r w next)
 
--- pieces that were refused
+-- pieces that failed
 pub pieces_stop : (ps qs : List (List ℕ)) (s t : WriterState) (e : Error) → Writes (write_pieces ps s) (Err e) t → Writes (write_pieces (ps ++ qs) s) (Err e) t
 pieces_stop [] qs s t e first = let wrong = first.answered in cc
 pieces_stop (p ∷ ps) qs s t e first =
@@ -88,7 +88,7 @@ one_piece p s t r w = step (write_outcome p s).answer (write_outcome p s).after 
     step (Ok x) v e f = record { answered = e; leaves = f }
     step (Err x) v e f = record { answered = e; leaves = f }
 
--- one octet more
+-- one more octet
 pub singly_push : (xs : List ℕ) (x : ℕ) → single_octets (xs ++ x ∷ []) ≡ single_octets xs ++ (x ∷ []) ∷ []
 singly_push [] x = refl
 singly_push (y ∷ xs) x = ap (λ l. (y ∷ []) ∷ l) (singly_push xs x)
@@ -99,7 +99,7 @@ continued_push [] d = refl
 continued_push (e ∷ []) d = refl
 continued_push (e ∷ f ∷ ds) d = ap (λ l. (128 + e) ∷ l) (continued_push (f ∷ ds) d)
 
--- the last digit of a number apart
+-- splits off the last digit of a number
 pub high_push : (n : ℕ) → 0 < n → high_digits n ≡ high_digits (n / 128) ++ (128 + n % 128) ∷ []
 high_push n pos = ap (map (λ d. 128 + d)) (digits_of_step 128 n (omega arith) pos) ∙ map_push (digits_of 128 (n / 128)) (n % 128)
   where
@@ -107,13 +107,13 @@ high_push n pos = ap (map (λ d. 128 + d)) (digits_of_step 128 n (omega arith) p
     map_push [] d = refl
     map_push (e ∷ ds) d = ap (λ l. (128 + e) ∷ l) (map_push ds d)
 
--- the octets of a tag from number 31 on
+-- the octets of a tag with a number from 31 on
 pub tag_parts : (t : Tag) → 31 ≤ (label t).number → tag_octets t ≡ leading_octet (label t) 31 ∷ (high_digits ((label t).number / 128) ++ (label t).number % 128 ∷ [])
 tag_parts t large =
     let n : ℕ = (label t).number in
     label_large (label t) large ∙ ap (λ l. leading_octet (label t) 31 ∷ continuation_octets l) (digits_positive 128 n (omega arith) ∙ digits_of_step 128 n (omega arith) (omega arith)) ∙ ap (λ l. leading_octet (label t) 31 ∷ l) (continued_push (digits_of 128 (n / 128)) (n % 128))
 
--- a length that takes more octets than one
+-- a length that requires more than one octet
 pub length_parts : (k n : ℕ) → 1 ≤ k → k ≤ 4 → length (length_octets n) ≡ k + 1 → length_octets n ≡ (128 + k) ∷ drop (4 - k) (to_be_bytes w32 n)
 length_parts k n pos few e =
     ⊎_elim
@@ -124,7 +124,7 @@ length_parts k n pos few e =
     length_large n a ∙ ap (λ l. (128 + length l) ∷ l) same ∙ ap (λ m. (128 + m) ∷ digits_of 256 n) size ∙ ap (λ l. (128 + k) ∷ l) (sym (last_octets k n pos few size)))
     (cases_lt n 128)
 
--- a length that takes one octet
+-- a length that requires one octet
 pub one_octet : (x n : ℕ) → x ≡ n → length (length_octets n) ≡ 1 → length_octets n ≡ x ∷ []
 one_octet x n e one =
     ⊎_elim
@@ -161,7 +161,7 @@ length_outcome_of k n q s t u r pos few size same first next =
     subst (λ l. Writes (write_pieces l s) r u) (sym pieces)
     (pieces_then (((128 + k) ∷ []) ∷ []) (q ∷ []) s t u r (one_piece ((128 + k) ∷ []) s t (Ok tt) first) (one_piece q t u r next))
 
--- digits are one octet each
+-- each digit is one octet
 pub length_high_digits : (n : ℕ) → length (high_digits n) ≡ length (digits_of 128 n)
 length_high_digits n = count (digits_of 128 n)
   where
@@ -169,13 +169,13 @@ length_high_digits n = count (digits_of 128 n)
     count [] = refl
     count (d ∷ ds) = ap suc (count ds)
 
--- one octet more behind others, each written by itself
+-- one more octet after others, each in its own write
 pub singly_then : (xs : List ℕ) (x : ℕ) (s t u : WriterState) (r : Result (Unit {0}) Error) → Writes (write_pieces (single_octets xs) s) (Ok tt) t → Writes (write_outcome (x ∷ []) t) r u
     → Writes (write_pieces (single_octets (xs ++ x ∷ [])) s) r u
 singly_then xs x s t u r first next =
     subst (λ l. Writes (write_pieces l s) r u) (sym (singly_push xs x)) (pieces_then (single_octets xs) ((x ∷ []) ∷ []) s t u r first (one_piece (x ∷ []) t u r next))
 
--- or none, where the others were refused
+-- or none, if the others failed
 pub singly_stop : (xs : List ℕ) (x : ℕ) (s t : WriterState) (e : Error) → Writes (write_pieces (single_octets xs) s) (Err e) t → Writes (write_pieces (single_octets (xs ++ x ∷ [])) s) (Err e) t
 singly_stop xs x s t e first =
     subst (λ l. Writes (write_pieces l s) (Err e) t) (sym (singly_push xs x)) (pieces_stop (single_octets xs) ((x ∷ []) ∷ []) s t e first)
@@ -185,32 +185,33 @@ pub appended_twice : (xs ys : List ℕ) (s t u : WriterState) (r : Result (Unit 
 appended_twice xs ys s t u (Err e) first next = next
 appended_twice xs ys s t u (Ok x) first next = next ∙ ap (λ v. appended_state v ys) first ∙ appended_both s xs ys
 
--- room for more, once the first octets were appended
+-- space for more, after the first octets were appended
 pub room_then : (xs : List ℕ) (k : ℕ) (s t : WriterState) → t ≡ appended_state s xs → s.failed ≡ false → length s.octets + (length xs + k) ≤ s.stop → (t.failed ≡ false) × (length t.octets + k ≤ t.stop)
 room_then xs k s t first alive room =
     let size : length t.octets ≡ length s.octets + length xs = ap (λ (v : WriterState). length v.octets) first ∙ length-append s.octets xs in
     let stop : t.stop ≡ s.stop = ap (λ (v : WriterState). v.stop) first in
     (ap (λ (v : WriterState). v.failed) first ∙ alive, omega (arith, size, stop, room))
 
--- the octets of a tag with a long number, by its first octet and the number
+-- the octets of a tag with a long number, from its first octet and the number
 pub tag_spelled : (t : Tag) (x n : ℕ) → x ≡ leading_octet (label t) 31 → n ≡ (label t).number → 31 ≤ n → tag_octets t ≡ x ∷ (high_digits (n / 128) ++ n % 128 ∷ [])
 tag_spelled t x n e f large =
     tag_parts t (omega (arith, f, large)) ∙ ap (λ m. leading_octet (label t) 31 ∷ (high_digits (m / 128) ++ m % 128 ∷ [])) (sym f) ∙ ap (λ o. o ∷ (high_digits (n / 128) ++ n % 128 ∷ [])) (sym e)
 
--- where n octets are granted, the writer has not failed, and what it may have and can count suffices
+-- if there is space for n octets, the writer has not failed and neither its limit nor 32 bits are
+-- exceeded
 pub has_room : (n : ℕ) (s : WriterState) → HasRoom s n → (s.failed ≡ false) × (length s.octets + n ≤ s.stop) × (written_count s + n < 2 ^ 32)
 has_room n s a = (grind (rules, nat_tests), grind (arith, nat_tests), grind (arith, nat_tests))
 
--- n octets that there is room for are granted, whatever comes of them
+-- n octets for which there is space succeed, whatever the state after it
 in_room : (n : ℕ) (s g : WriterState) → s.failed ≡ false → length s.octets + n ≤ s.stop → written_count s + n < 2 ^ 32 → room_outcome n s g ≡ success_outcome g
 in_room n s g alive room few = rw (alive, lt-ltb (written_count s + n) (2 ^ 32) few, le-ltb s.stop (length s.octets + n) room)
 
--- a piece for which there is room, and what follows it
+-- a piece for which there is space, and what follows it
 piece_in_room : (p : List ℕ) (s : WriterState) (next : WriterState → WriterOutcome) → s.failed ≡ false → length s.octets + length p ≤ s.stop → written_count s + length p < 2 ^ 32
     → chained_write (write_outcome p s).answer (write_outcome p s).after next ≡ next (appended_state s p)
 piece_in_room p s next alive room few = ap (λ (o : WriterOutcome). chained_write o.answer o.after next) (in_room (length p) s (appended_state s p) alive room few)
 
--- octets that go out one by one where there is room for all
+-- octets that are written one by one if there is space for all
 singles_in_room : (l : List ℕ) (s : WriterState) → s.failed ≡ false → length s.octets + length l ≤ s.stop → written_count s + length l < 2 ^ 32 → write_pieces (single_octets l) s ≡ success_outcome (appended_state s l)
 singles_in_room [] s alive room few = ap success_outcome (sym (appended_none s))
 singles_in_room (o ∷ l) s alive room few =
@@ -218,7 +219,7 @@ singles_in_room (o ∷ l) s alive room few =
     piece_in_room (o ∷ []) s (write_pieces (single_octets l)) alive (omega (arith, room)) (omega (arith, few))
     ∙ singles_in_room l (appended_state s (o ∷ [])) alive (omega (arith, more, room)) (omega (arith, more, few)) ∙ ap success_outcome (appended_both s (o ∷ []) l)
 
--- octets of which the first goes out alone, where there is room for all
+-- octets of which the first is written alone if there is space for all
 others_in_room : (l : List ℕ) (s : WriterState) → s.failed ≡ false → length s.octets + length l ≤ s.stop → written_count s + length l < 2 ^ 32 → write_pieces (first_and_others l) s ≡ success_outcome (appended_state s l)
 others_in_room [] s alive room few = ap success_outcome (sym (appended_none s))
 others_in_room (o ∷ []) s alive room few = piece_in_room (o ∷ []) s success_outcome alive room few
@@ -227,7 +228,7 @@ others_in_room (o ∷ p ∷ l) s alive room few =
     piece_in_room (o ∷ []) s (write_pieces ((p ∷ l) ∷ [])) alive (omega (arith, room)) (omega (arith, few))
     ∙ piece_in_room (p ∷ l) (appended_state s (o ∷ [])) success_outcome alive (omega (arith, more, room)) (omega (arith, more, few)) ∙ ap success_outcome (appended_both s (o ∷ []) (p ∷ l))
 
--- a header for which there is room is written as by one write
+-- a header for which there is space is written as if by one write
 header_in_room : (t : Tag) (n : ℕ) (s : WriterState) → HasRoom s (length (header_octets t n)) → header_outcome t n s ≡ success_outcome (appended_state s (header_octets t n))
 header_in_room t n s has =
     let facts = has_room (length (header_octets t n)) s has in
@@ -236,7 +237,7 @@ header_in_room t n s has =
     ap (λ (o : WriterOutcome). chained_write o.answer o.after (length_outcome n)) (singles_in_room (tag_octets t) s facts.0 (omega (arith, facts.1, sum)) (omega (arith, facts.2, sum)))
     ∙ others_in_room (length_octets n) (appended_state s (tag_octets t)) facts.0 (omega (arith, facts.1, sum, more)) (omega (arith, facts.2, sum, more)) ∙ ap success_outcome (appended_both s (tag_octets t) (length_octets n))
 
--- one write of the octets of a header is what writing the header is, where there is room
+-- one write of the octets of a header equals writing the header, if there is space
 pub header_at_once : (t : Tag) (n : ℕ) (octets : List ℕ) (s u : WriterState) (r : Result (Unit {0}) Error) → octets ≡ header_octets t n → HasRoom s (length octets)
     → Writes (write_outcome octets s) r u → Writes (header_outcome t n s) r u
 header_at_once t n octets s u r same has wrote =
@@ -245,7 +246,7 @@ header_at_once t n octets s u r same has wrote =
     in_room (length octets) s (appended_state s octets) facts.0 facts.1 facts.2 ∙ ap (λ l. success_outcome (appended_state s l)) same ∙ sym (header_in_room t n s (subst (λ l. HasRoom s (length l)) same has)) in
     subst (λ (o : WriterOutcome). Writes o r u) outcome wrote
 
--- and whatever that write answers, it succeeds
+-- and whatever that write returns, writing the header succeeds
 pub header_written : (t : Tag) (n : ℕ) (octets : List ℕ) (s u : WriterState) (r : Result (Unit {0}) Error) → octets ≡ header_octets t n → HasRoom s (length octets)
     → Writes (write_outcome octets s) r u → Writes (header_outcome t n s) (Ok tt) u
 header_written t n octets s u r same has wrote =
@@ -253,7 +254,7 @@ header_written t n octets s u r same has wrote =
     let granted : write_outcome octets s ≡ success_outcome (appended_state s octets) = in_room (length octets) s (appended_state s octets) facts.0 facts.1 facts.2 in
     header_at_once t n octets s u (Ok tt) same has (record { answered = sym (ap (λ (o : WriterOutcome). o.answer) granted); leaves = wrote.leaves })
 
--- the octets of a header whose tag has one, and whose length takes one to three
+-- the octets of a header with a tag of one octet and a length of one to three
 pub header_of_two : (t : Tag) (n f x : ℕ) → (label t).number < 31 → f ≡ leading_octet (label t) (label t).number → length (length_octets n) ≡ 1 → x ≡ n % 256 → f ∷ x ∷ [] ≡ header_octets t n
 header_of_two t n f x small first one low =
     let octets : length_octets n ≡ n ∷ [] = one_octet n n refl one in

@@ -1,4 +1,4 @@
--- The end mark of an indefinite length, octet by octet.
+-- The end-of-contents octets of an indefinite length, octet by octet.
 use Rattle.std.proofs.Common.{◌≡◌, ◌≢◌, ℕ, zero, suc, ◌+◌, ◌==◌, Bool, true, false, List, [], ◌∷◌, Result, Ok, Err, refl, sym, ap, ◌∙◌, subst, arith}
 use Rattle.der_base.specs.Error.{refusal}
 use Rattle.der_base.specs.declared.error.Error.{Error}
@@ -12,7 +12,7 @@ use Rattle.der_core.proofs.StateLemmas.{by_front, rest_after, byte_working, byte
 not_zero : (o : ℕ) (s : ReaderState) → zero_octet_outcome (suc o) s ≡ kind_outcome (Unit {0}) IndefiniteLength s
 not_zero o s = (let no : (suc o == 0) ≡ false = grind arith in rw no refl)
 
--- an octet was read that is zero, or reading it is refused, or it is another
+-- an octet was read that is zero, or reading it failed, or it is nonzero
 pub data ZeroOctet (s : ReaderState) : Result (Unit {0}) Error → ReaderState → Type 0 where
   zero_read : {v : Unit {0}} {t : ReaderState} → s.failed ≡ false → Reads s t (0 ∷ []) → ZeroOctet s (Ok v) t
   zero_cut : {e : Error} {t : ReaderState} → ByteRefused s e t → ZeroOctet s (Err e) t
@@ -42,7 +42,7 @@ zero_octet {s} {t} r sound h = go (read_byte_outcome s).answer refl
         let cut : Gives read_byte_outcome s (Err e) t = record { answered = sym a; leaves = h.leaves ∙ ap (λ x. x.after) table } in
         subst (λ x. ZeroOctet s x t) (sym (h.answered ∙ ap (λ x. x.answer) table)) (zero_cut (byte_refused sound cut))
 
--- the two octets, one after the other
+-- the two octets in sequence
 abbrev both : ReaderState → Outcome (Unit {0})
 both s = chained_outcome (read_zero_octet_outcome s) (λ _ t. read_zero_octet_outcome t)
 
@@ -64,7 +64,7 @@ both_of s (suc o ∷ more) w e =
 both_of s (zero ∷ more) w e =
     ap (λ o. chained_outcome o (λ _ t. read_zero_octet_outcome t)) (one_front s (zero ∷ more) w e) ∙ second s more w (rest_after s (zero ∷ []) more e)
 
--- the table of the end mark is what its two octets are
+-- the table of the end-of-contents octets is that of its two octets
 eoc_is : (s : ReaderState) → both s ≡ read_eoc_outcome s
 eoc_is s = go s.failed refl
   where
@@ -90,7 +90,7 @@ pub eoc_read : (reliable : Bool) {s u : ReaderState} (t : ReaderState) (r : Resu
 eoc_read reliable t (Ok v) h g = then_gives h g
 eoc_read reliable t (Err e) h g = λ owed. then_gives h (g owed)
 
--- or the first is refused
+-- or the first is an error
 pub eoc_refused : {s t : ReaderState} {e : Error} → Gives read_zero_octet_outcome s (Err e) t → Gives read_eoc_outcome s (Err e) t
 eoc_refused {s} {t} {e} h =
     let over : both s ≡ outcome_following {A = Unit {0}} (Err e) t (λ _ t. read_zero_octet_outcome t) =

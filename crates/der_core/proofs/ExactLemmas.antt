@@ -1,4 +1,4 @@
--- What is read of exactly its encodings under DER: a tag, a length, a header, and nothing.
+-- Values read from exactly their encodings under DER: tags, lengths, headers and `PhantomData`.
 use Rattle.std.proofs.Common.{◌≡◌, ℕ, ◌^◌, ◌<◌, List, [], ◌++◌, length, refl, sym, ap, ◌∙◌}
 use Rattle.std.specs.declared.marker.PhantomData.{PhantomData}
 use Rattle.der_base.specs.Length.{number, definite_length, length_octets}
@@ -15,7 +15,7 @@ use Rattle.der_core.specs.declared.header.Header.{Header}
 use Rattle.der_core.proofs.DerLemmas.{tags_are_encodings, lengths_are_encodings, headers_are_encodings, nothing_is_encoding}
 use Rattle.der_core.proofs.LawfulLemmas.{whole_encodings, passed_encodings}
 
--- exactly the encodings are read, where octets begin with one valid value's encoding at most
+-- exactly the encodings are read, if octets begin with the encoding of at most one valid value
 pub reads_exactly : {A : Type 0} {Ahead : A → EncodingRules → List ℕ → ℕ → Type 0} {valid : A → Type 0} {encoding : A → List ℕ} → ReadsEncodings Ahead valid encoding
     → ((v w : A) (x y : List ℕ) → valid v → valid w → encoding v ++ x ≡ encoding w ++ y → v ≡ w) → ReadsExactly Ahead valid encoding
 reads_exactly {A} {Ahead} {valid} {encoding} reads one =

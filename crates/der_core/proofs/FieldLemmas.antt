@@ -1,4 +1,4 @@
--- Fields, one behind the other.
+-- Fields in sequence.
 use Rattle.std.proofs.Common.{◌≡◌, ◌||◌, ℕ, ◌+◌, ◌≤◌, Bool, true, false, IsTrue, Result, Ok, Err, List, length, drop, inr, inl, refl, sym, ap, ◌∙◌, subst, length-drop, arith}
 use Rattle.der_base.specs.declared.encoding_rules.EncodingRules.{EncodingRules}
 use Rattle.der_core.specs.ReaderState.{ReaderState, rest_of, advanced_state, IsSound, Same}
@@ -8,7 +8,7 @@ use Rattle.der_core.proofs.ContentsLemmas.{rest_advanced}
 use Rattle.der_core.proofs.StateLemmas.{length-rest}
 use Rattle.der_core.proofs.DecodeLemmas.{read_on, lacks_only}
 
--- a reader that has not failed later has not failed before
+-- a reader that has not failed later had not failed before
 pub working_before : {s t : ReaderState} → Same s t → t.failed ≡ false → s.failed ≡ false
 working_before {s} {t} same w = go s.failed refl
   where
@@ -16,12 +16,12 @@ working_before {s} {t} same w = go s.failed refl
     go false e = e
     go true e = (let f : IsTrue t.failed = same.failed (rw e refl) in let no : false ≡ true = sym w ∙ f in cc)
 
--- behind a value that was passed stands what stood behind it
+-- the remaining octets after a value that was consumed
 pub rest_passed : {Ahead : EncodingRules → List ℕ → ℕ → Type 0} {s t : ReaderState} → (p : Passes Ahead s t) → rest_of t ≡ drop p.octets (rest_of s)
 rest_passed {s = s} p = ap rest_of p.leaves ∙ rest_advanced s p.octets p.there
 
 module _ {A B : Type 0} {First : A → EncodingRules → List ℕ → ℕ → Type 0} {Second : B → EncodingRules → List ℕ → ℕ → Type 0} {s u t : ReaderState} where
-  -- two values that were passed stand one behind the other
+  -- two values that were consumed in sequence are a pair
   pub both_pass : {a : A} {b : B} → Passes (First a) s u → Passes (Second b) u t → Passes (FieldsAhead First Second (a, b)) s t
   both_pass {b = b} p q =
       let rules_are : u.rules ≡ s.rules = ap (λ (x : ReaderState). x.rules) p.leaves in
@@ -44,10 +44,10 @@ module _ {A B : Type 0} {First : A → EncodingRules → List ℕ → ℕ → Ty
       → s.failed ≡ false → t.failed ≡ false → Passes (FieldsAhead First Second (a, b)) s t
   fields_pass first second same working after = let between = working_before same after in both_pass (first working between) (second between after)
 
--- two values that stand one behind the other are read: the first, and then the second behind it
+-- two values in sequence are read: the first, then the second after it
 module _ {A B E : Type 0} (First : A → EncodingRules → List ℕ → ℕ → Type 0) (Second : B → EncodingRules → List ℕ → ℕ → Type 0) (needs_first needs_second : EncodingRules → ℕ)
     (out_of_memory : E → Bool) (takes_first takes_second : Bool) (s u : ReaderState) (v : A × B) (m : ℕ) where
-  -- the first stands ahead
+  -- the first is next
   first_ahead : (answer : Result A E) → s.failed ≡ false → (ahead : FieldsAhead First Second v s.rules (rest_of s) m) → s.depth + fields_levels needs_first needs_second s.rules ≤ 64
       → ((w : A) (n : ℕ) → s.failed ≡ false → First w s.rules (rest_of s) n → s.depth + needs_first s.rules ≤ 64 → ReadsOrLacks out_of_memory takes_first s n answer u)
       → ReadsOrLacks out_of_memory takes_first s ahead.first answer u
@@ -60,7 +60,7 @@ module _ {A B E : Type 0} (First : A → EncodingRules → List ℕ → ℕ → 
       let lacks = lacks_only A out_of_memory s u ahead.first (first_ahead (Err e) working ahead deep complete) in
       inr (rw lacks.0 refl, lacks.1)
 
-  -- the second stands behind the first
+  -- the second is after the first
   module _ (a : A) (t : ReaderState) (sound : IsSound s) (same : Same s u) (working : s.failed ≡ false) (ahead : FieldsAhead First Second v s.rules (rest_of s) m)
       (deep : s.depth + fields_levels needs_first needs_second s.rules ≤ 64)
       (complete : (w : A) (n : ℕ) → s.failed ≡ false → First w s.rules (rest_of s) n → s.depth + needs_first s.rules ≤ 64 → ReadsOrLacks out_of_memory takes_first s n (Ok a) u) where

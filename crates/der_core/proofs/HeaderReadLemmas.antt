@@ -54,7 +54,7 @@ passed_header {a} {b} {t} {x} {bit} {l} h g ok =
       leaves = g.leaves ∙ ap (λ s. advanced_state s g.octets) id.reads.state ∙ ap (λ p. record a { position = p }) sum;
     }
 
--- a header is refused
+-- an error in a header
 pub header_tag_refused : {a t : ReaderState} {e : Error} → IsRefusedBy IdentifierFault a e t → IsRefusedBy (HeaderFault BodyFault) a e t
 header_tag_refused (has_failed f told leaves) = has_failed f told leaves
 header_tag_refused (at_fault r w fault told leaves) = at_fault r w (no_identifier fault) told leaves
@@ -75,7 +75,7 @@ header_length_refused {a} {b} {t} {x} {e = e} {wrong} h same (at_fault r w fault
     at_fault r h.working (subst (λ s. HeaderFault BodyFault a.rules a.position s r) (sym id.reads.split) (no_length id.is_identifier moved))
     told (stops_on id.reads stops).leaves
 
--- a header of two octets is there, and was read at once
+-- a header of two octets is available, and was read at once
 slice_fits : (s : ReaderState) (n : ℕ) → s.failed ≡ false → s.position + n ≤ s.end → read_slice_outcome n s ≡ outcome_of (Ok (take n (rest_of s))) (advanced_state s n)
 slice_fits s n working fits = grind arith
 
@@ -106,12 +106,12 @@ short_granted {s} {x = x} {o} {p} {e = e} sound there is two h =
     let no : Err e ≡ Ok (take 2 (rest_of s)) = h.answered ∙ ap (λ n. (read_slice_outcome n s).answer) two ∙ ap (λ (q : Outcome (List ℕ)). q.answer) (slice_fits s 2 a.0 fits) in
     cc
 
--- a header whose identifier was told
+-- a header whose identifier was returned as its first octet and number
 pub told_passed : {s t : ReaderState} {l : Length} {h : Header} (o n : ℕ) → head_of h ≡ head (identifier_tag o n) l (is_constructed o)
     → Passes (ToldHeadAhead (o, n, l)) s t → Passes (HeaderAhead h) s t
 told_passed {s} {t} o n told h = subst (λ x. Passes (HeadAhead x) s t) (sym told) h
 
--- an indefinite length behind a primitive identifier
+-- an indefinite length after a primitive identifier
 pub header_primitive : {a b c t : ReaderState} {x : Tag} {bit : Bool} {l : Length} {e : Error} → Passes (IdentifierAhead (x, bit)) a b → bit ≡ false
     → Passes (LengthAhead l) b c → is_indefinite l ≡ true → e ≡ error_at IndefiniteLength (reader_position c) → t ≡ stopped_state c c.position → IsRefusedBy (HeaderFault BodyFault) a e t
 header_primitive {a} {b} {c} {t} {x} {bit} {l} {e} h primitive_bit g flag told leaves =
@@ -125,7 +125,7 @@ header_primitive {a} {b} {c} {t} {x} {bit} {l} {e} h primitive_bit g flag told l
     (subst (λ s. HeaderFault BodyFault a.rules a.position s (refusal IndefiniteLength (a.position + length id.octets + m))) (sym id.reads.split) (primitive is behind flag))
     (told ∙ ap (λ n. error_at IndefiniteLength (definite_length n)) here) (leaves ∙ ap (λ s. stopped_state s s.position) there)
 
--- two headers that say the same are the same
+-- two headers with the same content are the same
 header_saying : Head → Header
 header_saying x = record { tag = x.tag; length = x.length; constructed = x.constructed }
 
@@ -133,7 +133,7 @@ pub same_header : (h g : Header) → head_of h ≡ head_of g → h ≡ g
 unfolding header_saying
 same_header h g e = ap header_saying e
 
--- the grammar of headers, as a decoder answers them
+-- the grammar of headers, as a decoder returns them
 pub decoded_header_grammar : IsGrammar HeaderAhead (HeaderFault BodyFault)
 decoded_header_grammar =
     let laws = header_grammar BodyFault body_fault_laws in

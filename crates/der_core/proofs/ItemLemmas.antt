@@ -1,4 +1,4 @@
--- Two iterators whose items are compared, place by place.
+-- Two iterators whose items are compared, pair by pair.
 use Rattle.std.proofs.Common.{◌≡◌, ◌≢◌, ℕ, List, [], ◌∷◌, ◌++◌, Option, Some, None, Ok, Err, IfOk, IsErrAnd, refl, sym, ap, ◌∙◌, subst}
 use Rattle.std.specs.Iterator.{Yields, AlwaysYields}
 use Rattle.std.specs.List.{AllZip, AllByRecursion, flat_map}
@@ -24,7 +24,7 @@ AllZip-weaker R Q f [] (b ∷ ys) h = absurd h
 AllZip-weaker R Q f (a ∷ xs) [] h = absurd h
 AllZip-weaker R Q f (a ∷ xs) (b ∷ ys) h = (f a b h.0, AllZip-weaker R Q f xs ys h.1)
 
--- how values are compared: the exact answer, and the octets by which they stand
+-- how values are compared: the exact result, and the octets by which they are ordered
 pub record Comparison (A : Type 0) : Type 1 where
   pub order : A → A → Compared
   pub octets : A → List ℕ
@@ -32,22 +32,22 @@ pub record Comparison (A : Type 0) : Type 1 where
   pub has_header : A → Type 0
   pub delimits : Type 0
 
--- what is known of a call that answered
+-- the guarantees for a call that returned
 pub record Answered {A : Type 0} (k : Comparison A) (x y : A) (answer : Compared) : Type 0 where
   pub ok : k.by_octets x y → IfOk answer (λ o. o ≡ byte_order (k.octets x) (k.octets y))
   pub complete : k.by_octets x y → k.has_header x → k.has_header y → answer ≡ Ok (byte_order (k.octets x) (k.octets y))
   pub exact : answer ≡ k.order x y
 
--- an answer that is Equal
+-- a result that is `Equal`
 pub answered_equal : {A : Type 0} {k : Comparison A} {x y : A} (o : Ordering) → o ≡ Equal → Answered k x y (Ok o) → Answered k x y (Ok Equal)
 answered_equal {k = k} {x = x} {y = y} o e r = subst (λ z. Answered k x y (Ok z)) e r
 
--- an error that was handed on
+-- an error that was passed on
 pub answered_error : {A : Type 0} {k : Comparison A} {x y : A} (e : Error) (answer : Compared) → IsErrAnd answer (λ f. f ≡ e) → Answered k x y (Err e) → Answered k x y answer × (answer ≢ Ok Equal)
 answered_error e (Ok o) h r = absurd h
 answered_error {k = k} {x = x} {y = y} e (Err f) h r = (subst (λ z. Answered k x y (Err z)) (sym h) r, λ z. (cc))
 
--- two iterators have given items that are equal, place by place
+-- two iterators have returned items that are equal, pair by pair
 pub record Matched {S T A B : Type 0} (v : A → B) (k : Comparison B) (steps : S → Option A → S → Type 0) (others : T → Option A → T → Type 0) (s : S) (t : T) (u : S) (w : T) : Type 0 where
   pub these : List A
   pub those : List A
@@ -77,7 +77,7 @@ some_after [] b h = absurd (h refl)
 some_after (o ∷ a) b h = refl
 
 module _ {A B : Type 0} (v : A → B) where
-  -- an iterator that gave these items, and then this, has all of those
+  -- an iterator that returned these items, and then this one, has all of those
   abbrev pub Begins : List A → Option A → List B → Type 0
   Begins [] None all = all ≡ []
   Begins [] (Some x) all = (rest : List B) × (all ≡ v x ∷ rest)
@@ -94,7 +94,7 @@ module _ {A B : Type 0} (v : A → B) where
       (bs, ap (λ z. z ∷ bs) (sym r.0), begins steps y.0 t xs o u bs y.2 st r.1)
 
   module _ (k : Comparison B) where
-    -- what is known of the answer behind items that are equal
+    -- the guarantees for the result after equal items
     abbrev pub LastAnswered : Option A → Option A → Compared → Type 0
     LastAnswered None None answer = answer ≡ Ok Equal
     LastAnswered None (Some y) answer = answer ≡ Ok Less
@@ -116,7 +116,7 @@ module _ {A B : Type 0} (v : A → B) where
     unequal (Ok Greater) more h = refl
     unequal (Err e) more h = refl
 
-    -- the answer is that of the lists
+    -- the result is that of the lists
     exactly : (xs ys : List A) (o p : Option A) (is js : List B) (answer : Compared) → Begins xs o is → Begins ys p js → AllEqual xs ys → LastAnswered o p answer → answer ≡ lists_order k.order is js
     exactly [] [] None None is js answer f g e h = h ∙ sym (ap (λ l. lists_order k.order l js) f ∙ ap (lists_order k.order []) g)
     exactly [] [] None (Some y) is js answer f g e h = h ∙ sym (ap (λ l. lists_order k.order l js) f ∙ ap (lists_order k.order []) g.1)
@@ -136,7 +136,7 @@ module _ {A B : Type 0} (v : A → B) where
     abbrev joined_order : List B → List B → Compared
     joined_order is js = Ok (byte_order (joined is) (joined js))
 
-    -- in octets, where P holds of the items at each place
+    -- in octets, if P holds for each pair of items
     module _ (P : B → B → Type 0) (so : (x y : B) → P x y → k.by_octets x y) (answer : Compared)
         (learn : (x y : B) → P x y → Answered k x y answer → answer ≡ Ok (byte_order (k.octets x) (k.octets y))) (d : AreDelimited k.octets) where
       in_octets : (xs ys : List A) (o p : Option A) (is js : List B) → Begins xs o is → Begins ys p js → AllEqual xs ys → LastAnswered o p answer → EachPlace P is js → answer ≡ joined_order is js
@@ -162,7 +162,7 @@ module _ {A B : Type 0} (v : A → B) where
           ∙ sym (order_parts (k.octets (v x)) (k.octets (v y)) (joined f.0) (joined g.0) (d.apart (v x) (v y))))
           ∙ sym (ap (λ l. joined_order l js) f.1 ∙ ap (joined_order (v x ∷ f.0)) g.1)
 
-    -- wherever there is an answer
+    -- whenever there is a result
     sorted_octets : (xs ys : List A) (o p : Option A) (is js : List B) (answer : Compared) → AreDelimited k.octets → Begins xs o is → Begins ys p js → AllEqual xs ys → LastAnswered o p answer → EachPlace k.by_octets is js
         → IfOk answer (λ r. r ≡ byte_order (joined is) (joined js))
     sorted_octets xs ys o p is js (Ok r) d f g e h w =
@@ -170,7 +170,7 @@ module _ {A B : Type 0} (v : A → B) where
         cc
     sorted_octets xs ys o p is js (Err r) d f g e h w = tt
 
--- what is told of the whole comparison
+-- the guarantees for the whole comparison
 abbrev pub Told : {S T A B : Type 0} → (A → B) → Comparison B → (S → Option A → S → Type 0) → (T → Option A → T → Type 0) → S → T → Compared → Type 0
 Told v k steps others s t answer = record {
   ran : ComparesItems steps others s t (λ x y. k.order (v x) (v y)) answer;
@@ -201,13 +201,14 @@ told {v = v} {k = k} {steps = steps} {others = others} {s = s} {t = t} {u = u} {
   exact = λ xs ys f g. exactly v k m.these m.those o p xs ys answer (begins v steps s u m.these o u' xs m.gave_these a f) (begins v others t w m.those p w' ys m.gave_those b g) m.equal h;
 }
 
--- what holds of any two items holds at each place
+-- what holds for any two items holds for each pair
 pub each_place : {A : Type 0} (stands : A → A → Type 0) → ((x y : A) → stands x y) → (xs ys : List A) → EachPlace stands xs ys
 each_place stands h [] ys = tt
 each_place stands h (x ∷ xs) [] = tt
 each_place stands h (x ∷ xs) (y ∷ ys) = (h x y, each_place stands h xs ys)
 
--- what holds of any two items holds at each place, with what holds of all items of both lists
+-- what holds for any two items holds for each pair, together with what holds for all items of both
+-- lists
 pub each_place_all : {A : Type 0} (stands : A → A → Type 0) (holds : A → Type 0) → ((x y : A) → stands x y) → (xs ys : List A) → AllByRecursion holds xs → AllByRecursion holds ys
     → EachPlace (λ x y. stands x y × holds x × holds y) xs ys
 each_place_all stands holds h [] ys p q = tt

@@ -1,4 +1,4 @@
--- Elements of types that are read as they are written.
+-- Elements of types for which reading is the inverse of writing.
 use Rattle.std.proofs.Common.{◌≡◌, ℕ, ◌^◌, ◌<◌, ◌≤◌, Bool, true, false, List, [], ◌∷◌, ◌++◌, length, drop, refl, sym, ap, subst, ◌∙◌, append_assoc, append-nil, length-append, length-drop, arith}
 use Rattle.std.proofs.lemmas.List.{drop_at}
 use Rattle.der_base.specs.Length.{number, is_indefinite}
@@ -50,7 +50,7 @@ der_element {A} {tag} {takes} {octets} {v} {m} e =
       whole = e.whole ∙ omega (arith, h.octets, ap length same_header, ap length mark, length-append (header_octets tag (length e.contents)) e.contents);
     }
 
--- the header of a tag and contents that are taken are an element under DER
+-- the header of a tag, followed by contents that are accepted, is an element under DER
 pub element_der : {A : Type 0} (tag : Tag) (takes : A → EncodingRules → Head → List ℕ → Type 0) (contents behind : List ℕ) (v : A) → (label tag).number < 2 ^ 32 → length contents < 2 ^ 32
     → takes v Der (definite_head tag (length contents)) contents → ElementAhead tag takes v Der (element_octets tag contents ++ behind) (length (element_octets tag contents))
 element_der tag takes contents behind v numbered small taken =
@@ -70,11 +70,11 @@ element_der tag takes contents behind v numbered small taken =
       taken = taken;
     }
 
--- what stands ahead is within the octets
+-- an encoding that is next is within the octets
 encoding_within : {A : Type 0} {valid : A → Type 0} {encoding : A → List ℕ} {v : A} {octets : List ℕ} {m : ℕ} → EncodingAhead valid encoding v octets m → length (encoding v) ≤ length octets
 encoding_within {encoding = encoding} {v = v} e = omega (arith, ap length e.split, length-append (encoding v) e.behind)
 
--- an element of a lawful type stands ahead exactly where its encoding does
+-- octets begin with an element of a lawful type exactly if they begin with its encoding
 module _ {A : Type 0} {tag : Tag} {takes : A → EncodingRules → Head → List ℕ → Type 0} {valid : A → Type 0} {contents : A → List ℕ} {levels : EncodingRules → ℕ} (laws : IsLawful tag takes valid contents levels) where
   pub elements_are_encodings : ReadsEncodings (ElementAhead tag takes) valid (λ v. element_octets tag (contents v))
   elements_are_encodings = record { only = from; every = to }
@@ -96,7 +96,7 @@ module _ {A : Type 0} {tag : Tag} {takes : A → EncodingRules → Head → List
           let front = element_der tag takes (contents v) e.behind v laws.numbered few ((laws.exact (contents v) v few).1 (e.is_valid, refl)) in
           subst (λ x. ElementAhead tag takes v Der octets x) (sym e.whole) (subst (λ x. ElementAhead tag takes v Der x (length (element_octets tag (contents v)))) (sym e.split) front)
 
-  -- what was written is read, and as nothing else
+  -- what was written is read, and as no other value
   pub written_is_read : ReadsWritten tag takes valid contents
   written_is_read =
       record {
@@ -112,7 +112,7 @@ module _ {A : Type 0} {tag : Tag} {takes : A → EncodingRules → Head → List
           let same : contents w ≡ contents v = sym (same_length_front (contents v) (contents w) more behind r.1 r.2).0 in
           (same, whole ∙ ap (λ x. length (element_octets tag x)) same)
 
--- octets are wholly a value exactly where they are its encoding
+-- octets are entirely a value exactly if they are its encoding
 pub whole_encodings : {A : Type 0} {Ahead : A → EncodingRules → List ℕ → ℕ → Type 0} {valid : A → Type 0} {encoding : A → List ℕ} → ReadsEncodings Ahead valid encoding → ReadsWholeEncodings Ahead valid encoding
 whole_encodings {A} {Ahead} {valid} {encoding} reads = record { only = from; every = to }
   where
@@ -129,14 +129,14 @@ whole_encodings {A} {Ahead} {valid} {encoding} reads = record { only = from; eve
     to : (octets : List ℕ) (v : A) → length octets < 2 ^ 32 → valid v → octets ≡ encoding v → Whole (Ahead v) Der octets
     to octets v short is e = reads.every octets v (length octets) short (record { is_valid = is; behind = []; split = e ∙ sym (append-nil (encoding v)); whole = ap length e })
 
--- a reader that has passed a value has passed its encoding
+-- a reader that has consumed a value has consumed its encoding
 pub passed_encodings : {A : Type 0} {Ahead : A → EncodingRules → List ℕ → ℕ → Type 0} {valid : A → Type 0} {encoding : A → List ℕ} → ReadsEncodings Ahead valid encoding → PassesEncodings Ahead valid encoding
 passed_encodings {Ahead = Ahead} {encoding = encoding} reads s t v der passed =
     let e = reads.only (rest_of s) v passed.octets (subst (λ r. Ahead v r (rest_of s) passed.octets) der passed.ahead) in
     let left : rest_of t ≡ e.behind = rest_passed passed ∙ ap (drop passed.octets) e.split ∙ drop_at (encoding v) e.behind passed.octets (sym e.whole) in
     (e.is_valid, record { split = e.split ∙ ap (λ x. encoding v ++ x) (sym left); state = passed.leaves ∙ ap (advanced_state s) e.whole })
 
--- fields whose elements are encodings are the encodings one behind the other
+-- fields whose values are encodings are the encodings in sequence
 pub fields_are_encodings : {A B : Type 0} {First : A → EncodingRules → List ℕ → ℕ → Type 0} {Second : B → EncodingRules → List ℕ → ℕ → Type 0} {is_first : A → Type 0} {is_second : B → Type 0}
     {first : A → List ℕ} {second : B → List ℕ} → ReadsEncodings First is_first first → ReadsEncodings Second is_second second
     → ReadsEncodings (FieldsAhead First Second) (λ v. is_first v.0 × is_second v.1) (λ v. first v.0 ++ second v.1)
@@ -166,7 +166,7 @@ fields_are_encodings {A} {B} {First} {Second} {is_first} {is_second} {first} {se
           whole = e.whole ∙ length-append (first v.0) (second v.1);
         }
 
--- a type whose contents are wholly encodings, seen as another's values, is lawful
+-- a type whose contents are entirely encodings, seen as values of another type, is lawful
 pub contents_lawful : {A B : Type 0} {Ahead : A → EncodingRules → List ℕ → ℕ → Type 0} {valid : A → Type 0} {encoding : A → List ℕ} (tag : Tag) (levels : EncodingRules → ℕ) (f : B → A) → ReadsEncodings Ahead valid encoding
     → levels Der ≤ 63 → (label tag).number < 2 ^ 32 → IsLawful tag (λ b. TakesWhole Ahead (f b)) (λ b. valid (f b)) (λ b. encoding (f b)) levels
 contents_lawful {A} {B} {Ahead} {valid} {encoding} tag levels f reads shallow numbered =

@@ -46,7 +46,7 @@ digits_next {o = o} h g l =
 pub digits_small : {a b : ReaderState} {i value : ℕ} → DigitsSoFar a b i value → i ≤ 4 → value < 2 ^ 32
 digits_small h l = omega (arith, number_small h.digits (omega (arith, h.count)) h.below, h.is)
 
--- with three octets or fewer there is room for one more
+-- with three octets or fewer, one more fits
 pub digits_fit : {a b : ReaderState} {i value : ℕ} → DigitsSoFar a b i value → i < 4 → value < 2 ^ 24
 digits_fit h l =
     let few : 256 ^ length h.digits ≤ 256 ^ 3 = (let q : length h.digits ≤ 3 = omega (arith, h.count) in pow-le-pow_right (omega arith) q) in
@@ -56,7 +56,7 @@ digits_fit h l =
 pub digits_whole : {a b : ReaderState} {n : ℕ} (i o : ℕ) → i ≡ o - 128 → DigitsSoFar a b i n → DigitsSoFar a b (o - 128) n
 digits_whole {a} {b} {n} i o e h = subst (λ k. DigitsSoFar a b k n) e h
 
--- refusals behind the first octet
+-- errors after the first octet
 pub refused_far : {wrong : ErrorKind} {a t : ReaderState} {o : ℕ} {e : Error} → 133 ≤ o → e ≡ error_at wrong (reader_position a) → t ≡ stopped_state a a.position → RefusesLongLength wrong o a e t
 refused_far {wrong} {a} {t} {o} {e} high told leaves at here working = (
   refusal wrong (at + 1),
@@ -111,13 +111,13 @@ pub passed_long : {a b t : ReaderState} {o n : ℕ} {l : Length} → a.failed �
     → l ≡ definite_length n → Passes (LengthAhead l) a t
 passed_long {a} {b} {t} working h g e = as_length e (passed_octets working (subst (Reads a t) (sym g.1) (reads_on h g.2)) g.3)
 
--- a length is refused
+-- an error in a length
 pub length_ends : {wrong : ErrorKind} {a t : ReaderState} {e : Error} → ByteRefused a e t → IsRefusedBy (LengthFault BodyFault wrong) a e t
 length_ends (byte_failed f told leaves) = has_failed f told leaves
 length_ends {wrong} {a} (byte_cut working none stops) =
     at_fault (end_refusal a.position) working (subst (λ l. LengthFault BodyFault wrong a.rules a.position l (end_refusal a.position)) (sym none) nothing) stops.told stops.leaves
 
--- a definite length that is refused is, whatever a body's fault is
+-- an error in a definite length is one whatever the fault of a body is
 looks_for_no_body : {F : ℕ → List ℕ → Refusal → Type 0} {wrong : ErrorKind} {rules : EncodingRules} {at : ℕ} {q : List ℕ} {r : Refusal} → LengthFault NoBodyFault wrong rules at q r → LengthFault F wrong rules at q r
 looks_for_no_body nothing = nothing
 looks_for_no_body (few k ds most short) = few k ds most short
@@ -138,7 +138,7 @@ length_refused {a = a} working h n =
     let r = n a.position (position_on h) (failed_on h ∙ working) in
     behind_octet working h (r.0, looks_for_no_body r.1, r.2)
 
--- which rules they are
+-- which rules apply
 pub not_der : {b : Bool} {rules : EncodingRules} → IsTrue b ↔ (rules ≡ Der) → b ≡ false → rules ≡ Ber
 not_der {rules = Ber} h e = refl
 not_der {rules = Der} h e = absurd (let no : false ≡ true = sym e ∙ h.1 refl in cc)
@@ -159,7 +159,7 @@ refused_by_scan {s} ber (at_fault r w fault told leaves) wrong at here working =
   record { told = told; leaves = ap (λ p. record s { position = p }) here },
 )
 
--- the scan ahead of a reader
+-- the scan of the next body of a reader
 pub scanned : (result : Result Length Error) (reliable : Bool) (s : ReaderState) → s.rules ≡ Ber → ScansAhead reliable s result
     → IfOk result (λ l. IsIndefiniteForm l s s) × (reliable ≡ true → IfErr result (λ e. RefusesIndefinite s e s))
 scanned (Ok l) reliable s ber h = (record { octets = h.1.ok.octets; under_ber = ber; ahead = h.1.ok.ahead; leaves = refl }, λ _. tt)

@@ -1,4 +1,4 @@
--- Parts, entered and left.
+-- Entering and leaving nested parts.
 use Rattle.std.proofs.Common.{◌≡◌, ◌≢◌, ℕ, ◌+◌, ◌-◌, ◌^◌, ◌≤◌, Bool, true, false, IsTrue, Result, Ok, Err, length, nat_lt, refl, sym, ap, ◌∙◌, subst, arith}
 use Rattle.der_base.specs.Error.{error_at}
 use Rattle.der_base.specs.Length.{number, is_indefinite, definite_length}
@@ -11,7 +11,7 @@ use Rattle.der_core.proofs.StateLemmas.{same_trans}
 use Rattle.der_core.specs.Reader.{enter_nested_outcome}
 use Rattle.der_core.specs.Nested.{CanNest, CanLeave, Closes, left_over, whole, NestedAnswer, entered, ClosesValue, ValueAnswer, opened, not_opened}
 
--- what entering gives: the part, and what to go back to
+-- the result of entering: the nested part, and what leaving it restores
 pub record Entered (s : ReaderState) (n : ℕ) (e d : ℕ) (t : ReaderState) : Type 0 where
   pub can : CanNest s n
   pub state : t ≡ nested_state s n
@@ -33,7 +33,7 @@ enter_ok {s} {t} {n} {end = e} {depth = d} h = go (nat_lt (s.position + n) (2 ^ 
 pub entered_at : {s t : ReaderState} {of l : Length} {end depth : ℕ} → l ≡ of → Entered s (number l) end depth t → Entered s (number of) end depth t
 entered_at {s} {t} {end = e} {depth = d} same h = subst (λ x. Entered s (number x) e d t) same h
 
--- a part that a closure hands back can be left
+-- a nested part in which a closure leaves the same reader can be left
 pub can_leave : {s t u : ReaderState} {n end depth : ℕ} → Entered s n end depth t → IsSound s → Same t u → CanLeave u end depth
 can_leave {s} {t} {u} {n} {end = e} {depth = d} h sound same =
     let limit : t.end ≡ s.position + n = ap (λ (x : ReaderState). x.end) h.state in
@@ -44,7 +44,7 @@ can_leave {s} {t} {u} {n} {end = e} {depth = d} h sound same =
       shallow = omega (arith, sound.shallow, h.outer_depth);
     }
 
--- the same reader is handed back behind a part
+-- the reader after a nested part is the same
 pub same_behind : {s t u : ReaderState} {n end depth : ℕ} → Entered s n end depth t → Same t u → Same s (resumed_state u end depth)
 same_behind {s} {t} {u} {n} {end = e} {depth = d} h same =
     let state = h.state in
@@ -60,11 +60,11 @@ same_behind {s} {t} {u} {n} {end = e} {depth = d} h same =
       failed = λ f. same.failed (subst IsTrue (sym (ap (λ (x : ReaderState). x.failed) h.state)) f);
     }
 
--- a part that is closed leaves the same reader
+-- closing a nested part leaves the same reader
 pub same_closed : {s t u v : ReaderState} {n end depth : ℕ} → Entered s n end depth t → Same t u → Same (resumed_state u end depth) v → Same s v
 same_closed way same closed = same_trans (same_behind way same) closed
 
--- octets that were left, told as the code tells them
+-- the error for octets that were left unread, as the code constructs it
 module _ {T E : Type 0} {converts : Error → E → Type 0} {answer result : Result T E} (s u : ReaderState) {end depth : ℕ} (zero : Bool) (left : Length) (v : T) where
   pub close_left_over : (t : ReaderState) (e : E) (x : Error) (position : Length) → answer ≡ Ok v → u ≡ resumed_state s end depth → left ≡ definite_length (s.end - s.position)
       → (number left ≡ 0 → IsTrue zero) → zero ≡ false → position ≡ reader_position u → x ≡ error_at (TrailingData position left) (reader_position u) → t ≡ stopped_state u u.position → converts x e
@@ -83,7 +83,7 @@ module _ {T E : Type 0} {converts : Error → E → Type 0} {answer result : Res
       let none : s.end - s.position ≡ 0 = sym (ap number l) ∙ f z in
       whole v is (omega arith) q leaves
 
--- what a closure made of a part, in the end
+-- the outcome of reading a nested part by a closure
 pub nested_entered : {P Q T E : Type 0} {converts : Error → E → Type 0} {post : P → Result T E → Q → Type 0} {before : P → ReaderState} {after : Q → ReaderState} (s : ReaderState) {n : ℕ} {end depth : ℕ}
     {inner t : ReaderState} (p : P) (answer : Result T E) (q : Q) (closed result : Result T E) → Entered s n end depth inner → before p ≡ inner → post p answer q
     → Closes converts answer (after q) end depth closed t → result ≡ closed → NestedAnswer converts post before after n s result t
@@ -92,7 +92,7 @@ nested_entered {converts = converts} {post = post} {before = before} {after = af
     let same_depth = subst (λ x. Closes converts answer (after q) s.end x closed t) way.outer_depth same_end in
     entered p answer q way.can (reader_position ∙ way.state) ran (subst (λ r. Closes converts answer (after q) s.end s.depth r t) (sym e) same_depth)
 
--- what a closure made of the contents of a length, in the end
+-- the outcome of reading the contents of a length by a closure
 pub value_opened : {P Q T E : Type 0} {converts : Error → E → Type 0} {post : P → Result T E → Q → Type 0} {before : P → ReaderState} {after : Q → ReaderState} (s : ReaderState) {end depth : ℕ}
     {inner t : ReaderState} (of l : Length) (p : P) (answer : Result T E) (q : Q) (result : Result T E) → Entered s (number l) end depth inner → before p ≡ inner → post p answer q
     → l ≡ of → ClosesValue converts answer (after q) end depth (is_indefinite l) result t → ValueAnswer converts post before after of s result t
@@ -106,7 +106,7 @@ pub value_not_opened : {P Q T E : Type 0} {converts : Error → E → Type 0} {p
     (f : E) → l ≡ of → Gives (enter_nested_outcome (number l)) s (Err e) t → converts e f → ValueAnswer converts post before after of s (Err f) t
 value_not_opened s t of l e f same h told = not_opened e f (subst (λ x. Gives (enter_nested_outcome (number x)) s (Err e) t) same h) told refl
 
--- contents of a length that is told otherwise
+-- transport along an equal length
 pub value_at : {P Q T E : Type 0} {converts : Error → E → Type 0} {post : P → Result T E → Q → Type 0} {before : P → ReaderState} {after : Q → ReaderState} {s t : ReaderState} {of l : Length}
     {result : Result T E} → l ≡ of → ValueAnswer converts post before after l s result t → ValueAnswer converts post before after of s result t
 value_at {converts = converts} {post = post} {before = before} {after = after} {s = s} {t = t} {result = result} e h = subst (λ x. ValueAnswer converts post before after x s result t) e h

@@ -1,4 +1,4 @@
--- What comparisons of elements answer.
+-- Results of comparing elements.
 use Rattle.std.proofs.Common.{◌≡◌, ◌≢◌, ℕ, List, [], ◌++◌, length, Result, Ok, Err, IsOk, IfOk, refl, sym, ap, ◌∙◌, subst}
 use Rattle.std.specs.Ordering.{ordering_then}
 use Rattle.std.specs.declared.cmp.Ordering.{Ordering}
@@ -17,7 +17,7 @@ use Rattle.der_core.specs.Encode.{element_octets, Counts, HeaderOf, HeaderAnswer
 use Rattle.der_core.specs.Header.{head_of}
 use Rattle.der_core.specs.declared.header.Header.{Header}
 
--- two headers that are equal in byte order are of one tag and of one number
+-- two headers that compare equal in byte order have one tag and one number
 same_header : (t u : Tag) (m n : ℕ) → byte_order (header_octets t m) (header_octets u n) ≡ Equal → (t ≡ u) × (m ≡ n)
 same_header t u m n e =
     let f = header_front t u m n [] [] (ap (λ l. l ++ []) (same_octets (header_octets t m) (header_octets u n) e)) in (f.0, f.1)
@@ -27,7 +27,7 @@ then_ok Less p v h = refl
 then_ok Equal p v h = h refl
 then_ok Greater p v h = refl
 
--- the comparison of elements whose contents are compared in byte order is byte order
+-- elements whose contents are compared in byte order are compared in byte order
 pub element_bytes : (t u : Tag) (c d : List ℕ) (p q : Result Length Error) (v : Compared) → Counts c p → Counts d q → AreOrderly t u c d v → IsOk p → IsOk q
     → element_order t u p q v ≡ Ok (byte_order (element_octets t c) (element_octets u d))
 element_bytes t u c d (Ok m) (Ok n) v h k orderly i j =
@@ -39,7 +39,7 @@ element_bytes t u c d (Ok m) (Ok n) v h k orderly i j =
 element_bytes t u c d (Ok m) (Err e) v h k orderly i j = cc
 element_bytes t u c d (Err e) q v h k orderly i j = cc
 
--- where the comparison of such elements has an answer it is byte order
+-- if comparing such elements returns a result, it is byte order
 pub element_sorted : (t u : Tag) (c d : List ℕ) (p q : Result Length Error) (v : Compared) → Counts c p → Counts d q → AreOrderly t u c d v
     → IfOk (element_order t u p q v) (λ o. o ≡ byte_order (element_octets t c) (element_octets u d))
 element_sorted t u c d (Ok m) (Ok n) v h k orderly =
@@ -47,12 +47,12 @@ element_sorted t u c d (Ok m) (Ok n) v h k orderly =
 element_sorted t u c d (Ok m) (Err e) v h k orderly = tt
 element_sorted t u c d (Err e) q v h k orderly = tt
 
--- the header of a value says how many octets its contents have
+-- the header of a value gives the number of its contents octets
 counted_by : (t : Tag) (c : List ℕ) (p : Result Length Error) (h : Header) → HeaderAnswer t p (Ok h) → HeaderOf t c (Ok h) → Counts c p
 counted_by t c (Ok l) h a o = ap (λ (x : Head). number x.length) (sym a) ∙ o.1
 counted_by t c (Err e) h a o = let wrong : Ok h ≡ Err e = a in cc
 
--- where both headers are there, what they answer and the contents behind them is the order
+-- if both headers are available, they and the contents after them decide
 headers_decide : (t u : Tag) (p q : Result Length Error) (h g : Header) (o : Ordering) (v : Compared) → HeaderAnswer t p (Ok h) → HeaderAnswer u q (Ok g)
     → o ≡ byte_order (header_octets (head_of h).tag (number (head_of h).length)) (header_octets (head_of g).tag (number (head_of g).length))
     → then_compared o v ≡ element_order t u p q v
@@ -63,7 +63,7 @@ headers_decide t u (Ok m) (Ok n) h g o v a b e =
 headers_decide t u (Ok m) (Err f) h g o v a b e = let wrong : Ok g ≡ Err f = b in cc
 headers_decide t u (Err f) q h g o v a b e = let wrong : Ok h ≡ Err f = a in cc
 
--- what is answered then, exactly, and in octets
+-- the result then, exactly and in octets
 abbrev pub Decides : Tag → Tag → List ℕ → List ℕ → Result Length Error → Result Length Error → Compared → Compared → Type 0
 Decides t u c d p q v result = record {
   ok : AreOrderly t u c d v → IfOk result (λ o. o ≡ byte_order (element_octets t c) (element_octets u d));
@@ -85,7 +85,7 @@ decided t u c d p q h g o v result a i b j e r =
       exact = all;
     }
 
--- an ordering that is not Equal is the answer
+-- an ordering that is not `Equal` is the result
 pub unequal_decides : (o : Ordering) (v : Compared) → o ≢ Equal → Ok o ≡ then_compared o v
 unequal_decides Less v h = refl
 unequal_decides Equal v h = absurd (h refl)

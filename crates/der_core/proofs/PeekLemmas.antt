@@ -1,4 +1,4 @@
--- What is seen on a fork, and what follows it.
+-- Results on a fork, and what follows them.
 use Rattle.std.proofs.Common.{◌≡◌, ℕ, ◌+◌, ◌-◌, ◌^◌, ◌<◌, ◌≤◌, Bool, true, false, Result, Ok, Err, List, refl, sym, ap, ◌∙◌, subst, ⊎_elim, arith}
 use Rattle.std.proofs.lemmas.Bool.{lt-ltb, le-ltb, cases_lt}
 use Rattle.der_base.specs.Error.{error_of_kind, Refusal}
@@ -16,12 +16,12 @@ use Rattle.der_core.specs.Decode.{Passes, Decodes, Peeks, TlvAnswer, with_header
 use Rattle.der_core.specs.declared.header.Header.{Header}
 use Rattle.der_core.proofs.DecodeLemmas.{decodes_bound}
 
--- what decoding on a fork answers
+-- the result of decoding on a fork
 pub peeks : {A : Type 0} {Ahead : A → EncodingRules → List ℕ → ℕ → Type 0} {Fault : EncodingRules → ℕ → List ℕ → Refusal → Type 0} {reliable : Bool} {s f t : ReaderState} {answer : Result A Error}
     → f ≡ s → Decodes Ahead Fault reliable f answer t → Peeks Ahead Fault reliable s answer
 peeks {Ahead = Ahead} {Fault} {reliable} {t = t} {answer} same h = (t, subst (λ x. Decodes Ahead Fault reliable x answer t) same h)
 
--- what is owed of a peek by a reliable reader, or by any that answered
+-- a binding result of a peek satisfies what a reliable reader guarantees
 pub peeks_reliably : {A : Type 0} {Ahead : A → EncodingRules → List ℕ → ℕ → Type 0} {Fault : EncodingRules → ℕ → List ℕ → Refusal → Type 0} {reliable : Bool} {s : ReaderState} (answer : Result A Error)
     → IsBinding reliable answer → Peeks Ahead Fault reliable s answer → Peeks Ahead Fault true s answer
 peeks_reliably {reliable = reliable} answer owed h = (h.0, decodes_bound reliable answer owed h.1)
@@ -52,12 +52,12 @@ module _ (s f t : ReaderState) (h : Header) (same : f ≡ s) (p : Passes (Header
       let over : tlv_outcome (p.octets + number (head_of h).length) s ≡ record { answer = Err (error_of_kind Overflow); after = s } = ap (λ k. tlv_outcome k s) (sym sum) ∙ rw (le-ltb n (2 ^ 32) far) refl in
       with_header h p.octets here working (record { answered = ap Err told ∙ sym (ap (λ x. x.answer) over); leaves = sym (ap (λ x. x.after) over) })
 
--- an answer that is owed gives its table
+-- a binding result has the outcome of its table
 pub owed_gives : {A B : Type 0} (reliable : Bool) (f : A → B) (table : ReaderState → Outcome B) (s t : ReaderState) (r : Result A Error) → IsBinding reliable r → Meets reliable table s (map_ok f r) t → Gives table s (map_ok f r) t
 owed_gives reliable f table s t (Ok a) owed h = h
 owed_gives reliable f table s t (Err e) owed h = h owed
 
--- a sum of octets that 32 bits can count, or not
+-- a sum of octets that 32 bits can represent, or not
 pub counted_ok : (n : ℕ) (l : Length) → Ok l ≡ checked_length n → (n < 2 ^ 32) × (l ≡ definite_length n)
 counted_ok n l h = ⊎_elim (λ small. (small, (let e : Ok l ≡ Ok (definite_length n) = h ∙ rw (lt-ltb n (2 ^ 32) small) refl in cc))) (λ far. absurd (let e : Ok l ≡ Err (error_of_kind Overflow) = h ∙ rw (le-ltb n (2 ^ 32) far) refl in cc)) (cases_lt n (2 ^ 32))
 

@@ -15,7 +15,7 @@ use Rattle.der_core.specs.declared.length.indefinite.Part.{Part}
 use Rattle.der_core.specs.declared.length.indefinite.Part.TheVariants.{Ends, Passes as PassesItem, Opens}
 use Rattle.der_core.proofs.StateLemmas.{reads_none, reads_on, position_on, failed_on, stops_on, same_here, same_trans}
 
--- the beginning of a body was read, if any was by a reader that had not failed
+-- the beginning of a body was read; unless nothing was read, the reader had not failed
 pub record Reached (a b : ReaderState) (level parts : ℕ) : Type 0 where
   pub passed : List ℕ
   pub is_open : Open level parts passed
@@ -27,7 +27,7 @@ pub reached_none : (s : ReaderState) → IsSound s → Reached s s 1 0
 reached_none s sound = record { passed = []; is_open = first (none (omega arith, omega arith)); reads = reads_none s; working = inl refl; same = same_here s sound }
 
 module _ {a b : ReaderState} {level parts : ℕ} (h : Reached a b level parts) where
-  -- who read a part had not failed at first
+  -- a reader that has not failed now had not failed at the start
   reached_working : b.failed ≡ false → a.failed ≡ false
   reached_working w = sym (failed_on h.reads) ∙ w
 
@@ -59,7 +59,7 @@ module _ {a b c : ReaderState} {level parts : ℕ} (h : Reached a b level parts)
   body_read one g =
       (h.passed ++ 0 ∷ 0 ∷ [], body_from_open (subst (λ k. Open k parts h.passed) one h.is_open), subst (λ x. Reads a c (h.passed ++ x)) g.is_part (reads_on h.reads g.reads))
 
-  -- the last end mark closes the body
+  -- the last end-of-contents octets close the body
   pub reached_parts : level ≡ 1 → PartRead level Ends b c → PartsAhead (parts + 1) (rest_of a)
   reached_parts one g = let (body, is, reads) = body_read one g in (body, rest_of c, is, reads.split)
 
@@ -87,6 +87,6 @@ part_octets level Ends x e = omega (arith, ap length e)
 part_octets level PassesItem x i = omega (arith, item_parts i)
 part_octets level Opens x (id, t, is, e, few) = omega (arith, ap length e, length-append id (128 ∷ []), identifier_some is)
 
--- each part takes the reader on
+-- each part that is read advances the reader
 pub part_progress : {b c : ReaderState} (level : ℕ) (part : Part) → IsSound c → PartRead level part b c → c.end - c.position < b.end - b.position
 part_progress {b} {c} level part sound g = omega (arith, part_octets level part g.octets g.is_part, position_on g.reads, ap (λ (s : ReaderState). s.end) g.reads.state, sound.ordered)

@@ -1,4 +1,4 @@
--- How reading goes on.
+-- How reading proceeds.
 use Rattle.std.proofs.Common.{◌≡◌, ℕ, ◌+◌, ◌-◌, ◌≤◌, Bool, true, false, IsTrue, Ok, Err, List, [], ◌∷◌, ◌++◌, length, take, drop, refl, sym, ap, ◌∙◌, subst, append_assoc, length-append, length-take, length-take-le, length-drop, drop-drop, add-zero, arith}
 use Rattle.std.proofs.lemmas.List.{drop-take}
 use Rattle.der_base.specs.Error.{error_at, Refusal, refusal, end_refusal, missing_refusal}
@@ -36,7 +36,7 @@ left_on h r = ap (λ s. state_after s r) h.state
 pub stops_on : {a b t : ReaderState} {x : List ℕ} {r : Refusal} {e : Error} → Reads a b x → Stops b r e t → Stops a r e t
 stops_on {r = r} h g = record { told = g.told; leaves = g.leaves ∙ left_on h r }
 
--- what `error` answers
+-- the outcome of `error`
 pub error_stops : (s t : ReaderState) (k : ErrorKind) (e : Error) → e ≡ error_at k (reader_position s) → t ≡ stopped_state s s.position → Stops s (refusal k s.position) e t
 error_stops s t k e told leaves = record { told = told; leaves = leaves }
 
@@ -67,7 +67,7 @@ drop-span n m p xs h =
     let e : m ≡ n + (m - n) = omega arith in
     ap (λ k. drop n (take k (drop p xs))) e ∙ (drop-take n (m - n) (drop p xs) ∙ ap (λ ys. take (m - n) ys) (drop-drop n p xs))
 
--- behind the next octets stands what was behind them
+-- the remaining octets after the next octets
 pub rest_after : (s : ReaderState) (x more : List ℕ) → rest_of s ≡ x ++ more → rest_of (advanced_state s (length x)) ≡ more
 rest_after s x more e =
     let long : length x ≤ s.end - s.position = omega (arith, length-take (s.end - s.position) (drop s.position s.input), ap length e, length-append x more) in
@@ -103,7 +103,7 @@ byte_read {s} {t} {o} h =
     let front = by_front s (byte_working s t o h) in
     first_read s t o (rest_of s) refl (record { answered = h.answered ∙ ap (λ x. x.answer) front; leaves = h.leaves ∙ ap (λ x. x.after) front })
 
--- a read of one octet is refused on a failed reader, which stays, and at the end
+-- reading one octet fails on a failed reader, which is unchanged, and at the end
 pub data ByteRefused (s : ReaderState) (e : Error) (t : ReaderState) : Type 0 where
   byte_failed : s.failed ≡ true → e ≡ error_at Failed (reader_position s) → t ≡ s → ByteRefused s e t
   byte_cut : s.failed ≡ false → rest_of s ≡ [] → Stops s (end_refusal s.position) e t → ByteRefused s e t

@@ -1,4 +1,4 @@
--- The octets of a tag as one number, and how such numbers stand.
+-- The octets of a tag as one number, and the order of these numbers.
 use Rattle.std.proofs.Common.{◌≡◌, ℕ, ◌+◌, ◌*◌, ◌-◌, ◌^◌, ◌/◌, ◌%◌, ◌<◌, ◌≤◌, zero, suc, List, [], ◌∷◌, ◌++◌, length, replicate, map, length-append, refl, sym, ap, ◌∙◌, subst, arith}
 use Rattle.std.proofs.Math.Nat.{pow-le-pow_right, mul-le-mul_right}
 use Rattle.std.proofs.lemmas.Nat.{pow-add, shl_whole}
@@ -27,12 +27,12 @@ power_more b k = let e : suc k ≡ k + 1 = omega arith in ap (λ (x : ℕ). b ^ 
 moved : (n p : ℕ) → (n * 256 + 0) * p ≡ n * (p * 256)
 moved n p = grind (arith)
 
--- zeros behind a number multiply it
+-- zeros after a number multiply it
 number_zeros : (n k : ℕ) → number_from_digits_after 256 n (replicate k 0) ≡ n * 256 ^ k
 number_zeros n zero = omega arith
 number_zeros n (suc k) = number_zeros (n * 256 + 0) k ∙ moved n (256 ^ k) ∙ ap (λ (x : ℕ). n * x) (sym (power_more 256 k))
 
--- eight bits an octet
+-- an octet has eight bits
 power_bits : (k : ℕ) → 2 ^ (8 * k) ≡ 256 ^ k
 power_bits zero = refl
 power_bits (suc k) =
@@ -46,7 +46,7 @@ below_filled (o ∷ s) k h = (h.0, below_filled s k h.1)
 length_filled : (s : List ℕ) → length s ≤ 6 → length (six_octets s) ≡ 6
 length_filled s h = length-append s (replicate (6 - length s) 0) ∙ ap (λ (n : ℕ). length s + n) (length_zeros (6 - length s)) ∙ omega arith
 
--- a shift to the left fills six octets with zeros
+-- a shift to the left pads to six octets with zeros
 pub number_filled : (s : List ℕ) → AllBelowBase 256 s → length s ≤ 6
     → (number_from_digits 256 s * 2 ^ (8 * (6 - length s))) % 2 ^ 64 ≡ number_from_digits 256 (six_octets s)
 number_filled s h few =
@@ -59,7 +59,7 @@ decided_before Less p h = refl
 decided_before Equal p h = h refl
 decided_before Greater p h = refl
 
--- six octets each stand as what is filled, where that is apart
+-- padded to six octets, lists compare as they do unpadded, if they are apart
 six_order : (a b : List ℕ) → AllBelowBase 256 a → AllBelowBase 256 b → length a ≤ 6 → length b ≤ 6 → AreApart a b
     → nat_cmp (number_from_digits 256 (six_octets a)) (number_from_digits 256 (six_octets b)) ≡ byte_order a b
 six_order a b h k few less apart =
@@ -79,7 +79,7 @@ below_high : (ds : List ℕ) → AllBelowBase 128 ds → AllBelowBase 256 (map (
 below_high [] h = tt
 below_high (d ∷ ds) h = (omega (arith, h.0), below_high ds h.1)
 
--- four digits at most behind an octet, and one octet more
+-- an octet, at most four digits after it, and one more octet fit into 64 bits
 pub high_number_fits : (o n : ℕ) → o < 256 → n < 2 ^ 28 → number_from_digits_after 256 o (high_digits n) * 256 + 255 < 2 ^ 64
 high_number_fits o n small few =
     let h : number_from_digits_after 256 o (high_digits n) < (o + 1) * 256 ^ length (high_digits n) = number_after_lt 256 o (high_digits n) (below_high (digits_of 128 n) (all_below_base_digits_of 128 n (omega arith))) in
@@ -88,7 +88,7 @@ high_number_fits o n small few =
     let front : (o + 1) * 256 ^ length (high_digits n) ≤ 256 * 256 ^ length (high_digits n) = mul-le-mul_right (256 ^ length (high_digits n)) (let l : o + 1 ≤ 256 = omega (arith, small) in l) in
     omega (arith, h, power, front)
 
--- one digit more behind a number
+-- one more digit after a number
 pub high_number_more : (o n : ℕ) → 0 < n → number_from_digits_after 256 o (high_digits n) ≡ number_from_digits_after 256 o (high_digits (n / 128)) * 256 + (128 + n % 128)
 high_number_more o n h =
     ap (number_from_digits_after 256 o) (high_push n h) ∙ number_after_append 256 o (high_digits (n / 128)) ((128 + n % 128) ∷ [])
@@ -101,7 +101,7 @@ long_number t x n e f large =
     ∙ ap (λ (y : ℕ). number_from_digits_after 256 y (high_digits (n / 128) ++ n % 128 ∷ [])) (omega arith)
     ∙ number_after_append 256 x (high_digits (n / 128)) (n % 128 ∷ [])
 
--- the octet of a tag that has one, as a number
+-- the octet of a tag that has one octet, as a number
 pub short_number : (t : Tag) (x n : ℕ) → x ≡ leading_octet (label t) n → n ≡ (label t).number → n < 31 → number_from_digits 256 (tag_octets t) ≡ x
 short_number t x n e f small =
     ap (number_from_digits 256) (label_small (label t) (omega (arith, f, small)))

@@ -26,7 +26,7 @@ bit_six o =
     let high : bit_and (o / 2 ^ 5) 1 ≡ o / 2 ^ 5 % 2 = and_mask (o / 2 ^ 5) 1 in
     ap (λ n. bit_and n 32) (sym (shr_split o 5)) ∙ and_block 5 (o / 2 ^ 5) 1 (o % 2 ^ 5) 0 (omega arith) (omega arith) ∙ omega (arith, low, high)
 
--- the octets read of a number that goes on
+-- the octets read of a number that continues
 abbrev pub NumberSoFar : ReaderState → ReaderState → ℕ → Type 0
 NumberSoFar a b v = (s : List ℕ) × Reads a b s × SoFar s v
 
@@ -80,7 +80,7 @@ pub refused_many : {a b c t : ReaderState} {v p : ℕ} {e : Error} → NumberSoF
 refused_many {c = c} {v = v} {p = p} h g l m many told leaves at o here working low high all =
     number_refuses at o h.1 g here (number_refused_many at o v p h.0 (rest_of c) low high all h.2 l m many) told leaves
 
--- which rules they are
+-- which rules apply
 pub is_ber : {b : Bool} {rules : EncodingRules} → IsTrue b ↔ (rules ≡ Ber) → b ≡ true → rules ≡ Ber
 is_ber h e = h.0 e
 
@@ -100,7 +100,7 @@ passed_tag {a} {t} {id} {x} working h is =
       leaves = h.state;
     }
 
--- the bit that was told
+-- transport along an equal constructed bit
 with_bit : {o : ℕ} {s t : ReaderState} {x : Tag} {b c : Bool} → b ≡ c → IdentifierBehind o x c s t → IdentifierBehind o x b s t
 with_bit {o} {s} {t} {x} e h = subst (λ y. IdentifierBehind o x y s t) (sym e) h
 
@@ -120,7 +120,7 @@ pub found_long : {s t : ReaderState} (o : ℕ) {n : ℕ} {x : Tag} {b : Bool} �
 found_long {s} o {n} g low high all large small e bit =
     with_bit bit (continuation_octets (digits 128 n), subst (λ y. IsIdentifier s.rules (o ∷ continuation_octets (digits 128 n)) y (is_constructed o)) (sym e) (long_identifier o n low high all large small), g)
 
--- an identifier whose tag is told by its first octet and number
+-- an identifier whose tag is given by its first octet and number
 above : (o n : ℕ) → 64 ≤ o → identifier_tag o n ≡ other_tag o n
 above o n high = (let no : nat_lt o 64 ≡ false = grind arith in rw no refl)
 
@@ -187,7 +187,7 @@ refused_low {s} {t} {o} {e} low unknown told leaves = refused_unknown low (none 
     none None e = e
     none (Some x) e = absurd (unknown (inr (λ n. (let no : Some x ≡ None = sym e ∙ n in cc))))
 
--- the refusals of a tag
+-- errors in a tag
 pub tag_ends : {a t : ReaderState} {e : Error} → ByteRefused a e t → IsRefusedBy IdentifierFault a e t
 tag_ends (byte_failed f told leaves) = has_failed f told leaves
 tag_ends {a} (byte_cut working none stops) =
@@ -199,12 +199,12 @@ behind_refused {a} {b} {t} {o} {e} working h n =
     let fault : IdentifierFault a.rules a.position (o ∷ rest_of b) r.0 = subst (λ rules. IdentifierFault rules a.position (o ∷ rest_of b) r.0) (rules_on h) r.1 in
     at_fault r.0 working (subst (λ l. IdentifierFault a.rules a.position l r.0) (sym h.split) fault) (stops_on h r.2).told (stops_on h r.2).leaves
 
--- an identifier is decoded by its first octet and what stands behind it
+-- an identifier is decoded from its first octet and what follows it
 pub tag_found : {a b t : ReaderState} {o : ℕ} {x : Tag} {bit : Bool} → a.failed ≡ false → Reads a b (o ∷ []) → IdentifierBehind o x bit b t → Passes (IdentifierAhead (x, bit)) a t
 tag_found {o = o} {x} {bit} working h found =
     passed_tag working (reads_on h found.2) (subst (λ rules. IsIdentifier rules (o ∷ found.0) x bit) (rules_on h) found.1)
 
--- an identifier that is passed is told as any tag and bit that are its own
+-- transport along an equal tag and constructed bit
 pub passes_as : {a t : ReaderState} {x y : Tag} {b d : Bool} → x ≡ y → b ≡ d → Passes (IdentifierAhead (y, d)) a t → Passes (IdentifierAhead (x, b)) a t
 passes_as {a} {t} {x} {y} {b} {d} p q h =
     subst (λ z. Passes (IdentifierAhead (z, b)) a t) (sym p) (subst (λ z. Passes (IdentifierAhead (y, z)) a t) (sym q) h)

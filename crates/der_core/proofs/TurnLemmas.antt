@@ -28,7 +28,7 @@ use Rattle.der_core.proofs.StateLemmas.{reads_on, reads_front, position_on, fail
 slice_short : (t : ReaderState) (k : ℕ) → t.failed ≡ false → t.end < t.position + k → read_slice_outcome k t ≡ short_outcome (List ℕ) t k
 slice_short t k f l = rw f (rw (lt-leb (t.position + k) t.end l) refl)
 
--- what passing octets answers: none, so many, or too many
+-- the outcome of skipping octets: none, this many, or too many
 drain_none : (s : ReaderState) (n : ℕ) → n ≡ 0 → drain_outcome (definite_length n) s ≡ outcome_of (Ok tt) s
 drain_none s n none = rw none refl
 
@@ -77,11 +77,11 @@ module _ (s : ReaderState) (n : ℕ) (sound : IsSound s) (working : s.failed ≡
       (λ enough. (omega (arith, length-rest s sound), h.leaves ∙ ap (λ o. o.after) (drain_enough s n working some enough)))
       (cases_lt s.end (s.position + n))) (cases_eq n 0)
 
--- a drain by a length that is this number is a drain by the number
+-- a drain by a length with this number is a drain by the number
 drained_as : {l : Length} {n : ℕ} {s t : ReaderState} {answer : Result (Unit {0}) Error} → l ≡ definite_length n → Gives (drain_outcome l) s answer t → Gives (drain_outcome (definite_length n)) s answer t
 drained_as {s = s} {t} {answer} e h = subst (λ l. Gives (drain_outcome l) s answer t) e h
 
--- an identifier that is refused
+-- an error in an identifier
 identifier_stops : {level at : ℕ} {q left : List ℕ} {o : ℕ} {r : Refusal} → o ≢ 0 → IdentifierFault Ber at q r → q ≡ o ∷ left → ScanFault level at q r
 identifier_stops other (cut [] h) e = absurd (cc)
 identifier_stops other (cut (p ∷ s) h) e = cut_identifier p s h
@@ -99,7 +99,7 @@ pub identifier_passed : {a b c : ReaderState} {o : ℕ} {l : List ℕ} {x : Tag}
     → IdentifierPassed a c (o ∷ l) x bit
 identifier_passed {o = o} {l} {x} {bit} ber working h d g = record { ber = ber; working = working; is = subst (λ rules. IsIdentifier rules (o ∷ l) x bit) (rules_on h ∙ ber) d; read = reads_on h g }
 
--- octets up to a length were read too
+-- octets up to a length were also read
 pub record LengthPassed (a k : ReaderState) (id : List ℕ) (n : ℕ) (x : Tag) (bit : Bool) : Type 0 where
   pub working : a.failed ≡ false
   pub is : IsIdentifier Ber id x bit
@@ -111,11 +111,11 @@ pub length_passed : {a c f k : ReaderState} {id m : List ℕ} {octet n : ℕ} {x
 length_passed {a} {k = k} {id = id} i j sized g few = record { working = i.working; is = i.is; few = few; read = subst (λ q. Reads a k (id ++ q)) (sym sized) (reads_on i.read (reads_on j g)) }
 
 module _ (level : ℕ) {a : ReaderState} where
-  -- a fault that is told
+  -- a fault that is returned
   stops_at : {t : ReaderState} {e : Error} {q : List ℕ} {r : Refusal} → a.failed ≡ false → rest_of a ≡ q → ScanFault level a.position q r → Stops a r e t → RefusesPart level a e t
   stops_at {r = r} working octets fault stops = at_fault r working (subst (λ l. ScanFault level a.position l r) (sym octets) fault) stops.told stops.leaves
 
-  -- a fault that is told at the position where a reader stands behind some of the octets
+  -- a fault that is returned at the position of a reader after some of the octets
   stops_there : {b t : ReaderState} {x : List ℕ} {e : Error} {q : List ℕ} {n : ℕ} (f : ℕ → Refusal) → a.failed ≡ false → Reads a b x → n ≡ b.position → rest_of a ≡ q
       → ScanFault level a.position q (f n) → Stops b (f b.position) e t → RefusesPart level a e t
   stops_there {t = t} {e = e} f working h here octets fault stops = stops_at working octets fault (subst (λ k. Stops a (f k) e t) (sym here) (stops_on h stops))
@@ -138,21 +138,21 @@ module _ (level : ℕ) {a : ReaderState} where
         let both = reads_on h g in
         stops_there (refusal IndefiniteLength) working both (sym (position_on both)) (both.split ∙ ap (λ x. x ∷ second ∷ rest_of c) is) (no_mark second (rest_of c) other) stops
 
-    -- an octet that is not zero and begins no identifier
+    -- a nonzero octet that begins no identifier
     pub part_refused : {t : ReaderState} {e : Error} → a.rules ≡ Ber → o ≢ 0 → RefusesIdentifier o b e t → RefusesPart level a e t
     part_refused {t} {e} ber other n =
         let r = n a.position (position_on h) (failed_on h ∙ working) in
         let fault : IdentifierFault Ber a.position (o ∷ rest_of b) r.0 = subst (λ rules. IdentifierFault rules a.position (o ∷ rest_of b) r.0) (rules_on h ∙ ber) r.1 in
         stops_at working h.split (identifier_stops other fault refl) (stops_on h r.2)
 
-  -- behind an identifier
+  -- after an identifier
   module _ {c : ReaderState} {id : List ℕ} {x : Tag} {bit : Bool} (i : IdentifierPassed a c id x bit) where
     pub part_no_length : {t : ReaderState} {e : Error} → ByteRefused c e t → RefusesPart level a e t
     part_no_length cannot =
         let r = cut_refused (failed_on i.read ∙ i.working) cannot in
         stops_there end_refusal i.working i.read (sym (position_on i.read)) (i.read.split ∙ ap (λ q. id ++ q) r.0) (no_length i.is no_octet) r.1
 
-    -- behind an identifier and octet `0x80`
+    -- after an identifier and octet `0x80`
     module _ {f : ReaderState} {octet : ℕ} (j : Reads c f (octet ∷ [])) (opens : octet ≡ 128) where
       pub part_primitive : {t : ReaderState} {e : Error} → bit ≡ false → e ≡ error_at IndefiniteLength (reader_position f) → t ≡ stopped_state f f.position → RefusesPart level a e t
       part_primitive {t} {e} plain told leaves =
@@ -168,7 +168,7 @@ module _ (level : ℕ) {a : ReaderState} where
       part_opens constructed few =
           record { octets = id ++ octet ∷ []; working = i.working; is_part = (id, x, subst (IsIdentifier Ber id x) constructed i.is, ap (λ p. id ++ p ∷ []) opens, few); reads = reads_on i.read j }
 
-    -- a length that is not spelled as it has to be
+    -- a length that is not encoded as required
     pub part_wrong_length : {f t : ReaderState} {octet : ℕ} {e : Error} → Reads c f (octet ∷ []) → RefusesLongLength (IncorrectLength x) octet f e t → RefusesPart level a e t
     part_wrong_length {f} {octet = octet} j n =
         let whole = reads_on i.read j in
@@ -176,7 +176,7 @@ module _ (level : ℕ) {a : ReaderState} where
         let fault : LengthFault NoBodyFault (IncorrectLength x) Ber c.position (octet ∷ rest_of f) r.0 = subst (λ rules. LengthFault NoBodyFault (IncorrectLength x) rules c.position (octet ∷ rest_of f) r.0) (rules_on whole ∙ i.ber) r.1 in
         stops_at i.working (i.read.split ∙ ap (λ q. id ++ q) j.split) (no_length i.is (subst (λ p. LengthFault NoBodyFault (IncorrectLength x) Ber p (octet ∷ rest_of f) r.0) (position_on i.read) fault)) (stops_on whole r.2)
 
-  -- behind a definite length
+  -- after a definite length
   module _ {k : ReaderState} {id : List ℕ} {n : ℕ} {x : Tag} {bit : Bool} (i : LengthPassed a k id n x bit) where
     pub part_short : {t : ReaderState} {l : Length} {e : Error} → l ≡ definite_length n → IsSound k → Gives (drain_outcome l) k (Err e) t → RefusesPart level a e t
     part_short {t} {l} {e} is sound h =

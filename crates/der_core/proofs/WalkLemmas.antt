@@ -1,4 +1,4 @@
--- A walk over octets by an index, as a reader that stands there.
+-- A walk over octets by an index, as a reader at that index.
 use Rattle.std.proofs.Common.{◌≡◌, ℕ, ◌+◌, ◌-◌, ◌^◌, ◌<◌, ◌≤◌, Bool, true, false, IsTrue, List, [], ◌++◌, length, take, drop, replicate, Result, Ok, Err, refl, sym, ap, ◌∙◌, subst, length-append, length-drop, if◌then◌else◌, arith}
 use Rattle.std.proofs.Math.Seq.{drop-append-add}
 use Rattle.std.proofs.lemmas.List.{take_all, length-replicate}
@@ -20,7 +20,7 @@ use Rattle.der_core.proofs.StateLemmas.{ByteRefused, byte_cut, position_on, fail
 use Rattle.der_core.proofs.DecodeLemmas.{decoded_ok, decoded_err}
 use Rattle.der_core.proofs.TurnLemmas.{drain_refused}
 
--- what is left of the octets
+-- the remaining octets
 pub walked_rest : (octets : List ℕ) (start index : ℕ) → rest_of (walked_state octets start index) ≡ drop index octets
 walked_rest octets start index =
     let behind : drop (start + index) (replicate start 0 ++ octets) ≡ drop index octets =
@@ -35,7 +35,7 @@ walked_sound octets start index within small =
 pub walk_sound : (w : Walk) → IsSound (walk_state w)
 walk_sound w = walked_sound w.octets.now w.start w.index w.within w.addressable
 
--- the same reader is handed back where octets were read
+-- reading octets leaves the same reader
 pub reads_same : {a b : ReaderState} {x : List ℕ} → IsSound b → Reads a b x → Same a b
 reads_same {a} {b} sound h =
     record {
@@ -49,7 +49,7 @@ reads_same {a} {b} sound h =
       failed = λ f. subst IsTrue (sym (failed_on h)) f;
     }
 
--- the same reader is handed back where it was refused, no further than its end
+-- a failure leaves the same reader, if its position is within the end
 pub after_same : (s : ReaderState) → IsSound s → (r : Refusal) → s.position ≤ r.position → r.position ≤ s.end → Same s (state_after s r)
 after_same s sound r forward within = record { input = refl; rules = refl; end = refl; depth = refl; marks = refl; forward = forward; within = within; failed = kept r.fails }
   where
@@ -64,7 +64,7 @@ cut_told w none told =
     let sound = walk_sound w in
     (state_after s (end_refusal s.position), after_same s sound (end_refusal s.position) (omega arith) sound.ordered, byte_cut refl none (record { told = told; leaves = refl }))
 
--- what is refused behind octets that were read, by the walk there or where it stands
+-- an error after octets that were read is an error of the walk before them
 pub told_behind : (Q R : ReaderState → Error → ReaderState → Type 0) {a : ReaderState} {x : List ℕ} {e : Error} (w : Walk) → Reads a (walk_state w) x → IsToldBy Q (walk_state w) e
     → ((t : ReaderState) → Q (walk_state w) e t → R a e t) → IsToldBy R a e
 told_behind Q R w h told f = (told.0, same_trans (reads_same (walk_sound w) h) told.1, f told.0 told.2)
@@ -88,7 +88,7 @@ short_told w n {e} told =
     after_same s sound (short_refusal n (length (rest_of s)) s.position) (omega arith) (omega (arith, left, sound.ordered)) in
     ((drain_outcome (definite_length n) s).after, subst (Same s) (sym r.1.leaves) same, gives)
 
--- a scan of the octets ahead of a reader is a scan ahead of it
+-- a scan of the remaining octets of a reader is a scan of its next body
 pub scans_rest : (s : ReaderState) (reliable : Bool) (result : Result Length Error) → IsSound s → s.failed ≡ false → s.rules ≡ Ber
     → ScansAhead true (walked_state (rest_of s) s.position 0) result → ScansAhead reliable s result
 scans_rest s reliable (Ok l) sound working ber (t, h) =

@@ -1,4 +1,4 @@
--- Values of all the octets.
+-- Values that are all of the octets.
 use Rattle.std.proofs.Common.{◌≡◌, ℕ, ◌-◌, ◌^◌, ◌<◌, ◌≤◌, ◌⊎◌, inl, inr, Bool, true, false, Result, Ok, Err, List, length, refl, sym, ap, ◌∙◌, subst, arith}
 use Rattle.std.proofs.lemmas.Bool.{lt-ltb, le-ltb, cases_lt}
 use Rattle.der_base.specs.Error.{error_at}
@@ -11,7 +11,7 @@ use Rattle.der_core.specs.Reader.{finish_answer}
 use Rattle.der_core.specs.Decode.{Passes, Whole, WholeAnswer, decoded}
 use Rattle.der_core.proofs.DecodeLemmas.{rest-beginning}
 
--- a reader that was finished had not failed, and nothing was left
+-- a reader that was finished without an error had not failed, and nothing was left
 pub finish_ok : (t : ReaderState) → finish_answer t ≡ Ok tt → (t.failed ≡ false) × (t.end ≤ t.position)
 finish_ok t h = go t.failed refl (cases_lt t.position t.end)
   where
@@ -23,7 +23,7 @@ finish_ok t h = go t.failed refl (cases_lt t.position t.end)
 pub finishes : (t : ReaderState) → t.failed ≡ false → t.end ≤ t.position → finish_answer t ≡ Ok tt
 finishes t f l = rw f (rw (le-ltb t.position t.end l) refl)
 
--- all the octets
+-- all of the octets
 module _ (rules : EncodingRules) (octets : List ℕ) (s t : ReaderState) (begun : s ≡ initial_state rules octets) where
   pub wholly : {A : Type 0} (Ahead : A → EncodingRules → List ℕ → ℕ → Type 0) (v : A) → (s.failed ≡ false → t.failed ≡ false → Passes (Ahead v) s t) → finish_answer t ≡ Ok tt
       → Whole (Ahead v) rules octets

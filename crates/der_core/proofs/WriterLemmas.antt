@@ -1,4 +1,4 @@
--- Slice writers: room, parts that are set apart, and what follows them.
+-- Slice writers: space, reserved parts, and what follows them.
 use Rattle.std.proofs.Common.{rules, arith, ◌≡◌, ℕ, ◌+◌, ◌-◌, ◌^◌, ◌<◌, ◌≤◌, Bool, true, false, List, length, take, drop, ◌++◌, length-take, length-take-le, length-append, refl, sym, ap, ◌∙◌, subst, Result, Ok, Err, OnOk}
 use Rattle.std.specs.Borrow.{MutBor}
 use Rattle.std.proofs.lemmas.List.{take-append-drop, take-append-le, drop-drop}
@@ -16,31 +16,31 @@ use Rattle.der_core.specs.WrittenSequence.{Condition, Run, part_state, outer_sta
 use Rattle.der_core.specs.declared.writer.slice.SliceWriter.{SliceWriter}
 use Rattle.der_core.proofs.EncodeLemmas.{appended_both}
 
--- where there is room it is granted
+-- if there is space, the requested state is reached
 pub granted : (n : ℕ) (s g t : WriterState) → Writes (room_outcome n s g) (Ok tt) t → ((room_outcome n s s).answer ≡ Ok tt) × (t ≡ g) × (s.failed ≡ false) × (length s.octets + n ≤ s.stop)
 granted n s g t w =
     let a = w.answered in
     let l = w.leaves in
     (grind (rules, nat_tests), grind (rules, nat_tests), grind (rules, nat_tests), grind (arith, nat_tests))
 
--- where there is none it does not matter what would be granted
+-- if there is none, the requested state does not matter
 pub refused_alike : (n : ℕ) (s g t : WriterState) (e : Error) → Writes (room_outcome n s g) (Err e) t → Writes (room_outcome n s s) (Err e) t
 refused_alike n s g t e w =
     let a = w.answered in
     let l = w.leaves in
     record { answered = grind (rules, nat_tests); leaves = grind (rules, nat_tests) }
 
--- a writer that was appended to is the same
+-- appending to a writer leaves the same writer
 pub kept_appended : (s : WriterState) (octets : List ℕ) (t : WriterState) → t ≡ appended_state s octets → Keeps s t
 kept_appended s octets t e =
     let more : length octets ≡ length (s.octets ++ octets) - length s.octets = omega (arith, length-append s.octets octets) in
     subst (Keeps s) (sym e) (record { start = refl; stop = refl; capacity = refl; reference = refl; before = take-append_seam s.octets octets; behind = ap (λ k. drop k s.behind) more; fails = λ failing. failing })
 
--- where a slice writer stands in its buffer
+-- the position of a slice writer in its buffer
 pub stands_at : (w : SliceWriter) → length (slice_writer_state w).octets ≡ w.start + w.position
 stands_at w = length-take-le (w.start + w.position) w.bytes.now (omega (arith, w.ordered, w.within))
 
--- a writer over its own part again, behind one that was set apart
+-- a writer over its previous part again, after a reserved one
 abbrev pub behind_part : SliceWriter → ℕ → ℕ → Bool → WriterState
 behind_part v start stop marked =
     record { octets = take (start + (v.stop - start)) v.bytes.now; behind = drop (start + (v.stop - start)) v.bytes.now; start = start; stop = stop; capacity = length v.bytes.now; failed = marked; reference = v.bytes.ghost_name }
@@ -108,7 +108,7 @@ abandons_alike : (s : WriterState) (behind : List ℕ) (q t : WriterState) (n : 
 abandons_alike s behind q t n gone =
     record { start = gone.start; stop = gone.stop; capacity = gone.capacity; reference = gone.reference; failed = gone.failed; passed = gone.passed; buffer = gone.buffer }
 
--- what is round a part that was handed back is what it was set apart from, but for what is behind
+-- leaving a reserved part gives the writer before it was reserved, except for the octets after it
 same_around : (s q : WriterState) (n : ℕ) → Keeps (part_state s n) q → s.failed ≡ false → outer_state q s.start s.stop ≡ record s { behind = q.behind }
 same_around s q n kept alive =
     let octets : take q.start q.octets ≡ s.octets = ap (λ k. take k q.octets) kept.start ∙ kept.before in
@@ -117,19 +117,19 @@ same_around s q n kept alive =
     let same : outer_state q s.start s.stop ≡ record { octets = s.octets; behind = q.behind; start = s.start; stop = s.stop; capacity = s.capacity; failed = s.failed; reference = s.reference } = cc in
     same
 
--- what follows a part does not ask what was behind it
+-- what follows a reserved part does not depend on the octets that were after it
 closed_alike : (s : WriterState) (behind : List ℕ) (q t : WriterState) (n : ℕ) (a r : Result (Unit {0}) Error) → ClosesPart (record s { behind = behind }) n q t a r → ClosesPart s n q t a r
 closed_alike s behind q t n a r (handed_on e gone) = handed_on e (abandons_alike s behind q t n gone)
 closed_alike s behind q t n a r (failed f gone) = failed f (abandons_alike s behind q t n gone)
 closed_alike s behind q t n a r (unfilled alive few gone) = unfilled alive few (abandons_alike s behind q t n gone)
 closed_alike s behind q t n a r (filled alive full leaves) = filled alive full leaves
 
--- a part that was handed back
+-- a reserved part after which the writer is the same
 pub handed_back : (pre : Condition) (run : Run) (s : WriterState) (n : ℕ) (g : MutBor SliceWriter) (a : Result (Unit {0}) Error) (q : MutBor SliceWriter)
     → HandsBackPart pre run s n → slice_writer_state g.now ≡ part_state s n → run g a q → Keeps (part_state s n) (slice_writer_state q.now)
 handed_back pre run s n g a q hands over did = subst (λ p. Keeps p (slice_writer_state q.now)) over (hands.same g a q over did)
 
--- the closure ran over a part that was set apart
+-- the closure ran over a reserved part
 pub ran_over : (pre : Condition) (run : Run) (s t : WriterState) (n : ℕ) (g : MutBor SliceWriter) (a r : Result (Unit {0}) Error) (q : MutBor SliceWriter)
     → HandsBackPart pre run s n → s.failed ≡ false → slice_writer_state g.now ≡ part_state s n → run g a q
     → ClosesPart (outer_state (slice_writer_state q.now) s.start s.stop) (q.now.stop - q.now.start) (slice_writer_state q.now) t a r → Runs run s n r t
@@ -142,7 +142,7 @@ ran_over pre run s t n g a r q hands alive over did closes =
     let ends = closed_alike s u.behind u t n a r (subst (λ x. ClosesPart x n u t a r) (same_around s u n kept alive) (subst (λ m. ClosesPart (outer_state u s.start s.stop) m u t a r) size closes)) in
     record { given = g; answer = a; after = q; over_part = over; ran = did; closed = ends }
 
--- behind a part the writer is the same, and the buffer behind the part is as it was
+-- after a reserved part the writer is the same, and the buffer after the part is unchanged
 module _ (s q t : WriterState) (n : ℕ) (kept : Keeps (part_state s n) q) (within : length q.octets ≤ length s.octets + n) where
   reached : length s.octets ≤ length q.octets
   reached = omega (arith, ap length kept.before, length-take (length s.octets) q.octets)
@@ -170,7 +170,7 @@ module _ (s q t : WriterState) (n : ℕ) (kept : Keeps (part_state s n) q) (with
   kept_behind a r (filled alive full leaves) =
       subst (Keeps s) (sym leaves) (record { start = refl; stop = refl; capacity = refl; reference = refl; before = kept.before; behind = kept.behind; fails = λ failing. failing })
 
--- the same writer is handed back where a closure ran over the part
+-- the writer is the same after a closure ran over the reserved part
 pub kept_round : (pre : Condition) (run : Run) (s t : WriterState) (n : ℕ) (r : Result (Unit {0}) Error) → HandsBackPart pre run s n → Runs run s n r t → Keeps s t
 kept_round pre run s t n r hands did =
     let v : SliceWriter = did.after.now in
@@ -178,7 +178,7 @@ kept_round pre run s t n r hands did =
     let stop : v.stop ≡ length s.octets + n = kept.stop in
     kept_behind s (slice_writer_state v) t n kept (omega (arith, stands_at v, v.ordered, stop)) did.answer r did.closed
 
--- where it was not refused it filled the part
+-- if it did not fail, it filled the reserved part
 pub fills : (run : Run) (s t : WriterState) (n : ℕ) (r : Result (Unit {0}) Error) → Runs run s n r t → OnOk r (IsFilledBy run s n t)
 fills run s t n r did = go did.given did.after did.answer r did.over_part did.ran did.closed
   where
@@ -189,12 +189,12 @@ fills run s t n r did = go did.given did.after did.answer r did.over_part did.ra
     go g q a r over did (unfilled alive few gone) = tt
     go g q a r over did (filled alive full leaves) = record { given = g; after = q; over_part = over; ran = did; working = alive; full = full; leaves = leaves }
 
--- a part behind the header
+-- a reserved part after the header
 pub behind_header : (run : Run) (s t u : WriterState) (n : ℕ) (r : Result (Unit {0}) Error) → u ≡ headed_state s n → Writes (header_outcome Sequence n s) (Ok tt) u → PartAnswer run u n r t → SequenceAnswer run s n r t
 behind_header run s t u n r same wrote answer =
     with_header (subst (λ v. Writes (header_outcome Sequence n s) (Ok tt) v) same wrote) (subst (λ v. PartAnswer run v n r t) same answer)
 
--- octets that fill a part behind others are appended with them
+-- octets that fill a reserved part after others are appended with them
 pub filled_appends : (first octets : List ℕ) (n : ℕ) (s p q t : WriterState) → p ≡ part_state (appended_state s first) n → q ≡ appended_state p octets
     → t ≡ record (appended_state s first) { octets = q.octets; behind = q.behind } → t ≡ appended_state s (first ++ octets)
 filled_appends first octets n s p q t over more leaves =
@@ -203,7 +203,7 @@ filled_appends first octets n s p q t over more leaves =
     let same : record (appended_state s first) { octets = q.octets; behind = q.behind } ≡ appended_state (appended_state s first) octets = cc in
     leaves ∙ same ∙ appended_both s first octets
 
--- there is room for so many octets
+-- there is space for this many octets
 pub room_there : (w : SliceWriter) (n : ℕ) → w.failed ≡ false → length (slice_writer_state w).octets + n ≤ w.stop
     → (room_outcome n (slice_writer_state w) (slice_writer_state w)).answer ≡ Ok tt
 room_there w n alive room =

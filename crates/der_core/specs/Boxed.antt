@@ -1,12 +1,11 @@
--- Values in memory of their own: `BoxedRead` has the rows of reading one.
+-- Boxed values: `BoxedRead` has the cases of reading one.
 use Rattle.std.specs.Prelude.{◌≡◌, Result, Ok, Err}
 use Rattle.der_base.specs.Error.{error_of_kind}
 use Rattle.der_base.specs.declared.error.Error.{Error}
 use Rattle.der_base.specs.declared.error.ErrorKind.TheVariants.{OutOfMemory}
 use Rattle.der_core.specs.ReaderState.{ReaderState}
 
--- a value is read, and then memory is asked for; where that is refused the reader stays behind the
--- contents
+-- a value is read, and then memory is allocated; if that fails the reader stays after the contents
 pub data BoxedRead {A B E : Type 0} (unboxed : B → A)
     (answers : ReaderState → Result A E → ReaderState → Type 0) (converts : Error → E → Type 0)
     (s : ReaderState) (result : Result B E) (t : ReaderState) : Type 0 where

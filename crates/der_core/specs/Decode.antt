@@ -1,5 +1,5 @@
--- What decoding answers: `Decodes`, `Peeks` and `Accepts` of a grammar, by `Passes` and
--- `IsRefusedBy`; of any type the rows of `decode`, `from_der`, `from_ber` and `from_der_partial`,
+-- Outcomes of decoding: `Decodes`, `Peeks` and `Accepts` for a grammar, by `Passes` and
+-- `IsRefusedBy`; for any type the cases of `decode`, `from_der`, `from_ber` and `from_der_partial`,
 -- of `tlv_bytes`, and of `peek_matches`.
 use Rattle.std.specs.Prelude.{◌≡◌, ℕ, ◌^◌, ◌<◌, ◌≤◌, ◌⊎◌, Bool, true, false, List, length, Result, Ok, Err, IsOk, IfOk, IsErr, IfErr, IsErrAnd, IsTrue, ◌↔◌, ◌+◌}
 use Rattle.der_base.specs.Error.{error_at, error_of_kind, Refusal}
@@ -18,12 +18,12 @@ use Rattle.der_core.specs.Reader.{finish_answer, tlv_outcome}
 use Rattle.der_core.specs.Header.{head_of, HeaderAhead}
 use Rattle.der_core.specs.declared.header.Header.{Header}
 
--- whether a kind says that memory was refused
+-- whether a kind reports a failed allocation
 abbrev pub is_out_of_memory_kind : ErrorKind → Bool
 is_out_of_memory_kind OutOfMemory = true
 is_out_of_memory_kind _ = false
 
--- the first octets of the rest are this, and the reader has passed them
+-- the next octets satisfy `Ahead`, and the reader has consumed them
 pub record Passes (Ahead : EncodingRules → List ℕ → ℕ → Type 0) (s t : ReaderState) : Type 0 where
   pub octets : ℕ
   pub working : s.failed ≡ false
@@ -31,7 +31,8 @@ pub record Passes (Ahead : EncodingRules → List ℕ → ℕ → Type 0) (s t :
   pub there : octets ≤ length (rest_of s)
   pub leaves : t ≡ record s { position = s.position + octets }
 
--- a reader that had failed is left as it is; on another the rest has a fault, which is told
+-- an error: a reader that had failed is unchanged; otherwise the next octets have a fault, which is
+-- returned
 pub data IsRefusedBy (Fault : EncodingRules → ℕ → List ℕ → Refusal → Type 0) (s : ReaderState)
     (e : Error) (t : ReaderState) : Type 0 where
   has_failed : s.failed ≡ true → e ≡ error_at Failed (definite_length s.position) → t ≡ s
@@ -39,8 +40,9 @@ pub data IsRefusedBy (Fault : EncodingRules → ℕ → List ℕ → Refusal →
   at_fault : (r : Refusal) → s.failed ≡ false → Fault s.rules s.position (rest_of s) r → e ≡ r.error
       → t ≡ state_after s r → IsRefusedBy Fault s e t
 
--- a decoder of a grammar, by what stands ahead and by its faults: it hands back the same reader;
--- what it answers stood ahead and is passed; what a reliable reader refuses has a fault
+-- the outcome of a decoder of a grammar, by its values (`Ahead`) and its faults: it leaves the same
+-- reader; a value that it returns was next and is consumed; an error of a reliable reader is a
+-- fault of the next octets
 pub record Decodes {A : Type 0} (Ahead : A → EncodingRules → List ℕ → ℕ → Type 0)
     (Fault : EncodingRules → ℕ → List ℕ → Refusal → Type 0) (reliable : Bool) (s : ReaderState)
     (answer : Result A Error) (t : ReaderState) : Type 0 where
@@ -48,12 +50,12 @@ pub record Decodes {A : Type 0} (Ahead : A → EncodingRules → List ℕ → �
   pub ok : IfOk answer (λ v. Passes (Ahead v) s t)
   pub refused : reliable ≡ true → IfErr answer (λ e. IsRefusedBy Fault s e t)
 
--- a peek tells what decoding would answer; the reader stays
+-- a peek returns what decoding would; the reader does not move
 abbrev pub Peeks : {A : Type 0} → (A → EncodingRules → List ℕ → ℕ → Type 0)
     → (EncodingRules → ℕ → List ℕ → Refusal → Type 0) → Bool → ReaderState → Result A Error → Type 0
 Peeks Ahead Fault reliable s answer = (t : ReaderState) × Decodes Ahead Fault reliable s answer t
 
--- on a reliable reader a decoder reads what stands ahead
+-- on a reliable reader that has not failed, a decoder returns the next value
 abbrev pub Accepts : {A : Type 0} → (A → EncodingRules → List ℕ → ℕ → Type 0)
     → (EncodingRules → ℕ → List ℕ → Refusal → Type 0) → Type 0
 Accepts {A} Ahead Fault =
@@ -61,24 +63,25 @@ Accepts {A} Ahead Fault =
     → Decodes Ahead Fault true s answer t → s.failed ≡ false
     → Ahead v s.rules (rest_of s) m → (answer ≡ Ok v) × (t ≡ advanced_state s m)
 
--- how many levels of nesting tags, lengths and headers want: none, since a body is scanned without
--- entering it
+-- the number of nesting levels that tags, lengths and headers require: none, since a body is
+-- scanned without entering it
 abbrev pub grammar_levels : EncodingRules → ℕ
 grammar_levels rules = 0
 
--- a decoder succeeds, or it takes memory and was refused it
+-- a decoder succeeds, or it allocates and an allocation failed
 abbrev pub SucceedsOrLacks : {A E : Type 0} → (E → Bool) → Bool → Result A E → Type 0
 SucceedsOrLacks out_of_memory allocates result =
     IsOk result ⊎ ((allocates ≡ true) × IsErrAnd result (λ e. out_of_memory e ≡ true))
 
--- a decoder succeeds and passes m octets, or it takes memory and was refused it
+-- a decoder succeeds and consumes m octets, or it allocates and an allocation failed
 abbrev pub ReadsOrLacks : {A E : Type 0}
     → (E → Bool) → Bool → ReaderState → ℕ → Result A E → ReaderState → Type 0
 ReadsOrLacks out_of_memory allocates s m result t =
     (IsOk result × (t ≡ advanced_state s m))
     ⊎ ((allocates ≡ true) × IsErrAnd result (λ e. out_of_memory e ≡ true))
 
--- a value of octets: too many of them are an overflow; else what follows the decoder's answer
+-- decoding of a byte slice: an overflow if it is too long, otherwise what follows from the
+-- decoder's result
 pub data BytesAnswer {A B E : Type 0} (rules : EncodingRules)
     (answers : ReaderState → Result A E → ReaderState → Type 0) (converts : Error → E → Type 0)
     (Follows : Result A E → ReaderState → Result B E → Type 0) (octets : List ℕ)
@@ -89,8 +92,8 @@ pub data BytesAnswer {A B E : Type 0} (rules : EncodingRules)
       → answers (initial_state rules octets) answer t → Follows answer t result
       → BytesAnswer rules answers converts Follows octets result
 
--- what follows the answer of a decoder at the front: its error, or the value with the rest of a
--- reader that is not failed
+-- what follows from the result of a decoder at the start: its error; or the value and the remaining
+-- octets, if the reader has not failed
 abbrev pub PartialThen : {A E : Type 0}
     → (Error → E → Type 0) → Result A E → ReaderState → Result (A × List ℕ) E → Type 0
 PartialThen converts (Err e) t result = result ≡ Err e
@@ -98,8 +101,8 @@ PartialThen converts (Ok v) t result =
     ((t.failed ≡ false) × (result ≡ Ok (v, rest_of t)))
     ⊎ ((t.failed ≡ true) × IsErrAnd result (λ e. converts (error_at Failed (reader_position t)) e))
 
--- what follows that of a decoder which has to read all: its error, or that of finishing, or the
--- value
+-- what follows from the result of a decoder that must consume everything: its error, that of
+-- finishing, or the value
 abbrev pub WholeThen : {A E : Type 0}
     → (Error → E → Type 0) → Result A E → ReaderState → Result A E → Type 0
 WholeThen converts (Err e) t result = result ≡ Err e
@@ -107,8 +110,8 @@ WholeThen converts (Ok v) t result =
     ((finish_answer t ≡ Ok tt) × (result ≡ Ok v))
     ⊎ ((e : Error) × (finish_answer t ≡ Err e) × IsErrAnd result (λ f. converts e f))
 
--- the rows of `from_der_partial`, which answers a value at the front of octets, and those of
--- `from_der` and `from_ber`, which answer one of all the octets
+-- the cases of `from_der_partial`, which returns a value at the start of the octets, and of
+-- `from_der` and `from_ber`, which return one that is all of the octets
 abbrev pub PartialAnswer : {A E : Type 0} → EncodingRules
     → (ReaderState → Result A E → ReaderState → Type 0)
     → (Error → E → Type 0) → List ℕ → Result (A × List ℕ) E → Type 0
@@ -119,12 +122,13 @@ abbrev pub WholeAnswer : {A E : Type 0} → EncodingRules
     → (Error → E → Type 0) → List ℕ → Result A E → Type 0
 WholeAnswer rules answers converts = BytesAnswer rules answers converts (WholeThen converts)
 
--- octets are wholly what stands ahead in them
+-- all of the octets satisfy `Ahead`
 abbrev pub Whole : (EncodingRules → List ℕ → ℕ → Type 0) → EncodingRules → List ℕ → Type 0
 Whole Ahead rules octets = Ahead rules octets (length octets)
 
--- the rows of `tlv_bytes`, the octets of a whole element: its header is looked at first, which
--- leaves the reader; header and contents together are then lent, or pass every length
+-- the cases of `tlv_bytes`, the octets of a whole element: its header is peeked at first, which
+-- leaves the reader unchanged; then header and contents are returned together, or are too many for
+-- a length
 pub data TlvAnswer (s : ReaderState) (answer : Result (List ℕ) Error) (t : ReaderState)
     : Type 0 where
   no_header : (e : Error) → Peeks HeaderAhead (HeaderFault BodyFault) true s (Err e)
@@ -133,8 +137,8 @@ pub data TlvAnswer (s : ReaderState) (answer : Result (List ℕ) Error) (t : Rea
   with_header : (h : Header) (m : ℕ) → HeaderAhead h s.rules (rest_of s) m → s.failed ≡ false
       → Gives (tlv_outcome (m + number (head_of h).length)) s answer t → TlvAnswer s answer t
 
--- the rows of a reader's `decode`: one that has failed refuses, and any refusal leaves it failed; a
--- reliable one owes the decoder's answer too
+-- the cases of a reader's `decode`: a failed reader returns an error, and every error leaves the
+-- reader failed; a reliable reader also returns exactly the decoder's result
 pub data ReaderDecodes {A E : Type 0} (reliable : Bool)
     (answers : ReaderState → Result A E → ReaderState → Type 0) (converts : Error → E → Type 0)
     (s : ReaderState)
@@ -148,8 +152,8 @@ pub data ReaderDecodes {A E : Type 0} (reliable : Bool)
       → (reliable ≡ true → answers s result u)
       → t ≡ stopped_state u u.position → ReaderDecodes reliable answers converts s result t
 
--- the rows of `peek_matches`: whether the tag ahead has this class and number; none is ahead of a
--- finished reader
+-- the cases of `peek_matches`: whether the next tag has this class and number; a finished reader
+-- has no next tag
 pub data MatchAnswer (class number : ℕ) (s : ReaderState) (answer : Result Bool Error)
     : Type 0 where
   finished : s.position ≡ s.end → answer ≡ Ok false → MatchAnswer class number s answer

@@ -1,5 +1,6 @@
--- What comparisons of values by their encodings answer (X.690 11.6): `element_order` has the rows
--- of `der_cmp` of elements; `IsOrderly` and `OrdersContents` are what makes them byte order.
+-- Results of comparing values by their encodings (X.690 11.6): `element_order` has the cases of
+-- `der_cmp` for elements; `IsOrderly` and `OrdersContents` are the conditions under which it is
+-- byte order.
 use Rattle.std.specs.Prelude.{◌≡◌, ◌≢◌, ℕ, ◌-◌, List, ◌++◌, length, replicate, Result, Ok, Err}
 use Rattle.std.specs.declared.cmp.Ordering.{Ordering}
 use Rattle.std.specs.declared.cmp.Ordering.TheVariants.{Less, Equal, Greater}
@@ -11,23 +12,23 @@ use Rattle.der_base.specs.declared.length.Length.{Length}
 use Rattle.der_base.specs.declared.tag.Tag.{Tag}
 use Rattle.der_core.specs.Encode.{element_octets}
 
--- octets of a tag and zeros behind them, six in all, as many as a tag has at most
+-- the octets of a tag padded with zeros to six, the most that a tag has
 abbrev pub six_octets : List ℕ → List ℕ
 six_octets octets = octets ++ replicate (6 - length octets) 0
 
--- what a comparison answers
+-- the result of a comparison
 abbrev pub Compared : Type 0
 Compared = Result Ordering Error
 
--- an ordering, and where it is equal another answer
+-- an ordering, or another result if it is `Equal`
 abbrev pub then_compared : Ordering → Compared → Compared
 then_compared Less more = Ok Less
 then_compared Equal more = more
 then_compared Greater more = Ok Greater
 
--- the comparison of two elements, by their tags, the numbers of octets of their contents, of which
--- each may be refused, the first before the second, and what a comparison of the contents answers:
--- the headers in byte order decide, and then the contents
+-- the comparison of two elements, given their tags, the numbers of their contents octets (each of
+-- which may be an error, the first before the second), and the result of comparing the contents:
+-- the headers in byte order decide, then the contents
 abbrev pub element_order : Tag → Tag → Result Length Error → Result Length Error → Compared
     → Compared
 element_order t u (Ok m) (Ok n) contents =
@@ -35,28 +36,29 @@ element_order t u (Ok m) (Ok n) contents =
 element_order t u (Ok m) (Err e) contents = Err e
 element_order t u (Err e) n contents = Err e
 
--- two contents are compared in byte order, where their tags are equal and they are as long
+-- two contents are compared in byte order if their tags are equal and the contents have equal
+-- lengths
 abbrev pub AreOrderly : Tag → Tag → List ℕ → List ℕ → Compared → Type 0
 AreOrderly t u c d answer = t ≡ u → length c ≡ length d → answer ≡ Ok (byte_order c d)
 
--- the contents of any two values of a type are compared in byte order so
+-- this holds for the contents of any two values of a type
 abbrev pub IsOrderly : {A : Type 0} → (A → Tag) → (A → List ℕ) → (A → A → Compared) → Type 0
 IsOrderly {A} tag_of contents order =
     (v w : A) → AreOrderly (tag_of v) (tag_of w) (contents v) (contents w) (order v w)
 
--- values stand as their contents do in byte order, where these are as long
+-- values compare as their contents do in byte order, if these have equal lengths
 abbrev pub OrdersContents : {A : Type 0} → (A → List ℕ) → (A → A → Ordering) → Type 0
 OrdersContents {A} contents order =
     (v w : A) → length (contents v) ≡ length (contents w)
     → order v w ≡ byte_order (contents v) (contents w)
 
--- no whole element begins a different one
+-- no encoded element is a proper prefix of another
 abbrev pub NoElementBeginsAnother : Type 0
 NoElementBeginsAnother =
     (t u : Tag) (c d x y : List ℕ) → element_octets t c ++ x ≡ element_octets u d ++ y
     → (t ≡ u) × (c ≡ d) × (x ≡ y)
 
--- what stands behind two different elements does not decide which is the smaller (X.690 11.6)
+-- octets after two different elements do not affect which is the smaller (X.690 11.6)
 abbrev pub PaddingNeverDecides : Type 0
 PaddingNeverDecides =
     (t u : Tag) (c d x y : List ℕ) → element_octets t c ≢ element_octets u d

@@ -1,5 +1,6 @@
--- Elements (X.690 8.1.1): a header, contents, and the end mark of an indefinite length
--- (`ElementAhead`); what reading one answers (`ElementRead`, and by a closure `ElementReadBy`).
+-- Elements (X.690 8.1.1): a header, contents, and end-of-contents octets if the length is
+-- indefinite (`ElementAhead`); outcomes of reading one (`ElementRead`, and by a closure
+-- `ElementReadBy`).
 use Rattle.std.specs.Prelude.{◌≡◌, ◌≢◌, ℕ, ◌+◌, Bool, true, false, List, [], ◌++◌, length, drop, Result, Err}
 use Rattle.der_base.specs.Arithmetic.{sans_eoc}
 use Rattle.der_base.specs.ScanGrammar.{BodyFault}
@@ -16,16 +17,18 @@ use Rattle.der_core.specs.Header.{head_of, HeaderAhead}
 use Rattle.der_core.specs.Nested.{ValueAnswer}
 use Rattle.der_core.specs.declared.header.Header.{Header}
 
--- the header of the contents alone, without the end mark
+-- the header with the length of the contents alone, without the end-of-contents octets
 abbrev pub head_sans_eoc : Head → Head
 head_sans_eoc h = head h.tag (sans_eoc h.length) h.constructed
 
--- the end mark closes contents of an indefinite length (8.1.5), nothing those of a definite one
+-- the end-of-contents octets after indefinite-length contents (8.1.5); nothing after
+-- definite-length ones
 abbrev pub IsEndMark : Bool → List ℕ → Type 0
 IsEndMark false octets = octets ≡ []
 IsEndMark true octets = octets ≡ end_of_contents
 
--- the first m octets of a list are an element with this tag, whose contents are taken as the value
+-- the first m octets of a list are an element with this tag, whose contents are accepted as the
+-- value
 pub record ElementAhead {A : Type 0} (tag : Tag)
     (takes : A → EncodingRules → Head → List ℕ → Type 0) (v : A)
     (rules : EncodingRules) (octets : List ℕ) (m : ℕ) : Type 0 where
@@ -42,7 +45,7 @@ pub record ElementAhead {A : Type 0} (tag : Tag)
   pub whole : m ≡ header + (length contents + length mark)
   pub taken : takes v rules (head_sans_eoc says) contents
 
--- how many levels of nesting an element wants: its own, and those of its contents
+-- the number of nesting levels that an element requires: one, and those of its contents
 abbrev pub element_levels : (EncodingRules → ℕ) → EncodingRules → ℕ
 element_levels levels rules = 1 + levels rules
 
@@ -62,7 +65,7 @@ pub data ElementReadBy {P Q T E : Type 0} (tag : Tag) (converts : Error → E �
       (sans_eoc (head_of h).length) u result t
       → ElementReadBy tag converts post before after s result t
 
--- an element is read: its header, its tag, and its contents as a value, by what its type answers
+-- an element is read: its header, its tag, and its contents as a value, by the outcomes of its type
 abbrev pub ElementRead : {T E : Type 0} → Tag → (Error → E → Type 0)
     → (Head → ReaderState → Result T E → ReaderState → Type 0)
     → ReaderState → Result T E → ReaderState → Type 0

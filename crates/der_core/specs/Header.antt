@@ -1,4 +1,4 @@
--- What a header says (`head_of`), and that one stands ahead (`HeaderAhead`).
+-- The content of a header (`head_of`), and octets that begin with one (`HeaderAhead`).
 use Rattle.der_base.specs.Arithmetic.{sans_eoc}
 use Rattle.std.specs.Prelude.{ℕ, List}
 use Rattle.der_base.specs.HeaderGrammar.{Head, HeadAhead}
@@ -13,6 +13,6 @@ head_of h = record { tag = h.tag; length = h.length; constructed = h.constructed
 abbrev pub HeaderAhead : Header → EncodingRules → List ℕ → ℕ → Type 0
 HeaderAhead h = HeadAhead (head_of h)
 
--- the header of the contents alone, without the end mark
+-- the header with the length of the contents alone, without the end-of-contents octets
 abbrev pub header_sans_eoc : Header → Header
 header_sans_eoc h = record { tag = h.tag; length = sans_eoc h.length; constructed = h.constructed }

@@ -1,6 +1,6 @@
--- What it means that exactly the encodings of values are read: `IsLawful` is what the author of a
--- type proves; of its elements `ReadsEncodings`, `ReadsWholeEncodings`, `PassesEncodings` and
--- `ReadsWritten` follow, and of tags, lengths and headers `ReadsExactly`.
+-- The property that exactly the encodings of values are read. `IsLawful` is what the implementor of
+-- a type proves; it implies `ReadsEncodings`, `ReadsWholeEncodings`, `PassesEncodings` and
+-- `ReadsWritten` for its elements. `ReadsExactly` holds for tags, lengths and headers.
 use Rattle.std.specs.Prelude.{◌≡◌, ◌↔◌, ℕ, ◌^◌, ◌<◌, ◌≤◌, List, ◌++◌, length}
 use Rattle.der_base.specs.Length.{number, definite_length}
 use Rattle.der_base.specs.Tag.{label}
@@ -16,7 +16,7 @@ use Rattle.der_core.specs.Header.{head_of}
 use Rattle.der_core.specs.ReaderState.{ReaderState, Reads}
 use Rattle.der_core.specs.declared.header.Header.{Header}
 
--- the header of a tag and of so many octets of contents (X.690 10.1)
+-- the header of a tag and n contents octets (X.690 10.1)
 abbrev pub definite_head : Tag → ℕ → Head
 definite_head t n = head t (definite_length n) (label t).constructed
 
@@ -24,15 +24,15 @@ definite_head t n = head t (definite_length n) (label t).constructed
 abbrev pub IsDefinite : Length → Type 0
 IsDefinite l = (l ≡ definite_length (number l)) × (number l < 2 ^ 32)
 
--- a header that is a tag's, of a definite length
+-- a header with the constructed bit of its tag, and with a definite length
 pub record IsDefiniteHeader (h : Header) : Type 0 where
   pub says : head_of h ≡ definite_head (head_of h).tag (number (head_of h).length)
   pub numbered : (label (head_of h).tag).number < 2 ^ 32
   pub small : number (head_of h).length < 2 ^ 32
 
--- a type with this tag is lawful: under DER contents are taken as a value exactly where it is valid
--- and they are what it is written as; they want at most 63 levels of nesting, so that an element
--- fits into a reader; and the tag's number has 32 bits
+-- a type with this tag is lawful: under DER contents are accepted as a value exactly if it is valid
+-- and they are its encoded contents; they require at most 63 levels of nesting, so that a reader
+-- can enter the element; and the number of the tag has 32 bits
 pub record IsLawful {A : Type 0} (tag : Tag) (takes : A → EncodingRules → Head → List ℕ → Type 0)
     (valid : A → Type 0) (contents : A → List ℕ) (levels : EncodingRules → ℕ) : Type 0 where
   pub exact : (octets : List ℕ) (v : A) → length octets < 2 ^ 32
@@ -49,8 +49,8 @@ pub record EncodingAhead {A : Type 0} (valid : A → Type 0) (encoding : A → L
   pub split : octets ≡ encoding v ++ behind
   pub whole : m ≡ length (encoding v)
 
--- under DER a value stands at the front of octets only where they begin with its encoding, and
--- wherever octets that a length can count begin with it
+-- under DER octets begin with a value only if they begin with its encoding, and, if a length can
+-- represent their number, whenever they begin with it
 pub record ReadsEncodings {A : Type 0} (Ahead : A → EncodingRules → List ℕ → ℕ → Type 0)
     (valid : A → Type 0) (encoding : A → List ℕ) : Type 0 where
   pub only : (octets : List ℕ) (v : A) (m : ℕ) → Ahead v Der octets m
@@ -58,7 +58,8 @@ pub record ReadsEncodings {A : Type 0} (Ahead : A → EncodingRules → List ℕ
   pub every : (octets : List ℕ) (v : A) (m : ℕ) → length octets < 2 ^ 32
       → EncodingAhead valid encoding v octets m → Ahead v Der octets m
 
--- under DER octets are wholly a value only where they are its encoding, and wherever they are
+-- under DER octets are entirely a value only if they are its encoding, and, if a length can
+-- represent their number, whenever they are
 pub record ReadsWholeEncodings {A : Type 0} (Ahead : A → EncodingRules → List ℕ → ℕ → Type 0)
     (valid : A → Type 0) (encoding : A → List ℕ) : Type 0 where
   pub only : (octets : List ℕ) (v : A) → Whole (Ahead v) Der octets
@@ -66,15 +67,15 @@ pub record ReadsWholeEncodings {A : Type 0} (Ahead : A → EncodingRules → Lis
   pub every : (octets : List ℕ) (v : A) → length octets < 2 ^ 32 → valid v
       → octets ≡ encoding v → Whole (Ahead v) Der octets
 
--- a DER reader that has passed a value has passed its encoding, and nothing else
+-- a DER reader that has consumed a value has consumed its encoding, and nothing else
 abbrev pub PassesEncodings : {A : Type 0} → (A → EncodingRules → List ℕ → ℕ → Type 0)
     → (A → Type 0) → (A → List ℕ) → Type 0
 PassesEncodings {A} Ahead valid encoding =
     (s t : ReaderState) (v : A) → s.rules ≡ Der → Passes (Ahead v) s t
     → valid v × Reads s t (encoding v)
 
--- under DER what was written is read, whatever follows: the value that it was written for stands
--- there, and no other
+-- under DER an encoding is read back, whatever follows: octets that begin with it begin with its
+-- value and with no other
 pub record ReadsBack {A : Type 0} (Ahead : A → EncodingRules → List ℕ → ℕ → Type 0)
     (valid : A → Type 0) (encoding : A → List ℕ) : Type 0 where
   pub ahead : (v : A) (more : List ℕ) → valid v → length (encoding v ++ more) < 2 ^ 32
@@ -82,8 +83,8 @@ pub record ReadsBack {A : Type 0} (Ahead : A → EncodingRules → List ℕ → 
   pub alone : (v w : A) (more : List ℕ) (m : ℕ) → valid v → Ahead w Der (encoding v ++ more) m
       → (w ≡ v) × (m ≡ length (encoding v))
 
--- under DER values are read of exactly their encodings: at the front of octets, of all of them, by
--- a reader, and of what was written
+-- under DER values are read from exactly their encodings: from the start of octets, from all of
+-- them, by a reader, and from what was written
 pub record ReadsExactly {A : Type 0} (Ahead : A → EncodingRules → List ℕ → ℕ → Type 0)
     (valid : A → Type 0) (encoding : A → List ℕ) : Type 0 where
   pub front : ReadsEncodings Ahead valid encoding
@@ -91,8 +92,8 @@ pub record ReadsExactly {A : Type 0} (Ahead : A → EncodingRules → List ℕ �
   pub passed : PassesEncodings Ahead valid encoding
   pub written : ReadsBack Ahead valid encoding
 
--- under DER an element that was written is read, whatever follows: its value stands there, and each
--- that stands there has the same contents
+-- under DER an encoded element is read back, whatever follows: octets that begin with it begin with
+-- its value, and every value with which they begin has the same contents
 pub record ReadsWritten {A : Type 0} (tag : Tag)
     (takes : A → EncodingRules → Head → List ℕ → Type 0) (valid : A → Type 0)
     (contents : A → List ℕ) : Type 0 where

@@ -1,5 +1,5 @@
--- Reading a part by a closure: when one may be entered and left (`CanNest`, `CanLeave`), what the
--- closure owes (`HandsBack`), and the rows of `close_nested` (`Closes`), `close_value`
+-- Reading a nested part by a closure: when one may be entered and left (`CanNest`, `CanLeave`), the
+-- condition on the closure (`HandsBack`), and the cases of `close_nested` (`Closes`), `close_value`
 -- (`ClosesValue`), `read_nested` (`NestedAnswer`) and `read_value` (`ValueAnswer`).
 use Rattle.std.specs.Prelude.{◌≡◌, ℕ, ◌+◌, ◌-◌, ◌<◌, ◌≤◌, Bool, true, false, length, Result, Ok, Err}
 use Rattle.der_base.specs.Error.{error_at}
@@ -11,11 +11,11 @@ use Rattle.der_core.specs.ReaderState.{ReaderState, reader_position, nested_stat
 use Rattle.der_core.specs.Outcome.{Gives}
 use Rattle.der_core.specs.Reader.{enter_nested_outcome, read_eoc_outcome}
 
--- a part of n octets can be entered
+-- a nested part of n octets can be entered
 abbrev pub CanNest : ReaderState → ℕ → Type 0
 CanNest s n = (s.position + n ≤ s.end) × (s.depth < 64)
 
--- what a closure makes of a part is handed on; octets that it left are a refusal
+-- the result of a closure on a nested part is returned; octets that it left unread are an error
 pub data Closes {T E : Type 0} (converts : Error → E → Type 0) (answer : Result T E)
     (s : ReaderState)
     (end depth : ℕ) (result : Result T E) (t : ReaderState) : Type 0 where
@@ -30,21 +30,21 @@ pub data Closes {T E : Type 0} (converts : Error → E → Type 0) (answer : Res
       → t ≡ resumed_state s end depth
       → Closes converts answer s end depth result t
 
--- a part may be left: its outer end lies between the position and the input's length
+-- a nested part may be left: its outer end is between the position and the input's length
 pub record CanLeave (s : ReaderState) (end depth : ℕ) : Type 0 where
   pub passed : s.position ≤ end
   pub in_input : end ≤ length s.input
   pub shallow : depth ≤ 64
 
--- the condition on a closure that reads a part of n octets: it may be called inside the part, and
--- hands back the same reader
+-- the condition on a closure that reads a nested part of n octets: it may be called inside the
+-- part, and leaves the same reader
 pub record HandsBack {P Q A : Type 0} (pre : P → Type 0) (post : P → A → Q → Type 0)
     (before : P → ReaderState) (after : Q → ReaderState) (s : ReaderState) (n : ℕ) : Type 0 where
   pub callable : (p : P) → CanNest s n → before p ≡ nested_state s n → pre p
   pub same : (p : P) (a : A) (q : Q) → CanNest s n → before p ≡ nested_state s n → post p a q
       → Same (before p) (after q)
 
--- the closure ran inside the part of n octets, and this is made of what it answered
+-- the closure ran inside the nested part of n octets, and its result determines this one
 pub data NestedAnswer {P Q T E : Type 0} (converts : Error → E → Type 0)
     (post : P → Result T E → Q → Type 0) (before : P → ReaderState) (after : Q → ReaderState)
     (n : ℕ)
@@ -55,7 +55,8 @@ pub data NestedAnswer {P Q T E : Type 0} (converts : Error → E → Type 0)
       → post p answer q → Closes converts answer (after q) s.end s.depth result t
       → NestedAnswer converts post before after n s result t
 
--- a part and the end mark that closes it, where its length was read in the indefinite form
+-- a nested part and the end-of-contents octets after it, if its length was read in the indefinite
+-- form
 pub data ClosesValue {T E : Type 0} (converts : Error → E → Type 0) (answer : Result T E)
     (s : ReaderState) (end depth : ℕ) (marked : Bool) (result : Result T E) (t : ReaderState)
     : Type 0 where
@@ -72,7 +73,7 @@ pub data ClosesValue {T E : Type 0} (converts : Error → E → Type 0) (answer 
       → Gives read_eoc_outcome u (Err e) t → converts e f → result ≡ Err f
       → ClosesValue converts answer s end depth marked result t
 
--- the closure ran inside the contents of a length, and this is made of what it answered
+-- the closure ran inside contents of this length, and its result determines this one
 pub data ValueAnswer {P Q T E : Type 0} (converts : Error → E → Type 0)
     (post : P → Result T E → Q → Type 0) (before : P → ReaderState) (after : Q → ReaderState)
     (length : Length)

@@ -1,4 +1,4 @@
--- What a `Position` means (`position_place`), and the tables of its calls, by which it moves
+-- The meaning of a `Position` (`position_place`), and the tables of its calls, which move it
 -- (`Moves`).
 use Rattle.std.specs.Prelude.{◌≡◌, ℕ, ◌+◌, ◌^◌, Result, Ok, Err, if◌then◌else◌, nat_lt, not}
 use Rattle.der_base.specs.Length.{definite_length}
@@ -8,7 +8,7 @@ use Rattle.der_base.specs.declared.error.Error.{Error}
 use Rattle.der_base.specs.declared.error.ErrorKind.TheVariants.{Overflow, Incomplete, NestingDepth}
 use Rattle.der_core.specs.declared.reader.position.Position.{Position}
 
--- an end, a position and how many parts stand around it
+-- an end, a position, and the number of nested parts around it
 pub record Place : Type 0 where
   pub end : ℕ
   pub position : ℕ
@@ -27,7 +27,7 @@ pub record PlaceOutcome (A : Type 0) : Type 0 where
 abbrev pub place_outcome : {A : Type 0} → Result A Error → Place → PlaceOutcome A
 place_outcome answer after = record { answer = answer; after = after }
 
--- from a place the call answers so and leaves another, as its table says
+-- the call has the result and the place after it of its table
 pub record Moves {A : Type 0} (table : Place → PlaceOutcome A) (s : Place) (answer : Result A Error)
     (t : Place) : Type 0 where
   pub answered : answer ≡ (table s).answer
@@ -43,19 +43,19 @@ advance_outcome n s =
     else place_outcome (Ok (definite_length (s.position + n)))
     (place_at s.end (s.position + n) s.depth)
 
--- the error of a part that ends behind the end
+-- the error of a nested part whose end is after the end
 abbrev pub part_error : ℕ → ℕ → Error
 part_error part_end end =
     if not (nat_lt part_end (2 ^ 32)) then error_of_kind Overflow else (end_refusal end).error
 
--- where a part of n octets ends
+-- the end of a nested part of n octets
 abbrev pub part_end : ℕ → Place → Result ℕ Error
 part_end n s =
     if not (nat_lt (s.position + n) (2 ^ 32)) then Err (error_of_kind Overflow)
     else if nat_lt s.end (s.position + n) then Err (end_refusal s.end).error
     else Ok (s.position + n)
 
--- inside a part that ends there
+-- the place inside a nested part with this end
 abbrev pub nested_place : Place → ℕ → Place
 nested_place s end = place_at end s.position (s.depth + 1)
 

@@ -1,16 +1,17 @@
--- What a reader means (`ReaderState`), which states it may have (`IsSound`), and how a call may
--- leave it (`Same`, `Reads`).
+-- The meaning of a reader (`ReaderState`), the states that it may have (`IsSound`), and how a call
+-- may change them (`Same`, `Reads`).
 use Rattle.std.specs.Prelude.{◌≡◌, ℕ, ◌+◌, ◌-◌, ◌^◌, ◌<◌, ◌≤◌, Bool, true, false, IsTrue, List, ◌++◌, length, take, drop, if◌then◌else◌}
 use Rattle.der_base.specs.Length.{definite_length}
 use Rattle.der_base.specs.Error.{Refusal}
 use Rattle.der_base.specs.declared.length.Length.{Length}
 use Rattle.der_base.specs.declared.encoding_rules.EncodingRules.{EncodingRules}
 
--- an input, the rules that it is read by, how far it was read and may be, and whether that failed
+-- an input, its encoding rules, the end up to which it may be read, the position, the nesting
+-- depth, and whether reading failed
 pub record ReaderState : Type 0 where
   pub input : List ℕ
   pub rules : EncodingRules
-  -- how far may be read: inside a part, its end
+  -- the end up to which may be read: inside a nested part, that of the part
   pub end : ℕ
   pub position : ℕ
   pub depth : ℕ
@@ -18,7 +19,7 @@ pub record ReaderState : Type 0 where
   -- whether the reader keeps a failed state
   pub marks : Bool
 
--- a reader of a whole input that nothing was read of
+-- a reader at the start of a whole input
 abbrev pub initial_state : EncodingRules → List ℕ → ReaderState
 initial_state rules input =
     record {
@@ -31,7 +32,7 @@ initial_state rules input =
       marks = true;
     }
 
--- what is left up to the present end
+-- the remaining octets, up to the present end
 abbrev pub rest_of : ReaderState → List ℕ
 rest_of s = take (s.end - s.position) (drop s.position s.input)
 
@@ -42,24 +43,24 @@ reader_position s = definite_length s.position
 abbrev pub advanced_state : ReaderState → ℕ → ReaderState
 advanced_state s n = record s { position = s.position + n }
 
--- inside a part of n octets
+-- inside a nested part of n octets
 abbrev pub nested_state : ReaderState → ℕ → ReaderState
 nested_state s n = record s { end = s.position + n; depth = s.depth + 1 }
 
--- outside of a part again, with this end and depth
+-- outside a nested part again, with this end and depth
 abbrev pub resumed_state : ReaderState → ℕ → ℕ → ReaderState
 resumed_state s end depth = record s { end = end; depth = depth }
 
--- at a position, failed where the reader keeps such a state
+-- at a position, and failed if the reader keeps a failed state
 abbrev pub stopped_state : ReaderState → ℕ → ReaderState
 stopped_state s at = record s { position = at; failed = s.marks }
 
--- how a reader is left that is refused so
+-- the state after this failure
 abbrev pub state_after : ReaderState → Refusal → ReaderState
 state_after s r =
     record s { position = r.position; failed = if r.fails then s.marks else s.failed }
 
--- the facts of every reader
+-- the laws of every reader
 pub record IsSound (s : ReaderState) : Type 0 where
   pub ordered : s.position ≤ s.end
   pub in_input : s.end ≤ length s.input
@@ -67,7 +68,7 @@ pub record IsSound (s : ReaderState) : Type 0 where
   pub shallow : s.depth ≤ 64
   pub marked : IsTrue s.failed → IsTrue s.marks
 
--- the same reader is handed back: not earlier, within its end, and not less failed
+-- the same reader: not at an earlier position, within its end, and still failed if it had failed
 pub record Same (s t : ReaderState) : Type 0 where
   pub input : t.input ≡ s.input
   pub rules : t.rules ≡ s.rules
@@ -78,7 +79,7 @@ pub record Same (s t : ReaderState) : Type 0 where
   pub within : t.position ≤ t.end
   pub failed : IsTrue s.failed → IsTrue t.failed
 
--- these octets were read, and nothing else changed
+-- exactly these octets were read, and nothing else changed
 pub record Reads (s t : ReaderState) (octets : List ℕ) : Type 0 where
   pub split : rest_of s ≡ octets ++ rest_of t
   pub state : t ≡ advanced_state s (length octets)

@@ -1,4 +1,4 @@
--- What a part that is left goes back to: its `outer_end` and `outer_depth`.
+-- What leaving a nested part restores: its `outer_end` and `outer_depth`.
 use Rattle.std.specs.Prelude.{ℕ}
 use Rattle.der_core.specs.declared.reader.position.Resumption.{Resumption}
 

@@ -1,5 +1,5 @@
--- What a scan of an indefinite length answers (`Scans`, `ScansAhead`), and how many turns it takes
--- (`IsTurned`).
+-- Outcomes of scanning an indefinite length (`Scans`, `ScansAhead`), and the number of turns of a
+-- scan (`IsTurned`).
 use Rattle.std.specs.Prelude.{◌≡◌, ℕ, ◌+◌, ◌/◌, ◌≤◌, Bool, List, length, Result, Ok, Err}
 use Rattle.der_base.specs.ScanGrammar.{BodyAhead, BodyFault, PartsAhead}
 use Rattle.der_base.specs.declared.length.Length.{Length}
@@ -7,16 +7,16 @@ use Rattle.der_base.specs.declared.error.Error.{Error}
 use Rattle.der_core.specs.ReaderState.{ReaderState}
 use Rattle.der_core.specs.Decode.{Decodes, Peeks}
 
--- a body is read, and its octets are counted; or there is none, and its fault is told
+-- a body is consumed and the result counts its octets; or there is none, and its fault is returned
 abbrev pub Scans : Bool → ReaderState → Result Length Error → ReaderState → Type 0
 Scans = Decodes BodyAhead (λ rules. BodyFault)
 
--- a body ahead of a reader, which stays, is counted, or its fault is told
+-- the next body of a reader, which does not move, is counted, or its fault is returned
 abbrev pub ScansAhead : Bool → ReaderState → Result Length Error → Type 0
 ScansAhead = Peeks BodyAhead (λ rules. BodyFault)
 
--- a scan of these octets took a turn for each identifier and end mark of the body that they begin
--- with; one that was refused took a turn for each two octets at most, and one more
+-- a successful scan of these octets makes one turn for each identifier and end-of-contents of the
+-- body with which they begin; a scan that fails makes at most n/2 + 1 turns for n octets
 abbrev pub IsTurned : List ℕ → Result Length Error → ℕ → ℕ → Type 0
 IsTurned octets (Ok l) before after =
     (parts : ℕ) × PartsAhead parts octets × (after ≡ before + parts)

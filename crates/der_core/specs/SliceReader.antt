@@ -1,4 +1,4 @@
--- What a `SliceReader` means (`slice_state`): one that has failed stays so.
+-- The meaning of a `SliceReader` (`slice_state`): once failed, it stays failed.
 use Rattle.std.specs.Prelude.{true}
 use Rattle.der_core.specs.ReaderState.{ReaderState}
 use Rattle.der_core.specs.declared.reader.slice.SliceReader.{SliceReader}

@@ -1,4 +1,4 @@
--- What a `SliceWriter` means (`slice_writer_state`).
+-- The meaning of a `SliceWriter` (`slice_writer_state`).
 use Rattle.std.specs.Prelude.{◌+◌, take, drop, length}
 use Rattle.der_core.specs.Writer.{WriterState}
 use Rattle.der_core.specs.declared.writer.slice.SliceWriter.{SliceWriter}

@@ -1,10 +1,10 @@
--- What a walk over octets by an index means: a reader under BER that stands at the index.
+-- The meaning of a walk over octets by an index: a BER reader at that index.
 use Rattle.std.specs.Prelude.{ℕ, ◌+◌, true, false, List, ◌++◌, length, replicate}
 use Rattle.der_base.specs.declared.encoding_rules.EncodingRules.TheVariants.{Ber}
 use Rattle.der_core.specs.ReaderState.{ReaderState}
 use Rattle.der_core.specs.declared.length.indefinite.walk.Walk.{Walk}
 
--- octets stand from a position on, whatever stands before them, and so many of them are passed
+-- octets that begin at position `start`, whatever is before them, of which `index` are consumed
 abbrev pub walked_state : List ℕ → ℕ → ℕ → ReaderState
 walked_state octets start index =
     record {
@@ -17,6 +17,6 @@ walked_state octets start index =
       marks = true;
     }
 
--- what a walk means
+-- the meaning of a walk
 abbrev pub walk_state : Walk → ReaderState
 walk_state w = walked_state w.octets.now w.start w.index

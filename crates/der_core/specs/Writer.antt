@@ -1,5 +1,5 @@
--- What a writer means (`WriterState`), what a write answers and leaves (`room_outcome` is the one
--- table of what is refused), and how a call may leave the writer (`Keeps`, `Appends`, `Fits`).
+-- The meaning of a writer (`WriterState`), the outcome of a write (`room_outcome` is the one table
+-- of its errors), and how a call may change the writer (`Keeps`, `Appends`, `Fits`).
 use Rattle.std.specs.Prelude.{◌≡◌, ℕ, ◌+◌, ◌-◌, ◌^◌, Bool, true, false, List, [], ◌∷◌, ◌++◌, length, take, drop, Result, Ok, Err, OnOk, IsOk, ◌≤◌, min, nat_lt, if◌then◌else◌}
 use Rattle.der_base.specs.Length.{definite_length}
 use Rattle.der_base.specs.Error.{error_at}
@@ -7,24 +7,24 @@ use Rattle.der_base.specs.declared.length.Length.{Length}
 use Rattle.der_base.specs.declared.error.Error.{Error}
 use Rattle.der_base.specs.declared.error.ErrorKind.TheVariants.{Failed, Overflow, Overlength}
 
--- What a writer means. One without a buffer begins at 0 with nothing written, stops where it takes
--- no more, has nothing behind, and keeps any capacity and reference: these two tell a writer that
--- is handed back from another one.
+-- The meaning of a writer. One without a buffer starts at 0 with nothing written, chooses its own
+-- `stop`, has nothing behind, and any capacity and reference: these two distinguish this writer
+-- from others.
 pub record WriterState : Type 0 where
-  -- all octets written since the buffer began
+  -- all octets written since the start of the buffer
   pub octets : List ℕ
-  -- what the buffer holds behind them
+  -- the octets of the buffer after them
   pub behind : List ℕ
-  -- where the part of the buffer that may be written begins and ends
+  -- the start and the end of the part of the buffer that may be written
   pub start : ℕ
   pub stop : ℕ
-  -- the buffer's length
+  -- the length of the buffer
   pub capacity : ℕ
   pub failed : Bool
-  -- which buffer it is
+  -- the identity of the buffer
   pub reference : ℕ
 
--- a writer over a whole buffer, of which it takes no more octets than a length can count
+-- a writer over a whole buffer, limited to the octets that a length can count
 abbrev pub fresh_state : List ℕ → ℕ → WriterState
 fresh_state buffer reference =
     record {
@@ -37,7 +37,7 @@ fresh_state buffer reference =
       reference = reference;
     }
 
--- how many octets were written into the part
+-- the number of octets written into the part that may be written
 abbrev pub written_count : WriterState → ℕ
 written_count s = length s.octets - s.start
 
@@ -52,8 +52,8 @@ appended_state s octets =
 abbrev pub failed_state : WriterState → WriterState
 failed_state s = record s { failed = true }
 
--- the same writer is handed back, not less failed; what was written before still stands, and the
--- buffer behind what is written now is as it was
+-- the same writer, still failed if it had failed; octets written earlier remain, and the buffer
+-- after what is written now is unchanged
 pub record Keeps (s t : WriterState) : Type 0 where
   pub start : t.start ≡ s.start
   pub stop : t.stop ≡ s.stop
@@ -63,20 +63,20 @@ pub record Keeps (s t : WriterState) : Type 0 where
   pub behind : t.behind ≡ drop (length t.octets - length s.octets) s.behind
   pub fails : s.failed ≡ true → t.failed ≡ true
 
--- where a call succeeded it appended the octets
+-- a call that succeeds appends the octets
 abbrev pub Appends : WriterState → List ℕ → Result (Unit {0}) Error → WriterState → Type 0
 Appends s octets result t = OnOk result (t ≡ appended_state s octets)
 
--- a call on a writer that has not failed and has room for the octets succeeds
+-- a call on a writer that has not failed and has space for the octets succeeds
 abbrev pub Fits : WriterState → List ℕ → Result (Unit {0}) Error → Type 0
 Fits s octets result = s.failed ≡ false → length s.octets + length octets ≤ s.stop → IsOk result
 
--- what a call answers, and how it leaves the writer
+-- the result of a call, and the state after it
 pub record WriterOutcome : Type 0 where
   pub answer : Result (Unit {0}) Error
   pub after : WriterState
 
--- a call answers so and leaves t, as its outcome says
+-- a call has the result and the state t of its outcome
 pub record Writes (outcome : WriterOutcome) (answer : Result (Unit {0}) Error)
     (t : WriterState) : Type 0 where
   pub answered : answer ≡ outcome.answer
@@ -88,7 +88,7 @@ success_outcome t = record { answer = Ok tt; after = t }
 abbrev pub refusal_outcome : Error → WriterState → WriterOutcome
 refusal_outcome e t = record { answer = Err e; after = t }
 
--- n octets more, for which there has to be room; each refusal leaves the writer failed
+-- n more octets, for which there must be space; each error leaves the writer failed
 abbrev pub room_outcome : ℕ → WriterState → WriterState → WriterOutcome
 room_outcome n s granted =
     if s.failed then refusal_outcome (error_at Failed (writer_position s)) s
@@ -99,11 +99,11 @@ room_outcome n s granted =
     else success_outcome granted)
     else refusal_outcome (error_at Overflow (writer_position s)) (failed_state s)
 
--- n octets more are granted, which `has_room` says where it answers true
+-- a write of n octets succeeds; `has_room` states this when it returns true
 abbrev pub HasRoom : WriterState → ℕ → Type 0
 HasRoom s n = (room_outcome n s s).answer ≡ Ok tt
 
--- what n octets are refused by where the writer stands at a position, by whether it has failed
+-- the error for n octets at a position, by whether the writer has failed
 abbrev pub room_error : Bool → ℕ → ℕ → Error
 room_error failed position n =
     if failed then error_at Failed (definite_length position)
@@ -113,13 +113,13 @@ room_error failed position n =
 abbrev pub write_outcome : List ℕ → WriterState → WriterOutcome
 write_outcome octets s = room_outcome (length octets) s (appended_state s octets)
 
--- a call, and where it succeeds another
+-- a call, and another one if it succeeds
 abbrev pub chained_write : Result (Unit {0}) Error → WriterState
     → (WriterState → WriterOutcome) → WriterOutcome
 chained_write (Ok _) t next = next t
 chained_write (Err e) t next = refusal_outcome e t
 
--- octets that go out in pieces, a write for each
+-- octets that are written in pieces, one write for each
 abbrev pub write_pieces : List (List ℕ) → WriterState → WriterOutcome
 write_pieces [] s = success_outcome s
 write_pieces (piece ∷ pieces) s =

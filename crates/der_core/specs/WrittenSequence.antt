@@ -1,6 +1,6 @@
--- A SEQUENCE (X.690 8.9) that is written by a closure: its header, and a part of the buffer for its
--- contents. `HandsBackPart` is what the closure owes, and `SequenceAnswer` has the rows of the
--- call.
+-- A SEQUENCE (X.690 8.9) that is written by a closure: its header, and a part of the buffer that is
+-- reserved for its contents. `HandsBackPart` is the condition on the closure, and `SequenceAnswer`
+-- has the cases of the call.
 use Rattle.std.specs.Prelude.{◌≡◌, ℕ, ◌+◌, ◌<◌, ◌≤◌, true, false, length, take, ◌++◌, Result, Ok, Err, OnOk}
 use Rattle.std.specs.Borrow.{MutBor}
 use Rattle.der_base.specs.Length.{definite_length}
@@ -14,35 +14,35 @@ use Rattle.der_core.specs.Encode.{header_outcome}
 use Rattle.der_core.specs.SliceWriter.{slice_writer_state}
 use Rattle.der_core.specs.declared.writer.slice.SliceWriter.{SliceWriter}
 
--- what may run, and what a run answers and leaves
+-- the precondition of a closure, and its outcome
 abbrev pub Condition : Type 1
 Condition = MutBor SliceWriter → Type 0
 
 abbrev pub Run : Type 1
 Run = MutBor SliceWriter → Result (Unit {0}) Error → MutBor SliceWriter → Type 0
 
--- a writer over the next n octets alone, which nothing was written to
+-- a new writer over the next n octets only
 abbrev pub part_state : WriterState → ℕ → WriterState
 part_state s n = record s { start = length s.octets; stop = length s.octets + n; failed = false }
 
--- the writer round a part, which stands behind what was written before it
+-- the writer around a reserved part, at the start of that part
 abbrev pub outer_state : WriterState → ℕ → ℕ → WriterState
 outer_state q start stop =
     record q { octets = take q.start q.octets; start = start; stop = stop; failed = false }
 
--- behind the header of a SEQUENCE of n octets
+-- after the header of a SEQUENCE of n octets
 abbrev pub headed_state : WriterState → ℕ → WriterState
 headed_state s n = appended_state s (header_octets Sequence n)
 
--- the condition on a closure that writes a part of n octets: it may be called with a writer over
--- the part, and hands back the same writer
+-- the condition on a closure that writes a reserved part of n octets: it may be called with a
+-- writer over the part, and leaves the same writer
 pub record HandsBackPart (pre : Condition) (run : Run) (s : WriterState) (n : ℕ) : Type 0 where
   pub callable : (p : MutBor SliceWriter) → slice_writer_state p.now ≡ part_state s n → pre p
   pub same : (p : MutBor SliceWriter) (r : Result (Unit {0}) Error) (q : MutBor SliceWriter)
       → slice_writer_state p.now ≡ part_state s n → run p r q
       → Keeps (slice_writer_state p.now) (slice_writer_state q.now)
 
--- failed behind a part of n octets; the buffer is as the closure left it
+-- failed after a reserved part of n octets; the buffer is as the closure left it
 pub record Abandons (s : WriterState) (n : ℕ) (q t : WriterState) : Type 0 where
   pub start : t.start ≡ s.start
   pub stop : t.stop ≡ s.stop
@@ -52,7 +52,7 @@ pub record Abandons (s : WriterState) (n : ℕ) (q t : WriterState) : Type 0 whe
   pub passed : length t.octets ≡ length s.octets + n
   pub buffer : t.octets ++ t.behind ≡ q.octets ++ q.behind
 
--- what follows a closure that was handed the part, answered r and left the writer q
+-- what follows a closure that got the reserved part, returned r and left the writer q
 pub data ClosesPart (s : WriterState) (n : ℕ) (q t : WriterState)
     : Result (Unit {0}) Error → Result (Unit {0}) Error → Type 0 where
   handed_on : (e : Error) → Abandons s n q t → ClosesPart s n q t (Err e) (Err e)
@@ -64,7 +64,7 @@ pub data ClosesPart (s : WriterState) (n : ℕ) (q t : WriterState)
   filled : q.failed ≡ false → length q.octets ≡ length s.octets + n
       → t ≡ record s { octets = q.octets; behind = q.behind } → ClosesPart s n q t (Ok tt) (Ok tt)
 
--- the closure ran over the part, and the answer is as it follows
+-- the closure ran over the reserved part, and its result determines this one
 pub record Runs (run : Run) (s : WriterState) (n : ℕ) (result : Result (Unit {0}) Error)
     (t : WriterState) : Type 0 where
   pub given : MutBor SliceWriter
@@ -74,7 +74,7 @@ pub record Runs (run : Run) (s : WriterState) (n : ℕ) (result : Result (Unit {
   pub ran : run given answer after
   pub closed : ClosesPart s n (slice_writer_state after.now) t answer result
 
--- the closure ran over the part and filled it, without a refusal
+-- the closure ran over the reserved part and filled it, without an error
 pub record IsFilledBy (run : Run) (s : WriterState) (n : ℕ) (t : WriterState) : Type 0 where
   pub given : MutBor SliceWriter
   pub after : MutBor SliceWriter
@@ -87,23 +87,23 @@ pub record IsFilledBy (run : Run) (s : WriterState) (n : ℕ) (t : WriterState) 
     behind = (slice_writer_state after.now).behind;
   }
 
--- where the closure's call succeeded it filled the part
+-- a call that succeeds filled the reserved part
 abbrev pub Fills : Run → WriterState → ℕ → Result (Unit {0}) Error → WriterState → Type 0
 Fills run s n result t = OnOk result (IsFilledBy run s n t)
 
--- where there is room the closure ran
+-- if there is space, the closure ran
 abbrev pub RunsInRoom : Run → WriterState → ℕ → Result (Unit {0}) Error → WriterState → Type 0
 RunsInRoom run s n result t = s.failed ≡ false → length s.octets + n ≤ s.stop
     → Runs run s n result t
 
--- n octets are set apart and filled: no room, or the closure ran
+-- n octets are reserved and filled: no space, or the closure ran
 pub data PartAnswer (run : Run) (s : WriterState) (n : ℕ) (result : Result (Unit {0}) Error)
     (t : WriterState) : Type 0 where
   no_room : (e : Error) → (room_outcome n s s).answer ≡ Err e
       → Writes (room_outcome n s s) result t → PartAnswer run s n result t
   ran : (room_outcome n s s).answer ≡ Ok tt → Runs run s n result t → PartAnswer run s n result t
 
--- the rows of `sequence`: no room for the header; else the part behind it
+-- the cases of `sequence`: no space for the header; otherwise the reserved part after it
 pub data SequenceAnswer (run : Run) (s : WriterState) (n : ℕ) (result : Result (Unit {0}) Error)
     (t : WriterState) : Type 0 where
   no_header : (e : Error) → (header_outcome Sequence n s).answer ≡ Err e

@@ -1,5 +1,6 @@
-//! What derived comparisons and clones answer, and comparisons of types that are orderly. Each
-//! function calls one of them, and its contract is the law; nothing else uses these.
+//! States the results of derived comparisons and clones, and of comparisons of [`Orderly`] types.
+//! Each function calls one of them and its contract states the result; nothing else uses these
+//! functions.
 ghost use Rattle.std.specs.Prelude.{◌≡◌, ◌↔◌, IsTrue, Ok, IsOk, IsOkAnd, IfOk};
 ghost use Rattle.std.specs.List.{AllByRecursion};
 ghost use Rattle.der_base.specs.Order.{byte_order};
@@ -15,29 +16,29 @@ use der_base::Error;
 use std::alloc::AllocError;
 use std::cmp::Ordering;
 
-/// Two headers are equal where tag, length and constructed bit are.
+/// Two headers are equal if tag, length and constructed bit are equal.
 fn header_equality(a: Header, b: Header) -> bool
     ensures { IsTrue result ↔ (head_of a ≡ head_of b) }
 {
     a == b
 }
 
-/// A clone of a header is the same header; it takes no memory.
+/// A clone of a header is the same header; cloning allocates nothing.
 fn header_clone(header: &Header) -> Result<Header, AllocError>
     ensures { result ≡ Ok header.now }
 {
     header.clone()
 }
 
-/// A clone of a position stands at the same place; it takes no memory.
+/// A clone of a position is at the same place; cloning allocates nothing.
 fn position_clone(position: &Position) -> Result<Position, AllocError>
     ensures { IsOkAnd result (λ p. position_place p ≡ position_place position.now) }
 {
     position.clone()
 }
 
-/// Two values of an orderly type stand as their whole encodings do in byte order, where both
-/// headers can be computed, and wherever there is an answer (X.690 11.6).
+/// Two values of an orderly type compare as their encodings do in byte order, whenever there is a
+/// result; there is one if both headers can be computed (X.690 11.6).
 fn encodings_are_compared<T: Orderly>(value: &T, other: &T) -> Result<Ordering, Error>
     ensures ok { IfOk result (λ o. o
         ≡ byte_order (element_octets (T.tag_of value.now) (T.contents value.now))
@@ -49,8 +50,8 @@ fn encodings_are_compared<T: Orderly>(value: &T, other: &T) -> Result<Ordering, 
     value.der_cmp(other)
 }
 
-/// Many values of an orderly type stand as all their encodings do in byte order, one behind the
-/// other, where each header can be computed, and wherever there is an answer.
+/// Two slices of an orderly type compare as their concatenated encodings do in byte order, whenever
+/// there is a result; there is one if every header can be computed.
 fn joined_encodings_are_compared<T: Orderly>(these: &[T], those: &[T]) -> Result<Ordering, Error>
     ensures ok { IfOk result (λ o. o ≡ byte_order (joined_elements T.tag_of T.contents these.now)
         (joined_elements T.tag_of T.contents those.now)) }

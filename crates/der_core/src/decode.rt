@@ -22,20 +22,20 @@ pub use lawful::Lawful;
 use std::alloc::Global;
 pub use value::{DecodeValue, ReadValue, decode_tlv};
 
-/// The errors that decoding may answer: an [`Error`] converts to each of them.
+/// Error types of decoding: an [`Error`] converts to each of them.
 ///
 /// Ghost members:
 ///
-/// - `out_of_memory` says whether an error says that memory was refused.
-/// - `carries` is the law that a converted error says so exactly where the [`Error`] did.
+/// - `out_of_memory` says whether an error reports that an allocation failed.
+/// - `carries` is the law that a converted error reports this exactly if the [`Error`] did.
 pub trait DecodeError: From<Error> + Drop {
     ghost out_of_memory: { Self → Bool };
 
-    /// Whether memory was refused.
+    /// Whether the error reports that an allocation failed.
     fn is_out_of_memory(&self) -> bool
         ensures { result ≡ out_of_memory self.now };
 
-    // a converted error says so exactly where the error did
+    // a converted error reports a failed allocation exactly if the original error did
     ghost carries: { (e : AnError) (d : Self) → Self.from_gives e d
         → out_of_memory d ≡ is_out_of_memory_kind (kind_of e) };
 }
@@ -54,14 +54,14 @@ impl DecodeError for Error {
 ///
 /// Ghost members:
 ///
-/// - `stands_ahead` says which values stand at the front of octets, and in how many of them; it is
-///   a relation over all that is left, since an indefinite length depends on what follows.
-/// - `decode_levels` is how many levels of nesting decoding wants under these rules.
-/// - `allocates` says whether decoding takes memory.
-/// - `decode_answers` is the exact outcome on a reliable reader, refusals and their states
-///   included.
+/// - `stands_ahead` says which values octets begin with, and how many octets each takes; it is a
+///   relation over all remaining octets, since an indefinite length depends on what follows.
+/// - `decode_levels` is the number of nesting levels that decoding requires under these rules.
+/// - `allocates` says whether decoding allocates.
+/// - `decode_answers` is the exact outcome on a reliable reader, including each error and the state
+///   in which it leaves the reader.
 pub trait Decode<R: Reader>: Sized + Drop {
-    /// The error of decoding.
+    /// The error type of decoding.
     type Error: DecodeError;
 
     ghost stands_ahead: { Self → Rules → List ℕ → ℕ → Type 0 };
@@ -72,16 +72,16 @@ pub trait Decode<R: Reader>: Sized + Drop {
 
     ghost decode_answers: { ReaderState → AResult Self Self.Error → ReaderState → Type 0 };
 
-    /// Decodes a value from the front of the reader's rest, and passes its octets.
+    /// Decodes a value from the next octets of the reader and consumes them.
     ///
-    /// A reliable reader that has not failed, with `decode_levels` levels of nesting left, gives
-    /// the value that stands ahead, or an error that says that memory was refused.
+    /// A reliable reader that has not failed, with `decode_levels` levels of nesting left, returns
+    /// the next value, or an error that reports a failed allocation.
     ///
     /// # Errors
     ///
-    /// - One that says that memory was refused, where the type takes memory.
-    /// - Those of the type: `decode_answers` says which there are, at which positions, and whether
-    ///   the reader has failed then.
+    /// - One that reports a failed allocation, if the type allocates.
+    /// - Those of the type: `decode_answers` specifies them, their positions, and whether the
+    ///   reader is then failed.
     fn decode(alloc: Global, reader: &mut R) -> Result<Self, Self::Error>
         ensures same { Same (R.state reader.old) (R.state reader.new) }
         ensures ok { IfOk result (λ v. (R.state reader.old).failed ≡ false
@@ -99,16 +99,15 @@ pub trait Decode<R: Reader>: Sized + Drop {
 
 /// Decoding from octets in memory, for every type that is decoded from a [`SliceReader`].
 pub trait DecodeBytes<'a>: Decode<SliceReader<'a>> {
-    /// The value whose encoding under the Distinguished Encoding Rules these octets are, all of
-    /// them.
+    /// Decodes a value from all of the octets under the Distinguished Encoding Rules.
     ///
     /// # Errors
     ///
-    /// - `Overflow` without a position, where there are more than 4294967295 octets.
-    /// - Those of the type, as by [`Decode::decode`] at the beginning of the octets.
-    /// - `Failed` at the reader's position, where the type answers a value and leaves its reader
+    /// - `Overflow` without a position, if there are more than 4294967295 octets.
+    /// - Those of the type, as by [`Decode::decode`] at the start of the octets.
+    /// - `Failed` at the reader's position, if the type returns a value but leaves its reader
     ///   failed.
-    /// - `TrailingData` at the reader's position, where octets are left behind the value.
+    /// - `TrailingData` at the reader's position, if octets are left after the value.
     final fn from_der(
         alloc: Global,
         bytes: &'a [u8],
@@ -122,15 +121,15 @@ pub trait DecodeBytes<'a>: Decode<SliceReader<'a>> {
         decode_whole(alloc, bytes, EncodingRules::Der)
     }
 
-    /// The value that these octets are under the Basic Encoding Rules, all of them.
+    /// Decodes a value from all of the octets under the Basic Encoding Rules.
     ///
     /// # Errors
     ///
-    /// - `Overflow` without a position, where there are more than 4294967295 octets.
-    /// - Those of the type, as by [`Decode::decode`] at the beginning of the octets.
-    /// - `Failed` at the reader's position, where the type answers a value and leaves its reader
+    /// - `Overflow` without a position, if there are more than 4294967295 octets.
+    /// - Those of the type, as by [`Decode::decode`] at the start of the octets.
+    /// - `Failed` at the reader's position, if the type returns a value but leaves its reader
     ///   failed.
-    /// - `TrailingData` at the reader's position, where octets are left behind the value.
+    /// - `TrailingData` at the reader's position, if octets are left after the value.
     final fn from_ber(
         alloc: Global,
         bytes: &'a [u8],
@@ -144,14 +143,14 @@ pub trait DecodeBytes<'a>: Decode<SliceReader<'a>> {
         decode_whole(alloc, bytes, EncodingRules::Ber)
     }
 
-    /// The value at the front of the octets under the Distinguished Encoding Rules, and the octets
-    /// behind it.
+    /// Decodes a value from the start of the octets under the Distinguished Encoding Rules; returns
+    /// it and the octets after it.
     ///
     /// # Errors
     ///
-    /// - `Overflow` without a position, where there are more than 4294967295 octets.
-    /// - Those of the type, as by [`Decode::decode`] at the beginning of the octets.
-    /// - `Failed` at the reader's position, where the type answers a value and leaves its reader
+    /// - `Overflow` without a position, if there are more than 4294967295 octets.
+    /// - Those of the type, as by [`Decode::decode`] at the start of the octets.
+    /// - `Failed` at the reader's position, if the type returns a value but leaves its reader
     ///   failed.
     final fn from_der_partial(
         alloc: Global,
@@ -174,7 +173,7 @@ pub trait DecodeBytes<'a>: Decode<SliceReader<'a>> {
 
 impl<'a, T: Decode<SliceReader<'a>>> DecodeBytes<'a> for T {}
 
-// The value that these octets are under these rules, all of them.
+// Decodes a value from all of the octets under these rules.
 fn decode_whole<'a, T: Decode<SliceReader<'a>>>(
     alloc: Global,
     bytes: &'a [u8],

@@ -27,9 +27,9 @@ pub use vec::{encode_to_vec_in, to_der_in};
 ///
 /// - `encoding` is the octets of a value.
 /// - `encodable` says whether a value can be written at all.
-/// - `size` is the exact answer of [`Encode::encoded_len`], refusals included.
-/// - `encode_answers` is the exact outcome of [`Encode::encode`] on a reliable writer, refusals and
-///   their states included.
+/// - `size` is the exact result of [`Encode::encoded_len`], errors included.
+/// - `encode_answers` is the exact outcome of [`Encode::encode`] on a reliable writer, including
+///   each error and the state in which it leaves the writer.
 pub trait Encode {
     ghost encoding: { Self → List ℕ };
 
@@ -40,12 +40,12 @@ pub trait Encode {
     ghost encode_answers: { Self → WriterState → AResult (Unit {0}) AnError → WriterState
         → Type 0 };
 
-    /// How many octets the encoding has.
+    /// The number of octets of the encoding.
     ///
     /// # Errors
     ///
-    /// - `Overflow` without a position, where an element has more than 4294967295 octets.
-    /// - Those of the type, which `size` says.
+    /// - `Overflow` without a position, if an element has more than 4294967295 octets.
+    /// - Those of the type, which `size` specifies.
     fn encoded_len(&self) -> Result<Length, Error>
         ensures ok { Counts (encoding self.now) result }
         ensures succeeds { encodable self.now → HasSize (encoding self.now) result }
@@ -55,7 +55,8 @@ pub trait Encode {
     ///
     /// # Errors
     ///
-    /// What was written before stands after each; `encode_answers` says how the writer is left.
+    /// After each, octets written earlier remain; `encode_answers` specifies the state of the
+    /// writer.
     ///
     /// - Those of the type.
     /// - `Failed`, `Overflow` and `Overlength` of the writer, as by [`Writer::write`].
@@ -67,15 +68,15 @@ pub trait Encode {
         ensures exact { W.reliable ≡ true
             → encode_answers self.now (W.state writer.old) result (W.state writer.new) };
 
-    /// Writes the encoding to the beginning of the buffer, and answers it. No memory is taken.
+    /// Writes the encoding to the start of the buffer and returns it. Allocates nothing.
     ///
     /// # Errors
     ///
-    /// After a refusal nothing is promised of the buffer.
+    /// After an error the contents of the buffer are unspecified.
     ///
     /// - Those of the type, as by [`Encode::encode`].
-    /// - `Overflow` at the number of octets written, where the next write would pass 4294967295.
-    /// - `Overlength` at the end that was wished by the first write for which there is no room.
+    /// - `Overflow` at the number of octets written, if the next write would exceed 4294967295.
+    /// - `Overlength` at the requested end of the first write for which there is no space.
     #[inline(always)]
     final fn encode_to_slice<'b>(&self, buf: &'b mut [u8]) -> Result<&'b [u8], Error>
         ensures ok { IfOk result (λ r. r.now ≡ Self.encoding self.now) }
@@ -89,17 +90,18 @@ pub trait Encode {
         writer.finish()
     }
 
-    /// Appends the encoding, and answers its number of octets.
+    /// Appends the encoding and returns its number of octets.
     ///
     /// # Errors
     ///
-    /// After each the vector's contents are as before. Where several fit, the first is told.
+    /// After each, the vector has its previous contents. If several apply, the first is returned.
     ///
-    /// - Those of [`Encode::encoded_len`], `Overflow` without a position past 4294967295 octets
-    ///   among them.
-    /// - `Overflow` without a position, where the vector would pass the greatest `usize`.
-    /// - `OutOfMemory` without a position, where memory is refused.
-    /// - Those of [`Encode::encode`], with positions counted from the beginning of the encoding.
+    /// - Those of [`Encode::encoded_len`], including `Overflow` without a position for more than
+    ///   4294967295 octets.
+    /// - `Overflow` without a position, if the length of the vector would exceed the greatest
+    ///   `usize`.
+    /// - `OutOfMemory` without a position, if an allocation fails.
+    /// - Those of [`Encode::encode`], with positions counted from the start of the encoding.
     #[inline(always)]
     final fn encode_to_vec(&self, out: &mut Vec<u8>) -> Result<Length, Error>
         ensures ok { OnOk result (out.new.items ≡ out.old.items ++ Self.encoding self.now) }
@@ -117,11 +119,11 @@ pub trait Encode {
     ///
     /// # Errors
     ///
-    /// Where several fit, the first is told.
+    /// If several apply, the first is returned.
     ///
-    /// - Those of [`Encode::encoded_len`], `Overflow` without a position past 4294967295 octets
-    ///   among them.
-    /// - `OutOfMemory` without a position, where memory is refused.
+    /// - Those of [`Encode::encoded_len`], including `Overflow` without a position for more than
+    ///   4294967295 octets.
+    /// - `OutOfMemory` without a position, if an allocation fails.
     /// - Those of [`Encode::encode`].
     #[inline(always)]
     final fn to_der(&self, alloc: Global) -> Result<Vec<u8>, Error>
@@ -134,7 +136,7 @@ pub trait Encode {
     }
 }
 
-/// The element of a value that has a tag: its header, and then its contents (X.690 8.1.1).
+/// The element of a value that has a tag: its header, then its contents (X.690 8.1.1).
 ///
 /// # Errors
 ///
@@ -156,8 +158,8 @@ impl<T: EncodeValue + Tagged> Encode for T {
 
     #[inline(always)]
     fn encode<W: Writer>(&self, writer: &mut W) -> Result<(), Error> {
-        // an answer is matched where it is made: `?` and a last call would move all of its octets
-        // first
+        // Each result is matched immediately: `?` and a tail call would first copy the whole
+        // `Result`.
         let len = self.value_len()?;
         if let Err(error) = encode_header(self.tag(), len, writer) {
             return Err(error);
@@ -169,12 +171,13 @@ impl<T: EncodeValue + Tagged> Encode for T {
     }
 }
 
-/// How many octets the element of a value has: its tag, its length, and its contents.
+/// The number of octets of the element of a value: its identifier, its length octets and its
+/// contents.
 ///
 /// # Errors
 ///
 /// - Those of [`EncodeValue::value_len`].
-/// - `Overflow` without a position, where there are more octets than 4294967295.
+/// - `Overflow` without a position, if there are more than 4294967295 octets.
 #[inline(always)]
 pub fn encoded_len_tlv<T: EncodeValue + Tagged>(value: &T) -> Result<Length, Error>
     ensures ok { Counts (element_octets (T.tag_of value.now) (T.contents value.now)) result }
@@ -185,14 +188,14 @@ pub fn encoded_len_tlv<T: EncodeValue + Tagged>(value: &T) -> Result<Length, Err
     value.value_len()?.for_tlv(value.tag())
 }
 
-/// Writes the element of a value: its header, and then its contents (X.690 8.1.1).
+/// Writes the element of a value: its header, then its contents (X.690 8.1.1).
 ///
 /// # Errors
 ///
 /// - Those of [`EncodeValue::value_len`]; the writer is unchanged.
 /// - `Failed`, `Overflow` and `Overlength` of the writer at the header, as by [`Writer::write`];
-///   the octets of earlier writes stand.
-/// - Those of [`EncodeValue::encode_value`]; what was written before stands.
+///   the octets of earlier writes remain.
+/// - Those of [`EncodeValue::encode_value`]; octets written earlier remain.
 #[inline(always)]
 pub fn encode_tlv<T: EncodeValue + Tagged, W: Writer>(
     value: &T,

@@ -1,4 +1,4 @@
-//! References that are encoded as what they refer to.
+//! References that are encoded as the value that they refer to.
 ghost use Rattle.std.specs.Prelude.{◌≡◌};
 
 mod value;
@@ -8,7 +8,7 @@ use crate::writer::Writer;
 use der_base::{Error, Length};
 pub use value::EncodeValueRef;
 
-/// A reference to a value, encoded as the value is.
+/// A reference to a value, encoded as that value.
 #[derive(Debug, Drop)]
 pub struct EncodeRef<'a, T>(pub &'a T);
 
@@ -42,7 +42,7 @@ impl<'a, T: Encode> Encode for EncodeRef<'a, T> {
 
     #[inline(always)]
     fn encode<W: Writer>(&self, writer: &mut W) -> Result<(), Error> {
-        // an answer is matched where it is made, as by `encode_tlv`
+        // each result is matched immediately, as in `encode_tlv`
         if let Err(error) = self.0.encode(writer) {
             return Err(error);
         }

@@ -37,8 +37,8 @@ pub struct Header {
 impl Header {
     ghost use Rattle.der_core.specs.Header.{header_sans_eoc};
 
-    /// The header of a tag and a length: constructed where the tag is, or the length was read in
-    /// the indefinite form.
+    /// Creates a header with this tag and length. It is constructed if the tag is, or if the length
+    /// was read in the indefinite form.
     pub fn new(tag: Tag, length: Length) -> Self
         ensures { head_of result ≡ head tag length
             ((label tag).constructed || is_indefinite length) }
@@ -84,7 +84,7 @@ impl Header {
         }
     }
 
-    // The header with the length of the contents alone, without the end mark.
+    // The header with the length of the contents alone, without the end-of-contents octets.
     pub(crate) fn contents(self) -> Self
         ensures { result ≡ header_sans_eoc self }
     {
@@ -96,7 +96,7 @@ impl Header {
 ///
 /// # Errors
 ///
-/// As by [`Header::decode`].
+/// The same as for [`Header::decode`].
 #[inline(always)]
 pub fn decode_header<R: Reader>(reader: &mut R) -> Result<Header, Error>
     ensures { Decodes HeaderAhead (HeaderFault BodyFault) R.reliable (R.state reader.old) result
@@ -106,8 +106,8 @@ pub fn decode_header<R: Reader>(reader: &mut R) -> Result<Header, Error>
     Ok(told_header(first, number, length, None))
 }
 
-// Decodes a header with a guess at its tag, and in pieces always: where a value is decoded by it,
-// all of that stays small enough to be part of its caller.
+// Decodes a header with a guess at its tag, always octet by octet: this keeps a value decoder that
+// calls it small enough to be inlined.
 #[inline(always)]
 pub(crate) fn decode_guessed_header<R: Reader>(
     reader: &mut R,
@@ -121,7 +121,7 @@ pub(crate) fn decode_guessed_header<R: Reader>(
     Ok(told_header(first, number, length, guess))
 }
 
-// The header of an identifier of this first octet and number, with a guess at its tag.
+// The header with an identifier of this first octet and number, and with a guess at its tag.
 #[inline(always)]
 fn told_header(first: u8, number: u32, length: Length, guess: Option<(u8, Tag)>) -> Header
     requires { IsGuess guess }
@@ -135,9 +135,9 @@ fn told_header(first: u8, number: u32, length: Length, guess: Option<(u8, Tag)>)
     }
 }
 
-// Decodes a header, and tells the first octet of its identifier, and its number where that octet is
-// `0x40` or more. An identifier and a length of one octet each are read at once where they are
-// lent.
+// Decodes a header and returns the first octet of its identifier, its number (if that octet is
+// `0x40` or more), and its length. If the reader returns slices, an identifier and a length of one
+// octet each are read at once.
 #[inline(always)]
 fn decode_parts<R: Reader>(reader: &mut R) -> Result<(u8, u32, Length), Error>
     ensures { Decodes ToldHeadAhead (HeaderFault BodyFault) R.reliable (R.state reader.old)
@@ -150,7 +150,7 @@ fn decode_parts<R: Reader>(reader: &mut R) -> Result<(u8, u32, Length), Error>
     decode_in_pieces(reader)
 }
 
-// Decodes a header octet by octet, and tells its parts so.
+// Decodes a header octet by octet, with the same results.
 #[inline(always)]
 fn decode_in_pieces<R: Reader>(reader: &mut R) -> Result<(u8, u32, Length), Error>
     ensures { Decodes ToldHeadAhead (HeaderFault BodyFault) R.reliable (R.state reader.old)
@@ -164,7 +164,7 @@ fn decode_in_pieces<R: Reader>(reader: &mut R) -> Result<(u8, u32, Length), Erro
     Ok((first, number, length))
 }
 
-// The identifier and the length ahead, where each has one octet, and they are lent.
+// The next identifier and length, if each has one octet and the reader returns slices.
 #[inline(always)]
 fn short_header<R: Reader>(reader: &R) -> Option<(u8, u8)>
     ensures { AreAhead (R.state reader.now) result }
@@ -196,30 +196,30 @@ impl<R: Reader> Decode<R> for Header {
     ghost decode_answers = { Decodes HeaderAhead (HeaderFault BodyFault) true };
 
     /// Decodes a header (X.690 8.1.2, 8.1.3, 10.1). Under the Basic Encoding Rules octet `0x24` is
-    /// an identifier too, and octet `0x80` a length behind a constructed one: it counts the octets
-    /// of the body ahead, with the end mark that closes it, and the reader stays behind octet
-    /// `0x80` (X.690 8.1.3.6).
+    /// also an identifier, and octet `0x80` is a length after a constructed identifier: the result
+    /// counts the octets of the body that follows, including its end-of-contents octets, and the
+    /// reader stays after octet `0x80` (X.690 8.1.3.6).
     ///
     /// # Errors
     ///
-    /// After all but `Failed`, `Overflow` and those of a scan the reader stands at the error's
-    /// position and has failed.
+    /// After all but `Failed`, `Overflow` and the errors of a scan, the reader is at the error's
+    /// position and failed.
     ///
-    /// - `Failed` at the position, where the reader had failed; it is unchanged.
-    /// - `Overflow` without a position, where an octet is missing at position 4294967295; the
-    ///   reader stands there and has not failed.
-    /// - `Incomplete` at the end, where an octet is missing at any other position.
-    /// - `TagUnknown` with the octet, behind a first octet that begins no tag.
-    /// - `TagNumberInvalid` behind octet `0x1F` where it is the first, or behind an octet with
-    ///   which no tag number goes on (X.690 8.1.2.4).
-    /// - `IndefiniteLength` behind an octet `0x80` where the length begins, under the Distinguished
-    ///   Encoding Rules; under the Basic Encoding Rules where the identifier is primitive and a
-    ///   body stands ahead.
-    /// - `NestingDepth` and the others of the scan behind octet `0x80`, as by
+    /// - `Failed` at the position, if the reader had already failed; it is unchanged.
+    /// - `Overflow` without a position, if an octet is missing at position 4294967295; the reader
+    ///   is there and has not failed.
+    /// - `Incomplete` at the end, if an octet is missing at any other position.
+    /// - `TagUnknown` with the octet, after a first octet that begins no tag.
+    /// - `TagNumberInvalid` after octet `0x1F` if it is the first, or after an octet with which no
+    ///   tag number continues (X.690 8.1.2.4).
+    /// - `IndefiniteLength` after octet `0x80` as the first length octet: under the Distinguished
+    ///   Encoding Rules; and under the Basic Encoding Rules if the identifier is primitive and a
+    ///   body follows.
+    /// - `NestingDepth` and the other errors of the scan after octet `0x80`, as by
     ///   [`decode_indefinite_length`](crate::decode_indefinite_length), under the Basic Encoding
-    ///   Rules; the reader stands behind octet `0x80` and has not failed.
-    /// - `Length` with the tag, behind the length's octets where fewer would do, or behind the
-    ///   first of them where it announces more than four.
+    ///   Rules; the reader is after octet `0x80` and has not failed.
+    /// - `Length` with the tag, after the length octets if fewer would suffice, or after the first
+    ///   of them if it announces more than four.
     #[inline(always)]
     fn decode(_alloc: Global, reader: &mut R) -> Result<Header, Error>
         ensures { Decodes HeaderAhead (HeaderFault BodyFault) R.reliable (R.state reader.old)
@@ -230,11 +230,11 @@ impl<R: Reader> Decode<R> for Header {
 }
 
 impl Header {
-    /// The header ahead, as [`decode_header`] would answer; the reader stays.
+    /// The next header, as [`decode_header`] would return it; the reader does not move.
     ///
     /// # Errors
     ///
-    /// As by [`Header::decode`], with the same positions; the reader is unchanged.
+    /// The same as for [`Header::decode`], with the same positions; the reader is unchanged.
     pub fn peek<R: Reader>(reader: &R) -> Result<Self, Error>
         ensures { Peeks HeaderAhead (HeaderFault BodyFault) R.reliable (R.state reader.now)
             result }
@@ -262,8 +262,8 @@ impl Header {
     }
 }
 
-// Writes the header of a tag and a length ahead of contents: by a call where it has more octets than
-// two, so that what writes an element is small enough to be part of its caller.
+// Writes the header of an element with this tag and length. A header of more than two octets is
+// written by a separate function, so that the writer of an element is small enough to be inlined.
 #[inline(always)]
 pub(crate) fn encode_header<W: Writer>(tag: Tag, len: Length, writer: &mut W) -> Result<(), Error>
     ensures kept { Keeps (W.state writer.old) (W.state writer.new) }
@@ -279,7 +279,7 @@ pub(crate) fn encode_header<W: Writer>(tag: Tag, len: Length, writer: &mut W) ->
     if low < 31 && count < 0x80 {
         let first = first_octet_of(tag, low as u8);
         if writer.has_room(2) {
-            // it is known to succeed
+            // this is known to succeed
             let _ = writer.write(&[first, count as u8]);
             return Ok(());
         }
@@ -288,7 +288,7 @@ pub(crate) fn encode_header<W: Writer>(tag: Tag, len: Length, writer: &mut W) ->
     encode_long_header(tag, len, writer)
 }
 
-// The same by a call.
+// Does the same, but is never inlined.
 #[inline(never)]
 fn encode_long_header<W: Writer>(tag: Tag, len: Length, writer: &mut W) -> Result<(), Error>
     ensures kept { Keeps (W.state writer.old) (W.state writer.new) }
@@ -302,13 +302,13 @@ fn encode_long_header<W: Writer>(tag: Tag, len: Length, writer: &mut W) -> Resul
     Header::new(tag, len).encode(writer)
 }
 
-/// The tag is written and then the length, of which the number alone counts; the constructed bit is
+/// Writes the tag and then the length, of which only the number is written. The constructed bit is
 /// that of the tag.
 ///
 /// # Errors
 ///
-/// The number of octets is never refused. Writing hands on the writer's errors, as by
-/// [`Writer::write`]; the octets of earlier writes stand.
+/// The size never fails. Writing returns the writer's errors, as by [`Writer::write`]; the octets
+/// of earlier writes remain.
 impl Encode for Header {
     ghost encoding = { λ h. header_octets (head_of h).tag (number (head_of h).length) };
 
@@ -347,8 +347,8 @@ impl Encode for Header {
     }
 }
 
-/// The tags decide, and then the lengths; neither the constructed bit of the header nor whether its
-/// length was read in the indefinite form plays a part. It is never refused.
+/// Compares the tags, then the lengths. The constructed bit of the header, and whether its length
+/// was read in the indefinite form, are ignored. Never fails.
 impl DerOrd for Header {
     ghost order = { λ h g. Ok (byte_order
         (header_octets (head_of h).tag (number (head_of h).length))

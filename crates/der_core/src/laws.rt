@@ -1,5 +1,5 @@
 //! Laws that follow from the contracts. Each function does nothing; its contract is the law, and
-//! nothing else uses it.
+//! nothing else uses these functions.
 ghost use Rattle.std.specs.Prelude.{◌^◌, ◌<◌, ◌≡◌, []};
 ghost use Rattle.der_base.specs.ScanGrammar.{BodyFault};
 ghost use Rattle.der_base.specs.HeaderGrammar.{header_octets, IdentifierAhead, TagAhead, LengthAhead, LengthFault, HeaderFault};
@@ -16,7 +16,7 @@ ghost use Rattle.der_core.specs.Lawful.{IsDefinite, IsDefiniteHeader, PassesEnco
 use crate::decode::Lawful;
 use std::marker::PhantomData;
 
-/// What stands ahead is read.
+/// A reliable reader that has not failed decodes the next identifier, tag, length or header.
 
 fn what_stands_ahead_is_read()
     ensures identifiers { Accepts IdentifierAhead IdentifierFault }
@@ -25,10 +25,11 @@ fn what_stands_ahead_is_read()
     ensures headers { Accepts HeaderAhead (HeaderFault BodyFault) }
 {}
 
-/// Under DER tags, lengths, headers, and `PhantomData`, whose encoding is no octets, are read of
-/// exactly their encodings: they stand at the front of octets where those do; octets are wholly one
-/// of them where they are its encoding; a reader that has passed one has passed the encoding; and
-/// what is written is read as itself, whatever follows. Tag numbers and lengths have 32 bits.
+/// Under DER, tags, lengths, headers and `PhantomData` (whose encoding is empty) are read from
+/// exactly their encodings: octets begin with one if they begin with its encoding; octets are
+/// entirely one if they are its encoding; a reader that has decoded one has consumed its encoding;
+/// and an encoding is read back as the same value, whatever follows. Tag numbers and lengths have
+/// 32 bits.
 fn grammars_read_encodings<T>()
     ensures tags { ReadsExactly TagAhead (λ t. (label t).number < 2 ^ 32) tag_octets }
     ensures lengths { ReadsExactly LengthAhead IsDefinite (λ l. length_octets (number l)) }
@@ -38,10 +39,9 @@ fn grammars_read_encodings<T>()
         (λ _. []) }
 {}
 
-/// Under DER an element of a lawful type stands at the front of octets exactly where the encoding
-/// of a valid value does; octets are wholly such an element exactly where they are the encoding; a
-/// reader that has passed one has passed the encoding; and what is written is read, whatever
-/// follows.
+/// Under DER, octets begin with an element of a lawful type exactly if they begin with the encoding
+/// of a valid value; octets are entirely such an element exactly if they are the encoding; a reader
+/// that has decoded one has consumed the encoding; and an encoding is read back, whatever follows.
 fn lawful_types_read_encodings<T: Lawful>()
     ensures front { ReadsEncodings (ElementAhead T.tag_is T.takes) T.valid
         (λ v. element_octets T.tag_is (T.contents v)) }
@@ -52,8 +52,8 @@ fn lawful_types_read_encodings<T: Lawful>()
     ensures written { ReadsWritten T.tag_is T.takes T.valid T.contents }
 {}
 
-/// No whole element begins a different one, so what is padded behind two of them for their
-/// comparison never decides (X.690 11.6).
+/// No encoded element is a proper prefix of another, so padding never affects their comparison
+/// (X.690 11.6).
 fn padding_never_decides()
     ensures apart { NoElementBeginsAnother }
     ensures padded { PaddingNeverDecides }

@@ -26,14 +26,14 @@ use der_base::{Error, ErrorKind, Length};
 use std::alloc::Global;
 use std::cmp::Ordering;
 
-// the octet of the indefinite form
+// the length octet of the indefinite form
 pub(crate) const INDEFINITE: u8 = 0x80;
 
 /// Decodes a length (X.690 8.1.3, 10.1), as [`Length::decode`] does, without an allocator.
 ///
 /// # Errors
 ///
-/// As by [`Length::decode`].
+/// The same as for [`Length::decode`].
 #[inline(always)]
 pub fn decode_length<R: Reader>(reader: &mut R) -> Result<Length, Error>
     ensures { Decodes LengthAhead (LengthFault BodyFault Overlength) R.reliable
@@ -42,8 +42,8 @@ pub fn decode_length<R: Reader>(reader: &mut R) -> Result<Length, Error>
     decode_length_behind(reader, None)
 }
 
-// Decodes a length behind an identifier of this first octet and number, with whose tag a length is
-// told that is not spelled as it has to be.
+// Decodes a length. If it follows an identifier, given by its first octet and number, then a length
+// that is not encoded as required is reported with the tag of that identifier.
 #[inline(always)]
 pub(crate) fn decode_length_behind<R: Reader>(
     reader: &mut R,
@@ -63,8 +63,8 @@ pub(crate) fn decode_length_behind<R: Reader>(
     Ok(Length::new(number))
 }
 
-// The length behind octet `0x80`: under the Basic Encoding Rules it counts the body ahead, which is
-// not passed (X.690 8.1.3.6).
+// The length after octet `0x80`: under the Basic Encoding Rules it counts the octets of the body
+// that follows, which is not consumed (X.690 8.1.3.6).
 #[inline(always)]
 fn decode_indefinite_form<R: Reader>(reader: &mut R) -> Result<Length, Error>
     ensures same { Same (R.state reader.old) (R.state reader.new) }
@@ -76,14 +76,14 @@ fn decode_indefinite_form<R: Reader>(reader: &mut R) -> Result<Length, Error>
         return Err(reader.error(ErrorKind::IndefiniteLength));
     }
     match scan_uncounted(reader) {
-        // flagged here, so that what is known of the flag is known of each way to a length
+        // the flag is set here, so that its value is known statically on every path
         Ok(length) => Ok(Length::new_indefinite(u32::from(length))),
         Err(error) => Err(error),
     }
 }
 
-// The rest of a length behind a first octet from `0x81` on: so many octets in base 256, the fewest
-// possible.
+// The rest of a length after a first octet of `0x81` or more: the announced number of base-256
+// digits, which has to be the fewest possible.
 #[inline(always)]
 pub(crate) fn decode_long_length<R: Reader>(
     reader: &mut R,
@@ -113,7 +113,7 @@ pub(crate) fn decode_long_length<R: Reader>(
     Ok(number)
 }
 
-// What is said of a length that is not spelled as it has to be.
+// The error kind for a length that is not encoded as required.
 #[cold]
 fn wrong_length(identifier: Option<(u8, u32)>) -> ErrorKind
     ensures { result ≡ wrong_length_kind (told_tag identifier) }
@@ -124,7 +124,7 @@ fn wrong_length(identifier: Option<(u8, u32)>) -> ErrorKind
     }
 }
 
-// The least length that takes so many octets behind the first.
+// The least length that requires this many octets after the first.
 fn least_of(count: u8) -> u32
     requires { (1 ≤ count) × (count ≤ 4) }
     ensures { result ≡ max 128 (256 ^ (count - 1)) }
@@ -148,26 +148,26 @@ impl<R: Reader> Decode<R> for Length {
 
     ghost decode_answers = { Decodes LengthAhead (LengthFault BodyFault Overlength) true };
 
-    /// Decodes a length (X.690 8.1.3, 10.1). Under the Basic Encoding Rules octet `0x80` is one
-    /// too: it counts the octets of the body ahead, with the end mark that closes it, and the
-    /// reader stays behind octet `0x80` (X.690 8.1.3.6).
+    /// Decodes a length (X.690 8.1.3, 10.1). Under the Basic Encoding Rules octet `0x80` is also a
+    /// length: the result counts the octets of the body that follows, including its end-of-contents
+    /// octets, and the reader stays after octet `0x80` (X.690 8.1.3.6).
     ///
     /// # Errors
     ///
-    /// After all but `Failed`, `Overflow` and those of a scan the reader stands at the error's
-    /// position and has failed.
+    /// After all but `Failed`, `Overflow` and the errors of a scan, the reader is at the error's
+    /// position and failed.
     ///
-    /// - `Failed` at the position, where the reader had failed; it is unchanged.
-    /// - `Overflow` without a position, where an octet is missing at position 4294967295; the
-    ///   reader stands there and has not failed.
-    /// - `Incomplete` at the end, where an octet is missing at any other position.
-    /// - `IndefiniteLength` behind octet `0x80` where it is the first, under the Distinguished
-    ///   Encoding Rules.
-    /// - `TagUnknown`, `TagNumberInvalid`, `Length`, `NestingDepth` and the others of the scan
-    ///   behind octet `0x80`, as by [`decode_indefinite_length`], under the Basic Encoding Rules;
-    ///   the reader stands behind octet `0x80` and has not failed.
-    /// - `Overlength` behind the length's octets where fewer would do, or behind the first of them
-    ///   where it announces more than four.
+    /// - `Failed` at the position, if the reader had already failed; it is unchanged.
+    /// - `Overflow` without a position, if an octet is missing at position 4294967295; the reader
+    ///   is there and has not failed.
+    /// - `Incomplete` at the end, if an octet is missing at any other position.
+    /// - `IndefiniteLength` after octet `0x80` if it is the first, under the Distinguished Encoding
+    ///   Rules.
+    /// - `TagUnknown`, `TagNumberInvalid`, `Length`, `NestingDepth` and the other errors of the
+    ///   scan after octet `0x80`, as by [`decode_indefinite_length`], under the Basic Encoding
+    ///   Rules; the reader is after octet `0x80` and has not failed.
+    /// - `Overlength` after the length octets if fewer would suffice, or after the first of them if
+    ///   it announces more than four.
     #[inline(always)]
     fn decode(_alloc: Global, reader: &mut R) -> Result<Length, Error>
         ensures { Decodes LengthAhead (LengthFault BodyFault Overlength) R.reliable
@@ -177,13 +177,13 @@ impl<R: Reader> Decode<R> for Length {
     }
 }
 
-/// The number alone is written, in the fewest octets (X.690 8.1.3, 10.1): one octet, and then its
-/// digits in base 256 in one write, where it has any.
+/// Writes only the number, in the fewest octets (X.690 8.1.3, 10.1): one octet, then its base-256
+/// digits, if it has any, in one write.
 ///
 /// # Errors
 ///
-/// The number of octets is never refused. Writing hands on the writer's errors, as by
-/// [`Writer::write`]; the octets of earlier writes stand.
+/// The size never fails. Writing returns the writer's errors, as by [`Writer::write`]; the octets
+/// of earlier writes remain.
 impl Encode for Length {
     ghost encoding = { λ l. length_octets (number l) };
 
@@ -209,8 +209,8 @@ impl Encode for Length {
     }
 }
 
-/// The numbers decide, as their octets do (X.690 8.1.3); whether a length was read in the
-/// indefinite form plays no part. It is never refused.
+/// Compares the numbers, which is also the order of their octets (X.690 8.1.3). Whether a length
+/// was read in the indefinite form is ignored. Never fails.
 impl DerOrd for Length {
     ghost order = { λ l k. Ok (nat_cmp (number l) (number k)) };
 

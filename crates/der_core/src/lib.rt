@@ -1,8 +1,8 @@
-//! Readers and writers of the Distinguished Encoding Rules, tags, lengths and headers read and
-//! written by them, and orders of values by their encodings, after the crate `der`.
+//! Readers and writers of the Distinguished Encoding Rules, decoding and encoding of tags, lengths
+//! and headers, and orders of values by their encodings, after the crate `der`.
 //!
-//! What a reader and a writer are, and what each of their calls answers, stands in `specs/`; the
-//! grammar of ITU-T X.690 stands in the crate `der_base`.
+//! The meaning of readers and writers, and the result of each of their functions, are specified in
+//! `specs/`; the grammar of ITU-T X.690 is in the crate `der_base`.
 #![tactic(auto)]
 
 mod comparisons;

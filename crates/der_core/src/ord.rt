@@ -24,13 +24,14 @@ pub use value::{OrdIsValueOrd, Orderly, ValueOrd};
 ///
 /// Ghost members:
 ///
-/// - `order` is the exact answer of [`DerOrd::der_cmp`], refusals included.
-/// - `octets` is the octets by which values stand.
-/// - `by_octets` says of two values that they are compared by these wherever there is an answer.
-/// - `has_header` says of a value that what its octets begin with can be computed: there is an
-///   answer where it can of both.
-/// - `delimits` says whether the octets of values can be told apart where they are joined, and
-///   `delimited` that they can then.
+/// - `order` is the exact result of [`DerOrd::der_cmp`], errors included.
+/// - `octets` is the octets by which values are ordered.
+/// - `by_octets` says of two values that every result of comparing them is the byte order of these
+///   octets.
+/// - `has_header` says of a value that the beginning of its octets can be computed; if both values
+///   have it, there is a result.
+/// - `delimits` says whether the octets of values can be separated after they are joined;
+///   `delimited` is the proof that they then can.
 pub trait DerOrd {
     ghost order: { Self → Self → Compared };
 
@@ -44,11 +45,11 @@ pub trait DerOrd {
 
     ghost delimited: { delimits → AreDelimited octets };
 
-    /// Compares two values. No memory is taken.
+    /// Compares two values. Allocates nothing.
     ///
     /// # Errors
     ///
-    /// - Those of the type, which `order` says.
+    /// - Those of the type, which `order` specifies.
     fn der_cmp(&self, other: &Self) -> Result<Ordering, Error>
         ensures ok { by_octets self.now other.now
             → IfOk result (λ o. o ≡ byte_order (octets self.now) (octets other.now)) }
@@ -58,7 +59,7 @@ pub trait DerOrd {
         ensures exact { result ≡ order self.now other.now };
 }
 
-/// The elements are compared: their headers, and then their contents.
+/// Compares the elements of the values: their headers, then their contents.
 ///
 /// # Errors
 ///

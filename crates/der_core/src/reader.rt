@@ -21,7 +21,7 @@ pub use slice::SliceReader;
 use std::alloc::{Allocator, Global};
 pub use value::{close_value, read_eoc, read_value};
 
-/// Octets that a reader has lent.
+/// Octets that a reader returns.
 ///
 /// Ghost member: `octets` is the list of them.
 pub trait Octets: Drop {
@@ -40,25 +40,26 @@ impl<'a> Octets for &'a [u8] {
     }
 }
 
-/// A reader of octets: an input, how far of it may be read, a position, and whether it has failed.
+/// A reader of octets: an input, the end up to which it may be read, a position, and whether the
+/// reader has failed.
 ///
-/// A reader that is reliable refuses only where the table of a call says, with its error and its
-/// position. Any other may refuse at every call; of it only the answers `Ok` are owed. A reader
-/// that keeps no failed state has not failed where a call says that the reader has failed then.
-/// Where several errors of a call's list fit, the first of them is told.
+/// A reliable reader fails exactly as the outcome of each function specifies, with its error and
+/// its position. Any other reader may fail at every call; only its `Ok` results are specified. A
+/// reader that keeps no failed state has not failed, even where the text below says that the reader
+/// is then failed. If several errors of a function's list apply, the first of them is returned.
 ///
 /// Ghost members:
 ///
-/// - `state` is what the reader is: input, rules, end, position, depth, failed, and whether it
-///   keeps a failed state; see `specs/ReaderState.antt`.
-/// - `reliable` says whether its refusals are those of the tables too.
-/// - `lends` says whether it can lend octets.
-/// - `sound_state` is the law of every state: the position lies within the end, the end within the
-///   input, of at most 4294967295 octets; the depth is at most 64; and only a reader that keeps a
-///   failed state fails.
-/// - `lending` is the law that a reliable reader lends.
+/// - `state` is the meaning of the reader: input, rules, end, position, depth, failed, and whether
+///   it keeps a failed state; see `specs/ReaderState.antt`.
+/// - `reliable` says whether its errors are also those of the specified outcomes.
+/// - `lends` says whether it can return slices.
+/// - `sound_state` is the law of every state: the position is within the end, and the end within
+///   the input of at most 4294967295 octets; the depth is at most 64; and only a reader that keeps
+///   a failed state fails.
+/// - `lending` is the law that a reliable reader returns slices.
 pub trait Reader: Sized + Drop {
-    /// What [`Reader::read_slice`] lends: for a [`SliceReader`] a part of its input.
+    /// The octets that [`Reader::read_slice`] returns; for a [`SliceReader`] a slice of its input.
     type Lent: Octets;
 
     ghost state: { Self → ReaderState };
@@ -67,38 +68,38 @@ pub trait Reader: Sized + Drop {
 
     ghost lends: { Bool };
 
-    /// Whether the reader can lend octets at all.
+    /// Whether the reader can return slices.
     const CAN_READ_SLICE: bool;
 
-    /// Whether the reader can lend, as a function, which generic code calls.
+    /// Whether the reader can return slices, as a function for generic code.
     fn can_lend() -> bool
         ensures { result ≡ lends };
 
-    /// The rules that tags, lengths and values are read by.
+    /// The encoding rules by which tags, lengths and values are read.
     fn encoding_rules(&self) -> EncodingRules
         ensures { result ≡ (state self.now).rules };
 
-    /// How far may be read: the length of the input, or inside a part its end.
+    /// The end up to which may be read: the length of the input, or within a nested part its end.
     fn input_len(&self) -> Length
         ensures { result ≡ definite_length (state self.now).end };
 
-    /// How many octets were read since the beginning of the input.
+    /// The number of octets read since the start of the input.
     fn position(&self) -> Length
         ensures { result ≡ definite_length (state self.now).position };
 
-    /// Whether the reader has failed; one that keeps no such state never has.
+    /// Whether the reader has failed; always false for one that keeps no failed state.
     fn is_failed(&self) -> bool
         ensures { result ≡ (state self.now).failed };
 
-    /// Lends the next `len` octets.
+    /// Returns the next `len` octets without copying them.
     ///
     /// # Errors
     ///
-    /// - `Reader` at the position, where the reader cannot lend; it is unchanged.
-    /// - `Failed` at the position, where the reader had failed; it is unchanged.
-    /// - `Overflow` without a position, where fewer octets are left and position and length
-    ///   together pass 4294967295; the reader is unchanged.
-    /// - `Incomplete` at the position, where fewer octets are left; the reader has failed then.
+    /// - `Reader` at the position, if the reader cannot return slices; it is unchanged.
+    /// - `Failed` at the position, if the reader had already failed; it is unchanged.
+    /// - `Overflow` without a position, if fewer octets are left and the sum of position and length
+    ///   exceeds 4294967295; the reader is unchanged.
+    /// - `Incomplete` at the position, if fewer octets are left; the reader is then failed.
     fn read_slice(&mut self, len: Length) -> Result<Self::Lent, Error>
         ensures same { Same (state self.old) (state self.new) }
         ensures exact { Meets reliable (read_slice_outcome (number len)) (state self.old)
@@ -112,33 +113,34 @@ pub trait Reader: Sized + Drop {
     ///
     /// # Errors
     ///
-    /// The buffer is unchanged after each.
+    /// After each the buffer is unchanged.
     ///
-    /// - `Overflow` without a position, where the buffer is longer than 4294967295 octets; the
-    ///   reader is unchanged.
-    /// - `Failed` at the position, where the reader had failed; it is unchanged.
-    /// - `Overflow` without a position, where fewer octets are left and position and length
-    ///   together pass 4294967295; the reader is unchanged.
-    /// - `Incomplete` at the position, where fewer octets are left; the reader has failed then.
+    /// - `Overflow` without a position, if the buffer is longer than 4294967295 octets; the reader
+    ///   is unchanged.
+    /// - `Failed` at the position, if the reader had already failed; it is unchanged.
+    /// - `Overflow` without a position, if fewer octets are left and the sum of position and length
+    ///   exceeds 4294967295; the reader is unchanged.
+    /// - `Incomplete` at the position, if fewer octets are left; the reader is then failed.
     fn read_into(&mut self, buf: &mut [u8]) -> Result<(), Error>
         ensures same { Same (state self.old) (state self.new) }
         ensures exact { Meets reliable (read_into_outcome (length buf.old)) (state self.old)
             (map_ok (λ _. buf.new) result) (state self.new) }
         ensures kept { OnErr result (buf.new ≡ buf.old) };
 
-    /// The error of this kind at the position; the reader has failed, where it keeps such a state.
+    /// Returns the error of this kind at the position and marks the reader failed, if it keeps such
+    /// a state.
     fn error(&mut self, kind: ErrorKind) -> Error
         ensures same { Same (state self.old) (state self.new) }
         ensures at_position { result ≡ error_at kind (reader_position (state self.old)) }
         ensures failed { state self.new ≡ stopped_state (state self.old)
             (state self.old).position };
 
-    /// Lends the octets that are left, up to the end; the reader stays.
+    /// Returns the remaining octets, up to the end, without copying them; the reader does not move.
     ///
     /// # Errors
     ///
-    /// - `Reader` at the position, where the reader cannot lend.
-    /// - `Failed` at the position, where the reader had failed.
+    /// - `Reader` at the position, if the reader cannot return slices.
+    /// - `Failed` at the position, if the reader had already failed.
     fn remaining(&self) -> Result<Self::Lent, Error>
         ensures ok { IfOk result (λ r. Ok (Self.Lent.octets r) ≡ remaining_answer
             (state self.now)) }
@@ -148,31 +150,31 @@ pub trait Reader: Sized + Drop {
             → map_ok Self.Lent.octets result ≡ Err
             (error_at CannotRead (reader_position (state self.now))) };
 
-    /// An equal reader; it takes no memory, and what is read by it leaves this one as it is.
+    /// An equal reader; reading from it leaves this one unchanged. Allocates nothing.
     fn fork(&self) -> Self
         ensures { state result ≡ state self.now };
 
-    /// The next `len` octets in memory of this allocator. A reliable reader asks for memory only
-    /// once the octets are known to be there.
+    /// Returns the next `len` octets in memory of this allocator. A reliable reader allocates only
+    /// once the octets are known to be available.
     ///
     /// # Errors
     ///
-    /// - `Failed` at the position, where the reader had failed; it is unchanged.
-    /// - `Overflow` without a position, where fewer octets are left and position and length
-    ///   together pass 4294967295; the reader is unchanged.
-    /// - `Incomplete` at the position, where fewer octets are left; the reader has failed then.
-    /// - `OutOfMemory` without a position, where memory is refused; the reader is unchanged.
+    /// - `Failed` at the position, if the reader had already failed; it is unchanged.
+    /// - `Overflow` without a position, if fewer octets are left and the sum of position and length
+    ///   exceeds 4294967295; the reader is unchanged.
+    /// - `Incomplete` at the position, if fewer octets are left; the reader is then failed.
+    /// - `OutOfMemory` without a position, if the allocation fails; the reader is unchanged.
     fn read_vec_in<A: Allocator>(&mut self, alloc: A, len: Length) -> Result<Vec<u8, A>, Error>
         ensures same { Same (state self.old) (state self.new) }
         ensures exact { VecMeets reliable (number len) (state self.old)
             (map_ok (λ v. v.items) result)
             (state self.new) };
 
-    /// The next `len` octets in memory of the global allocator.
+    /// Returns the next `len` octets in memory of the global allocator.
     ///
     /// # Errors
     ///
-    /// As by [`Reader::read_vec_in`].
+    /// The same as for [`Reader::read_vec_in`].
     final fn read_vec(&mut self, alloc: Global, len: Length) -> Result<Vec<u8>, Error>
         ensures same { Same (Self.state self.old) (Self.state self.new) }
         ensures exact { VecMeets Self.reliable (number len) (Self.state self.old)
@@ -181,58 +183,59 @@ pub trait Reader: Sized + Drop {
         self.read_vec_in(alloc, len)
     }
 
-    /// Passes so many octets. An unflagged zero passes none, also on a failed reader. Where fewer
-    /// are left, whole steps of sixteen of them are passed, and then the next step is refused.
+    /// Skips this many octets. A definite length of zero skips none, even on a failed reader. If
+    /// fewer are left, whole steps of sixteen octets are skipped, and the next step is an error.
     ///
     /// # Errors
     ///
-    /// - `Failed` at the position, where the reader had failed; it is unchanged.
-    /// - `Overflow` without a position, where fewer octets are left and the end of the next step
-    ///   would pass 4294967295; the reader stands behind the whole steps and has not failed.
-    /// - `Incomplete` at the position behind the whole steps, where fewer octets are left; the
-    ///   reader stands there and has failed.
+    /// - `Failed` at the position, if the reader had already failed; it is unchanged.
+    /// - `Overflow` without a position, if fewer octets are left and the end of the next step would
+    ///   exceed 4294967295; the reader is after the whole steps and has not failed.
+    /// - `Incomplete` at the position after the whole steps, if fewer octets are left; the reader
+    ///   is there and failed.
     fn drain(&mut self, amount: Length) -> Result<(), Error>
         ensures same { Same (state self.old) (state self.new) }
         ensures exact { Meets reliable (drain_outcome amount) (state self.old) result
             (state self.new) };
 
-    /// Ends the reading, and the reader.
+    /// Ends reading and consumes the reader.
     ///
     /// # Errors
     ///
-    /// - `Failed` at the position, where the reader had failed.
-    /// - `TrailingData` at the position, where octets are left.
+    /// - `Failed` at the position, if the reader had already failed.
+    /// - `TrailingData` at the position, if octets are left.
     fn finish(self) -> Result<(), Error>
         ensures ok { OnOk result (finish_answer (state self) ≡ Ok tt) }
         ensures exact { reliable ≡ true → result ≡ finish_answer (state self) };
 
-    /// Enters a part of `len` octets: until it is left, they are all that may be read, and the
+    /// Enters a nested part of `len` octets: until it is left, only these may be read, and the
     /// depth is one more. A failed reader enters it too.
     ///
     /// # Errors
     ///
-    /// - `Overflow` without a position, where the part would pass 4294967295; the reader is
-    ///   unchanged.
-    /// - `Incomplete` at the end, where the part would pass the end; the reader is unchanged.
-    /// - `NestingDepth` at the position, where the part would stand inside 64 others; the reader
-    ///   has failed then.
+    /// - `Overflow` without a position, if the end of the part would exceed 4294967295; the reader
+    ///   is unchanged.
+    /// - `Incomplete` at the end, if the part would exceed the end; the reader is unchanged.
+    /// - `NestingDepth` at the position, if the part would be nested in 64 others; the reader is
+    ///   then failed.
     fn enter_nested(&mut self, len: Length) -> Result<Resumption, Error>
         ensures exact { Meets reliable (enter_nested_outcome (number len)) (state self.old)
             (map_ok outer_place result) (state self.new) }
         ensures err { OnErr result (Same (state self.old) (state self.new)) };
 
-    /// Leaves a part, with the end and the depth around it.
+    /// Leaves a nested part and restores the end and the depth around it.
     ///
-    /// The caller sees to it that the outer end lies neither before the position nor behind the
-    /// input, and that the outer depth is at most 64. What [`Reader::enter_nested`] gave is so.
+    /// The caller must ensure that the outer end is neither before the position nor after the end
+    /// of the input, and that the outer depth is at most 64. What [`Reader::enter_nested`] returned
+    /// satisfies this.
     fn leave_nested(&mut self, resumption: Resumption)
         requires { CanLeave (state self.old) (outer_end resumption) (outer_depth resumption) }
         ensures { state self.new ≡ resumed_state (state self.old) (outer_end resumption)
             (outer_depth resumption) };
 
-    // what is so of every reader
+    // a law of every reader
     ghost sound_state: { (s : Self) → IsSound (state s) };
 
-    // a reliable reader lends
+    // a reliable reader returns slices
     ghost lending: { reliable ≡ true → lends ≡ true };
 }

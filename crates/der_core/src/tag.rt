@@ -26,10 +26,10 @@ pub use peek::TagPeek;
 use std::alloc::Global;
 use std::cmp::Ordering;
 
-// the octet of an OCTET STRING that is constructed of segments (X.690 8.7.1)
+// the identifier octet of an OCTET STRING that is constructed from segments (X.690 8.7.1)
 const SEGMENTS: u8 = 0x24;
 
-// The universal tag whose only octet this is (X.680 8.6).
+// The universal tag with this single identifier octet (X.680 8.6).
 #[inline(always)]
 fn universal(octet: u8) -> Option<Tag>
     ensures { result ≡ universal_tag octet }
@@ -61,7 +61,8 @@ fn universal(octet: u8) -> Option<Tag>
     }
 }
 
-// Whether this octet is a universal tag: a test of bits, which finds no tag.
+// Whether this octet is the identifier of a universal tag: compiles to a bit test that does not
+// compute the tag.
 #[inline(always)]
 fn is_universal(octet: u8) -> bool
     ensures { IsTrue result ↔ (universal_tag octet ≢ None) }
@@ -69,7 +70,7 @@ fn is_universal(octet: u8) -> bool
     universal(octet).is_some()
 }
 
-// Whether this octet is an identifier by itself, under any rules.
+// Whether this octet is a complete identifier, under any rules.
 #[inline(always)]
 pub(crate) fn is_identifier(octet: u8) -> bool
     ensures { result ≡ true → IsAlone octet }
@@ -77,7 +78,7 @@ pub(crate) fn is_identifier(octet: u8) -> bool
     is_universal(octet) || octet >= 0x40 && octet % 32 < 31
 }
 
-// Whether this octet below 40 is an identifier under the Basic Encoding Rules.
+// Whether this octet below `0x40` is an identifier under the Basic Encoding Rules.
 #[inline(always)]
 pub(crate) fn is_ber_identifier(octet: u8) -> bool
     ensures { IsTrue result ↔ ((octet ≡ 36) ⊎ (universal_tag octet ≢ None)) }
@@ -120,10 +121,10 @@ fn other(first: u8, number: u32) -> Tag
     }
 }
 
-// The tag of an identifier under the Basic Encoding Rules, by its first octet, and by its number
-// where that is `0x40` or more. It is told once the octets behind are read: where ways meet at
-// which a reader stands in different places, a choice among tags would be a jump for each, not a
-// table.
+// The tag of an identifier under the Basic Encoding Rules, from its first octet, and from its
+// number if that octet is `0x40` or more. It is computed after the following octets are read: where
+// code paths with different reader positions join, choosing a tag would compile to one jump per tag
+// instead of a table.
 #[inline(always)]
 fn tag_of(first: u8, number: u32) -> Tag
     ensures { result ≡ identifier_tag first number }
@@ -137,7 +138,7 @@ fn tag_of(first: u8, number: u32) -> Tag
     }
 }
 
-// The tag of an identifier that a refusal tells, which a call computes.
+// The tag of an identifier for an error, computed by a call.
 #[cold]
 #[inline(never)]
 pub(crate) fn tag_of_identifier(first: u8, number: u32) -> Tag
@@ -146,7 +147,7 @@ pub(crate) fn tag_of_identifier(first: u8, number: u32) -> Tag
     tag_of(first, number)
 }
 
-// The tag of an identifier, with a guess at it: where it is the one, no tag is looked for.
+// The tag of an identifier, with a guess at it: if the guess is right, the tag is not computed.
 #[inline(always)]
 pub(crate) fn guessed_tag(first: u8, number: u32, guess: Option<(u8, Tag)>) -> Tag
     requires { IsGuess guess }
@@ -158,7 +159,7 @@ pub(crate) fn guessed_tag(first: u8, number: u32, guess: Option<(u8, Tag)>) -> T
     }
 }
 
-// A guess at a universal tag: its octet, and the tag itself. At no other tag is there one.
+// A guess at a universal tag: its identifier octet and the tag itself; `None` for any other tag.
 #[inline(always)]
 pub(crate) fn guess(tag: Tag) -> Option<(u8, Tag)>
     ensures { IsGuess result }
@@ -170,7 +171,7 @@ pub(crate) fn guess(tag: Tag) -> Option<(u8, Tag)>
     }
 }
 
-// Decodes a tag (X.690 8.1.2), and tells the constructed bit of its identifier.
+// Decodes a tag (X.690 8.1.2) and returns it with the constructed bit of its identifier.
 #[inline(always)]
 pub(crate) fn decode_with_constructed_bit<R: Reader>(reader: &mut R) -> Result<(Tag, bool), Error>
     ensures { Decodes IdentifierAhead IdentifierFault R.reliable (R.state reader.old) result
@@ -180,7 +181,8 @@ pub(crate) fn decode_with_constructed_bit<R: Reader>(reader: &mut R) -> Result<(
     Ok((tag_of(first, number), has_constructed_bit(first)))
 }
 
-// Decodes an identifier, and tells its first octet, and its number where that is 40 or more.
+// Decodes an identifier and returns its first octet, and its number if that octet is `0x40` or
+// more.
 #[inline(always)]
 pub(crate) fn decode_identifier<R: Reader>(reader: &mut R) -> Result<(u8, u32), Error>
     ensures { Decodes (λ x. IdentifierAhead (identifier_tag x.0 x.1, is_constructed x.0))
@@ -191,7 +193,8 @@ pub(crate) fn decode_identifier<R: Reader>(reader: &mut R) -> Result<(u8, u32), 
     Ok((first, number))
 }
 
-// The rest of an identifier behind its first octet: the number of one from octet `0x40` on.
+// The rest of an identifier after its first octet; returns the number if that octet is `0x40` or
+// more.
 #[inline(always)]
 pub(crate) fn decode_number_behind<R: Reader>(reader: &mut R, first: u8) -> Result<u32, Error>
     ensures same { Same (R.state reader.old) (R.state reader.new) }
@@ -216,7 +219,7 @@ pub(crate) fn decode_number_behind<R: Reader>(reader: &mut R, first: u8) -> Resu
     decode_long_number(reader)
 }
 
-// What is said of a first octet below 40 that no universal tag has.
+// The error kind for a first octet below `0x40` that no universal tag has.
 #[cold]
 pub(crate) fn unknown(first: u8) -> ErrorKind
     ensures { result ≡ identifier_kind [] first }
@@ -228,7 +231,7 @@ pub(crate) fn unknown(first: u8) -> ErrorKind
     }
 }
 
-// The number behind a first octet whose five number bits are set (X.690 8.1.2.4).
+// The tag number after a first octet whose five number bits are set (X.690 8.1.2.4).
 #[inline(always)]
 fn decode_long_number<R: Reader>(reader: &mut R) -> Result<u32, Error>
     ensures same { Same (R.state reader.old) (R.state reader.new) }
@@ -279,21 +282,20 @@ impl<R: Reader> Decode<R> for Tag {
 
     ghost decode_answers = { Decodes TagAhead IdentifierFault true };
 
-    /// Decodes a tag (X.690 8.1.2). Under the Basic Encoding Rules octet `0x24` is read as the tag
-    /// OCTET STRING too (X.690 8.7.1).
+    /// Decodes a tag (X.690 8.1.2). Under the Basic Encoding Rules octet `0x24` is also read as the
+    /// tag OCTET STRING (X.690 8.7.1).
     ///
     /// # Errors
     ///
-    /// After all but `Failed` and `Overflow` the reader stands at the error's position and has
-    /// failed.
+    /// After all but `Failed` and `Overflow`, the reader is at the error's position and failed.
     ///
-    /// - `Failed` at the position, where the reader had failed; it is unchanged.
-    /// - `Overflow` without a position, where an octet is missing at position 4294967295; the
-    ///   reader stands there and has not failed.
-    /// - `Incomplete` at the end, where an octet is missing at any other position.
-    /// - `TagUnknown` with the octet, behind a first octet that begins no tag.
-    /// - `TagNumberInvalid` behind octet `0x1F` where it is the first, or behind an octet with
-    ///   which no tag number goes on (X.690 8.1.2.4).
+    /// - `Failed` at the position, if the reader had already failed; it is unchanged.
+    /// - `Overflow` without a position, if an octet is missing at position 4294967295; the reader
+    ///   is there and has not failed.
+    /// - `Incomplete` at the end, if an octet is missing at any other position.
+    /// - `TagUnknown` with the octet, after a first octet that begins no tag.
+    /// - `TagNumberInvalid` after octet `0x1F` if it is the first, or after an octet with which no
+    ///   tag number continues (X.690 8.1.2.4).
     #[inline(always)]
     fn decode(_alloc: Global, reader: &mut R) -> Result<Tag, Error>
         ensures { Decodes TagAhead IdentifierFault R.reliable (R.state reader.old) result
@@ -303,12 +305,12 @@ impl<R: Reader> Decode<R> for Tag {
     }
 }
 
-/// A tag is written octet by octet (X.690 8.1.2).
+/// Writes the identifier octets of a tag, one by one (X.690 8.1.2).
 ///
 /// # Errors
 ///
-/// The number of octets is never refused. Writing hands on the writer's errors, as by
-/// [`Writer::write`]; the octets of earlier writes stand.
+/// The size never fails. Writing returns the writer's errors, as by [`Writer::write`]; the octets
+/// of earlier writes remain.
 impl Encode for Tag {
     ghost encoding = { tag_octets };
 
@@ -367,8 +369,8 @@ fn encode_high_digits<W: Writer>(number: u32, writer: &mut W) -> Result<(), Erro
     writer.write_byte(128 + (number % 128) as u8)
 }
 
-/// The octets decide (X.690 8.1.2). They stand otherwise than the numbers of tags do, and than the
-/// tags themselves do by `Ord`. It is never refused.
+/// Compares the identifier octets (X.690 8.1.2). This order differs from that of the tag numbers,
+/// and from the `Ord` of tags. Never fails.
 impl DerOrd for Tag {
     ghost order = { λ t u. Ok (byte_order (tag_octets t) (tag_octets u)) };
 
@@ -391,8 +393,8 @@ impl DerOrd for Tag {
     }
 }
 
-// The octets of a tag and zeros behind them, six in all, as one number, the first octet the most
-// significant.
+// The identifier octets of a tag, padded with zeros to six octets, as one number with the first
+// octet the most significant.
 fn left_aligned(tag: Tag) -> u64
     ensures number { result ≡ number_from_digits 256 (six_octets (tag_octets tag)) }
     ensures few { length (tag_octets tag) ≤ 6 }
@@ -400,7 +402,7 @@ fn left_aligned(tag: Tag) -> u64
     octets_number(tag) << (8 * (6 - tag.octet_count()))
 }
 
-// The octets of a tag (X.690 8.1.2) as one number.
+// The identifier octets of a tag (X.690 8.1.2) as one number.
 fn octets_number(tag: Tag) -> u64
     ensures { result ≡ number_from_digits 256 (tag_octets tag) }
 {
@@ -412,7 +414,7 @@ fn octets_number(tag: Tag) -> u64
     with_high_digits(first, number / 128) * 256 + (number % 128) as u64
 }
 
-// An octet and behind it the digits of a number in base 128, bit 8 set on each (X.690 8.1.2.4.2),
+// An octet followed by the base-128 digits of a number, with bit 8 set on each (X.690 8.1.2.4.2),
 // as one number.
 fn with_high_digits(octet: u64, number: u32) -> u64
     requires one { octet < 256 }

@@ -7,19 +7,20 @@ pub mod slice;
 use der_base::Error;
 pub use slice::SliceWriter;
 
-/// A writer of octets: what was written, what stands behind it, how much room there is, and whether
-/// it has failed. A writer without a buffer begins with a `start` of 0, takes what it likes as
-/// `stop`, has nothing `behind`, and keeps any `capacity` and `reference`, as long as they stay.
+/// A writer of octets: what was written, what the buffer holds after it, how much space there is,
+/// and whether the writer has failed. A writer without a buffer starts with `start` 0, chooses its
+/// own `stop`, has nothing `behind`, and any `capacity` and `reference`, as long as these do not
+/// change.
 ///
-/// A writer that has not failed takes every write that fits into its room. One that is reliable
-/// refuses exactly as the table of a call says; a writer that vows nothing counts as failed. Where
-/// several errors of a call's list fit, the first of them is told.
+/// A writer that has not failed accepts every write that fits into its space. A reliable writer
+/// fails exactly as the outcome of each function specifies; a writer that guarantees nothing counts
+/// as failed. If several errors of a function's list apply, the first of them is returned.
 ///
 /// Ghost members:
 ///
-/// - `state` is what the writer is: the octets written, `behind`, `start`, `stop`, `capacity`,
-///   failed, and `reference`; see `specs/Writer.antt`.
-/// - `reliable` says whether its refusals are those of the tables too.
+/// - `state` is the meaning of the writer: the octets written, `behind`, `start`, `stop`,
+///   `capacity`, failed, and `reference`; see `specs/Writer.antt`.
+/// - `reliable` says whether its errors are also those of the specified outcomes.
 pub trait Writer {
     ghost state: { Self → WriterState };
 
@@ -29,13 +30,11 @@ pub trait Writer {
     ///
     /// # Errors
     ///
-    /// Nothing is written, and the position stands.
+    /// After each nothing is written and the position is unchanged.
     ///
-    /// - `Failed` at the position, where the writer had failed; it is unchanged.
-    /// - `Overflow` at the position, where the end would pass 4294967295; the writer has failed
-    ///   then.
-    /// - `Overlength` at the end that was wished, where there is no room; the writer has failed
-    ///   then.
+    /// - `Failed` at the position, if the writer had already failed; it is unchanged.
+    /// - `Overflow` at the position, if the end would exceed 4294967295; the writer is then failed.
+    /// - `Overlength` at the requested end, if there is no space; the writer is then failed.
     fn write(&mut self, octets: &[u8]) -> Result<(), Error>
         ensures kept { Keeps (state self.old) (state self.new) }
         ensures ok { Appends (state self.old) octets.now result (state self.new) }
@@ -43,8 +42,8 @@ pub trait Writer {
         ensures exact { reliable ≡ true
             → Writes (write_outcome octets.now (state self.old)) result (state self.new) };
 
-    /// Whether a write of so many octets is known to succeed. Where a writer answers so, a header
-    /// is written at once, and otherwise piece by piece; one that does not say answers `false`.
+    /// Whether a write of this many octets is known to succeed. If true, a header is written at
+    /// once, otherwise piece by piece. The default returns `false`, which promises nothing.
     fn has_room(&self, _count: usize) -> bool
         ensures { result ≡ true → HasRoom (state self.now) _count }
     {
@@ -55,7 +54,7 @@ pub trait Writer {
     ///
     /// # Errors
     ///
-    /// `Failed`, `Overflow` and `Overlength`, as by [`Writer::write`] of one octet.
+    /// `Failed`, `Overflow` and `Overlength`, as by [`Writer::write`] for one octet.
     #[inline(always)]
     final fn write_byte(&mut self, octet: u8) -> Result<(), Error>
         ensures kept { Keeps (Self.state self.old) (Self.state self.new) }

@@ -1,4 +1,4 @@
-//! A clone is the same value, and takes no memory.
+//! A clone is the same value; cloning allocates nothing.
 ghost use Rattle.std.specs.Prelude.{◌≡◌, Ok};
 
 use crate::encoding_rules::EncodingRules;
@@ -42,7 +42,7 @@ fn mode_clone(mode: &TagMode) -> Result<TagMode, AllocError>
     mode.clone()
 }
 
-/// The rules itself.
+/// The rules themselves.
 fn rules_clone(rules: &EncodingRules) -> Result<EncodingRules, AllocError>
     ensures { result ≡ Ok rules.now }
 {

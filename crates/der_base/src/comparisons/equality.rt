@@ -1,4 +1,4 @@
-//! Two values are equal exactly where they are the same value.
+//! Two values compare equal exactly if they are the same value.
 ghost use Rattle.std.specs.Prelude.{◌≡◌, ◌↔◌, IsTrue};
 ghost use Rattle.der_base.specs.Length.{number, is_indefinite};
 
@@ -58,7 +58,7 @@ fn error_kind_equality(a: ErrorKind, b: ErrorKind) -> bool
     a == b
 }
 
-/// Equal errors have the same kind, and the same position or none.
+/// Equal errors have the same kind, and either the same position or both none.
 fn error_equality(a: Error, b: Error) -> bool
     ensures { IsTrue result ↔ (a ≡ b) }
 {

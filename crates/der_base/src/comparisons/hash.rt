@@ -1,4 +1,4 @@
-//! What a hasher gets of a value.
+//! What each value feeds to a hasher.
 ghost use Rattle.std.specs.Prelude.{◌≡◌, ◌++◌, fold, IsTrue};
 ghost use Rattle.std.specs.Hash as fed;
 ghost use Rattle.der_base.specs.Compare.{tag_writes};
@@ -8,7 +8,7 @@ use crate::length::Length;
 use crate::tag::{Tag, TagNumber};
 use std::hash::{Hash, Hasher};
 
-/// The number of a length and then the flag.
+/// The number of octets, then the flag.
 fn length_hash<H: Hasher>(length: Length, state: &mut H)
     ensures { state.new
         ≡ fold H.write state.old (fed.u32 (number length) ++ fed.bool (is_indefinite length)) }
@@ -16,7 +16,7 @@ fn length_hash<H: Hasher>(length: Length, state: &mut H)
     length.hash(state);
 }
 
-/// Equal lengths are hashed equally: number and flag count for both.
+/// Equal lengths hash equally: both number and flag are compared and hashed.
 fn equal_lengths_hash_equally<H: Hasher>(a: Length, b: Length, state: &mut H, other: &mut H) -> bool
     ensures { IsTrue result → state.old ≡ other.old → state.new ≡ other.new }
 {
@@ -32,7 +32,7 @@ fn tag_number_hash<H: Hasher>(number: TagNumber, state: &mut H)
     number.hash(state);
 }
 
-/// The place of the variant, then its constructed bit and its number, where it has them.
+/// The index of the variant, then its constructed bit and its number, if it has them.
 fn tag_hash<H: Hasher>(tag: Tag, state: &mut H)
     ensures { state.new ≡ fold H.write state.old (tag_writes tag) }
 {

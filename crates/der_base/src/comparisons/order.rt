@@ -1,4 +1,4 @@
-//! How the derived total orders order two values.
+//! The derived total orders.
 ghost use Rattle.std.specs.Prelude.{◌≡◌};
 ghost use Rattle.std.specs.Ordering.{nat_cmp};
 ghost use Rattle.der_base.specs.Class.{class_number};
@@ -9,42 +9,42 @@ use crate::length::Length;
 use crate::tag::{Class, Tag, TagMode, TagNumber};
 use std::cmp::Ordering;
 
-/// Lengths are ordered by the number and then by the flag, the unflagged first.
+/// Compares the numbers of octets, then the flags, the definite length first.
 fn length_ordering(a: Length, b: Length) -> Ordering
     ensures { result ≡ length_order a b }
 {
     a.cmp(&b)
 }
 
-/// Tags are ordered by the variant, then by the constructed bit, then by the number.
+/// Compares the variants, then the constructed bits, then the numbers.
 fn tag_ordering(tag: Tag, other: Tag) -> Ordering
     ensures { result ≡ tag_order tag other }
 {
     tag.cmp(&other)
 }
 
-/// Tag numbers are ordered as numbers are.
+/// Compares the tag numbers as numbers.
 fn tag_number_ordering(a: TagNumber, b: TagNumber) -> Ordering
     ensures { result ≡ nat_cmp a.0 b.0 }
 {
     a.cmp(&b)
 }
 
-/// Classes are ordered as their numbers are.
+/// Compares the classes by their numbers.
 fn class_ordering(a: Class, b: Class) -> Ordering
     ensures { result ≡ nat_cmp (class_number a) (class_number b) }
 {
     a.cmp(&b)
 }
 
-/// `Explicit` comes before `Implicit`.
+/// `Explicit` is less than `Implicit`.
 fn mode_ordering(a: TagMode, b: TagMode) -> Ordering
     ensures { result ≡ nat_cmp (mode_index a) (mode_index b) }
 {
     a.cmp(&b)
 }
 
-/// `Ber` comes before `Der`.
+/// `Ber` is less than `Der`.
 fn rules_ordering(a: EncodingRules, b: EncodingRules) -> Ordering
     ensures { result ≡ nat_cmp (rules_index a) (rules_index b) }
 {

@@ -8,14 +8,14 @@ use crate::length::Length;
 use std::ops::{Add, Sub};
 
 impl Length {
-    /// The sum, unflagged, stopping at 4294967295.
+    /// The sum as a definite length, at most 4294967295.
     pub const fn saturating_add(self, rhs: Self) -> Self
         ensures { result ≡ definite_length (saturated_number (number self + number rhs)) }
     {
         Length::new(self.inner.saturating_add(rhs.inner))
     }
 
-    /// The difference, unflagged, stopping at zero.
+    /// The difference as a definite length, at least zero.
     pub const fn saturating_sub(self, rhs: Self) -> Self
         ensures { result ≡ definite_length (number self - number rhs) }
     {
@@ -23,11 +23,11 @@ impl Length {
     }
 }
 
-/// The sum, unflagged.
+/// The sum as a definite length.
 ///
 /// # Errors
 ///
-/// - `Overflow` without a position, where the sum would pass 4294967295.
+/// - `Overflow` without a position, if the sum exceeds 4294967295.
 impl Add for Length {
     type Output = Result<Self>;
 
@@ -38,11 +38,11 @@ impl Add for Length {
     }
 }
 
-/// The sum, unflagged.
+/// The sum as a definite length.
 ///
 /// # Errors
 ///
-/// - `Overflow` without a position, where the sum would pass 4294967295.
+/// - `Overflow` without a position, if the sum exceeds 4294967295.
 impl Add<u8> for Length {
     type Output = Result<Self>;
 
@@ -53,11 +53,11 @@ impl Add<u8> for Length {
     }
 }
 
-/// The sum, unflagged.
+/// The sum as a definite length.
 ///
 /// # Errors
 ///
-/// - `Overflow` without a position, where the sum would pass 4294967295.
+/// - `Overflow` without a position, if the sum exceeds 4294967295.
 impl Add<u16> for Length {
     type Output = Result<Self>;
 
@@ -68,11 +68,11 @@ impl Add<u16> for Length {
     }
 }
 
-/// The sum, unflagged.
+/// The sum as a definite length.
 ///
 /// # Errors
 ///
-/// - `Overflow` without a position, where the sum would pass 4294967295.
+/// - `Overflow` without a position, if the sum exceeds 4294967295.
 impl Add<u32> for Length {
     type Output = Result<Self>;
 
@@ -86,11 +86,11 @@ impl Add<u32> for Length {
     }
 }
 
-/// The sum, unflagged.
+/// The sum as a definite length.
 ///
 /// # Errors
 ///
-/// - `Overflow` without a position, where the sum would pass 4294967295.
+/// - `Overflow` without a position, if the sum exceeds 4294967295.
 impl Add<usize> for Length {
     type Output = Result<Self>;
 
@@ -101,11 +101,11 @@ impl Add<usize> for Length {
     }
 }
 
-/// The difference, unflagged.
+/// The difference as a definite length.
 ///
 /// # Errors
 ///
-/// - `Overflow` without a position, where the difference would be below zero.
+/// - `Overflow` without a position, if the difference is below zero.
 impl Sub for Length {
     type Output = Result<Self>;
 
@@ -119,12 +119,12 @@ impl Sub for Length {
     }
 }
 
-/// The sum, as of two lengths.
+/// The sum, as for two lengths.
 ///
 /// # Errors
 ///
-/// - The error that is given, with its position or none.
-/// - `Overflow` without a position, where the sum would pass 4294967295.
+/// - The error of the left operand, unchanged.
+/// - `Overflow` without a position, if the sum exceeds 4294967295.
 impl Add<Length> for Result<Length> {
     type Output = Self;
 
@@ -135,12 +135,12 @@ impl Add<Length> for Result<Length> {
     }
 }
 
-/// The difference, as of two lengths.
+/// The difference, as for two lengths.
 ///
 /// # Errors
 ///
-/// - The error that is given, with its position or none.
-/// - `Overflow` without a position, where the difference would be below zero.
+/// - The error of the left operand, unchanged.
+/// - `Overflow` without a position, if the difference is below zero.
 impl Sub<Length> for Result<Length> {
     type Output = Self;
 

@@ -1,4 +1,4 @@
-//! Numbers as lengths, and lengths as numbers.
+//! Conversions between lengths and numbers.
 ghost use Rattle.std.specs.Prelude.{◌≡◌, Ok};
 ghost use Rattle.der_base.specs.Length.{number, definite_length};
 ghost use Rattle.der_base.specs.Arithmetic.{checked_length};
@@ -6,7 +6,7 @@ ghost use Rattle.der_base.specs.Arithmetic.{checked_length};
 use crate::error::{Error, Result};
 use crate::length::Length;
 
-/// So many octets, unflagged.
+/// A definite length of this number of octets.
 impl From<u8> for Length {
     ghost from_gives = { λ n l. l ≡ definite_length n };
 
@@ -15,7 +15,7 @@ impl From<u8> for Length {
     }
 }
 
-/// So many octets, unflagged.
+/// A definite length of this number of octets.
 impl From<u16> for Length {
     ghost from_gives = { λ n l. l ≡ definite_length n };
 
@@ -24,7 +24,7 @@ impl From<u16> for Length {
     }
 }
 
-/// So many octets, unflagged.
+/// A definite length of this number of octets.
 impl From<u32> for Length {
     ghost from_gives = { λ n l. l ≡ definite_length n };
 
@@ -42,11 +42,11 @@ impl From<Length> for u32 {
     }
 }
 
-/// So many octets, unflagged.
+/// A definite length of this number of octets.
 ///
 /// # Errors
 ///
-/// - `Overflow` without a position, where the number is above 4294967295.
+/// - `Overflow` without a position, if the number exceeds 4294967295.
 impl TryFrom<usize> for Length {
     type Error = Error;
 
@@ -61,7 +61,7 @@ impl TryFrom<usize> for Length {
 ///
 /// # Errors
 ///
-/// None: a `usize` has 64 bits.
+/// Never fails: a `usize` has 64 bits.
 impl TryFrom<Length> for usize {
     type Error = Error;
 

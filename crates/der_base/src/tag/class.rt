@@ -1,28 +1,28 @@
-//! Classes of tags.
+//! Tag classes.
 ghost use Rattle.std.specs.Prelude.{◌≡◌, ◌*◌, ◌/◌, Some};
 
 use std::fmt;
 
-/// The two highest bits of a universal tag's first octet.
+/// The two highest bits of the first identifier octet of a universal tag.
 pub const CLASS_UNIVERSAL: u8 = 0x00;
 
-/// The two highest bits of an application tag's first octet.
+/// The two highest bits of the first identifier octet of an application tag.
 pub const CLASS_APPLICATION: u8 = 0x40;
 
-/// The two highest bits of a context-specific tag's first octet.
+/// The two highest bits of the first identifier octet of a context-specific tag.
 pub const CLASS_CONTEXT_SPECIFIC: u8 = 0x80;
 
-/// The two highest bits of a private tag's first octet.
+/// The two highest bits of the first identifier octet of a private tag.
 pub const CLASS_PRIVATE: u8 = 0xC0;
 
 /// The class of a tag (X.690 8.1.2.2, table 1).
 #[derive(Clone, Copy, Debug, PartialEq, Eq, PartialOrd, Ord)]
 pub enum Class {
-    /// A type with one meaning in all applications.
+    /// A type with the same meaning in all applications.
     Universal,
     /// A type of one application.
     Application,
-    /// A type whose meaning the context gives.
+    /// A type whose meaning depends on the context.
     ContextSpecific,
     /// A type of one enterprise.
     Private,
@@ -31,7 +31,7 @@ pub enum Class {
 impl Class {
     ghost use Rattle.der_base.specs.Class.{class_number};
 
-    /// The class in the two highest bits of an octet whose other bits are 0.
+    /// The class as the two highest bits of an octet; its other bits are 0.
     pub const fn bits(&self) -> u8
         ensures { result ≡ 64 * class_number self.now }
     {
@@ -43,7 +43,7 @@ impl Class {
         }
     }
 
-    /// The class that the two highest bits of an octet hold, whatever its other bits.
+    /// The class in the two highest bits of an octet, whatever its other bits.
     pub const fn from_bits(bits: u8) -> Self
         ensures { class_number result ≡ bits / 64 }
     {
@@ -56,7 +56,7 @@ impl Class {
     }
 }
 
-/// The class that the two highest bits hold.
+/// The class in the two highest bits of the octet.
 impl From<u8> for Class {
     ghost use Rattle.der_base.specs.Class.{class_number};
 
@@ -67,7 +67,7 @@ impl From<u8> for Class {
     }
 }
 
-/// The standard's name of the class, in capitals.
+/// The name of the class in the standard, in capitals.
 impl fmt::Display for Class {
     ghost use Rattle.der_base.specs.Text.{class_text};
 

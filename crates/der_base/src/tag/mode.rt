@@ -1,25 +1,25 @@
-//! Modes of tagging.
+//! Tagging modes.
 ghost use Rattle.std.specs.Prelude.{◌≡◌, Some};
 
 use crate::error::{Error, ErrorKind, Result};
 use std::fmt;
 use std::str::FromStr;
 
-/// Whether a tag stands around a value's own tag or in its place (X.690 8.14).
+/// Whether a tag encloses the tag of a value or replaces it (X.690 8.14).
 #[derive(Clone, Copy, Debug, Default, PartialEq, Eq, PartialOrd, Ord)]
 pub enum TagMode {
-    /// The value's own tag stands inside.
+    /// The tag of the value is kept inside.
     #[default]
     Explicit,
-    /// The value's own tag is left out.
+    /// The tag of the value is omitted.
     Implicit,
 }
 
-/// Reads `EXPLICIT`, `explicit`, `IMPLICIT` and `implicit`.
+/// Parses `EXPLICIT`, `explicit`, `IMPLICIT` and `implicit`.
 ///
 /// # Errors
 ///
-/// - `TagModeUnknown` without a position, of any other text.
+/// - `TagModeUnknown` without a position, for any other text.
 impl FromStr for TagMode {
     type Err = Error;
 
@@ -36,7 +36,7 @@ impl FromStr for TagMode {
     }
 }
 
-/// The keyword of ASN.1, in capitals.
+/// The ASN.1 keyword, in capitals.
 impl fmt::Display for TagMode {
     ghost use Rattle.der_base.specs.Text.{mode_text};
 

@@ -4,8 +4,8 @@ ghost use Rattle.std.specs.Prelude.{◌≡◌, Some};
 use crate::tag::Tag;
 use std::fmt;
 
-/// The number of a tag. The universal tags have numbers to 30, the tags of the other classes any
-/// number of 32 bits (X.690 8.1.2.2, 8.1.2.4).
+/// The number of a tag. Universal tags have numbers up to 30; tags of the other classes have any
+/// 32-bit number (X.690 8.1.2.2, 8.1.2.4).
 #[derive(Clone, Copy, Debug, PartialEq, Eq, PartialOrd, Ord, Hash)]
 pub struct TagNumber(pub u32);
 

@@ -1,4 +1,4 @@
-//! Values in memory of their own.
+//! Decoding of boxed values.
 ghost use Rattle.std.specs.Prelude.{true};
 ghost use Rattle.der_core.specs.Boxed.{BoxedRead};
 
@@ -20,13 +20,13 @@ impl<T: ReadValue> ReadValue for Box<T> {
     ghost takes_valid = { λ v rules h octets taken. T.takes_valid v.value rules h octets taken };
 }
 
-/// The value is decoded first, and then memory is asked for.
+/// Decodes the value first and then allocates.
 ///
 /// # Errors
 ///
 /// - Those of the value, as by its [`DecodeValue::decode_value`].
-/// - `OutOfMemory` without a position, where memory is refused; the reader stands behind the
-///   contents and has not failed.
+/// - `OutOfMemory` without a position, if the allocation fails; the reader is after the contents
+///   and has not failed.
 impl<R: Reader, T: DecodeValue<R>> DecodeValue<R> for Box<T> {
     type Error = <T as DecodeValue<R>>::Error;
 

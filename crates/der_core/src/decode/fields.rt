@@ -1,4 +1,4 @@
-//! Fields, one behind the other.
+//! Decoding of fields in sequence.
 ghost use Rattle.std.specs.Prelude.{◌≡◌, ◌||◌, ℕ, ◌+◌, ◌≤◌, ◌⊎◌, true, false, IfOk, IsOk, IsErrAnd};
 ghost use Rattle.der_core.specs.ReaderState.{Same, rest_of};
 ghost use Rattle.der_core.specs.Decode.{Passes, ReadsOrLacks};
@@ -11,12 +11,12 @@ use crate::header::Header;
 use crate::reader::Reader;
 use std::alloc::Global;
 
-/// A pair is decoded as its first member and, behind it, its second; so three fields are a pair of
-/// one and a pair.
+/// A pair is decoded as its first member followed by its second; three fields are one member and a
+/// pair.
 ///
 /// # Errors
 ///
-/// Those of the first member, and then those of the second.
+/// Those of the first member, then those of the second.
 impl<R: Reader, A: Decode<R>, B: Decode<R, Error = <A as Decode<R>>::Error>> Decode<R> for (A, B) {
     type Error = <A as Decode<R>>::Error;
 
@@ -36,10 +36,10 @@ impl<R: Reader, A: Decode<R>, B: Decode<R, Error = <A as Decode<R>>::Error>> Dec
     }
 }
 
-/// Decodes a value that all the contents are, in which the reader stands; of a pair, the members
-/// one behind the other. It is [`Decode::decode`], with the contract that
-/// [`DecodeValue::decode_value`](crate::DecodeValue::decode_value) asks for: contents are taken
-/// where they are wholly a value, whatever the header.
+/// Decodes a value from all of the contents in which the reader is; a pair is decoded as its
+/// members in sequence. It is [`Decode::decode`] with the contract that
+/// [`DecodeValue::decode_value`](crate::DecodeValue::decode_value) requires: contents are accepted
+/// if they are entirely one value, whatever the header.
 ///
 /// # Errors
 ///

@@ -1,4 +1,4 @@
-//! Types that are read as they are written.
+//! Types for which reading is the inverse of writing.
 ghost use Rattle.der_core.specs.Lawful.{IsLawful};
 
 use crate::decode::ReadValue;
@@ -6,10 +6,10 @@ use crate::encode::WrittenValue;
 use crate::tag::fixed::FixedTag;
 
 /// Types whose contents under the Distinguished Encoding Rules are read as exactly the values that
-/// they are written for. The law is the author's to prove; no call asks for it.
+/// they are written for. Implementors prove this law; no function requires it.
 ///
-/// Ghost member: `lawful` is that law. From it and from the contracts of the calls follows what
-/// `specs/Lawful.antt` says: that [`from_der`](crate::DecodeBytes::from_der),
+/// Ghost member: `lawful` is that law. It and the contracts of the functions imply the properties
+/// in `specs/Lawful.antt`: [`from_der`](crate::DecodeBytes::from_der),
 /// [`from_der_partial`](crate::DecodeBytes::from_der_partial) and
 /// [`decode`](crate::ReaderExt::decode) read exactly the encodings.
 pub trait Lawful: ReadValue + WrittenValue + FixedTag {

@@ -1,4 +1,4 @@
-//! Nothing, of any type.
+//! Decoding of `PhantomData`.
 ghost use Rattle.std.specs.Prelude.{◌≡◌, false, IsOk};
 
 use crate::decode::Decode;
@@ -7,7 +7,7 @@ use der_base::Error;
 use std::alloc::Global;
 use std::marker::PhantomData;
 
-/// It is decoded from no octets, and has no tag; decoding is never refused.
+/// Decoded from zero octets, and without a tag. Never fails.
 impl<R: Reader, T> Decode<R> for PhantomData<T> {
     type Error = Error;
 

@@ -15,17 +15,18 @@ use crate::tag::fixed::FixedTag;
 use crate::tag::guess;
 use std::alloc::Global;
 
-/// What a type means when its values are read: which values there are, and which octets are read
-/// as which of them. It has no functions.
+/// The meaning of a type when its values are read: which values it has, and which octets are read
+/// as which value. The trait has no functions.
 ///
 /// Ghost members:
 ///
 /// - `valid` says which models are values of the type.
-/// - `takes` says which value the contents behind a header are read as, under either rules; the
+/// - `takes` says as which value the contents after a header are read, under either rules; the
 ///   header's length is that of the contents alone.
-/// - `value_levels` is how many levels of nesting the contents want under each of the rules.
-/// - `allocates` says whether reading takes memory.
-/// - `takes_valid` is the law that only values are read.
+/// - `value_levels` is the number of nesting levels that the contents require under each of the
+///   rules.
+/// - `allocates` says whether reading allocates.
+/// - `takes_valid` is the law that only valid values are read.
 pub trait ReadValue: Sized {
     ghost valid: { Self → Type 0 };
 
@@ -35,35 +36,37 @@ pub trait ReadValue: Sized {
 
     ghost allocates: { Bool };
 
-    // only values are read
+    // only valid values are read
     ghost takes_valid: { (v : Self) (rules : Rules) (h : Head) (octets : List ℕ)
         → takes v rules h octets → valid v };
 }
 
-/// Types whose values are decoded from contents, which stand behind a header. Such a type that
-/// also has a fixed tag is decoded by [`Decode`]: its header, and then its contents.
+/// Types whose values are decoded from the contents after a header. Such a type that also has a
+/// fixed tag is decoded by [`Decode`]: its header, then its contents.
 ///
-/// Ghost member: `decode_value_answers` is the exact outcome on a reliable reader, refusals and
-/// their states included: of the header, the reader before, the answer, and the reader afterwards.
+/// Ghost member: `decode_value_answers` is the exact outcome on a reliable reader, including each
+/// error and the state in which it leaves the reader. Its arguments are the header, the reader
+/// before, the result, and the reader after.
 pub trait DecodeValue<R: Reader>: ReadValue + Drop {
-    /// The error of decoding.
+    /// The error type of decoding.
     type Error: DecodeError;
 
     ghost decode_value_answers: { Head → ReaderState → AResult Self Self.Error → ReaderState
         → Type 0 };
 
-    /// Decodes a value from contents: the reader stands inside them, and the header has their
-    /// length. An `Ok` that leaves octets of them, or a reader that has failed, is no reading.
+    /// Decodes a value from contents: the reader is inside them, and the header has their length.
+    /// An `Ok` that leaves some of the contents unread, or leaves the reader failed, does not count
+    /// as a value.
     ///
-    /// A reliable reader that has not failed and stands inside a part, with `value_levels` of
-    /// nesting left, gives a value where the contents are taken as one, or an error that says that
-    /// memory was refused.
+    /// A reliable reader that has not failed and is inside a nested part, with `value_levels`
+    /// levels of nesting left, returns a value if the contents are accepted as one, or an error
+    /// that reports a failed allocation.
     ///
     /// # Errors
     ///
-    /// - One that says that memory was refused, where the type takes memory.
-    /// - Those of the type: `decode_value_answers` says which there are, at which positions, and
-    ///   whether the reader has failed then.
+    /// - One that reports a failed allocation, if the type allocates.
+    /// - Those of the type: `decode_value_answers` specifies them, their positions, and whether the
+    ///   reader is then failed.
     fn decode_value(alloc: Global, reader: &mut R, header: Header) -> Result<Self, Self::Error>
         ensures same { Same (R.state reader.old) (R.state reader.new) }
         ensures sound { TakesContents Self.takes (head_of header) (R.state reader.old) result
@@ -75,25 +78,25 @@ pub trait DecodeValue<R: Reader>: ReadValue + Drop {
         ensures exact { R.reliable ≡ true → decode_value_answers (head_of header)
             (R.state reader.old) result (R.state reader.new) };
 
-    /// A law without an answer: what is in hand is a value.
+    /// Proves that `self` is a valid value; does nothing.
     fn is_value(&self)
         ensures { Self.valid self.now };
 }
 
 /// Decodes the element of a value (X.690 8.1.1): its header, which has the type's tag, then its
-/// contents, and where their length is indefinite the end mark. It is [`Decode::decode`] of every
-/// type that has [`DecodeValue`] and [`FixedTag`].
+/// contents, and the end-of-contents octets if their length is indefinite. It is the
+/// [`Decode::decode`] of every type that implements [`DecodeValue`] and [`FixedTag`].
 ///
 /// # Errors
 ///
 /// - Those of the header, as by [`Header::decode`].
-/// - `TagUnexpected` without a position, where the header has another tag; the reader stands behind
-///   the header and has not failed.
-/// - `Overflow`, `Incomplete` and `NestingDepth` of contents that cannot be entered, as by
-///   [`Reader::enter_nested`]; the reader stands behind the header.
+/// - `TagUnexpected` without a position, if the header has another tag; the reader is after the
+///   header and has not failed.
+/// - `Overflow`, `Incomplete` and `NestingDepth`, if the contents cannot be entered, as by
+///   [`Reader::enter_nested`]; the reader is after the header.
 /// - Those of the type, as by [`DecodeValue::decode_value`].
-/// - `TrailingData` at the position, where the type leaves octets; the reader has failed then.
-/// - Those of [`read_eoc`](crate::read_eoc), where the length was read in the indefinite form.
+/// - `TrailingData` at the position, if the type leaves octets unread; the reader is then failed.
+/// - Those of [`read_eoc`](crate::read_eoc), if the length was read in the indefinite form.
 #[inline(always)]
 pub fn decode_tlv<R: Reader, T: DecodeValue<R> + FixedTag>(
     alloc: Global,

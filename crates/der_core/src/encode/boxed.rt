@@ -1,4 +1,4 @@
-//! Values in memory of their own: they are written as the values that they hold.
+//! Encoding of boxed values: they are written as the values that they hold.
 use crate::encode::{EncodeValue, WrittenValue};
 use crate::writer::Writer;
 use der_base::{Error, Length};

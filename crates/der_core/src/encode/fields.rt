@@ -1,4 +1,4 @@
-//! Fields, one behind the other.
+//! Encoding of fields in sequence.
 ghost use Rattle.std.specs.Prelude.{◌≡◌, ◌++◌};
 ghost use Rattle.der_core.specs.Fields.{fields_size, FieldsWritten};
 
@@ -6,13 +6,13 @@ use crate::encode::Encode;
 use crate::writer::Writer;
 use der_base::{Error, Length};
 
-/// A pair is written as its first member and, behind it, its second; so three fields are a pair of
-/// one and a pair.
+/// A pair is written as its first member followed by its second; three fields are one member and a
+/// pair.
 ///
 /// # Errors
 ///
-/// Those of the first member, and then those of the second; and the number of octets is refused by
-/// `Overflow` without a position, where the two have more than 4294967295 together.
+/// Those of the first member, then those of the second. The size is an error `Overflow` without a
+/// position, if the two together have more than 4294967295 octets.
 impl<A: Encode, B: Encode> Encode for (A, B) {
     ghost encoding = { λ v. A.encoding v.0 ++ B.encoding v.1 };
 
@@ -29,7 +29,7 @@ impl<A: Encode, B: Encode> Encode for (A, B) {
 
     #[inline(always)]
     fn encode<W: Writer>(&self, writer: &mut W) -> Result<(), Error> {
-        // an answer is matched where it is made, as by `encode_tlv`
+        // each result is matched immediately, as in `encode_tlv`
         if let Err(error) = self.0.encode(writer) {
             return Err(error);
         }

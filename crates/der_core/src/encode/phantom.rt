@@ -1,4 +1,4 @@
-//! Nothing, of any type.
+//! Encoding of `PhantomData`.
 ghost use Rattle.std.specs.Prelude.{◌≡◌, [], Ok};
 ghost use Rattle.der_base.specs.Length.{definite_length};
 
@@ -7,7 +7,7 @@ use crate::writer::Writer;
 use der_base::{Error, Length};
 use std::marker::PhantomData;
 
-/// It is written as no octets; writing is never refused.
+/// Written as zero octets. Never fails.
 impl<T> Encode for PhantomData<T> {
     ghost encoding = { λ _. [] };
 

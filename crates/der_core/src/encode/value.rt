@@ -11,11 +11,11 @@ use crate::tag::fixed::Tagged;
 use crate::writer::{SliceWriter, Writer};
 use der_base::{Error, Length};
 
-/// What a value means when it is written.
+/// The meaning of a value when it is written.
 ///
 /// Ghost members:
 ///
-/// - `contents` is the octets of its contents.
+/// - `contents` is the contents octets of a value.
 /// - `writable` says whether it can be written at all.
 pub trait WrittenValue {
     ghost contents: { Self → List ℕ };
@@ -23,14 +23,14 @@ pub trait WrittenValue {
     ghost writable: { Self → Type 0 };
 }
 
-/// Types whose values have contents, which stand behind a header. Such a type that also has a tag
-/// is encoded by [`crate::Encode`]: its header, and then its contents.
+/// Types whose values have contents, which are written after a header. Such a type that also has a
+/// tag is encoded by [`crate::Encode`]: its header, then its contents.
 ///
 /// Ghost members:
 ///
-/// - `value_size` is the exact answer of [`EncodeValue::value_len`], refusals included.
+/// - `value_size` is the exact result of [`EncodeValue::value_len`], errors included.
 /// - `encode_value_answers` is the exact outcome of [`EncodeValue::encode_value`] on a reliable
-///   writer, refusals and their states included.
+///   writer, including each error and the state in which it leaves the writer.
 ///
 /// A month as an `OCTET STRING` of one octet:
 ///
@@ -67,7 +67,8 @@ pub trait WrittenValue {
 /// impl EncodeValue for Month {
 ///     ghost value_size = { λ _. Ok (definite_length 1) };
 ///
-///     ghost value_answers = { λ month s r t. Writes (write_outcome (month.number ∷ []) s) r t };
+///     ghost encode_value_answers = { λ month s r t.
+///         Writes (write_outcome (month.number ∷ []) s) r t };
 ///
 ///     fn value_len(&self) -> Result<Length, Error> {
 ///         Ok(Length::ONE)
@@ -78,7 +79,7 @@ pub trait WrittenValue {
 ///     }
 /// }
 ///
-/// /// The octets `04 01` and the month's number, as `04 01 09` for September.
+/// /// The octets `04 01` and the month's number, such as `04 01 09` for September.
 /// pub fn month_der<'b>(month: &Month, buf: &'b mut [u8]) -> Result<&'b [u8], Error>
 ///     ensures { IfOk result (λ r. r.now ≡ 4 ∷ 1 ∷ month.now.number ∷ []) }
 /// {
@@ -91,7 +92,7 @@ pub trait EncodeValue: WrittenValue {
     ghost encode_value_answers: { Self → WriterState → AResult (Unit {0}) AnError → WriterState
         → Type 0 };
 
-    /// The header of the value's element: its tag, and the number of octets of its contents.
+    /// The header of the value's element: its tag, and the number of its contents octets.
     ///
     /// # Errors
     ///
@@ -108,11 +109,11 @@ pub trait EncodeValue: WrittenValue {
         Ok(Header::new(self.tag(), len))
     }
 
-    /// How many octets the contents have.
+    /// The number of contents octets.
     ///
     /// # Errors
     ///
-    /// - Those of the type, which `value_size` says.
+    /// - Those of the type, which `value_size` specifies.
     fn value_len(&self) -> Result<Length, Error>
         ensures ok { Counts (Self.contents self.now) result }
         ensures succeeds { Self.writable self.now → HasSize (Self.contents self.now) result }
@@ -122,8 +123,8 @@ pub trait EncodeValue: WrittenValue {
     ///
     /// # Errors
     ///
-    /// What was written before stands after each; `encode_value_answers` says how the writer is
-    /// left.
+    /// After each, octets written earlier remain; `encode_value_answers` specifies the state of the
+    /// writer.
     ///
     /// - Those of the type.
     /// - `Failed`, `Overflow` and `Overlength` of the writer, as by [`Writer::write`].
@@ -137,15 +138,15 @@ pub trait EncodeValue: WrittenValue {
             → encode_value_answers self.now (W.state writer.old) result (W.state writer.new) };
 }
 
-/// Writes the contents to the beginning of the buffer, and answers them. No memory is taken.
+/// Writes the contents to the start of the buffer and returns them. Allocates nothing.
 ///
 /// # Errors
 ///
-/// After a refusal nothing is promised of the buffer.
+/// After an error the contents of the buffer are unspecified.
 ///
 /// - Those of the type, as by [`EncodeValue::encode_value`].
-/// - `Overflow` at the number of octets written, where the next write would pass 4294967295.
-/// - `Overlength` at the end that was wished by the first write for which there is no room.
+/// - `Overflow` at the number of octets written, if the next write would exceed 4294967295.
+/// - `Overlength` at the requested end of the first write for which there is no space.
 pub fn encode_value_to_slice<'a, T: EncodeValue>(
     buf: &'a mut [u8],
     value: &T,

@@ -1,4 +1,4 @@
-//! Encoding into memory of any allocator; [`Encode::to_der`] and [`Encode::encode_to_vec`] take the
+//! Encoding into memory of any allocator; [`Encode::to_der`] and [`Encode::encode_to_vec`] use the
 //! global one.
 ghost use Rattle.std.specs.Prelude.{◌≡◌, ◌++◌, length, OnOk, OnErr, IfOk};
 ghost use Rattle.der_base.specs.Length.{definite_length};
@@ -10,7 +10,7 @@ use crate::writer::SliceWriter;
 use der_base::{Error, ErrorKind, Length};
 use std::alloc::Allocator;
 
-/// The encoding, in memory of this allocator; otherwise as [`Encode::to_der`].
+/// The encoding, in memory of this allocator; otherwise the same as [`Encode::to_der`].
 ///
 /// # Errors
 ///
@@ -28,12 +28,13 @@ pub fn to_der_in<T: Encode, A: Allocator>(alloc: A, value: &T) -> Result<Vec<u8,
     Ok(out)
 }
 
-/// Appends the encoding to a vector of any allocator; otherwise as [`Encode::encode_to_vec`].
+/// Appends the encoding to a vector of any allocator; otherwise the same as
+/// [`Encode::encode_to_vec`].
 ///
 /// # Errors
 ///
 /// Those of [`Encode::encoded_len`], `Overflow` and `OutOfMemory` without a position, and those of
-/// [`Encode::encode`], as by [`Encode::encode_to_vec`]; the vector's contents are as before.
+/// [`Encode::encode`], as by [`Encode::encode_to_vec`]; the vector has its previous contents.
 #[inline(always)]
 pub fn encode_to_vec_in<T: Encode, A: Allocator>(
     value: &T,
@@ -65,7 +66,7 @@ pub fn encode_to_vec_in<T: Encode, A: Allocator>(
     }
 }
 
-// Writes the encoding to the beginning of the buffer.
+// Writes the encoding to the start of the buffer.
 #[inline(always)]
 fn fill<T: Encode>(value: &T, buf: &mut [u8]) -> Result<(), Error>
     ensures ok { Begins (T.encoding value.now) result buf.new }

@@ -1,4 +1,4 @@
-//! References whose contents are those of what they refer to.
+//! References that are encoded with the contents and the tag of the value that they refer to.
 ghost use Rattle.std.specs.Prelude.{◌≡◌};
 
 use crate::encode::{EncodeValue, WrittenValue};

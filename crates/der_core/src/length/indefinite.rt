@@ -19,41 +19,41 @@ use der_base::{Error, ErrorKind, Length};
 use std::marker::Brand;
 use std::sync::ledger::{Blank, Ledger};
 
-// how many bodies may be open at a time, inside each other
+// the greatest number of bodies that may be open at a time, nested in each other
 const MAX_LEVEL: u8 = 64;
 
-// What a body goes on with.
+// The next part of a body.
 enum Part {
-    // an end mark
+    // the end-of-contents octets
     Ends,
-    // an item of a definite length
+    // an item with a definite length
     Passes,
     // an identifier and octet `0x80`
     Opens,
 }
 
-/// Scans the body of an indefinite length, and tells how many octets it has, with the end mark that
-/// closes it (X.690 8.1.3.6). Contents of definite lengths are passed unread, each other octet is
-/// read once; `turns` counts each identifier and each end mark that was read.
+/// Scans the body of an indefinite length and returns its number of octets, including its
+/// end-of-contents octets (X.690 8.1.3.6). Definite-length contents are skipped unread; every other
+/// octet is read once. `turns` counts each identifier and each end-of-contents that is read.
 ///
-/// The caller sees to it that the reader reads by the Basic Encoding Rules.
+/// The caller must ensure that the reader uses the Basic Encoding Rules.
 ///
 /// # Errors
 ///
-/// After all but `Failed` and `Overflow` the reader stands at the error's position and has failed.
+/// After all but `Failed` and `Overflow`, the reader is at the error's position and failed.
 ///
-/// - `Failed` at the position, where the reader had failed; it is unchanged.
-/// - `Overflow` without a position, where `Incomplete` would name a length past 4294967295; the
-///   reader stands where the refused octets were to be read and has not failed.
-/// - `Incomplete` at the end, where no octet is left, half an end mark, an identifier that is cut,
-///   or one without a whole length.
-/// - `IndefiniteLength` behind a zero octet and another octet, and behind octet `0x80` where the
+/// - `Failed` at the position, if the reader had already failed; it is unchanged.
+/// - `Overflow` without a position, if `Incomplete` would report a length above 4294967295; the
+///   reader is where the missing octets were to be read, and has not failed.
+/// - `Incomplete` at the end, if no octet is left, or only half an end-of-contents, a truncated
+///   identifier, or an identifier without a complete length.
+/// - `IndefiniteLength` after a zero octet and a nonzero octet, and after octet `0x80` if the
 ///   identifier before it is primitive.
-/// - `TagUnknown` and `TagNumberInvalid` of an identifier, as by [`Tag::decode`](crate::Decode).
-/// - `NestingDepth` behind octet `0x80`, where 64 bodies are open.
-/// - `Length` with the tag, behind the length's octets where fewer would do, or behind the first of
-///   them where it announces more than four.
-/// - `Incomplete` of contents that are not all there, as by [`Reader::drain`].
+/// - `TagUnknown` and `TagNumberInvalid` for an identifier, as by [`Tag::decode`](crate::Decode).
+/// - `NestingDepth` after octet `0x80`, if 64 bodies are open.
+/// - `Length` with the tag, after the length octets if fewer would suffice, or after the first of
+///   them if it announces more than four.
+/// - `Incomplete` for contents that are truncated, as by [`Reader::drain`].
 pub fn decode_indefinite_length<R: Reader, L: Ledger>(
     reader: &mut R,
     turns: &mut Turns<L>,
@@ -81,7 +81,7 @@ pub fn decode_indefinite_length<R: Reader, L: Ledger>(
     }
 }
 
-// Reads what a body goes on with, so many of which are open.
+// Reads the next part of a body, with `level` bodies open.
 fn next_part<R: Reader>(reader: &mut R, level: u8) -> Result<Part, Error>
     requires ber { (R.state reader.old).rules ≡ Ber }
     requires levels { (1 ≤ level) × (level ≤ 64) }
@@ -112,7 +112,7 @@ fn next_part<R: Reader>(reader: &mut R, level: u8) -> Result<Part, Error>
     Ok(Part::Passes)
 }
 
-// A definite length behind its first octet, and behind the identifier of this first octet and
+// A definite length after its first octet, and after an identifier with this leading octet and
 // number.
 fn decode_definite<R: Reader>(
     reader: &mut R,
@@ -135,7 +135,8 @@ fn decode_definite<R: Reader>(
     decode_long_length(reader, first, Some((leading, number)))
 }
 
-// Scans the body ahead of a reader, which stays: by an index where it lends octets, else by a fork.
+// Scans the next body of a reader, which does not move: by an index if the reader returns slices,
+// otherwise by a fork.
 #[inline(always)]
 pub(crate) fn scan_ahead<R: Reader, L: Ledger>(
     reader: &R,
@@ -151,8 +152,8 @@ pub(crate) fn scan_ahead<R: Reader, L: Ledger>(
     }
 }
 
-// Scans the body ahead of a fork, octet by octet. It takes the fork by value, since a reader whose
-// address is handed to a call is kept in no registers.
+// Scans the next body of a fork, octet by octet. Takes the fork by value, since a reader whose
+// address is passed to a call is not kept in registers.
 #[cold]
 fn scan_fork<R: Reader, L: Ledger>(fork: R, turns: &mut Turns<L>) -> Result<Length, Error>
     requires ber { (R.state fork).rules ≡ Ber }
@@ -163,7 +164,7 @@ fn scan_fork<R: Reader, L: Ledger>(fork: R, turns: &mut Turns<L>) -> Result<Leng
     decode_indefinite_length(&mut fork, turns)
 }
 
-// Scans the body ahead of a reader, which stays, where nobody counts the turns.
+// Scans the next body of a reader, which does not move, without counting turns for a caller.
 #[inline(always)]
 pub(crate) fn scan_uncounted<R: Reader>(reader: &R) -> Result<Length, Error>
     requires ber { (R.state reader.now).rules ≡ Ber }

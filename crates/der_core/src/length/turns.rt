@@ -1,9 +1,9 @@
-//! Turns of a scan.
+//! Counting the turns of scans.
 use std::marker::Model;
 use std::sync::ledger::{Blank, Book, Ledger, Share};
 
-/// How many turns scans have taken: a counter that takes no memory, as its number stands in
-/// contracts alone. Only a scan counts.
+/// The number of turns that scans have made: a counter that exists only in contracts, so it needs
+/// no memory. Only a scan increments it.
 #[derive(Drop)]
 pub struct Turns<L: Ledger> {
     book: Book<L>,
@@ -23,9 +23,9 @@ impl<L: Ledger> Model for Turns<L> {
 impl<L: Ledger> Turns<L> {
     ghost use Rattle.std.specs.Prelude.{◌≡◌, ◌+◌};
 
-    /// A counter that has counted nothing.
+    /// A counter at zero.
     ///
-    /// The caller sees to it that the blank, which nobody shares, is the one that the ledger `L`
+    /// The caller must ensure that the blank is not shared and is the one that the ledger `L`
     /// names.
     pub fn new(blank: Blank) -> Self
         requires name { blank.name ≡ L.name }

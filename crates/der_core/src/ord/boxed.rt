@@ -1,4 +1,4 @@
-//! Values in memory of their own are compared as the values that they hold.
+//! Boxed values are compared as the values that they hold.
 use crate::ord::{Orderly, ValueOrd};
 use crate::tag::fixed::FixedTag;
 use der_base::Error;

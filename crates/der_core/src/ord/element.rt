@@ -11,12 +11,12 @@ use der_base::Error;
 use std::cmp::Ordering;
 
 /// Compares the elements of two values: their tags in byte order, the lengths of their contents,
-/// and then the contents by [`ValueOrd::value_cmp`]. No memory is taken.
+/// then the contents by [`ValueOrd::value_cmp`]. Allocates nothing.
 ///
 /// # Errors
 ///
 /// - Those of [`EncodeValue::header`], of the first value before the second.
-/// - Those of [`ValueOrd::value_cmp`], where the headers are equal.
+/// - Those of [`ValueOrd::value_cmp`], if the headers are equal.
 #[inline(always)]
 pub fn der_cmp_tlv<T: EncodeValue + ValueOrd + Tagged>(
     value: &T,

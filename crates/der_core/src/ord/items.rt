@@ -1,4 +1,4 @@
-//! Comparisons of items that are referred to, one by one.
+//! Comparisons of referenced items, pair by pair.
 ghost use Rattle.std.specs.Iterator.{IsFinite};
 ghost use Rattle.der_core.specs.Items.{ComparesItems, OfItems, ComparesJoined, SortsJoined, lists_order};
 ghost use Rattle.std.specs.Prelude.{◌≡◌};
@@ -10,13 +10,13 @@ use der_base::Error;
 pub use owned::iter_cmp_owned;
 use std::cmp::Ordering;
 
-/// Compares the values that two iterators refer to, place by place: the first two that are refused
-/// or not equal decide, else the iterator that ends first is the smaller. Memory is taken
-/// by the iterators alone.
+/// Compares the values that two iterators refer to, pair by pair: the first pair that is unequal or
+/// returns an error decides, otherwise the iterator that ends first is the smaller. Only the
+/// iterators may allocate.
 ///
 /// # Errors
 ///
-/// - Those of [`DerOrd::der_cmp`], of the first two values that are refused.
+/// - Those of [`DerOrd::der_cmp`], of the first pair that returns one.
 pub fn iter_cmp<'a, A, B, T>(mut a: A, mut b: B) -> Result<Ordering, Error>
 where
     A: Iterator<Item = &'a T>,

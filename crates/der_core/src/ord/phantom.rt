@@ -1,4 +1,4 @@
-//! Nothing, of any type, is equal to nothing.
+//! All values of `PhantomData` are equal.
 ghost use Rattle.std.specs.Prelude.{◌≡◌, [], Ok};
 ghost use Rattle.std.specs.declared.cmp.Ordering.TheVariants.{Equal};
 
@@ -7,7 +7,7 @@ use der_base::Error;
 use std::cmp::Ordering;
 use std::marker::PhantomData;
 
-/// It is never refused.
+/// Always equal. Never fails.
 impl<T> ValueOrd for PhantomData<T> {
     ghost value_order = { λ _ _. Ok Equal };
 
@@ -16,8 +16,8 @@ impl<T> ValueOrd for PhantomData<T> {
     }
 }
 
-/// No octets stand for it, so those of several cannot be told apart where they are joined. It is
-/// never refused.
+/// Always equal. Never fails. The encoding is empty, so the encodings of several values cannot be
+/// separated after they are joined.
 impl<T> DerOrd for PhantomData<T> {
     ghost order = { λ _ _. Ok Equal };
 

@@ -1,4 +1,4 @@
-//! References are compared as what they refer to.
+//! References are compared as the values that they refer to.
 use crate::encode_ref::EncodeValueRef;
 use crate::ord::{Orderly, ValueOrd};
 use der_base::Error;

@@ -10,32 +10,33 @@ use std::cmp::Ordering;
 
 /// Types whose contents are compared.
 ///
-/// Ghost member: `value_order` is the exact answer of [`ValueOrd::value_cmp`], refusals included.
+/// Ghost member: `value_order` is the exact result of [`ValueOrd::value_cmp`], errors included.
 pub trait ValueOrd {
     ghost value_order: { Self → Self → Compared };
 
-    /// Compares the contents of two values. No memory is taken.
+    /// Compares the contents of two values. Allocates nothing.
     ///
     /// # Errors
     ///
-    /// - Those of the type, which `value_order` says.
+    /// - Those of the type, which `value_order` specifies.
     fn value_cmp(&self, other: &Self) -> Result<Ordering, Error>
         ensures { result ≡ value_order self.now other.now };
 }
 
-/// Types whose [`ValueOrd::value_cmp`] is the byte order of contents, where tags are equal and
-/// contents are as long. Of two values of such a type [`DerOrd::der_cmp`](crate::DerOrd::der_cmp)
-/// answers the byte order of their encodings, wherever it has an answer.
+/// Types whose [`ValueOrd::value_cmp`] is the byte order of the contents if the tags are equal and
+/// the contents have equal lengths. For two values of such a type
+/// [`DerOrd::der_cmp`](crate::DerOrd::der_cmp) returns the byte order of their encodings, whenever
+/// it returns a result.
 pub trait Orderly: EncodeValue + Tagged + ValueOrd {
     ghost orderly: { IsOrderly Self.tag_of Self.contents Self.value_order };
 }
 
-/// Types whose `Ord` is the byte order of contents that are as long.
+/// Types whose `Ord` is the byte order of the contents if these have equal lengths.
 pub trait OrdIsValueOrd: Ord + EncodeValue {
     ghost orders_contents: { OrdersContents Self.contents Self.cmp };
 }
 
-/// The contents are compared as the values are; this is never refused.
+/// Compares the contents as the values are compared. Never fails.
 impl<T: OrdIsValueOrd> ValueOrd for T {
     ghost value_order = { λ v w. Ok (T.cmp v w) };
 

@@ -1,4 +1,4 @@
-//! The calls that every reader has.
+//! Functions that every reader has.
 ghost use Rattle.std.specs.Prelude.{◌≡◌, ◌↔◌, ℕ, ◌+◌, ◌-◌, ◌≤◌, true, false, IsTrue, length, IfOk, OnErr};
 ghost use Rattle.der_base.specs.ScanGrammar.{BodyFault};
 ghost use Rattle.der_base.specs.HeaderGrammar.{TagAhead, HeaderFault};
@@ -29,17 +29,17 @@ use der_base::{Error, ErrorKind, Length, Tag};
 use std::alloc::Global;
 use std::sync::ledger::Ledger;
 
-/// The calls that every reader has, by those of [`Reader`] alone.
+/// Functions that every reader has, implemented by those of [`Reader`] alone.
 pub trait ReaderExt: Reader {
-    /// The next octet.
+    /// Reads the next octet.
     ///
     /// # Errors
     ///
-    /// - `Failed` at the position, where the reader had failed; it is unchanged.
-    /// - `Overflow` without a position, where no octet is left at position 4294967295; the reader
-    ///   is unchanged.
-    /// - `Incomplete` at the position, where no octet is left at any other; the reader has failed
-    ///   then.
+    /// - `Failed` at the position, if the reader had already failed; it is unchanged.
+    /// - `Overflow` without a position, if no octet is left at position 4294967295; the reader is
+    ///   unchanged.
+    /// - `Incomplete` at the position, if no octet is left at any other position; the reader is
+    ///   then failed.
     #[inline(always)]
     final fn read_byte(&mut self) -> Result<u8, Error>
         ensures same { Same (Self.state self.old) (Self.state self.new) }
@@ -51,14 +51,14 @@ pub trait ReaderExt: Reader {
         Ok(octet[0])
     }
 
-    /// How many octets were read, as [`Reader::position`] answers.
+    /// The number of octets read, the same as [`Reader::position`].
     final fn offset(&self) -> Length
         ensures { result ≡ definite_length (Self.state self.now).position }
     {
         self.position()
     }
 
-    /// How many octets are left, up to the end.
+    /// The number of octets left, up to the end.
     final fn remaining_len(&self) -> Length
         ensures { result ≡ definite_length
             ((Self.state self.now).end - (Self.state self.now).position) }
@@ -73,18 +73,19 @@ pub trait ReaderExt: Reader {
         self.remaining_len().is_zero()
     }
 
-    /// Leaves a part with what was made of it. Octets that are left in the part are a refusal.
+    /// Leaves a nested part with the result of reading it. Octets left unread in the part are an
+    /// error.
     ///
-    /// The caller sees to it that the outer end lies neither before the position nor behind the
-    /// input, and that the outer depth is at most 64. What [`Reader::enter_nested`] gave is so.
+    /// The caller must ensure that the outer end is neither before the position nor after the end
+    /// of the input, and that the outer depth is at most 64. What [`Reader::enter_nested`] returned
+    /// satisfies this.
     ///
     /// # Errors
     ///
     /// After each the reader has the end and the depth around the part.
     ///
-    /// - The error that is given, with its position or none; the reader has not moved.
-    /// - `TrailingData` at the position, where octets are left in the part; the reader has failed
-    ///   then.
+    /// - The error in `answer`, unchanged; the reader does not move.
+    /// - `TrailingData` at the position, if octets are left in the part; the reader is then failed.
     #[inline(always)]
     final fn close_nested<T: Drop, E: From<Error> + Drop>(
         &mut self,
@@ -98,7 +99,7 @@ pub trait ReaderExt: Reader {
         ensures exact { Closes E.from_gives answer (Self.state self.old) (outer_end outer)
             (outer_depth outer) result (Self.state self.new) }
     {
-        // an error is looked for first: what it holds is not to be moved where there is none
+        // errors are matched first, so that their payload is not moved when there is none
         let value = match answer {
             Ok(value) => value,
             Err(error) => {
@@ -118,21 +119,21 @@ pub trait ReaderExt: Reader {
         Ok(value)
     }
 
-    /// Reads a part of `len` octets by `f`, which gets this reader with its end at the part's end
-    /// and the depth one more. What `f` leaves of the part is a refusal, never skipped.
+    /// Reads a nested part of `len` octets by `f`, which gets this reader with the end of the part
+    /// as its end and with the depth increased by one. Octets of the part that `f` leaves unread
+    /// are an error.
     ///
-    /// The caller sees to it that `f` may be called with this reader inside the part, where the
-    /// part does not pass the end and stands inside fewer than 64 others, and that `f` hands back
-    /// the same reader: input, rules, end and depth as they were, at no earlier position, and
-    /// failed where it was.
+    /// The caller must ensure that `f` may be called with this reader inside the part, provided
+    /// that the part does not exceed the end and is nested in fewer than 64 others; and that `f`
+    /// leaves the same reader: with input, rules, end and depth unchanged, at no earlier position,
+    /// and failed if it had failed before.
     ///
     /// # Errors
     ///
-    /// - `Overflow`, `Incomplete` and `NestingDepth` of a part that cannot be entered, as by
+    /// - `Overflow`, `Incomplete` and `NestingDepth`, if the part cannot be entered, as by
     ///   [`Reader::enter_nested`].
-    /// - The error of `f`, handed on; the reader stands where `f` left it, with its own end and
-    ///   depth.
-    /// - `TrailingData` at the position, where `f` leaves octets; the reader has failed then.
+    /// - The error of `f`; the reader is where `f` left it, with its previous end and depth.
+    /// - `TrailingData` at the position, if `f` leaves octets unread; the reader is then failed.
     #[inline(always)]
     final fn read_nested<T: Drop, E: From<Error> + Drop, F: FnOnce(&mut Self) -> Result<T, E>>(
         &mut self,
@@ -151,7 +152,7 @@ pub trait ReaderExt: Reader {
         self.close_nested(outer, answer)
     }
 
-    /// The next octet, or none where reading it would be refused; the reader stays.
+    /// The next octet, or `None` if reading it would fail; the reader does not move.
     final fn peek_byte(&self) -> Option<u8>
         ensures { PeeksAs Self.reliable (read_byte_outcome (Self.state self.now)).answer result }
     {
@@ -159,11 +160,13 @@ pub trait ReaderExt: Reader {
         fork.read_byte().ok()
     }
 
-    /// Fills the buffer with the next octets, as [`Reader::read_into`] does; the reader stays.
+    /// Fills the buffer with the next octets, as [`Reader::read_into`] does; the reader does not
+    /// move.
     ///
     /// # Errors
     ///
-    /// As by [`Reader::read_into`], with the same positions; buffer and reader are unchanged.
+    /// The same as for [`Reader::read_into`], with the same positions; buffer and reader are
+    /// unchanged.
     final fn peek_into(&self, buf: &mut [u8]) -> Result<(), Error>
         ensures exact { AnswersAs Self.reliable (read_into_outcome (length buf.old))
             (Self.state self.now) (map_ok (λ _. buf.new) result) }
@@ -173,11 +176,11 @@ pub trait ReaderExt: Reader {
         fork.read_into(buf)
     }
 
-    /// The header ahead, as [`decode_header`] would answer; the reader stays.
+    /// The next header, as [`decode_header`] would return it; the reader does not move.
     ///
     /// # Errors
     ///
-    /// As by [`Header::decode`], with the same positions; the reader is unchanged.
+    /// The same as for [`Header::decode`], with the same positions; the reader is unchanged.
     final fn peek_header(&self) -> Result<Header, Error>
         ensures { Peeks HeaderAhead (HeaderFault BodyFault) Self.reliable (Self.state self.now)
             result }
@@ -186,11 +189,11 @@ pub trait ReaderExt: Reader {
         decode_header(&mut fork)
     }
 
-    /// The tag ahead, as decoding it would answer; the reader stays.
+    /// The next tag, as decoding would return it; the reader does not move.
     ///
     /// # Errors
     ///
-    /// As by [`Tag::decode`], with the same positions; the reader is unchanged.
+    /// The same as for [`Tag::decode`], with the same positions; the reader is unchanged.
     #[inline(always)]
     final fn peek_tag(&self) -> Result<Tag, Error>
         ensures { Peeks TagAhead IdentifierFault Self.reliable (Self.state self.now) result }
@@ -199,17 +202,17 @@ pub trait ReaderExt: Reader {
         decode_tag(&mut fork)
     }
 
-    /// How many octets the body of an indefinite length ahead has, with the end mark that closes it
-    /// (X.690 8.1.3.6), as [`decode_indefinite_length`](crate::decode_indefinite_length) would
-    /// answer; the reader stays. `turns` counts each identifier and each end mark that was looked
-    /// at. Where [`Reader::remaining`] lends the octets ahead, they are scanned by an index, and
-    /// none is read.
+    /// The number of octets of the next indefinite-length body, including its end-of-contents
+    /// octets (X.690 8.1.3.6), as [`decode_indefinite_length`](crate::decode_indefinite_length)
+    /// would return it; the reader does not move. `turns` counts each identifier and each
+    /// end-of-contents in the scan. If [`Reader::remaining`] returns the octets, they are scanned
+    /// by an index, and none is read.
     ///
-    /// The caller sees to it that the reader reads by the Basic Encoding Rules.
+    /// The caller must ensure that the reader uses the Basic Encoding Rules.
     ///
     /// # Errors
     ///
-    /// As by [`decode_indefinite_length`](crate::decode_indefinite_length), with the same
+    /// The same as for [`decode_indefinite_length`](crate::decode_indefinite_length), with the same
     /// positions; the reader is unchanged.
     final fn scan_indefinite<L: Ledger>(&self, turns: &mut Turns<L>) -> Result<Length, Error>
         requires ber { (Self.state self.now).rules ≡ Ber }
@@ -219,15 +222,16 @@ pub trait ReaderExt: Reader {
         scan_ahead(self, turns)
     }
 
-    /// Lends the octets of the whole element ahead, header and contents.
+    /// Returns the octets of the next whole element, header and contents, without copying them.
     ///
     /// # Errors
     ///
     /// - Those of the header, as by [`ReaderExt::peek_header`]; the reader is unchanged.
-    /// - `Overflow` without a position, where the octets of header and contents pass 4294967295, or
-    ///   are not all there and do so together with the position; the reader is unchanged.
-    /// - `Incomplete` at the position, before the header, where the contents are not all there; the
-    ///   reader has failed then.
+    /// - `Overflow` without a position, if the number of octets of header and contents exceeds
+    ///   4294967295, or if they are not all available and its sum with the position does; the
+    ///   reader is unchanged.
+    /// - `Incomplete` at the position before the header, if the contents are not all available; the
+    ///   reader is then failed.
     final fn tlv_bytes(&mut self) -> Result<Self::Lent, Error>
         ensures same { Same (Self.state self.old) (Self.state self.new) }
         ensures exact { IsBinding Self.reliable result
@@ -245,9 +249,9 @@ pub trait ReaderExt: Reader {
     ///
     /// # Errors
     ///
-    /// - `Failed` at the position, where the reader had failed; it is unchanged.
-    /// - Those of the type, as by [`Decode::decode`]; the reader stands where that leaves it and
-    ///   has failed, whatever the error.
+    /// - `Failed` at the position, if the reader had already failed; it is unchanged.
+    /// - Those of the type, as by [`Decode::decode`]; the reader is where decoding leaves it and
+    ///   failed, whatever the error.
     #[inline(always)]
     final fn decode<T: Decode<Self>>(
         &mut self,
@@ -277,25 +281,24 @@ pub trait ReaderExt: Reader {
         }
     }
 
-    /// Reads a SEQUENCE (X.690 8.9) by `f`, which gets this reader inside its contents. What `f`
-    /// leaves of the contents is a refusal, never skipped.
+    /// Reads a SEQUENCE (X.690 8.9) by `f`, which gets this reader inside the contents. Contents
+    /// octets that `f` leaves unread are an error.
     ///
-    /// The caller sees to it that, whichever header of a SEQUENCE stands ahead, `f` may be called
-    /// with this reader inside its contents, where they do not pass the end and stand inside fewer
-    /// than 64 parts, and that `f` hands back the same reader: input, rules, end and depth as they
-    /// were, at no earlier position, and failed where it was.
+    /// The caller must ensure that, whatever header of a SEQUENCE is next, `f` may be called with
+    /// this reader inside the contents, provided that they do not exceed the end and are nested in
+    /// fewer than 64 parts; and that `f` leaves the same reader: with input, rules, end and depth
+    /// unchanged, at no earlier position, and failed if it had failed before.
     ///
     /// # Errors
     ///
     /// - Those of the header, as by [`Header::decode`].
-    /// - `TagUnexpected` without a position, where the header has another tag; the reader stands
-    ///   behind the header and has not failed.
-    /// - `Overflow`, `Incomplete` and `NestingDepth` of contents that cannot be entered, as by
-    ///   [`Reader::enter_nested`]; the reader stands behind the header.
-    /// - The error of `f`, handed on; the reader stands where `f` left it, with its own end and
-    ///   depth.
-    /// - `TrailingData` at the position, where `f` leaves octets; the reader has failed then.
-    /// - Those of [`read_eoc`](crate::read_eoc), where the length was read in the indefinite form.
+    /// - `TagUnexpected` without a position, if the header has another tag; the reader is after the
+    ///   header and has not failed.
+    /// - `Overflow`, `Incomplete` and `NestingDepth`, if the contents cannot be entered, as by
+    ///   [`Reader::enter_nested`]; the reader is after the header.
+    /// - The error of `f`; the reader is where `f` left it, with its previous end and depth.
+    /// - `TrailingData` at the position, if `f` leaves octets unread; the reader is then failed.
+    /// - Those of [`read_eoc`](crate::read_eoc), if the length was read in the indefinite form.
     final fn sequence<T: Drop, E: From<Error> + Drop, F: FnOnce(&mut Self) -> Result<T, E>>(
         &mut self,
         f: F,

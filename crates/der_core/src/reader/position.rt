@@ -1,24 +1,25 @@
-//! Positions in an input, and parts of it.
+//! Positions in an input, and nested parts.
 ghost use Rattle.std.specs.Prelude.{◌≡◌, ◌+◌, ◌^◌, ◌<◌};
 ghost use Rattle.der_base.specs.Error.{missing_refusal};
 
 use der_base::{Error, ErrorKind, Length};
 use std::alloc::AllocError;
 
-// how many parts may stand inside each other
+// the greatest depth of nested parts
 pub(super) const MAX_DEPTH: u8 = 64;
 
-/// A position in an input, the end up to which may be read, and how many parts stand around it.
+/// A position in an input, the end up to which may be read, and the number of nested parts around
+/// the position.
 #[derive(Debug, Drop)]
 pub struct Position {
     pub(super) end: u32,
-    // a `usize`, as slices are cut by it, so that no read has to widen it
+    // a `usize`, since slices are indexed by it, so that no read has to widen it
     pub(super) position: usize,
     pub(super) depth: u8,
     ghost counted: { position < 2 ^ 32 },
 }
 
-/// A clone stands at the same place; it takes no memory.
+/// A clone is at the same place; cloning allocates nothing.
 impl Clone for Position {
     ghost use Rattle.std.specs.Prelude.{⊤};
 
@@ -43,7 +44,7 @@ impl Position {
     ghost use Rattle.der_core.specs.Position.{position_place, place_at, Moves, advance_outcome, part_end, part_error, nested_place, split_nested_outcome};
     ghost use Rattle.der_core.specs.Resumption.{outer_place, outer_end, outer_depth};
 
-    /// The beginning of an input of this length.
+    /// The start of an input of this length.
     pub fn new(input_len: Length) -> Self
         ensures { position_place result ≡ place_at (number input_len) 0 0 }
     {
@@ -54,21 +55,21 @@ impl Position {
         }
     }
 
-    /// The position, in octets from the beginning.
+    /// The position, in octets from the start.
     pub fn current(&self) -> Length
         ensures { result ≡ definite_length (position_place self.now).position }
     {
         Length::new(self.position as u32)
     }
 
-    /// How far may be read.
+    /// The end up to which may be read.
     pub fn input_len(&self) -> Length
         ensures { result ≡ definite_length (position_place self.now).end }
     {
         Length::new(self.end)
     }
 
-    /// How many octets are left, up to the end.
+    /// The number of octets left, up to the end.
     pub fn remaining_len(&self) -> Length
         ensures { result ≡ definite_length
             ((position_place self.now).end - (position_place self.now).position) }
@@ -76,7 +77,7 @@ impl Position {
         self.input_len().saturating_sub(self.current())
     }
 
-    /// How many parts stand around the position.
+    /// The number of nested parts around the position.
     pub fn depth(&self) -> u8
         ensures { result ≡ (position_place self.now).depth }
     {
@@ -90,14 +91,14 @@ impl Position {
         kind.at(self.current())
     }
 
-    /// Passes so many octets and gives the new position.
+    /// Advances by this many octets and returns the new position.
     ///
     /// # Errors
     ///
-    /// The position is unchanged after each. Where several fit, the first is told.
+    /// After each the position is unchanged. If several apply, the first is returned.
     ///
-    /// - `Overflow` without a position, where the new one would pass 4294967295.
-    /// - `Incomplete` at the old position, where the new one would pass the end.
+    /// - `Overflow` without a position, if the new position would exceed 4294967295.
+    /// - `Incomplete` at the old position, if the new one would be after the end.
     pub fn advance(&mut self, amount: Length) -> Result<Length, Error>
         ensures { Moves (advance_outcome (number amount)) (position_place self.old) result
             (position_place self.new) }
@@ -111,7 +112,7 @@ impl Position {
         Ok(self.current())
     }
 
-    // The error where so many octets are not there.
+    // The error if this many octets are not available.
     #[inline(always)]
     pub(super) fn missing(&self, count: u32) -> Error
         ensures { result ≡ (missing_refusal (self.now.position + count) self.now.end
@@ -120,15 +121,15 @@ impl Position {
         missing_octets(self.position, count, self.end)
     }
 
-    /// Enters a part of `len` octets and gives what to go back to.
+    /// Enters a nested part of `len` octets and returns the end and the depth around it.
     ///
     /// # Errors
     ///
-    /// The position is unchanged after each. Where several fit, the first is told.
+    /// After each the position is unchanged. If several apply, the first is returned.
     ///
-    /// - `NestingDepth` at the position, where the part would stand inside 64 others.
-    /// - `Overflow` without a position, where the part would pass 4294967295.
-    /// - `Incomplete` at the end, where the part would pass the end.
+    /// - `NestingDepth` at the position, if the part would be nested in 64 others.
+    /// - `Overflow` without a position, if the end of the part would exceed 4294967295.
+    /// - `Incomplete` at the end, if the part would exceed the end.
     pub fn split_nested(&mut self, len: Length) -> Result<Resumption, Error>
         ensures { Moves (split_nested_outcome (number len)) (position_place self.old)
             (map_ok outer_place result)
@@ -143,7 +144,7 @@ impl Position {
         }
     }
 
-    // Where a part of so many octets ends.
+    // The end of a nested part of this many octets.
     #[inline(always)]
     pub(super) fn part_end(&self, count: u32) -> Result<u32, Error>
         ensures { result ≡ part_end count (position_place self.now) }
@@ -155,7 +156,7 @@ impl Position {
         Ok(end as u32)
     }
 
-    // The error of a part that ends there, behind the end.
+    // The error of a nested part that would end here, after the end.
     #[cold]
     #[inline(never)]
     fn part_too_long(part_end: usize, end: u32) -> Error
@@ -169,7 +170,7 @@ impl Position {
         }
     }
 
-    // Inside a part that ends there; gives what to go back to.
+    // Enters a nested part that ends here; returns the end and the depth around it.
     #[inline(always)]
     pub(super) fn enter(&mut self, end: u32) -> Resumption
         requires { self.old.depth < 64 }
@@ -182,7 +183,7 @@ impl Position {
         around
     }
 
-    /// Leaves a part: end and depth are again those around it.
+    /// Leaves a nested part: restores the end and the depth around it.
     pub fn resume_nested(&mut self, resumption: Resumption)
         ensures { position_place self.new ≡ place_at (outer_end resumption)
             (position_place self.old).position
@@ -193,7 +194,7 @@ impl Position {
     }
 }
 
-// The error where so many octets are not there at a position, in an input that ends so.
+// The error if this many octets are not available at a position, in an input with this end.
 #[cold]
 pub(crate) fn missing_octets(position: usize, count: u32, end: u32) -> Error
     requires { position < 2 ^ 32 }
@@ -210,7 +211,7 @@ pub(crate) fn missing_octets(position: usize, count: u32, end: u32) -> Error
     kind.at(Length::new(position as u32))
 }
 
-/// What a part that is left goes back to: the end and the depth around it.
+/// What leaving a nested part restores: the end and the depth around it.
 #[derive(Debug, Drop)]
 pub struct Resumption {
     end: u32,
@@ -221,7 +222,7 @@ impl Resumption {
     ghost use Rattle.der_base.specs.Length.{number, definite_length};
     ghost use Rattle.der_core.specs.Resumption.{outer_end, outer_depth};
 
-    /// The end and the depth around a part, for a reader that keeps them itself.
+    /// The end and the depth around a nested part, for readers that keep these themselves.
     pub fn new(input_len: Length, depth: u8) -> Self
         ensures end { outer_end result ≡ number input_len }
         ensures depth { outer_depth result ≡ depth }
@@ -232,14 +233,14 @@ impl Resumption {
         }
     }
 
-    /// The end around the part.
+    /// The end around the nested part.
     pub fn input_len(&self) -> Length
         ensures { result ≡ definite_length (outer_end self.now) }
     {
         Length::new(self.end)
     }
 
-    /// How many parts stand around the part.
+    /// The number of nested parts around the nested part.
     pub fn depth(&self) -> u8
         ensures { result ≡ outer_depth self.now }
     {

@@ -1,4 +1,4 @@
-//! Readers of a slice.
+//! A reader of a slice.
 ghost use Rattle.std.specs.Prelude.{◌≡◌, ◌+◌, ◌^◌, ◌<◌, ◌≤◌, ◌↔◌, true, length, IfOk, IfErr, IsOk};
 
 use crate::reader::position::MAX_DEPTH;
@@ -6,10 +6,10 @@ use crate::reader::{Position, Reader, Resumption};
 use der_base::{EncodingRules, Error, ErrorKind, Length};
 use std::alloc::Allocator;
 
-// how many octets `drain` passes in one step
+// the number of octets that `drain` skips in one step
 pub(crate) const STEP: u32 = 16;
 
-/// A reader of the octets of a slice, which it lends.
+/// A reader of a slice; the octets that it returns are borrowed from that slice.
 #[derive(Debug)]
 pub struct SliceReader<'a> {
     bytes: &'a [u8],
@@ -41,11 +41,11 @@ impl<'a> SliceReader<'a> {
     ghost use Rattle.der_core.specs.ReaderState.{initial_state, reader_position, state_after};
     ghost use Rattle.der_core.specs.SliceReader.{slice_state};
 
-    /// A reader of these octets under the Distinguished Encoding Rules, at their beginning.
+    /// A reader at the start of these octets, under the Distinguished Encoding Rules.
     ///
     /// # Errors
     ///
-    /// - `Overflow` without a position, where there are more than 4294967295 octets.
+    /// - `Overflow` without a position, if there are more than 4294967295 octets.
     pub fn new(bytes: &'a [u8]) -> Result<Self, Error>
         ensures ok { IfOk result (λ r. slice_state r ≡ initial_state Der bytes.now) }
         ensures fits { IsOk result ↔ (length bytes.now < 2 ^ 32) }
@@ -54,11 +54,11 @@ impl<'a> SliceReader<'a> {
         Self::new_with_encoding_rules(bytes, EncodingRules::Der)
     }
 
-    /// A reader of these octets under the given rules, at their beginning.
+    /// A reader at the start of these octets, under the given rules.
     ///
     /// # Errors
     ///
-    /// - `Overflow` without a position, where there are more than 4294967295 octets.
+    /// - `Overflow` without a position, if there are more than 4294967295 octets.
     pub fn new_with_encoding_rules(
         bytes: &'a [u8],
         encoding_rules: EncodingRules,
@@ -84,7 +84,7 @@ impl<'a> SliceReader<'a> {
         self.place.error(ErrorKind::Failed)
     }
 
-    // so many octets are not there
+    // the error if this many octets are not available
     #[inline(always)]
     fn incomplete(&mut self, count: u32) -> Error
         ensures told { result ≡ (missing_refusal (self.old.place.position + count)
@@ -98,8 +98,8 @@ impl<'a> SliceReader<'a> {
     }
 }
 
-/// A reliable reader: it refuses exactly where [`Reader`] says, keeps a failed state, and lends, so
-/// that nothing is refused by `Reader`.
+/// A reliable reader: it fails exactly as [`Reader`] specifies, keeps a failed state, and returns
+/// slices, so it never fails with `Reader`.
 impl<'a> Reader for SliceReader<'a> {
     ghost use Rattle.std.proofs.Common.{rules};
     ghost use Rattle.der_core.specs.SliceReader.{slice_state};
@@ -147,7 +147,7 @@ impl<'a> Reader for SliceReader<'a> {
         }
         let count = u32::from(len);
         let start = self.place.position;
-        // one sum of two `usize` is looked at, ends the slice and is the new position
+        // one sum of two `usize` is compared, ends the slice and is the new position
         let behind = start + count as usize;
         if behind > self.place.end as usize {
             return Err(self.incomplete(count));

@@ -1,4 +1,4 @@
-//! The contents of an element, read by a closure.
+//! Reading the contents of an element by a closure.
 ghost use Rattle.std.specs.Prelude.{◌≡◌};
 ghost use Rattle.der_base.specs.Arithmetic.{sans_eoc};
 ghost use Rattle.der_base.specs.Length.{number, is_indefinite};
@@ -13,17 +13,17 @@ use crate::header::Header;
 use crate::reader::{Reader, ReaderExt, Resumption};
 use der_base::{Error, ErrorKind, Length};
 
-/// Reads the end mark of an indefinite length, two zero octets (X.690 8.1.5).
+/// Reads the end-of-contents octets of an indefinite length, two zero octets (X.690 8.1.5).
 ///
 /// # Errors
 ///
-/// - `Failed` at the position, where the reader had failed; it is unchanged.
-/// - `IndefiniteLength` at the position behind the first octet that is not zero; the reader stands
-///   there and has failed.
-/// - `Overflow` without a position, where an octet is missing at position 4294967295; the reader
-///   stands there and has not failed.
-/// - `Incomplete` at the end, where an octet is missing at any other position; the reader stands
-///   there and has failed.
+/// - `Failed` at the position, if the reader had already failed; it is unchanged.
+/// - `IndefiniteLength` at the position after the first nonzero octet; the reader is there and
+///   failed.
+/// - `Overflow` without a position, if an octet is missing at position 4294967295; the reader is
+///   there and has not failed.
+/// - `Incomplete` at the end, if an octet is missing at any other position; the reader is there and
+///   failed.
 #[inline(always)]
 pub fn read_eoc<R: Reader>(reader: &mut R) -> Result<(), Error>
     ensures same { Same (R.state reader.old) (R.state reader.new) }
@@ -34,7 +34,7 @@ pub fn read_eoc<R: Reader>(reader: &mut R) -> Result<(), Error>
     read_zero_octet(reader)
 }
 
-// One octet of an end mark.
+// One of the two end-of-contents octets.
 #[inline(always)]
 pub(crate) fn read_zero_octet<R: Reader>(reader: &mut R) -> Result<(), Error>
     ensures same { Same (R.state reader.old) (R.state reader.new) }
@@ -48,20 +48,22 @@ pub(crate) fn read_zero_octet<R: Reader>(reader: &mut R) -> Result<(), Error>
     Ok(())
 }
 
-/// Leaves the contents of an element with what was made of them, as [`ReaderExt::close_nested`]
-/// does, and reads the end mark behind them where the length was read in the indefinite form.
+/// Leaves the contents of an element with the result of reading them, as
+/// [`ReaderExt::close_nested`] does, and then reads the end-of-contents octets, if the length was
+/// read in the indefinite form.
 ///
-/// The caller sees to it that the outer end lies neither before the position nor behind the input,
-/// and that the outer depth is at most 64. What [`Reader::enter_nested`] gave is so.
+/// The caller must ensure that the outer end is neither before the position nor after the end of
+/// the input, and that the outer depth is at most 64. What [`Reader::enter_nested`] returned
+/// satisfies this.
 ///
 /// # Errors
 ///
 /// After each the reader has the end and the depth around the contents.
 ///
-/// - The error that is given, with its position or none; the reader has not moved.
-/// - `TrailingData` at the position, where octets are left in the contents; the reader has failed
-///   then.
-/// - `Failed`, `IndefiniteLength`, `Incomplete` and `Overflow` of the end mark, as by [`read_eoc`].
+/// - The error in `answer`, unchanged; the reader does not move.
+/// - `TrailingData` at the position, if octets are left in the contents; the reader is then failed.
+/// - `Failed`, `IndefiniteLength`, `Incomplete` and `Overflow` of the end-of-contents octets, as by
+///   [`read_eoc`].
 #[inline(always)]
 pub fn close_value<R: Reader, T: Drop, E: From<Error> + Drop>(
     reader: &mut R,
@@ -84,22 +86,24 @@ pub fn close_value<R: Reader, T: Drop, E: From<Error> + Drop>(
     Ok(value)
 }
 
-/// Reads the contents behind a header by `f`, which gets the reader inside them and the header with
-/// the length of the contents alone; where that was read in the indefinite form, the end mark is
-/// read behind them. What `f` leaves of the contents is a refusal, never skipped.
+/// Reads the contents after a header by `f`, which gets the reader inside them and the header with
+/// the length of the contents alone. If that length was read in the indefinite form, the
+/// end-of-contents octets are read after the contents. Contents octets that `f` leaves unread are
+/// an error.
 ///
-/// The caller sees to it that `f` may be called with this reader inside the contents and with that
-/// header, where the contents do not pass the end and stand inside fewer than 64 parts, and that
-/// `f` hands back the same reader: input, rules, end and depth as they were, at no earlier
-/// position, and failed where it was.
+/// The caller must ensure that `f` may be called with this reader inside the contents and with that
+/// header, provided that the contents do not exceed the end and are nested in fewer than 64 parts;
+/// and that `f` leaves the same reader: with input, rules, end and depth unchanged, at no earlier
+/// position, and failed if it had failed before.
 ///
 /// # Errors
 ///
-/// - `Overflow`, `Incomplete` and `NestingDepth` of contents that cannot be entered, as by
+/// - `Overflow`, `Incomplete` and `NestingDepth`, if the contents cannot be entered, as by
 ///   [`Reader::enter_nested`].
-/// - The error of `f`, handed on; the reader stands where `f` left it, with its own end and depth.
-/// - `TrailingData` at the position, where `f` leaves octets; the reader has failed then.
-/// - `Failed`, `IndefiniteLength`, `Incomplete` and `Overflow` of the end mark, as by [`read_eoc`].
+/// - The error of `f`; the reader is where `f` left it, with its previous end and depth.
+/// - `TrailingData` at the position, if `f` leaves octets unread; the reader is then failed.
+/// - `Failed`, `IndefiniteLength`, `Incomplete` and `Overflow` of the end-of-contents octets, as by
+///   [`read_eoc`].
 #[inline(always)]
 pub fn read_value<
     R: Reader,
@@ -124,7 +128,7 @@ pub fn read_value<
     close_value(reader, length, outer, answer)
 }
 
-// Reads contents of so many octets by a closure that wants no header.
+// Reads this many contents octets by a closure that does not need the header.
 #[inline(always)]
 pub(crate) fn read_contents<
     R: Reader,

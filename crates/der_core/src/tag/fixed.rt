@@ -5,7 +5,7 @@ ghost use Rattle.der_base.specs.declared.tag.Tag.{Tag as ATag};
 
 use der_base::Tag;
 
-/// Types all of whose values have one tag.
+/// Types whose values all have the same tag.
 ///
 /// Ghost member: `tag_is` is that tag.
 pub trait FixedTag {
@@ -14,13 +14,13 @@ pub trait FixedTag {
     /// The tag.
     const TAG: Tag;
 
-    /// The tag as a function, which generic code calls. Has to answer `Self::TAG`: no clause can
-    /// name the constant, so this is the implementation's duty.
+    /// The tag, as a function for generic code. It must return `Self::TAG`: no clause can name the
+    /// constant, so the implementation is responsible for this.
     fn fixed_tag() -> Tag
         ensures { result ≡ tag_is };
 }
 
-/// A value in memory of its own has the tag of the value.
+/// A boxed value has the tag of the value that it holds.
 impl<T: FixedTag> FixedTag for Box<T> {
     ghost tag_is = { T.tag_is };
 
@@ -31,7 +31,7 @@ impl<T: FixedTag> FixedTag for Box<T> {
     }
 }
 
-/// Types whose values have a tag, each its own.
+/// Types whose values each have a tag.
 ///
 /// Ghost member: `tag_of` is the tag of a value.
 pub trait Tagged {
@@ -50,18 +50,18 @@ impl<T: FixedTag> Tagged for T {
     }
 }
 
-/// Types whose tag says whether their contents are constructed.
+/// Types whose tag determines whether their contents are constructed.
 ///
-/// Ghost member: `constructed` is whether the tag has the constructed bit.
+/// Ghost member: `constructed` says whether the tag has the constructed bit.
 pub trait IsConstructed {
     ghost constructed: { Bool };
 
     /// Whether the tag has the constructed bit.
     const CONSTRUCTED: bool;
 
-    /// Whether the tag has the constructed bit, as a function, which generic code calls. Has to
-    /// answer `Self::CONSTRUCTED`: no clause can name the constant, so this is the implementation's
-    /// duty.
+    /// Whether the tag has the constructed bit, as a function for generic code. It must return
+    /// `Self::CONSTRUCTED`: no clause can name the constant, so the implementation is responsible
+    /// for this.
     fn has_constructed_bit() -> bool
         ensures { result ≡ constructed };
 }

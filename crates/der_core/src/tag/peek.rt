@@ -1,4 +1,4 @@
-//! Tags ahead of a reader, which stays.
+//! Peeking at the next tag of a reader.
 ghost use Rattle.std.specs.Prelude.{◌≡◌, ◌↔◌, true, IsTrue};
 ghost use Rattle.der_base.specs.Class.{class_number};
 ghost use Rattle.der_base.specs.HeaderGrammar.{IdentifierAhead, TagAhead};
@@ -10,34 +10,34 @@ use crate::reader::{Reader, ReaderExt};
 use crate::tag::decode_with_constructed_bit;
 use der_base::{Class, Error, Tag, TagNumber};
 
-/// Calls on the type `Tag` that want a reader; no other type has them.
+/// Functions of the type `Tag` that take a reader; no other type has them.
 pub trait TagPeek: Sized {
-    /// The tag ahead, as decoding it would answer; the reader stays.
+    /// The next tag, as decoding would return it; the reader does not move.
     ///
     /// # Errors
     ///
-    /// As by [`Tag::decode`](crate::Decode::decode), with the same positions; the reader is
-    /// unchanged.
+    /// The same as for [`Tag::decode`](crate::Decode::decode), with the same positions; the reader
+    /// is unchanged.
     fn peek<R: Reader>(reader: &R) -> Result<Self, Error>;
 
-    /// Whether the tag ahead has this class and number; false where no octets are left, also on a
-    /// failed reader. The reader stays.
+    /// Whether the next tag has this class and number; false if no octets are left, even on a
+    /// failed reader. The reader does not move.
     ///
     /// # Errors
     ///
-    /// As by [`Tag::decode`](crate::Decode::decode), with the same positions; the reader is
-    /// unchanged.
+    /// The same as for [`Tag::decode`](crate::Decode::decode), with the same positions; the reader
+    /// is unchanged.
     fn peek_matches<R: Reader>(
         reader: &mut R,
         expected_class: Class,
         expected_tag_number: TagNumber,
     ) -> Result<bool, Error>;
 
-    /// Decodes a tag (X.690 8.1.2), and tells the constructed bit of its identifier.
+    /// Decodes a tag (X.690 8.1.2) and returns it with the constructed bit of its identifier.
     ///
     /// # Errors
     ///
-    /// As by [`Tag::decode`](crate::Decode::decode).
+    /// The same as for [`Tag::decode`](crate::Decode::decode).
     fn decode_with_constructed_bit<R: Reader>(reader: &mut R) -> Result<(Self, bool), Error>;
 }
 

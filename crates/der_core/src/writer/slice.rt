@@ -1,4 +1,4 @@
-//! Writers into a slice.
+//! A writer into a slice.
 ghost use Rattle.std.specs.Prelude.{◌≡◌, ◌+◌, ◌-◌, ◌^◌, ◌<◌, ◌≤◌, true, length, Err, IfOk, OnErr};
 ghost use Rattle.der_base.specs.Error.{error_at, position_of};
 ghost use Rattle.der_base.specs.Length.{definite_length};
@@ -12,17 +12,17 @@ use crate::header::Header;
 use crate::writer::Writer;
 use der_base::{Error, ErrorKind, Length, Tag};
 
-/// A writer into a slice, which takes no memory. It writes at most 4294967295 octets. What the
-/// slice holds behind the written octets stays as it is.
+/// A writer into a slice. Allocates nothing and writes at most 4294967295 octets. The slice after
+/// the written octets is unchanged.
 ///
-/// After a refusal it has failed and refuses everything.
+/// After an error the writer is failed, and every further write fails.
 #[derive(Debug, Drop)]
 pub struct SliceWriter<'a> {
     bytes: &'a mut [u8],
     // the part of the slice that may be written
     start: usize,
     stop: usize,
-    // how many octets of the part are written
+    // the number of octets written into that part
     position: u32,
     failed: bool,
     ghost ordered: { start + position ≤ stop },
@@ -38,7 +38,7 @@ impl<'a> SliceWriter<'a> {
     ghost use Rattle.der_core.specs.SliceWriter.{slice_writer_state};
     ghost use Rattle.der_core.specs.WrittenSequence.{HandsBackPart, ClosesPart, Fills, RunsInRoom, PartAnswer, SequenceAnswer, headed_state, part_state, outer_state};
 
-    /// A writer into these octets, at their beginning.
+    /// A writer at the start of these octets.
     pub fn new(bytes: &'a mut [u8]) -> Self
         ensures { slice_writer_state result ≡ fresh_state bytes.old bytes.entry.ghost_name }
     {
@@ -59,18 +59,18 @@ impl<'a> SliceWriter<'a> {
         self.failed
     }
 
-    // How many octets of the part are written.
+    // The number of octets written into the part of the slice that may be written.
     fn position(&self) -> Length
         ensures { result ≡ writer_position (slice_writer_state self.now) }
     {
         Length::new(self.position)
     }
 
-    /// The error of this kind at the position, as an answer.
+    /// Returns the error of this kind at the position, as a result.
     ///
     /// # Errors
     ///
-    /// - This kind at the position, always; the writer has failed then.
+    /// - This kind at the position, always; the writer is then failed.
     pub fn error<T>(&mut self, kind: ErrorKind) -> Result<T, Error>
         ensures at_position { result ≡ Err
             (error_at kind (writer_position (slice_writer_state self.old))) }
@@ -80,11 +80,11 @@ impl<'a> SliceWriter<'a> {
         Err(kind.at(self.position()))
     }
 
-    /// Ends the writing, and the writer: the octets written.
+    /// Ends writing, consumes the writer and returns the octets written.
     ///
     /// # Errors
     ///
-    /// - `Failed` at the position, where the writer had failed.
+    /// - `Failed` at the position, if the writer had already failed.
     pub fn finish(self) -> Result<&'a [u8], Error>
         ensures { map_ok (λ r. r.now) result ≡ finished_answer (slice_writer_state self.entry) }
     {
@@ -100,9 +100,9 @@ impl<'a> SliceWriter<'a> {
     ///
     /// # Errors
     ///
-    /// - `Failed` at the position, where the writer had failed; it is unchanged.
-    /// - Those of the value's [`Encode::encode`], with the error's position, or the writer's where
-    ///   it has none; what was written before stands, and the writer has failed.
+    /// - `Failed` at the position, if the writer had already failed; it is unchanged.
+    /// - Those of the value's [`Encode::encode`], with the error's position, or the writer's if it
+    ///   has none; octets written earlier remain, and the writer is then failed.
     #[inline(always)]
     pub fn encode<T: Encode>(&mut self, value: &T) -> Result<(), Error>
         ensures kept { Keeps (slice_writer_state self.old) (slice_writer_state self.new) }
@@ -125,29 +125,29 @@ impl<'a> SliceWriter<'a> {
         Ok(())
     }
 
-    /// Writes the header of a SEQUENCE (X.690 8.9), and has its contents written by `f`, which is
-    /// handed this writer over the next `len` octets alone: at position 0 and not failed.
-    /// Afterwards the writer is over its own part again, whatever `f` answered.
+    /// Writes the header of a SEQUENCE (X.690 8.9) and lets `f` write its contents. `f` gets this
+    /// writer limited to the next `len` octets, at position 0 and not failed. Afterwards the writer
+    /// has its previous limits again, whatever `f` returned.
     ///
-    /// The caller sees to it that `f` may be called with any writer over that part, and that `f`
-    /// hands the same writer back: the same slice and part, what was written before it, the slice
-    /// behind the written octets as it was, and failed where it was.
+    /// The caller must ensure that `f` may be called with any writer limited to those octets, and
+    /// that `f` leaves the same writer: the same slice and limits, the same octets before its
+    /// start, the slice after the written octets unchanged, and failed if it had failed before.
     ///
     /// # Errors
     ///
-    /// After each the writer has failed; after those of a part that was entered it stands behind
-    /// the part. Where several fit, the first is told.
+    /// After each the writer is failed; if `f` was called, the position is after the contents. If
+    /// several apply, the first is returned.
     ///
-    /// - `Failed` at the position, where the writer had failed; it is unchanged.
-    /// - `Overflow` at the position of the write, where the header, or behind it the contents,
-    ///   would pass 4294967295.
-    /// - `Overlength` at the end that was wished, where there is no room for the header, or behind
-    ///   it for the contents; the octets of the header that were written stand.
-    /// - The error of `f`, handed on.
-    /// - `Failed` at the position in the part, where `f` answers none, but leaves its writer
+    /// - `Failed` at the position, if the writer had already failed; it is unchanged.
+    /// - `Overflow` at the position of the write, if the header, or the contents after it, would
+    ///   exceed 4294967295.
+    /// - `Overlength` at the requested end, if there is no space for the header, or for the
+    ///   contents after it; the octets of the header that were written remain.
+    /// - The error of `f`, unchanged.
+    /// - `Failed` at the position within the contents, if `f` returns `Ok` but leaves its writer
     ///   failed.
-    /// - `Length` with the tag SEQUENCE at the position behind the part, where `f` does not fill
-    ///   it.
+    /// - `Length` with the tag SEQUENCE at the position after the contents, if `f` does not fill
+    ///   them.
     #[inline(always)]
     pub fn sequence<F: FnOnce(&mut SliceWriter<'a>) -> Result<(), Error>>(
         &mut self,
@@ -170,7 +170,7 @@ impl<'a> SliceWriter<'a> {
         self.fill_part(len, f)
     }
 
-    // Sets so many octets apart and has them written by `f`.
+    // Reserves this many octets and lets `f` write them.
     #[inline(always)]
     fn fill_part<F: FnOnce(&mut SliceWriter<'a>) -> Result<(), Error>>(
         &mut self,
@@ -193,7 +193,7 @@ impl<'a> SliceWriter<'a> {
         self.close_part(start, stop, answer)
     }
 
-    // Over the next octets alone, where there is room for so many.
+    // Limits the writer to the next `len` octets, if there is space for them.
     #[inline(always)]
     fn set_apart(&mut self, len: Length) -> Result<(), Error>
         ensures refused { OnErr result
@@ -213,7 +213,8 @@ impl<'a> SliceWriter<'a> {
         Ok(())
     }
 
-    // Over its own part again, behind the one that was set apart, with what was made of that.
+    // Restores the writer's previous limits, after the octets that were reserved, with the result
+    // of writing them.
     #[inline(always)]
     fn close_part(
         &mut self,
@@ -251,7 +252,7 @@ impl<'a> SliceWriter<'a> {
         }
     }
 
-    // What so many octets are refused by; the writer has failed then.
+    // The error for this many octets; the writer is then failed.
     #[inline(always)]
     fn refuse(&mut self, count: usize) -> Error
         ensures told { result ≡ room_error self.old.failed self.old.position count }
@@ -263,7 +264,7 @@ impl<'a> SliceWriter<'a> {
     }
 }
 
-/// A reliable writer: it refuses exactly where [`Writer::write`] says.
+/// A reliable writer: it fails exactly as [`Writer::write`] specifies.
 impl<'a> Writer for SliceWriter<'a> {
     ghost use Rattle.der_core.specs.SliceWriter.{slice_writer_state};
 
@@ -288,8 +289,8 @@ impl<'a> Writer for SliceWriter<'a> {
     }
 }
 
-// What so many octets are refused by, at a position from which on there is no room for them, or
-// where the writer had failed.
+// The error for this many octets, at a position after which there is no space for them, or if the
+// writer had already failed.
 #[cold]
 #[inline(never)]
 fn refusal(failed: bool, position: u32, count: usize) -> Error
@@ -304,7 +305,7 @@ fn refusal(failed: bool, position: u32, count: usize) -> Error
     ErrorKind::Overlength.at(Length::new(position + count as u32))
 }
 
-// The error of a writer that had failed.
+// The error of a writer that had already failed.
 #[cold]
 #[inline(never)]
 fn failed_at(position: u32) -> Error
@@ -313,7 +314,7 @@ fn failed_at(position: u32) -> Error
     ErrorKind::Failed.at(Length::new(position))
 }
 
-// The error of a part of a SEQUENCE that is not filled, and ends at this position.
+// The error of a SEQUENCE whose contents are not filled and end at this position.
 #[cold]
 #[inline(never)]
 fn unfilled_at(position: u32) -> Error
@@ -322,8 +323,8 @@ fn unfilled_at(position: u32) -> Error
     Tag::Sequence.length_error().at(Length::new(position))
 }
 
-// An error with its position, or with this one where it has none. It is no call: an error that is
-// handed to one has all of its octets moved, also where there is none.
+// An error with its position, or with this one if it has none. It is inlined: an error that is
+// passed to a call is copied as a whole, even if there is none.
 #[inline(always)]
 fn placed(error: Error, position: u32) -> Error
     ensures { result ≡ placed_error (position_of error) (definite_length position) error }

@@ -1,4 +1,4 @@
-//! A walk over octets by an index: the scan of a body where octets are lent (X.690 8.1.3.6).
+//! The scan of a body by an index, for readers that return slices (X.690 8.1.3.6).
 ghost use Rattle.std.specs.Prelude.{◌≡◌, ◌≢◌, ◌+◌, ◌^◌, ◌<◌, ◌≤◌, true, [], ◌∷◌, length, Err, IfOk, IfErr, OnOk};
 
 use crate::length::indefinite::{MAX_LEVEL, Part};
@@ -10,7 +10,7 @@ use crate::tag::{has_constructed_bit, is_ber_identifier, tag_of_identifier, unkn
 use der_base::{Error, ErrorKind, Length};
 use std::sync::ledger::Ledger;
 
-// Octets that stand from a position on, and how many of them are passed.
+// Octets that begin at position `start`, of which `index` are consumed.
 #[derive(Drop)]
 pub(super) struct Walk<'a> {
     octets: &'a [u8],
@@ -33,7 +33,7 @@ impl<'a> Walk<'a> {
     ghost use Rattle.der_core.specs.Turn.{PartRead, RefusesPart};
     ghost use Rattle.der_core.specs.Walk.{walked_state, walk_state};
 
-    // Scans the body at the front of octets that stand from a position on.
+    // Scans the body at the start of the octets, whose first octet is at position `start`.
     pub(super) fn scan<L: Ledger>(
         octets: &'a [u8],
         start: Length,
@@ -63,7 +63,7 @@ impl<'a> Walk<'a> {
         }
     }
 
-    // At the first of octets that stand from a position on.
+    // A walk at the first of the octets, which is at position `start`.
     #[inline(always)]
     fn new(octets: &'a [u8], start: usize) -> Self
         requires { start + length octets.now < 2 ^ 32 }
@@ -76,7 +76,7 @@ impl<'a> Walk<'a> {
         }
     }
 
-    // The position, in octets from the beginning of the input.
+    // The position, in octets from the start of the input.
     #[inline(always)]
     fn position(&self) -> usize
         ensures { result ≡ (walk_state self.now).position }
@@ -110,7 +110,7 @@ impl<'a> Walk<'a> {
         Ok(octet)
     }
 
-    // Reads what a body goes on with, so many of which are open.
+    // Reads the next part of a body, with `level` bodies open.
     #[inline(always)]
     fn next_part(&mut self, level: u8) -> Result<Part, Error>
         requires levels { (1 ≤ level) × (level ≤ 64) }
@@ -143,7 +143,8 @@ impl<'a> Walk<'a> {
         Ok(Part::Passes)
     }
 
-    // The rest of an identifier behind its first octet: the number of one from octet `0x40` on.
+    // The rest of an identifier after its first octet; returns the number if that octet is `0x40`
+    // or more.
     #[inline(always)]
     fn read_identifier(&mut self, first: u8) -> Result<u32, Error>
         ensures ok { IfOk result (λ n. IdentifierBehind first (identifier_tag first n)
@@ -164,7 +165,7 @@ impl<'a> Walk<'a> {
         self.read_long_number()
     }
 
-    // The number behind a first octet whose five number bits are set (X.690 8.1.2.4).
+    // The tag number after a first octet whose five number bits are set (X.690 8.1.2.4).
     #[inline(always)]
     fn read_long_number(&mut self) -> Result<u32, Error>
         ensures ok { IfOk result (λ n. Reads (walk_state self.old) (walk_state self.new)
@@ -193,7 +194,7 @@ impl<'a> Walk<'a> {
         }
     }
 
-    // A definite length behind its first octet, and behind the identifier of this first octet and
+    // A definite length after its first octet, and after an identifier with this leading octet and
     // number.
     #[inline(always)]
     fn read_definite(&mut self, first: u8, leading: u8, number: u32) -> Result<u32, Error>
@@ -223,7 +224,7 @@ impl<'a> Walk<'a> {
         Ok(value)
     }
 
-    // Passes so many octets, unread.
+    // Skips this many octets, unread.
     #[inline(always)]
     fn pass(&mut self, count: u32) -> Result<(), Error>
         ensures ok { OnOk result (Gives (drain_outcome (definite_length count))

@@ -1,4 +1,4 @@
-//! Comparisons of items, one by one.
+//! Comparisons of items, pair by pair.
 ghost use Rattle.std.specs.Prelude.{◌≡◌};
 ghost use Rattle.std.specs.Iterator.{IsFinite};
 ghost use Rattle.der_core.specs.Items.{ComparesItems, OfItems, ComparesJoined, SortsJoined, lists_order};
@@ -7,12 +7,12 @@ use crate::ord::DerOrd;
 use der_base::Error;
 use std::cmp::Ordering;
 
-/// Compares the values that two iterators give, as [`iter_cmp`](crate::iter_cmp) does those that
-/// they refer to.
+/// Compares the values that two iterators return, as [`iter_cmp`](crate::iter_cmp) compares those
+/// that two iterators refer to.
 ///
 /// # Errors
 ///
-/// - Those of [`DerOrd::der_cmp`], of the first two values that are refused.
+/// - Those of [`DerOrd::der_cmp`], of the first pair that returns one.
 pub fn iter_cmp_owned<A, B, T>(mut a: A, mut b: B) -> Result<Ordering, Error>
 where
     A: Iterator<Item = T>,
