@@ -1,4 +1,5 @@
-//! Byte strings: octets that a length can count, borrowed or in memory of their own.
+//! Byte strings, borrowed or owned, of at most as many octets as a [`Length`](der_base::Length)
+//! holds.
 mod cow;
 mod owned;
 mod reference;
