@@ -95,8 +95,8 @@ OwnedTextRead octets_of h s result t =
     AnswersOrLacks (text_outcome (number h.length) s).answer (map_ok octets_of result)
     × (t ≡ (text_outcome (number h.length) s).after)
 
--- if contents are acceptable as a value, a reliable reader is at their end afterwards; nothing is
--- allocated
+-- if the contents are acceptable as a value, a reliable reader reads one and is then at their end;
+-- no allocation can fail, because there is none
 abbrev pub EndsTaken : {A : Type 0} → (List ℕ → Type 0) → (A → List ℕ)
     → Bool → Head → ReaderState → Result A Error → ReaderState → Type 0
 EndsTaken {A} IsKind octets_of reliable h s result t =
