@@ -37,7 +37,7 @@ abbrev pub checked_octets : List ℕ → Result (List ℕ) Error
 checked_octets octets =
     if nat_lt (length octets) (2 ^ 32) then Ok octets else Err (error_of_kind Overflow)
 
--- where octets stop being UTF-8, and for how many octets
+-- the number of valid octets before the first UTF-8 error, and the length of that error
 abbrev pub utf8_fault : List ℕ → Utf8Error
 utf8_fault octets =
     record {

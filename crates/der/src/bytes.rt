@@ -1,5 +1,4 @@
-//! Byte strings, borrowed or owned, of at most as many octets as a [`Length`](der_base::Length)
-//! holds.
+//! Byte strings of at most 4294967295 octets, borrowed or owned.
 mod cow;
 mod owned;
 mod reference;

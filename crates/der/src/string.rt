@@ -1,5 +1,4 @@
-//! Texts: UTF-8 of at most as many octets as a [`Length`](der_base::Length) holds, borrowed or
-//! owned.
+//! Texts in UTF-8 of at most 4294967295 octets, borrowed or owned.
 ghost use Rattle.std.specs.Prelude.{◌≡◌, true, IfOk, IfErr, false};
 ghost use Rattle.std.specs.Str.{is_utf8};
 ghost use Rattle.der_base.specs.Error.{error_of_kind};

@@ -11,7 +11,7 @@ use crate::bytes::{BytesOwned, BytesRef};
 use crate::string::{StringOwned, StringRef};
 use std::hash::{Hash, Hasher};
 
-/// The octets, without their number.
+/// The octets, as for a slice.
 fn bytes_ref_hash<H: Hasher>(bytes: &BytesRef<'_>, state: &mut H)
     ensures { state.new ≡ fold H.write state.old (fed.slice fed.u8 (reference_octets bytes.now)) }
 {
@@ -25,14 +25,14 @@ fn bytes_owned_hash<H: Hasher>(bytes: &BytesOwned, state: &mut H)
     bytes.hash(state);
 }
 
-/// The text.
+/// The text, as for a `str`.
 fn string_ref_hash<H: Hasher>(text: &StringRef<'_>, state: &mut H)
     ensures { state.new ≡ fold H.write state.old (fed.str (reference_text text.now)) }
 {
     text.hash(state);
 }
 
-/// The text.
+/// The text, as for a `str`.
 fn string_owned_hash<H: Hasher>(text: &StringOwned, state: &mut H)
     ensures { state.new ≡ fold H.write state.old (fed.str (owned_text text.now)) }
 {
