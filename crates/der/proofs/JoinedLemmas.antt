@@ -48,7 +48,7 @@ segment_long {tag} {c = c} (primitive_form isnt bit small is) = omega (arith, ap
 segment_long {c = c} (definite_form id set d small is) = omega (arith, ap length is, length-append id (length_octets (length c) ++ c), length-append (length_octets (length c)) c)
 segment_long {c = c} (indefinite_form id set d body is) = omega (arith, ap length is, length-append id (128 ∷ (c ++ 0 ∷ 0 ∷ [])), length-append c (0 ∷ 0 ∷ []))
 
--- a tag with an identifier has a tag number of 32 bits
+-- a tag with an identifier has a tag number that fits in 32 bits
 identifier_numbered : {rules : EncodingRules} {id : List ℕ} {t : Tag} {b : Bool} → IsIdentifier rules id t b → (label t).number < 2 ^ 32
 identifier_numbered (of_tag h) = h
 identifier_numbered of_segments = omega arith

@@ -94,9 +94,9 @@ abbrev pub contents_number : Header → ℕ
 contents_number h = number (sans_eoc (head_of h).length)
 
 mutual
-  -- reading a segment fails: its header is invalid; the octets of a primitive one cannot be read; a
-  -- constructed one cannot be entered; or segments inside it are invalid, and the reader is where
-  -- reading them stopped, with the end and depth of the outer part
+  -- reading a segment fails: its header cannot be read; the octets of a primitive one cannot be
+  -- read; a constructed one cannot be entered; or reading the segments inside it fails, and the
+  -- reader is where that stopped, with the end and depth of the outer part
   pub data RefusesSegment (tag : Tag) : ReaderState → Error → ReaderState → Type 0 where
     no_segment : {s t : ReaderState} {e : Error} → RefusesSegmentHeader tag s e t
         → RefusesSegment tag s e t
@@ -118,8 +118,8 @@ mutual
         → Reads s u octets → Joined tag (levels_left s) octets out → u.position < u.end
         → RefusesSegment tag u e t → RefusesSegments tag s e t
 
--- joining fails: under DER the length is definite; the allocation for that length fails; or a
--- segment is invalid
+-- joining fails: under DER the length is definite; the allocation for that length fails; or reading
+-- a segment fails
 pub data RefusesJoining (l : Length) (tag : Tag) (s : ReaderState) (e : Error) (t : ReaderState)
     : Type 0 where
   definite_form : s.rules ≡ Der → is_indefinite l ≡ false

@@ -50,7 +50,7 @@ implicit_lawful {tag = tag} {takes} outer value numbered laws =
       numbered = numbered;
     }
 
--- a lawful type with an EXPLICIT tag is lawful, if it leaves one level of nesting
+-- a lawful type with an EXPLICIT tag is lawful, if it needs at most 62 levels of nesting
 pub explicit_lawful : {A B : Type 0} {tag : Tag}
     {takes : A → EncodingRules → Head → List ℕ → Type 0} {valid : A → Type 0}
     {contents : A → List ℕ} {levels : EncodingRules → ℕ} (outer : Tag) (value : B → A)

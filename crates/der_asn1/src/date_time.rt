@@ -20,8 +20,8 @@ pub struct DateTime {
 }
 
 impl DateTime {
-    /// Whether the date exists, with a year below 10000, and the time too; there are no leap
-    /// seconds.
+    /// Whether the date exists and its year is below 10000, and the time exists; leap seconds do
+    /// not.
     pub fn is_valid(&self) -> bool
         ensures { result ≡ is_date_time self.now }
     {

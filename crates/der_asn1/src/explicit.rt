@@ -15,7 +15,8 @@ use std::alloc::Global;
 
 /// Types whose elements may be the contents of another element.
 pub trait Nestable: ReadValue {
-    // A value has at most 62 levels of nesting, one fewer than the element around it allows.
+    // A value needs at most 62 levels of nesting: the element around it leaves 63, and the value's
+    // own element needs one.
     ghost nestable: { Self.value_levels Der ≤ 62 };
 }
 

@@ -7,7 +7,7 @@ use der::FixedTag;
 /// A check of contents octets, with a tag.
 ///
 /// Ghost members: `form` says which octets are valid contents; `numbered` proves that the tag
-/// number has 32 bits.
+/// number fits in 32 bits.
 pub trait Form: FixedTag {
     ghost form: { List ℕ → Bool };
 
@@ -15,6 +15,6 @@ pub trait Form: FixedTag {
     fn has_form(octets: &[u8]) -> bool
         ensures { result ≡ form octets.now };
 
-    // The tag number has 32 bits.
+    // The tag number fits in 32 bits.
     ghost numbered: { (label Self.tag_is).number < 2 ^ 32 };
 }

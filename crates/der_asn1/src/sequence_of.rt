@@ -125,8 +125,9 @@ impl<'a, T: Lawful> ReadValue for SequenceOf<'a, T> {
 /// # Errors
 ///
 /// - Those of the contents, as by [`Reader::read_slice`].
-/// - Those of the first invalid element, as by [`SequenceOf::new`], with positions counted from the
-///   beginning of the contents; the reader is after the contents and has not failed.
+/// - Those of the first element that cannot be decoded, as by [`SequenceOf::new`], with positions
+///   counted from the beginning of the contents; the reader is after the contents and has not
+///   failed.
 impl<'a, T: Lawful + DecodeValue<SliceReader<'a>>, R: Reader<Lent = &'a [u8]>> DecodeValue<R>
     for SequenceOf<'a, T> {
     type Error = <T as DecodeValue<SliceReader<'a>>>::Error;
@@ -204,7 +205,7 @@ impl<'a, T: Lawful + DecodeValue<SliceReader<'a>>> SequenceOf<'a, T> {
     /// # Errors
     ///
     /// - `Overflow` without a position, if there are more than 4294967295 octets.
-    /// - Those of the first invalid element, as by [`decode_tlv`].
+    /// - Those of the first element that cannot be decoded, as by [`decode_tlv`].
     /// - `Failed` at the position after an element, if the type returns its value but leaves the
     ///   reader failed.
     pub fn new(

@@ -152,8 +152,9 @@ impl<'a, T: Lawful> ReadValue for SetOf<'a, T> {
 /// # Errors
 ///
 /// - Those of the contents, as by [`Reader::read_slice`].
-/// - Those of the first invalid element, as by [`SetOf::new`], with positions counted from the
-///   beginning of the contents; the reader is after the contents and has not failed.
+/// - Those of the first element that cannot be decoded, as by [`SetOf::new`], with positions
+///   counted from the beginning of the contents; the reader is after the contents and has not
+///   failed.
 impl<'a, T: Lawful + DecodeValue<SliceReader<'a>>, R: Reader<Lent = &'a [u8]>> DecodeValue<R>
     for SetOf<'a, T> {
     type Error = <T as DecodeValue<SliceReader<'a>>>::Error;
@@ -222,7 +223,7 @@ impl<'a, T: Lawful + DecodeValue<SliceReader<'a>>> SetOf<'a, T> {
     /// # Errors
     ///
     /// - `Overflow` without a position, if there are more than 4294967295 octets.
-    /// - Those of the first invalid element, as by [`decode_tlv`](der::decode_tlv).
+    /// - Those of the first element that cannot be decoded, as by [`decode_tlv`](der::decode_tlv).
     /// - `Failed` at the position after an element, if the type returns its value but leaves the
     ///   reader failed.
     /// - `SetOrdering` at the start of the first element whose encoding is smaller than that of the

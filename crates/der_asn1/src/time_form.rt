@@ -10,7 +10,7 @@ use der::FixedTag;
 ///
 /// Ghost members: `form` says which contents are those of a time; `holds` says which times have
 /// this format; `contents_of` gives the contents of each time; `numbered` proves that the tag
-/// number has 32 bits.
+/// number fits in 32 bits.
 pub trait TimeForm: FixedTag {
     ghost use Rattle.der_asn1.specs.declared.date_time.DateTime.{DateTime};
 
@@ -35,6 +35,6 @@ pub trait TimeForm: FixedTag {
         ensures octets { drop result.start result.octets ≡ contents_of time.now }
         ensures formed { form (contents_of time.now) ≡ true };
 
-    // The tag number has 32 bits.
+    // The tag number fits in 32 bits.
     ghost numbered: { (label Self.tag_is).number < 2 ^ 32 };
 }

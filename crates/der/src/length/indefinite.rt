@@ -41,7 +41,7 @@ use std::alloc::Global;
 /// - `OutOfMemory` without a position, if the allocation of a segment's octets fails; the reader is
 ///   after its header and has not failed.
 ///
-/// If segments inside a segment are invalid, the reader is where reading them stopped; its end and
+/// If reading the segments inside a segment fails, the reader is where that stopped; its end and
 /// depth are restored.
 pub fn read_constructed_vec<R: Reader>(
     alloc: Global,
@@ -72,7 +72,7 @@ pub fn read_constructed_vec<R: Reader>(
     Ok(out)
 }
 
-// Does nothing; its contract gives the caller's proof that a tag number has 32 bits.
+// Does nothing; its contract gives the caller's proof the fact that a tag number fits in 32 bits.
 fn number_fits(tag: Tag)
     ensures { (label tag).number < 2 ^ 32 }
 {
