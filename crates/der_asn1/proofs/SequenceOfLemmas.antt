@@ -45,7 +45,7 @@ pub nil : {A : Type 0} (valid : A → Type 0) (encoding : A → List ℕ) {octet
 nil valid encoding e = record { items = []; are_valid = tt; joined = e }
 
 module _ {A : Type 0} {tag : Tag} {takes : A → EncodingRules → Head → List ℕ → Type 0} {valid : A → Type 0} {contents : A → List ℕ} {levels : EncodingRules → ℕ} (laws : IsLawful tag takes valid contents levels) (s : ReaderState) (sound : IsSound s) (at : IsAtItem s) where
-  -- an element read with one tag is an element read with some tag
+  -- an element that was read
   pub item_passed : (v : A) (t : ReaderState) → Passes (ElementAhead tag takes v) s t → valid v × Reads s t (element_octets tag (contents v))
   item_passed v t passed = passed_encodings (elements_are_encodings laws) s t v at.der passed
 

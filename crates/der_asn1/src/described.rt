@@ -3,8 +3,9 @@ ghost use Rattle.der_asn1.specs.Meaning.{Element};
 
 /// Types that have the specification of an element, with its laws.
 ///
-/// Ghost member: `element` is that specification. A clause names it as `⟦<AnyType as
-/// Described>⟧.element`, so the specification of a SEQUENCE is composed from those of its fields.
+/// Ghost member: `element` is that specification. A clause names it as
+/// `⟦<AnyType as Described>⟧.element`, so the specification of a SEQUENCE is composed from those
+/// of its fields.
 pub trait Described: Sized {
     ghost element: { Element Self };
 }

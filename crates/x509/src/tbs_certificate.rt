@@ -35,7 +35,7 @@ pub struct TbsCertificate<'a> {
     pub signature: AlgorithmIdentifierRef<'a>,
     /// The issuer of the certificate.
     pub issuer: Name<'a>,
-    /// The time during which the certificate is valid.
+    /// The period in which the certificate is valid.
     pub validity: Validity,
     /// The subject of the certificate.
     pub subject: Name<'a>,

@@ -12,7 +12,7 @@ use der::{
 use der_asn1::{Described, Either, GeneralizedTime, UtcTime};
 use std::alloc::Global;
 
-/// The time during which a certificate is valid.
+/// The period in which a certificate is valid.
 #[derive(Drop)]
 pub struct Validity {
     /// The first time at which the certificate is valid.

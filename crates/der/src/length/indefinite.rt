@@ -72,7 +72,8 @@ pub fn read_constructed_vec<R: Reader>(
     Ok(out)
 }
 
-// Does nothing; its contract gives the caller's proof the fact that a tag number fits in 32 bits.
+// Does nothing. Its contract states, for the proofs of its callers, that a tag number fits in 32
+// bits.
 fn number_fits(tag: Tag)
     ensures { (label tag).number < 2 ^ 32 }
 {
