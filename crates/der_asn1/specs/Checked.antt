@@ -19,7 +19,7 @@ abbrev pub TakesForm : {A : Type 0} → (List ℕ → Bool) → (A → List ℕ)
     → List ℕ → Type 0
 TakesForm form contents v rules h octets = (form octets ≡ true) × (contents v ≡ octets)
 
--- an error after octets that do not pass the check
+-- the octets if they pass the check, or else an error after them
 abbrev pub form_of : (List ℕ → Bool) → Tag → List ℕ → ReaderState → Outcome (List ℕ)
 form_of form tag octets s =
     if form octets then outcome_of (Ok octets) s else kind_outcome (List ℕ) (Value tag) s
