@@ -1,4 +1,4 @@
--- Joined octets: in one way at most, and what stands at their front.
+-- Lemmas on joined octets: the result is unique, and how it splits after a first part.
 use Rattle.std.proofs.Common.{◌≡◌, ◌≢◌, ℕ, suc, ◌+◌, ◌-◌, ◌^◌, ◌<◌, ◌≤◌, Bool, true, false, List, [], ◌∷◌, ◌++◌, length, drop, refl, sym, ap, ◌∙◌, subst, append_assoc, append-nil, length-append, arith}
 use Rattle.std.proofs.lemmas.List.{drop_at}
 use Rattle.der_base.specs.Arithmetic.{sans_eoc}
@@ -17,17 +17,18 @@ use Rattle.der_base.proofs.LengthLemmas.{length_front, length_definite, length_o
 use Rattle.der_core.specs.Encode.{element_octets}
 use Rattle.der.specs.Joined.{Joined, none, segment, definite_segments, indefinite_segments}
 
--- an element has octets
+-- an element is not empty
 element_some : (tag : Tag) (c : List ℕ) → 1 ≤ length (element_octets tag c)
 element_some tag c = omega (arith, length_octets_some (length c), length-append (header_octets tag (length c)) c, length-append (tag_octets tag) (length_octets (length c)))
 
--- no element begins another of its tag
+-- no element is a proper prefix of another with its tag
 element_front : (tag : Tag) (c d x y : List ℕ) → element_octets tag c ++ x ≡ element_octets tag d ++ y → (c ≡ d) × (x ≡ y)
 element_front tag c d x y e =
     let same = header_front tag tag (length c) (length d) (c ++ x) (d ++ y) (sym (append_assoc (header_octets tag (length c)) c x) ∙ e ∙ append_assoc (header_octets tag (length d)) d y) in
     same_length_front c d x y same.1 same.2
 
--- a segment with its constructed bit, its contents without the end mark, and all its octets
+-- a segment with its constructed bit, its contents without end-of-contents octets, and all its
+-- octets
 pub data IsSegment (tag : Tag) (b : Bool) (c e : List ℕ) : Type 0 where
   primitive_form : b ≡ false → (label tag).constructed ≡ false → length c < 2 ^ 32 → e ≡ element_octets tag c → IsSegment tag b c e
   definite_form : (id : List ℕ) → b ≡ true → IsIdentifier Ber id tag true → length c < 2 ^ 32 → e ≡ id ++ (length_octets (length c) ++ c) → IsSegment tag b c e
@@ -41,24 +42,24 @@ segment_some {c = c} (indefinite_form id set d body is) = omega (arith, identifi
 no_segment_ends : {tag : Tag} {b : Bool} {c e : List ℕ} → IsSegment tag b c e → (x : List ℕ) → e ++ x ≡ [] → ⊥
 no_segment_ends {e = e} s x nothing = absurd (omega (arith, segment_some s, ap length nothing, length-append e x))
 
--- contents are fewer octets than their segment
+-- contents are no longer than their segment
 segment_long : {tag : Tag} {b : Bool} {c e : List ℕ} → IsSegment tag b c e → length c ≤ length e
 segment_long {tag} {c = c} (primitive_form isnt bit small is) = omega (arith, ap length is, length-append (header_octets tag (length c)) c)
 segment_long {c = c} (definite_form id set d small is) = omega (arith, ap length is, length-append id (length_octets (length c) ++ c), length-append (length_octets (length c)) c)
 segment_long {c = c} (indefinite_form id set d body is) = omega (arith, ap length is, length-append id (128 ∷ (c ++ 0 ∷ 0 ∷ [])), length-append c (0 ∷ 0 ∷ []))
 
--- a tag with an identifier has a number of 32 bits
+-- a tag with an identifier has a tag number that fits in 32 bits
 identifier_numbered : {rules : EncodingRules} {id : List ℕ} {t : Tag} {b : Bool} → IsIdentifier rules id t b → (label t).number < 2 ^ 32
 identifier_numbered (of_tag h) = h
 identifier_numbered of_segments = omega arith
 
--- two segments at the front of the same octets
+-- two segments at the start of the same octets are equal
 record SameSegment (p q : Bool) (c d x y : List ℕ) : Type 0 where
   pub bits : p ≡ q
   pub contents : c ≡ d
   pub behind : x ≡ y
 
--- a primitive one is no constructed one
+-- a primitive segment is no constructed one
 not_primitive : {tag : Tag} {id : List ℕ} → (label tag).constructed ≡ false → IsIdentifier Ber id tag true → (c x y : List ℕ) → element_octets tag c ++ x ≡ id ++ y → ⊥
 not_primitive {tag} {id} bit d c x y e =
     let primitive : IsIdentifier Ber (tag_octets tag) tag false = subst (IsIdentifier Ber (tag_octets tag) tag) bit (of_tag (identifier_numbered d)) in
@@ -87,7 +88,7 @@ module _ {tag : Tag} {a b : List ℕ} (d : IsIdentifier Ber a tag true) (g : IsI
       let long : length c ≡ length f = omega (arith, ap length two.0, length-append c (0 ∷ 0 ∷ []), length-append f (0 ∷ 0 ∷ [])) in
       ((same_length_front c f (0 ∷ 0 ∷ []) (0 ∷ 0 ∷ []) long two.0).0, two.2)
 
--- no segment begins another of its tag
+-- no segment is a proper prefix of another with its tag
 segment_front : {tag : Tag} {p q : Bool} {c d a b : List ℕ} → IsSegment tag p c a → IsSegment tag q d b → (x y : List ℕ) → a ++ x ≡ b ++ y → SameSegment p q c d x y
 segment_front {tag} {p} {q} {c} {d} {a} {b} s t x y e = go s t
   where
@@ -109,7 +110,7 @@ segment_front {tag} {p} {q} {c} {d} {a} {b} s t x y e = go s t
     go (indefinite_form jd m n o r) (definite_form id i j k l) = absurd (mixed_front j n d (c ++ 0 ∷ 0 ∷ []) y x (sym (at r l)))
     go (indefinite_form id i j k l) (indefinite_form jd m n o r) = (let z = indefinite_front j n c d x y k o (at l r) in record { bits = i ∙ sym m; contents = z.0; behind = z.1 })
 
--- a segment, and segments behind it
+-- a segment followed by segments
 pub segment_then : {tag : Tag} {levels : ℕ} {c e more out : List ℕ} → IsSegment tag false c e → Joined tag levels more out → Joined tag levels (e ++ more) (c ++ out)
 segment_then {tag} {levels} {c} {e} {more} {out} (primitive_form isnt bit small is) h = subst (λ l. Joined tag levels (l ++ more) (c ++ out)) (sym is) (segment c bit small h)
 segment_then (definite_form id set d small is) h = absurd (cc)
@@ -125,7 +126,7 @@ segments_then {tag} {levels} {c} {e} {within} {more} {out} (indefinite_form id s
 regrouped : {tag : Tag} {levels : ℕ} (e m b c o y : List ℕ) → Joined tag levels (e ++ (m ++ b)) (c ++ (o ++ y)) → Joined tag levels ((e ++ m) ++ b) ((c ++ o) ++ y)
 regrouped {tag} {levels} e m b c o y h = subst (λ s. Joined tag levels s ((c ++ o) ++ y)) (sym (append_assoc e m b)) (subst (Joined tag levels (e ++ (m ++ b))) (sym (append_assoc c o y)) h)
 
--- segments behind segments
+-- segments followed by segments
 pub joined_more : {tag : Tag} {levels : ℕ} {a b x y : List ℕ} → Joined tag levels a x → Joined tag levels b y → Joined tag levels (a ++ b) (x ++ y)
 joined_more none g = g
 joined_more {tag} {b = b} {y = y} (segment {more = m} {out = o} c bit small h) g = regrouped (element_octets tag c) m b c o y (segment c bit small (joined_more h g))
@@ -134,7 +135,7 @@ joined_more {tag} {b = b} {y = y} (definite_segments {id = id} {more = m} {withi
 joined_more {tag} {b = b} {y = y} (indefinite_segments {id = id} {more = m} {within = w} {out = o} c d body into h) g =
     regrouped (id ++ 128 ∷ (c ++ 0 ∷ 0 ∷ [])) m b w o y (indefinite_segments c d body into (joined_more h g))
 
--- what is joined, by its first segment
+-- joined octets, by cases of the first segment
 data JoinedView (tag : Tag) (levels : ℕ) (s out : List ℕ) : Type 0 where
   view_none : s ≡ [] → out ≡ [] → JoinedView tag levels s out
   view_segment : (c e more o : List ℕ) → IsSegment tag false c e → Joined tag levels more o → s ≡ e ++ more → out ≡ c ++ o → JoinedView tag levels s out
@@ -149,13 +150,13 @@ joined_view (definite_segments {levels = k} {id = id} {more = m} {within = w} {o
 joined_view (indefinite_segments {levels = k} {id = id} {more = m} {within = w} {out = o} c d body into h) =
     view_segments k c (id ++ 128 ∷ (c ++ 0 ∷ 0 ∷ [])) m w o (indefinite_form id refl d body refl) refl into h refl refl
 
--- what is joined behind segments that are joined
+-- the result is `before`, followed by the joined rest
 pub record JoinedBehind (tag : Tag) (levels : ℕ) (s before out : List ℕ) : Type 0 where
   pub after : List ℕ
   pub joined : Joined tag levels s after
   pub split : out ≡ before ++ after
 
--- nothing is joined behind all
+-- no octets follow the whole result
 whole_behind : {tag : Tag} {levels : ℕ} {x y : List ℕ} → JoinedBehind tag levels [] x y → y ≡ x
 whole_behind {tag} {levels} {x} {y} h = go (joined_view h.joined)
   where
@@ -164,11 +165,11 @@ whole_behind {tag} {levels} {x} {y} h = go (joined_view h.joined)
     go (view_segment c e m o i r p z) = absurd (no_segment_ends i m (sym p))
     go (view_segments k c e m w o i l into r p z) = absurd (no_segment_ends i m (sym p))
 
--- what follows such octets is joined behind them
+-- joining a followed by more octets gives x followed by the joined rest
 abbrev Later : Tag → ℕ → List ℕ → List ℕ → Type 0
 Later tag levels a x = (q b y : List ℕ) → b ≡ a ++ q → Joined tag levels b y → JoinedBehind tag levels q x y
 
--- behind a primitive segment, and behind a constructed one
+-- the same after a primitive segment, and after a constructed one
 behind_segment : {tag : Tag} {levels : ℕ} {c e out : List ℕ} (more : List ℕ) → IsSegment tag false c e → Later tag levels more out → Later tag levels (e ++ more) (c ++ out)
 behind_segment {tag} {levels} {c} {e} {out} more s later q b y is g = go (joined_view g)
   where
@@ -207,11 +208,11 @@ joined_behind (definite_segments {id = id} {more = m} c d small into h) q b y e 
 joined_behind (indefinite_segments {id = id} {more = m} c d body into h) q b y e g =
     behind_segments m (indefinite_form id refl d body refl) (λ q b y e g. joined_behind into q b y e g) (λ q b y e g. joined_behind h q b y e g) q b y e g
 
--- octets are joined to one list at most
+-- the same octets have at most one joined result
 pub one_joined : {tag : Tag} {levels : ℕ} {s x y : List ℕ} → Joined tag levels s x → Joined tag levels s y → x ≡ y
 one_joined {s = s} {x = x} {y = y} h g = sym (whole_behind (joined_behind h [] s y (sym (append-nil s)) g))
 
--- octets that are joined are joined to the same list with more levels
+-- the result stays the same if more levels are allowed
 pub joined_up : {tag : Tag} {levels : ℕ} {s out : List ℕ} → Joined tag levels s out → (n : ℕ) → levels ≤ n → Joined tag n s out
 joined_up none n l = none
 joined_up (segment c bit small h) n l = segment c bit small (joined_up h n l)
@@ -226,14 +227,14 @@ joined_up {tag} (indefinite_segments {id = id} {more = m} {within = w} {out = o}
     let behind : Joined tag (suc (n - 1)) m o = joined_up h (suc (n - 1)) (omega arith) in
     subst (λ x. Joined tag x ((id ++ 128 ∷ (c ++ 0 ∷ 0 ∷ [])) ++ m) (w ++ o)) e (indefinite_segments c d body below behind)
 
--- what segments inside a constructed one are joined to, with one level fewer
+-- the joined segments inside a constructed one, with one level fewer
 pub record JoinedWithin (tag : Tag) (levels : ℕ) (contents : List ℕ) : Type 0 where
   pub below : ℕ
   pub out : List ℕ
   pub level : levels ≡ suc below
   pub joined : Joined tag below contents out
 
--- the first of the segments
+-- the first segment of octets
 pub record FirstSegment (tag : Tag) (levels : ℕ) (s : List ℕ) : Type 0 where
   pub constructed : Bool
   pub contents : List ℕ
@@ -252,7 +253,7 @@ first_segment {tag} {levels} {s} {out} j some = go (joined_view j)
     go (view_segments k c e m w o i l into r p z) =
         record { constructed = true; contents = c; octets = e; behind = m; form = i; split = p; within = λ _. record { below = k; out = w; level = l; joined = into } }
 
--- the header of a segment, and its contents behind it
+-- a segment is next: its header, followed by its contents
 pub record SegmentAhead (tag : Tag) (b : Bool) (c : List ℕ) (rules : EncodingRules) (s : List ℕ) : Type 0 where
   pub says : Head
   pub count : ℕ
@@ -263,7 +264,7 @@ pub record SegmentAhead (tag : Tag) (b : Bool) (c : List ℕ) (rules : EncodingR
   pub split : drop count s ≡ c ++ after
   pub sized : length c ≡ number (sans_eoc says.length)
 
--- constructed segments stand under BER alone
+-- constructed segments occur only under BER
 module _ (tag : Tag) (rules : EncodingRules) (c behind s : List ℕ) where
   definite_ahead : {id : List ℕ} {b : Bool} → IsIdentifier rules id tag b → length c < 2 ^ 32 → s ≡ id ++ (length_octets (length c) ++ (c ++ behind)) → SegmentAhead tag b c rules s
   definite_ahead {id} {b} d small is =
@@ -309,7 +310,7 @@ module _ (tag : Tag) (rules : EncodingRules) (c behind s : List ℕ) where
       let i : IsIdentifier rules id tag true = subst (λ r. IsIdentifier r id tag true) (sym (ber set)) d in
       subst (λ x. SegmentAhead tag x c rules s) (sym set) (indefinite_ahead i (ber set) body (split ∙ ap (λ l. l ++ behind) is ∙ append_assoc id (128 ∷ (c ++ 0 ∷ 0 ∷ [])) behind))
 
--- no more octets are joined than there are
+-- the joined octets are no longer than the segments
 pub joined_short : {tag : Tag} {levels : ℕ} {s x : List ℕ} → Joined tag levels s x → length x ≤ length s
 joined_short none = omega arith
 joined_short {tag} (segment {more = m} {out = o} c bit small j) =

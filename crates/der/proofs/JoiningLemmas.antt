@@ -1,4 +1,4 @@
--- Segments, read one after another.
+-- Lemmas on reading segments in sequence.
 use Rattle.std.proofs.Common.{◌≡◌, ◌≢◌, ℕ, suc, ◌+◌, ◌-◌, ◌^◌, ◌<◌, ◌≤◌, Bool, true, false, Result, Ok, Err, List, [], ◌++◌, length, take, drop, refl, sym, ap, ◌∙◌, subst, append_assoc, append-nil, length-append, length-take-le, arith}
 use Rattle.std.proofs.lemmas.List.{take-append-drop}
 use Rattle.der_base.specs.Error.{unexpected_tag}
@@ -26,11 +26,11 @@ use Rattle.der.proofs.JoinedLemmas.{IsSegment, primitive_form, segment_some, seg
 pub reads_there : (s u : ReaderState) (x more : List ℕ) (m : ℕ) → rest_of s ≡ x ++ more → u ≡ advanced_state s m → m ≡ length x → Reads s u x
 reads_there s u x more m e leaves same = subst (λ t. Reads s t x) (ap (advanced_state s) (sym same) ∙ sym leaves) (reads_front s x more e)
 
--- readers with the same rules and depth have as many levels left
+-- readers with the same rules and depth have the same number of levels left
 pub levels_same : (s t : ReaderState) → t.rules ≡ s.rules → t.depth ≡ s.depth → levels_left t ≡ levels_left s
 levels_same s t r d = ap (λ x. levels_at x t.depth) r ∙ ap (levels_at s.rules) d
 
--- there are two rules
+-- the rules are BER or DER
 pub ber_or_der : (rules : EncodingRules) → (rules ≡ Der → ⊥) → rules ≡ Ber
 ber_or_der Ber other = refl
 ber_or_der Der other = absurd (other refl)
@@ -40,7 +40,7 @@ primitive_identifier : {rules : EncodingRules} {id : List ℕ} {t : Tag} {b : Bo
 primitive_identifier e (of_tag h) = (refl, e)
 primitive_identifier e of_segments = absurd (cc)
 
--- the header of a primitive segment, as it was read
+-- the header of a primitive segment, after reading it
 record SegmentHeader (tag : Tag) (s u : ReaderState) (n : ℕ) : Type 0 where
   pub primitive : (label tag).constructed ≡ false
   pub small : n < 2 ^ 32
@@ -70,17 +70,17 @@ segment_header {tag} {s} {u} h p primitive = go (header_view p.passes.ahead)
     go : HeaderView (head_of h) s.rules (rest_of s) m → SegmentHeader tag s u (number (head_of h).length)
     go (header_view_of id more d l ok e c) = on id more d ok e c (length_view l)
 
--- the next octets
+-- reading the next n octets
 pub reads_next : (n : ℕ) (s t : ReaderState) → IsSound s → s.position + n ≤ s.end → t ≡ advanced_state s n → Reads s t (take n (rest_of s)) × (length (take n (rest_of s)) ≡ n)
 reads_next n s t sound there leaves =
     let long : length (take n (rest_of s)) ≡ n = length-take-le n (rest_of s) (omega (arith, length-rest s sound, there)) in
     (reads_there s t (take n (rest_of s)) (drop n (rest_of s)) n (sym (take-append-drop n (rest_of s))) leaves (sym long), long)
 
--- nothing was appended yet
+-- nothing has been appended yet
 pub appends_none : (tag : Tag) (levels : ℕ) (s : ReaderState) (old : List ℕ) → AppendsJoined tag levels s old old s
 appends_none tag levels s old = record { octets = []; out = []; reads = reads_none s; joined = none; appended = sym (append-nil old) }
 
--- segments behind segments
+-- segments followed by segments
 pub appends_more : {tag : Tag} {levels : ℕ} {s u t : ReaderState} {old middle new : List ℕ} → AppendsJoined tag levels s old middle u → AppendsJoined tag levels u middle new t → AppendsJoined tag levels s old new t
 appends_more {old = old} h g =
     record {
@@ -91,11 +91,11 @@ appends_more {old = old} h g =
       appended = g.appended ∙ ap (λ l. l ++ g.out) h.appended ∙ append_assoc old h.out g.out;
     }
 
--- with the levels of another reader
+-- the same with an equal number of levels
 pub appends_at : {tag : Tag} {levels other : ℕ} {s t : ReaderState} {old new : List ℕ} → levels ≡ other → AppendsJoined tag levels s old new t → AppendsJoined tag other s old new t
 appends_at {tag} {s = s} {t} {old} {new} e h = subst (λ n. AppendsJoined tag n s old new t) e h
 
--- behind segments that were read by this reader
+-- the same after segments that this reader has read
 pub appends_behind : {tag : Tag} {s u t : ReaderState} {old middle new : List ℕ} → Same s u → AppendsJoined tag (levels_left s) s old middle u → AppendsJoined tag (levels_left u) u middle new t → AppendsJoined tag (levels_left s) s old new t
 appends_behind {s = s} {u = u} same h g = appends_more h (appends_at (levels_same s u same.rules same.depth) g)
 
@@ -106,7 +106,7 @@ joined_segment {tag} {levels} {c} {e} s = subst (λ x. Joined tag levels x c) (a
 pub joined_segments : {tag : Tag} {below : ℕ} {c e out : List ℕ} → IsSegment tag true c e → Joined tag below c out → Joined tag (suc below) e out
 joined_segments {tag} {below} {c} {e} {out} s h = subst (λ x. Joined tag (suc below) x out) (append-nil e) (subst (Joined tag (suc below) (e ++ [])) (append-nil out) (segments_then s h none))
 
--- a segment that was read and joined, and the reader has moved
+-- a segment was read and joined, and the position of the reader has increased
 pub record AppendsSegment (tag : Tag) (levels : ℕ) (s : ReaderState) (old new : List ℕ) (t : ReaderState) : Type 0 where
   pub appends : AppendsJoined tag levels s old new t
   pub forward : s.position < t.position
@@ -123,7 +123,7 @@ pub passes_tagged : {tag t w : Tag} {h : Header} {s u v : ReaderState} (r : Resu
     → PassesTagged tag h s v
 passes_tagged {tag} {t} {w} {h} {s} r passes is ok other unmoved = record { passes = subst (Passes (HeaderAhead h) s) (sym unmoved) passes; tagged = sym is ∙ tag_asserted t tag w r ok other }
 
--- behind the header of a primitive segment of this length
+-- after the header of a primitive segment with this length
 module _ (tag : Tag) (s u t : ReaderState) (h : Header) (l : Length) (p : PassesSegmentHeader tag h s u) (primitive : (head_of h).constructed ≡ false) (is : l ≡ (head_of h).length) where
   -- its octets were appended
   pub octets_appended : {old new : List ℕ} (levels : ℕ) → IsSound u → AppendsOctets (number l) u old new t → AppendsSegment tag levels s old new t
@@ -137,16 +137,16 @@ module _ (tag : Tag) (s u t : ReaderState) (h : Header) (l : Length) (p : Passes
       let form : IsSegment tag false contents (element_octets tag contents) = primitive_form refl header.primitive (subst (λ k. k < 2 ^ 32) count header.small) refl in
       segment_appended form reads (joined_segment form) a.appended
 
-  -- or they were refused
+  -- reading its octets failed
   pub octets_refused : {e : Error} → (u.failed ≡ false → VecRefused (number l) u e t) → RefusesSegment tag s e t
   octets_refused {e} refused =
       no_octets h u p primitive (subst (λ x. VecRefused (number x) u e t) is (refused (ap (λ (x : ReaderState). x.failed) p.passes.passes.leaves ∙ p.passes.passes.working)))
 
--- where octets are left behind segments that were joined, another may be refused
+-- if octets are left after joined segments, reading the next segment can fail
 pub segments_refuse : {tag : Tag} {s u t : ReaderState} {old new : List ℕ} {e : Error} → AppendsJoined tag (levels_left s) s old new u → IsSound u → (u.end ≡ u.position → ⊥) → RefusesSegment tag u e t → RefusesSegments tag s e t
 segments_refuse {u = u} h sound left r = behind_segments u h.octets h.out h.reads h.joined (omega (arith, sound.ordered, left)) r
 
--- what is left was joined
+-- all octets that were left are joined
 pub record JoinsRest (tag : Tag) (levels : ℕ) (s : ReaderState) (old new : List ℕ) (t : ReaderState) : Type 0 where
   pub out : List ℕ
   pub joined : Joined tag levels (rest_of s) out

@@ -1,4 +1,4 @@
--- Segments that stand inside a segment.
+-- Lemmas on segments inside a segment.
 use Rattle.std.proofs.Common.{◌≡◌, ℕ, suc, ◌+◌, ◌-◌, ◌^◌, ◌<◌, ◌≤◌, Bool, true, false, Result, Ok, Err, OnOk, IfErr, List, [], ◌∷◌, ◌++◌, length, take, drop, refl, sym, ap, ◌∙◌, subst, append_assoc, length-append, length-take-le, arith}
 use Rattle.std.proofs.lemmas.List.{take_at, drop_at}
 use Rattle.der_base.specs.Arithmetic.{sans_eoc}
@@ -25,23 +25,23 @@ use Rattle.der.specs.Joining.{levels_at, levels_left, AppendsJoined, PassesSegme
 use Rattle.der.proofs.JoinedLemmas.{IsSegment, definite_form, indefinite_form}
 use Rattle.der.proofs.JoiningLemmas.{reads_there, reads_next, ber_or_der, joined_segments, AppendsSegment, segment_appended, JoinsRest, joins_rest}
 
--- a body ends with the end mark that closes it
+-- the contents of indefinite length end with their end-of-contents octets
 body_ends : {level parts : ℕ} {body : List ℕ} → Body level parts body → (c : List ℕ) × (body ≡ c ++ 0 ∷ 0 ∷ [])
 body_ends (ends l) = ([], refl)
 body_ends (item_first {item = item} {body = body} i b) = (let r = body_ends b in (item ++ r.0, ap (λ x. item ++ x) r.1 ∙ sym (append_assoc item r.0 (0 ∷ 0 ∷ []))))
 
--- a constructed segment stands under BER
+-- a constructed segment occurs only under BER
 pub under_ber : {tag : Tag} {h : Header} {s u : ReaderState} → PassesSegmentHeader tag h s u → (head_of h).constructed ≡ true → s.rules ≡ Ber
 under_ber {s = s} p bit = ber_or_der s.rules (λ der. (let no : true ≡ false = sym bit ∙ p.primitive der in cc))
 
--- inside a part one level fewer is left
+-- inside a nested part one level fewer is left
 pub levels_deeper : (s i : ReaderState) → s.rules ≡ Ber → i.rules ≡ s.rules → i.depth ≡ s.depth + 1 → s.depth < 64 → levels_left s ≡ suc (levels_left i)
 levels_deeper s i ber rules depth less =
     let here : levels_left s ≡ 64 - s.depth = ap (λ r. levels_at r s.depth) ber in
     let there : levels_left i ≡ 64 - i.depth = ap (λ r. levels_at r i.depth) (rules ∙ ber) in
     omega (arith, here, there, depth, less)
 
--- the header of a constructed segment, as it was read
+-- the header of a constructed segment, after reading it
 data ConstructedHeader (tag : Tag) (h : Header) (s u : ReaderState) : Type 0 where
   definite_header : (id : List ℕ) → IsIdentifier Ber id tag true → is_indefinite (head_of h).length ≡ false → contents_number h < 2 ^ 32 → Reads s u (id ++ length_octets (contents_number h)) → ConstructedHeader tag h s u
   indefinite_header : {parts : ℕ} (id c behind : List ℕ) → IsIdentifier Ber id tag true → is_indefinite (head_of h).length ≡ true → Body 1 parts (c ++ 0 ∷ 0 ∷ []) → length c ≡ contents_number h
@@ -76,7 +76,7 @@ constructed_header {tag} {h} {s} {u} p bit = go (header_view p.passes.passes.ahe
     go : HeaderView (head_of h) s.rules (rest_of s) m → ConstructedHeader tag h s u
     go (header_view_of id more d l ok e c) = on id more d e c (length_view l)
 
--- a constructed segment that was entered: s before its header, u behind it, i inside the part
+-- a constructed segment was entered: s is before its header, u after it, i inside the nested part
 pub record EntersSegment (tag : Tag) (s u i : ReaderState) (h : Header) (l : Length) (end depth : ℕ) : Type 0 where
   pub sound : IsSound u
   pub header : PassesSegmentHeader tag h s u
@@ -88,7 +88,7 @@ pub enters_segment : {tag : Tag} {s u i : ReaderState} {h : Header} {l k : Lengt
     → Gives (enter_nested_outcome (number l)) u (Ok (end, depth)) i → EntersSegment tag s u i h l end depth
 enters_segment sound header bit set is contents gives = record { sound = sound; header = header; bit = sym bit ∙ set; length_is = contents ∙ ap sans_eoc is; way = enter_ok gives }
 
--- or could not be
+-- entering it failed
 pub not_entered_segment : {tag : Tag} {s u t : ReaderState} {h : Header} {l k : Length} {b : Bool} {e : Error} → PassesSegmentHeader tag h s u → b ≡ (head_of h).constructed → b ≡ true → k ≡ (head_of h).length → l ≡ sans_eoc k
     → Gives (enter_nested_outcome (number l)) u (Err e) t → RefusesSegment tag s e t
 not_entered_segment {u = u} {t = t} {h = h} {e = e} header bit set is contents gives =
@@ -110,11 +110,11 @@ module _ {tag : Tag} {s u i : ReaderState} {h : Header} {l : Length} {end depth 
   part_count : length (rest_of i) ≡ contents_number h
   part_count = ap length part_contents ∙ length-take-le (contents_number h) (rest_of u) part_left
 
-  -- where it goes back to
+  -- the state after leaving the nested part
   back_is : (q : ReaderState) → resumed_state q end depth ≡ resumed_state q u.end u.depth
   back_is q = ap (λ x. resumed_state q x depth) e.way.outer_end ∙ ap (λ x. resumed_state q u.end x) e.way.outer_depth
 
-  -- a part that was read to its end is passed
+  -- a nested part that was read to its end has been consumed
   part_passes : (q : ReaderState) → q ≡ advanced_state i (length (rest_of i)) → resumed_state q end depth ≡ advanced_state u (contents_number h)
   part_passes q leaves =
       let q_is : q ≡ advanced_state (nested_state u (contents_number h)) (contents_number h) = leaves ∙ ap (λ x. advanced_state x (length (rest_of i))) part_is ∙ ap (advanced_state (nested_state u (contents_number h))) part_count in
@@ -128,7 +128,7 @@ module _ {tag : Tag} {s u i : ReaderState} {h : Header} {l : Length} {end depth 
       let deeper : i.depth ≡ u.depth + 1 = ap (λ (x : ReaderState). x.depth) part_is in
       levels_deeper s i (under_ber e.header e.bit) rules (omega (arith, deeper, depth_is)) (omega (arith, part_can.1, depth_is))
 
-  -- behind the contents of an indefinite length stands the end mark
+  -- the end-of-contents octets follow contents of indefinite length
   mark_there : is_indefinite l ≡ true → (behind : List ℕ) × (rest_of (advanced_state u (contents_number h)) ≡ 0 ∷ 0 ∷ behind)
   mark_there flag = go (constructed_header e.header e.bit)
     where
@@ -137,7 +137,7 @@ module _ {tag : Tag} {s u i : ReaderState} {h : Header} {l : Length} {end depth 
       go (indefinite_header id c behind d f body long reads left) =
           (behind, rest_advanced u (contents_number h) part_left ∙ ap (drop (contents_number h)) left ∙ drop_at c (0 ∷ 0 ∷ behind) (contents_number h) long)
 
--- a segment that was entered: q is where the segments inside were read, t where it was left
+-- a segment was entered: q is after the segments inside, t after leaving it
 module _ {tag : Tag} (s u i q t : ReaderState) (h : Header) (l : Length) (end depth : ℕ) (e : EntersSegment tag s u i h l end depth) where
   nested_joined : {old new : List ℕ} → JoinsRest tag (levels_left i) i old new q → Behind (is_indefinite l) (resumed_state q end depth) t → AppendsSegment tag (levels_left s) s old new t
   nested_joined {old} {new} all behind = go (constructed_header e.header e.bit) behind
@@ -177,7 +177,7 @@ module _ {tag : Tag} (s u i q t : ReaderState) (h : Header) (l : Length) (end de
           let is : rest_of i ≡ c = part_contents e ∙ ap (take n) left ∙ take_at c (0 ∷ 0 ∷ after) n count in
           appends c (indefinite_form id refl d body refl) (subst (Reads s t) same (reads_on reads next)) is
 
-  -- a segment whose contents were joined and closed
+  -- the contents of a segment were joined, and it was closed
   pub nested_ok : {T : Type 0} {converts : Error → Error → Type 0} {old new : List ℕ} (answer : Result T Error) (v : T) → OnOk answer (AppendsJoined tag (levels_left i) i old new q)
       → OnOk answer (q.end ≡ q.position) → ClosesValue converts answer q end depth (is_indefinite l) (Ok v) t → AppendsSegment tag (levels_left s) s old new t
   nested_ok {old = old} {new = new} answer v appends ended closes =
@@ -186,7 +186,7 @@ module _ {tag : Tag} (s u i q t : ReaderState) (h : Header) (l : Length) (end de
       let at_end = subst (λ x. OnOk x (q.end ≡ q.position)) k.answered ended in
       nested_joined (joins_rest joins at_end) k.behind
 
-  -- or one that was refused inside
+  -- reading failed inside the segment
   pub nested_refused : {T : Type 0} {converts : Error → Error → Type 0} (old new : List ℕ) (answer : Result T Error) (x : Error) → OnOk answer (AppendsJoined tag (levels_left i) i old new q)
       → OnOk answer (q.end ≡ q.position) → IfErr answer (λ y. RefusesSegments tag i y q) → ClosesValue converts answer q end depth (is_indefinite l) (Err x) t → RefusesSegment tag s x t
   nested_refused {T} {converts} old new answer x appends ended refused closes = go closes

@@ -1,4 +1,4 @@
--- Texts and orders of octets.
+-- Lemmas on texts and the order of octets.
 use Rattle.std.proofs.Common.{◌≡◌, ℕ, Bool, true, false, Option, Some, List, length, drop, refl, ap, ◌∙◌}
 use Rattle.std.specs.Cmp.Lexicographic.{slice_partial_cmp, lists_agrees}
 use Rattle.std.specs.Ordering.{ordering_then, partial_ordering_then, nat_cmp, bool_cmp}
@@ -12,7 +12,7 @@ use Rattle.der.specs.Octets.{utf8_fault}
 use Rattle.der_base.specs.Order.{byte_order}
 use Rattle.der.specs.OctetsOrder.{counted_order}
 
--- the test fails on octets that are no UTF-8
+-- the UTF-8 check fails on octets that are not UTF-8
 pub is_utf8_false : (octets : List ℕ) → (IsUtf8 octets → ⊥) → is_utf8 octets ≡ false
 is_utf8_false octets isnt = go (is_utf8 octets) refl
   where
@@ -32,7 +32,7 @@ partial_ordering_then_equal Less s = refl
 partial_ordering_then_equal Equal s = refl
 partial_ordering_then_equal Greater s = refl
 
--- the derived partial order of octets behind their count is `counted_order`
+-- the derived partial order of a length followed by octets is `counted_order`
 pub partial_ordering_then_counted : (a b : List ℕ)
     → partial_ordering_then (partial_ordering_then (Some (nat_cmp (length a) (length b)))
     (Some (bool_cmp false false))) (slice_partial_cmp (λ x y. Some (nat_cmp x y)) a b)
@@ -45,7 +45,7 @@ partial_ordering_then_counted a b =
 abbrev utf8_error : ℕ → Option ℕ → Utf8Error
 utf8_error n l = record { valid_up_to = n; error_len = l }
 
--- an error that stops where octets stop being UTF-8, for as many octets, is their fault
+-- an error with the position and the length of the first invalid UTF-8 octets is `utf8_fault`
 pub utf8_fault_is : (octets : List ℕ) (e : Utf8Error) → valid_up_to e ≡ utf8_valid_len octets
     → error_len e ≡ utf8_error_len (drop (valid_up_to e) octets) → e ≡ utf8_fault octets
 utf8_fault_is octets e up len =

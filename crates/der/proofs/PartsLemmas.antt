@@ -1,4 +1,4 @@
--- Segments, made into a value.
+-- Lemmas on values read from segments.
 use Rattle.std.proofs.Common.{◌≡◌, ◌⊎◌, ℕ, ◌+◌, ◌-◌, true, false, ◌^◌, ◌<◌, ◌≤◌, Result, Ok, Err, IsOk, IfErr, List, length, take, refl, sym, ap, ◌∙◌, subst, inl, inr, arith}
 use Rattle.std.proofs.lemmas.Bool.{lt-ltb, le-leb}
 use Rattle.std.proofs.lemmas.List.{take_all}
@@ -25,7 +25,7 @@ use Rattle.der.proofs.RefusedSegmentLemmas.{slice_there}
 checked_octets_ok : (octets : List ℕ) → length octets < 2 ^ 32 → checked_octets octets ≡ Ok octets
 checked_octets_ok octets few = rw (lt-ltb (length octets) (2 ^ 32) few) refl
 
--- what was joined is made into a value
+-- a value can be made of the joined octets
 pub joined_made : {A : Type 0} {tag : Tag} {l : Length} {s t : ReaderState} {out : List ℕ}
     (f : A → List ℕ) (r : Result A Error) → map_ok f r ≡ checked_octets out
     → JoinsAll l tag s out t → IsSound s → IsOk r
@@ -34,18 +34,18 @@ joined_made {s = s} {out = out} f (Err e) made joins sound =
     let few : length out < 2 ^ 32 = omega (arith, joined_short joins.joined, length-rest s sound, sound.in_input, sound.addressable) in
     absurd (let no : Err e ≡ Ok out = made ∙ checked_octets_ok out few in cc)
 
--- what succeeds is not refused
+-- a result that is `Ok` is no error
 pub not_refused : {A E : Type 0} (Refuses : E → Type 0) (r : Result A E) → IsOk r → IfErr r Refuses
 not_refused Refuses (Ok v) ok = tt
 not_refused Refuses (Err e) ok = absurd (let no : false ≡ true = ok in cc)
 
--- octets of contents are all there
+-- all octets of the contents are there
 all_there : (s : ReaderState) (n : ℕ) → IsSound s → length (rest_of s) ≡ n → s.position + n ≤ s.end
 all_there s n sound sized = omega (arith, length-rest s sound, sized, sound.ordered)
 
--- what stands inside contents
+-- reading contents of a known length
 module _ {tag : Tag} {h : Head} (s : ReaderState) (stands : StandsIn s (number h.length)) where
-  -- contents that were read are taken
+  -- contents that were read are accepted
   pub parts_taken : (out : List ℕ) (t : ReaderState) → IsSound s → ReadsParts tag h s out t → TakesParts tag out s.rules h (rest_of s)
   parts_taken out t sound (reads_octets bit g) =
       let table : (read_slice_outcome (number h.length) s).answer ≡ Ok (take (number h.length) (rest_of s)) =
@@ -57,7 +57,7 @@ module _ {tag : Tag} {h : Head} (s : ReaderState) (stands : StandsIn s (number h
       let left : levels_left s ≡ 64 - s.depth = ap (λ r. levels_at r s.depth) has.ber in
       as_segments has (joined_up joins.joined levels_inside (omega (arith, left, stands.nested)))
 
-  -- contents that are taken are refused nothing but memory
+  -- for acceptable contents, the only possible error is an allocation failure
   pub parts_lacking : (out : List ℕ) (t : ReaderState) (e : Error) → IsSound s → s.depth + joined_levels s.rules ≤ 64 → TakesParts tag out s.rules h (rest_of s) → RefusesParts tag h s e t
       → ((x : List ℕ) → HasSegments h s.rules → Joined tag (levels_left s) (rest_of s) x → (false ≡ true) ⊎ (e ≡ error_of_kind OutOfMemory)) → e ≡ error_of_kind OutOfMemory
   parts_lacking out t e sound few (as_they_stand bit same) r complete = go r

@@ -1,4 +1,4 @@
--- Segments that are there are refused nothing but memory.
+-- Lemmas: for valid segments, the only possible error is an allocation failure.
 use Rattle.std.proofs.Common.{◌≡◌, ℕ, suc, ◌+◌, ◌-◌, ◌^◌, ◌<◌, ◌≤◌, Bool, true, false, Ok, Err, List, ◌++◌, length, take, drop, refl, sym, ap, ◌∙◌, subst, inl, inr, length-append, arith}
 use Rattle.std.proofs.lemmas.Bool.{le-leb}
 use Rattle.std.proofs.lemmas.List.{take_at}
@@ -32,7 +32,7 @@ use Rattle.der.specs.Joining.{levels_at, levels_left, contents_number, no_header
 use Rattle.der.proofs.JoinedLemmas.{joined_behind, FirstSegment, first_segment, SegmentAhead, segment_ahead}
 use Rattle.der.proofs.JoiningLemmas.{levels_same}
 
--- behind octets that were read a reader is sound, and inside a part
+-- after reading octets a reader is still sound
 sound_on : {s u : ReaderState} (m : ℕ) → IsSound s → m ≤ length (rest_of s) → u ≡ advanced_state s m → IsSound u
 sound_on {s} {u} m sound there leaves =
     subst IsSound (sym leaves)
@@ -41,19 +41,19 @@ sound_on {s} {u} m sound there leaves =
 sound_inside : {u : ReaderState} (n : ℕ) → IsSound u → CanNest u n → IsSound (nested_state u n)
 sound_inside {u} n sound can = record { ordered = omega arith; in_input = omega (arith, can.0, sound.in_input); addressable = sound.addressable; shallow = omega (arith, can.1); marked = sound.marked }
 
--- octets that are there are not refused
+-- reading octets that are there does not fail
 pub slice_there : (n : ℕ) (s t : ReaderState) (e : Error) → s.failed ≡ false → s.position + n ≤ s.end → Gives (read_slice_outcome n) s (Err e) t → ⊥
 slice_there n s t e working there g =
     let table : (read_slice_outcome n s).answer ≡ Ok (take n (rest_of s)) = rw working (rw (le-leb (s.position + n) s.end there) refl) in
     let no : Err e ≡ Ok (take n (rest_of s)) = g.answered ∙ table in
     absurd (cc)
 
--- a level is left under BER alone
+-- a level is left only under BER
 levels_some : (rules : EncodingRules) (depth below : ℕ) → levels_at rules depth ≡ suc below → (rules ≡ Ber) × (depth + suc below ≡ 64)
 levels_some Ber depth below e = (refl, omega (arith, e))
 levels_some Der depth below e = absurd (omega (arith, e))
 
--- primitive contents are as many as the header says
+-- primitive contents have the length in the header
 primitive_number : {h : Header} {s u : ReaderState} → Passes (HeaderAhead h) s u → (head_of h).constructed ≡ false → contents_number h ≡ number (head_of h).length
 primitive_number {h} {s} {u} p primitive = go (header_view p.ahead)
   where
@@ -67,7 +67,7 @@ primitive_number {h} {s} {u} p primitive = go (header_view p.ahead)
     go : HeaderView (head_of h) s.rules (rest_of s) p.octets → contents_number h ≡ number (head_of h).length
     go (header_view_of id more d l ok e c) = by_flag (is_indefinite (head_of h).length) refl ok
 
--- a segment that stands ahead, and a header that was read there
+-- a segment is next, and its header was read
 module _ {tag : Tag} {b : Bool} {c : List ℕ} (s u : ReaderState) (h : Header) (sound : IsSound s) (a : SegmentAhead tag b c s.rules (rest_of s)) (p : Passes (HeaderAhead h) s u) where
   says_so : head_of h ≡ a.says
   says_so = (one_header p.ahead a.ahead).0
@@ -90,13 +90,13 @@ module _ {tag : Tag} {b : Bool} {c : List ℕ} (s u : ReaderState) (h : Header) 
   contents_are : take (contents_number h) (rest_of u) ≡ c
   contents_are = ap (take (contents_number h)) contents_ahead ∙ take_at c a.after (contents_number h) sized
 
--- the first segment stands ahead
+-- the first segment is next
 first_ahead : {tag : Tag} (s : ReaderState) (f : FirstSegment tag (levels_left s) (rest_of s)) → (label tag).number < 2 ^ 32 → SegmentAhead tag f.constructed f.contents s.rules (rest_of s)
 first_ahead {tag} s f numbered =
     segment_ahead tag s.rules f.contents f.behind (rest_of s) f.form f.split numbered (λ set. let w = f.within set in (levels_some s.rules s.depth w.below w.level).0)
 
 mutual
-  -- a segment that is there
+  -- for a valid segment, the only possible error is an allocation failure
   segment_refused : {tag : Tag} {s t : ReaderState} {e : Error} → RefusesSegment tag s e t → IsSound s → s.failed ≡ false → (label tag).number < 2 ^ 32 → FirstSegment tag (levels_left s) (rest_of s) → e ≡ error_of_kind OutOfMemory
   segment_refused {s = s} (no_segment (no_header r)) sound working numbered f = absurd (not_refused (header_grammar BodyFault body_fault_laws) r working (first_ahead s f numbered).ahead)
   segment_refused {s = s} {t = t} (no_segment (other_tag h p not told)) sound working numbered f =
@@ -135,7 +135,7 @@ mutual
       subst (λ x. Joined tag x (rest_of (nested_state u n)) w.out) same (subst (λ x. Joined tag w.below x w.out) (sym contents) w.joined) in
       segments_refused r (sound_inside n (header_sound s u h sound a passes) can) (ap (λ (x : ReaderState). x.failed) passes.leaves ∙ working) numbered w.out here
 
-  -- segments that are all there and joined are refused nothing but memory
+  -- for segments that can all be joined, the only possible error is an allocation failure
   pub segments_refused : {tag : Tag} {s t : ReaderState} {e : Error} → RefusesSegments tag s e t → IsSound s → s.failed ≡ false → (label tag).number < 2 ^ 32
       → (out : List ℕ) → Joined tag (levels_left s) (rest_of s) out → e ≡ error_of_kind OutOfMemory
   segments_refused {tag} {s = s} (behind_segments u octets before reads joined less r) sound working numbered out all =

@@ -10,7 +10,7 @@ use Rattle.der.specs.declared.example.borrowed_octets.BorrowedOctets.{BorrowedOc
 abbrev pub borrowed_octets : BorrowedOctets → List ℕ
 borrowed_octets b = reference_octets b.octets
 
--- such an OCTET STRING is read as it is written
+-- this type is lawful: decoding inverts encoding
 pub borrowed_lawful : IsLawful OctetString (TakesOctets IsCounted borrowed_octets)
     (λ b. IsCounted (borrowed_octets b)) borrowed_octets (λ _. 0)
 borrowed_lawful = octets_lawful OctetString IsCounted borrowed_octets (omega arith)

@@ -1,5 +1,5 @@
--- Octets that are borrowed (`IsBorrowedOctets`) or in memory of their own: `cow_octets` are what a
--- `BytesCow` means.
+-- Byte strings that are borrowed (`IsBorrowedOctets`) or owned: `cow_octets` are the octets of a
+-- `BytesCow`.
 use Rattle.std.specs.Prelude.{ℕ, List}
 use Rattle.der.specs.BytesRef.{reference_octets}
 use Rattle.der.specs.BytesOwned.{owned_octets}

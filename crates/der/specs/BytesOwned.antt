@@ -1,4 +1,4 @@
--- Octets in memory of their own: `owned_octets` are what a `BytesOwned` means.
+-- Owned byte strings: `owned_octets` are the octets of a `BytesOwned`.
 use Rattle.std.specs.Prelude.{ℕ, List}
 use Rattle.std.specs.Box.{boxed_slice_items}
 use Rattle.der.specs.declared.bytes.owned.BytesOwned.{BytesOwned}

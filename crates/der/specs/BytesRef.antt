@@ -1,4 +1,4 @@
--- Octets that are borrowed: `reference_octets` are what a `BytesRef` means.
+-- Borrowed byte strings: `reference_octets` are the octets of a `BytesRef`.
 use Rattle.std.specs.Prelude.{ℕ, List}
 use Rattle.der.specs.declared.bytes.reference.BytesRef.{BytesRef}
 

@@ -1,4 +1,4 @@
--- Octets that are joined of segments (X.690 8.7.3): `Joined`.
+-- The relation between segments and the octets they are joined to (X.690 8.7.3): `Joined`.
 use Rattle.std.specs.Prelude.{◌≡◌, ℕ, suc, ◌^◌, ◌<◌, true, false, List, [], ◌∷◌, ◌++◌, length}
 use Rattle.der_base.specs.Body.{Body}
 use Rattle.der_base.specs.FixedOctets.{indefinite_octet, end_of_contents}
@@ -8,10 +8,11 @@ use Rattle.der_base.specs.declared.tag.Tag.{Tag}
 use Rattle.der_base.specs.declared.encoding_rules.EncodingRules.TheVariants.{Ber}
 use Rattle.der_core.specs.Encode.{element_octets}
 
--- a list of whole elements with this tag, and what they are joined to, in the order of the
--- elements: a primitive one of definite length gives its contents; a constructed one, where a level
--- is left, gives what its own contents are joined to, with one level fewer: those of a definite
--- length, or those of an indefinite one without the end mark
+-- whole elements with this tag, in sequence, and the concatenation of what they contribute, in the
+-- same order: a primitive element of definite length contributes its contents; a constructed
+-- element, if a level is left, contributes the joined segments of its contents, with one level
+-- fewer; its length is definite, or indefinite, and then its end-of-contents octets are not
+-- contents
 pub data Joined (tag : Tag) : ℕ → List ℕ → List ℕ → Type 0 where
   none : {levels : ℕ} → Joined tag levels [] []
   segment : {levels : ℕ} {more out : List ℕ} (contents : List ℕ)

@@ -1,5 +1,5 @@
--- An OCTET STRING whose segments are joined to `joined_octets` (X.690 8.7): how contents are taken
--- (`TakesJoined`), and the rows of reading it (`JoinedRead`).
+-- An OCTET STRING whose segments are joined to `joined_octets` (X.690 8.7): which contents are
+-- accepted (`TakesJoined`), and the possible results of reading it (`JoinedRead`).
 use Rattle.std.specs.Prelude.{◌≡◌, ℕ, true, false, List, Result}
 use Rattle.std.proofs.Common.{arith, refl, sym, ◌∙◌}
 use Rattle.der_base.specs.HeaderGrammar.{Head}
@@ -24,19 +24,19 @@ TakesJoined v rules h octets =
 abbrev pub JoinedRead : Head → ReaderState → Result JoinedOctets Error → ReaderState → Type 0
 JoinedRead h s result t = PartsRead OctetString joined_octets h s result t
 
--- how many levels of nesting the contents want: under DER they have no segments
+-- the levels of nesting that the contents need: none under DER, which has no segments
 abbrev pub joined_levels : EncodingRules → ℕ
 joined_levels Ber = levels_inside
 joined_levels Der = 0
 
--- a primitive header has no segments
+-- the contents of a primitive header are not segments
 primitive_contents : {out octets : List ℕ} {rules : EncodingRules} {h : Head}
     → h.constructed ≡ false → TakesParts OctetString out rules h octets → out ≡ octets
 primitive_contents bit (as_they_stand flag same) = same
 primitive_contents bit (as_segments segments joined) =
     absurd (let no : false ≡ true = sym bit ∙ segments.bit in cc)
 
--- under DER its header is primitive, so it is read as it is written
+-- this type is lawful: under DER its header is primitive, so decoding inverts encoding
 pub joined_lawful : IsLawful OctetString TakesJoined (λ v. IsCounted (joined_octets v))
     joined_octets joined_levels
 joined_lawful =

@@ -1,6 +1,6 @@
--- What joining segments answers: `JoinsAll` and `RefusesJoining` are the rows of
--- `read_constructed_vec`; what it reads on the way is appended (`AppendsOctets`, `AppendsJoined`)
--- or refused (`RefusesSegment`, `RefusesSegments`).
+-- The possible results of joining segments: `JoinsAll` and `RefusesJoining` are those of
+-- `read_constructed_vec`. While it reads, octets are appended (`AppendsOctets`, `AppendsJoined`),
+-- or it fails (`RefusesSegment`, `RefusesSegments`).
 use Rattle.std.specs.Prelude.{◌≡◌, ◌≢◌, ℕ, ◌+◌, ◌-◌, ◌<◌, ◌≤◌, ◌⊎◌, true, false, List, ◌++◌, length, take, Err}
 use Rattle.der_base.specs.Arithmetic.{sans_eoc}
 use Rattle.der_base.specs.ScanGrammar.{BodyFault}
@@ -22,29 +22,29 @@ use Rattle.der_core.specs.Header.{head_of, HeaderAhead}
 use Rattle.der_core.specs.declared.header.Header.{Header}
 use Rattle.der.specs.Joined.{Joined}
 
--- how many levels of segments may be cut again: those that a BER reader can still enter, and none
--- under DER
+-- the number of levels in which segments may be nested: those that a BER reader can still enter,
+-- and none under DER
 abbrev pub levels_at : EncodingRules → ℕ → ℕ
 levels_at Ber depth = 64 - depth
 levels_at Der depth = 0
 
--- how many levels a reader has left so
+-- the number of levels left in a reader
 abbrev pub levels_left : ReaderState → ℕ
 levels_left s = levels_at s.rules s.depth
 
--- segments stand behind a length of either form under BER, and under DER behind one that was read
--- in the indefinite form
+-- the contents may be segments: after any length under BER, and only after an indefinite one under
+-- DER
 abbrev pub MayJoin : Length → EncodingRules → Type 0
 MayJoin l rules = (rules ≡ Ber) ⊎ (is_indefinite l ≡ true)
 
--- n octets are there, and are appended
+-- the next n octets are there, and are appended
 pub record AppendsOctets (n : ℕ) (s : ReaderState) (old new : List ℕ) (t : ReaderState)
     : Type 0 where
   pub there : s.position + n ≤ s.end
   pub appended : new ≡ old ++ take n (rest_of s)
   pub leaves : t ≡ advanced_state s n
 
--- segments are read, and what they are joined to is appended
+-- segments are read, and the octets they are joined to are appended
 pub record AppendsJoined (tag : Tag) (levels : ℕ) (s : ReaderState) (old new : List ℕ)
     (t : ReaderState) : Type 0 where
   pub octets : List ℕ
@@ -53,7 +53,7 @@ pub record AppendsJoined (tag : Tag) (levels : ℕ) (s : ReaderState) (old new :
   pub joined : Joined tag levels octets out
   pub appended : new ≡ old ++ out
 
--- all that was left is joined, and the reader stands at the end
+-- all octets that were left are joined, and the reader is at the end
 pub record JoinsAll (l : Length) (tag : Tag) (s : ReaderState) (out : List ℕ) (t : ReaderState)
     : Type 0 where
   pub may_join : MayJoin l s.rules
@@ -65,13 +65,13 @@ pub record PassesTagged (tag : Tag) (h : Header) (s u : ReaderState) : Type 0 wh
   pub passes : Passes (HeaderAhead h) s u
   pub tagged : (head_of h).tag ≡ tag
 
--- the header of a segment is read, which under DER is primitive
+-- the header of a segment is read, and under DER it is primitive
 pub record PassesSegmentHeader (tag : Tag) (h : Header) (s u : ReaderState) : Type 0 where
   pub passes : PassesTagged tag h s u
   pub primitive : s.rules ≡ Der → (head_of h).constructed ≡ false
 
--- a constructed header under DER is refused at the octet before the position; the reader is left as
--- it is
+-- a constructed header under DER is an error at the octet before the position; the reader is
+-- unchanged
 pub record RefusesConstructed (h : Header) (s : ReaderState) (e : Error) (t : ReaderState)
     : Type 0 where
   pub under_der : s.rules ≡ Der
@@ -79,8 +79,8 @@ pub record RefusesConstructed (h : Header) (s : ReaderState) (e : Error) (t : Re
   pub told : e ≡ error_at (Noncanonical (head_of h).tag) (definite_length (s.position - 1))
   pub leaves : t ≡ s
 
--- the header of a segment is refused: there is none; it has another tag, and the reader stands
--- behind it; or it is constructed, under DER
+-- reading the header of a segment fails: it is no header; it has another tag, and the reader is
+-- after it; or it is constructed, under DER
 pub data RefusesSegmentHeader (tag : Tag) (s : ReaderState) (e : Error) (t : ReaderState)
     : Type 0 where
   no_header : IsRefusedBy (HeaderFault BodyFault) s e t → RefusesSegmentHeader tag s e t
@@ -89,14 +89,14 @@ pub data RefusesSegmentHeader (tag : Tag) (s : ReaderState) (e : Error) (t : Rea
   constructed_segment : (h : Header) (u : ReaderState) → PassesTagged tag h s u
       → RefusesConstructed h u e t → RefusesSegmentHeader tag s e t
 
--- how many octets of contents a header announces, without an end mark
+-- the length of the contents in a header, without end-of-contents octets
 abbrev pub contents_number : Header → ℕ
 contents_number h = number (sans_eoc (head_of h).length)
 
 mutual
-  -- a segment is refused: its header is; of a primitive one its octets are; a constructed one
-  -- cannot be entered; or inside it segments are refused, and the reader stands there, with the end
-  -- and the depth around it
+  -- reading a segment fails: its header cannot be read; the octets of a primitive one cannot be
+  -- read; a constructed one cannot be entered; or reading the segments inside it fails, and the
+  -- reader is where that stopped, with the end and depth of the outer part
   pub data RefusesSegment (tag : Tag) : ReaderState → Error → ReaderState → Type 0 where
     no_segment : {s t : ReaderState} {e : Error} → RefusesSegmentHeader tag s e t
         → RefusesSegment tag s e t
@@ -112,14 +112,14 @@ mutual
         → RefusesSegments tag (nested_state u (contents_number h)) e v
         → t ≡ resumed_state v u.end u.depth → RefusesSegment tag s e t
 
-  -- behind segments that were read and joined octets are left, and a segment is refused
+  -- segments were read and joined, octets are left, and reading the next segment fails
   pub data RefusesSegments (tag : Tag) : ReaderState → Error → ReaderState → Type 0 where
     behind_segments : {s t : ReaderState} {e : Error} (u : ReaderState) (octets out : List ℕ)
         → Reads s u octets → Joined tag (levels_left s) octets out → u.position < u.end
         → RefusesSegment tag u e t → RefusesSegments tag s e t
 
--- joining is refused: under DER the length is definite; memory of the length's number is refused;
--- or a segment is
+-- joining fails: under DER the length is definite; the allocation for that length fails; or reading
+-- a segment fails
 pub data RefusesJoining (l : Length) (tag : Tag) (s : ReaderState) (e : Error) (t : ReaderState)
     : Type 0 where
   definite_form : s.rules ≡ Der → is_indefinite l ≡ false

@@ -1,5 +1,5 @@
--- A month as one octet: which there are (`IsMonth`), how contents are taken (`TakesMonth`), and the
--- rows of reading and writing one (`MonthRead`, `MonthWritten`).
+-- A month as one octet: the valid ones (`IsMonth`), which contents are accepted (`TakesMonth`), and
+-- the possible results of reading and writing one (`MonthRead`, `MonthWritten`).
 use Rattle.std.specs.Prelude.{◌≡◌, ℕ, ◌<◌, List, [], ◌∷◌, Result, Ok, nat_lt, if◌then◌else◌}
 use Rattle.std.proofs.Common.{arith}
 use Rattle.der_base.specs.HeaderGrammar.{Head}
@@ -23,29 +23,29 @@ IsMonth month = month.number < 12
 abbrev pub month_contents : MyByteMonth → List ℕ
 month_contents month = month.number ∷ []
 
--- one octet below 12 is taken as the month of that number, whatever the header
+-- one octet below 12 is accepted as the month with that number, whatever the header
 abbrev pub TakesMonth : MyByteMonth → EncodingRules → Head → List ℕ → Type 0
 TakesMonth month rules h octets = IsMonth month × (month_contents month ≡ octets)
 
--- an octet from 12 on is refused behind it
+-- 12 or more is an error at the position after the octet
 abbrev pub month_of : ℕ → ReaderState → Outcome ℕ
 month_of octet s = if nat_lt octet 12 then outcome_of (Ok octet) s else kind_outcome ℕ DateTime s
 
 abbrev pub month_outcome : ReaderState → Outcome ℕ
 month_outcome s = chained_outcome (read_byte_outcome s) month_of
 
--- what reading answers
+-- the possible results of reading
 abbrev pub MonthRead : Head → ReaderState → Result MyByteMonth Error → ReaderState → Type 0
 MonthRead h s result t = Gives month_outcome s (map_ok (λ month. month.number) result) t
 
--- how many octets there are, and what writing answers
+-- the number of octets, and the possible results of writing
 abbrev pub month_size : MyByteMonth → Result Length Error
 month_size month = Ok (definite_length 1)
 
 abbrev pub MonthWritten : MyByteMonth → WriterAnswer
 MonthWritten month s result t = Writes (write_outcome (month_contents month) s) result t
 
--- a month is read as it is written
+-- this type is lawful: decoding inverts encoding
 pub month_lawful : IsLawful OctetString TakesMonth IsMonth month_contents (λ _. 0)
 month_lawful =
     record {

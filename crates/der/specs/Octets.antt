@@ -1,6 +1,6 @@
--- Values whose contents are octets, or a text of them: which there are (`IsCounted`, `IsText`), and
--- how they are taken (`TakesOctets`), read (`LentOctetsRead` and its kin) and written
--- (`OctetsWritten`).
+-- Types whose contents are octets or a text: the valid values (`IsCounted`, `IsText`), which
+-- contents are accepted (`TakesOctets`), and the possible results of reading (`LentOctetsRead` and
+-- the facts after it) and writing (`OctetsWritten`).
 use Rattle.std.specs.Prelude.{◌≡◌, ℕ, ◌+◌, ◌^◌, ◌<◌, ◌≤◌, ◌⊎◌, Bool, true, false, List, length, drop, take, nat_lt, nat_le, Result, Ok, Err, IsOk, if◌then◌else◌}
 use Rattle.std.proofs.Common.{arith}
 use Rattle.std.specs.Str.{is_utf8}
@@ -24,20 +24,20 @@ use Rattle.der_core.specs.Reader.{read_slice_outcome, VecMeets}
 use Rattle.der_core.specs.ReaderState.{ReaderState, reader_position}
 use Rattle.der_core.specs.Writer.{Writes, write_outcome}
 
--- octets that a length can count
+-- octets whose number fits in a `Length`
 abbrev pub IsCounted : List ℕ → Type 0
 IsCounted octets = length octets < 2 ^ 32
 
--- octets that are UTF-8, and that a length can count
+-- UTF-8 octets whose number fits in a `Length`
 abbrev pub IsText : List ℕ → Type 0
 IsText octets = (is_utf8 octets ≡ true) × IsCounted octets
 
--- octets, where a length can count them
+-- the octets, or an error if their number does not fit in a `Length`
 abbrev pub checked_octets : List ℕ → Result (List ℕ) Error
 checked_octets octets =
     if nat_lt (length octets) (2 ^ 32) then Ok octets else Err (error_of_kind Overflow)
 
--- where octets stop being UTF-8, and for how many octets
+-- the number of valid octets before the first UTF-8 error, and the length of that error
 abbrev pub utf8_fault : List ℕ → Utf8Error
 utf8_fault octets =
     record {
@@ -45,35 +45,35 @@ utf8_fault octets =
       error_len = utf8_error_len (drop (utf8_valid_len octets) octets);
     }
 
--- octets, where they are UTF-8 and a length can count them: the text is looked at first
+-- the octets, or an error if they are not UTF-8, or else if their number does not fit in a `Length`
 abbrev pub checked_text : List ℕ → Result (List ℕ) Error
 checked_text octets =
     if is_utf8 octets then checked_octets octets
     else Err (error_of_kind (Utf8 (utf8_fault octets)))
 
--- the first n octets, where there are so many
+-- the first n octets, or an error if there are fewer
 abbrev pub prefix_of : ℕ → List ℕ → Result (List ℕ) Error
 prefix_of n octets =
     if nat_le n (length octets) then Ok (take n octets)
     else Err (error_at_end (definite_length (length octets)))
 
--- an answer, or where that is no error memory for it is refused
+-- the expected result, or an allocation failure instead of an expected `Ok`
 abbrev pub AnswersOrLacks : {A : Type 0} → Result A Error → Result A Error → Type 0
 AnswersOrLacks answer result =
     (result ≡ answer) ⊎ (IsOk answer × (result ≡ Err (error_of_kind OutOfMemory)))
 
--- a value is taken of the octets that it has, under both rules and whatever the header
+-- the value's octets are the contents, under both rules and whatever the header
 abbrev pub TakesOctets : {A : Type 0} → (List ℕ → Type 0) → (A → List ℕ)
     → A → EncodingRules → Head → List ℕ → Type 0
 TakesOctets IsKind octets_of v rules h octets = IsKind (octets_of v) × (octets_of v ≡ octets)
 
--- so many octets, as a text
+-- the next n octets, as a text
 abbrev pub text_outcome : ℕ → ReaderState → Outcome (List ℕ)
 text_outcome n s =
     chained_outcome (read_slice_outcome n s) (λ octets t. outcome_of (checked_text octets) t)
 
--- what reading answers: octets that are lent, and octets that are copied; a text that is lent, and
--- one that is copied, for which memory is refused behind the contents
+-- the possible results of reading borrowed octets, copied octets, a borrowed text and a copied
+-- text; the reader is after the contents if the allocation of the copied text fails
 abbrev pub LentOctetsRead : {A : Type 0} → (A → List ℕ)
     → Head → ReaderState → Result A Error → ReaderState → Type 0
 LentOctetsRead octets_of h s result t =
@@ -95,8 +95,8 @@ OwnedTextRead octets_of h s result t =
     AnswersOrLacks (text_outcome (number h.length) s).answer (map_ok octets_of result)
     × (t ≡ (text_outcome (number h.length) s).after)
 
--- a reliable reader ends where contents of so many octets are taken as a value, and no memory is
--- taken
+-- if the contents are acceptable as a value, a reliable reader reads one and is then at their end;
+-- no allocation can fail, because there is none
 abbrev pub EndsTaken : {A : Type 0} → (List ℕ → Type 0) → (A → List ℕ)
     → Bool → Head → ReaderState → Result A Error → ReaderState → Type 0
 EndsTaken {A} IsKind octets_of reliable h s result t =
@@ -104,11 +104,11 @@ EndsTaken {A} IsKind octets_of reliable h s result t =
     → s.depth + 0 ≤ 64
     → EndsOrLacks (λ e. is_out_of_memory_kind (kind_of e)) false result t
 
--- what is lent by a reader that cannot lend: nothing, and it stays
+-- the result of reading a slice from a reader that cannot return slices: an error, and no change
 abbrev pub unlent_outcome : ReaderState → Outcome (List ℕ)
 unlent_outcome s = outcome_of (Err (error_at Reader (reader_position s))) s
 
--- a type with such a tag is read as it is written
+-- a type with such a tag is lawful: decoding inverts encoding
 pub octets_lawful : {A : Type 0} (tag : Tag) (IsKind : List ℕ → Type 0) (octets_of : A → List ℕ)
     → (label tag).number < 2 ^ 32
     → IsLawful tag (TakesOctets IsKind octets_of) (λ v. IsKind (octets_of v)) octets_of (λ _. 0)
@@ -119,7 +119,7 @@ octets_lawful tag IsKind octets_of numbered =
       numbered = numbered;
     }
 
--- how many octets there are, and what writing answers
+-- the number of octets, and the possible results of writing
 abbrev pub octets_size : {A : Type 0} → (A → List ℕ) → A → Result Length Error
 octets_size octets_of v = Ok (definite_length (length (octets_of v)))
 

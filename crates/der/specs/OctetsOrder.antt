@@ -1,5 +1,5 @@
--- How values of octets are ordered and hashed: `counted_order` and `counted_writes` are those of
--- `BytesOwned`, `octets_order` compares the octets alone.
+-- How byte strings are ordered and hashed: `counted_order` and `counted_writes` are those of
+-- `BytesOwned`; `octets_order` compares the octets alone.
 use Rattle.std.specs.Prelude.{ℕ, false, List, length, ◌++◌, Ok}
 use Rattle.std.specs.Hash as fed
 use Rattle.std.specs.Hash.{HashWrites}
@@ -8,15 +8,15 @@ use Rattle.std.specs.declared.cmp.Ordering.{Ordering}
 use Rattle.der_base.specs.Order.{byte_order}
 use Rattle.der_core.specs.DerOrd.{Compared}
 
--- by how many there are, and as many octet by octet
+-- shorter strings first; equal lengths are compared octet by octet
 abbrev pub counted_order : List ℕ → List ℕ → Ordering
 counted_order a b = ordering_then (nat_cmp (length a) (length b)) (byte_order a b)
 
--- what is answered to two values of which the octets alone are compared; it is never refused
+-- the result of comparing two values by their octets alone; never fails
 abbrev pub octets_order : {A : Type 0} → (A → List ℕ) → A → A → Compared
 octets_order octets_of v w = Ok (byte_order (octets_of v) (octets_of w))
 
--- how many there are, in the definite form, and then all
+-- the fields of a definite `Length` with the number of octets, then the octets
 abbrev pub counted_writes : List ℕ → HashWrites
 counted_writes octets =
     fed.u32 (length octets) ++ (fed.bool false ++ fed.slice fed.u8 octets)

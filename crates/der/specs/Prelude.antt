@@ -1,4 +1,4 @@
--- The words that contracts of callers name most. Each is told in the module that it comes from.
+-- The names that callers' contracts use most. Each is documented in its own module.
 pub use Rattle.der_base.specs.declared.tag.Tag.{Tag}
 pub use Rattle.der_base.specs.declared.tag.Tag.TheVariants.{Boolean, Integer, BitString}
 pub use Rattle.der_base.specs.declared.tag.Tag.TheVariants.{OctetString, Null, ObjectIdentifier}

@@ -1,5 +1,4 @@
--- Texts that are borrowed (`IsBorrowedText`) or in memory of their own: `cow_text` are the octets
--- that a `StringCow` means.
+-- Texts that are borrowed (`IsBorrowedText`) or owned: `cow_text` are the octets of a `StringCow`.
 use Rattle.std.specs.Prelude.{ℕ, List}
 use Rattle.der.specs.StringRef.{reference_text}
 use Rattle.der.specs.StringOwned.{owned_text}

@@ -1,4 +1,4 @@
--- Texts in memory of their own: `owned_text` are the octets that a `StringOwned` means.
+-- Owned texts: `owned_text` are the octets of a `StringOwned`.
 use Rattle.std.specs.Prelude.{ℕ, List}
 use Rattle.std.specs.String.{string_bytes}
 use Rattle.der.specs.declared.string.owned.StringOwned.{StringOwned}

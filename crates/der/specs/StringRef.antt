@@ -1,4 +1,4 @@
--- Texts that are borrowed: `reference_text` are the octets that a `StringRef` means.
+-- Borrowed texts: `reference_text` are the octets of a `StringRef`.
 use Rattle.std.specs.Prelude.{ℕ, List}
 use Rattle.der.specs.declared.string.reference.StringRef.{StringRef}
 

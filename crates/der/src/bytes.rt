@@ -1,4 +1,4 @@
-//! Byte strings: octets that a length can count, borrowed or in memory of their own.
+//! Byte strings of at most 4294967295 octets, borrowed or owned.
 mod cow;
 mod owned;
 mod reference;

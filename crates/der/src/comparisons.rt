@@ -1,5 +1,5 @@
-//! What the derived comparisons, hashes and clones answer. Each function calls one of them, and its
-//! contract is the law; nothing else uses these.
+//! Contracts of the derived comparisons, hashes and clones. Each function calls one of them, and
+//! its contract states the result; nothing else uses these functions.
 mod clones;
 mod equality;
 mod hash;

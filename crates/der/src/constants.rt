@@ -1,11 +1,11 @@
-//! What constants are. Each function answers one of them, and its contract says which; nothing else
-//! uses these.
+//! Contracts of constants. Each function returns one constant, and its contract states the value;
+//! nothing else uses these functions.
 ghost use Rattle.std.specs.Prelude.{◌≡◌, []};
 ghost use Rattle.der.specs.BytesRef.{reference_octets};
 
 use crate::bytes::BytesRef;
 
-/// No octets.
+/// `BytesRef::EMPTY` has no octets.
 fn empty() -> BytesRef<'static>
     ensures { reference_octets result ≡ [] }
 {

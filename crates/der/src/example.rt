@@ -1,4 +1,4 @@
-//! Types that show how a type of one's own is read and written.
+//! Example types that show how to read and write a type of your own.
 mod borrowed_octets;
 mod joined_octets;
 mod my_byte_month;

@@ -1,3 +1,3 @@
-//! Contents of an indefinite length.
+//! Contents that consist of segments.
 
 pub mod indefinite;

@@ -1,8 +1,8 @@
 //! ASN.1 DER: tags, lengths, headers, readers and writers of the Distinguished Encoding Rules
 //! (ITU-T X.690), after the crate `der`.
 //!
-//! This crate has all of `der_base` and `der_core`, whose `specs/` say what each call answers, and
-//! beside them byte strings, texts, and the module [`example`].
+//! This crate re-exports all of `der_base` and `der_core`, whose `specs/` state what each function
+//! returns, and adds byte strings, texts, and the module [`example`].
 #![tactic(auto)]
 
 mod bytes;

@@ -1,4 +1,4 @@
-//! Octets that are copied to memory of their own, and borrowed from it.
+//! Conversions between borrowed octets and boxed ones.
 ghost use Rattle.std.specs.Prelude.{◌≡◌, Ok};
 ghost use Rattle.std.specs.Box.{boxed_slice_items};
 ghost use Rattle.der_core.specs.Outcome.{map_ok};
@@ -8,11 +8,11 @@ use der_base::{Error, ErrorKind};
 use std::alloc::Global;
 use std::boxed::BoxedSlice;
 
-/// A copy of octets.
+/// A copy of the octets in a new box.
 ///
 /// # Errors
 ///
-/// - `OutOfMemory` without a position, where memory is refused.
+/// - `OutOfMemory` without a position, if allocation fails.
 pub fn slice_to_owned(alloc: Global, bytes: &[u8]) -> Result<BoxedSlice<u8>, Error>
     ensures exact { AnswersOrLacks (Ok bytes.now) (map_ok boxed_slice_items result) }
 {
@@ -22,7 +22,7 @@ pub fn slice_to_owned(alloc: Global, bytes: &[u8]) -> Result<BoxedSlice<u8>, Err
     }
 }
 
-/// The octets of a box.
+/// The octets of a box, borrowed.
 pub fn box_to_ref(bytes: &BoxedSlice<u8>) -> &[u8]
     ensures { result.now ≡ boxed_slice_items bytes.now }
 {

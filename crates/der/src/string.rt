@@ -1,4 +1,4 @@
-//! Texts: UTF-8 whose octets a length can count, borrowed or in memory of their own.
+//! Texts in UTF-8 of at most 4294967295 octets, borrowed or owned.
 ghost use Rattle.std.specs.Prelude.{◌≡◌, true, IfOk, IfErr, false};
 ghost use Rattle.std.specs.Str.{is_utf8};
 ghost use Rattle.der_base.specs.Error.{error_of_kind};
@@ -15,7 +15,7 @@ pub use cow::StringCow;
 pub use owned::StringOwned;
 pub use reference::StringRef;
 
-// The text that octets are, where they are UTF-8.
+// The octets as a text; `Utf8` without a position if they are not UTF-8.
 pub(crate) fn text_of(bytes: &[u8]) -> Result<&str, Error>
     ensures ok { IfOk result (λ text. (text.now ≡ bytes.now) × (is_utf8 bytes.now ≡ true)) }
     ensures refused { IfErr result (λ e. (is_utf8 bytes.now ≡ false)

@@ -1,4 +1,4 @@
--- The arcs of an object identifier, as they are told.
+-- Lemmas on decoding the arcs of an OBJECT IDENTIFIER.
 use Rattle.std.proofs.Common.{◌≡◌, ℕ, suc, ◌+◌, ◌-◌, ◌*◌, ◌%◌, ◌<◌, ◌≤◌, ◌==◌, ◌&&◌, Bool, true, false, Option, Some, List, [], ◌∷◌, ◌++◌, length, drop, map, refl, sym, ap, subst, ◌∙◌, nat_lt, if◌then◌else◌, slice_index_or, ⊎_elim, append_assoc, add-one, arith}
 use Rattle.std.proofs.Math.Seq.{drop-cons}
 use Rattle.std.proofs.lemmas.List.{drop_all, map-append}
@@ -11,14 +11,14 @@ use Rattle.der.specs.Tag.{continuation_octets}
 use Rattle.der_asn1.specs.Forms.{ends_subidentifiers, oid_form}
 use Rattle.der_asn1.specs.Arcs.{subidentifiers, told_number, IsFirstNumber, subidentifier_octets, oid_octets, arcs_of, first_arc}
 
--- the digits so far make n, and the others follow
+-- the digits read so far have the value n, and the rest of the octets continues it
 pub record IsTelling (octets : List ℕ) (number : Option ℕ) (at : ℕ) : Type 0 where
   pub n : ℕ
   pub told : number ≡ told_number n
   pub same : subidentifiers 0 octets ≡ subidentifiers n (drop at octets)
   pub form : ends_subidentifiers (at == 0) (drop at octets) ≡ true
 
--- the first of them is told, and the others stand behind it
+-- the first subidentifier was read, and the others are after it
 pub record IsTold (octets : List ℕ) (number : Option ℕ) (behind : List ℕ) : Type 0 where
   pub n : ℕ
   pub told : number ≡ told_number n
@@ -48,7 +48,7 @@ module _ (octets : List ℕ) (number : Option ℕ) (at o : ℕ) (t : IsTelling o
   step : subidentifiers 0 octets ≡ (if nat_lt o 128 then (t.n * 128 + o) ∷ subidentifiers 0 (drop (at + 1) octets) else subidentifiers (t.n * 128 + (o - 128)) (drop (at + 1) octets))
   step = t.same ∙ ap (subidentifiers t.n) ahead
 
-  -- an octet that is not the last
+  -- after an octet that is not the last of the subidentifier
   pub telling_goes_on : (next : Option ℕ) → 128 ≤ o → ((n : ℕ) → number ≡ told_number n → next ≡ told_number (n * 128 + o % 128)) → IsTelling octets next (at + 1)
   telling_goes_on next more digit =
       let big : nat_lt o 128 ≡ false = le-ltb o 128 more in
@@ -60,7 +60,7 @@ module _ (octets : List ℕ) (number : Option ℕ) (at o : ℕ) (t : IsTelling o
         form = ap (λ b. ends_subidentifiers b (drop (at + 1) octets)) (ne_eqb (at + 1) 0 (λ e. omega arith) ∙ sym big) ∙ form_behind;
       }
 
-  -- the last
+  -- after the last octet of the subidentifier
   pub telling_ends : (next : Option ℕ) → o < 128 → ((n : ℕ) → number ≡ told_number n → next ≡ told_number (n * 128 + o % 128)) → IsTold octets next (drop (at + 1) octets)
   telling_ends next last digit =
       let low : nat_lt o 128 ≡ true = lt-ltb o 128 last in
@@ -79,7 +79,7 @@ telling_stops octets number at t some past =
     let no : (at == 0) ≡ true = ap (ends_subidentifiers (at == 0)) (sym none) ∙ t.form in
     omega (arith, eqb-true at 0 no)
 
--- the octets with another digit
+-- appending a digit to the octets of a subidentifier
 continued_push : (ds : List ℕ) (d : ℕ) → continuation_octets (ds ++ d ∷ []) ≡ map (λ x. 128 + x) ds ++ d ∷ []
 continued_push [] d = refl
 continued_push (x ∷ []) d = refl
@@ -89,7 +89,7 @@ last_digit : (n o : ℕ) → o < 128 → subidentifier_octets (n * 128 + o) ≡ 
 last_digit n o h = ⊎_elim (λ pos. let whole : digits 128 (n * 128 + o) ≡ digits_of 128 n ++ o ∷ [] = digits_positive 128 (n * 128 + o) pos ∙ digits_of_push 128 n o (omega arith) h pos in ap continuation_octets whole ∙ continued_push (digits_of 128 n) o)
     (λ none. let a : n ≡ 0 = omega arith in let b : o ≡ 0 = omega arith in rw (a, b) refl) (cases_lt 0 (n * 128 + o))
 
--- octets are those of the subidentifiers that they are
+-- encoding the decoded subidentifiers gives the same octets
 pub told_again : (n : ℕ) (os : List ℕ) → AllBelowBase 256 os → ends_subidentifiers (n == 0) os ≡ true → flat_map subidentifier_octets (subidentifiers n os) ≡ map (λ x. 128 + x) (digits_of 128 n) ++ os
 told_again n [] below form = let none : n ≡ 0 = eqb-true n 0 form in rw none refl
 told_again n (o ∷ os) below form =
@@ -134,7 +134,7 @@ first_two n = ⊎_elim (λ l. let e : first_arc n ≡ 0 = cond-true (nat_lt n 40
     ⊎_elim (λ l. let f : first_arc n ≡ 1 = e ∙ cond-true (nat_lt n 80) 1 2 (lt-ltb n 80 l) in omega (arith, f, g)) (λ h. let f : first_arc n ≡ 2 = e ∙ cond-false (nat_lt n 80) 1 2 (le-ltb n 80 h) in omega (arith, f, h)) (cases_lt n 80))
     (cases_lt n 40)
 
--- the contents of the arcs that contents are, are those contents
+-- encoding the decoded arcs gives the same contents
 pub arcs_again : (octets : List ℕ) → AllBelowBase 256 octets → oid_form octets ≡ true → oid_octets (arcs_of (subidentifiers 0 octets)) ≡ octets
 arcs_again [] below form = refl
 arcs_again (o ∷ os) below form = whole (subidentifiers 0 (o ∷ os)) ∙ told_again 0 (o ∷ os) below form

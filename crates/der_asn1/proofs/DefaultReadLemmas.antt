@@ -1,4 +1,4 @@
--- Fields that are absent where they have the default, as they are read.
+-- Lemmas on reading DEFAULT fields.
 use Rattle.std.proofs.Common.{◌≡◌, ℕ, ◌+◌, ◌≤◌, Bool, true, false, Option, Some, None, Ok, Err, inl, inr, List, refl, sym, ap, subst, ◌∙◌}
 use Rattle.der.specs.HeaderGrammar.{TagAhead}
 use Rattle.der.specs.Tag.{IdentifierFault}
@@ -15,7 +15,7 @@ use Rattle.der_asn1.specs.Optional.{OptionAhead}
 use Rattle.der_asn1.specs.Default.{DefaultAhead, absent, present}
 use Rattle.der_asn1.proofs.OptionalReadLemmas.{absent_at_end, no_tag_no_field, absent_before, no_tag_in_nothing, peeked}
 
--- what stands ahead, as an optional value
+-- what is next, as an optional value
 record Seen {A : Type 0} (tags : Tag → Type 0) (is_default : A → Bool) (Ahead : A → EncodingRules → List ℕ → ℕ → Type 0) (rules : EncodingRules) (octets : List ℕ) (m : ℕ) : Type 0 where
   pub value : Option A
   pub ahead : OptionAhead tags Ahead value rules octets m
@@ -40,7 +40,7 @@ module _ {A : Type 0} (tags : Tag → Type 0) (is_default : A → Bool) (Ahead :
   pub default_before : {reliable : Bool} {t : Tag} (v : A) (m : ℕ) → Peeks TagAhead IdentifierFault reliable s (Ok t) → (tags t → ⊥) → DefaultAhead tags is_default Ahead v s.rules (rest_of s) m → m ≡ 0
   default_before v m p not h = let one = seen h in absent_before tags Ahead begins s one.value m p not one.ahead
 
-  -- where one of its tags stands, a value does, which is not the default under DER
+  -- if one of its tags is next, so is a value, which under DER is not the default
   pub record Written (v : A) (m : ℕ) : Type 0 where
     pub other : s.rules ≡ Der → is_default v ≡ false
     pub ahead : Ahead v s.rules (rest_of s) m
@@ -61,7 +61,7 @@ module _ {A : Type 0} (tags : Tag → Type 0) (is_default : A → Bool) (Ahead :
       pub default_reads : ReadsOrLacks {E = E} oom takes s m (Ok a) t
       default_reads = inl (refl, default_moves)
 
-      -- what was read of a field that stands ahead is not a default that is written under DER
+      -- under DER a value that was read from a valid field is not the default
       pub default_not_written : ((x w : A) (rules : EncodingRules) (octets : List ℕ) (k n : ℕ) → Ahead x rules octets k → Ahead w rules octets n → is_default x ≡ is_default w)
           → (s.failed ≡ false → t.failed ≡ false → Passes (Ahead a) s t) → t.rules ≡ Der → is_default a ≡ true → ⊥
       default_not_written told ok der d =
@@ -71,7 +71,7 @@ module _ {A : Type 0} (tags : Tag → Type 0) (is_default : A → Bool) (Ahead :
           let rules : s.rules ≡ Der = sym (ap (λ (x : ReaderState). x.rules) default_moves) ∙ der in
           (let no : true ≡ false = sym d ∙ sym same ∙ there.other rules in cc)
 
--- of two tests not both
+-- if two conditions exclude each other and the first holds, the second does not
 pub not_default : (P : Type 0) (b : Bool) → (P → b ≡ true → ⊥) → P → b ≡ false
 not_default P true f p = absurd (f p refl)
 not_default P false f p = refl

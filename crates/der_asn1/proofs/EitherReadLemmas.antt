@@ -1,4 +1,4 @@
--- A CHOICE of two, as it is read.
+-- Lemmas on reading a CHOICE of two types.
 use Rattle.std.proofs.Common.{◌≡◌, ℕ, ◌+◌, ◌≤◌, ◌⊎◌, inl, inr, ◌||◌, max, Bool, true, false, Ok, Err, List, refl, sym, ap, subst, arith}
 use Rattle.der.specs.HeaderGrammar.{TagAhead}
 use Rattle.der.specs.Tag.{IdentifierFault}
@@ -15,7 +15,7 @@ use Rattle.der_asn1.specs.declared.either.Either.TheVariants.{First, Second}
 use Rattle.der_asn1.proofs.OptionalReadLemmas.{peeked}
 use Rattle.der_asn1.proofs.DefaultReadLemmas.{tag_not_absent}
 
--- a tag of one of two sets is not of neither
+-- a tag that belongs to neither of two sets does not belong to their union
 of_neither : (f g : Tag → Type 0) (t : Tag) → (f t → ⊥) → (g t → ⊥) → either_tags f g t → ⊥
 of_neither f g t not nor (inl h) = not h
 of_neither f g t not nor (inr h) = nor h
@@ -25,7 +25,7 @@ module _ {A B : Type 0} (one_tags two_tags : Tag → Type 0) (One : A → Encodi
     (one_begins : (v : A) (rules : EncodingRules) (octets : List ℕ) (m : ℕ) → One v rules octets m → TagIn one_tags rules octets)
     (two_begins : (v : B) (rules : EncodingRules) (octets : List ℕ) (m : ℕ) → Two v rules octets m → TagIn two_tags rules octets)
     (s : ReaderState) (v : Either A B) (m : ℕ) (h : EitherAhead one_tags One Two v s.rules (rest_of s) m) where
-  -- where no tag is read, or that of neither, none stands
+  -- if no tag can be read, or the tag belongs to neither type, no value of the CHOICE is next
   pub no_tag_neither : {reliable : Bool} {e : Error} → reliable ≡ true → s.failed ≡ false → Peeks TagAhead IdentifierFault reliable s (Err e) → ⊥
   no_tag_neither reliable working p = not_refused tag_grammar (p.1.refused reliable) working (either_begins one_begins two_begins v s.rules (rest_of s) m h).ahead
 
@@ -34,7 +34,7 @@ module _ {A B : Type 0} (one_tags two_tags : Tag → Type 0) (One : A → Encodi
       let b = either_begins one_begins two_begins v s.rules (rest_of s) m h in
       of_neither one_tags two_tags t not nor (subst (either_tags one_tags two_tags) (one_tag b.ahead (peeked p)).0 b.among)
 
-  -- where a tag of the first is read, the first does; else the second
+  -- if a tag of the first type is next, so is a value of it; else a value of the second
   pub first_stands : {reliable : Bool} {t : Tag} → Peeks TagAhead IdentifierFault reliable s (Ok t) → one_tags t → (a : A) × One a s.rules (rest_of s) m
   first_stands p is = go v h
     where
@@ -49,7 +49,7 @@ module _ {A B : Type 0} (one_tags two_tags : Tag → Type 0) (One : A → Encodi
       go (First a) h = (let b = one_begins a s.rules (rest_of s) m h in absurd (not (subst one_tags (one_tag b.ahead (peeked p)).0 b.among)))
       go (Second b) h = (b, h.0)
 
--- what one of two promises, both do
+-- a flag of one type is a flag of the CHOICE
 first_or : (a b : Bool) → a ≡ true → (a || b) ≡ true
 first_or true b e = refl
 first_or false b e = absurd (let no : false ≡ true = e in cc)
@@ -67,13 +67,13 @@ second_lacks X C oom a b s t m h = let l = lacks_only X oom s t m h in inr (seco
 pub either_reads : {X C E : Type 0} (oom : E → Bool) (a b : Bool) (s t : ReaderState) (m : ℕ) (x : X) (c : C) → ReadsOrLacks {E = E} oom a s m (Ok x) t → ReadsOrLacks {E = E} oom b s m (Ok c) t
 either_reads {E = E} oom a b s t m x c h = inl (refl, read_on E oom s m x h)
 
--- what the second passes, behind a tag that is not of the first
+-- reading a value of the second type after checking that the next tag is none of the first type
 pub second_passes : {A B : Type 0} (tags : Tag → Type 0) (One : A → EncodingRules → List ℕ → ℕ → Type 0) (Two : B → EncodingRules → List ℕ → ℕ → Type 0) (s t : ReaderState) (v : B) {reliable : Bool} {u : Tag}
     → Peeks TagAhead IdentifierFault reliable s (Ok u) → (tags u → ⊥) → Passes (Two v) s t → Passes (EitherAhead tags One Two (Second v)) s t
 second_passes tags One Two s t v {u = u} p not passed =
     record { octets = passed.octets; working = passed.working; ahead = (passed.ahead, other u _ (peeked p) not); there = passed.there; leaves = passed.leaves }
 
--- the levels of both are enough for each
+-- the levels needed for both types are enough for each
 pub first_deep : (f g : EncodingRules → ℕ) (s : ReaderState) → s.depth + fields_levels f g s.rules ≤ 64 → s.depth + f s.rules ≤ 64
 first_deep f g s deep = omega (arith, deep)
 

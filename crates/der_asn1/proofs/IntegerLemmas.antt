@@ -1,4 +1,4 @@
--- Digits of integers.
+-- Lemmas on the digits of integers.
 use Rattle.std.proofs.Common.{◌≡◌, ℕ, suc, ◌+◌, ◌-◌, ◌*◌, ◌/◌, ◌%◌, ◌^◌, ◌<◌, ◌≤◌, ⊎_elim, Bool, true, false, List, [], ◌∷◌, ◌++◌, length, drop, map, refl, sym, ap, subst, ◌∙◌, append_assoc, append-nil, length-set, nat_lt, if◌then◌else◌, arith}
 use Rattle.std.proofs.Math.ListN.{set}
 use Rattle.std.proofs.Math.Nat.{pow-suc}
@@ -12,7 +12,7 @@ pub map-append : {A B : Type 0} (f : A → B) (xs ys : List A) → map f (xs ++ 
 map-append f [] ys = refl
 map-append f (x ∷ xs) ys = ap (λ l. f x ∷ l) (map-append f xs ys)
 
--- a buffer holds the last digits of a number, and what is left of it fits before them
+-- a buffer holds the last digits of a number, and there is space for the remaining ones before them
 pub record IsBuilding (negative : Bool) (n : ℕ) (octets : List ℕ) (start left : ℕ) : Type 0 where
   pub some : 1 ≤ start
   pub inside : start ≤ 9
@@ -24,7 +24,7 @@ pub building_begins : (negative : Bool) (n : ℕ) (octets : List ℕ) → n < 2 
 building_begins negative n octets h size none =
     record { some = omega arith; inside = omega arith; room = omega arith; size = size; digits = sym (ap (λ l. map (turned negative) (digits_of 256 n) ++ l) none ∙ append-nil _) }
 
--- where something is left there is room
+-- if digits remain, there is space for one
 pub building_room : {negative : Bool} {n : ℕ} {octets : List ℕ} {start left : ℕ} → IsBuilding negative n octets start left → 0 < left → 2 ≤ start
 building_room {start = start} {left = left} b h = ⊎_elim (λ l. l) (λ g. absurd (let one : start ≡ 1 = omega (arith, b.some) in let r : left < 256 ^ 0 = subst (λ s. left < 256 ^ (s - 1)) one b.room in omega arith)) (cases_lt 1 start)
 
@@ -43,14 +43,14 @@ building_goes_on {negative} {n} {octets} {start} {left} d b pos is =
       digits = b.digits ∙ ap (λ l. l ++ drop start octets) step ∙ append_assoc (map (turned negative) (digits_of 256 (left / 256))) (d ∷ []) (drop start octets) ∙ ap (λ l. map (turned negative) (digits_of 256 (left / 256)) ++ l) (sym shown);
     }
 
--- the first bit of digits, as they are and turned
+-- the first bit of digits, unchanged and inverted
 sign_of_digit : (negative : Bool) (o : ℕ) (os : List ℕ) → o < 256 → has_sign negative (turned negative o ∷ os) ≡ nat_lt o 128
 sign_of_digit false o os h = refl
 sign_of_digit true o os h =
     ⊎_elim (λ l. let a : nat_lt o 128 ≡ true = lt-ltb o 128 l in let b : nat_lt (255 - o) 128 ≡ false = le-ltb (255 - o) 128 (omega arith) in rw (a, b))
     (λ g. let a : nat_lt o 128 ≡ false = le-ltb o 128 g in let b : nat_lt (255 - o) 128 ≡ true = lt-ltb (255 - o) 128 (omega arith) in rw (a, b)) (cases_lt o 128)
 
--- digits with the bit are contents, and others with an octet ahead
+-- digits that begin with the sign bit are contents; others are so with one more octet before them
 pub digits_signed : (negative : Bool) (ds xs : List ℕ) → AllBelowBase 256 ds → map (turned negative) ds ≡ xs → has_sign negative xs ≡ true → xs ≡ map (turned negative) (with_first_bit ds)
 digits_signed negative [] xs below e sign = absurd (let no = rw (sym e) at sign in cc)
 digits_signed negative (o ∷ os) xs below e sign =

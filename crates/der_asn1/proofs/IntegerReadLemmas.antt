@@ -1,4 +1,4 @@
--- Contents of integers, as numbers.
+-- Lemmas on the contents of integers as numbers.
 use Rattle.std.proofs.Common.{◌≡◌, ◌≢◌, ℕ, zero, suc, ◌+◌, ◌-◌, ◌*◌, ◌^◌, ◌<◌, ◌≤◌, ⊎_elim, Bool, true, false, not, ◌&&◌, ◌||◌, List, [], ◌∷◌, ◌++◌, length, take, drop, map, refl, sym, ap, subst, ◌∙◌, nat_lt, nat_eq, if◌then◌else◌, slice_index_or, arith, ℤ, pos, negsuc}
 use Rattle.std.proofs.Math.Seq.{drop-cons}
 use Rattle.std.proofs.lemmas.Bool.{cases_lt, lt-ltb, le-ltb, ne_eqb, eq-eqb}
@@ -11,7 +11,7 @@ use Rattle.std.proofs.Common.{FitsSigned, w64}
 use Rattle.std.proofs.lemmas.Int.{ints}
 use Rattle.der_asn1.specs.Integer.{signed_form, unsigned_form, signed_octets, turned, with_first_bit, integer_octets, is_negative, magnitude}
 
--- a number so far that has no room for another digit is too large
+-- a number that is already too large for another digit exceeds the limit
 pub no_room : (f : ℕ → ℕ) (xs : List ℕ) (i : ℕ) → i < length xs → 2 ^ 56 ≤ number_from_digits 256 (map f (take i xs)) → number_from_digits 256 (map f xs) < 2 ^ 64 → ⊥
 no_room f xs i h large small =
     let split : map f xs ≡ map f (take i xs) ++ map f (drop i xs) = ap (map f) (sym (take-append-drop i xs)) ∙ map-append f (take i xs) (drop i xs) in
@@ -21,7 +21,7 @@ no_room f xs i h large small =
     let most = number_after_ge 256 (number_from_digits 256 (map f (take i xs)) * 256 + f (slice_index_or xs i 0)) (map f (drop (suc i) xs)) (omega arith) in
     omega (arith, whole, most)
 
--- one digit more
+-- appending one digit
 pub next_digit : (f : ℕ → ℕ) (xs : List ℕ) (i number : ℕ) → i < length xs → number ≡ number_from_digits 256 (map f (take i xs)) → number * 256 + f (slice_index_or xs i 0) ≡ number_from_digits 256 (map f (take (i + 1) xs))
 next_digit f xs i number h e =
     ap (λ n. n * 256 + f (slice_index_or xs i 0)) e ∙ sym (number_push 256 (map f (take i xs)) (f (slice_index_or xs i 0)))
@@ -30,7 +30,7 @@ next_digit f xs i number h e =
 pub next_below : (xs : List ℕ) (i : ℕ) → i < length xs → slice_index_or xs i 0 < 256 → AllBelowBase 256 (take i xs) → AllBelowBase 256 (take (i + 1) xs)
 next_below xs i h o below = subst (AllBelowBase 256) (sym (take_more xs i 0 h)) (all_below_push 256 (take i xs) (slice_index_or xs i 0) below o)
 
--- bits turned twice are as they were
+-- inverting bits twice gives the same bits
 pub turned_twice : (negative : Bool) (ds : List ℕ) → AllBelowBase 256 ds → map (turned negative) (map (turned negative) ds) ≡ ds
 turned_twice negative [] h = refl
 turned_twice false (o ∷ os) h = ap (λ l. o ∷ l) (turned_twice false os h.1)
@@ -62,7 +62,7 @@ swapped false true false = refl
 swapped false false true = refl
 swapped false false false = refl
 
--- the form is the same where all bits are turned
+-- inverting all bits of valid INTEGER contents gives valid contents
 pub form_turned : (negative : Bool) (ds : List ℕ) → AllBelowBase 256 ds → integer_form (map (turned negative) ds) ≡ integer_form ds
 form_turned negative [] h = refl
 form_turned negative (o ∷ []) h = refl
@@ -81,7 +81,7 @@ negative_turned true o h = ap not (turned_small o h) ∙ twice (nat_lt o 128)
     twice true = refl
     twice false = refl
 
--- digits of a form that do not begin with a one are the contents of their number
+-- valid contents whose first bit is zero are the contents of their number
 pub digits_made : (ds : List ℕ) → AllBelowBase 256 ds → integer_form ds ≡ true → is_negative ds ≡ false → with_first_bit (digits_of 256 (number_from_digits 256 ds)) ≡ ds
 digits_made [] h form sign = absurd (let no : false ≡ true = form in cc)
 digits_made (zero ∷ []) h form sign = refl
@@ -109,14 +109,14 @@ turned_first (o ∷ os) h = negative_turned (not (nat_lt o 128)) o h.0 ∙ never
     never true = refl
     never false = refl
 
--- contents are those of their number
+-- valid contents are the contents of their number
 pub contents_made : (octets : List ℕ) → AllBelowBase 256 octets → integer_form octets ≡ true → integer_octets (is_negative octets) (magnitude octets) ≡ octets
 contents_made octets h form =
     let negative = is_negative octets in
     ap (map (turned negative)) (digits_made (map (turned negative) octets) (turned_below negative octets h) (form_turned negative octets h ∙ form) (turned_first octets h))
     ∙ turned_twice negative octets h
 
--- a number's contents have the form, its sign, and its digits
+-- the contents of a number are valid, and have its sign and its digits
 with_below : (ds : List ℕ) → AllBelowBase 256 ds → AllBelowBase 256 (with_first_bit ds)
 with_below [] h = (omega arith, tt)
 with_below (o ∷ os) h = go (nat_lt o 128)
@@ -191,7 +191,7 @@ module _ (negative : Bool) (n : ℕ) where
 both_true : (b c : Bool) → b ≡ true → c ≡ true → (b && c) ≡ true
 both_true b c q r = rw (q, r)
 
--- the contents of numbers below a limit have the form
+-- the contents of numbers below a limit are valid
 pub made_signed : (negative : Bool) (n limit : ℕ) → n < limit → signed_form limit (integer_octets negative n) ≡ true
 made_signed negative n limit h = both_true (integer_form (integer_octets negative n)) (nat_lt (magnitude (integer_octets negative n)) limit) (made_form negative n) (ap (λ k. nat_lt k limit) (made_number negative n) ∙ lt-ltb n limit h)
 

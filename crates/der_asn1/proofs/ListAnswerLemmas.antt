@@ -1,10 +1,10 @@
--- Walks over elements, by what each is answered.
+-- Lemmas on reading lists, from the results of their elements.
 use Rattle.std.proofs.Common.{◌+◌, ◌<◌, ◌^◌, Bool, true, false, nat_le, take, length, length-take, refl, ap, arith, ◌≡◌, Result, Ok, subst, List, ℕ, [], ◌++◌}
 use Rattle.der.specs.Prelude.{Error, ReaderState, rest_of, IsBefore}
 use Rattle.der.specs.Prelude.{Gives, read_slice_outcome}
 use Rattle.der_asn1.specs.ListAnswers.{ItemAnswer, WalkAnswer, SetAnswer}
 
--- octets that are lent can be counted
+-- the length of a slice returned by a reader fits in a `Length`
 pub lent_short : (n : ℕ) (s t : ReaderState) (octets : List ℕ) → n < 2 ^ 32 → Gives (read_slice_outcome n) s (Ok octets) t → length octets < 2 ^ 32
 lent_short n s t octets few g = go s.failed refl (nat_le (s.position + n) s.end) refl
   where
@@ -16,7 +16,7 @@ lent_short n s t octets few g = go s.failed refl (nat_le (s.position + n) s.end)
         let one : octets ≡ take n (rest_of s) = cc in
         omega (arith, ap length one, length-take n (rest_of s), few)
 
--- whatever is answered behind the elements so far is answered of all
+-- a result for the elements after those read so far is a result for all
 pub record IsWholeWalk {T E : Type 0} (converts : Error → E → Type 0)
     (reads : ReaderState → Result T E → ReaderState → Type 0) (first s : ReaderState) : Type 0 where
   pub whole : (result : Result (Unit {0}) E) → WalkAnswer converts reads result s

@@ -1,4 +1,4 @@
--- Fields that may be absent, as they are read.
+-- Lemmas on reading OPTIONAL fields.
 use Rattle.std.proofs.Common.{◌≡◌, ℕ, ◌+◌, ◌-◌, ◌≤◌, inl, inr, Bool, true, false, Option, Some, None, Ok, Err, List, [], ◌++◌, length, take, drop, refl, sym, ap, subst, ◌∙◌, length-append, nat_lt, arith}
 use Rattle.der.specs.HeaderGrammar.{TagAhead}
 use Rattle.der.specs.Tag.{label, IdentifierFault, IsIdentifier, of_tag, of_segments}
@@ -11,7 +11,7 @@ use Rattle.der.proofs.StateLemmas.{length-rest}
 use Rattle.der_asn1.specs.Follow.{TagIn, NoTagIn, nothing, other}
 use Rattle.der_asn1.specs.Optional.{OptionAhead}
 
--- a tag has octets
+-- a tag is not empty
 pub tag_some : (t : Tag) → 1 ≤ length (tag_octets t)
 tag_some t = go (nat_lt (label t).number 31) refl
   where
@@ -23,7 +23,7 @@ identifier_some : {rules : EncodingRules} {id : List ℕ} {t : Tag} {b : Bool} �
 identifier_some (of_tag {t = t} h) = tag_some t
 identifier_some of_segments = omega arith
 
--- no tag stands in nothing
+-- no tag is next without octets
 pub no_tag_in_nothing : {t : Tag} {rules : EncodingRules} {octets : List ℕ} {m : ℕ} → TagAhead t rules octets m → octets ≡ [] → ⊥
 no_tag_in_nothing {t} {rules} {octets} {m} h none = go (identifier_view h.1)
   where
@@ -37,7 +37,7 @@ rest_at_end s e = let none : s.end - s.position ≡ 0 = omega arith in ap (λ n.
 pub rest_before_end : (s : ReaderState) → IsSound s → (s.end ≡ s.position → ⊥) → rest_of s ≡ [] → ⊥
 rest_before_end s sound not e = not (omega (arith, sound.ordered, length-rest s sound, ap length e))
 
--- nothing is passed
+-- no octets are consumed
 pub stays_there : (s : ReaderState) (m : ℕ) → m ≡ 0 → s ≡ advanced_state s m
 stays_there s m e = let sum : s.position ≡ s.position + m = omega arith in ap (λ p. record s { position = p }) sum
 
@@ -48,12 +48,12 @@ pub peeked : {reliable : Bool} {s : ReaderState} {t : Tag} (p : Peeks TagAhead I
 peeked p = p.1.ok.ahead
 
 module _ {A : Type 0} (tags : Tag → Type 0) (Ahead : A → EncodingRules → List ℕ → ℕ → Type 0) (begins : (v : A) (rules : EncodingRules) (octets : List ℕ) (m : ℕ) → Ahead v rules octets m → TagIn tags rules octets) (s : ReaderState) where
-  -- no value ends the octets
+  -- at the end there is no value
   pub absent_at_end : (o : Option A) (m : ℕ) → s.end ≡ s.position → OptionAhead tags Ahead o s.rules (rest_of s) m → m ≡ 0
   absent_at_end None m e h = h.0
   absent_at_end (Some v) m e h = absurd (no_tag_in_nothing (begins v s.rules (rest_of s) m h).ahead (rest_at_end s e))
 
-  -- where no tag is read no field stands
+  -- if no tag can be read, the field is not next
   pub no_tag_no_field : {reliable : Bool} {e : Error} (o : Option A) (m : ℕ) → IsSound s → (s.end ≡ s.position → ⊥) → reliable ≡ true → s.failed ≡ false → Peeks TagAhead IdentifierFault reliable s (Err e)
       → OptionAhead tags Ahead o s.rules (rest_of s) m → ⊥
   no_tag_no_field (Some v) m sound not reliable working p h = not_refused tag_grammar (p.1.refused reliable) working (begins v s.rules (rest_of s) m h).ahead
@@ -63,12 +63,12 @@ module _ {A : Type 0} (tags : Tag → Type 0) (Ahead : A → EncodingRules → L
       go (nothing e) = rest_before_end s sound not e
       go (other t n ahead apart) = not_refused tag_grammar (p.1.refused reliable) working ahead
 
-  -- where another tag stands, no value does
+  -- if another tag is next, there is no value
   pub absent_before : {reliable : Bool} {t : Tag} (o : Option A) (m : ℕ) → Peeks TagAhead IdentifierFault reliable s (Ok t) → (tags t → ⊥) → OptionAhead tags Ahead o s.rules (rest_of s) m → m ≡ 0
   absent_before None m p not h = h.0
   absent_before (Some v) m p not h = let b = begins v s.rules (rest_of s) m h in absurd (not (subst tags (one_tag b.ahead (peeked p)).0 b.among))
 
-  -- where one of its tags stands, a value does
+  -- if one of its tags is next, so is a value
   pub present_before : {reliable : Bool} {t : Tag} (o : Option A) (m : ℕ) → Peeks TagAhead IdentifierFault reliable s (Ok t) → tags t → OptionAhead tags Ahead o s.rules (rest_of s) m → (v : A) × Ahead v s.rules (rest_of s) m
   present_before {t = t} None m p is h = absurd (go h.1)
     where

@@ -1,4 +1,4 @@
--- Elements of one type, one behind the other, as they are read.
+-- Lemmas on reading elements of one type in sequence.
 use Rattle.std.proofs.Common.{◌≡◌, ℕ, ◌+◌, ◌-◌, ◌<◌, ◌≤◌, Bool, true, false, Ok, Err, inl, inr, List, [], ◌∷◌, ◌++◌, length, refl, sym, ap, subst, ◌∙◌, length-append, nat_le, take, arith}
 use Rattle.std.proofs.lemmas.Grind.{not_there}
 use Rattle.std.proofs.lemmas.List.{take_all}
@@ -23,7 +23,7 @@ use Rattle.der.specs.Prelude.{SliceReader}
 use Rattle.der_asn1.proofs.OptionalReadLemmas.{rest_at_end, tag_some}
 use Rattle.der_asn1.specs.SequenceOf.{IsListOf, IsAtItem, AllValid, joined_encodings}
 
--- a list that is not empty: one, and others behind it
+-- a list that is not empty: its first element and the rest
 pub record IsCons {A : Type 0} (valid : A → Type 0) (encoding : A → List ℕ) (octets : List ℕ) : Type 0 where
   pub first : A
   pub others : List ℕ
@@ -45,7 +45,7 @@ pub nil : {A : Type 0} (valid : A → Type 0) (encoding : A → List ℕ) {octet
 nil valid encoding e = record { items = []; are_valid = tt; joined = e }
 
 module _ {A : Type 0} {tag : Tag} {takes : A → EncodingRules → Head → List ℕ → Type 0} {valid : A → Type 0} {contents : A → List ℕ} {levels : EncodingRules → ℕ} (laws : IsLawful tag takes valid contents levels) (s : ReaderState) (sound : IsSound s) (at : IsAtItem s) where
-  -- an element that was passed
+  -- an element that was read
   pub item_passed : (v : A) (t : ReaderState) → Passes (ElementAhead tag takes v) s t → valid v × Reads s t (element_octets tag (contents v))
   item_passed v t passed = passed_encodings (elements_are_encodings laws) s t v at.der passed
 
@@ -53,7 +53,7 @@ module _ {A : Type 0} {tag : Tag} {takes : A → EncodingRules → Head → List
     pub first : IsCons valid (λ v. element_octets tag (contents v)) (rest_of s)
     first = uncons l some
 
-    -- the first of a list stands ahead
+    -- the first element of the list is next
     pub item_ahead : ElementAhead tag takes first.first s.rules (rest_of s) (length (element_octets tag (contents first.first)))
     item_ahead =
         subst (λ r. ElementAhead tag takes first.first r (rest_of s) (length (element_octets tag (contents first.first)))) (sym at.der)
@@ -63,7 +63,7 @@ module _ {A : Type 0} {tag : Tag} {takes : A → EncodingRules → Head → List
     deep_enough = omega (arith, laws.shallow, at.outside, ap levels at.der)
 
     module _ {E : Type 0} (oom : E → Bool) (allocates : Bool) (t : ReaderState) where
-      -- a refusal says that memory was refused
+      -- the only possible error is an allocation failure
       pub item_lacks : (e : E) → ((v : A) (m : ℕ) → s.failed ≡ false → ElementAhead tag takes v s.rules (rest_of s) m → s.depth + element_levels levels s.rules ≤ 64 → ReadsOrLacks {A = A} oom allocates s m (Err e) t) → SucceedsOrLacks {A = A} oom allocates (Err e)
       item_lacks e owed = inr (lacks_only A oom s t _ (owed first.first (length (element_octets tag (contents first.first))) at.working item_ahead deep_enough))
 
@@ -71,7 +71,7 @@ module _ {A : Type 0} {tag : Tag} {takes : A → EncodingRules → Head → List
         there : t ≡ advanced_state s (length (element_octets tag (contents first.first)))
         there = read_on E oom s (length (element_octets tag (contents first.first))) a (owed first.first (length (element_octets tag (contents first.first))) at.working item_ahead deep_enough)
 
-        -- the reader has not failed, and stands before the others
+        -- the reader has not failed, and the rest of the list is next
         pub item_working : t.failed ≡ false
         item_working = ap (λ (x : ReaderState). x.failed) there ∙ at.working
 
@@ -83,7 +83,7 @@ module _ {A : Type 0} {tag : Tag} {takes : A → EncodingRules → Head → List
 pub slice_sound : (r : SliceReader) → IsSound (slice_state r)
 slice_sound r = record { ordered = r.ordered; in_input = r.in_input; addressable = r.addressable; shallow = r.shallow; marked = λ failed. refl }
 
--- behind an element that was read a reader stands before others
+-- after an element a reader is again at an element
 pub still_at_item : {s t : ReaderState} {octets : List ℕ} → IsAtItem s → Reads s t octets → IsAtItem t
 still_at_item at r =
     record {
@@ -92,7 +92,7 @@ still_at_item at r =
       outside = ap (λ (x : ReaderState). x.depth) r.state ∙ at.outside;
     }
 
--- less is left
+-- fewer octets are left
 pub item_smaller : (s t : ReaderState) (tag : Tag) (contents : List ℕ) → IsSound t → Reads s t (element_octets tag contents) → t.end - t.position < s.end - s.position
 item_smaller s t tag contents sound r =
     let some = tag_some tag in
@@ -101,7 +101,8 @@ item_smaller s t tag contents sound r =
     let end : t.end ≡ s.end = ap (λ (x : ReaderState). x.end) r.state in
     omega (arith, some, size, place, end, sound.ordered)
 
--- the state of a walk over a list: what is left is a list where the whole is, and makes it one
+-- the state of an iteration over a list: the remaining octets are a list if and only if all octets
+-- are
 pub record IsWalking {A : Type 0} (valid : A → Type 0) (encoding : A → List ℕ) (octets : List ℕ) (s : ReaderState) : Type 0 where
   pub at : IsAtItem s
   pub back : IsListOf valid encoding (rest_of s) → IsListOf valid encoding octets
@@ -123,7 +124,7 @@ goes_on_walking v w is r keeps = record { at = still_at_item w.at r; back = λ l
 pub ends_walking : {A : Type 0} {valid : A → Type 0} {encoding : A → List ℕ} {octets : List ℕ} (s : ReaderState) → IsWalking valid encoding octets s → s.end ≡ s.position → IsListOf valid encoding octets
 ends_walking {valid = valid} {encoding} s w e = w.back (nil valid encoding (rest_at_end s e))
 
--- a refusal of memory is one of a type that takes it
+-- an allocation failure occurs only for a type that allocates
 pub lacks_takes : {E : Type 0} (oom : E → Bool) (takes : Bool) (e : E) → SucceedsOrLacks {A = E} oom takes (Err e) → (takes ≡ true) × (oom e ≡ true)
 lacks_takes oom takes e (inl h) = absurd (let no : false ≡ true = h in cc)
 lacks_takes oom takes e (inr h) = h
@@ -136,7 +137,7 @@ pub lacks_merely : {E P : Type 0} (oom : E → Bool) (takes : Bool) (e : E) → 
 lacks_merely oom takes e t f =
     (stable_true takes (λ no. not_there t (λ p. no (lacks_takes oom takes e (f p)).0)), stable_true (oom e) (λ no. not_there t (λ p. no (lacks_takes oom takes e (f p)).1)))
 
--- what is lent of all that is left
+-- a slice of all remaining octets
 pub lent_all : (n : ℕ) (s t : ReaderState) (octets : List ℕ) → Gives (read_slice_outcome n) s (Ok octets) t → length (rest_of s) ≡ n → octets ≡ rest_of s
 lent_all n s t octets g size = go s.failed refl (nat_le (s.position + n) s.end) refl
   where

@@ -1,4 +1,4 @@
--- Elements in the order of their encodings, as they are read.
+-- Lemmas on reading elements in ascending order.
 use Rattle.std.proofs.Common.{◌≡◌, ℕ, ◌-◌, List, [], ◌∷◌, ◌++◌, length, refl, sym, ap, subst, ◌∙◌, take, length-append, arith}
 use Rattle.std.proofs.Math.Seq.{take-append_seam}
 use Rattle.der.specs.Prelude.{Tag, element_octets, IsBefore, ReaderState, rest_of, Reads, Der}
@@ -10,7 +10,7 @@ use Rattle.der_asn1.specs.SetOf.{Ascend, IsSetBehind, IsElement, AreAscending}
 use Rattle.der_asn1.proofs.SequenceOfLemmas.{still_at_item}
 use Rattle.der_asn1.proofs.OptionalReadLemmas.{rest_at_end}
 
--- the octets of an element that was read are those that are no longer left
+-- the octets of an element that was read are those before the remaining ones
 pub octets_between : (ahead element behind : List ℕ) → ahead ≡ element ++ behind → take (length ahead - length behind) ahead ≡ element
 octets_between ahead element behind e =
     let size : length ahead - length behind ≡ length element = omega (arith, ap length e, length-append element behind) in
@@ -20,12 +20,12 @@ no_front : (a b : List ℕ) → a ++ b ≡ [] → a ≡ []
 no_front [] b e = refl
 no_front (o ∷ a) b e = absurd (let size : length (o ∷ (a ++ b)) ≡ 0 = ap length e in omega arith)
 
--- the first of a set, and the others behind it
+-- the first element of a set, and the rest
 pub record IsStep {A : Type 0} (tag : Tag) (valid : A → Type 0) (contents : A → List ℕ) (ahead element behind : List ℕ) : Type 0 where
   pub in_order : IsBefore element ahead → ⊥
   pub behind_it : IsSetBehind valid (λ v. element_octets tag (contents v)) element behind
 
--- the state of a walk over a set, behind an element
+-- the state of an iteration over a set, after an element
 pub record IsSetWalk {A : Type 0} (tag : Tag) (valid : A → Type 0) (contents : A → List ℕ) (octets ahead : List ℕ) (s : ReaderState) : Type 0 where
   pub at : IsAtItem s
   pub back : IsSetBehind valid (λ v. element_octets tag (contents v)) ahead (rest_of s) → AreAscending tag valid contents octets
@@ -72,6 +72,6 @@ module _ {A : Type 0} {tag : Tag} {valid : A → Type 0} {contents : A → List 
   pub set_walk_ends : (octets ahead : List ℕ) (s : ReaderState) → IsSetWalk tag valid contents octets ahead s → s.end ≡ s.position → AreAscending tag valid contents octets
   set_walk_ends octets ahead s w e = w.back (record { list = record { items = []; are_valid = tt; joined = rest_at_end s e }; ascend = tt })
 
-  -- an element that comes before the one ahead of it stands in no set
+  -- an element that is smaller than the one before it does not occur in a set
   pub set_walk_stops : (octets ahead element : List ℕ) (s t : ReaderState) → IsSetWalk tag valid contents octets ahead s → IsElement tag valid contents element → Reads s t element → IsBefore element ahead → AreAscending tag valid contents octets → ⊥
   set_walk_stops octets ahead element s t w is r before a = (set_step ahead (rest_of s) element (rest_of t) (w.on a) is r.split).in_order before

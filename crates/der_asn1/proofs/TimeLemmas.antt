@@ -1,4 +1,4 @@
--- Times, as they are read, and as they are written.
+-- Lemmas on reading and writing times.
 use Rattle.std.proofs.Common.{◌≡◌, ℕ, Bool, true, ◌+◌, ◌*◌, ◌/◌, ◌%◌, ◌<◌, ◌≤◌, ◌==◌, ◌&&◌, List, [], ◌∷◌, refl, ap, ◌∙◌, nat_le, if◌then◌else◌, ◌||◌, ⊎_elim, arith}
 use Rattle.std.proofs.lemmas.Bool.{and_parts, ltb-true, leb-true, eq-eqb, cond_both, cases_lt, lt-ltb, le-ltb}
 use Rattle.std.specs.Str.{bytes_eq}
@@ -12,11 +12,11 @@ same_octets : (octets : List ℕ) → bytes_eq octets octets ≡ true
 same_octets [] = refl
 same_octets (o ∷ os) = rw (same_number o) (same_octets os)
 
--- contents of this size that are those of a time that is one
+-- the checks of contents hold together
 pub all_hold : (n size : ℕ) (valid same : Bool) → n ≡ size → valid ≡ true → same ≡ true → ((n == size) && (valid && same)) ≡ true
 all_hold n size valid same e v s = rw (e, v, s, same_number size) refl
 
--- what is known of a time that is one
+-- bounds of the fields of a valid time
 pub record IsBounded (t : DateTime) : Type 0 where
   pub year : t.year < 10000
   pub month : t.month < 13
@@ -52,7 +52,7 @@ bounded t h =
       second = ltb-true t.second 60 i.1;
     }
 
--- two digits tell the number
+-- two decimal digits determine the number
 digits_tell : (n : ℕ) → n < 100 → (48 + n / 10) % 16 * 10 + (48 + n % 10) % 16 ≡ n
 digits_tell n h = omega (arith, h)
 
@@ -63,7 +63,7 @@ same_time : (t : DateTime) (y o d h m s : ℕ) → y ≡ t.year → o ≡ t.mont
     → record { year = y; month = o; day = d; hour = h; minute = m; second = s } ≡ t
 same_time t y o d h m s ey eo ed eh em es = rw (ey, eo, ed, eh, em, es) refl
 
--- the contents of a time tell it
+-- reading the contents of a time gives the time
 pub generalized_told : (t : DateTime) → is_date_time t ≡ true → generalized_reading (generalized_octets t) ≡ t
 generalized_told t is =
     let b = bounded t is in
@@ -83,7 +83,7 @@ utc_told t is =
     same_time t _ _ _ _ _ _ (ap utc_year (last_digits_tell t.year) ∙ same_year t.year (leb-true 1950 t.year u.0) (ltb-true t.year 2050 v.0)) (digits_tell t.month (omega (arith, b.month))) (digits_tell t.day (omega (arith, b.day))) (digits_tell t.hour (omega (arith, b.hour)))
     (digits_tell t.minute (omega (arith, b.minute))) (digits_tell t.second (omega (arith, b.second)))
 
--- the contents of a time have the form
+-- the contents of a time are valid
 pub generalized_formed : (t : DateTime) → is_date_time t ≡ true → generalized_form (generalized_octets t) ≡ true
 generalized_formed t is =
     let told = generalized_told t is in

@@ -1,4 +1,4 @@
--- The forms of further strings (X.690 8.23, X.680 41): `visible_form`, `numeric_form` and
+-- Contents of further string types (X.690 8.23, X.680 41): `visible_form`, `numeric_form` and
 -- `bmp_form`.
 use Rattle.std.specs.Prelude.{ℕ, ◌==◌, ◌&&◌, ◌||◌, not, Bool, true, false, nat_lt, List, [], ◌∷◌}
 use Rattle.std.specs.Prelude.{if◌then◌else◌}
@@ -13,11 +13,12 @@ abbrev pub numeric_form : List ℕ → Bool
 numeric_form [] = true
 numeric_form (o ∷ os) = if nat_lt 47 o && nat_lt o 58 || (o == 32) then numeric_form os else false
 
--- the first octet of one of two codes that stand for a character beyond the plane
+-- the first octet of a surrogate code; two of those encode a character beyond the plane
 abbrev pub is_surrogate : ℕ → Bool
 is_surrogate o = nat_lt 215 o && nat_lt o 224
 
--- codes of two octets each; the octets begin with one, or with the last octet of one
+-- whole codes of two octets without surrogates; `starts` says whether the first octet begins a code
+-- or ends one
 abbrev pub ends_codes : Bool → List ℕ → Bool
 ends_codes starts [] = starts
 ends_codes starts (o ∷ os) = if starts && is_surrogate o then false else ends_codes (not starts) os

@@ -1,5 +1,5 @@
--- Elements whose tag is one of many, as ANY and a CHOICE have it (`AnyElementAhead`), the rows of
--- reading one (`AnyElementRead`), and that such a type is read as it is written (`IsLawfulChoice`).
+-- Elements of types without a fixed tag, such as ANY and CHOICE (`AnyElementAhead`), the possible
+-- results of reading one (`AnyElementRead`), and when such a type is lawful (`IsLawfulChoice`).
 use Rattle.std.specs.Prelude.{◌≡◌, ◌↔◌, ℕ, ◌^◌, ◌<◌, true, List, length, Result, Err}
 use Rattle.der.specs.Arithmetic.{sans_eoc}
 use Rattle.der.specs.ScanGrammar.{BodyFault}
@@ -12,13 +12,13 @@ use Rattle.der.specs.Element.{head_sans_eoc}
 use Rattle.der.specs.Lawful.{definite_head}
 use Rattle.der.specs.Nested.{ValueAnswer}
 
--- an element of some tag, whose contents are taken as the value, with that tag
+-- an element of some tag, whose contents are accepted as the value under that tag
 pub record AnyElementAhead {A : Type 0} (takes : A → EncodingRules → Head → List ℕ → Type 0) (v : A)
     (rules : EncodingRules) (octets : List ℕ) (m : ℕ) : Type 0 where
   pub tag : Tag
   pub element : ElementAhead tag takes v rules octets m
 
--- what reading answers: no header, or what is made of the contents
+-- the result of reading: an error of the header, or the result for the contents
 pub data AnyElementRead {T E : Type 0} (converts : Error → E → Type 0)
     (answers : Head → ReaderState → Result T E → ReaderState → Type 0)
     (s : ReaderState) (result : Result T E) (t : ReaderState) : Type 0 where
@@ -29,8 +29,9 @@ pub data AnyElementRead {T E : Type 0} (converts : Error → E → Type 0)
       (sans_eoc (head_of h).length) u result t
       → AnyElementRead converts answers s result t
 
--- a type whose values have tags of their own is lawful: under DER contents are taken as a value,
--- with a tag, exactly where it is valid, the tag is its own, and they are what it is written as
+-- when a type whose values have different tags is lawful: under DER, contents with a tag are
+-- accepted as a value if and only if the value is valid, the tag is the value's, and the contents
+-- are those that the value is written as
 pub record IsLawfulChoice {A : Type 0} (tag_of : A → Tag)
     (takes : A → EncodingRules → Head → List ℕ → Type 0) (valid : A → Type 0)
     (contents : A → List ℕ) : Type 0 where

@@ -1,4 +1,4 @@
--- Elements whose values have tags of their own.
+-- Lemmas on elements of types whose values have different tags.
 use Rattle.std.proofs.Common.{◌≡◌, ℕ, ◌+◌, ◌^◌, ◌<◌, Result, Ok, Err, IfOk, List, ◌++◌, length}
 use Rattle.std.proofs.Common.{refl, sym, ap, subst, ◌∙◌, length-append, arith}
 use Rattle.der.specs.Prelude.{Head, header_octets, Tag, EncodingRules, Der, ElementAhead}
@@ -12,7 +12,7 @@ use Rattle.der_asn1.specs.AnyElement.{AnyElementAhead, IsLawfulChoice}
 use Rattle.der_asn1.specs.Follow.{Starts}
 use Rattle.der_asn1.specs.FollowLemmas.{element_starts, starts_wider}
 
--- an element that was passed
+-- an element read with one tag is an element read with some tag
 pub element_passes : {A E : Type 0} (takes : A → EncodingRules → Head → List ℕ → Type 0)
     (s t : ReaderState) (tag : Tag) (result : Result A E) (P : Type 0)
     → IfOk result (λ v. P → Passes (ElementAhead tag takes v) s t)
@@ -28,7 +28,7 @@ element_passes takes s t tag (Ok v) P h =
       leaves = p.leaves;
     }
 
--- the octets of such an element are exactly its encoding
+-- octets are such an element if and only if they are its encoding
 module _ {A : Type 0} {tag_of : A → Tag} {takes : A → EncodingRules → Head → List ℕ → Type 0}
     {valid : A → Type 0} {contents : A → List ℕ}
     (laws : IsLawfulChoice tag_of takes valid contents) where

@@ -1,5 +1,5 @@
--- An element of any tag: which there are (`IsAny`), how contents are taken (`TakesAny`), and the
--- rows of reading and writing one (`AnyRead`, `AnyWritten`).
+-- An element of any tag: the valid ones (`IsAny`), which contents are accepted (`TakesAny`), and
+-- the possible results of reading and writing one (`AnyRead`, `AnyWritten`).
 use Rattle.std.specs.Prelude.{◌≡◌, ℕ, ◌^◌, ◌<◌, List, length, Result}
 use Rattle.der.specs.Prelude.{checked_length, Head, number, Length, Error, EncodingRules}
 use Rattle.der.specs.Prelude.{WriterAnswer, Gives, map_ok, read_slice_outcome, ReaderState, Writes}
@@ -14,7 +14,7 @@ any_contents v = v.contents.now
 abbrev pub IsAny : AnyRef → Type 0
 IsAny v = (label v.tag).number < 2 ^ 32
 
--- contents are taken as they stand, with the tag of their header
+-- the value has the tag of the header and exactly these contents
 pub record TakesAny (v : AnyRef) (rules : EncodingRules) (h : Head) (octets : List ℕ) : Type 0 where
   pub tagged : h.tag ≡ v.tag
   pub same : any_contents v ≡ octets
@@ -30,7 +30,7 @@ any_size v = checked_length (length (any_contents v))
 abbrev pub AnyWritten : AnyRef → WriterAnswer
 AnyWritten v s result t = Writes (write_outcome (any_contents v) s) result t
 
--- an element of any tag is read as it is written
+-- an element of any tag is lawful
 pub any_lawful : IsLawfulChoice (λ v. v.tag) TakesAny IsAny any_contents
 any_lawful =
     record {

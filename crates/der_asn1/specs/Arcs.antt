@@ -1,5 +1,5 @@
--- The arcs of an object identifier (X.690 8.19): `oid_octets` are the contents of arcs, and
--- `oid_arcs` the arcs of contents, which a walk tells one by one (`arc_items`).
+-- The arcs of an OBJECT IDENTIFIER (X.690 8.19): `oid_octets` encodes arcs as contents, `oid_arcs`
+-- decodes the arcs of contents, and `arc_items` are the items of the iterator.
 use Rattle.std.specs.Prelude.{◌≡◌, ℕ, ◌+◌, ◌-◌, ◌*◌, ◌^◌, nat_lt, List, [], ◌∷◌}
 use Rattle.std.specs.Prelude.{Option, Some, None, if◌then◌else◌, drop, map}
 use Rattle.std.specs.List.{flat_map}
@@ -13,33 +13,34 @@ use Rattle.der_asn1.specs.declared.arcs.Stage.TheVariants as stage
 abbrev pub subidentifier_octets : ℕ → List ℕ
 subidentifier_octets n = continuation_octets (digits 128 n)
 
--- the first subidentifier is of the first two arcs (8.19.4), and each other of one (8.19.3)
+-- the first subidentifier encodes the first two arcs (8.19.4), each other one encodes one (8.19.3)
 abbrev pub oid_octets : List ℕ → List ℕ
 oid_octets [] = []
 oid_octets (a ∷ []) = []
 oid_octets (a ∷ b ∷ arcs) = flat_map subidentifier_octets ((40 * a + b) ∷ arcs)
 
--- the first arc is 0, 1 or 2; of 0 and 1 the second is below 40 (8.19.4)
+-- the first arc, from the first subidentifier: 0, 1 or 2; after 0 and 1 the second arc is below 40
+-- (8.19.4)
 abbrev pub first_arc : ℕ → ℕ
 first_arc n = if nat_lt n 40 then 0 else if nat_lt n 80 then 1 else 2
 
--- the subidentifiers that octets are behind those whose digits make n
+-- the subidentifiers of octets, if the digits before them have the value n
 abbrev pub subidentifiers : ℕ → List ℕ → List ℕ
 subidentifiers n [] = []
 subidentifiers n (o ∷ os) =
     if nat_lt o 128 then (n * 128 + o) ∷ subidentifiers 0 os
     else subidentifiers (n * 128 + (o - 128)) os
 
--- the arcs of subidentifiers
+-- the arcs of the values of subidentifiers
 abbrev pub arcs_of : List ℕ → List ℕ
 arcs_of [] = []
 arcs_of (n ∷ ns) = first_arc n ∷ (n - 40 * first_arc n) ∷ ns
 
--- the arcs of an object identifier
+-- the arcs of the contents of an OBJECT IDENTIFIER
 abbrev pub oid_arcs : List ℕ → List ℕ
 oid_arcs octets = arcs_of (subidentifiers 0 octets)
 
--- the arcs that are left at each stage
+-- the arcs that remain at each stage
 abbrev pub arcs_at : Stage → List ℕ → List ℕ
 arcs_at stage.First octets = oid_arcs octets
 arcs_at stage.Second octets = drop 1 (oid_arcs octets)
@@ -48,18 +49,18 @@ arcs_at stage.Other octets = subidentifiers 0 octets
 abbrev pub arcs_left : Arcs → List ℕ
 arcs_left a = arcs_at a.stage a.octets.now
 
--- an arc as a number of 32 bits, where it is one
+-- an arc, if it fits in 32 bits
 abbrev pub told_arc : ℕ → Option ℕ
 told_arc n = if nat_lt n (2 ^ 32) then Some n else None
 
 abbrev pub arc_items : Arcs → List (Option ℕ)
 arc_items a = map told_arc (arcs_left a)
 
--- a subidentifier below 2 ^ 63 as its number
+-- the value of a subidentifier, if it is below 2 ^ 63
 abbrev pub told_number : ℕ → Option ℕ
 told_number n = if nat_lt n (2 ^ 63) then Some n else None
 
--- the first of subidentifiers, as such, and the others
+-- the first subidentifier, if it is below 2 ^ 63, and the other ones
 abbrev pub IsFirstNumber : List ℕ → Option ℕ → List ℕ → Type 0
 IsFirstNumber [] a others = ⊥
 IsFirstNumber (n ∷ ns) a others = (a ≡ told_number n) × (others ≡ ns)

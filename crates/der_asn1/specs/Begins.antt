@@ -1,4 +1,4 @@
--- The tag of an element stands ahead of it.
+-- An element begins with its tag.
 use Rattle.std.proofs.Common.{◌≡◌, ℕ, List, length, sym, subst}
 use Rattle.der.specs.Prelude.{Head, HeadAhead, Tag, EncodingRules, ElementAhead}
 use Rattle.der.specs.HeaderGrammar.{IdentifierAhead, identifier}

@@ -1,4 +1,4 @@
--- Octets of a form, as they are read.
+-- Lemmas on reading checked octets.
 use Rattle.std.proofs.Common.{◌≡◌, ℕ, Bool, List, ◌++◌, length, drop, sym, ap, subst, ◌∙◌}
 use Rattle.der.specs.Prelude.{Head, number, Tag, EncodingRules, ElementAhead}
 use Rattle.der.specs.Prelude.{TakesWhole}
@@ -7,7 +7,7 @@ use Rattle.der_base.proofs.DigitLemmas.{same_length_front}
 use Rattle.der_base.proofs.HeaderLemmas.{one_header}
 use Rattle.der_asn1.specs.Checked.{TakesForm}
 
--- of two elements that stand in the same place the contents are the same
+-- two elements at the start of the same octets have the same contents
 one_contents : {A B : Type 0} {tag : Tag} {takes : A → EncodingRules → Head → List ℕ → Type 0}
     {gives : B → EncodingRules → Head → List ℕ → Type 0} {v : A} {w : B} {rules : EncodingRules}
     {octets : List ℕ} {m n : ℕ} (one : ElementAhead tag takes v rules octets m)
@@ -22,14 +22,14 @@ one_contents {octets = octets} one two =
     (same_length_front one.contents two.contents (one.mark ++ one.behind)
     (two.mark ++ two.behind) size split).0
 
--- two values of a form that stand in the same place have the same octets
+-- two values with checked contents at the start of the same octets have the same contents
 pub one_form : {A : Type 0} {tag : Tag} {form : List ℕ → Bool} {contents : A → List ℕ} {v w : A}
     {rules : EncodingRules} {octets : List ℕ} {m n : ℕ}
     → ElementAhead tag (TakesForm form contents) v rules octets m
     → ElementAhead tag (TakesForm form contents) w rules octets n → contents v ≡ contents w
 one_form one two = one.taken.1 ∙ one_contents one two ∙ sym two.taken.1
 
--- two values of a form in elements around them have the same octets, where those stand in one place
+-- the same for values inside an element with an EXPLICIT tag
 pub one_explicit_form : {A B : Type 0} {outer tag : Tag} {form : List ℕ → Bool}
     {contents : A → List ℕ} (f : B → A) {v w : B} {rules : EncodingRules} {octets : List ℕ}
     {m n : ℕ} → ElementAhead outer

@@ -1,5 +1,5 @@
--- Context-specific tags (`context_tag`): IMPLICIT in the place of another one (`TakesImplicit`),
--- EXPLICIT around an element (X.690 8.14).
+-- Context-specific tags (`context_tag`): IMPLICIT, which replaces another tag (`TakesImplicit`),
+-- and EXPLICIT, around an element (X.690 8.14).
 use Rattle.std.specs.Prelude.{◌≡◌, ◌||◌, ℕ, ◌^◌, ◌<◌, ◌≤◌, Bool, true, false, List, length}
 use Rattle.std.proofs.Common.{arith, refl, sym, ap, subst, ◌∙◌}
 use Rattle.der.specs.Prelude.{Head, is_indefinite, definite_length, Tag, ContextSpecific}
@@ -13,11 +13,11 @@ use Rattle.der.specs.LawfulLemmas.{elements_are_encodings, contents_lawful}
 abbrev pub context_tag : Bool → ℕ → Tag
 context_tag constructed n = ContextSpecific constructed (tag_number n)
 
--- the header of contents that stand behind another tag
+-- the header, with its tag replaced by the type's own
 abbrev pub retagged : Tag → Head → Head
 retagged t h = head t h.length ((label t).constructed || is_indefinite h.length)
 
--- contents behind another tag are taken as behind their own
+-- contents after an IMPLICIT tag are accepted as after the type's own tag
 abbrev pub TakesImplicit : {A B : Type 0} → Tag → (A → EncodingRules → Head → List ℕ → Type 0)
     → (B → A) → B → EncodingRules → Head → List ℕ → Type 0
 TakesImplicit tag takes value v rules h octets = takes (value v) rules (retagged tag h) octets
@@ -29,7 +29,7 @@ same_head t u n true e =
 same_head t u n false e =
     ap (λ c. head t (definite_length n) (c || false)) e ∙ ap (head t (definite_length n)) (sym e)
 
--- a lawful type behind another tag is lawful
+-- a lawful type with an IMPLICIT tag is lawful
 pub implicit_lawful : {A B : Type 0} {tag : Tag}
     {takes : A → EncodingRules → Head → List ℕ → Type 0} {valid : A → Type 0}
     {contents : A → List ℕ} {levels : EncodingRules → ℕ} (outer : Tag) (value : B → A)
@@ -50,7 +50,7 @@ implicit_lawful {tag = tag} {takes} outer value numbered laws =
       numbered = numbered;
     }
 
--- a lawful type in an element of its own is lawful; it has to nest a level less
+-- a lawful type with an EXPLICIT tag is lawful, if it needs at most 62 levels of nesting
 pub explicit_lawful : {A B : Type 0} {tag : Tag}
     {takes : A → EncodingRules → Head → List ℕ → Type 0} {valid : A → Type 0}
     {contents : A → List ℕ} {levels : EncodingRules → ℕ} (outer : Tag) (value : B → A)

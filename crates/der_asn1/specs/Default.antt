@@ -1,5 +1,5 @@
--- Fields with a default, which are absent exactly where they have it under DER (X.690 11.5):
--- `DefaultAhead`, the values that there are (`IsDefaulted`), and the rows of reading and writing
+-- Fields with a default, which under DER are absent if and only if they have it (X.690 11.5):
+-- `DefaultAhead`, the valid values (`IsDefaulted`), and the possible results of reading and writing
 -- one (`DefaultRead`, `DefaultWritten`).
 use Rattle.std.specs.Prelude.{◌≡◌, ℕ, ◌⊎◌, Bool, true, false, List, [], Result, Ok, Err}
 use Rattle.std.specs.Prelude.{if◌then◌else◌}
@@ -12,7 +12,7 @@ use Rattle.der.specs.Decode.{Peeks}
 use Rattle.der.specs.ReaderState.{stopped_state}
 use Rattle.der_asn1.specs.Follow.{NoTagIn}
 
--- a value that is absent where it is the default: DER has it absent exactly then
+-- the default may be absent, and under DER it must be; any other value is present
 pub data DefaultAhead {A : Type 0} (tags : Tag → Type 0) (is_default : A → Bool)
     (Ahead : A → EncodingRules → List ℕ → ℕ → Type 0) (v : A) (rules : EncodingRules)
     (octets : List ℕ) (m : ℕ) : Type 0 where
@@ -33,8 +33,8 @@ abbrev pub DefaultPrecedes : {A : Type 0} → (Tag → Type 0) → (A → Bool) 
 DefaultPrecedes tags is_default MayPrecede v behind =
     (is_default v ≡ true → NoTagIn tags Der behind) × (is_default v ≡ false → MayPrecede v behind)
 
--- what reading a default answers: the default at the end, or where another tag stands ahead; else
--- the value, which may not be the default under DER
+-- the result of reading: the default at the end or if another tag is next; else the value, which
+-- under DER must not be the default
 pub data DefaultRead {A E : Type 0} (tags : Tag → Type 0) (is_default : A → Bool)
     (converts : Error → E → Type 0) (answers : ReaderState → Result A E → ReaderState → Type 0)
     (s : ReaderState) (result : Result A E) (t : ReaderState) : Type 0 where
@@ -63,7 +63,7 @@ abbrev pub default_size : {A : Type 0} → (A → Bool) → (A → Result Length
     → Result Length Error
 default_size is_default size v = if is_default v then Ok (definite_length 0) else size v
 
--- the rows of writing: the default is no octets
+-- the possible results of writing: no octets for the default
 abbrev pub DefaultWritten : {A : Type 0} → (A → Bool) → (A → WriterAnswer) → A → WriterAnswer
 DefaultWritten is_default answers v s result t =
     (is_default v ≡ true → (result ≡ Ok tt) × (t ≡ s))

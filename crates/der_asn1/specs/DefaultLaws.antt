@@ -16,7 +16,7 @@ default_holds tags is_default holds v rules octets m (absent d e none) = inl d
 default_holds tags is_default holds v rules octets m (present differs h) =
     inr (holds v rules octets m h)
 
--- the laws of a field that is absent where it is the default
+-- the laws of a field with a default
 abbrev pub default_laws : {A : Type 0} {Ahead : A → EncodingRules → List ℕ → ℕ → Type 0}
     {valid : A → Type 0} {encoding : A → List ℕ} (is_default : A → Bool)
     (one : SomeLaws Ahead valid encoding)

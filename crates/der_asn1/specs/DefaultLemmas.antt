@@ -1,4 +1,4 @@
--- Fields with a default are read as they are written.
+-- Lemmas: a field with a default is read as it is written.
 use Rattle.std.proofs.Common.{◌≡◌, ℕ, ◌^◌, ◌<◌, ◌⊎◌, inl, inr, Bool, true, false, List, [], ◌++◌, length}
 use Rattle.std.proofs.Common.{refl, sym, ap, subst, ◌∙◌, if◌then◌else◌}
 use Rattle.der.specs.Prelude.{Tag, EncodingRules, Der}

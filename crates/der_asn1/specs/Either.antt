@@ -1,5 +1,5 @@
--- CHOICE of two types (X.690 8.13): the element of the one or of the other, told by its tag
--- (`EitherAhead`), and the rows of reading and writing one (`EitherRead`, `EitherWritten`).
+-- CHOICE of two types (X.690 8.13): an element of one of them, decided by its tag (`EitherAhead`),
+-- and the possible results of reading and writing one (`EitherRead`, `EitherWritten`).
 use Rattle.std.specs.Prelude.{◌≡◌, ℕ, true, List, Option, Some, None, Result, Ok, Err}
 use Rattle.der.specs.Prelude.{Tag, EncodingRules, Error, error_at, Length, WriterAnswer, map_ok}
 use Rattle.der.specs.Prelude.{ReaderState, reader_position}
@@ -12,7 +12,7 @@ use Rattle.der_asn1.specs.Follow.{NoTagIn}
 use Rattle.der_asn1.specs.declared.either.Either.{Either}
 use Rattle.der_asn1.specs.declared.either.Either.TheVariants.{First, Second}
 
--- the first stands, or the second where no tag of the first does
+-- a value of the first type, or of the second if no tag of the first type is next
 abbrev pub EitherAhead : {A B : Type 0} → (Tag → Type 0)
     → (A → EncodingRules → List ℕ → ℕ → Type 0) → (B → EncodingRules → List ℕ → ℕ → Type 0)
     → Either A B → EncodingRules → List ℕ → ℕ → Type 0
@@ -33,7 +33,8 @@ abbrev pub EitherPrecedes : {A B : Type 0} → (A → List ℕ → Type 0) → (
 EitherPrecedes one two (First v) behind = one v behind
 EitherPrecedes one two (Second v) behind = two v behind
 
--- what reading answers: no tag, what the type says whose tag stands ahead, or a tag of neither
+-- the result of reading: an error of the tag, the result of the type whose tag is next, or an error
+-- because the tag belongs to neither
 pub data EitherRead {A B E : Type 0} (one_tags two_tags : Tag → Type 0)
     (converts : Error → E → Type 0) (one : ReaderState → Result A E → ReaderState → Type 0)
     (two : ReaderState → Result B E → ReaderState → Type 0) (s : ReaderState)
@@ -58,7 +59,7 @@ abbrev pub either_size : {A B : Type 0} → (A → Result Length Error) → (B �
 either_size one two (First v) = one v
 either_size one two (Second v) = two v
 
--- the rows of writing: those of the type whose value it is
+-- the possible results of writing: those of the chosen type
 abbrev pub EitherWritten : {A B : Type 0} → (A → WriterAnswer) → (B → WriterAnswer) → Either A B
     → WriterAnswer
 EitherWritten one two (First v) = one v

@@ -1,4 +1,4 @@
--- The laws of a CHOICE of two.
+-- The laws of a CHOICE of two types.
 use Rattle.std.proofs.Common.{◌≡◌, ◌↔◌, ◌⊎◌, inl, inr, ℕ, ◌^◌, ◌<◌, ◌&&◌, Bool, true, List, ◌++◌, length, Option, sym, subst}
 use Rattle.der.specs.Prelude.{Tag, EncodingRules, Der}
 use Rattle.der_asn1.specs.Either.{EitherAhead, IsEither, either_encoding, EitherPrecedes}
@@ -18,7 +18,7 @@ module _ {A B : Type 0} {one_tags two_tags : Tag → Type 0}
     (one : ToldLaws one_tags first one_stops P One is_one one_octets)
     (two : ToldLaws two_tags second two_stops Q Two is_two two_octets)
     (apart : are_apart first second ≡ true) where
-  -- no tag is one of both
+  -- no tag belongs to both
   tags_apart : (t : Tag) → one_tags t → two_tags t → ⊥
   tags_apart t a b = sets_apart first second apart t (one.among t a) (two.among t b)
 
@@ -106,7 +106,7 @@ module _ {A B : Type 0} {one_tags two_tags : Tag → Type 0}
         holds = hold;
       }
 
--- two whose tests hold, and of which no tag is one of both
+-- a CHOICE of two alternatives has the laws if both have them and no tag belongs to both
 pub either_told : {A B : Type 0} {one_fits two_fits : Bool} {one_tags two_tags : Tag → Type 0}
     {first second one_stops two_stops : List (Option Tag)}
     {P : A → List ℕ → Type 0} {Q : B → List ℕ → Type 0}
@@ -128,7 +128,7 @@ wider_tags : {tags more : Tag → Type 0} {rules : EncodingRules} {octets : List
 wider_tags wider b =
     record { tag = b.tag; count = b.count; ahead = b.ahead; among = wider b.tag b.among }
 
--- each begins with a tag of its own
+-- a value of a CHOICE begins with a tag of one of the types
 pub either_begins : {A B : Type 0} {one_tags two_tags : Tag → Type 0}
     {One : A → EncodingRules → List ℕ → ℕ → Type 0} {Two : B → EncodingRules → List ℕ → ℕ → Type 0}
     → ((v : A) (rules : EncodingRules) (octets : List ℕ) (m : ℕ) → One v rules octets m

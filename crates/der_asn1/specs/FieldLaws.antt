@@ -1,6 +1,6 @@
--- Laws of fields, as they are put together: `FieldLaws` and `SomeLaws` are all that is known of
--- one; `element_laws`, `choice_laws` and `optional_laws` make them, `pair_laws` puts two together,
--- and `contents_laws` makes of them that a type is lawful.
+-- Laws of fields and their composition: `FieldLaws` and `SomeLaws` collect the laws of a field;
+-- `element_laws`, `choice_laws` and `optional_laws` make them, `pair_laws` composes two of them,
+-- and `contents_laws` concludes that a type is lawful.
 use Rattle.std.proofs.Common.{inl, ℕ, ◌^◌, ◌<◌, ◌≤◌, List, ◌++◌, length, drop, Option, Some, None}
 use Rattle.der.specs.Prelude.{Head, Tag, EncodingRules, Der, ElementAhead, element_octets}
 use Rattle.der.specs.Prelude.{FieldsAhead, TakesWhole, IsLawful}
@@ -19,8 +19,8 @@ use Rattle.der_asn1.specs.AnyElement.{AnyElementAhead, IsLawfulChoice}
 use Rattle.der_asn1.specs.AnyElementLemmas.{choices_are_encodings, choices_start}
 use Rattle.der_asn1.specs.OptionalLemmas.{options_are_fields, option_may_start, option_precedes}
 
--- all that is known of a field: it is read as it is written, which tags it may begin with, and
--- before which it may not stand
+-- the laws of a field: it is read as it is written, the tags it may begin with, and the tags that
+-- must not follow it
 pub record FieldLaws {A : Type 0} (Ahead : A → EncodingRules → List ℕ → ℕ → Type 0)
     (valid : A → Type 0) (encoding : A → List ℕ) : Type 1 where
   pub Precedes : A → List ℕ → Type 0
@@ -29,17 +29,17 @@ pub record FieldLaws {A : Type 0} (Ahead : A → EncodingRules → List ℕ → 
   pub reads : ReadsFields Ahead valid encoding Precedes
   pub starts : MayStart valid encoding tags
   pub precedes : PrecedesBut valid Precedes stops
-  -- what stands ahead under any rules is valid
+  -- a value that can be read under any rules is valid
   pub holds : (v : A) (rules : EncodingRules) (octets : List ℕ) (m : ℕ) → Ahead v rules octets m
       → valid v
 
--- all that is known of a field that always has octets
+-- the laws of a field that is never empty
 pub record SomeLaws {A : Type 0} (Ahead : A → EncodingRules → List ℕ → ℕ → Type 0)
     (valid : A → Type 0) (encoding : A → List ℕ) : Type 1 where
   pub laws : FieldLaws Ahead valid encoding
   pub some : Starts valid encoding laws.tags
 
--- the laws of encodings that anything may follow
+-- the laws of a field after which anything may follow
 abbrev pub encoding_laws : {A : Type 0} {Ahead : A → EncodingRules → List ℕ → ℕ → Type 0}
     {valid : A → Type 0} {encoding : A → List ℕ} {tags : Tag → Type 0}
     → ReadsEncodings Ahead valid encoding → Starts valid encoding tags
@@ -71,7 +71,7 @@ element_laws lawful takes_valid =
     encoding_laws (elements_are_encodings lawful) (lawful_starts lawful)
     (λ v rules octets m e. takes_valid v rules (head_sans_eoc e.says) e.contents e.taken)
 
--- the laws of an element with a tag of its own
+-- the laws of an element whose value determines its tag
 abbrev pub choice_laws : {A : Type 0} {tag_of : A → Tag}
     {takes : A → EncodingRules → Head → List ℕ → Type 0}
     {valid : A → Type 0} {contents : A → List ℕ} (tags : Tag → Type 0)
@@ -93,7 +93,7 @@ pub option_holds : {A : Type 0} (tags : Tag → Type 0)
 option_holds tags holds None rules octets m h = tt
 option_holds tags holds (Some v) rules octets m h = holds v rules octets m h
 
--- the laws of a field that may be absent
+-- the laws of an optional field
 abbrev pub optional_laws : {A : Type 0} {Ahead : A → EncodingRules → List ℕ → ℕ → Type 0}
     {valid : A → Type 0} {encoding : A → List ℕ} (one : SomeLaws Ahead valid encoding)
     → FieldLaws (OptionAhead one.laws.tags Ahead) (IsOptional valid) (option_encoding encoding)
@@ -108,7 +108,7 @@ optional_laws one =
       holds = option_holds one.laws.tags one.laws.holds;
     }
 
--- a field in another type is read as it is written
+-- a field converted to another type is read as it is written
 pub seen_reads : {A B : Type 0} {Ahead : A → EncodingRules → List ℕ → ℕ → Type 0}
     {valid : A → Type 0}
     {encoding : A → List ℕ} {P : A → List ℕ → Type 0} (f : B → A)
@@ -150,7 +150,8 @@ seen_laws f one =
       holds = λ b. one.holds (f b);
     }
 
--- the laws of a field before one that always has octets, none of whose tags it may not stand before
+-- the laws of two fields, if the second is never empty and does not begin with a tag that must not
+-- follow the first
 abbrev pub pair_laws : {A B : Type 0} {First : A → EncodingRules → List ℕ → ℕ → Type 0}
     {Second : B → EncodingRules → List ℕ → ℕ → Type 0} {is_first : A → Type 0}
     {is_second : B → Type 0} {first : A → List ℕ} {second : B → List ℕ}
@@ -172,7 +173,7 @@ pair_laws {second = second} one two apart =
       );
     }
 
--- the laws of a field before one that may be absent
+-- the laws of two fields, if the second may be absent
 abbrev pub pair_laws_absent : {A B : Type 0} {First : A → EncodingRules → List ℕ → ℕ → Type 0}
     {Second : B → EncodingRules → List ℕ → ℕ → Type 0} {is_first : A → Type 0}
     {is_second : B → Type 0} {first : A → List ℕ} {second : B → List ℕ}
@@ -194,7 +195,7 @@ pair_laws_absent {second = second} one two apart =
       );
     }
 
--- fields that are all the contents of a type make it lawful
+-- a type whose contents are exactly one field is lawful
 pub contents_laws : {A B : Type 0} {Ahead : A → EncodingRules → List ℕ → ℕ → Type 0}
     {valid : A → Type 0} {encoding : A → List ℕ} (tag : Tag) (levels : EncodingRules → ℕ)
     (f : B → A) → FieldLaws Ahead valid encoding → levels Der ≤ 63 → (label tag).number < 2 ^ 32

@@ -1,12 +1,12 @@
--- What it means that fields are read as they are written, where what follows one may decide
--- (`FieldAhead`, `ReadsFields`): which tags stand ahead (`TagIn`, `NoTagIn`), with which one
--- encodings begin (`Starts`, `MayStart`), and before which a value may stand (`PrecedesBut`).
+-- When fields are read as they are written, which may depend on what follows them (`FieldAhead`,
+-- `ReadsFields`): which tags are next (`TagIn`, `NoTagIn`), which tags encodings begin with
+-- (`Starts`, `MayStart`), and which tags must not follow a value (`PrecedesBut`).
 use Rattle.std.specs.Prelude.{◌≡◌, ℕ, ◌^◌, ◌<◌, ◌⊎◌, List, [], ◌++◌, length}
 use Rattle.der.specs.HeaderGrammar.{TagAhead}
 use Rattle.der.specs.Tag.{label}
 use Rattle.der.specs.Prelude.{tag_octets, Tag, EncodingRules, Der}
 
--- the first m octets of a list are the encoding of a valid value, and the others may follow it
+-- the first m octets are the encoding of a valid value, and the value may precede the other octets
 pub record FieldAhead {A : Type 0} (valid : A → Type 0) (encoding : A → List ℕ)
     (MayPrecede : A → List ℕ → Type 0) (v : A) (octets : List ℕ) (m : ℕ) : Type 0 where
   pub is_valid : valid v
@@ -15,8 +15,8 @@ pub record FieldAhead {A : Type 0} (valid : A → Type 0) (encoding : A → List
   pub whole : m ≡ length (encoding v)
   pub precedes : MayPrecede v behind
 
--- under DER a field stands at the front of octets only where they begin with its encoding and what
--- may follow it, and wherever octets that a length can count do
+-- under DER a field is next only if the octets begin with its encoding, followed by something that
+-- may follow it; and it is next whenever they do, if their number fits in a `Length`
 pub record ReadsFields {A : Type 0} (Ahead : A → EncodingRules → List ℕ → ℕ → Type 0)
     (valid : A → Type 0) (encoding : A → List ℕ) (MayPrecede : A → List ℕ → Type 0)
     : Type 0 where
@@ -29,14 +29,14 @@ pub record ReadsFields {A : Type 0} (Ahead : A → EncodingRules → List ℕ �
 abbrev pub Anything : {A : Type 0} → A → List ℕ → Type 0
 Anything v behind = Unit {0}
 
--- one of these tags stands ahead
+-- one of these tags is next
 pub record TagIn (tags : Tag → Type 0) (rules : EncodingRules) (octets : List ℕ) : Type 0 where
   pub tag : Tag
   pub count : ℕ
   pub ahead : TagAhead tag rules octets count
   pub among : tags tag
 
--- none of these tags stands ahead: nothing does, or another tag
+-- none of these tags is next: there are no octets, or another tag is next
 pub data NoTagIn (tags : Tag → Type 0) (rules : EncodingRules) (octets : List ℕ) : Type 0 where
   nothing : octets ≡ [] → NoTagIn tags rules octets
   other : (t : Tag) (n : ℕ) → TagAhead t rules octets n → (tags t → ⊥)
@@ -60,13 +60,13 @@ pub record MayStart {A : Type 0} (valid : A → Type 0) (encoding : A → List �
     (tags : Tag → Type 0) : Type 0 where
   pub starts : (v : A) → valid v → (encoding v ≡ []) ⊎ StartsIn tags (encoding v)
 
--- valid values may stand before everything that begins with none of these tags
+-- valid values may precede any octets that begin with none of these tags
 pub record PrecedesBut {A : Type 0} (valid : A → Type 0) (MayPrecede : A → List ℕ → Type 0)
     (stops : Tag → Type 0) : Type 0 where
   pub precedes : (v : A) (behind : List ℕ) → valid v → NoTagIn stops Der behind
       → MayPrecede v behind
 
--- no tags, a tag alone, any tag, and those of two sets
+-- no tag, one tag, any tag, and the tags of two sets
 abbrev pub no_tags : Tag → Type 0
 no_tags t = ⊥
 
@@ -79,7 +79,7 @@ any_tag t = Unit {0}
 abbrev pub either_tags : (Tag → Type 0) → (Tag → Type 0) → Tag → Type 0
 either_tags f g t = f t ⊎ g t
 
--- one value may stand before another, and that before what follows both
+-- the first value may precede the second, and the second may precede what follows both
 abbrev pub BothPrecede : {A B : Type 0} → (B → List ℕ) → (A → List ℕ → Type 0)
     → (B → List ℕ → Type 0) → A × B → List ℕ → Type 0
 BothPrecede second first_precedes second_precedes v behind =

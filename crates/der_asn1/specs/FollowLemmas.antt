@@ -1,4 +1,4 @@
--- Fields, and what may follow them.
+-- Lemmas on fields and what may follow them.
 use Rattle.std.proofs.Common.{◌≡◌, ℕ, ◌^◌, ◌<◌, ◌≤◌, ◌⊎◌, inl, inr, List, [], ◌∷◌, ◌++◌, length}
 use Rattle.std.proofs.Common.{drop, refl, sym, ap, subst, ◌∙◌, append_assoc, append-nil}
 use Rattle.std.proofs.Common.{length-append, length-drop, arith}
@@ -13,7 +13,7 @@ use Rattle.der_asn1.specs.Follow.{FieldAhead, ReadsFields, Anything, NoTagIn, no
 use Rattle.der_asn1.specs.Follow.{StartsIn, Starts, MayStart, PrecedesBut, this_tag, either_tags}
 use Rattle.der_asn1.specs.Follow.{BothPrecede}
 
--- a type that reads encodings is read before anything
+-- a type whose encodings are read regardless of what follows is a field that anything may follow
 pub encodings_are_fields : {A : Type 0} {Ahead : A → EncodingRules → List ℕ → ℕ → Type 0}
     {valid : A → Type 0} {encoding : A → List ℕ} → ReadsEncodings Ahead valid encoding
     → ReadsFields Ahead valid encoding Anything
@@ -32,7 +32,7 @@ encodings_are_fields reads =
           (record { is_valid = f.is_valid; behind = f.behind; split = f.split; whole = f.whole });
     }
 
--- fields one behind the other, each before what follows it
+-- two fields in sequence, each of which may precede what follows it
 pub fields_follow : {A B : Type 0} {First : A → EncodingRules → List ℕ → ℕ → Type 0}
     {Second : B → EncodingRules → List ℕ → ℕ → Type 0} {is_first : A → Type 0}
     {is_second : B → Type 0}
@@ -94,7 +94,8 @@ fields_follow {A} {B} {First} {Second} {is_first} {is_second} {first} {second} {
           whole = e.whole ∙ length-append (first v.0) (second v.1);
         }
 
--- octets are wholly a field exactly where they are its encoding, if valid ones may be last
+-- octets are exactly one field if and only if they are its encoding, provided valid values may be
+-- last
 pub whole_fields : {A : Type 0} {Ahead : A → EncodingRules → List ℕ → ℕ → Type 0}
     {valid : A → Type 0} {encoding : A → List ℕ} {P : A → List ℕ → Type 0}
     → ReadsFields Ahead valid encoding P → ((v : A) → valid v → P v [])
@@ -125,7 +126,7 @@ whole_fields {A} {Ahead} {valid} {encoding} {P} reads last = record { only = fro
           precedes = last v is;
         })
 
--- a type whose contents are wholly fields, seen as another's values, is lawful
+-- a type whose contents are exactly one field, converted from another type, is lawful
 pub fields_lawful : {A B : Type 0} {Ahead : A → EncodingRules → List ℕ → ℕ → Type 0}
     {valid : A → Type 0} {encoding : A → List ℕ} {P : A → List ℕ → Type 0} (tag : Tag)
     (levels : EncodingRules → ℕ) (f : B → A) → ReadsFields Ahead valid encoding P
@@ -142,18 +143,18 @@ fields_lawful {A} {B} {Ahead} {valid} {encoding} tag levels f reads last shallow
       numbered = numbered;
     }
 
--- a set without some of its tags
+-- if none of the tags is next, none of a subset is
 pub fewer_tags : {tags stops : Tag → Type 0} {rules : EncodingRules} {octets : List ℕ}
     → ((t : Tag) → stops t → tags t) → NoTagIn tags rules octets → NoTagIn stops rules octets
 fewer_tags among (nothing e) = nothing e
 fewer_tags among (other t n h not) = other t n h (λ s. not (among t s))
 
--- a tag's octets are that tag
+-- the octets of a tag begin with that tag
 pub tag_stands : (t : Tag) (more : List ℕ) → (label t).number < 2 ^ 32
     → TagAhead t Der (tag_octets t ++ more) (length (tag_octets t))
 tag_stands t more numbered = ((label t).constructed, identifier more (of_tag numbered))
 
--- octets that begin with a tag of another set
+-- octets that begin with a tag of one set begin with no tag of a disjoint set
 pub starts_apart : {tags stops : Tag → Type 0} (octets behind : List ℕ)
     → ((t : Tag) → stops t → tags t → ⊥) → StartsIn tags octets
     → NoTagIn stops Der (octets ++ behind)
@@ -164,7 +165,7 @@ starts_apart {tags} {stops} octets behind apart s =
     (subst (λ x. TagAhead s.tag Der x (length (tag_octets s.tag))) (sym whole)
     (tag_stands s.tag (s.more ++ behind) s.numbered)) (λ h. apart s.tag h s.among)
 
--- what starts with a tag, and then something
+-- octets that begin with a tag still do if more octets are appended
 pub starts_append : {tags : Tag → Type 0} (octets behind : List ℕ) → StartsIn tags octets
     → StartsIn tags (octets ++ behind)
 starts_append octets behind s =
@@ -187,7 +188,7 @@ starts_wider wider s =
       among = wider s.tag s.among;
     }
 
--- an element starts with its tag
+-- an element begins with its tag
 pub element_starts : (t : Tag) (contents : List ℕ) → (label t).number < 2 ^ 32
     → StartsIn (this_tag t) (element_octets t contents)
 element_starts t contents numbered =
@@ -207,12 +208,12 @@ pub lawful_starts : {A : Type 0} {tag : Tag} {takes : A → EncodingRules → He
 lawful_starts {tag = tag} {contents = contents} laws =
     record { starts = λ v is. element_starts tag (contents v) laws.numbered }
 
--- what starts may start
+-- encodings that begin with one of the tags begin with one or are empty
 pub starts_so_may : {A : Type 0} {valid : A → Type 0} {encoding : A → List ℕ} {tags : Tag → Type 0}
     → Starts valid encoding tags → MayStart valid encoding tags
 starts_so_may one = record { starts = λ v is. inr (one.starts v is) }
 
--- anything may follow, or what follows nothing
+-- a field that anything may follow has no tags that must not follow it
 pub anything_precedes : {A : Type 0} (valid : A → Type 0) (stops : Tag → Type 0)
     → PrecedesBut valid Anything stops
 anything_precedes valid stops = record { precedes = λ v behind is none. tt }
@@ -237,7 +238,7 @@ pair_may_start {A} {B} {first = first} {second} {tags} {more} one two =
 module _ {A B : Type 0} {is_first : A → Type 0} {is_second : B → Type 0} {second : B → List ℕ}
     {P : A → List ℕ → Type 0} {Q : B → List ℕ → Type 0}
     {tags first_stops second_stops : Tag → Type 0} where
-  -- a field before one that always has octets: only what the second may not stand before counts
+  -- a field before one that is never empty: only the tags that must not follow the second count
   pub pair_precedes : PrecedesBut is_first P first_stops → PrecedesBut is_second Q second_stops
       → Starts is_second second tags → ((t : Tag) → first_stops t → tags t → ⊥)
       → PrecedesBut (λ (v : A × B). is_first v.0 × is_second v.1)
@@ -251,7 +252,7 @@ module _ {A B : Type 0} {is_first : A → Type 0} {is_second : B → Type 0} {se
         );
       }
 
-  -- a field before one that may be absent: what may not stand behind either counts
+  -- a field before one that may be absent: the tags that must not follow either field count
   pub pair_precedes_absent : PrecedesBut is_first P first_stops
       → PrecedesBut is_second Q second_stops → MayStart is_second second tags
       → ((t : Tag) → first_stops t → tags t → ⊥)
@@ -273,7 +274,7 @@ module _ {A B : Type 0} {is_first : A → Type 0} {is_second : B → Type 0} {se
           (fewer_tags (λ t h. inl h) none)
       go v behind none (inr s) = starts_apart (second v.1) behind apart s
 
--- valid values may stand at the end of a SEQUENCE
+-- valid values may be the last in a SEQUENCE
 pub last_of : {A : Type 0} {valid : A → Type 0} {P : A → List ℕ → Type 0} {stops : Tag → Type 0}
     → PrecedesBut valid P stops → (v : A) → valid v → P v []
 last_of one v is = one.precedes v [] is (nothing refl)

@@ -1,22 +1,22 @@
--- Octets of which something holds, lent by the input, as elements of a list or of a set: contents
--- are taken as they stand (`TakesLent`), and a value has such octets (`IsLent`).
+-- Octets borrowed from the input with a property, such as being the elements of a list or set: such
+-- octets are accepted as contents (`TakesLent`), and a value consists of such octets (`IsLent`).
 use Rattle.std.specs.Prelude.{◌≡◌, ℕ, ◌^◌, ◌<◌, List, length}
 use Rattle.std.proofs.Common.{arith, subst, sym}
 use Rattle.der.specs.Prelude.{Head, Tag, EncodingRules, Der, IsLawful}
 use Rattle.der.specs.Lawful.{definite_head}
 use Rattle.der.specs.Tag.{label}
 
--- contents of which it holds are taken as they stand, whatever the rules
+-- octets with the property are the contents of the value, under any rules
 abbrev pub TakesLent : {B : Type 0} → (List ℕ → Type 0) → (B → List ℕ) → B → EncodingRules → Head
     → List ℕ → Type 0
 TakesLent Holds octets_of v rules h octets =
     ∥ Holds octets ∥₁ × (length octets < 2 ^ 32) × (octets_of v ≡ octets)
 
--- it holds of the octets of a value, and a length can count them
+-- the octets of a value have the property, and their number fits in a `Length`
 abbrev pub IsLent : {B : Type 0} → (List ℕ → Type 0) → (B → List ℕ) → B → Type 0
 IsLent Holds octets_of v = ∥ Holds (octets_of v) ∥₁ × (length (octets_of v) < 2 ^ 32)
 
--- it holds of the octets of a value that contents are taken as
+-- if contents are accepted as a value, the octets of the value have the property
 pub lent_holds : {B : Type 0} (Holds : List ℕ → Type 0) (octets_of : B → List ℕ) (v : B)
     (rules : EncodingRules) (h : Head) (octets : List ℕ)
     → TakesLent Holds octets_of v rules h octets → IsLent Holds octets_of v
@@ -25,7 +25,7 @@ lent_holds Holds octets_of v rules h octets taken = (
   subst (λ x. length x < 2 ^ 32) (sym taken.2) taken.1,
 )
 
--- a type of such values is read as it is written
+-- a type of such values is lawful
 pub lent_lawful : {B : Type 0} (outer : Tag) (Holds : List ℕ → Type 0) (octets_of : B → List ℕ)
     → (label outer).number < 2 ^ 32
     → IsLawful outer (TakesLent Holds octets_of) (IsLent Holds octets_of) octets_of (λ _. 0)

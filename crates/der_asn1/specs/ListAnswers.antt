@@ -1,6 +1,5 @@
--- What a walk over elements answers, by what decoding each of them answers: `ListWalked` has the
--- rows of `SequenceOf::new`, `SetWalked` those of `SetOf::new`, and `ListRead` those of reading
--- contents.
+-- The possible results of reading a list, given those of reading each element: `ListWalked` for
+-- `SequenceOf::new`, `SetWalked` for `SetOf::new`, and `ListRead` for reading contents.
 use Rattle.std.specs.Prelude.{◌≡◌, ℕ, true, false, List, [], ◌++◌, Result, Ok, Err}
 use Rattle.std.proofs.Common.{Bor}
 use Rattle.der.specs.Prelude.{Head, number, Error, Der, Gives, error_at, reader_position}
@@ -8,7 +7,7 @@ use Rattle.der.specs.Prelude.{read_slice_outcome, ReaderState, rest_of, IsBefore
 use Rattle.der.specs.ErrorKinds.{Failed, SetOrdering}
 use Rattle.der.specs.ReaderState.{initial_state}
 
--- an element is read; or it is refused; or it is read by a reader that has failed behind it
+-- an element is read; or reading it fails; or it is read, but the reader has failed afterwards
 pub data ItemAnswer {T E : Type 0} (converts : Error → E → Type 0)
     (reads : ReaderState → Result T E → ReaderState → Type 0) (s : ReaderState)
     (result : Result T E) (t : ReaderState) : Type 0 where
@@ -19,14 +18,14 @@ pub data ItemAnswer {T E : Type 0} (converts : Error → E → Type 0)
       → converts (error_at Failed (reader_position u)) e → result ≡ Err e
       → ItemAnswer converts reads s result t
 
--- an element is read, whose octets are answered in the place of its value, or refused
+-- an element is read, and its octets are returned instead of its value; or reading it fails
 abbrev pub NextAnswer : {T E : Type 0} → (Error → E → Type 0)
     → (ReaderState → Result T E → ReaderState → Type 0) → ReaderState
     → Result (Bor (List ℕ)) E → ReaderState → Type 0
 NextAnswer {T} converts reads s (Ok octets) t = (v : T) × ItemAnswer converts reads s (Ok v) t
 NextAnswer converts reads s (Err e) t = ItemAnswer converts reads s (Err e) t
 
--- elements are read up to the end, or up to the first that is refused
+-- elements are read up to the end, or up to the first error
 pub data WalkAnswer {T E : Type 0} (converts : Error → E → Type 0)
     (reads : ReaderState → Result T E → ReaderState → Type 0) (result : Result (Unit {0}) E)
     : ReaderState → Type 0 where
@@ -39,14 +38,14 @@ pub data WalkAnswer {T E : Type 0} (converts : Error → E → Type 0)
       → ItemAnswer converts reads s (Err e) t → result ≡ Err e
       → WalkAnswer converts reads result s
 
--- elements are read up to the end of these contents
+-- the result of reading all elements of these contents
 abbrev pub ListWalked : {T E : Type 0} → (Error → E → Type 0)
     → (ReaderState → Result T E → ReaderState → Type 0) → Result (Unit {0}) E → List ℕ → Type 0
 ListWalked converts reads result octets =
     WalkAnswer converts reads result (initial_state Der octets)
 
--- behind octets elements are read up to the end, or up to the first that is refused; one that comes
--- before the octets ahead of it is refused where it begins (X.690 11.6)
+-- elements after the octets `ahead` are read up to the end, or up to the first error; an element
+-- that is smaller than the one before it is an error at its start (X.690 11.6)
 pub data SetAnswer {T E : Type 0} (converts : Error → E → Type 0)
     (reads : ReaderState → Result T E → ReaderState → Type 0) (result : Result (Unit {0}) E)
     : List ℕ → ReaderState → Type 0 where
@@ -65,13 +64,13 @@ pub data SetAnswer {T E : Type 0} (converts : Error → E → Type 0)
       → converts (error_at SetOrdering (reader_position s)) e → result ≡ Err e
       → SetAnswer converts reads result ahead s
 
--- elements are read so up to the end of these contents
+-- the result of reading all elements of these contents as a set
 abbrev pub SetWalked : {T E : Type 0} → (Error → E → Type 0)
     → (ReaderState → Result T E → ReaderState → Type 0) → Result (Unit {0}) E → List ℕ → Type 0
 SetWalked converts reads result octets =
     SetAnswer converts reads result [] (initial_state Der octets)
 
--- contents are lent, and their elements are walked over, as octets of their own
+-- the contents are borrowed, and their elements are read from them as from an input of their own
 pub data ListRead {B E : Type 0} (converts : Error → E → Type 0)
     (walked : Result (Unit {0}) E → List ℕ → Type 0) (octets_of : B → List ℕ) (h : Head)
     (s : ReaderState) (result : Result B E) (t : ReaderState) : Type 0 where

@@ -1,5 +1,5 @@
--- What the parts of a SEQUENCE mean, with their laws, so that what is put together of them has its
--- laws too: a `Field`, an `Alternative`, an `Element`, and the words that make them of others.
+-- Specifications of the parts of a SEQUENCE, with their laws, so that composed specifications have
+-- their laws too: a `Field`, an `Alternative`, an `Element`, and the functions that compose them.
 use Rattle.std.proofs.Common.{◌≡◌, ℕ, ◌^◌, ◌<◌, ◌≤◌, ◌&&◌, ◌||◌, Bool, true, false, List, [], ◌∷◌, ◌++◌, Option, Some, None, nat_lt, arith, subst, sym, ltb-true}
 use Rattle.der.specs.Prelude.{Head, Tag, Sequence as SequenceTag, EncodingRules, Der, ElementAhead}
 use Rattle.der.specs.Prelude.{element_octets, element_levels, fields_levels, FieldsAhead, IsLawful}
@@ -28,10 +28,10 @@ use Rattle.der_asn1.specs.declared.defaulted.Defaulted.{Defaulted}
 use Rattle.der_asn1.specs.declared.either.Either.{Either}
 use Rattle.der_asn1.specs.declared.optional.Optional.{Optional}
 
--- a field: which values stand at the front of octets and in how many of them, which there are and
--- how they are written, how deep they nest, and whether they always have octets; the tags that they
--- may begin with, and those that may not follow them; and the laws of it, where a test says that
--- its own parts may stand as they do
+-- a field: which values can be read from the front of octets and how many octets each has
+-- (`stands`), the valid values and their encodings, the levels of nesting, and whether the field is
+-- never empty (`always`); the tags it may begin with (`first`), and the tags that must not follow
+-- it (`stops`); and its laws, which hold if its parts are compatible (`fits`)
 pub record Field (A : Type 0) : Type 1 where
   pub stands : A → EncodingRules → List ℕ → ℕ → Type 0
   pub valid : A → Type 0
@@ -44,7 +44,7 @@ pub record Field (A : Type 0) : Type 1 where
   pub fits : Bool
   pub laws : fits ≡ true → SetLaws always first stops precedes stands valid encoding
 
--- a field that always has octets, of which the tag ahead tells whether it stands there
+-- a field that is never empty, and for which the next tag decides whether it is present
 pub record Alternative (A : Type 0) : Type 1 where
   pub stands : A → EncodingRules → List ℕ → ℕ → Type 0
   pub valid : A → Type 0
@@ -57,7 +57,7 @@ pub record Alternative (A : Type 0) : Type 1 where
   pub fits : Bool
   pub laws : fits ≡ true → ToldLaws tags first stops precedes stands valid encoding
 
--- a field with a tag of its own, which is a lawful type where a test says so
+-- a field with a fixed tag, whose type is lawful if it `fits`
 pub record Element (A : Type 0) : Type 1 where
   pub tag : Tag
   pub takes : A → EncodingRules → Head → List ℕ → Type 0
@@ -69,7 +69,7 @@ pub record Element (A : Type 0) : Type 1 where
   pub holds : fits ≡ true → (v : A) (rules : EncodingRules) (h : Head) (octets : List ℕ)
       → takes v rules h octets → valid v
 
--- an element as a field whose tag tells it
+-- an element as an alternative, decided by its tag
 abbrev pub alternative : {A : Type 0} → Element A → Alternative A
 alternative one =
     record {
@@ -85,7 +85,7 @@ alternative one =
       laws = λ e. element_told (one.lawful e) (one.holds e);
     }
 
--- a field that always has octets, as any field
+-- an alternative as a field
 abbrev pub field : {A : Type 0} → Alternative A → Field A
 field one =
     record {
@@ -117,7 +117,7 @@ any_element =
       laws = λ e. any_told;
     }
 
--- a field that may be absent
+-- an OPTIONAL field
 abbrev pub optional : {A : Type 0} → Alternative A → Field (Optional A)
 optional one =
     record {
@@ -133,7 +133,7 @@ optional one =
       laws = λ e. optional_set (one.laws e) (λ v. v.0);
     }
 
--- a field that is absent where it is the default
+-- a DEFAULT field
 abbrev pub defaulted : {A : Type 0} → (A → Bool) → Alternative A → Field (Defaulted A)
 defaulted is_default one =
     record {
@@ -149,8 +149,8 @@ defaulted is_default one =
       laws = λ e. default_set (one.laws e) is_default (λ v. v.0);
     }
 
--- two fields, one behind the other: the second may not begin with a tag that decides whether the
--- first is absent
+-- two fields in sequence; the second must not begin with a tag that decides whether the first is
+-- absent
 abbrev pub two_fields : {A B : Type 0} → Field A → Field B → Field (A × B)
 two_fields one two =
     record {
@@ -166,7 +166,7 @@ two_fields one two =
       laws = λ e. pair_set (λ v. v) e one.laws two.laws;
     }
 
--- fields in a type of their own
+-- a field converted to another type
 abbrev pub seen : {A B : Type 0} → (B → A) → Field A → Field B
 seen f one =
     record {
@@ -182,7 +182,7 @@ seen f one =
       laws = λ e. seen_set f (one.laws e);
     }
 
--- one field or the other: no tag is one of both
+-- one alternative or the other; no tag may belong to both
 abbrev pub either : {A B : Type 0} → Alternative A → Alternative B → Alternative (Either A B)
 either one two =
     record {
@@ -198,14 +198,14 @@ either one two =
       laws = λ e. either_told e one.laws two.laws;
     }
 
--- a number of a tag that the library can count (below 2 to the 32)
+-- whether a tag number is one that the library can represent (below 2 to the 32)
 abbrev pub is_small : ℕ → Bool
 is_small n = nat_lt n (2 ^ 32)
 
 pub small : (n : ℕ) → is_small n ≡ true → n < 2 ^ 32
 small n e = ltb-true n (2 ^ 32) e
 
--- contents of a form
+-- an element with checked contents
 abbrev pub of_form : {A : Type 0} → Tag → (List ℕ → Bool) → (A → List ℕ) → Element A
 of_form tag form octets =
     record {
@@ -219,7 +219,7 @@ of_form tag form octets =
       holds = λ e v rules h octets taken. subst (λ x. form x ≡ true) (sym taken.1) taken.0;
     }
 
--- octets of which something holds, such as lists and sets of elements
+-- an element whose contents are octets with a property, such as lists and sets of elements
 abbrev pub lent : {B : Type 0} → Tag → (List ℕ → Type 0) → (B → List ℕ) → Element B
 lent tag Holds octets =
     record {
@@ -233,7 +233,7 @@ lent tag Holds octets =
       holds = λ e. lent_holds Holds octets;
     }
 
--- an element fits, and nests at most 62 levels, so that it may stand in another one
+-- an element fits, and has at most 62 levels of nesting, so that another element may contain it
 abbrev pub is_shallow : Bool → (EncodingRules → ℕ) → Bool
 is_shallow fits levels = fits && nat_lt (levels Der) 63
 
@@ -254,7 +254,7 @@ seen_lawful f one =
       numbered = one.numbered;
     }
 
--- fields as the contents of an element
+-- laws of a field that is exactly the contents of an element
 module _ {A : Type 0} {fits always : Bool} {first stops : List (Option Tag)}
     {P : A → List ℕ → Type 0} {Ahead : A → EncodingRules → List ℕ → ℕ → Type 0}
     {valid : A → Type 0} {encoding : A → List ℕ} (levels : EncodingRules → ℕ)
@@ -273,7 +273,7 @@ module _ {A : Type 0} {fits always : Bool} {first stops : List (Option Tag)}
       (laws_of (laws (both_true fits (nat_lt (levels Der) 63) e).0)) (omega (arith, low))
       (omega arith)
 
--- a SEQUENCE of fields, which are wholly its contents
+-- a SEQUENCE whose contents are exactly a field
 abbrev pub sequence : {A B : Type 0} → Field A → (B → A) → Element B
 sequence one f =
     record {
@@ -287,7 +287,7 @@ sequence one f =
       holds = sequence_holds one.levels one.laws f;
     }
 
--- an element in another type
+-- an element converted to another type
 abbrev pub renamed : {A B : Type 0} → Element A → (B → A) → Element B
 renamed one f =
     record {
@@ -301,7 +301,7 @@ renamed one f =
       holds = λ e b. one.holds e (f b);
     }
 
--- a context-specific tag for the same contents
+-- the same contents with a context-specific tag
 abbrev pub implicit : {A B : Type 0} → ℕ → Element A → (B → A) → Element B
 implicit n one f =
     record {
@@ -319,7 +319,7 @@ implicit n one f =
           (retagged one.tag h) octets taken;
     }
 
--- a context-specific tag around an element
+-- an element inside one with a context-specific tag
 abbrev pub explicit : {A B : Type 0} → ℕ → Element A → (B → A) → Element B
 explicit n one f =
     record {

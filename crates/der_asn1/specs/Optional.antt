@@ -1,4 +1,4 @@
--- Fields that may be absent (X.690 8.9.3): `OptionAhead`, and the rows of reading and writing one
+-- OPTIONAL fields (X.690 8.9.3): `OptionAhead`, and the possible results of reading and writing one
 -- (`OptionRead`, `OptionWritten`).
 use Rattle.std.specs.Prelude.{◌≡◌, ℕ, true, List, [], Option, Some, None, Result, Ok, Err}
 use Rattle.der.specs.Prelude.{Tag, EncodingRules, Der, Error, definite_length, Length, WriterAnswer}
@@ -8,7 +8,7 @@ use Rattle.der.specs.Tag.{IdentifierFault}
 use Rattle.der.specs.Decode.{Peeks}
 use Rattle.der_asn1.specs.Follow.{NoTagIn}
 
--- a value, or none of the tags that one begins with
+-- a value, or nothing if none of its tags is next
 abbrev pub OptionAhead : {A : Type 0} → (Tag → Type 0)
     → (A → EncodingRules → List ℕ → ℕ → Type 0) → Option A → EncodingRules → List ℕ → ℕ → Type 0
 OptionAhead tags Ahead None rules octets m = (m ≡ 0) × NoTagIn tags rules octets
@@ -27,7 +27,7 @@ abbrev pub OptionPrecedes : {A : Type 0} → (Tag → Type 0) → (A → List �
 OptionPrecedes tags MayPrecede None behind = NoTagIn tags Der behind
 OptionPrecedes tags MayPrecede (Some v) behind = MayPrecede v behind
 
--- what reading answers: nothing at the end, or where another tag stands ahead; else the value
+-- the result of reading: nothing at the end or if another tag is next; else the value
 pub data OptionRead {A E : Type 0} (tags : Tag → Type 0) (converts : Error → E → Type 0)
     (answers : ReaderState → Result A E → ReaderState → Type 0) (s : ReaderState)
     (result : Result (Option A) E) (t : ReaderState) : Type 0 where
@@ -40,12 +40,12 @@ pub data OptionRead {A E : Type 0} (tags : Tag → Type 0) (converts : Error →
   chosen : (u : Tag) (r : Result A E) → Peeks TagAhead IdentifierFault true s (Ok u) → tags u
       → answers s r t → result ≡ map_ok Some r → OptionRead tags converts answers s result t
 
--- how many octets there are, and what writing answers
+-- the number of octets
 abbrev pub option_size : {A : Type 0} → (A → Result Length Error) → Option A → Result Length Error
 option_size size None = Ok (definite_length 0)
 option_size size (Some v) = size v
 
--- the rows of writing: nothing is no octets
+-- the possible results of writing: no octets for nothing
 abbrev pub OptionWritten : {A : Type 0} → (A → WriterAnswer) → Option A → WriterAnswer
 OptionWritten answers None s result t = (result ≡ Ok tt) × (t ≡ s)
 OptionWritten answers (Some v) s result t = answers v s result t

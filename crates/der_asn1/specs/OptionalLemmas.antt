@@ -1,4 +1,4 @@
--- Fields that may be absent are read as they are written.
+-- Lemmas: an OPTIONAL field is read as it is written.
 use Rattle.std.proofs.Common.{◌≡◌, ℕ, ◌^◌, ◌<◌, ◌⊎◌, inl, inr, List, [], length, Option, Some, None}
 use Rattle.std.proofs.Common.{refl, sym, subst}
 use Rattle.der.specs.Prelude.{Tag, EncodingRules, Der}
@@ -43,7 +43,7 @@ module _ {A : Type 0} {tags : Tag → Type 0} {Ahead : A → EncodingRules → L
             precedes = e.precedes;
           })
 
--- fields may be absent, and where they are no tag of theirs may follow
+-- an OPTIONAL field begins with one of its tags, or is empty
 pub option_may_start : {A : Type 0} {tags : Tag → Type 0} {valid : A → Type 0}
     {encoding : A → List ℕ} → Starts valid encoding tags
     → MayStart (IsOptional valid) (option_encoding encoding) tags

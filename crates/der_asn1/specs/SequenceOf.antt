@@ -1,9 +1,9 @@
--- Elements of one type, one behind the other, as in a SEQUENCE OF (X.690 8.10): `IsListOf` of
--- encodings, `AreElements` of elements; `IsAtItem` is a reader that stands before them.
+-- Elements of one type, in sequence, as in a SEQUENCE OF (X.690 8.10): `IsListOf` for encodings,
+-- `AreElements` for elements; `IsAtItem` is a reader that can read them.
 use Rattle.std.specs.Prelude.{◌≡◌, ℕ, false, List, [], ◌∷◌, ◌++◌}
 use Rattle.der.specs.Prelude.{Tag, Der, ReaderState, element_octets}
 
--- each value of a list is valid, and their encodings one behind the other
+-- all values of a list are valid; below, their encodings in sequence
 abbrev pub AllValid : {A : Type 0} → (A → Type 0) → List A → Type 0
 AllValid valid [] = Unit {0}
 AllValid valid (v ∷ vs) = valid v × AllValid valid vs
@@ -12,18 +12,18 @@ abbrev pub joined_encodings : {A : Type 0} → (A → List ℕ) → List A → L
 joined_encodings encoding [] = []
 joined_encodings encoding (v ∷ vs) = encoding v ++ joined_encodings encoding vs
 
--- octets are the encodings of valid values, one behind the other
+-- octets are the encodings of valid values, in sequence
 pub record IsListOf {A : Type 0} (valid : A → Type 0) (encoding : A → List ℕ) (octets : List ℕ)
     : Type 0 where
   pub items : List A
   pub are_valid : AllValid valid items
   pub joined : octets ≡ joined_encodings encoding items
 
--- octets are the elements of valid values with this tag, one behind the other
+-- octets are the elements of valid values with this tag, in sequence
 abbrev pub AreElements : {A : Type 0} → Tag → (A → Type 0) → (A → List ℕ) → List ℕ → Type 0
 AreElements tag valid contents octets = IsListOf valid (λ v. element_octets tag (contents v)) octets
 
--- a reader of DER stands before elements, outside of all parts
+-- a DER reader that has not failed and is not inside a nested part
 pub record IsAtItem (s : ReaderState) : Type 0 where
   pub der : s.rules ≡ Der
   pub working : s.failed ≡ false

@@ -1,5 +1,5 @@
--- The laws of fields whose tags are sets that a test tells apart (`SetLaws`, `ToldLaws`): whether
--- fields may stand one behind the other is a test.
+-- The laws of fields whose tags are decidable sets (`SetLaws`, `ToldLaws`), so that a computed
+-- check decides whether fields may follow each other.
 use Rattle.std.proofs.Common.{◌≡◌, ◌⊎◌, inl, inr, ℕ, Bool, true, false}
 use Rattle.std.proofs.Common.{if◌then◌else◌, List, [], ◌∷◌, ◌++◌, Option, Some}
 use Rattle.der.specs.Prelude.{Head, Tag, EncodingRules, ElementAhead, element_octets}
@@ -15,8 +15,8 @@ use Rattle.der_asn1.specs.Optional.{OptionAhead, IsOptional, option_encoding, Op
 use Rattle.der_asn1.specs.TagSets.{IsIn}
 use Rattle.der_asn1.specs.TagSetLemmas.{in_either}
 
--- a field is read as it is written, begins with a tag of the first set, may stand before what
--- begins with none of the second, and where `always` is true has octets
+-- a field is read as it is written, begins with a tag of the set `first`, may precede octets that
+-- begin with no tag of the set `stops`, and is never empty if `always` is true
 pub record SetLaws {A : Type 0} (always : Bool) (first stops : List (Option Tag))
     (Precedes : A → List ℕ → Type 0) (Ahead : A → EncodingRules → List ℕ → ℕ → Type 0)
     (valid : A → Type 0) (encoding : A → List ℕ) : Type 0 where
@@ -27,7 +27,7 @@ pub record SetLaws {A : Type 0} (always : Bool) (first stops : List (Option Tag)
   pub holds : (v : A) (rules : EncodingRules) (octets : List ℕ) (m : ℕ) → Ahead v rules octets m
       → valid v
 
--- a field that always has octets, where the tag ahead tells whether it stands there
+-- a field that is never empty, and for which the next tag decides whether it is present
 pub record ToldLaws {A : Type 0} (tags : Tag → Type 0) (first stops : List (Option Tag))
     (Precedes : A → List ℕ → Type 0) (Ahead : A → EncodingRules → List ℕ → ℕ → Type 0)
     (valid : A → Type 0) (encoding : A → List ℕ) : Type 0 where
@@ -59,7 +59,7 @@ precedes_fewer : {A : Type 0} {valid : A → Type 0} {P : A → List ℕ → Typ
 precedes_fewer wider one =
     record { precedes = λ v behind is none. one.precedes v behind is (fewer_tags wider none) }
 
--- laws whose tags are in sets
+-- laws whose tags are in these sets
 module _ {A : Type 0} {Ahead : A → EncodingRules → List ℕ → ℕ → Type 0} {valid : A → Type 0}
     {encoding : A → List ℕ} where
   pub set_of : (always : Bool) (first stops : List (Option Tag))
@@ -143,7 +143,7 @@ either_in : (ts us : List (Option Tag)) (f g : Tag → Type 0) → ((t : Tag) �
 either_in ts us f g one two t (inl h) = in_either ts us t (inl (one t h))
 either_in ts us f g one two t (inr h) = in_either ts us t (inr (two t h))
 
--- a field that may be absent, and one with a default; each seen as another's value
+-- an OPTIONAL field and a DEFAULT field, each converted to another type
 module _ {A B : Type 0} {tags : Tag → Type 0} {first stops : List (Option Tag)}
     {P : A → List ℕ → Type 0}
     {Ahead : A → EncodingRules → List ℕ → ℕ → Type 0} {valid : A → Type 0} {encoding : A → List ℕ}
@@ -167,7 +167,7 @@ module _ {A B : Type 0} {tags : Tag → Type 0} {first stops : List (Option Tag)
       (either_in first stops tags (IsIn stops) one.among (λ t h. h))
       (λ e. absurd (let no : false ≡ true = e in cc))
 
--- a field in another type
+-- a field converted to another type
 pub seen_set : {A B : Type 0} {always : Bool} {first stops : List (Option Tag)}
     {P : A → List ℕ → Type 0}
     {Ahead : A → EncodingRules → List ℕ → ℕ → Type 0} {valid : A → Type 0} {encoding : A → List ℕ}
@@ -185,7 +185,7 @@ seen_set f one =
       holds = λ b. one.holds (f b);
     }
 
--- what may not follow two fields: what may not follow the second, and the first where the second
--- may be absent
+-- the tags that must not follow two fields: those of the second, and those of the first if the
+-- second may be absent
 abbrev pub pair_stops : Bool → List (Option Tag) → List (Option Tag) → List (Option Tag)
 pair_stops always first second = if always then second else first ++ second

@@ -1,21 +1,21 @@
--- Elements of one type in the order of their encodings, as in a SET OF under DER (X.690 8.12,
+-- Elements of one type in ascending order of their encodings, as in a SET OF under DER (X.690 8.12,
 -- 11.6): `AreAscending`.
 use Rattle.std.specs.Prelude.{◌≡◌, ℕ, List, [], ◌∷◌}
 use Rattle.der.specs.Prelude.{Tag, element_octets, IsBefore}
 use Rattle.der_asn1.specs.SequenceOf.{IsListOf}
 
--- no encoding comes before the octets that stand ahead of it
+-- no encoding is smaller than the one before it; the octets before the first are `ahead`
 abbrev pub Ascend : {A : Type 0} → (A → List ℕ) → List ℕ → List A → Type 0
 Ascend encoding ahead [] = Unit {0}
 Ascend encoding ahead (v ∷ vs) = (IsBefore (encoding v) ahead → ⊥) × Ascend encoding (encoding v) vs
 
--- octets are the encodings of valid values, one behind the other, which ascend behind others
+-- octets are the encodings of valid values, in sequence and in ascending order after `ahead`
 pub record IsSetBehind {A : Type 0} (valid : A → Type 0) (encoding : A → List ℕ)
     (ahead octets : List ℕ) : Type 0 where
   pub list : IsListOf valid encoding octets
   pub ascend : Ascend encoding ahead list.items
 
--- octets are the elements of valid values with this tag, and ascend: before no octets comes nothing
+-- octets are the elements of valid values with this tag, in ascending order
 abbrev pub AreAscending : {A : Type 0} → Tag → (A → Type 0) → (A → List ℕ) → List ℕ → Type 0
 AreAscending tag valid contents octets =
     IsSetBehind valid (λ v. element_octets tag (contents v)) [] octets

@@ -1,4 +1,4 @@
--- Sets of tags that are apart have no tag in common.
+-- Sets of tags that pass the check `are_apart` have no tag in common.
 use Rattle.std.proofs.Common.{◌≡◌, ℕ, ◌⊎◌, inl, inr, ◌==◌, ◌&&◌, Bool, true, false, not, List, [], ◌∷◌, ◌++◌, Option, Some, None, subst, refl, eq-eqb}
 use Rattle.der.specs.Prelude.{Tag}
 use Rattle.der.specs.Tag.{label}
@@ -46,7 +46,7 @@ sets_apart (Some u ∷ ts) us e t (inl same) in_second =
 sets_apart (Some u ∷ ts) us e t (inr h) in_second =
     sets_apart ts us (both_true (differs_from (Some u) us) (are_apart ts us) e).1 t h in_second
 
--- what is in one of two sets is in both together
+-- a tag of one of two sets is in their union
 pub in_either : (ts us : List (Option Tag)) (t : Tag) → IsIn ts t ⊎ IsIn us t → IsIn (ts ++ us) t
 in_either [] us t (inl h) = absurd h
 in_either [] us t (inr h) = h

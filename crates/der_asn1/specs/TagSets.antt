@@ -1,9 +1,9 @@
--- Sets of tags (`IsIn`) that a test tells apart (`are_apart`).
+-- Decidable sets of tags (`IsIn`), and a check that two have no tag in common (`are_apart`).
 use Rattle.std.proofs.Common.{◌≡◌, ◌⊎◌, ◌==◌, ◌&&◌, Bool, true, false, not, List, [], ◌∷◌, Option, Some, None}
 use Rattle.der.specs.Prelude.{Tag}
 use Rattle.der.specs.Tag.{label}
 
--- a set is a list of its tags; `None` in it is every tag
+-- a set is a list of its tags; the item `None` means every tag
 abbrev pub IsIn : List (Option Tag) → Tag → Type 0
 IsIn [] t = ⊥
 IsIn (None ∷ us) t = Unit {0}

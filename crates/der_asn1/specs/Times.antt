@@ -1,4 +1,4 @@
--- Dates with times of the day (`is_date_time`, `is_utc_time`), and how they are written
+-- Dates with a time of day (`is_date_time`, `is_utc_time`), and how they are written
 -- (`generalized_octets`, `utc_octets`) and read (`generalized_reading`, `utc_reading`; X.690 11.7,
 -- 11.8; RFC 5280, 4.1.2.5).
 use Rattle.std.specs.Prelude.{ℕ, ◌+◌, ◌*◌, ◌/◌, ◌%◌, ◌==◌, ◌&&◌, ◌||◌, not, Bool, nat_lt, nat_le}
@@ -10,24 +10,24 @@ use Rattle.der_asn1.specs.declared.date_time.DateTime.{DateTime}
 abbrev pub is_leap_year : ℕ → Bool
 is_leap_year year = (year % 4 == 0) && (not (year % 100 == 0) || (year % 400 == 0))
 
--- how many days a month has
+-- the number of days of a month
 abbrev pub days_of : ℕ → ℕ → ℕ
 days_of year month =
     if month == 2 then (if is_leap_year year then 29 else 28)
     else if (month == 4) || (month == 6) || (month == 9) || (month == 11) then 30 else 31
 
--- there is such a day, in a year of four digits, and such a time
+-- whether the date exists, with a year of at most four digits, and the time too
 abbrev pub is_date_time : DateTime → Bool
 is_date_time t =
     nat_lt t.year 10000 && (nat_lt 0 t.month && (nat_lt t.month 13 && (nat_lt 0 t.day
     && (nat_le t.day (days_of t.year t.month) && (nat_lt t.hour 24 && (nat_lt t.minute 60
     && nat_lt t.second 60))))))
 
--- there is such a time, in a year that two digits tell
+-- whether the time exists, in a year from 1950 to 2049, which two digits determine
 abbrev pub is_utc_time : DateTime → Bool
 is_utc_time t = nat_le 1950 t.year && (nat_lt t.year 2050 && is_date_time t)
 
--- the digits of a number below 100
+-- the two decimal digits of a number below 100
 abbrev pub two_digits : ℕ → List ℕ
 two_digits n = (48 + n / 10) ∷ (48 + n % 10) ∷ []
 
@@ -41,15 +41,15 @@ time_octets t =
 abbrev pub generalized_octets : DateTime → List ℕ
 generalized_octets t = two_digits (t.year / 100) ++ two_digits (t.year % 100) ++ time_octets t
 
--- the contents of a UTCTime: the year has two
+-- the contents of a UTCTime: the year has two digits
 abbrev pub utc_octets : DateTime → List ℕ
 utc_octets t = two_digits (t.year % 100) ++ time_octets t
 
--- the number that two octets at a place are, if they are the digits of one
+-- the number whose two decimal digits are at a place, if there are digits
 abbrev pub two_at : ℕ → List ℕ → ℕ
 two_at i octets = slice_index_or octets i 0 % 16 * 10 + slice_index_or octets (i + 1) 0 % 16
 
--- the time whose month stands at a place
+-- the time whose month begins at a place
 abbrev pub time_from : ℕ → ℕ → List ℕ → DateTime
 time_from year i octets =
     record {
@@ -65,14 +65,14 @@ time_from year i octets =
 abbrev pub utc_year : ℕ → ℕ
 utc_year n = if nat_lt n 50 then 2000 + n else 1900 + n
 
--- the times that contents tell, if they are those of one
+-- the time that the contents encode, if they are valid
 abbrev pub generalized_reading : List ℕ → DateTime
 generalized_reading octets = time_from (two_at 0 octets * 100 + two_at 2 octets) 4 octets
 
 abbrev pub utc_reading : List ℕ → DateTime
 utc_reading octets = time_from (utc_year (two_at 0 octets)) 2 octets
 
--- contents are those of a time that is one: of the one that they tell
+-- whether contents are valid: the time that they seem to encode exists, and its contents are these
 abbrev pub generalized_form : List ℕ → Bool
 generalized_form octets =
     (length octets == 15) && (is_date_time (generalized_reading octets)

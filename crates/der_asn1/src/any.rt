@@ -1,4 +1,4 @@
-//! An element of any tag.
+//! Elements of any tag.
 ghost use Rattle.std.specs.Prelude.{◌≡◌, false};
 ghost use Rattle.der.specs.Prelude.{element_levels};
 ghost use Rattle.der_asn1.specs.AnyRef.{IsAny, TakesAny, AnyRead, any_contents, any_size};
@@ -12,13 +12,13 @@ use der::{
 };
 use std::alloc::Global;
 
-/// An element of any tag: the tag, and the contents as they stand, lent by the input. It is ANY of
-/// older modules, and what an open type has.
+/// An element of any tag: its tag, and its contents borrowed from the input. It is ANY of older
+/// modules, and the value of an open type.
 #[derive(Clone, Copy)]
 pub struct AnyRef<'a> {
     /// The tag.
     pub tag: Tag,
-    /// The contents.
+    /// The contents octets.
     pub contents: &'a [u8],
 }
 
@@ -42,7 +42,7 @@ impl<'a> ReadValue for AnyRef<'a> {
     ghost takes_valid = { λ v rules h octets taken. taken.numbered };
 }
 
-/// The contents are lent as they stand, whatever the header.
+/// Borrows the contents from the input. The header gives the tag and the length.
 ///
 /// # Errors
 ///
@@ -94,7 +94,7 @@ impl<'a> WrittenValue for AnyRef<'a> {
 
 /// # Errors
 ///
-/// - `Overflow` without a position, where there are more than 4294967295 octets.
+/// - `Overflow` without a position, if there are more than 4294967295 octets.
 /// - The writer's errors, as by [`Writer::write`].
 impl<'a> EncodeValue for AnyRef<'a> {
     ghost value_size = { any_size };

@@ -6,7 +6,7 @@ use crate::checked::Checked;
 use crate::object_identifier::ObjectIdentifierForm;
 use crate::subidentifier::{first_arc_of, first_subidentifier, narrow, second_arc_of};
 
-// Which arc is the next.
+// Which arc is next.
 #[derive(Clone, Copy)]
 enum Stage {
     First,
@@ -14,7 +14,7 @@ enum Stage {
     Other,
 }
 
-/// A walk over the arcs of an OBJECT IDENTIFIER.
+/// An iterator over the arcs of an OBJECT IDENTIFIER.
 #[derive(Drop)]
 pub struct Arcs<'a> {
     octets: &'a [u8],
@@ -25,7 +25,7 @@ pub struct Arcs<'a> {
 impl<'a> Checked<'a, ObjectIdentifierForm> {
     ghost use Rattle.der_asn1.specs.Arcs.{arcs_left, oid_arcs, oid_octets};
 
-    /// A walk over the arcs, at the first.
+    /// An iterator over all arcs.
     pub fn arcs(&self) -> Arcs<'a>
         ensures arcs { arcs_left result ≡ oid_arcs self.now.octets.now }
         ensures octets { oid_octets (arcs_left result) ≡ self.now.octets.now }
@@ -38,7 +38,7 @@ impl<'a> Arcs<'a> {
     ghost use Rattle.der_asn1.specs.Forms.{oid_form};
     ghost use Rattle.der_asn1.specs.Arcs.{arcs_left, oid_arcs, oid_octets};
 
-    // A walk over the arcs of these contents.
+    // An iterator over the arcs of these contents.
     fn new(octets: &'a [u8]) -> Self
         requires { oid_form octets.now ≡ true }
         ensures arcs { arcs_left result ≡ oid_arcs octets.now }
@@ -51,7 +51,7 @@ impl<'a> Arcs<'a> {
     }
 }
 
-/// Each arc is a number where it has 32 bits, and else `None`.
+/// Yields each arc as a number, or `None` for an arc above 4294967295.
 impl<'a> Iterator for Arcs<'a> {
     ghost use Rattle.std.specs.Iterator.{YieldsFirst, item_count};
     ghost use Rattle.der_asn1.specs.Arcs.{arc_items};

@@ -1,4 +1,4 @@
-//! A BIT STRING.
+//! BIT STRING.
 ghost use Rattle.std.specs.Prelude.{◌≡◌, ◌<◌};
 ghost use Rattle.std.proofs.Common.{arith};
 ghost use Rattle.der.specs.Prelude.{BitString as BitTag};
@@ -8,11 +8,11 @@ use crate::checked::Checked;
 use crate::form::Form;
 use der::{FixedTag, Tag};
 
-/// The form of a BIT STRING: the number of unused bits, and octets of which these are zero
+/// Contents of a BIT STRING: the number of unused bits, and the octets, whose unused bits are zero
 /// (X.690 8.6.2, 11.2.1).
 pub struct BitStringForm;
 
-/// A BIT STRING, lent by the input. Its first octet is the number of unused bits.
+/// A BIT STRING borrowed from the input. The first octet is the number of unused bits.
 pub type BitStringRef<'a> = Checked<'a, BitStringForm>;
 
 impl FixedTag for BitStringForm {
@@ -40,7 +40,7 @@ impl Form for BitStringForm {
     ghost numbered = { Prim.omega arith };
 }
 
-// Whether so many of the last bits are zero.
+// Whether the last `unused` bits are zero.
 #[inline(always)]
 fn ends_in_zeros(unused: u8, bits: &[u8]) -> bool
     requires { unused < 8 }

@@ -1,4 +1,4 @@
-//! A BMPString.
+//! BMPString.
 ghost use Rattle.std.proofs.Common.{arith};
 ghost use Rattle.der.specs.Prelude.{BmpString as BmpTag};
 ghost use Rattle.std.specs.Prelude.{◌≡◌, ◌&&◌};
@@ -8,11 +8,11 @@ use crate::checked::Checked;
 use crate::form::Form;
 use der::{FixedTag, Tag};
 
-/// The form of a BMPString: codes of two octets each, of characters of the Basic Multilingual Plane
-/// (X.690 8.23.9).
+/// Contents of a BMPString: characters of the Basic Multilingual Plane, of two octets each (X.690
+/// 8.23.9).
 pub struct BmpStringForm;
 
-/// A BMPString, lent by the input.
+/// A BMPString borrowed from the input.
 pub type BmpStringRef<'a> = Checked<'a, BmpStringForm>;
 
 impl FixedTag for BmpStringForm {
@@ -42,7 +42,8 @@ impl Form for BmpStringForm {
     ghost numbered = { Prim.omega arith };
 }
 
-// Whether it is the first octet of a code, and of one that is no character by itself.
+// Whether `octet` begins a code (`starts`) and that code is a surrogate, which is no character by
+// itself.
 fn begins_surrogate(starts: bool, octet: u8) -> bool
     ensures { result ≡ (starts && is_surrogate octet) }
 {

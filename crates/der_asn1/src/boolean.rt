@@ -1,4 +1,4 @@
-//! A BOOLEAN.
+//! BOOLEAN.
 ghost use Rattle.std.specs.Prelude.{◌≡◌, ◌∷◌, [], true, ◌↔◌};
 ghost use Rattle.std.proofs.Common.{arith};
 ghost use Rattle.der.specs.Prelude.{Boolean as BooleanTag};
@@ -9,10 +9,10 @@ use crate::default_form::DefaultForm;
 use crate::form::Form;
 use der::{FixedTag, Tag};
 
-/// The form of a BOOLEAN: octet `0x00` is false, and `0xFF` true (X.690 8.2, 11.1).
+/// Contents of a BOOLEAN: `0x00` for false, `0xFF` for true (X.690 8.2, 11.1).
 pub struct BooleanForm;
 
-/// A BOOLEAN, lent by the input.
+/// A BOOLEAN borrowed from the input.
 pub type BooleanRef<'a> = Checked<'a, BooleanForm>;
 
 impl FixedTag for BooleanForm {
@@ -41,7 +41,7 @@ impl Form for BooleanForm {
 }
 
 impl<'a> Checked<'a, BooleanForm> {
-    /// Whether it is true.
+    /// Whether the value is true.
     pub fn is_true(&self) -> bool
         ensures { (result ≡ true) ↔ (self.now.octets.now ≡ 255 ∷ []) }
     {
@@ -52,7 +52,7 @@ impl<'a> Checked<'a, BooleanForm> {
     }
 }
 
-/// The default is false, as in formats that have a BOOLEAN with a default.
+/// The default is false, as in modules that have a BOOLEAN with a default.
 impl DefaultForm for BooleanForm {
     ghost default_form = { is_false };
 

@@ -1,4 +1,4 @@
-//! Types whose contents are octets of a form, lent by the input.
+//! Types whose contents are checked octets borrowed from the input.
 ghost use Rattle.std.specs.Prelude.{◌≡◌, true, false, IfSome, IsSome, ◌↔◌, ⊤};
 ghost use Rattle.std.proofs.Common.{arith, subst, sym};
 ghost use Rattle.der_asn1.specs.Checked.{HasForm, TakesForm, FormRead, form_size};
@@ -15,14 +15,14 @@ use der::{
 use std::alloc::{AllocError, Global};
 use std::marker::PhantomData;
 
-/// Octets of a form, lent by the input.
+/// Octets borrowed from the input that are valid contents of a type (`F`).
 pub struct Checked<'a, F: Form> {
     octets: &'a [u8],
     form: PhantomData<F>,
     ghost checked: { F.form octets.now ≡ true },
 }
 
-/// A clone has the same octets; it takes no memory.
+/// A clone has the same octets; cloning does not allocate.
 impl<'a, F: Form> Clone for Checked<'a, F> {
     ghost is_clone = { λ p q. q ≡ p };
 
@@ -36,7 +36,7 @@ impl<'a, F: Form> Clone for Checked<'a, F> {
 impl<'a, F: Form> Copy for Checked<'a, F> {}
 
 impl<'a, F: Form> Checked<'a, F> {
-    /// The octets, where they have the form.
+    /// Wraps the octets if they are valid contents of the type, else `None`.
     #[inline(always)]
     pub fn new(octets: &'a [u8]) -> Option<Self>
         ensures some { IsSome result ↔ (F.form octets.now ≡ true) }
@@ -52,7 +52,7 @@ impl<'a, F: Form> Checked<'a, F> {
         }
     }
 
-    // These octets, which have the form.
+    // Wraps octets that are known to be valid contents.
     #[inline(always)]
     pub(crate) fn formed(octets: &'a [u8]) -> Self
         requires { F.form octets.now ≡ true }
@@ -64,7 +64,7 @@ impl<'a, F: Form> Checked<'a, F> {
         }
     }
 
-    /// The octets.
+    /// The contents octets.
     #[inline(always)]
     pub fn octets(&self) -> &'a [u8]
         ensures value { result.now ≡ self.now.octets.now }
@@ -100,12 +100,14 @@ impl<'a, F: Form> ReadValue for Checked<'a, F> {
         subst (λ x. F.form x ≡ true) (sym taken.1) taken.0 };
 }
 
-/// The contents are lent as they stand, whatever the header; also under BER they have the form.
+/// Borrows the contents from the input and checks them, under BER as strictly as under DER. The
+/// header gives only the length.
 ///
 /// # Errors
 ///
 /// - Those of the contents, as by [`Reader::read_slice`].
-/// - `Value` of the tag behind octets that have not the form; the reader has failed then.
+/// - `Value` with the tag, at the position after contents that are not valid; the reader has failed
+///   then.
 impl<'a, F: Form, R: Reader<Lent = &'a [u8]>> DecodeValue<R> for Checked<'a, F> {
     type Error = Error;
 
@@ -133,7 +135,7 @@ impl<'a, F: Form> WrittenValue for Checked<'a, F> {
 
 /// # Errors
 ///
-/// - `Overflow` without a position, where there are more than 4294967295 octets.
+/// - `Overflow` without a position, if there are more than 4294967295 octets.
 /// - The writer's errors, as by [`Writer::write`].
 impl<'a, F: Form> EncodeValue for Checked<'a, F> {
     ghost value_size = { λ v. form_size v.octets.now };

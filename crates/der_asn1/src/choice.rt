@@ -1,4 +1,4 @@
-//! Types that the tag ahead tells.
+//! Types recognized by the next tag.
 ghost use Rattle.std.specs.Prelude.{◌↔◌, ℕ, List, IsTrue};
 ghost use Rattle.der.specs.Prelude.{Tag as ATag, EncodingRules as Rules};
 ghost use Rattle.der_asn1.specs.Follow.{TagIn, this_tag, any_tag};
@@ -7,10 +7,10 @@ ghost use Rattle.der_asn1.specs.Begins.{element_begins, any_element_begins};
 use crate::any::AnyRef;
 use der::{Decode, DecodeValue, FixedTag, Reader, Tag};
 
-/// Types of which the tag ahead tells whether a value stands there.
+/// Types for which the next tag decides whether a value is next.
 ///
-/// Ghost members: `chooses` says which tags those are; `begins` is the law that a value begins with
-/// one of them.
+/// Ghost members: `chooses` says which tags those are; `begins` proves that a value begins with one
+/// of them.
 pub trait Choice<R: Reader>: Decode<R> {
     ghost chooses: { ATag → Type 0 };
 
@@ -18,7 +18,7 @@ pub trait Choice<R: Reader>: Decode<R> {
     fn can_decode(tag: Tag) -> bool
         ensures { IsTrue result ↔ chooses tag };
 
-    // a value begins with such a tag
+    // A value begins with such a tag.
     ghost begins: { (v : Self) (rules : Rules) (octets : List ℕ) (m : ℕ)
         → Self.stands_ahead v rules octets m → TagIn chooses rules octets };
 }

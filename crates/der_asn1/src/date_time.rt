@@ -1,8 +1,8 @@
-//! Dates with times of the day.
+//! Dates with a time of day.
 ghost use Rattle.std.specs.Prelude.{◌≡◌};
 ghost use Rattle.der_asn1.specs.Times.{is_date_time, is_leap_year, days_of};
 
-/// A date of the Gregorian calendar with a time of the day, in UTC.
+/// A date of the Gregorian calendar with a time of day, in UTC.
 #[derive(Clone, Copy, Debug, PartialEq, Eq, PartialOrd, Ord)]
 pub struct DateTime {
     /// The year.
@@ -20,8 +20,8 @@ pub struct DateTime {
 }
 
 impl DateTime {
-    /// Whether there is such a day, in a year below 10000, and such a time; no second is a leap
-    /// second.
+    /// Whether the date exists and its year is below 10000, and the time exists; leap seconds do
+    /// not.
     pub fn is_valid(&self) -> bool
         ensures { result ≡ is_date_time self.now }
     {
@@ -36,7 +36,7 @@ impl DateTime {
     }
 }
 
-// How many days the month has.
+// The number of days of the month.
 fn days_in(year: u16, month: u8) -> u8
     ensures { result ≡ days_of year month }
 {

@@ -1,4 +1,4 @@
-//! Forms of octets with a default.
+//! Types with a default, by their contents.
 ghost use Rattle.std.specs.Prelude.{◌≡◌, Bool, true, List, ℕ};
 ghost use Rattle.std.proofs.Common.{ap};
 ghost use Rattle.der_asn1.specs.CheckedLemmas.{one_form, one_explicit_form};
@@ -9,18 +9,18 @@ use crate::explicit::Explicit;
 use crate::form::Form;
 use der::Reader;
 
-/// A form of which some octets are the default, where a field has one.
+/// Types of which some contents are the default value, for a DEFAULT field.
 ///
-/// Ghost member: `default_form` says which octets those are.
+/// Ghost member: `default_form` says which contents those are.
 pub trait DefaultForm: Form {
     ghost default_form: { List ℕ → Bool };
 
-    /// Octets that are the default.
+    /// Contents of the default value.
     fn default_octets() -> &'static [u8]
         ensures formed { Self.Form.form result.now ≡ true }
         ensures value { default_form result.now ≡ true };
 
-    /// Whether octets are the default.
+    /// Whether these contents are the default value.
     fn is_default(octets: &[u8]) -> bool
         ensures { result ≡ default_form octets.now };
 }

@@ -1,4 +1,4 @@
-//! Fields with a default.
+//! DEFAULT fields.
 ghost use Rattle.std.specs.Prelude.{◌≡◌, ◌↔◌, ℕ, Bool, true, List, IsTrue};
 ghost use Rattle.der.specs.Prelude.{EncodingRules as Rules, Der, map_ok};
 ghost use Rattle.der_asn1.specs.Default.{DefaultAhead, DefaultRead, IsDefaulted, default_encoding};
@@ -8,32 +8,32 @@ use crate::choice::Choice;
 use der::{Decode, Encode, EncodingRules, Error, ErrorKind, Length, Reader, ReaderExt, Writer};
 use std::alloc::Global;
 
-/// Types that have a default in a field.
+/// Types that have a default value in a DEFAULT field.
 ///
 /// Ghost member: `is_default` says which values are the default.
 pub trait DefaultValue: Sized {
     ghost is_default: { Self → Bool };
 
-    /// The default.
+    /// The default value.
     fn default_value() -> Self
         ensures { is_default result ≡ true };
 
-    /// Whether a value is the default.
+    /// Whether the value is the default.
     fn has_default(&self) -> bool
         ensures { result ≡ is_default self.now };
 }
 
-/// Types with a default that are decoded.
+/// Types with a default value that can be decoded.
 ///
-/// Ghost member: `told` is the law that the octets decide whether a value is the default.
+/// Ghost member: `told` proves that the octets decide whether a value is the default.
 pub trait HasDefault<R: Reader>: Choice<R> + DefaultValue {
-    // of two values that stand in the same place both are the default, or neither
+    // If two values can be decoded from the same octets, both are the default or neither is.
     ghost told: { (v w : Self) (rules : Rules) (octets : List ℕ) (m n : ℕ)
         → Self.stands_ahead v rules octets m → Self.stands_ahead w rules octets n
         → Self.is_default v ≡ Self.is_default w };
 }
 
-// Whether a value that was read is a default that may not be written.
+// Whether a value was encoded although it is the default and the rules are DER.
 #[inline(always)]
 fn is_written_default<R: Reader, T: HasDefault<R>>(rules: EncodingRules, value: &T) -> bool
     ensures { IsTrue result ↔ ((rules ≡ Der) × (T.is_default value.now ≡ true)) }
@@ -41,17 +41,17 @@ fn is_written_default<R: Reader, T: HasDefault<R>>(rules: EncodingRules, value: 
     rules.is_der() && value.has_default()
 }
 
-/// A DEFAULT field: a value, which is absent where it is the default (X.690 11.5). Under BER the
-/// default may also be written (8.9.3).
+/// A DEFAULT field: it is absent if its value is the default (X.690 11.5). Under BER the default
+/// may also be encoded (8.9.3).
 #[derive(Drop)]
 pub struct Defaulted<T>(pub T);
 
 /// # Errors
 ///
-/// - Those of [`ReaderExt::peek_tag`], where no tag is read; the reader is unchanged.
+/// - Those of [`ReaderExt::peek_tag`], if the next octets are no tag; the reader is unchanged.
 /// - Those of the value.
-/// - `Noncanonical` of the tag at the position behind a default that is written, under DER; the
-///   reader has failed then.
+/// - `Noncanonical` with the tag, at the position after an encoded default, under DER; the reader
+///   has failed then.
 impl<R: Reader, T: HasDefault<R>> Decode<R> for Defaulted<T> {
     type Error = <T as Decode<R>>::Error;
 
@@ -81,7 +81,7 @@ impl<R: Reader, T: HasDefault<R>> Decode<R> for Defaulted<T> {
     }
 }
 
-/// The default is written as no octets.
+/// Writes no octets for the default.
 ///
 /// # Errors
 ///

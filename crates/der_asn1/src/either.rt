@@ -10,20 +10,21 @@ use crate::choice::Choice;
 use der::{Decode, Encode, Error, ErrorKind, Length, Reader, ReaderExt, Tag, Writer};
 use std::alloc::Global;
 
-/// A CHOICE of two types, told by the tag ahead (X.690 8.13). A choice of more is one of choices.
+/// A CHOICE of two types, decided by the next tag (X.690 8.13). For more alternatives, nest
+/// choices.
 #[derive(Clone, Copy, Drop)]
 pub enum Either<A, B> {
-    /// A value of the first type, which is asked first.
+    /// A value of the first type, whose tags are tried first.
     First(A),
-    /// A value of the second.
+    /// A value of the second type.
     Second(B),
 }
 
 /// # Errors
 ///
-/// - Those of [`Tag::peek`], where no tag is read; the reader stays.
-/// - `TagUnexpected` without an expected tag, at the position, where neither begins with the tag
-///   ahead; the reader has failed then.
+/// - Those of [`Tag::peek`], if the next octets are no tag; the reader is unchanged.
+/// - `TagUnexpected` without an expected tag, at the position, if no value of either type begins
+///   with the next tag; the reader has failed then.
 /// - Those of the value.
 impl<R: Reader, A: Choice<R>, B: Choice<R> + Decode<R, Error = <A as Decode<R>>::Error>> Decode<R>
     for Either<A, B> {

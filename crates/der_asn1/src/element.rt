@@ -1,4 +1,4 @@
-//! Elements whose tag their contents decide.
+//! Elements whose type has no fixed tag.
 ghost use Rattle.std.specs.Prelude.{◌≡◌, ℕ, ◌+◌, ◌≤◌, true, false, IfOk};
 ghost use Rattle.der.specs.Prelude.{rest_of, Same, element_levels, head_of};
 ghost use Rattle.der.specs.Decode.{Passes, ReadsOrLacks};
@@ -8,9 +8,9 @@ ghost use Rattle.der_asn1.specs.AnyElement.{AnyElementAhead, AnyElementRead};
 use der::{DecodeValue, Header, Reader, decode_header, read_value};
 use std::alloc::Global;
 
-/// Decodes an element of any tag that its type takes: its header, then its contents, and where
-/// their length is indefinite the end mark. It is `decode` of a type that has no fixed tag, as of
-/// ANY and of a CHOICE, whose `takes` says with which tags it takes contents.
+/// Decodes an element of any tag that its type accepts: its header, its contents, and after an
+/// indefinite length the end-of-contents octets. It implements `decode` of types without a fixed
+/// tag, such as ANY and CHOICE; their `takes` says which tags they accept.
 ///
 /// # Errors
 ///

@@ -1,4 +1,4 @@
-//! An ENUMERATED.
+//! ENUMERATED.
 ghost use Rattle.std.proofs.Common.{arith};
 ghost use Rattle.der.specs.Prelude.{Enumerated as EnumeratedTag};
 ghost use Rattle.std.specs.Prelude.{◌≡◌, ◌↔◌, true, IsSome, IfSome};
@@ -10,10 +10,10 @@ use crate::integer::IntegerForm;
 use crate::integer_number::IntegerNumber;
 use der::{FixedTag, Tag};
 
-/// The form of an ENUMERATED: that of the INTEGER that is its number (X.690 8.4).
+/// Contents of an ENUMERATED: those of the INTEGER that is its number (X.690 8.4).
 pub struct EnumeratedForm;
 
-/// An ENUMERATED, lent by the input.
+/// An ENUMERATED borrowed from the input.
 pub type EnumeratedRef<'a> = Checked<'a, EnumeratedForm>;
 
 impl FixedTag for EnumeratedForm {
@@ -37,7 +37,7 @@ impl Form for EnumeratedForm {
 }
 
 impl<'a> EnumeratedRef<'a> {
-    /// The number, where it is one of this type.
+    /// The number; `None` if it does not fit in this type.
     pub fn to_number<N: IntegerNumber>(&self) -> Option<N>
         ensures some { IsSome result ↔ (N.form self.now.octets.now ≡ true) }
         ensures same { IfSome result (λ v. N.contents_of v ≡ self.now.octets.now) }

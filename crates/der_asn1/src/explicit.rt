@@ -13,13 +13,15 @@ use der::{
 };
 use std::alloc::Global;
 
-/// Types whose elements may stand in another element.
+/// Types whose elements may be the contents of another element.
 pub trait Nestable: ReadValue {
-    // a value wants at most 62 levels, one fewer than the element around it leaves
+    // A value needs at most 62 levels of nesting: the element around it leaves 63, and the value's
+    // own element needs one.
     ghost nestable: { Self.value_levels Der ≤ 62 };
 }
 
-/// A value whose element stands in one with the context-specific tag of number `N` (X.690 8.14.2).
+/// A value whose element is the contents of an element with the context-specific tag number `N`
+/// (X.690 8.14.2).
 #[derive(Clone, Copy, Drop)]
 pub struct Explicit<T, const N: u32>(pub T);
 

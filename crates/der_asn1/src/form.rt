@@ -1,20 +1,20 @@
-//! Forms of octets.
+//! Types given by a check of their contents.
 ghost use Rattle.std.specs.Prelude.{◌≡◌, ℕ, ◌^◌, ◌<◌, Bool, List};
 ghost use Rattle.der.specs.Tag.{label};
 
 use der::FixedTag;
 
-/// A form of octets, under a tag.
+/// A check of contents octets, with a tag.
 ///
-/// Ghost members: `form` says which octets have it; `numbered` is the law that the tag's number has
-/// 32 bits.
+/// Ghost members: `form` says which octets are valid contents; `numbered` proves that the tag
+/// number fits in 32 bits.
 pub trait Form: FixedTag {
     ghost form: { List ℕ → Bool };
 
-    /// Whether octets have the form.
+    /// Whether the octets are valid contents.
     fn has_form(octets: &[u8]) -> bool
         ensures { result ≡ form octets.now };
 
-    // the tag's number has 32 bits
+    // The tag number fits in 32 bits.
     ghost numbered: { (label Self.tag_is).number < 2 ^ 32 };
 }

@@ -1,4 +1,4 @@
-//! A GeneralizedTime.
+//! GeneralizedTime.
 ghost use Rattle.std.proofs.Common.{arith};
 ghost use Rattle.der.specs.Prelude.{GeneralizedTime as GeneralizedTag};
 ghost use Rattle.der_asn1.specs.Times.{generalized_octets, generalized_form, is_date_time};
@@ -9,12 +9,12 @@ use crate::time_octets::{TimeOctets, generalized_from};
 use crate::time_of::TimeOf;
 use der::{FixedTag, Tag};
 
-/// The form of a GeneralizedTime: YYYYMMDDHHMMSSZ, of the years 0 to 9999, without a fraction of a
+/// Contents of a GeneralizedTime: YYYYMMDDHHMMSSZ, of the years 0 to 9999, without a fraction of a
 /// second (X.690 11.7; RFC 5280, 4.1.2.5.2).
 #[derive(Clone, Copy)]
 pub struct GeneralizedTimeForm;
 
-/// A GeneralizedTime, as a date with a time of the day.
+/// A GeneralizedTime, as a date with a time of day.
 pub type GeneralizedTime = TimeOf<GeneralizedTimeForm>;
 
 impl FixedTag for GeneralizedTimeForm {

@@ -1,4 +1,4 @@
-//! An IA5String.
+//! IA5String.
 ghost use Rattle.std.proofs.Common.{arith};
 ghost use Rattle.der.specs.Prelude.{Ia5String as Ia5Tag};
 ghost use Rattle.der_asn1.specs.Forms.{ia5_form};
@@ -7,10 +7,10 @@ use crate::checked::Checked;
 use crate::form::Form;
 use der::{FixedTag, Tag};
 
-/// The form of an IA5String: octets below 80 (X.690 8.23, X.680 41).
+/// Contents of an IA5String: octets below `0x80` (X.690 8.23, X.680 41).
 pub struct Ia5StringForm;
 
-/// An IA5String, lent by the input.
+/// An IA5String borrowed from the input.
 pub type Ia5StringRef<'a> = Checked<'a, Ia5StringForm>;
 
 impl FixedTag for Ia5StringForm {

@@ -15,8 +15,8 @@ use der::{
 };
 use std::alloc::Global;
 
-/// A value whose contents stand behind the context-specific tag of number `N`, in the place of its
-/// own (X.690 8.14.3). The tag is constructed where the value's own is.
+/// A value whose own tag is replaced by the context-specific tag number `N` (X.690 8.14.3). The tag
+/// is constructed if the value's own tag is.
 #[derive(Clone, Copy, Drop)]
 pub struct Implicit<T, const N: u32>(pub T);
 

@@ -1,4 +1,4 @@
-//! An INTEGER.
+//! INTEGER.
 ghost use Rattle.std.specs.Prelude.{◌<◌};
 ghost use Rattle.std.proofs.Common.{arith};
 ghost use Rattle.der.specs.Prelude.{Integer as IntegerTag};
@@ -8,10 +8,10 @@ use crate::checked::Checked;
 use crate::form::Form;
 use der::{FixedTag, Tag};
 
-/// The form of an INTEGER: a number in two's complement, as short as can be (X.690 8.3.2).
+/// Contents of an INTEGER: a number in two's complement, in the fewest octets (X.690 8.3.2).
 pub struct IntegerForm;
 
-/// An INTEGER, lent by the input.
+/// An INTEGER borrowed from the input.
 pub type IntRef<'a> = Checked<'a, IntegerForm>;
 
 impl FixedTag for IntegerForm {

@@ -1,4 +1,4 @@
-//! INTEGERs as numbers.
+//! Numbers that are encoded as an INTEGER.
 ghost use Rattle.std.specs.Prelude.{◌≡◌, ◌↔◌, ◌+◌, ◌^◌, ◌<◌, false, true, ℕ, Bool, List, drop, map};
 ghost use Rattle.std.specs.Prelude.{IsSome, IfSome, OnSome};
 ghost use Rattle.std.specs.Option.{SomeIff};
@@ -10,21 +10,21 @@ use crate::form::Form;
 use crate::integer::IntegerForm;
 use crate::integer_octets::{IntegerOctets, turned_octet};
 
-/// Numbers that are written as an INTEGER (X.690 8.3).
+/// Numbers that are encoded as an INTEGER (X.690 8.3).
 ///
-/// Ghost members: `form` says which contents are those of such a number; `contents_of` are those of
-/// each.
+/// Ghost members: `form` says which contents are those of a number of this type; `contents_of`
+/// gives the contents of each number.
 pub trait IntegerNumber: Copy {
     ghost form: { List ℕ → Bool };
 
     ghost contents_of: { Self → List ℕ };
 
-    /// The number whose contents these octets are.
+    /// The number with these contents; `None` if there is none of this type.
     fn from_contents(octets: &[u8]) -> Option<Self>
         ensures some { IsSome result ↔ (form octets.now ≡ true) }
         ensures same { IfSome result (λ v. contents_of v ≡ octets.now) };
 
-    /// Its contents.
+    /// The contents of the number.
     fn to_contents(self) -> IntegerOctets
         ensures octets { drop result.start result.octets ≡ contents_of self }
         ensures formed { form (contents_of self) ≡ true };
@@ -103,8 +103,8 @@ impl IntegerNumber for i64 {
     }
 }
 
-// Whether the number of these contents is negative, and the number, or what it is below -1. At most
-// this is read.
+// The sign and magnitude of INTEGER contents: `(false, n)` for n, `(true, n)` for -1 - n. `None` if
+// n is above `most`, or if the octets are not valid contents of an INTEGER.
 fn read_number(octets: &[u8], most: u64) -> Option<(bool, u64)>
     ensures some { IsSome result ↔ (signed_form (most + 1) octets.now ≡ true) }
     ensures value { IfSome result (λ p. (p.0 ≡ is_negative octets.now)
@@ -132,7 +132,7 @@ fn is_below_zero(octets: &[u8]) -> bool
     }
 }
 
-// The number of octets, whose bits are turned where negative.
+// The octets as a number in base 256, with all bits inverted if `negative`; `None` from 2^64 on.
 fn magnitude_of(negative: bool, octets: &[u8]) -> Option<u64>
     ensures value { SomeIff result
         (number_from_digits 256 (map (turned negative) octets.now) < 2 ^ 64)

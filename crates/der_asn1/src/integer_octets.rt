@@ -1,8 +1,8 @@
-//! The contents of an INTEGER, made of a number.
+//! Contents of an INTEGER, computed from a number.
 ghost use Rattle.std.specs.Prelude.{◌≡◌, ◌≤◌, drop};
 ghost use Rattle.der_asn1.specs.Integer.{integer_octets, turned, has_sign};
 
-/// The contents of an INTEGER of at most 65 bits, as short as can be (X.690 8.3.2).
+/// The contents of an INTEGER of at most 65 bits, in the fewest octets (X.690 8.3.2).
 #[derive(Drop)]
 pub struct IntegerOctets {
     octets: [u8; 9],
@@ -11,7 +11,7 @@ pub struct IntegerOctets {
 }
 
 impl IntegerOctets {
-    // The contents of this number, and where negative those of what it is below -1.
+    // The contents of `magnitude`, or of -1 - `magnitude` if `negative`.
     pub(crate) fn new(negative: bool, magnitude: u64) -> Self
         ensures { drop result.start result.octets ≡ integer_octets negative magnitude }
     {
@@ -31,7 +31,7 @@ impl IntegerOctets {
         IntegerOctets { octets, start }
     }
 
-    /// The octets.
+    /// The contents octets.
     pub fn as_slice(&self) -> &[u8]
         ensures { result.now ≡ drop self.now.start self.now.octets }
     {
@@ -39,14 +39,14 @@ impl IntegerOctets {
     }
 }
 
-// The octet, its bits turned where negative.
+// The octet, with all bits inverted if `negative`.
 pub(crate) fn turned_octet(negative: bool, octet: u8) -> u8
     ensures { result ≡ turned negative octet }
 {
     if negative { 255 - octet } else { octet }
 }
 
-// Whether the first bit of the octets says whether they are negative.
+// Whether the first bit of the octets is the sign bit of `negative`; false without octets.
 fn is_signed(negative: bool, octets: &[u8]) -> bool
     ensures { result ≡ has_sign negative octets.now }
 {

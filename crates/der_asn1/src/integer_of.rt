@@ -1,4 +1,4 @@
-//! INTEGERs of a range, as numbers.
+//! INTEGERs as numbers of a fixed type.
 ghost use Rattle.std.specs.Prelude.{◌≡◌, ◌<◌, ◌↔◌, true, false, IsSome, IfSome};
 ghost use Rattle.std.proofs.Common.{arith, subst, sym};
 ghost use Rattle.der.specs.Prelude.{Integer as IntegerTag};
@@ -16,7 +16,7 @@ use der::{
 };
 use std::alloc::Global;
 
-/// An INTEGER that is a number of this type: `u8`, `u32`, `u64` or `i64`.
+/// An INTEGER in the range of a number type: `u8`, `u32`, `u64` or `i64`.
 #[derive(Clone, Copy)]
 pub struct IntegerOf<N: IntegerNumber> {
     /// The number.
@@ -24,7 +24,7 @@ pub struct IntegerOf<N: IntegerNumber> {
 }
 
 impl<'a> IntRef<'a> {
-    /// The number, where it is one of this type.
+    /// The number; `None` if it does not fit in this type.
     pub fn to_number<N: IntegerNumber>(&self) -> Option<N>
         ensures some { IsSome result ↔ (N.form self.now.octets.now ≡ true) }
         ensures same { IfSome result (λ v. N.contents_of v ≡ self.now.octets.now) }
@@ -58,13 +58,13 @@ impl<N: IntegerNumber> ReadValue for IntegerOf<N> {
         subst (λ x. N.form x ≡ true) (sym taken.1) taken.0 };
 }
 
-/// Under BER too the contents are as short as can be (X.690 8.3.2).
+/// Accepts only the shortest contents, also under BER (X.690 8.3.2).
 ///
 /// # Errors
 ///
 /// - Those of the contents, as by [`Reader::read_slice`].
-/// - `Value` of an INTEGER behind contents of no number of the type, or that are not as short as
-///   can be; the reader has failed then.
+/// - `Value` of an INTEGER, at the position after contents that are not the shortest or whose
+///   number is not in the range of the type; the reader has failed then.
 impl<'a, N: IntegerNumber, R: Reader<Lent = &'a [u8]>> DecodeValue<R> for IntegerOf<N> {
     type Error = Error;
 
@@ -91,8 +91,7 @@ impl<N: IntegerNumber> WrittenValue for IntegerOf<N> {
 
 /// # Errors
 ///
-/// The number of octets is never refused. Writing hands on the writer's errors, as by
-/// [`Writer::write`].
+/// `value_len` never fails. `encode_value` returns the errors of [`Writer::write`].
 impl<N: IntegerNumber> EncodeValue for IntegerOf<N> {
     ghost value_size = { λ v. form_size (N.contents_of v.number) };
 

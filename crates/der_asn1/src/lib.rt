@@ -1,8 +1,8 @@
-//! Types of ASN.1 above the crate `der`: fields that may be absent, elements of any tag, contents
-//! of a form, lists, and SEQUENCEs of named fields.
+//! Types of ASN.1 on top of the crate `der`: optional and DEFAULT fields, elements of any tag,
+//! types given by a check of their contents, lists, and SEQUENCEs of named fields.
 //!
-//! `specs/Follow.antt` says what may follow a field, and `specs/Meaning.antt` puts fields together:
-//! a SEQUENCE of fields that are read as they are written is lawful.
+//! `specs/Follow.antt` states what may follow a field, and `specs/Meaning.antt` composes fields: a
+//! SEQUENCE of fields that are read as they are written is lawful.
 #![tactic(auto)]
 
 mod any;

@@ -7,10 +7,10 @@ use crate::checked::Checked;
 use crate::form::Form;
 use der::{FixedTag, Tag};
 
-/// The form of NULL: no octets (X.690 8.8.2).
+/// Contents of NULL: no octets (X.690 8.8.2).
 pub struct NullForm;
 
-/// NULL, lent by the input.
+/// NULL, borrowed from the input.
 pub type Null<'a> = Checked<'a, NullForm>;
 
 impl FixedTag for NullForm {

@@ -1,4 +1,4 @@
-//! A NumericString.
+//! NumericString.
 ghost use Rattle.std.proofs.Common.{arith};
 ghost use Rattle.der.specs.Prelude.{NumericString as NumericTag};
 ghost use Rattle.der_asn1.specs.Alphabets.{numeric_form};
@@ -7,10 +7,10 @@ use crate::checked::Checked;
 use crate::form::Form;
 use der::{FixedTag, Tag};
 
-/// The form of a NumericString: digits and space (X.680 41.2).
+/// Contents of a NumericString: digits and space (X.680 41.2).
 pub struct NumericStringForm;
 
-/// A NumericString, lent by the input.
+/// A NumericString borrowed from the input.
 pub type NumericStringRef<'a> = Checked<'a, NumericStringForm>;
 
 impl FixedTag for NumericStringForm {

@@ -1,4 +1,4 @@
-//! An OBJECT IDENTIFIER.
+//! OBJECT IDENTIFIER.
 ghost use Rattle.std.specs.Prelude.{◌<◌};
 ghost use Rattle.std.proofs.Common.{arith};
 ghost use Rattle.der.specs.Prelude.{ObjectIdentifier as OidTag};
@@ -8,11 +8,11 @@ use crate::checked::Checked;
 use crate::form::Form;
 use der::{FixedTag, Tag};
 
-/// The form of an OBJECT IDENTIFIER: one subidentifier at least, none of which begins with octet
+/// Contents of an OBJECT IDENTIFIER: one or more subidentifiers, none of which begins with octet
 /// `0x80` (X.690 8.19.2, 8.19.3).
 pub struct ObjectIdentifierForm;
 
-/// An OBJECT IDENTIFIER, lent by the input.
+/// An OBJECT IDENTIFIER borrowed from the input.
 pub type ObjectIdentifierRef<'a> = Checked<'a, ObjectIdentifierForm>;
 
 impl FixedTag for ObjectIdentifierForm {

@@ -1,4 +1,4 @@
-//! An OCTET STRING.
+//! OCTET STRING.
 ghost use Rattle.std.proofs.Common.{arith};
 ghost use Rattle.der.specs.Prelude.{OctetString as OctetTag};
 ghost use Rattle.der_asn1.specs.Forms.{octets_form};
@@ -7,10 +7,10 @@ use crate::checked::Checked;
 use crate::form::Form;
 use der::{FixedTag, Tag};
 
-/// The form of an OCTET STRING: any octets (X.690 8.7).
+/// Contents of an OCTET STRING: any octets (X.690 8.7).
 pub struct OctetStringForm;
 
-/// An OCTET STRING, lent by the input.
+/// An OCTET STRING borrowed from the input.
 pub type OctetStringRef<'a> = Checked<'a, OctetStringForm>;
 
 impl FixedTag for OctetStringForm {

@@ -1,4 +1,4 @@
-//! Fields that may be absent.
+//! OPTIONAL fields.
 ghost use Rattle.std.specs.Prelude.{false};
 ghost use Rattle.der.specs.Prelude.{map_ok};
 ghost use Rattle.der_asn1.specs.Optional.{OptionAhead, OptionRead, IsOptional, option_encoding};
@@ -8,14 +8,15 @@ use crate::choice::Choice;
 use der::{Decode, Encode, Error, Length, Reader, ReaderExt, Writer};
 use std::alloc::Global;
 
-/// An OPTIONAL field (X.690 8.9.3): a value, or nothing where none of its tags stands ahead.
+/// An OPTIONAL field (X.690 8.9.3): a value, or nothing if the next tag is not one of the value's.
 #[derive(Clone, Copy, Drop)]
 pub struct Optional<T>(pub Option<T>);
 
 /// # Errors
 ///
-/// - Those of [`Tag::peek`], where octets are left that begin with no tag; the reader stays.
-/// - Those of the value, where one of its tags stands ahead.
+/// - Those of [`Tag::peek`], if octets are left that do not begin with a tag; the reader is
+///   unchanged.
+/// - Those of the value, if one of its tags is next.
 impl<R: Reader, T: Choice<R>> Decode<R> for Optional<T> {
     type Error = <T as Decode<R>>::Error;
 
@@ -42,7 +43,7 @@ impl<R: Reader, T: Choice<R>> Decode<R> for Optional<T> {
     }
 }
 
-/// Nothing is written as no octets.
+/// Writes no octets for `None`.
 ///
 /// # Errors
 ///

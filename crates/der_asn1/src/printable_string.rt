@@ -1,4 +1,4 @@
-//! A PrintableString.
+//! PrintableString.
 ghost use Rattle.std.specs.Prelude.{◌≡◌};
 ghost use Rattle.std.proofs.Common.{arith};
 ghost use Rattle.der.specs.Prelude.{PrintableString as PrintableTag};
@@ -8,10 +8,10 @@ use crate::checked::Checked;
 use crate::form::Form;
 use der::{FixedTag, Tag};
 
-/// The form of a PrintableString: letters, digits, space, and `'()+,-./:=?` (X.680 41.4).
+/// Contents of a PrintableString: letters, digits, space, and `'()+,-./:=?` (X.680 41.4).
 pub struct PrintableStringForm;
 
-/// A PrintableString, lent by the input.
+/// A PrintableString borrowed from the input.
 pub type PrintableStringRef<'a> = Checked<'a, PrintableStringForm>;
 
 impl FixedTag for PrintableStringForm {
@@ -39,7 +39,7 @@ impl Form for PrintableStringForm {
     ghost numbered = { Prim.omega arith };
 }
 
-// Whether it is a character of such a string.
+// Whether the octet is a character of a PrintableString.
 fn is_printable_octet(octet: u8) -> bool
     ensures { result ≡ is_printable octet }
 {

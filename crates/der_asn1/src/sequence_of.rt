@@ -1,4 +1,5 @@
-//! SEQUENCE OF, lent by the input: checked once, and then walked without a failure.
+//! SEQUENCE OF, borrowed from the input. Decoding checks all elements, so that iteration cannot
+//! fail on their encodings.
 ghost use Rattle.std.specs.Prelude.{◌≡◌, ◌^◌, ◌<◌, ◌≤◌, false, [], None, length, IfOk, OnOk, IsErrAnd, IfSome, ⊤};
 ghost use Rattle.std.proofs.Common.{arith};
 ghost use Rattle.der.specs.Prelude.{Sequence, element_octets, rest_of, Reads, slice_state, error_of_kind};
@@ -21,7 +22,7 @@ use der::{
 use std::alloc::{AllocError, Global};
 use std::marker::PhantomData;
 
-// The element ahead.
+// Decodes the next element. `Failed` if its type returns a value but leaves the reader failed.
 #[inline(always)]
 pub(crate) fn next_item<'a, T: Lawful + DecodeValue<SliceReader<'a>>>(
     alloc: Global,
@@ -49,7 +50,7 @@ pub(crate) fn next_item<'a, T: Lawful + DecodeValue<SliceReader<'a>>>(
     Ok(value)
 }
 
-// Whether octets are the encodings of values, one behind the other.
+// Checks that octets are encodings of values, in sequence.
 fn check_items<'a, T: Lawful + DecodeValue<SliceReader<'a>>>(
     alloc: Global,
     octets: &'a [u8],
@@ -71,8 +72,8 @@ fn check_items<'a, T: Lawful + DecodeValue<SliceReader<'a>>>(
     Ok(())
 }
 
-/// A SEQUENCE OF, lent by the input: its contents are the encodings of values of the type, one
-/// behind the other, which was seen once.
+/// A SEQUENCE OF borrowed from the input. Its contents have been checked to be encodings of values
+/// of the type, in sequence.
 pub struct SequenceOf<'a, T: Lawful> {
     octets: &'a [u8],
     of: PhantomData<T>,
@@ -80,7 +81,7 @@ pub struct SequenceOf<'a, T: Lawful> {
     ghost checked: { ∥ AreElements T.tag_is T.valid T.contents octets.now ∥₁ },
 }
 
-/// A clone has the same elements; it takes no memory.
+/// A clone has the same elements; cloning does not allocate.
 impl<'a, T: Lawful> Clone for SequenceOf<'a, T> {
     ghost is_clone = { λ p q. q ≡ p };
 
@@ -119,13 +120,14 @@ impl<'a, T: Lawful> ReadValue for SequenceOf<'a, T> {
         (λ v. v.octets.now) };
 }
 
-/// The contents are lent, and every element in them is read once, under DER.
+/// Borrows the contents from the input, and checks every element in them once, under DER.
 ///
 /// # Errors
 ///
 /// - Those of the contents, as by [`Reader::read_slice`].
-/// - Those of the first element that is refused, as by [`SequenceOf::new`], with positions counted
-///   from the beginning of the contents; the reader stands behind them and has not failed.
+/// - Those of the first element that cannot be decoded, as by [`SequenceOf::new`], with positions
+///   counted from the beginning of the contents; the reader is after the contents and has not
+///   failed.
 impl<'a, T: Lawful + DecodeValue<SliceReader<'a>>, R: Reader<Lent = &'a [u8]>> DecodeValue<R>
     for SequenceOf<'a, T> {
     type Error = <T as DecodeValue<SliceReader<'a>>>::Error;
@@ -159,7 +161,7 @@ impl<'a, T: Lawful> WrittenValue for SequenceOf<'a, T> {
 
 /// # Errors
 ///
-/// - `Overflow` without a position, where there are more than 4294967295 octets.
+/// - `Overflow` without a position, if there are more than 4294967295 octets.
 /// - The writer's errors, as by [`Writer::write`].
 impl<'a, T: Lawful> EncodeValue for SequenceOf<'a, T> {
     ghost value_size = { λ v. form_size v.octets.now };
@@ -186,7 +188,7 @@ impl<'a, T: Lawful> Nestable for SequenceOf<'a, T> {
     ghost nestable = { Prim.omega arith };
 }
 
-/// A walk over the elements of a SEQUENCE OF.
+/// An iteration over the elements of a SEQUENCE OF.
 #[derive(Drop)]
 pub struct Items<'a, T: Lawful> {
     reader: SliceReader<'a>,
@@ -197,15 +199,15 @@ pub struct Items<'a, T: Lawful> {
 }
 
 impl<'a, T: Lawful + DecodeValue<SliceReader<'a>>> SequenceOf<'a, T> {
-    /// The SEQUENCE OF with these contents, which are the elements of values of the type, one
-    /// behind the other.
+    /// The SEQUENCE OF with these contents, which must be encodings of values of the type, in
+    /// sequence.
     ///
     /// # Errors
     ///
-    /// - `Overflow` without a position, where there are more than 4294967295 octets.
-    /// - Those of the first element that is refused, as by [`decode_tlv`].
-    /// - `Failed` at the position behind an element, where the type answers its value and leaves
-    ///   the reader failed.
+    /// - `Overflow` without a position, if there are more than 4294967295 octets.
+    /// - Those of the first element that cannot be decoded, as by [`decode_tlv`].
+    /// - `Failed` at the position after an element, if the type returns its value but leaves the
+    ///   reader failed.
     pub fn new(
         alloc: Global,
         octets: &'a [u8],
@@ -230,7 +232,7 @@ impl<'a, T: Lawful + DecodeValue<SliceReader<'a>>> SequenceOf<'a, T> {
 }
 
 impl<'a, T: Lawful> SequenceOf<'a, T> {
-    // The SEQUENCE OF with these contents.
+    // The SEQUENCE OF with contents that are known to be valid.
     pub(crate) fn formed(octets: &'a [u8]) -> Self
         requires short { length octets.now < 2 ^ 32 }
         requires checked { ∥ AreElements T.tag_is T.valid T.contents octets.now ∥₁ }
@@ -242,7 +244,7 @@ impl<'a, T: Lawful> SequenceOf<'a, T> {
         }
     }
 
-    /// The contents.
+    /// The contents octets.
     #[inline(always)]
     pub fn octets(&self) -> &'a [u8]
         ensures value { result.now ≡ self.now.octets.now }
@@ -251,7 +253,7 @@ impl<'a, T: Lawful> SequenceOf<'a, T> {
         self.octets
     }
 
-    /// A walk over the elements, at the first.
+    /// An iteration over the elements, from the first.
     pub fn items(&self) -> Items<'a, T>
         ensures { rest_of (slice_state result.reader) ≡ self.now.octets.now }
     {
@@ -266,7 +268,8 @@ impl<'a, T: Lawful> SequenceOf<'a, T> {
 }
 
 impl<'a, T: Lawful + DecodeValue<SliceReader<'a>>> Items<'a, T> {
-    /// The next element. Where the type takes no memory, there is none only behind the last.
+    /// The next element; `None` after the last one. If the type allocates, `None` can also mean
+    /// that decoding failed.
     pub fn next(&mut self, alloc: Global) -> Option<T>
         ensures some { IfSome result (λ v. T.valid v
             × Reads (slice_state self.old.reader) (slice_state self.new.reader)

@@ -1,4 +1,5 @@
-//! SET OF, lent by the input: checked once, its order too, and then walked without a failure.
+//! SET OF, borrowed from the input. Decoding checks all elements and their order, so that iteration
+//! cannot fail on their encodings.
 ghost use Rattle.std.specs.Prelude.{◌≡◌, ◌^◌, ◌<◌, ◌≤◌, ◌↔◌, false, true, [], length, IfOk, OnOk, IsErrAnd, ⊤};
 ghost use Rattle.std.proofs.Common.{arith};
 ghost use Rattle.der.specs.Prelude.{Set as SetTag, rest_of, Reads, slice_state, IsBefore, error_of_kind};
@@ -23,7 +24,7 @@ use der::{
 use std::alloc::{AllocError, Global};
 use std::cmp::Ordering;
 
-// What is left to the reader.
+// The octets that the reader has not read.
 #[inline(always)]
 fn octets_left<'a>(reader: &SliceReader<'a>) -> &'a [u8]
     requires { (slice_state reader.now).failed ≡ false }
@@ -35,7 +36,7 @@ fn octets_left<'a>(reader: &SliceReader<'a>) -> &'a [u8]
     }
 }
 
-// Whether the first octets come before the others (X.690 11.6).
+// Whether the first octets are smaller than the second (X.690 11.6).
 #[inline(always)]
 fn comes_before(first: &[u8], second: &[u8]) -> bool
     ensures { (result ≡ true) ↔ IsBefore first.now second.now }
@@ -46,7 +47,7 @@ fn comes_before(first: &[u8], second: &[u8]) -> bool
     }
 }
 
-// The octets of the element ahead, which is checked.
+// The octets of the next element, after decoding it.
 #[inline(always)]
 fn next_element<'a, T: Lawful + DecodeValue<SliceReader<'a>>>(
     alloc: Global,
@@ -68,7 +69,7 @@ fn next_element<'a, T: Lawful + DecodeValue<SliceReader<'a>>>(
     Ok(&ahead[..ahead.len() - behind.len()])
 }
 
-// Whether octets are the encodings of values, one behind the other, in the order of the encodings.
+// Checks that octets are encodings of values, in sequence and in ascending order.
 fn check_set<'a, T: Lawful + DecodeValue<SliceReader<'a>>>(
     alloc: Global,
     octets: &'a [u8],
@@ -96,15 +97,15 @@ fn check_set<'a, T: Lawful + DecodeValue<SliceReader<'a>>>(
     Ok(())
 }
 
-/// A SET OF, lent by the input: its contents are the encodings of values of the type, one behind
-/// the other, in the order of the encodings, which was seen once.
+/// A SET OF borrowed from the input. Its contents have been checked to be encodings of values of
+/// the type, in sequence and in ascending order.
 pub struct SetOf<'a, T: Lawful> {
     elements: SequenceOf<'a, T>,
     ghost short: { length elements.octets.now < 2 ^ 32 },
     ghost ascending: { ∥ AreAscending T.tag_is T.valid T.contents elements.octets.now ∥₁ },
 }
 
-/// A clone has the same elements; it takes no memory.
+/// A clone has the same elements; cloning does not allocate.
 impl<'a, T: Lawful> Clone for SetOf<'a, T> {
     ghost is_clone = { λ p q. q ≡ p };
 
@@ -145,14 +146,15 @@ impl<'a, T: Lawful> ReadValue for SetOf<'a, T> {
         (λ v. v.elements.octets.now) };
 }
 
-/// The contents are lent, and every element in them is read once, under DER; also under BER the
-/// elements stand in the order of their encodings, and equal ones may follow each other.
+/// Borrows the contents from the input, and checks every element in them once, under DER. Also
+/// under BER the encodings must be in ascending order; equal ones may follow each other.
 ///
 /// # Errors
 ///
 /// - Those of the contents, as by [`Reader::read_slice`].
-/// - Those of the first element that is refused, as by [`SetOf::new`], with positions counted from
-///   the beginning of the contents; the reader stands behind them and has not failed.
+/// - Those of the first element that cannot be decoded, as by [`SetOf::new`], with positions
+///   counted from the beginning of the contents; the reader is after the contents and has not
+///   failed.
 impl<'a, T: Lawful + DecodeValue<SliceReader<'a>>, R: Reader<Lent = &'a [u8]>> DecodeValue<R>
     for SetOf<'a, T> {
     type Error = <T as DecodeValue<SliceReader<'a>>>::Error;
@@ -187,7 +189,7 @@ impl<'a, T: Lawful> WrittenValue for SetOf<'a, T> {
 
 /// # Errors
 ///
-/// - `Overflow` without a position, where there are more than 4294967295 octets.
+/// - `Overflow` without a position, if there are more than 4294967295 octets.
 /// - The writer's errors, as by [`Writer::write`].
 impl<'a, T: Lawful> EncodeValue for SetOf<'a, T> {
     ghost value_size = { λ v. form_size v.elements.octets.now };
@@ -215,17 +217,17 @@ impl<'a, T: Lawful> Nestable for SetOf<'a, T> {
 }
 
 impl<'a, T: Lawful + DecodeValue<SliceReader<'a>>> SetOf<'a, T> {
-    /// The SET OF with these contents, which are the elements of values of the type, one behind the
-    /// other, in the order of their encodings.
+    /// The SET OF with these contents, which must be encodings of values of the type, in sequence
+    /// and in ascending order.
     ///
     /// # Errors
     ///
-    /// - `Overflow` without a position, where there are more than 4294967295 octets.
-    /// - Those of the first element that is refused, as by [`decode_tlv`](der::decode_tlv).
-    /// - `Failed` at the position behind an element, where the type answers its value and leaves
-    ///   the reader failed.
-    /// - `SetOrdering` at the position at which the first element begins that comes before the one
-    ///   ahead of it.
+    /// - `Overflow` without a position, if there are more than 4294967295 octets.
+    /// - Those of the first element that cannot be decoded, as by [`decode_tlv`](der::decode_tlv).
+    /// - `Failed` at the position after an element, if the type returns its value but leaves the
+    ///   reader failed.
+    /// - `SetOrdering` at the start of the first element whose encoding is smaller than that of the
+    ///   element before it.
     pub fn new(
         alloc: Global,
         octets: &'a [u8],
@@ -249,7 +251,7 @@ impl<'a, T: Lawful + DecodeValue<SliceReader<'a>>> SetOf<'a, T> {
 }
 
 impl<'a, T: Lawful> SetOf<'a, T> {
-    /// The contents.
+    /// The contents octets.
     #[inline(always)]
     pub fn octets(&self) -> &'a [u8]
         ensures value { result.now ≡ self.now.elements.octets.now }
@@ -259,7 +261,7 @@ impl<'a, T: Lawful> SetOf<'a, T> {
         self.elements.octets()
     }
 
-    /// A walk over the elements, at the first.
+    /// An iteration over the elements, from the first.
     pub fn items(&self) -> Items<'a, T>
         ensures { rest_of (slice_state result.reader) ≡ self.now.elements.octets.now }
     {

@@ -1,10 +1,10 @@
-//! Subidentifiers of an OBJECT IDENTIFIER, and the arcs that they tell.
+//! Subidentifiers of an OBJECT IDENTIFIER, and the arcs that they encode.
 ghost use Rattle.std.specs.Prelude.{◌≡◌, ◌<◌, ◌+◌, ◌-◌, ◌*◌, ℕ, true, length};
 ghost use Rattle.der_asn1.specs.Forms.{ends_subidentifiers};
 ghost use Rattle.der_asn1.specs.Arcs.{subidentifiers, first_arc, told_arc, told_number};
 ghost use Rattle.der_asn1.specs.Arcs.{IsFirstNumber};
 
-// The number of the first subidentifier, where it is below 2^63, and the octets behind it.
+// The value of the first subidentifier (`None` from 2^63 on), and the octets after it.
 pub(crate) fn first_subidentifier(octets: &[u8]) -> (Option<u64>, &[u8])
     requires some { 0 < length octets.now }
     requires form { ends_subidentifiers true octets.now ≡ true }
@@ -25,7 +25,7 @@ pub(crate) fn first_subidentifier(octets: &[u8]) -> (Option<u64>, &[u8])
     unreachable!()
 }
 
-// The number with another digit, where it is below 2^63.
+// Appends a digit in base 128; `None` from 2^63 on.
 fn with_digit(number: Option<u64>, digit: u8) -> Option<u64>
     requires { digit < 128 }
     ensures { (n : ℕ) → number ≡ told_number n → result ≡ told_number (n * 128 + digit) }
@@ -36,7 +36,7 @@ fn with_digit(number: Option<u64>, digit: u8) -> Option<u64>
     }
 }
 
-// The first arc of the first subidentifier.
+// The first arc, from the value of the first subidentifier.
 pub(crate) fn first_arc_of(number: Option<u64>) -> u32
     ensures { (n : ℕ) → number ≡ told_number n → result ≡ first_arc n }
 {
@@ -47,7 +47,7 @@ pub(crate) fn first_arc_of(number: Option<u64>) -> u32
     }
 }
 
-// The second arc of the first subidentifier.
+// The second arc, from the value of the first subidentifier.
 pub(crate) fn second_arc_of(number: Option<u64>) -> Option<u32>
     ensures { (n : ℕ) → number ≡ told_number n → result ≡ told_arc (n - 40 * first_arc n) }
 {
@@ -59,7 +59,7 @@ pub(crate) fn second_arc_of(number: Option<u64>) -> Option<u32>
     }
 }
 
-// The number, where it has 32 bits.
+// The number, if it fits in 32 bits.
 pub(crate) fn narrow(number: Option<u64>) -> Option<u32>
     ensures { (n : ℕ) → number ≡ told_number n → result ≡ told_arc n }
 {

@@ -1,4 +1,4 @@
-//! A TeletexString.
+//! TeletexString.
 ghost use Rattle.std.proofs.Common.{arith};
 ghost use Rattle.der.specs.Prelude.{TeletexString as TeletexTag};
 ghost use Rattle.der_asn1.specs.Forms.{octets_form};
@@ -7,11 +7,11 @@ use crate::checked::Checked;
 use crate::form::Form;
 use der::{FixedTag, Tag};
 
-/// The form of a TeletexString: any octets, since the registered sets of characters are open (X.690
-/// 8.23.5).
+/// Contents of a TeletexString: any octets, because the set of registered character sets is open
+/// (X.690 8.23.5).
 pub struct TeletexStringForm;
 
-/// A TeletexString, lent by the input.
+/// A TeletexString borrowed from the input.
 pub type TeletexStringRef<'a> = Checked<'a, TeletexStringForm>;
 
 impl FixedTag for TeletexStringForm {

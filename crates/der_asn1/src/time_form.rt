@@ -1,4 +1,4 @@
-//! Forms of times.
+//! Contents of times.
 ghost use Rattle.std.specs.Prelude.{◌≡◌, ◌↔◌, ◌^◌, ◌<◌, ℕ, Bool, true, List, drop, IsSome, IfSome};
 ghost use Rattle.der.specs.Tag.{label};
 
@@ -6,11 +6,11 @@ use crate::date_time::DateTime;
 use crate::time_octets::TimeOctets;
 use der::FixedTag;
 
-/// A form in which times are written, under a tag.
+/// A format of times as contents octets, with a tag.
 ///
-/// Ghost members: `form` says which contents are those of a time; `holds` says which times can be
-/// written so; `contents_of` are the contents of each; `numbered` is the law that the tag's number
-/// has 32 bits.
+/// Ghost members: `form` says which contents are those of a time; `holds` says which times have
+/// this format; `contents_of` gives the contents of each time; `numbered` proves that the tag
+/// number fits in 32 bits.
 pub trait TimeForm: FixedTag {
     ghost use Rattle.der_asn1.specs.declared.date_time.DateTime.{DateTime};
 
@@ -20,21 +20,21 @@ pub trait TimeForm: FixedTag {
 
     ghost contents_of: { DateTime → List ℕ };
 
-    /// Whether the time can be written so.
+    /// Whether the time can be written in this format.
     fn can_hold(time: &DateTime) -> bool
         ensures { result ≡ holds time.now };
 
-    /// The time whose contents these octets are.
+    /// The time with these contents; `None` if there is none.
     fn from_contents(octets: &[u8]) -> Option<DateTime>
         ensures some { IsSome result ↔ (form octets.now ≡ true) }
         ensures same { IfSome result (λ v. (holds v ≡ true) × (contents_of v ≡ octets.now)) };
 
-    /// Its contents.
+    /// The contents of the time.
     fn to_contents(time: &DateTime) -> TimeOctets
         requires { holds time.now ≡ true }
         ensures octets { drop result.start result.octets ≡ contents_of time.now }
         ensures formed { form (contents_of time.now) ≡ true };
 
-    // the tag's number has 32 bits
+    // The tag number fits in 32 bits.
     ghost numbered: { (label Self.tag_is).number < 2 ^ 32 };
 }

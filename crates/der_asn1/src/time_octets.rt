@@ -6,7 +6,7 @@ ghost use Rattle.der_asn1.specs.Times.{utc_reading, two_at, utc_year, time_from}
 
 use crate::date_time::DateTime;
 
-/// The contents of a time: four digits of the year, or the last two of them, two digits for each of
+/// The contents of a time: four digits of the year, or its last two, then two digits each for
 /// month, day, hour, minute and second, and the letter Z.
 #[derive(Drop)]
 pub struct TimeOctets {
@@ -38,7 +38,7 @@ impl TimeOctets {
         }
     }
 
-    /// The octets.
+    /// The contents octets.
     pub fn as_slice(&self) -> &[u8]
         ensures { result.now ≡ drop self.now.start self.now.octets }
     {
@@ -72,21 +72,21 @@ fn all_octets(time: &DateTime) -> [u8; 15]
     ]
 }
 
-// The first of two digits of a number.
+// The first of the two decimal digits of a number, as a character.
 fn tens(number: u8) -> u8
     ensures { result ≡ 48 + number / 10 }
 {
     b'0' + number / 10
 }
 
-// The last of two digits of a number.
+// The second of the two decimal digits of a number, as a character.
 fn ones(number: u8) -> u8
     ensures { result ≡ 48 + number % 10 }
 {
     b'0' + number % 10
 }
 
-// The time of which these are the contents as a GeneralizedTime.
+// The time with these contents of a GeneralizedTime; `None` if there is none.
 pub(crate) fn generalized_from(octets: &[u8]) -> Option<DateTime>
     ensures some { IsSome result ↔ (generalized_form octets.now ≡ true) }
     ensures same { IfSome result (λ v. (is_date_time v ≡ true)
@@ -104,7 +104,7 @@ pub(crate) fn generalized_from(octets: &[u8]) -> Option<DateTime>
     }
 }
 
-// The time of which these are the contents as a UTCTime.
+// The time with these contents of a UTCTime; `None` if there is none.
 pub(crate) fn utc_from(octets: &[u8]) -> Option<DateTime>
     ensures some { IsSome result ↔ (utc_form octets.now ≡ true) }
     ensures same { IfSome result (λ v. (is_utc_time v ≡ true)
@@ -121,7 +121,7 @@ pub(crate) fn utc_from(octets: &[u8]) -> Option<DateTime>
     }
 }
 
-// The year of which these are the last two digits: from 1950 to 2049.
+// The year, from 1950 to 2049, with these last two digits.
 fn full_year(digits: u8) -> u16
     ensures { result ≡ utc_year digits }
 {
@@ -132,7 +132,7 @@ fn full_year(digits: u8) -> u16
     }
 }
 
-// The month, day, hour, minute and second that octets from a place on would be, of the year.
+// Month, day, hour, minute and second from octet `at` on, with this year, without checks.
 fn time_at(year: u16, octets: &[u8], at: usize) -> DateTime
     requires { at + 10 ≤ length octets.now }
     ensures { result ≡ time_from year at octets.now }
@@ -147,7 +147,7 @@ fn time_at(year: u16, octets: &[u8], at: usize) -> DateTime
     }
 }
 
-// The number that two octets would be the digits of.
+// The number whose two decimal digits are at `at`, without checks.
 fn two_digits(octets: &[u8], at: usize) -> u8
     requires { at + 1 < length octets.now }
     ensures { result ≡ two_at at octets.now }

@@ -1,4 +1,4 @@
-//! Times of a form.
+//! Times in one of the formats.
 ghost use Rattle.std.specs.Prelude.{◌≡◌, ◌<◌, ◌↔◌, ⊤, true, false, IsSome, IfSome};
 ghost use Rattle.std.proofs.Common.{arith, subst, sym};
 ghost use Rattle.der_asn1.specs.Checked.{HasForm, TakesForm, FormRead, form_size};
@@ -16,14 +16,14 @@ use der::{
 use std::alloc::{AllocError, Global};
 use std::marker::PhantomData;
 
-/// A time that can be written in this form.
+/// A time that can be written in the format `F`.
 pub struct TimeOf<F: TimeForm> {
     time: DateTime,
     form: PhantomData<F>,
     ghost held: { F.holds time ≡ true },
 }
 
-/// A clone is the same time; it takes no memory.
+/// A clone is the same time; cloning does not allocate.
 impl<F: TimeForm> Clone for TimeOf<F> {
     ghost is_clone = { λ p q. q ≡ p };
 
@@ -37,7 +37,7 @@ impl<F: TimeForm> Clone for TimeOf<F> {
 impl<F: TimeForm> Copy for TimeOf<F> {}
 
 impl<F: TimeForm> TimeOf<F> {
-    /// The time, where it can be written in this form.
+    /// Wraps the time; `None` if it cannot be written in this format.
     pub fn new(time: DateTime) -> Option<Self>
         ensures some { IsSome result ↔ (F.holds time ≡ true) }
         ensures same { IfSome result (λ v. v.time ≡ time) }
@@ -87,12 +87,13 @@ impl<F: TimeForm> ReadValue for TimeOf<F> {
         subst (λ x. F.form x ≡ true) (sym taken.1) taken.0 };
 }
 
-/// Under BER too the contents are those of DER (X.690 11.7, 11.8).
+/// Accepts only the contents that DER allows, also under BER (X.690 11.7, 11.8).
 ///
 /// # Errors
 ///
 /// - Those of the contents, as by [`Reader::read_slice`].
-/// - `Value` of the tag behind contents of no time; the reader has failed then.
+/// - `Value` with the tag, at the position after contents that are no time; the reader has failed
+///   then.
 impl<'a, F: TimeForm, R: Reader<Lent = &'a [u8]>> DecodeValue<R> for TimeOf<F> {
     type Error = Error;
 
@@ -123,8 +124,7 @@ impl<F: TimeForm> WrittenValue for TimeOf<F> {
 
 /// # Errors
 ///
-/// The number of octets is never refused. Writing hands on the writer's errors, as by
-/// [`Writer::write`].
+/// `value_len` never fails. `encode_value` returns the errors of [`Writer::write`].
 impl<F: TimeForm> EncodeValue for TimeOf<F> {
     ghost value_size = { λ v. form_size (F.contents_of v.time) };
 

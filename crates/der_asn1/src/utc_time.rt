@@ -1,4 +1,4 @@
-//! A UTCTime.
+//! UTCTime.
 ghost use Rattle.std.proofs.Common.{arith};
 ghost use Rattle.der.specs.Prelude.{UtcTime as UtcTag};
 ghost use Rattle.der_asn1.specs.Times.{utc_octets, utc_form, is_utc_time};
@@ -9,12 +9,12 @@ use crate::time_octets::{TimeOctets, utc_from};
 use crate::time_of::TimeOf;
 use der::{FixedTag, Tag};
 
-/// The form of a UTCTime: YYMMDDHHMMSSZ, of the years 1950 to 2049 (X.690 11.8; RFC 5280,
+/// Contents of a UTCTime: YYMMDDHHMMSSZ, of the years 1950 to 2049 (X.690 11.8; RFC 5280,
 /// 4.1.2.5.1).
 #[derive(Clone, Copy)]
 pub struct UtcTimeForm;
 
-/// A UTCTime, as a date with a time of the day.
+/// A UTCTime, as a date with a time of day.
 pub type UtcTime = TimeOf<UtcTimeForm>;
 
 impl FixedTag for UtcTimeForm {

@@ -1,4 +1,4 @@
-//! A UTF8String.
+//! UTF8String.
 ghost use Rattle.std.specs.Prelude.{◌≡◌};
 ghost use Rattle.std.proofs.Common.{arith};
 ghost use Rattle.std.specs.Str.{is_utf8};
@@ -8,11 +8,11 @@ use crate::checked::Checked;
 use crate::form::Form;
 use der::{FixedTag, Tag};
 
-/// The form of a UTF8String: characters of ISO/IEC 10646 in UTF-8, each as short as can be
-/// (X.690 8.23.10).
+/// Contents of a UTF8String: characters of ISO/IEC 10646 in UTF-8, each in the fewest octets (X.690
+/// 8.23.10).
 pub struct Utf8StringForm;
 
-/// A UTF8String, lent by the input.
+/// A UTF8String borrowed from the input.
 pub type Utf8StringRef<'a> = Checked<'a, Utf8StringForm>;
 
 impl FixedTag for Utf8StringForm {
@@ -39,7 +39,7 @@ impl Form for Utf8StringForm {
 }
 
 impl<'a> Checked<'a, Utf8StringForm> {
-    /// The text.
+    /// The contents as text.
     pub fn as_str(&self) -> &'a str
         ensures { result.now ≡ self.now.octets.now }
     {

@@ -1,4 +1,4 @@
-//! A VisibleString.
+//! VisibleString.
 ghost use Rattle.std.proofs.Common.{arith};
 ghost use Rattle.der.specs.Prelude.{VisibleString as VisibleTag};
 ghost use Rattle.der_asn1.specs.Alphabets.{visible_form};
@@ -7,10 +7,10 @@ use crate::checked::Checked;
 use crate::form::Form;
 use der::{FixedTag, Tag};
 
-/// The form of a VisibleString: printing characters of ISO/IEC 646, and space (X.680 41).
+/// Contents of a VisibleString: printing characters of ISO/IEC 646, and space (X.680 41).
 pub struct VisibleStringForm;
 
-/// A VisibleString, lent by the input.
+/// A VisibleString borrowed from the input.
 pub type VisibleStringRef<'a> = Checked<'a, VisibleStringForm>;
 
 impl FixedTag for VisibleStringForm {

@@ -1,4 +1,4 @@
-//! Whole encodings of lawful types.
+//! Decoding of whole encodings of lawful types.
 ghost use Rattle.std.specs.Prelude.{◌≡◌, ◌^◌, ◌<◌, length, IfOk};
 ghost use Rattle.der.specs.Decode.{SucceedsOrLacks, WholeAnswer};
 ghost use Rattle.der.specs.Prelude.{Der, ElementRead, element_octets};
@@ -6,7 +6,8 @@ ghost use Rattle.der.specs.Prelude.{Der, ElementRead, element_octets};
 use der::{DecodeBytes, DecodeValue, Lawful, SliceReader};
 use std::alloc::Global;
 
-/// The value whose encoding these octets are. A lawful type answers one exactly where there is one.
+/// The value with this encoding. Succeeds exactly if the octets are the encoding of a valid value,
+/// unless allocation fails.
 ///
 /// # Errors
 ///

@@ -7,10 +7,10 @@ ghost use Rattle.der_asn1.specs.Forms.{octets_form};
 use der::{FixedTag, Tag};
 use der_asn1::{Checked, Form};
 
-/// The form of attributes: any octets.
+/// Contents of the attributes: any octets.
 pub struct AttributesForm;
 
-/// The attributes of a private key, lent by the input as octets that are not looked at.
+/// The attributes of a private key, borrowed from the input as octets that are not checked.
 pub type Attributes<'a> = Checked<'a, AttributesForm>;
 
 impl FixedTag for AttributesForm {

@@ -1,11 +1,12 @@
-//! What reading a private key does not look at.
+//! Checks of a private key that decoding does not make.
 ghost use Rattle.std.specs.Prelude.{◌≡◌, ◌↔◌, true};
 ghost use Rattle.pkcs8.specs.PrivateKeyInfo.{HasFieldsOfVersion};
 
 use crate::private_key_info::PrivateKeyInfo;
 
 impl PrivateKeyInfo<'_> {
-    /// Whether a public key stands in version 2 alone (RFC 5958, 2). Reading does not ask for it.
+    /// Whether a public key is present only in version 2 (RFC 5958, 2). Decoding does not check
+    /// this.
     pub fn has_fields_of_version(&self) -> bool
         ensures { (result ≡ true) ↔ HasFieldsOfVersion self.now }
     {

@@ -1,5 +1,5 @@
-//! Private keys (RFC 5208, RFC 5958), lent by the input. Each type is lawful: it is read exactly where
-//! the octets are its encoding. No memory is taken.
+//! Private keys (RFC 5208, RFC 5958), borrowed from the input. Each type is lawful: decoding
+//! succeeds exactly if the octets are the encoding of a value. Nothing is allocated.
 #![tactic(auto)]
 
 mod attributes;

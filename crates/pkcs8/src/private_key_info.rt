@@ -14,22 +14,22 @@ use der_asn1::{BitStringRef, Described, Implicit, OctetStringRef, Optional};
 use spki::AlgorithmIdentifierRef;
 use std::alloc::Global;
 
-/// A private key, with its algorithm, lent by the input.
+/// A private key with its algorithm, borrowed from the input.
 #[derive(Drop)]
 pub struct PrivateKeyInfo<'a> {
     /// The version.
     pub version: Version<'a>,
-    /// The algorithm.
+    /// The algorithm of the key.
     pub private_key_algorithm: AlgorithmIdentifierRef<'a>,
-    /// The key, whose octets are those of its algorithm and are not looked at.
+    /// The key, in a format given by its algorithm; its octets are not checked.
     pub private_key: OctetStringRef<'a>,
-    /// What else is said of the key.
+    /// Further information about the key.
     pub attributes: Optional<Implicit<Attributes<'a>, 0>>,
     /// The public key, in version 2.
     pub public_key: Optional<Implicit<BitStringRef<'a>, 1>>,
 }
 
-/// Its fields, one behind the other.
+/// The fields, in sequence.
 pub type PrivateKeyInfoFields<'a> = (
     (Version<'a>, AlgorithmIdentifierRef<'a>),
     (
@@ -74,7 +74,7 @@ impl<'a> ReadValue for PrivateKeyInfo<'a> {
 
 /// # Errors
 ///
-/// Those of the fields, one behind the other.
+/// Those of the fields, in sequence.
 impl<'a, R: Reader<Lent = &'a [u8]>> DecodeValue<R> for PrivateKeyInfo<'a> {
     type Error = Error;
 
@@ -121,7 +121,7 @@ impl<'a> WrittenValue for PrivateKeyInfo<'a> {
 
 /// # Errors
 ///
-/// Those of the fields, one behind the other, and `Overflow` without a position.
+/// Those of the fields, in sequence, and `Overflow` without a position.
 impl<'a> EncodeValue for PrivateKeyInfo<'a> {
     ghost value_size = { λ v. ⟦<PrivateKeyInfoFields<'a> as Encode>⟧.size (
       (

@@ -7,10 +7,10 @@ ghost use Rattle.pkcs8.specs.Version.{version_form};
 use der::{FixedTag, Tag};
 use der_asn1::{Checked, Form};
 
-/// The form of a version: 0 or 1, for version 1 or 2.
+/// Contents of a version: 0 for version 1, 1 for version 2.
 pub struct VersionForm;
 
-/// The version of a private key, lent by the input.
+/// The version of a private key, borrowed from the input.
 pub type Version<'a> = Checked<'a, VersionForm>;
 
 impl FixedTag for VersionForm {

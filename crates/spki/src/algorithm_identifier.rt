@@ -12,16 +12,16 @@ use der::{
 use der_asn1::{AnyRef, Described, ObjectIdentifierRef, Optional};
 use std::alloc::Global;
 
-/// An algorithm, and its parameters, lent by the input.
+/// An algorithm with its parameters, borrowed from the input.
 #[derive(Drop)]
 pub struct AlgorithmIdentifierRef<'a> {
-    /// The algorithm.
+    /// The identifier of the algorithm.
     pub oid: ObjectIdentifierRef<'a>,
-    /// Its parameters, of any type.
+    /// The parameters of the algorithm, of any type.
     pub parameters: Optional<AnyRef<'a>>,
 }
 
-/// Its fields, one behind the other.
+/// The fields, in sequence.
 pub type AlgorithmIdentifierFields<'a> = (ObjectIdentifierRef<'a>, Optional<AnyRef<'a>>);
 
 impl<'a> Described for AlgorithmIdentifierRef<'a> {
@@ -57,7 +57,7 @@ impl<'a> ReadValue for AlgorithmIdentifierRef<'a> {
 
 /// # Errors
 ///
-/// Those of the fields, one behind the other.
+/// Those of the fields, in sequence.
 impl<'a, R: Reader<Lent = &'a [u8]>> DecodeValue<R> for AlgorithmIdentifierRef<'a> {
     type Error = Error;
 
@@ -87,7 +87,7 @@ impl<'a> WrittenValue for AlgorithmIdentifierRef<'a> {
 
 /// # Errors
 ///
-/// Those of the fields, one behind the other, and `Overflow` without a position.
+/// Those of the fields, in sequence, and `Overflow` without a position.
 impl<'a> EncodeValue for AlgorithmIdentifierRef<'a> {
     ghost value_size = { λ v. ⟦<AlgorithmIdentifierFields<'a> as Encode>⟧.size (v.oid, v.parameters) };
 

@@ -1,5 +1,5 @@
-//! Public keys and their algorithms (RFC 5280, 4.1), lent by the input. Each type is lawful: it is
-//! read exactly where the octets are its encoding.
+//! Public keys and their algorithms (RFC 5280, 4.1), borrowed from the input. Each type is lawful:
+//! decoding succeeds exactly if the octets are the encoding of a value.
 #![tactic(auto)]
 
 mod algorithm_identifier;

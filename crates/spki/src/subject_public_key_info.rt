@@ -12,16 +12,16 @@ use der::{
 use der_asn1::{BitStringRef, Described};
 use std::alloc::Global;
 
-/// A public key, with its algorithm, lent by the input.
+/// A public key with its algorithm, borrowed from the input.
 #[derive(Drop)]
 pub struct SubjectPublicKeyInfoRef<'a> {
-    /// The algorithm.
+    /// The algorithm of the key.
     pub algorithm: AlgorithmIdentifierRef<'a>,
     /// The key.
     pub subject_public_key: BitStringRef<'a>,
 }
 
-/// Its fields, one behind the other.
+/// The fields, in sequence.
 pub type SubjectPublicKeyInfoFields<'a> = (AlgorithmIdentifierRef<'a>, BitStringRef<'a>);
 
 impl<'a> Described for SubjectPublicKeyInfoRef<'a> {
@@ -57,7 +57,7 @@ impl<'a> ReadValue for SubjectPublicKeyInfoRef<'a> {
 
 /// # Errors
 ///
-/// Those of the fields, one behind the other.
+/// Those of the fields, in sequence.
 impl<'a, R: Reader<Lent = &'a [u8]>> DecodeValue<R> for SubjectPublicKeyInfoRef<'a> {
     type Error = Error;
 
@@ -88,7 +88,7 @@ impl<'a> WrittenValue for SubjectPublicKeyInfoRef<'a> {
 
 /// # Errors
 ///
-/// Those of the fields, one behind the other, and `Overflow` without a position.
+/// Those of the fields, in sequence, and `Overflow` without a position.
 impl<'a> EncodeValue for SubjectPublicKeyInfoRef<'a> {
     ghost value_size = { λ v. ⟦<SubjectPublicKeyInfoFields<'a> as Encode>⟧.size (
       v.algorithm,

@@ -1,4 +1,4 @@
--- Elements of any tags in the order of their encodings, as they are read.
+-- Lemmas on reading elements of any tags in ascending order.
 use Rattle.std.proofs.Common.{◌≡◌, ℕ, ◌+◌, ◌≤◌, Bool, false, true, Ok, Err, List, [], ◌∷◌, ◌++◌, length, refl, sym, ap, subst, ◌∙◌, arith}
 use Rattle.der.specs.Prelude.{Error, element_octets, IsBefore, ReaderState, rest_of, Reads, Der}
 use Rattle.der.specs.Decode.{Passes, ReadsOrLacks}
@@ -18,7 +18,7 @@ use Rattle.der_asn1.proofs.OptionalReadLemmas.{rest_at_end}
 use Rattle.der_asn1.proofs.SequenceOfLemmas.{IsCons, still_at_item, uncons}
 use Rattle.x509.specs.AttributeValues.{AreValues, IsValue, value_octets}
 
--- an element that was passed
+-- an element that was read
 pub value_passed : (s t : ReaderState) (v : AnyRef) → IsAtItem s → Passes (AnyElementAhead TakesAny v) s t → IsAny v × Reads s t (value_octets v)
 value_passed s t v at passed = passed_encodings (choices_are_encodings any_lawful) s t v at.der passed
 
@@ -26,7 +26,7 @@ module _ (s : ReaderState) (sound : IsSound s) (at : IsAtItem s) (l : IsListOf I
   first : IsCons IsAny value_octets (rest_of s)
   first = uncons l some
 
-  -- the first of a list stands ahead
+  -- the first element of the list is next
   value_ahead : AnyElementAhead TakesAny first.first s.rules (rest_of s) (length (value_octets first.first))
   value_ahead =
       subst (λ r. AnyElementAhead TakesAny first.first r (rest_of s) (length (value_octets first.first))) (sym at.der)
@@ -35,7 +35,7 @@ module _ (s : ReaderState) (sound : IsSound s) (at : IsAtItem s) (l : IsListOf I
   deep_enough : s.depth + element_levels (λ _. 0) s.rules ≤ 64
   deep_enough = omega (arith, at.outside, ap (element_levels (λ _. 0)) at.der)
 
-  -- so it is not refused, and leaves a reader that has not failed
+  -- so reading it does not fail, nor does the reader
   pub value_not_refused : (oom : Error → Bool) (t : ReaderState) (e : Error) → ((v : AnyRef) (m : ℕ) → s.failed ≡ false → AnyElementAhead TakesAny v s.rules (rest_of s) m → s.depth + element_levels (λ _. 0) s.rules ≤ 64 → ReadsOrLacks {A = AnyRef} oom false s m (Err e) t) → ⊥
   value_not_refused oom t e owed =
       let lacks = lacks_only AnyRef oom s t (length (value_octets first.first)) (owed first.first (length (value_octets first.first)) at.working value_ahead deep_enough) in
@@ -50,7 +50,7 @@ no_front : (a b : List ℕ) → a ++ b ≡ [] → a ≡ []
 no_front [] b e = refl
 no_front (o ∷ a) b e = absurd (let size : length (o ∷ (a ++ b)) ≡ 0 = ap length e in omega arith)
 
--- the first of a set, and the others behind it
+-- the first element of a set, and the rest
 pub record IsStep (ahead element behind : List ℕ) : Type 0 where
   pub in_order : IsBefore element ahead → ⊥
   pub behind_it : IsSetBehind IsAny value_octets element behind
@@ -75,7 +75,7 @@ set_cons ahead octets element behind is split order s =
       ascend = (subst (λ x. IsBefore x ahead → ⊥) is.whole order, subst (λ x. Ascend value_octets x s.list.items) is.whole s.ascend);
     }
 
--- the state of a walk over a set, behind an element
+-- the state of an iteration over a set, after an element
 pub record IsValueWalk (octets ahead : List ℕ) (s : ReaderState) : Type 0 where
   pub at : IsAtItem s
   pub back : IsSetBehind IsAny value_octets ahead (rest_of s) → AreValues octets
@@ -101,6 +101,6 @@ value_walk_on octets ahead element s t w is r order =
 pub value_walk_ends : (octets ahead : List ℕ) (s : ReaderState) → IsValueWalk octets ahead s → s.end ≡ s.position → AreValues octets
 value_walk_ends octets ahead s w e = w.back (record { list = record { items = []; are_valid = tt; joined = rest_at_end s e }; ascend = tt })
 
--- an element that comes before the one ahead of it stands in no set
+-- an element that is smaller than the one before it does not occur in a set
 pub value_walk_stops : (octets ahead element : List ℕ) (s t : ReaderState) → IsValueWalk octets ahead s → IsValue element → Reads s t element → IsBefore element ahead → AreValues octets → ⊥
 value_walk_stops octets ahead element s t w is r before a = (set_step ahead (rest_of s) element (rest_of t) (w.on a) is r.split).in_order before

@@ -1,5 +1,5 @@
--- The values of an attribute (RFC 2986, 4.1): elements of any tags, in the order of their encodings,
--- as in a SET OF under DER (X.690 8.12, 11.6).
+-- The values of an attribute (RFC 2986, 4.1): elements of any tags in ascending order of their
+-- encodings, as in a SET OF under DER (X.690 8.12, 11.6).
 use Rattle.std.specs.Prelude.{◌≡◌, ℕ, List, [], Result}
 use Rattle.der.specs.Prelude.{Error, ReaderState, element_octets}
 use Rattle.der_asn1.specs.AnyElement.{AnyElementRead}
@@ -11,23 +11,23 @@ use Rattle.der_asn1.specs.declared.any.AnyRef.{AnyRef}
 abbrev pub value_octets : AnyRef → List ℕ
 value_octets v = element_octets v.tag (any_contents v)
 
--- they are elements, and ascend: before no octets comes nothing
+-- octets are elements, in ascending order
 abbrev pub AreValues : List ℕ → Type 0
 AreValues octets = IsSetBehind IsAny value_octets [] octets
 
--- octets are an element
+-- octets are one element
 pub record IsValue (octets : List ℕ) : Type 0 where
   pub value : AnyRef
   pub is_valid : IsAny value
   pub whole : octets ≡ value_octets value
 
--- an error is handed on
+-- an error is returned unchanged
 abbrev pub HandsOn : Error → Error → Type 0
 HandsOn e f = f ≡ e
 
 abbrev pub ValueRead : ReaderState → Result AnyRef Error → ReaderState → Type 0
 ValueRead = AnyElementRead HandsOn AnyRead
 
--- what a walk over contents answers
+-- the possible results of reading all values of the contents
 abbrev pub ValuesWalked : Result (Unit {0}) Error → List ℕ → Type 0
 ValuesWalked = SetWalked HandsOn ValueRead

@@ -1,4 +1,4 @@
--- What reading a certificate does not look at, and what is asked apart (RFC 5280, 4.1).
+-- Checks of a certificate that decoding does not make (RFC 5280, 4.1).
 use Rattle.std.specs.Prelude.{◌≡◌, ◌≤◌, ℕ, List, [], ◌∷◌, Option, Some, None, IsSome}
 use Rattle.der.specs.Prelude.{Tag}
 use Rattle.der_asn1.specs.AnyRef.{any_contents}
@@ -15,14 +15,15 @@ version_number (o ∷ os) = o
 abbrev pub version_of : TbsCertificate → ℕ
 version_of v = version_number v.version.0.0.octets.now
 
--- unique identifiers stand in version 2 or 3 alone (4.1.2.8), and extensions in version 3 (4.1.2.9)
+-- unique identifiers are present only in version 2 or 3 (4.1.2.8), and extensions only in version 3
+-- (4.1.2.9)
 abbrev pub HasFieldsOfVersion : TbsCertificate → Type 0
 HasFieldsOfVersion v =
     (IsSome v.issuer_unique_id.0 → 1 ≤ version_of v)
     × (IsSome v.subject_unique_id.0 → 1 ≤ version_of v)
     × (IsSome v.extensions.0 → version_of v ≡ 2)
 
--- the parameters of an algorithm: none, or an element of a tag
+-- the parameters of an algorithm: none, or the tag and contents of an element
 abbrev pub parameters_of : Option AnyRef → Option (Tag × List ℕ)
 parameters_of None = None
 parameters_of (Some v) = Some (v.tag, any_contents v)
@@ -33,6 +34,6 @@ IsSameAlgorithm v w =
     (v.oid.octets.now ≡ w.oid.octets.now)
     × (parameters_of v.parameters.0 ≡ parameters_of w.parameters.0)
 
--- what the signature is made with is what the signed part says (4.1.1.2, 4.1.2.3)
+-- the signature's algorithm is the one in the signed part (4.1.1.2, 4.1.2.3)
 abbrev pub HasSameAlgorithms : Certificate → Type 0
 HasSameAlgorithms v = IsSameAlgorithm v.signature_algorithm v.tbs_certificate.signature

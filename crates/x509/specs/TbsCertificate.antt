@@ -1,4 +1,4 @@
--- TBSCertificate (RFC 5280, 4.1), as the two halves of its fields.
+-- TBSCertificate (RFC 5280, 4.1), with its fields in two halves.
 use Rattle.x509.specs.declared.issued.Issued.{Issued}
 use Rattle.x509.specs.declared.subject.Subject.{Subject}
 use Rattle.x509.specs.declared.tbs_certificate.TbsCertificate.{TbsCertificate}

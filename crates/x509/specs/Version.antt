@@ -11,7 +11,7 @@ abbrev pub is_version_1 : List ℕ → Bool
 is_version_1 [] = false
 is_version_1 (o ∷ os) = o == 0
 
--- of a request there is one: 0 (RFC 2986, 4.1)
+-- a request has version 0 (RFC 2986, 4.1)
 abbrev pub request_version_form : List ℕ → Bool
 request_version_form [] = false
 request_version_form (o ∷ []) = o == 0

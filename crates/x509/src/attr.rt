@@ -14,19 +14,19 @@ use der_asn1::{Described, ObjectIdentifierRef, SetOf};
 use std::alloc::Global;
 pub use values::AttributeValues;
 
-/// An attribute of a request, lent by the input.
+/// An attribute of a request, borrowed from the input.
 #[derive(Drop)]
 pub struct Attribute<'a> {
     /// The type of the attribute.
     pub oid: ObjectIdentifierRef<'a>,
-    /// Its values, of any type.
+    /// The values of the attribute, of any type.
     pub values: AttributeValues<'a>,
 }
 
-/// The attributes of a request, in the order of their encodings.
+/// The attributes of a request, in ascending order of their encodings.
 pub type Attributes<'a> = SetOf<'a, Attribute<'a>>;
 
-/// The fields of an attribute, one behind the other.
+/// The fields of an attribute, in sequence.
 pub type AttributeFields<'a> = (ObjectIdentifierRef<'a>, AttributeValues<'a>);
 
 impl<'a> Described for Attribute<'a> {
@@ -62,7 +62,7 @@ impl<'a> ReadValue for Attribute<'a> {
 
 /// # Errors
 ///
-/// Those of the fields, one behind the other.
+/// Those of the fields, in sequence.
 impl<'a, R: Reader<Lent = &'a [u8]>> DecodeValue<R> for Attribute<'a> {
     type Error = Error;
 
@@ -90,7 +90,7 @@ impl<'a> WrittenValue for Attribute<'a> {
 
 /// # Errors
 ///
-/// Those of the fields, one behind the other, and `Overflow` without a position.
+/// Those of the fields, in sequence, and `Overflow` without a position.
 impl<'a> EncodeValue for Attribute<'a> {
     ghost value_size = { λ v. ⟦<AttributeFields<'a> as Encode>⟧.size (v.oid, v.values) };
 

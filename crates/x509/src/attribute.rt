@@ -11,16 +11,16 @@ use der::{
 use der_asn1::{AnyRef, Described, ObjectIdentifierRef};
 use std::alloc::Global;
 
-/// An attribute of a name, lent by the input.
+/// An attribute of a name, borrowed from the input.
 #[derive(Drop)]
 pub struct AttributeTypeAndValue<'a> {
     /// The type of the attribute.
     pub oid: ObjectIdentifierRef<'a>,
-    /// Its value, of any type.
+    /// The value of the attribute, of any type.
     pub value: AnyRef<'a>,
 }
 
-/// Its fields, one behind the other.
+/// The fields, in sequence.
 pub type AttributeTypeAndValueFields<'a> = (ObjectIdentifierRef<'a>, AnyRef<'a>);
 
 impl<'a> Described for AttributeTypeAndValue<'a> {
@@ -56,7 +56,7 @@ impl<'a> ReadValue for AttributeTypeAndValue<'a> {
 
 /// # Errors
 ///
-/// Those of the fields, one behind the other.
+/// Those of the fields, in sequence.
 impl<'a, R: Reader<Lent = &'a [u8]>> DecodeValue<R> for AttributeTypeAndValue<'a> {
     type Error = Error;
 
@@ -84,7 +84,7 @@ impl<'a> WrittenValue for AttributeTypeAndValue<'a> {
 
 /// # Errors
 ///
-/// Those of the fields, one behind the other, and `Overflow` without a position.
+/// Those of the fields, in sequence, and `Overflow` without a position.
 impl<'a> EncodeValue for AttributeTypeAndValue<'a> {
     ghost value_size = { λ v. ⟦<AttributeTypeAndValueFields<'a> as Encode>⟧.size (v.oid, v.value) };
 

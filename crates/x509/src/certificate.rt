@@ -13,10 +13,10 @@ use der_asn1::{BitStringRef, Described};
 use spki::AlgorithmIdentifierRef;
 use std::alloc::Global;
 
-/// A certificate, lent by the input.
+/// A certificate, borrowed from the input.
 #[derive(Drop)]
 pub struct Certificate<'a> {
-    /// What the certificate says.
+    /// The signed part: the contents of the certificate.
     pub tbs_certificate: TbsCertificate<'a>,
     /// The algorithm of the signature.
     pub signature_algorithm: AlgorithmIdentifierRef<'a>,
@@ -24,7 +24,7 @@ pub struct Certificate<'a> {
     pub signature: BitStringRef<'a>,
 }
 
-/// Its fields, one behind the other.
+/// The fields, in sequence.
 pub type CertificateFields<'a> = (
     TbsCertificate<'a>,
     (AlgorithmIdentifierRef<'a>, BitStringRef<'a>),
@@ -64,7 +64,7 @@ impl<'a> ReadValue for Certificate<'a> {
 
 /// # Errors
 ///
-/// Those of the fields, one behind the other.
+/// Those of the fields, in sequence.
 impl<'a, R: Reader<Lent = &'a [u8]>> DecodeValue<R> for Certificate<'a> {
     type Error = Error;
 
@@ -97,7 +97,7 @@ impl<'a> WrittenValue for Certificate<'a> {
 
 /// # Errors
 ///
-/// Those of the fields, one behind the other, and `Overflow` without a position.
+/// Those of the fields, in sequence, and `Overflow` without a position.
 impl<'a> EncodeValue for Certificate<'a> {
     ghost value_size = { λ v. ⟦<CertificateFields<'a> as Encode>⟧.size (
       v.tbs_certificate,

@@ -1,4 +1,4 @@
-//! What reading a certificate does not look at.
+//! Checks of a certificate that decoding does not make.
 ghost use Rattle.std.specs.Prelude.{◌≡◌, ◌↔◌, true, Some};
 ghost use Rattle.x509.specs.Checks.{HasFieldsOfVersion, HasSameAlgorithms, IsSameAlgorithm};
 ghost use Rattle.x509.specs.Checks.{parameters_of, version_number};
@@ -9,7 +9,7 @@ use der::Tag;
 use der_asn1::AnyRef;
 use spki::AlgorithmIdentifierRef;
 
-// 0, 1 or 2, of the octets of a version.
+// The number of a version: 0, 1 or 2.
 fn number_of(octets: &[u8]) -> u8
     ensures { result ≡ version_number octets.now }
 {
@@ -20,8 +20,8 @@ fn number_of(octets: &[u8]) -> u8
 }
 
 impl TbsCertificate<'_> {
-    /// Whether unique identifiers stand in version 2 or 3 alone, and extensions in version 3 (RFC
-    /// 5280, 4.1.2.1, 4.1.2.8, 4.1.2.9). Reading does not ask for it.
+    /// Whether unique identifiers are present only in version 2 or 3, and extensions only in
+    /// version 3 (RFC 5280, 4.1.2.1, 4.1.2.8, 4.1.2.9). Decoding does not check this.
     pub fn has_fields_of_version(&self) -> bool
         ensures { (result ≡ true) ↔ HasFieldsOfVersion self.now }
     {
@@ -35,9 +35,8 @@ impl TbsCertificate<'_> {
 }
 
 impl Certificate<'_> {
-    /// Whether the algorithm of the signature is the one that the signed part says: the same
-    /// identifier, and the same parameters or none (RFC 5280, 4.1.1.2). Reading does not ask for
-    /// it.
+    /// Whether the algorithm of the signature is the one in the signed part: the same identifier,
+    /// and the same parameters or none in both (RFC 5280, 4.1.1.2). Decoding does not check this.
     pub fn has_same_algorithms(&self) -> bool
         ensures { (result ≡ true) ↔ HasSameAlgorithms self.now }
     {
@@ -45,7 +44,7 @@ impl Certificate<'_> {
     }
 }
 
-// Whether two algorithms are the same, with the same parameters.
+// Whether two algorithms have the same identifier and the same parameters.
 fn is_same_algorithm(
     first: &AlgorithmIdentifierRef<'_>,
     second: &AlgorithmIdentifierRef<'_>,
@@ -56,7 +55,7 @@ fn is_same_algorithm(
         && are_same_parameters(&first.parameters.0, &second.parameters.0)
 }
 
-// Whether there are none, or two elements with one tag and the same contents.
+// Whether both have no parameters, or both have elements with the same tag and contents.
 fn are_same_parameters(first: &Option<AnyRef<'_>>, second: &Option<AnyRef<'_>>) -> bool
     ensures { (result ≡ true) ↔ (parameters_of first.now ≡ parameters_of second.now) }
 {

@@ -13,18 +13,18 @@ use der_asn1::{
 };
 use std::alloc::Global;
 
-/// An extension of a certificate, lent by the input.
+/// An extension of a certificate, borrowed from the input.
 #[derive(Drop)]
 pub struct Extension<'a> {
     /// The type of the extension.
     pub extn_id: ObjectIdentifierRef<'a>,
-    /// Whether who does not know it has to refuse the certificate.
+    /// Whether an application that does not know the extension must reject the certificate.
     pub critical: Defaulted<BooleanRef<'a>>,
-    /// The encoding of its value, which is not looked at.
+    /// The encoding of the extension's value, which is not checked.
     pub extn_value: OctetStringRef<'a>,
 }
 
-/// Its fields, one behind the other.
+/// The fields, in sequence.
 pub type ExtensionFields<'a> = (
     ObjectIdentifierRef<'a>,
     (Defaulted<BooleanRef<'a>>, OctetStringRef<'a>),
@@ -65,7 +65,7 @@ impl<'a> ReadValue for Extension<'a> {
 
 /// # Errors
 ///
-/// Those of the fields, one behind the other.
+/// Those of the fields, in sequence.
 impl<'a, R: Reader<Lent = &'a [u8]>> DecodeValue<R> for Extension<'a> {
     type Error = Error;
 
@@ -98,7 +98,7 @@ impl<'a> WrittenValue for Extension<'a> {
 
 /// # Errors
 ///
-/// Those of the fields, one behind the other, and `Overflow` without a position.
+/// Those of the fields, in sequence, and `Overflow` without a position.
 impl<'a> EncodeValue for Extension<'a> {
     ghost value_size = { λ v. ⟦<ExtensionFields<'a> as Encode>⟧.size (
       v.extn_id,

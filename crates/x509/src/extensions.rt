@@ -12,7 +12,7 @@ use der::{
 use der_asn1::{Described, Nestable, SequenceOf};
 use std::alloc::Global;
 
-/// The extensions of a certificate, lent by the input.
+/// The extensions of a certificate, borrowed from the input.
 #[derive(Clone, Copy, Drop)]
 pub struct Extensions<'a> {
     /// The extensions.

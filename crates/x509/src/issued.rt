@@ -1,4 +1,4 @@
-//! The first fields of a TBSCertificate.
+//! The first half of the fields of a TBSCertificate.
 ghost use Rattle.std.specs.Prelude.{false};
 ghost use Rattle.der.specs.Prelude.{map_ok};
 
@@ -20,7 +20,7 @@ pub(crate) struct Issued<'a> {
     pub(crate) validity: Validity,
 }
 
-// They stand one behind the other.
+// The fields, in sequence.
 pub(crate) type IssuedFields<'a> = (
     (Defaulted<Explicit<Version<'a>, 0>>, IntRef<'a>),
     ((AlgorithmIdentifierRef<'a>, Name<'a>), Validity),

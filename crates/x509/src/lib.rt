@@ -1,5 +1,6 @@
-//! Certificates (RFC 5280, 4.1), and requests for them (RFC 2986, 4), lent by the input. Each type
-//! is lawful: it is read exactly where the octets are its encoding. No memory is taken.
+//! Certificates (RFC 5280, 4.1) and certification requests (RFC 2986, 4), borrowed from the input.
+//! Each type is lawful: decoding succeeds exactly if the octets are the encoding of a value.
+//! Nothing is allocated.
 #![tactic(auto)]
 
 mod attr;

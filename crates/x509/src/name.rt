@@ -12,10 +12,10 @@ use der::{
 use der_asn1::{Described, Nestable, SequenceOf};
 use std::alloc::Global;
 
-/// A name, lent by the input.
+/// A distinguished name, borrowed from the input.
 #[derive(Clone, Copy, Drop)]
 pub struct Name<'a> {
-    /// Its levels, the highest first.
+    /// The relative distinguished names, the most significant first.
     pub levels: SequenceOf<'a, RelativeDistinguishedName<'a>>,
 }
 

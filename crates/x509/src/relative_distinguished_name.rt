@@ -2,5 +2,5 @@
 use crate::attribute::AttributeTypeAndValue;
 use der_asn1::SetOf;
 
-/// The attributes of one level of a name, in the order of their encodings.
+/// The attributes of one level of a name, in ascending order of their encodings.
 pub type RelativeDistinguishedName<'a> = SetOf<'a, AttributeTypeAndValue<'a>>;

@@ -17,10 +17,10 @@ use spki::AlgorithmIdentifierRef;
 use std::alloc::Global;
 pub use version::{CertReqVersion, CertReqVersionForm};
 
-/// A request for a certificate, lent by the input.
+/// A certification request, borrowed from the input.
 #[derive(Drop)]
 pub struct CertReq<'a> {
-    /// What is asked for.
+    /// The signed part: the requested contents.
     pub info: CertReqInfo<'a>,
     /// The algorithm of the signature.
     pub algorithm: AlgorithmIdentifierRef<'a>,
@@ -28,7 +28,7 @@ pub struct CertReq<'a> {
     pub signature: BitStringRef<'a>,
 }
 
-/// Its fields, one behind the other.
+/// The fields, in sequence.
 pub type CertReqFields<'a> = (
     CertReqInfo<'a>,
     (AlgorithmIdentifierRef<'a>, BitStringRef<'a>),
@@ -68,7 +68,7 @@ impl<'a> ReadValue for CertReq<'a> {
 
 /// # Errors
 ///
-/// Those of the fields, one behind the other.
+/// Those of the fields, in sequence.
 impl<'a, R: Reader<Lent = &'a [u8]>> DecodeValue<R> for CertReq<'a> {
     type Error = Error;
 
@@ -101,7 +101,7 @@ impl<'a> WrittenValue for CertReq<'a> {
 
 /// # Errors
 ///
-/// Those of the fields, one behind the other, and `Overflow` without a position.
+/// Those of the fields, in sequence, and `Overflow` without a position.
 impl<'a> EncodeValue for CertReq<'a> {
     ghost value_size = { λ v. ⟦<CertReqFields<'a> as Encode>⟧.size (
       v.info,

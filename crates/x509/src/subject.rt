@@ -1,4 +1,4 @@
-//! The last fields of a TBSCertificate.
+//! The second half of the fields of a TBSCertificate.
 ghost use Rattle.std.specs.Prelude.{false};
 ghost use Rattle.der.specs.Prelude.{map_ok};
 
@@ -19,7 +19,7 @@ pub(crate) struct Subject<'a> {
     pub(crate) extensions: Optional<Explicit<Extensions<'a>, 3>>,
 }
 
-// They stand one behind the other.
+// The fields, in sequence.
 pub(crate) type SubjectFields<'a> = (
     (Name<'a>, SubjectPublicKeyInfoRef<'a>),
     (

@@ -24,7 +24,7 @@ use der_asn1::{
 use spki::{AlgorithmIdentifierRef, SubjectPublicKeyInfoRef};
 use std::alloc::Global;
 
-/// What a certificate says, which its signature is over.
+/// The contents of a certificate, which its signature covers.
 #[derive(Drop)]
 pub struct TbsCertificate<'a> {
     /// The version.
@@ -33,23 +33,23 @@ pub struct TbsCertificate<'a> {
     pub serial_number: IntRef<'a>,
     /// The algorithm of the signature.
     pub signature: AlgorithmIdentifierRef<'a>,
-    /// Who issued the certificate.
+    /// The issuer of the certificate.
     pub issuer: Name<'a>,
-    /// From when to when it is valid.
+    /// The period in which the certificate is valid.
     pub validity: Validity,
-    /// To whom it was issued.
+    /// The subject of the certificate.
     pub subject: Name<'a>,
-    /// The key that it is for.
+    /// The public key of the subject.
     pub subject_public_key_info: SubjectPublicKeyInfoRef<'a>,
-    /// More of the issuer, in version 2 and 3.
+    /// A unique identifier of the issuer, in version 2 and 3.
     pub issuer_unique_id: Optional<Implicit<BitStringRef<'a>, 1>>,
-    /// More of the subject, in version 2 and 3.
+    /// A unique identifier of the subject, in version 2 and 3.
     pub subject_unique_id: Optional<Implicit<BitStringRef<'a>, 2>>,
     /// The extensions, in version 3.
     pub extensions: Optional<Explicit<Extensions<'a>, 3>>,
 }
 
-/// Its fields, one behind the other.
+/// The fields, in sequence.
 pub type TbsCertificateFields<'a> = (
     (
         (Defaulted<Explicit<Version<'a>, 0>>, IntRef<'a>),
@@ -128,7 +128,7 @@ impl<'a> ReadValue for TbsCertificate<'a> {
 
 /// # Errors
 ///
-/// Those of the fields, one behind the other.
+/// Those of the fields, in sequence.
 impl<'a, R: Reader<Lent = &'a [u8]>> DecodeValue<R> for TbsCertificate<'a> {
     type Error = Error;
 
@@ -182,7 +182,7 @@ impl<'a> WrittenValue for TbsCertificate<'a> {
 
 /// # Errors
 ///
-/// Those of the fields, one behind the other, and `Overflow` without a position.
+/// Those of the fields, in sequence, and `Overflow` without a position.
 impl<'a> EncodeValue for TbsCertificate<'a> {
     ghost value_size = { λ v. ⟦<TbsCertificateFields<'a> as Encode>⟧.size (
       (

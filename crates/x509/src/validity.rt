@@ -12,16 +12,16 @@ use der::{
 use der_asn1::{Described, Either, GeneralizedTime, UtcTime};
 use std::alloc::Global;
 
-/// From when to when a certificate is valid.
+/// The period in which a certificate is valid.
 #[derive(Drop)]
 pub struct Validity {
     /// The first time at which the certificate is valid.
     pub not_before: Time,
-    /// The last.
+    /// The last time at which the certificate is valid.
     pub not_after: Time,
 }
 
-/// Its fields, one behind the other.
+/// The fields, in sequence.
 pub type ValidityFields = (Time, Time);
 
 impl Described for Validity {
@@ -58,7 +58,7 @@ impl ReadValue for Validity {
 
 /// # Errors
 ///
-/// Those of the fields, one behind the other.
+/// Those of the fields, in sequence.
 impl<'a, R: Reader<Lent = &'a [u8]>> DecodeValue<R> for Validity {
     type Error = Error;
 
@@ -95,7 +95,7 @@ impl WrittenValue for Validity {
 
 /// # Errors
 ///
-/// Those of the fields, one behind the other, and `Overflow` without a position.
+/// Those of the fields, in sequence, and `Overflow` without a position.
 impl EncodeValue for Validity {
     ghost value_size = { λ v. ⟦<ValidityFields as Encode>⟧.size (v.not_before, v.not_after) };
 

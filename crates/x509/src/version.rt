@@ -7,10 +7,10 @@ ghost use Rattle.x509.specs.Version.{is_version_1, version_form};
 use der::{FixedTag, Tag};
 use der_asn1::{Checked, DefaultForm, Form};
 
-/// The form of a version: 0, 1 or 2, for version 1, 2 or 3.
+/// Contents of a version: 0, 1 or 2, for version 1, 2 or 3.
 pub struct VersionForm;
 
-/// The version of a certificate, lent by the input; version 1 is the default.
+/// The version of a certificate, borrowed from the input; version 1 is the default.
 pub type Version<'a> = Checked<'a, VersionForm>;
 
 impl FixedTag for VersionForm {

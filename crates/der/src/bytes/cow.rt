@@ -1,4 +1,4 @@
-//! Octets that are borrowed where a reader lends them.
+//! Byte strings that are borrowed from the input if the reader allows it.
 ghost use Rattle.std.specs.Prelude.{◌≡◌, ◌↔◌, false, true, IfOk, IsOk};
 ghost use Rattle.der_core.specs.DecodeValue.{TakesContents};
 ghost use Rattle.der_core.specs.Header.{head_of};
@@ -11,17 +11,17 @@ use der_base::{Error, Length};
 use der_core::{DecodeValue, EncodeValue, Header, ReadValue, Reader, Writer, WrittenValue};
 use std::alloc::Global;
 
-/// Octets, at most 4294967295 of them, borrowed or in memory of their own.
+/// A byte string of at most 4294967295 octets, borrowed or owned.
 #[derive(Debug, Drop)]
 pub enum BytesCow<'a> {
-    /// They are borrowed.
+    /// Borrowed octets.
     Borrowed(BytesRef<'a>),
-    /// They are in memory of their own.
+    /// Owned octets.
     Owned(BytesOwned),
 }
 
 impl<'a> BytesCow<'a> {
-    /// The octets, borrowed with their count.
+    /// The octets, borrowed as a [`BytesRef`].
     pub fn as_bytes_ref(&self) -> BytesRef<'_>
         ensures { result.bytes.now ≡ cow_octets self.now }
     {
@@ -39,19 +39,19 @@ impl<'a> ReadValue for BytesCow<'a> {
 
     ghost value_levels = { λ _. 0 };
 
-    // a reliable reader lends, so none is taken
+    // A reliable reader returns slices, so nothing is allocated.
     ghost allocates = { false };
 
     ghost takes_valid = { λ b rules h octets taken. taken.0 };
 }
 
-/// The contents are lent where the reader can lend, and copied where it cannot, whatever the
-/// header.
+/// Borrows the contents from the input if the reader can return slices of it, and copies them
+/// otherwise. The header gives only the length.
 ///
 /// # Errors
 ///
-/// `Failed`, `Overflow` and `Incomplete`, as by [`Reader::read_slice`]; where the reader cannot
-/// lend, those of [`Reader::read_vec`].
+/// `Failed`, `Overflow` and `Incomplete`, as by [`Reader::read_slice`]; from a reader that cannot
+/// return slices, the errors of [`Reader::read_vec`].
 impl<'a, R: Reader<Lent = &'a [u8]>> DecodeValue<R> for BytesCow<'a> {
     type Error = Error;
 
@@ -87,8 +87,7 @@ impl<'a> WrittenValue for BytesCow<'a> {
 
 /// # Errors
 ///
-/// The number of octets is never refused. Writing hands on the writer's errors, as by
-/// [`Writer::write`].
+/// `value_len` never fails. `encode_value` returns the errors of [`Writer::write`].
 impl<'a> EncodeValue for BytesCow<'a> {
     ghost value_size = { octets_size cow_octets };
 

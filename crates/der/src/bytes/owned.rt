@@ -1,4 +1,4 @@
-//! Octets in memory of their own.
+//! Owned byte strings.
 ghost use Rattle.std.specs.Prelude.{◌≡◌, ◌↔◌, ◌^◌, ◌<◌, [], length as count, IsTrue, Ok};
 ghost use Rattle.std.specs.Box.{boxed_slice_items};
 ghost use Rattle.der_base.specs.Length.{definite_length};
@@ -14,9 +14,9 @@ use std::boxed::BoxedSlice;
 mod der;
 mod parts;
 
-/// Octets in memory of their own, at most 4294967295 of them.
+/// An owned byte string of at most 4294967295 octets.
 ///
-/// The derived order puts fewer octets first, and as many octet by octet.
+/// The derived order puts shorter strings first; equal lengths are compared octet by octet.
 #[derive(Debug, Drop, PartialEq, Eq, PartialOrd, Ord, Hash)]
 pub struct BytesOwned {
     length: Length,
@@ -26,11 +26,11 @@ pub struct BytesOwned {
 }
 
 impl BytesOwned {
-    /// These octets; no memory is taken.
+    /// Wraps these octets, without allocating.
     ///
     /// # Errors
     ///
-    /// - `Overflow` without a position, where there are more than 4294967295.
+    /// - `Overflow` without a position, if there are more than 4294967295.
     pub fn new(inner: BoxedSlice<u8>) -> Result<Self, Error>
         ensures exact { map_ok (λ b. boxed_slice_items b.inner) result
             ≡ checked_octets (boxed_slice_items inner) }
@@ -45,8 +45,8 @@ impl BytesOwned {
     ///
     /// # Errors
     ///
-    /// - `Overflow` without a position, where there are more than 4294967295.
-    /// - `OutOfMemory` without a position, where memory is refused.
+    /// - `Overflow` without a position, if there are more than 4294967295.
+    /// - `OutOfMemory` without a position, if allocation fails.
     pub fn from_slice(alloc: Global, bytes: &[u8]) -> Result<Self, Error>
         ensures exact { AnswersOrLacks (checked_octets bytes.now)
             (map_ok (λ b. boxed_slice_items b.inner) result) }
@@ -56,11 +56,11 @@ impl BytesOwned {
         Ok(BytesOwned { length, inner })
     }
 
-    /// The octets of a vector; no memory is taken.
+    /// Wraps the octets of a vector, without allocating.
     ///
     /// # Errors
     ///
-    /// - `Overflow` without a position, where there are more than 4294967295.
+    /// - `Overflow` without a position, if there are more than 4294967295.
     pub fn from_vec(bytes: Vec<u8>) -> Result<Self, Error>
         ensures exact { map_ok (λ b. boxed_slice_items b.inner) result
             ≡ checked_octets bytes.items }
@@ -72,7 +72,7 @@ impl BytesOwned {
     ///
     /// # Errors
     ///
-    /// - `OutOfMemory` without a position, where memory is refused.
+    /// - `OutOfMemory` without a position, if allocation fails.
     pub fn from_ref(alloc: Global, bytes: BytesRef<'_>) -> Result<Self, Error>
         ensures exact { AnswersOrLacks (Ok bytes.entry.bytes.now)
             (map_ok (λ b. boxed_slice_items b.inner) result) }
@@ -80,7 +80,7 @@ impl BytesOwned {
         BytesOwned::from_slice(alloc, bytes.as_slice())
     }
 
-    /// No octets; no memory is taken.
+    /// The empty string; allocates nothing.
     pub fn empty(alloc: Global) -> Self
         ensures { boxed_slice_items result.inner ≡ [] }
     {
@@ -97,46 +97,46 @@ impl BytesOwned {
         self.inner.as_slice()
     }
 
-    /// The octets, borrowed with their count.
+    /// The octets, borrowed as a [`BytesRef`].
     pub fn as_bytes_ref(&self) -> BytesRef<'_>
         ensures { result.bytes.now ≡ boxed_slice_items self.now.inner }
     {
         BytesRef::counted(self.as_slice())
     }
 
-    /// The octets as ones that are borrowed, as by [`BytesOwned::as_bytes_ref`].
+    /// The octets, borrowed as a [`BytesRef`]; the same as [`BytesOwned::as_bytes_ref`].
     pub fn owned_to_ref(&self) -> BytesRef<'_>
         ensures { result.bytes.now ≡ boxed_slice_items self.now.inner }
     {
         self.as_bytes_ref()
     }
 
-    /// How many octets there are.
+    /// The number of octets.
     pub fn len(&self) -> Length
         ensures { result ≡ definite_length (count (boxed_slice_items self.now.inner)) }
     {
         self.length
     }
 
-    /// Whether there are none.
+    /// Whether there are no octets.
     pub fn is_empty(&self) -> bool
         ensures { IsTrue result ↔ (boxed_slice_items self.now.inner ≡ []) }
     {
         self.length.is_zero()
     }
 
-    /// The octets in their box.
+    /// The octets in their box, without a copy.
     pub fn into_box(self) -> BoxedSlice<u8>
         ensures { result ≡ self.inner }
     {
         self.inner
     }
 
-    /// A copy of them.
+    /// A copy of the octets.
     ///
     /// # Errors
     ///
-    /// - `OutOfMemory` without a position, where memory is refused.
+    /// - `OutOfMemory` without a position, if allocation fails.
     pub fn clone_in(&self, alloc: Global) -> Result<Self, Error>
         ensures exact { AnswersOrLacks (Ok (boxed_slice_items self.now.inner))
             (map_ok (λ b. boxed_slice_items b.inner) result) }
@@ -146,11 +146,11 @@ impl BytesOwned {
 }
 
 impl<'a> BytesRef<'a> {
-    /// A copy of the octets.
+    /// An owned copy of the octets.
     ///
     /// # Errors
     ///
-    /// - `OutOfMemory` without a position, where memory is refused.
+    /// - `OutOfMemory` without a position, if allocation fails.
     pub fn ref_to_owned(&self, alloc: Global) -> Result<BytesOwned, Error>
         ensures exact { AnswersOrLacks (Ok self.now.bytes.now)
             (map_ok (λ b. boxed_slice_items b.inner) result) }

@@ -1,4 +1,4 @@
-//! Octets that are borrowed.
+//! Borrowed byte strings.
 ghost use Rattle.std.specs.Prelude.{◌≡◌, ◌↔◌, ◌^◌, ◌<◌, [], length, IsTrue};
 ghost use Rattle.der_base.specs.Length.{number, definite_length};
 ghost use Rattle.der_core.specs.Outcome.{map_ok};
@@ -8,9 +8,9 @@ use der_base::{Error, Length};
 
 mod der;
 
-/// Octets that are borrowed, at most 4294967295 of them.
+/// A borrowed byte string of at most 4294967295 octets.
 ///
-/// They are ordered octet by octet, and where one ends first it is the smaller.
+/// The derived order is lexicographic: octet by octet, and a proper prefix is smaller.
 #[derive(Clone, Copy, Debug, PartialEq, Eq, PartialOrd, Ord, Hash)]
 pub struct BytesRef<'a> {
     bytes: &'a [u8],
@@ -18,14 +18,14 @@ pub struct BytesRef<'a> {
 }
 
 impl<'a> BytesRef<'a> {
-    /// No octets.
+    /// The empty string.
     pub const EMPTY: BytesRef<'static> = BytesRef { bytes: &[] };
 
-    /// These octets.
+    /// Wraps these octets.
     ///
     /// # Errors
     ///
-    /// - `Overflow` without a position, where there are more than 4294967295.
+    /// - `Overflow` without a position, if there are more than 4294967295.
     pub const fn new(bytes: &'a [u8]) -> Result<Self, Error>
         ensures exact { map_ok (λ b. b.bytes.now) result ≡ checked_octets bytes.now }
     {
@@ -35,7 +35,7 @@ impl<'a> BytesRef<'a> {
         }
     }
 
-    // These octets, which a length can count.
+    // Wraps octets whose number is known to fit in a `Length`.
     pub(crate) const fn counted(bytes: &'a [u8]) -> Self
         requires { length bytes.now < 2 ^ 32 }
         ensures { result.bytes.now ≡ bytes.now }
@@ -50,27 +50,28 @@ impl<'a> BytesRef<'a> {
         self.bytes
     }
 
-    /// How many octets there are.
+    /// The number of octets.
     pub const fn len(&self) -> Length
         ensures { result ≡ definite_length (length self.now.bytes.now) }
     {
         Length::new(self.bytes.len() as u32)
     }
 
-    /// Whether there are none.
+    /// Whether there are no octets.
     pub fn is_empty(&self) -> bool
         ensures { IsTrue result ↔ (self.now.bytes.now ≡ []) }
     {
         self.bytes.is_empty()
     }
 
-    /// So many of the first octets.
+    /// The first `length` octets.
     ///
     /// # Errors
     ///
-    /// - `Incomplete` at the number of the octets, where there are fewer; `Overflow` there, where
-    ///   there are 4294967295. It speaks of one octet more than there are, as
-    ///   [`Error::incomplete`] does.
+    /// With fewer octets than `length` it fails as [`Error::incomplete`] does:
+    ///
+    /// - `Incomplete` at the number of octets, which expects one octet more than there are.
+    /// - `Overflow` at the number of octets, if there are 4294967295.
     pub fn prefix(&self, length: Length) -> Result<Self, Error>
         ensures exact { map_ok (λ b. b.bytes.now) result
             ≡ prefix_of (number length) self.now.bytes.now }

@@ -1,4 +1,4 @@
-//! What a hasher gets of a value.
+//! What each type feeds to a hasher.
 ghost use Rattle.std.specs.Prelude.{◌≡◌, fold};
 ghost use Rattle.std.specs.Hash as fed;
 ghost use Rattle.der.specs.OctetsOrder.{counted_writes};
@@ -11,28 +11,28 @@ use crate::bytes::{BytesOwned, BytesRef};
 use crate::string::{StringOwned, StringRef};
 use std::hash::{Hash, Hasher};
 
-/// The octets.
+/// The octets, as for a slice.
 fn bytes_ref_hash<H: Hasher>(bytes: &BytesRef<'_>, state: &mut H)
     ensures { state.new ≡ fold H.write state.old (fed.slice fed.u8 (reference_octets bytes.now)) }
 {
     bytes.hash(state);
 }
 
-/// How many octets there are, and then all.
+/// The number of octets, then the octets.
 fn bytes_owned_hash<H: Hasher>(bytes: &BytesOwned, state: &mut H)
     ensures { state.new ≡ fold H.write state.old (counted_writes (owned_octets bytes.now)) }
 {
     bytes.hash(state);
 }
 
-/// The text.
+/// The text, as for a `str`.
 fn string_ref_hash<H: Hasher>(text: &StringRef<'_>, state: &mut H)
     ensures { state.new ≡ fold H.write state.old (fed.str (reference_text text.now)) }
 {
     text.hash(state);
 }
 
-/// The text.
+/// The text, as for a `str`.
 fn string_owned_hash<H: Hasher>(text: &StringOwned, state: &mut H)
     ensures { state.new ≡ fold H.write state.old (fed.str (owned_text text.now)) }
 {

@@ -1,4 +1,4 @@
-//! Octets that the input lends.
+//! An OCTET STRING borrowed from the input.
 ghost use Rattle.std.specs.Prelude.{◌≡◌, false};
 ghost use Rattle.der_base.specs.declared.tag.Tag.TheVariants.{OctetString};
 ghost use Rattle.std.proofs.Common.{refl};
@@ -46,7 +46,7 @@ impl<'a> ReadValue for BorrowedOctets<'a> {
     ghost takes_valid = { λ b rules h octets taken. taken.0 };
 }
 
-/// The contents are lent, whatever the header.
+/// Borrows the contents from the input. The header gives only the length.
 ///
 /// # Errors
 ///
@@ -72,8 +72,7 @@ impl<'a> WrittenValue for BorrowedOctets<'a> {
 
 /// # Errors
 ///
-/// The number of octets is never refused. Writing hands on the writer's errors, as by
-/// [`Writer::write`].
+/// `value_len` never fails. `encode_value` returns the errors of [`Writer::write`].
 impl<'a> EncodeValue for BorrowedOctets<'a> {
     ghost value_size = { octets_size borrowed_octets };
 
@@ -94,7 +93,7 @@ impl<'a> Lawful for BorrowedOctets<'a> {
     ghost lawful = { borrowed_lawful };
 }
 
-/// The octets are compared. It is never refused.
+/// Compares the octets. Never fails.
 impl<'a> ValueOrd for BorrowedOctets<'a> {
     ghost value_order = { octets_order borrowed_octets };
 

@@ -1,4 +1,4 @@
-//! Octets that may stand in segments.
+//! An OCTET STRING that may be in segments.
 ghost use Rattle.std.specs.Prelude.{true};
 ghost use Rattle.der_base.specs.declared.tag.Tag.TheVariants.{OctetString};
 ghost use Rattle.std.proofs.Common.{refl};
@@ -15,7 +15,7 @@ use der_core::{
 use std::alloc::Global;
 use std::cmp::Ordering;
 
-/// An OCTET STRING, of which segments are joined.
+/// An OCTET STRING whose segments are joined on reading.
 #[derive(Debug, Drop)]
 pub struct JoinedOctets {
     /// The octets.
@@ -44,7 +44,7 @@ impl ReadValue for JoinedOctets {
     ghost takes_valid = { λ v rules h octets taken. taken.0 };
 }
 
-/// The contents are copied as they stand, and segments are joined, those inside them too.
+/// Copies primitive contents, and joins segments, including segments inside segments.
 ///
 /// # Errors
 ///
@@ -70,8 +70,7 @@ impl WrittenValue for JoinedOctets {
 
 /// # Errors
 ///
-/// The number of octets is never refused. Writing hands on the writer's errors, as by
-/// [`Writer::write`].
+/// `value_len` never fails. `encode_value` returns the errors of [`Writer::write`].
 impl EncodeValue for JoinedOctets {
     ghost value_size = { octets_size joined_octets };
 
@@ -90,7 +89,7 @@ impl Lawful for JoinedOctets {
     ghost lawful = { joined_lawful };
 }
 
-/// The octets are compared. It is never refused.
+/// Compares the octets. Never fails.
 impl ValueOrd for JoinedOctets {
     ghost value_order = { octets_order joined_octets };
 

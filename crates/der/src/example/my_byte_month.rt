@@ -1,4 +1,4 @@
-//! A month as one octet.
+//! A month in one octet.
 ghost use Rattle.std.specs.Prelude.{◌≡◌, ◌↔◌, ◌<◌, IsSome, IfSome};
 
 mod der;
@@ -11,7 +11,7 @@ pub struct MyByteMonth {
 }
 
 impl MyByteMonth {
-    /// The month of this number, where it is below 12.
+    /// The month with this number; `None` if the number is 12 or more.
     pub fn new(number: u8) -> Option<Self>
         ensures number { IfSome result (λ m. m.number ≡ number) }
         ensures some { IsSome result ↔ (number < 12) }
@@ -23,7 +23,7 @@ impl MyByteMonth {
         }
     }
 
-    /// The month's number.
+    /// The number of the month, from 0 to 11.
     pub fn month(&self) -> u8
         ensures { result ≡ self.now.number }
     {

@@ -1,4 +1,4 @@
-//! A text in memory of its own.
+//! An owned UTF8String.
 ghost use Rattle.std.specs.Prelude.{true};
 ghost use Rattle.der_base.specs.declared.tag.Tag.TheVariants.{Utf8String};
 ghost use Rattle.std.proofs.Common.{refl};
@@ -15,7 +15,7 @@ use der_core::{
 use std::alloc::Global;
 use std::cmp::Ordering;
 
-/// A UTF8String in memory of its own.
+/// A UTF8String that owns its text.
 #[derive(Debug, Drop)]
 pub struct OwnedText {
     /// The text.
@@ -44,7 +44,7 @@ impl ReadValue for OwnedText {
     ghost takes_valid = { λ t rules h octets taken. taken.0 };
 }
 
-/// The contents are copied, as a text, whatever the header.
+/// Copies the contents, as a text. The header gives only the length.
 ///
 /// # Errors
 ///
@@ -70,8 +70,7 @@ impl WrittenValue for OwnedText {
 
 /// # Errors
 ///
-/// The number of octets is never refused. Writing hands on the writer's errors, as by
-/// [`Writer::write`].
+/// `value_len` never fails. `encode_value` returns the errors of [`Writer::write`].
 impl EncodeValue for OwnedText {
     ghost value_size = { octets_size owned_text_octets };
 
@@ -90,7 +89,7 @@ impl Lawful for OwnedText {
     ghost lawful = { owned_text_lawful };
 }
 
-/// The octets are compared. It is never refused.
+/// Compares the octets. Never fails.
 impl ValueOrd for OwnedText {
     ghost value_order = { octets_order owned_text_octets };
 

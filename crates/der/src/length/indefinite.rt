@@ -1,4 +1,4 @@
-//! Contents that are given in segments (X.690 8.7.3), which may be cut into segments again.
+//! Contents in segments (X.690 8.7.3); a segment may itself consist of segments.
 ghost use Rattle.std.specs.Prelude.{◌≡◌, ◌+◌, ◌^◌, ◌<◌, ◌⊎◌, ℕ, List, true, false, IfOk, IfErr, IsOk, OnOk, IsErrAnd};
 ghost use Rattle.der_base.specs.Error.{error_of_kind, missing_refusal};
 ghost use Rattle.der_base.specs.Length.{number};
@@ -14,35 +14,35 @@ use der_base::{Error, ErrorKind, Length, Tag};
 use der_core::{Header, Reader, ReaderExt, close_value, decode_header};
 use std::alloc::Global;
 
-/// Joins the segments up to the end (X.690 8.7.3) into memory of their own: elements with this tag,
-/// one behind the other. A primitive one of definite length gives its contents. Under the Basic
-/// Encoding Rules a constructed one, of either form of length, gives what the segments inside it
-/// are joined to; they are entered as any part, with at most 64 parts inside each other. `length`
-/// is that of the segments' element; the end mark is not read.
+/// Joins the segments up to the end (X.690 8.7.3) into a new vector. The segments are elements with
+/// the tag `inner_tag`, in sequence. A primitive segment contributes its contents. Under the Basic
+/// Encoding Rules a segment may be constructed, of definite or indefinite length, and contributes
+/// the joined segments inside it; each is entered as a nested part, to a depth of at most 64.
+/// `length` is the length of the element that contains the segments; its end-of-contents octets are
+/// not read.
 ///
 /// # Errors
 ///
-/// - `IndefiniteLength` at the position, where `length` was not read in the indefinite form, under
-///   the Distinguished Encoding Rules; the reader has failed then.
-/// - `OutOfMemory` without a position, where memory for as many octets as `length` says is refused;
-///   the reader is unchanged.
+/// - `IndefiniteLength` at the position, if `length` is definite and the rules are the
+///   Distinguished Encoding Rules; the reader has failed then.
+/// - `OutOfMemory` without a position, if the allocation of `length` octets fails; the reader is
+///   unchanged.
 /// - Those of a segment's header, as by [`Header::decode`](der_core::Header).
-/// - `TagUnexpected` without a position, where a segment has another tag; the reader stands behind
-///   its header and has not failed.
-/// - `Noncanonical` with the tag, one before the position behind the header of a segment that is
-///   constructed, under the Distinguished Encoding Rules; the reader stands behind the header and
-///   has not failed.
-/// - `Overflow`, `Incomplete` and `NestingDepth` of a constructed segment that cannot be entered,
-///   as by [`Reader::enter_nested`]; the reader stands behind its header.
-/// - `Overflow` without a position, where fewer octets are left than a primitive segment has, and
-///   its end would pass 4294967295; the reader stands behind its header and has not failed.
-/// - `Incomplete` at the position, where fewer octets are left than a primitive segment has; the
-///   reader stands behind its header and has failed.
-/// - `OutOfMemory` without a position, where memory for a segment's octets is refused; the reader
-///   stands behind its header and has not failed.
+/// - `TagUnexpected` without a position, if a segment has another tag; the reader is after its
+///   header and has not failed.
+/// - `Noncanonical` with the tag, at the last octet of the header of a constructed segment, under
+///   the Distinguished Encoding Rules; the reader is after the header and has not failed.
+/// - `Overflow`, `Incomplete` and `NestingDepth` if a constructed segment cannot be entered, as by
+///   [`Reader::enter_nested`]; the reader is after its header.
+/// - `Overflow` without a position, if fewer octets are left than a primitive segment has, and its
+///   end would exceed 4294967295; the reader is after its header and has not failed.
+/// - `Incomplete` at the position, if fewer octets are left than a primitive segment has; the
+///   reader is after its header and has failed.
+/// - `OutOfMemory` without a position, if the allocation of a segment's octets fails; the reader is
+///   after its header and has not failed.
 ///
-/// Where segments inside a segment are refused, the reader stands where that leaves it, with its
-/// own end and depth.
+/// If reading the segments inside a segment fails, the reader is where that stopped; its end and
+/// depth are restored.
 pub fn read_constructed_vec<R: Reader>(
     alloc: Global,
     reader: &mut R,
@@ -72,14 +72,15 @@ pub fn read_constructed_vec<R: Reader>(
     Ok(out)
 }
 
-// Nothing is done; a caller's proof learns that a tag's number has 32 bits.
+// Does nothing. Its contract states, for the proofs of its callers, that a tag number fits in 32
+// bits.
 fn number_fits(tag: Tag)
     ensures { (label tag).number < 2 ^ 32 }
 {
     let _ = tag.number().value();
 }
 
-// Appends what the segments up to the end are joined to.
+// Appends the joined segments up to the end.
 fn append_segments<R: Reader>(
     reader: &mut R,
     inner_tag: Tag,
@@ -107,7 +108,7 @@ fn append_segments<R: Reader>(
     Ok(())
 }
 
-// Reads the header of the next segment, which under DER is not constructed.
+// Reads the header of the next segment, which under DER must not be constructed.
 fn segment_header<R: Reader>(reader: &mut R, inner_tag: Tag) -> Result<Header, Error>
     ensures same { Same (R.state reader.old) (R.state reader.new) }
     ensures ok { IfOk result (λ h. PassesSegmentHeader inner_tag h (R.state reader.old)
@@ -125,7 +126,7 @@ fn segment_header<R: Reader>(reader: &mut R, inner_tag: Tag) -> Result<Header, E
     Ok(header)
 }
 
-// Appends so many octets. Memory is asked for once they are known to be there.
+// Appends the next `len` octets. Allocates only after it has checked that they are there.
 fn append_octets<R: Reader>(reader: &mut R, len: Length, out: &mut Vec<u8>) -> Result<(), Error>
     ensures same { Same (R.state reader.old) (R.state reader.new) }
     ensures ok { OnOk result (AppendsOctets (number len) (R.state reader.old) out.old.items
@@ -147,7 +148,7 @@ fn append_octets<R: Reader>(reader: &mut R, len: Length, out: &mut Vec<u8>) -> R
     reader.read_into(&mut out[before..])
 }
 
-// So many octets are not there.
+// The error for `len` octets that are not there.
 fn missing<R: Reader>(reader: &mut R, len: Length) -> Error
     ensures same { Same (R.state reader.old) (R.state reader.new) }
     ensures exact { Stops (R.state reader.old)

@@ -1,4 +1,4 @@
-//! Texts that are borrowed where a reader lends them.
+//! Texts that are borrowed from the input if the reader allows it.
 ghost use Rattle.std.specs.Prelude.{◌≡◌, ◌↔◌, false, true, IfOk, IsOk};
 ghost use Rattle.der_core.specs.DecodeValue.{TakesContents};
 ghost use Rattle.der_core.specs.Header.{head_of};
@@ -12,17 +12,17 @@ use der_base::{Error, Length};
 use der_core::{DecodeValue, EncodeValue, Header, ReadValue, Reader, Writer, WrittenValue};
 use std::alloc::Global;
 
-/// A text of at most 4294967295 octets, borrowed or in memory of its own.
+/// A text of at most 4294967295 octets, borrowed or owned.
 #[derive(Debug, Drop)]
 pub enum StringCow<'a> {
-    /// It is borrowed.
+    /// A borrowed text.
     Borrowed(StringRef<'a>),
-    /// It is in memory of its own.
+    /// An owned text.
     Owned(StringOwned),
 }
 
 impl<'a> StringCow<'a> {
-    /// The text, borrowed with its count.
+    /// The text, borrowed as a [`StringRef`].
     pub fn as_string_ref(&self) -> StringRef<'_>
         ensures { result.text.now ≡ cow_text self.now }
     {
@@ -40,20 +40,20 @@ impl<'a> ReadValue for StringCow<'a> {
 
     ghost value_levels = { λ _. 0 };
 
-    // a reliable reader lends, so none is taken
+    // A reliable reader returns slices, so nothing is allocated.
     ghost allocates = { false };
 
     ghost takes_valid = { λ t rules h octets taken. taken.0 };
 }
 
-/// The contents are lent, as a text, whatever the header. A reader that cannot lend refuses them,
-/// since a text in memory of its own is read from octets that are lent, too.
+/// Borrows the contents from the input, as a text. The header gives only the length. With a reader
+/// that cannot return slices this fails, because an owned text is also read from a slice.
 ///
 /// # Errors
 ///
-/// - `Failed`, `Overflow` and `Incomplete`, as by [`Reader::read_slice`]; `Reader` where the reader
-///   cannot lend.
-/// - `Utf8` without a position, where they are no text; the reader stands behind them and has not
+/// - `Failed`, `Overflow` and `Incomplete`, as by [`Reader::read_slice`]; `Reader` if the reader
+///   cannot return slices.
+/// - `Utf8` without a position, if the contents are not UTF-8; the reader is after them and has not
 ///   failed.
 impl<'a, R: Reader<Lent = &'a [u8]>> DecodeValue<R> for StringCow<'a> {
     type Error = Error;
@@ -92,8 +92,7 @@ impl<'a> WrittenValue for StringCow<'a> {
 
 /// # Errors
 ///
-/// The number of octets is never refused. Writing hands on the writer's errors, as by
-/// [`Writer::write`].
+/// `value_len` never fails. `encode_value` returns the errors of [`Writer::write`].
 impl<'a> EncodeValue for StringCow<'a> {
     ghost value_size = { octets_size cow_text };
 

@@ -1,4 +1,4 @@
-//! Texts in memory of their own.
+//! Owned texts.
 ghost use Rattle.std.specs.Prelude.{◌≡◌, ◌↔◌, ◌^◌, ◌<◌, true, Ok, [], length, IsTrue};
 ghost use Rattle.std.specs.Str.{is_utf8};
 ghost use Rattle.std.specs.String.{string_bytes};
@@ -13,9 +13,9 @@ use std::alloc::Global;
 
 mod der;
 
-/// A text in memory of its own, of at most 4294967295 octets.
+/// An owned text of at most 4294967295 octets.
 ///
-/// Texts are ordered octet by octet, and where one ends first it is the smaller.
+/// The derived order is lexicographic: octet by octet, and a proper prefix is smaller.
 #[derive(Debug, Drop, PartialEq, Eq, PartialOrd, Ord, Hash)]
 pub struct StringOwned {
     inner: String,
@@ -24,11 +24,11 @@ pub struct StringOwned {
 }
 
 impl StringOwned {
-    /// This text; no memory is taken.
+    /// Wraps this text, without allocating.
     ///
     /// # Errors
     ///
-    /// - `Overflow` without a position, where it has more than 4294967295 octets.
+    /// - `Overflow` without a position, if it has more than 4294967295 octets.
     pub fn new(inner: String) -> Result<Self, Error>
         ensures exact { map_ok (λ t. string_bytes t.inner) result
             ≡ checked_octets (string_bytes inner) }
@@ -39,14 +39,14 @@ impl StringOwned {
         }
     }
 
-    /// A copy of these octets, as a text. What is refused for the octets or for their number takes
-    /// no memory.
+    /// A copy of these octets, as a text. Allocates only after the octets and their number are
+    /// checked.
     ///
     /// # Errors
     ///
-    /// - `Utf8` without a position, where they are not UTF-8.
-    /// - `Overflow` without a position, where there are more than 4294967295.
-    /// - `OutOfMemory` without a position, where memory is refused.
+    /// - `Utf8` without a position, if they are not UTF-8.
+    /// - `Overflow` without a position, if there are more than 4294967295.
+    /// - `OutOfMemory` without a position, if allocation fails.
     pub fn from_bytes(alloc: Global, bytes: &[u8]) -> Result<Self, Error>
         ensures exact { AnswersOrLacks (checked_text bytes.now)
             (map_ok (λ t. string_bytes t.inner) result) }
@@ -68,46 +68,46 @@ impl StringOwned {
         self.inner.as_bytes()
     }
 
-    /// The octets, borrowed with their count.
+    /// The octets, borrowed as a [`BytesRef`].
     pub fn as_bytes_ref(&self) -> BytesRef<'_>
         ensures { result.bytes.now ≡ string_bytes self.now.inner }
     {
         BytesRef::counted(self.as_bytes())
     }
 
-    /// The text, borrowed with its count.
+    /// The text, borrowed as a [`StringRef`].
     pub fn as_string_ref(&self) -> StringRef<'_>
         ensures { result.text.now ≡ string_bytes self.now.inner }
     {
         StringRef::counted(self.as_str())
     }
 
-    /// The text as one that is borrowed, as by [`StringOwned::as_string_ref`].
+    /// The text, borrowed as a [`StringRef`]; the same as [`StringOwned::as_string_ref`].
     pub fn owned_to_ref(&self) -> StringRef<'_>
         ensures { result.text.now ≡ string_bytes self.now.inner }
     {
         self.as_string_ref()
     }
 
-    /// How many octets the text has.
+    /// The number of octets of the text.
     pub fn len(&self) -> Length
         ensures { result ≡ definite_length (length (string_bytes self.now.inner)) }
     {
         self.as_bytes_ref().len()
     }
 
-    /// Whether it has none.
+    /// Whether the text is empty.
     pub fn is_empty(&self) -> bool
         ensures { IsTrue result ↔ (string_bytes self.now.inner ≡ []) }
     {
         self.as_bytes_ref().is_empty()
     }
 
-    /// A copy of the text.
+    /// An owned copy of the text.
     ///
     /// # Errors
     ///
-    /// - `OutOfMemory` without a position, where memory is refused.
+    /// - `OutOfMemory` without a position, if allocation fails.
     pub fn clone_in(&self, alloc: Global) -> Result<Self, Error>
         ensures exact { AnswersOrLacks (Ok (string_bytes self.now.inner))
             (map_ok (λ t. string_bytes t.inner) result) }
@@ -117,11 +117,11 @@ impl StringOwned {
 }
 
 impl<'a> StringRef<'a> {
-    /// A copy of the text.
+    /// An owned copy of the text.
     ///
     /// # Errors
     ///
-    /// - `OutOfMemory` without a position, where memory is refused.
+    /// - `OutOfMemory` without a position, if allocation fails.
     pub fn ref_to_owned(&self, alloc: Global) -> Result<StringOwned, Error>
         ensures exact { AnswersOrLacks (Ok self.now.text.now)
             (map_ok (λ t. string_bytes t.inner) result) }

@@ -1,4 +1,4 @@
-//! Texts that are borrowed.
+//! Borrowed texts.
 ghost use Rattle.std.specs.Prelude.{◌≡◌, ◌↔◌, ◌^◌, ◌<◌, true, [], length, IsTrue};
 ghost use Rattle.std.specs.Str.{is_utf8};
 ghost use Rattle.der_base.specs.Length.{definite_length};
@@ -11,9 +11,9 @@ use der_base::{Error, Length};
 
 mod der;
 
-/// A text that is borrowed, of at most 4294967295 octets.
+/// A borrowed text of at most 4294967295 octets.
 ///
-/// Texts are ordered octet by octet, and where one ends first it is the smaller.
+/// The derived order is lexicographic: octet by octet, and a proper prefix is smaller.
 #[derive(Clone, Copy, Debug, PartialEq, Eq, PartialOrd, Ord, Hash)]
 pub struct StringRef<'a> {
     text: &'a str,
@@ -22,11 +22,11 @@ pub struct StringRef<'a> {
 }
 
 impl<'a> StringRef<'a> {
-    /// This text.
+    /// Wraps this text.
     ///
     /// # Errors
     ///
-    /// - `Overflow` without a position, where it has more than 4294967295 octets.
+    /// - `Overflow` without a position, if it has more than 4294967295 octets.
     pub const fn new(text: &'a str) -> Result<Self, Error>
         ensures exact { map_ok (λ t. t.text.now) result ≡ checked_octets text.now }
     {
@@ -36,19 +36,19 @@ impl<'a> StringRef<'a> {
         }
     }
 
-    /// The text that these octets are.
+    /// The octets as a text.
     ///
     /// # Errors
     ///
-    /// - `Utf8` without a position, where they are not UTF-8.
-    /// - `Overflow` without a position, where there are more than 4294967295.
+    /// - `Utf8` without a position, if they are not UTF-8.
+    /// - `Overflow` without a position, if there are more than 4294967295.
     pub fn from_bytes(bytes: &'a [u8]) -> Result<Self, Error>
         ensures exact { map_ok (λ t. t.text.now) result ≡ checked_text bytes.now }
     {
         StringRef::new(text_of(bytes)?)
     }
 
-    // This text, whose octets a length can count.
+    // Wraps a text whose number of octets is known to fit in a `Length`.
     pub(crate) const fn counted(text: &'a str) -> Self
         requires { length text.now < 2 ^ 32 }
         ensures { result.text.now ≡ text.now }
@@ -70,21 +70,21 @@ impl<'a> StringRef<'a> {
         self.text.as_bytes()
     }
 
-    /// The octets, borrowed with their count.
+    /// The octets, borrowed as a [`BytesRef`].
     pub const fn as_bytes_ref(&self) -> BytesRef<'a>
         ensures { result.bytes.now ≡ self.now.text.now }
     {
         BytesRef::counted(self.as_bytes())
     }
 
-    /// How many octets the text has.
+    /// The number of octets of the text.
     pub const fn len(&self) -> Length
         ensures { result ≡ definite_length (length self.now.text.now) }
     {
         Length::new(self.text.len() as u32)
     }
 
-    /// Whether it has none.
+    /// Whether the text is empty.
     pub fn is_empty(&self) -> bool
         ensures { IsTrue result ↔ (self.now.text.now ≡ []) }
     {

@@ -1,4 +1,4 @@
-//! Values of an attribute of RFC 2986, 4.1: a SET OF elements of any tags.
+//! Values of an attribute (RFC 2986, 4.1): a SET OF elements of any tags.
 ghost use Rattle.std.specs.Prelude.{◌≡◌, ◌^◌, ◌<◌, false, length, ⊤};
 ghost use Rattle.std.proofs.Common.{arith};
 ghost use Rattle.der.specs.Prelude.{Set};
@@ -18,15 +18,16 @@ use der_asn1::Described;
 use std::alloc::{AllocError, Global};
 use walk::check_values;
 
-/// The values of an attribute, lent by the input: a SET OF elements of any tags, in the order of
-/// their encodings, which was seen once. Their contents are not looked at.
+/// The values of an attribute, borrowed from the input: a SET OF elements of any tags. They have
+/// been checked to be elements in ascending order of their encodings; their contents are not
+/// checked.
 pub struct AttributeValues<'a> {
     octets: &'a [u8],
     ghost short: { length octets.now < 2 ^ 32 },
     ghost ascending: { ∥ AreValues octets.now ∥₁ },
 }
 
-/// The same values; it takes no memory.
+/// A clone has the same values; cloning does not allocate.
 impl<'a> Clone for AttributeValues<'a> {
     ghost is_clone = { λ p q. q ≡ p };
 
@@ -40,7 +41,7 @@ impl<'a> Clone for AttributeValues<'a> {
 impl<'a> Copy for AttributeValues<'a> {}
 
 impl<'a> AttributeValues<'a> {
-    /// The contents.
+    /// The contents octets.
     pub fn octets(&self) -> &'a [u8]
         ensures value { result.now ≡ self.now.octets.now }
         ensures ascending { ∥ AreValues result.now ∥₁ }
@@ -77,15 +78,15 @@ impl<'a> ReadValue for AttributeValues<'a> {
     ghost takes_valid = { lent_holds AreValues (λ v. v.octets.now) };
 }
 
-/// The contents are lent, and every element in them is read once, under DER; also under BER they
-/// stand in the order of their encodings, and equal ones may follow each other.
+/// Borrows the contents from the input, and checks every element in them once, under DER. Also
+/// under BER the encodings must be in ascending order; equal ones may follow each other.
 ///
 /// # Errors
 ///
 /// - `Failed`, `Overflow` and `Incomplete`, as by [`Reader::read_slice`].
 /// - Those of the elements, with positions counted from the beginning of the contents.
-/// - `SetOrdering` at the position, so counted, at which the first element begins that comes before
-///   the one ahead of it.
+/// - `SetOrdering` at the start, so counted, of the first element whose encoding is smaller than
+///   that of the element before it.
 impl<'a, R: Reader<Lent = &'a [u8]>> DecodeValue<R> for AttributeValues<'a> {
     type Error = Error;
 
@@ -110,7 +111,7 @@ impl<'a> WrittenValue for AttributeValues<'a> {
 
 /// # Errors
 ///
-/// - `Overflow` where there are more than 4294967295 octets.
+/// - `Overflow` if there are more than 4294967295 octets.
 /// - The writer's errors, as by [`Writer::write`].
 impl<'a> EncodeValue for AttributeValues<'a> {
     ghost value_size = { λ v. form_size v.octets.now };

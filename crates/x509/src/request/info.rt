@@ -15,20 +15,20 @@ use der_asn1::{Described, Implicit};
 use spki::SubjectPublicKeyInfoRef;
 use std::alloc::Global;
 
-/// What a request asks for, which its signature is over.
+/// The contents of a certification request, which its signature covers.
 #[derive(Drop)]
 pub struct CertReqInfo<'a> {
     /// The version.
     pub version: CertReqVersion<'a>,
-    /// To whom a certificate is to be issued.
+    /// The subject of the requested certificate.
     pub subject: Name<'a>,
-    /// The key that it is to be for.
+    /// The public key of the requested certificate.
     pub public_key: SubjectPublicKeyInfoRef<'a>,
-    /// What else is said of the subject, or asked for, as extensions are.
+    /// Further information about the subject, or further requests, such as extensions.
     pub attributes: Implicit<Attributes<'a>, 0>,
 }
 
-/// Its fields, one behind the other.
+/// The fields, in sequence.
 pub type CertReqInfoFields<'a> = (
     (CertReqVersion<'a>, Name<'a>),
     (SubjectPublicKeyInfoRef<'a>, Implicit<Attributes<'a>, 0>),
@@ -69,7 +69,7 @@ impl<'a> ReadValue for CertReqInfo<'a> {
 
 /// # Errors
 ///
-/// Those of the fields, one behind the other.
+/// Those of the fields, in sequence.
 impl<'a, R: Reader<Lent = &'a [u8]>> DecodeValue<R> for CertReqInfo<'a> {
     type Error = Error;
 
@@ -104,7 +104,7 @@ impl<'a> WrittenValue for CertReqInfo<'a> {
 
 /// # Errors
 ///
-/// Those of the fields, one behind the other, and `Overflow` without a position.
+/// Those of the fields, in sequence, and `Overflow` without a position.
 impl<'a> EncodeValue for CertReqInfo<'a> {
     ghost value_size = { λ v. ⟦<CertReqInfoFields<'a> as Encode>⟧.size (
       (

@@ -7,10 +7,10 @@ ghost use Rattle.x509.specs.Version.{request_version_form};
 use der::{FixedTag, Tag};
 use der_asn1::{Checked, Form};
 
-/// The form of a version: 0, for version 1.
+/// Contents of a version: 0 for version 1.
 pub struct CertReqVersionForm;
 
-/// The version of a request, lent by the input.
+/// The version of a request, borrowed from the input.
 pub type CertReqVersion<'a> = Checked<'a, CertReqVersionForm>;
 
 impl FixedTag for CertReqVersionForm {

@@ -1,4 +1,4 @@
-//! How octets in memory of their own are read and written.
+//! Reading and writing of owned byte strings.
 ghost use Rattle.std.specs.Prelude.{true};
 ghost use Rattle.der_base.specs.Length.{number};
 ghost use Rattle.der_core.specs.Header.{head_of};
@@ -27,12 +27,12 @@ impl ReadValue for BytesOwned {
     ghost takes_valid = { λ b rules h octets taken. taken.0 };
 }
 
-/// The contents are copied, whatever the header.
+/// Copies the contents. The header gives only the length.
 ///
 /// # Errors
 ///
-/// `Failed`, `Overflow`, `Incomplete` and `OutOfMemory`, as by [`Reader::read_vec`]; a
-/// [`SliceReader`](der_core::SliceReader) that was refused memory stands before the contents.
+/// `Failed`, `Overflow`, `Incomplete` and `OutOfMemory`, as by [`Reader::read_vec`]. After
+/// `OutOfMemory` a [`SliceReader`](der_core::SliceReader) is still before the contents.
 impl<R: Reader> DecodeValue<R> for BytesOwned {
     type Error = Error;
 
@@ -49,7 +49,7 @@ impl<R: Reader> DecodeValue<R> for BytesOwned {
     fn is_value(&self) {}
 }
 
-// A copy of so many octets.
+// A copy of the next `len` octets.
 #[inline(always)]
 pub(super) fn read_owned<R: Reader>(
     alloc: Global,
@@ -71,8 +71,7 @@ impl WrittenValue for BytesOwned {
 
 /// # Errors
 ///
-/// The number of octets is never refused. Writing hands on the writer's errors, as by
-/// [`Writer::write`].
+/// `value_len` never fails. `encode_value` returns the errors of [`Writer::write`].
 impl EncodeValue for BytesOwned {
     ghost value_size = { octets_size owned_octets };
 
@@ -87,7 +86,7 @@ impl EncodeValue for BytesOwned {
     }
 }
 
-/// The octets alone are compared, without a header. It is never refused.
+/// Compares the octets alone, without a header. Never fails.
 impl DerOrd for BytesOwned {
     ghost order = { octets_order owned_octets };
 

@@ -1,4 +1,4 @@
-//! Octets in memory of their own that may stand in segments.
+//! Owned byte strings from contents that may be in segments.
 ghost use Rattle.std.specs.Prelude.{◌≡◌, ◌⊎◌, ℕ, List, true, false, IfOk, IfErr, IsOk, IsErrAnd};
 ghost use Rattle.der_base.specs.Error.{error_of_kind};
 ghost use Rattle.der_base.specs.declared.error.ErrorKind.TheVariants.{OutOfMemory as NoMemory};
@@ -17,14 +17,14 @@ use der_core::{Header, Reader};
 use std::alloc::Global;
 
 impl BytesOwned {
-    /// Decodes contents. Those of a primitive header are taken as they stand; behind a constructed
-    /// header, under the Basic Encoding Rules, stand segments with the inner tag, which are joined
-    /// (X.690 8.7.3), and which may be cut into segments again.
+    /// Decodes contents: those of a primitive header are copied. After a constructed header, under
+    /// the Basic Encoding Rules, the contents are segments with the tag `inner_tag`, which are
+    /// joined (X.690 8.7.3); a segment may itself consist of segments.
     ///
     /// # Errors
     ///
     /// - Those of [`Reader::read_vec`] and of [`read_constructed_vec`].
-    /// - `Noncanonical` with the header's tag, at the last octet of the header, where it is
+    /// - `Noncanonical` with the header's tag, at the last octet of the header, if the header is
     ///   constructed and the rules are the Distinguished Encoding Rules; the reader is unchanged.
     pub fn decode_value_parts<R: Reader>(
         alloc: Global,

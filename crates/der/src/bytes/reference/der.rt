@@ -1,4 +1,4 @@
-//! How borrowed octets are read and written.
+//! Reading and writing of borrowed byte strings.
 ghost use Rattle.std.specs.Prelude.{◌≡◌, false, true, IsOk};
 ghost use Rattle.der_core.specs.DecodeValue.{TakesContents};
 ghost use Rattle.der_core.specs.Header.{head_of};
@@ -26,12 +26,12 @@ impl<'a> ReadValue for BytesRef<'a> {
     ghost takes_valid = { λ b rules h octets taken. taken.0 };
 }
 
-/// The contents are lent, whatever the header.
+/// Borrows the contents from the input. The header gives only the length.
 ///
 /// # Errors
 ///
-/// `Failed`, `Overflow` and `Incomplete`, as by [`Reader::read_slice`]; `Reader` where the reader
-/// cannot lend.
+/// `Failed`, `Overflow` and `Incomplete`, as by [`Reader::read_slice`]; `Reader` if the reader
+/// cannot return slices.
 impl<'a, R: Reader<Lent = &'a [u8]>> DecodeValue<R> for BytesRef<'a> {
     type Error = Error;
 
@@ -64,8 +64,7 @@ impl<'a> WrittenValue for BytesRef<'a> {
 
 /// # Errors
 ///
-/// The number of octets is never refused. Writing hands on the writer's errors, as by
-/// [`Writer::write`].
+/// `value_len` never fails. `encode_value` returns the errors of [`Writer::write`].
 impl<'a> EncodeValue for BytesRef<'a> {
     ghost value_size = { octets_size reference_octets };
 
@@ -80,7 +79,7 @@ impl<'a> EncodeValue for BytesRef<'a> {
     }
 }
 
-/// The octets alone are compared, without a header. It is never refused.
+/// Compares the octets alone, without a header. Never fails.
 impl<'a> DerOrd for BytesRef<'a> {
     ghost order = { octets_order reference_octets };
 

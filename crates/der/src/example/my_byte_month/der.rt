@@ -1,4 +1,4 @@
-//! How a month is read and written.
+//! Reading and writing of a month.
 ghost use Rattle.std.specs.Prelude.{◌≡◌, false};
 ghost use Rattle.der_base.specs.declared.tag.Tag.TheVariants.{OctetString};
 ghost use Rattle.std.proofs.Common.{refl};
@@ -36,12 +36,13 @@ impl ReadValue for MyByteMonth {
     ghost takes_valid = { λ month rules h octets taken. taken.0 };
 }
 
-/// One octet is read, whatever the header.
+/// Reads one octet, whatever the header.
 ///
 /// # Errors
 ///
 /// - `Failed`, `Overflow` and `Incomplete`, as by [`ReaderExt::read_byte`].
-/// - `DateTime` behind an octet from 12 on; the reader stands there and has failed.
+/// - `DateTime` at the position after the octet, if its value is 12 or more; the reader is there
+///   and has failed.
 impl<R: Reader> DecodeValue<R> for MyByteMonth {
     type Error = Error;
 
@@ -66,8 +67,7 @@ impl WrittenValue for MyByteMonth {
 
 /// # Errors
 ///
-/// The number of octets is never refused. Writing hands on the writer's errors, as by
-/// [`Writer::write`].
+/// `value_len` never fails. `encode_value` returns the errors of [`Writer::write`].
 impl EncodeValue for MyByteMonth {
     ghost value_size = { month_size };
 
@@ -88,7 +88,7 @@ impl Lawful for MyByteMonth {
     ghost lawful = { month_lawful };
 }
 
-/// The octets are compared. It is never refused.
+/// Compares the octets. Never fails.
 impl ValueOrd for MyByteMonth {
     ghost value_order = { octets_order month_contents };
 

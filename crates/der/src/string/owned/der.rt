@@ -1,4 +1,4 @@
-//! How texts in memory of their own are read and written.
+//! Reading and writing of owned texts.
 ghost use Rattle.std.specs.Prelude.{◌≡◌, false, true};
 ghost use Rattle.der_core.specs.Header.{head_of};
 ghost use Rattle.der_core.specs.Outcome.{Gives, IsBinding, map_ok};
@@ -23,15 +23,15 @@ impl ReadValue for StringOwned {
     ghost takes_valid = { λ t rules h octets taken. taken.0 };
 }
 
-/// The contents are lent and then copied, as a text, whatever the header.
+/// Copies the contents, as a text, from a slice of the input. The header gives only the length.
 ///
 /// # Errors
 ///
-/// - `Failed`, `Overflow` and `Incomplete`, as by [`Reader::read_slice`]; `Reader` where the reader
-///   cannot lend.
-/// - `Utf8` without a position, where they are no text; the reader stands behind them and has not
+/// - `Failed`, `Overflow` and `Incomplete`, as by [`Reader::read_slice`]; `Reader` if the reader
+///   cannot return slices.
+/// - `Utf8` without a position, if the contents are not UTF-8; the reader is after them and has not
 ///   failed.
-/// - `OutOfMemory` without a position, where memory is refused; the reader stands behind them and
+/// - `OutOfMemory` without a position, if allocation fails; the reader is after the contents and
 ///   has not failed.
 impl<R: Reader> DecodeValue<R> for StringOwned {
     type Error = Error;
@@ -60,8 +60,7 @@ impl WrittenValue for StringOwned {
 
 /// # Errors
 ///
-/// The number of octets is never refused. Writing hands on the writer's errors, as by
-/// [`Writer::write`].
+/// `value_len` never fails. `encode_value` returns the errors of [`Writer::write`].
 impl EncodeValue for StringOwned {
     ghost value_size = { octets_size owned_text };
 

@@ -1,4 +1,4 @@
-//! How borrowed texts are read and written.
+//! Reading and writing of borrowed texts.
 ghost use Rattle.std.specs.Prelude.{◌≡◌, false, true, IsOk};
 ghost use Rattle.der_core.specs.DecodeValue.{TakesContents};
 ghost use Rattle.der_core.specs.Header.{head_of};
@@ -24,13 +24,13 @@ impl<'a> ReadValue for StringRef<'a> {
     ghost takes_valid = { λ t rules h octets taken. taken.0 };
 }
 
-/// The contents are lent, as a text, whatever the header.
+/// Borrows the contents from the input, as a text. The header gives only the length.
 ///
 /// # Errors
 ///
-/// - `Failed`, `Overflow` and `Incomplete`, as by [`Reader::read_slice`]; `Reader` where the reader
-///   cannot lend.
-/// - `Utf8` without a position, where they are no text; the reader stands behind them and has not
+/// - `Failed`, `Overflow` and `Incomplete`, as by [`Reader::read_slice`]; `Reader` if the reader
+///   cannot return slices.
+/// - `Utf8` without a position, if the contents are not UTF-8; the reader is after them and has not
 ///   failed.
 impl<'a, R: Reader<Lent = &'a [u8]>> DecodeValue<R> for StringRef<'a> {
     type Error = Error;
@@ -64,8 +64,7 @@ impl<'a> WrittenValue for StringRef<'a> {
 
 /// # Errors
 ///
-/// The number of octets is never refused. Writing hands on the writer's errors, as by
-/// [`Writer::write`].
+/// `value_len` never fails. `encode_value` returns the errors of [`Writer::write`].
 impl<'a> EncodeValue for StringRef<'a> {
     ghost value_size = { octets_size reference_text };
 

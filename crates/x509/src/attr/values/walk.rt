@@ -1,4 +1,4 @@
-//! A walk over the values of an attribute.
+//! Checks of the values of an attribute.
 ghost use Rattle.std.specs.Prelude.{◌≡◌, ◌^◌, ◌<◌, ◌↔◌, false, true, [], length, IfOk, IsOk, OnOk};
 ghost use Rattle.der.specs.Prelude.{IsBefore, Reads, rest_of, slice_state};
 ghost use Rattle.der_asn1.specs.AnyRef.{IsAny};
@@ -12,7 +12,7 @@ use der_asn1::AnyRef;
 use std::alloc::Global;
 use std::cmp::Ordering;
 
-// Whether octets are elements, one behind the other, in the order of their encodings.
+// Checks that octets are elements, in sequence and in ascending order.
 pub(crate) fn check_values(alloc: Global, octets: &[u8]) -> Result<(), Error>
     ensures ok { OnOk result (AreValues octets.now) }
     ensures short { OnOk result (length octets.now < 2 ^ 32) }
@@ -32,7 +32,7 @@ pub(crate) fn check_values(alloc: Global, octets: &[u8]) -> Result<(), Error>
     Ok(())
 }
 
-// The octets of the element ahead.
+// The octets of the next element, after decoding it.
 fn next_octets<'a>(alloc: Global, reader: &mut SliceReader<'a>) -> Result<&'a [u8], Error>
     requires { IsAtItem (slice_state reader.old) }
     ensures ok { IfOk result (λ o. IsValue o.now
@@ -48,7 +48,7 @@ fn next_octets<'a>(alloc: Global, reader: &mut SliceReader<'a>) -> Result<&'a [u
     Ok(&ahead[..ahead.len() - behind.len()])
 }
 
-// The element ahead.
+// Decodes the next element.
 fn next_value<'a>(alloc: Global, reader: &mut SliceReader<'a>) -> Result<AnyRef<'a>, Error>
     requires { IsAtItem (slice_state reader.old) }
     ensures ok { IfOk result (λ v. IsAny v
@@ -65,7 +65,7 @@ fn next_value<'a>(alloc: Global, reader: &mut SliceReader<'a>) -> Result<AnyRef<
     Ok(value)
 }
 
-// What is left to the reader.
+// The octets that the reader has not read.
 fn octets_left<'a>(reader: &SliceReader<'a>) -> &'a [u8]
     requires { (slice_state reader.now).failed ≡ false }
     ensures { result.now ≡ rest_of (slice_state reader.now) }
@@ -76,7 +76,7 @@ fn octets_left<'a>(reader: &SliceReader<'a>) -> &'a [u8]
     }
 }
 
-// Whether the first octets come before the others (X.690 11.6).
+// Whether the first octets are smaller than the second (X.690 11.6).
 fn comes_before(first: &[u8], second: &[u8]) -> bool
     ensures { (result ≡ true) ↔ IsBefore first.now second.now }
 {

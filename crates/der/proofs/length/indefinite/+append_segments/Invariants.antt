@@ -3,11 +3,11 @@ use Rattle.der_core.specs.ReaderState.{Same}
 use Rattle.der.specs.Joining.{levels_left, AppendsJoined}
 use Rattle.der.proofs.length.indefinite.+append_segments.Given as goal
 
--- a segment inside is entered one deeper
+-- a nested segment is entered at a greater depth
 abbrev pub decreases-append_segments : goal.decreases-append_segments
 decreases-append_segments g l = 64 - (g.R.Reader.state l.reader.now).depth
 
--- what was passed was joined
+-- all octets read so far were joined
 abbrev pub invariant-segments : goal.invariant-segments
 invariant-segments g l =
     record {
