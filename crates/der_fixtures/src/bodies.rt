@@ -1,13 +1,14 @@
-//! Octets with bodies of indefinite lengths, which several tests read.
+//! Octets with indefinite-length contents that several tests read.
 use std::alloc::{AllocError, Global};
 
-/// A SEQUENCE with an OCTET STRING of one segment: two bodies, ten octets behind the first `0x80`.
+/// A SEQUENCE with an OCTET STRING of one segment: two indefinite lengths, with ten octets after
+/// the first `0x80`.
 pub const SEGMENT_OF_ZEROS: [u8; 12] = [
     0x30, 0x80, 0x24, 0x80, 0x04, 0x02, 0x00, 0x00, 0x00, 0x00, 0x00, 0x00,
 ];
 
-/// What a CMS message of encrypted data says of its contents: the type, how they are encrypted, and
-/// the encrypted octets.
+/// The EncryptedContentInfo of a CMS message: its type, how it is encrypted, and the encrypted
+/// octets.
 pub const ENCRYPTED_CONTENT_INFO: [u8; 68] = [
     0x30, 0x80, 0x06, 0x09, 0x2A, 0x86, 0x48, 0x86, 0xF7, 0x0D, 0x01, 0x07, 0x01, 0x30, 0x1D, 0x06,
     0x09, 0x60, 0x86, 0x48, 0x01, 0x65, 0x03, 0x04, 0x01, 0x2A, 0x04, 0x10, 0x37, 0x34, 0x3D, 0xF1,
@@ -16,7 +17,7 @@ pub const ENCRYPTED_CONTENT_INFO: [u8; 68] = [
     0x00, 0x00, 0x00, 0x00,
 ];
 
-/// So many SEQUENCEs inside each other, all of indefinite lengths, around a NULL.
+/// `levels` nested SEQUENCEs of indefinite length around a NULL.
 pub fn around_null(alloc: Global, levels: u8) -> Result<Vec<u8>, AllocError> {
     let mut octets = Vec::new(alloc);
     for _ in 0..levels {
@@ -29,7 +30,7 @@ pub fn around_null(alloc: Global, levels: u8) -> Result<Vec<u8>, AllocError> {
     Ok(octets)
 }
 
-/// A SEQUENCE of indefinite length with an OCTET STRING of so many octets below 128.
+/// A SEQUENCE of indefinite length with an OCTET STRING of `count` octets, fewer than 128.
 pub fn around_contents(alloc: Global, count: u8) -> Result<Vec<u8>, AllocError> {
     let mut octets = Vec::from_slice(alloc, &[0x30, 0x80, 0x04, count])?;
     for _ in 0..count {
@@ -39,7 +40,7 @@ pub fn around_contents(alloc: Global, count: u8) -> Result<Vec<u8>, AllocError> 
     Ok(octets)
 }
 
-/// So many octets of them, or all.
+/// The first `count` octets, or all if there are fewer.
 pub fn first_octets(octets: &[u8], count: usize) -> &[u8] {
     &octets[..count.min(octets.len())]
 }

@@ -1,7 +1,7 @@
-//! Tags and lengths, each with the octets that it is written as, and octets that are neither.
+//! Tags and lengths with their encodings, and octets that encode neither.
 use der::{Tag, TagNumber};
 
-/// Lengths at the edges of their forms (X.690 8.1.3).
+/// Lengths at the limits of their forms (X.690 8.1.3).
 pub const LENGTHS: [(u32, &[u8]); 12] = [
     (0, &[0x00]),
     (127, &[0x7F]),
@@ -17,7 +17,7 @@ pub const LENGTHS: [(u32, &[u8]); 12] = [
     (4294967295, &[0x84, 0xFF, 0xFF, 0xFF, 0xFF]),
 ];
 
-/// Lengths in more octets than the fewest, or than there may be, and where each is refused.
+/// Lengths with more octets than needed or allowed, and the position of the error of each.
 pub const OVERLONG_LENGTHS: [(&[u8], u32); 7] = [
     (&[0x81, 0x7F], 2),
     (&[0x82, 0x00, 0xFF], 3),
@@ -91,7 +91,7 @@ fn private(constructed: bool, number: u32) -> Tag {
     TagNumber::new(number).private(constructed)
 }
 
-/// Tags whose number is not spelled as it has to be, and where each is refused.
+/// Tags with a malformed number, and the position of the error of each.
 pub const WRONG_TAG_NUMBERS: [(&[u8], u32); 9] = [
     (&[0xDF, 0x9F, 0x8F, 0x8F, 0x8F, 0x0F], 5),
     (&[0x7F, 0x90, 0x80, 0x80, 0x80, 0x00], 5),

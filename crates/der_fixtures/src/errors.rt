@@ -1,7 +1,7 @@
 //! Errors that tests expect, each with its position.
 use der::{Error, ErrorKind, Length, Tag};
 
-/// Octets are wanted up to the first length, and there are those of the second.
+/// Octets are needed up to `expected`, and there are `actual`.
 pub fn incomplete(expected: u32, actual: u32, position: u32) -> Error {
     ErrorKind::Incomplete {
         expected_len: Length::new(expected),
@@ -10,7 +10,7 @@ pub fn incomplete(expected: u32, actual: u32, position: u32) -> Error {
     .at(Length::new(position))
 }
 
-/// So many octets were decoded, and so many are left behind them.
+/// `decoded` octets were decoded, and `remaining` are left after them.
 pub fn trailing(decoded: u32, remaining: u32) -> Error {
     ErrorKind::TrailingData {
         decoded: Length::new(decoded),
@@ -19,7 +19,7 @@ pub fn trailing(decoded: u32, remaining: u32) -> Error {
     .at(Length::new(decoded))
 }
 
-/// Another tag stands there than the one that is expected.
+/// The tag is not the expected one.
 pub fn unexpected(expected: Tag, actual: Tag) -> Error {
     ErrorKind::TagUnexpected {
         expected: Some(expected),
@@ -28,32 +28,32 @@ pub fn unexpected(expected: Tag, actual: Tag) -> Error {
     .to_error()
 }
 
-/// A reader cannot do what is asked of it.
+/// A reader cannot do what is requested.
 pub fn unsupported(position: u32) -> Error {
     ErrorKind::Reader.at(Length::new(position))
 }
 
-/// A length of the indefinite form stands where none may.
+/// An indefinite length where none is allowed.
 pub fn indefinite(position: u32) -> Error {
     ErrorKind::IndefiniteLength.at(Length::new(position))
 }
 
-/// More levels are nested than there may be.
+/// More nested levels than are allowed.
 pub fn too_deep(position: u32) -> Error {
     ErrorKind::NestingDepth.at(Length::new(position))
 }
 
-/// The length behind a tag is not spelled as it has to be.
+/// The length after a tag is malformed.
 pub fn incorrect(tag: Tag, position: u32) -> Error {
     ErrorKind::Length { tag }.at(Length::new(position))
 }
 
-/// An octet is no identifier.
+/// An octet is not an identifier.
 pub fn unknown(byte: u8, position: u32) -> Error {
     ErrorKind::TagUnknown { byte }.at(Length::new(position))
 }
 
-/// A tag number is not spelled as it has to be.
+/// A tag number is malformed.
 pub fn invalid_number(position: u32) -> Error {
     ErrorKind::TagNumberInvalid.at(Length::new(position))
 }

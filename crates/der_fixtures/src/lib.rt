@@ -1,5 +1,5 @@
-//! What the tests of several crates share: readers and calls of them, octets that they read,
-//! encodings of tags and lengths, and errors.
+//! What the tests of several crates share: readers and calls of them, input, encodings of tags and
+//! lengths, and errors.
 #![tactic(auto)]
 
 pub mod bodies;

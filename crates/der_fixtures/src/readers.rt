@@ -1,4 +1,4 @@
-//! Readers that tests read by, what they read, and what they look at in a reader.
+//! Readers for tests, their input, and the parts of their state that tests check.
 ghost use Rattle.std.specs.Prelude.{◌≡◌, IfOk};
 ghost use Rattle.der.specs.Prelude.{Ber, slice_state};
 
@@ -6,25 +6,25 @@ use der::{Decode, DecodeBytes, EncodingRules, Error, Reader, SliceReader};
 use der_uses::reader::CopyingReader;
 use std::alloc::Global;
 
-/// A reader of these octets under the Distinguished Encoding Rules. What a contract says of a
-/// reader costs the checker seconds at each call, and few tests need it: so nothing is said here.
+/// A reader of these octets under the Distinguished Encoding Rules. It has no contract, because one
+/// would cost the checker seconds at each call, and few tests need it.
 pub fn der_reader(octets: &[u8]) -> Result<SliceReader<'_>, Error> {
     SliceReader::new(octets)
 }
 
-/// A reader of these octets under the Basic Encoding Rules, of which nothing is said either.
+/// A reader of these octets under the Basic Encoding Rules, also without a contract.
 pub fn ber_reader(octets: &[u8]) -> Result<SliceReader<'_>, Error> {
     ruled_reader(octets)
 }
 
-/// A reader that is known to be under the Basic Encoding Rules.
+/// A reader under the Basic Encoding Rules, as its contract says.
 pub fn ruled_reader(octets: &[u8]) -> Result<SliceReader<'_>, Error>
     ensures { IfOk result (λ r. (slice_state r).rules ≡ Ber) }
 {
     SliceReader::new_with_encoding_rules(octets, EncodingRules::Ber)
 }
 
-/// A reader that lends nothing, under the Distinguished Encoding Rules.
+/// A reader that returns no slices of its input, under the Distinguished Encoding Rules.
 pub fn der_unlent(octets: &[u8]) -> Result<CopyingReader<'_>, Error> {
     match SliceReader::new(octets) {
         Ok(inner) => Ok(CopyingReader::new(inner)),
@@ -32,7 +32,7 @@ pub fn der_unlent(octets: &[u8]) -> Result<CopyingReader<'_>, Error> {
     }
 }
 
-/// A reader that lends nothing, under the Basic Encoding Rules.
+/// A reader that returns no slices of its input, under the Basic Encoding Rules.
 pub fn ber_unlent(octets: &[u8]) -> Result<CopyingReader<'_>, Error>
     ensures { IfOk result (λ r. (slice_state r.inner).rules ≡ Ber) }
 {
@@ -42,8 +42,8 @@ pub fn ber_unlent(octets: &[u8]) -> Result<CopyingReader<'_>, Error>
     }
 }
 
-/// A reader that lends nothing, under the Basic Encoding Rules, with a read that fails: the one of
-/// this number, the first being 1.
+/// A reader that returns no slices of its input, under the Basic Encoding Rules, and fails at the
+/// read of this number; the first is 1.
 pub fn ber_failing(octets: &[u8], read: u32) -> Result<CopyingReader<'_>, Error>
     ensures { IfOk result (λ r. (slice_state r.inner).rules ≡ Ber) }
 {
@@ -53,7 +53,8 @@ pub fn ber_failing(octets: &[u8], read: u32) -> Result<CopyingReader<'_>, Error>
     }
 }
 
-/// A reader that lends nothing, under the Distinguished Encoding Rules, with a read that fails.
+/// A reader that returns no slices of its input, under the Distinguished Encoding Rules, and fails
+/// at the read of this number.
 pub fn der_failing(octets: &[u8], read: u32) -> Result<CopyingReader<'_>, Error> {
     match SliceReader::new(octets) {
         Ok(inner) => Ok(CopyingReader::failing(inner, read)),
@@ -61,7 +62,7 @@ pub fn der_failing(octets: &[u8], read: u32) -> Result<CopyingReader<'_>, Error>
     }
 }
 
-/// The value at the front of the octets, and how many octets are left behind it.
+/// The value at the front of the octets, and how many octets are left after it.
 pub fn front<'a, T: DecodeBytes<'a> + Decode<SliceReader<'a>, Error = Error>>(
     alloc: Global,
     bytes: &'a [u8],
@@ -72,7 +73,7 @@ pub fn front<'a, T: DecodeBytes<'a> + Decode<SliceReader<'a>, Error = Error>>(
     }
 }
 
-/// Where the reader stands, how far it may read, and whether it has failed.
+/// The position of the reader, the end of its input, and whether it has failed.
 pub fn place_of<R: Reader>(reader: &R) -> (u32, u32, bool) {
     (
         u32::from(reader.position()),
@@ -81,9 +82,9 @@ pub fn place_of<R: Reader>(reader: &R) -> (u32, u32, bool) {
     )
 }
 
-/// Readers whose place is asked for without saying all that they are.
+/// Readers whose place tests check without naming their types.
 pub trait Placed {
-    /// Where the reader stands, how far it may read, and whether it has failed.
+    /// The position of the reader, the end of its input, and whether it has failed.
     fn place(&self) -> (u32, u32, bool);
 }
 

@@ -1,5 +1,5 @@
-//! Calls that take no memory, group by group. A line tells what each of them answered; but for what
-//! stands before a line `prepared`, the program asks for no memory, which `.ci/refused_memory` sees.
+//! Calls that allocate nothing, in groups. Each prints a line with its result. Only what is printed
+//! before a line `prepared` may allocate; `.ci/refused_memory` checks that.
 #![tactic(auto)]
 
 mod decoding;
