@@ -4,7 +4,7 @@ use der::{Decode, DecodeBytes, Encode, Error, ErrorKind, Length, Reader, SliceRe
 use der_asn1::{BooleanRef, Either, IntRef};
 use std::alloc::Global;
 
-// Which type stands at the front of the octets, with its contents, and the position behind it.
+// Which type the front of the octets has, with its contents, and the position after it.
 fn choice_ahead<'a>(alloc: Global, octets: &'a [u8]) -> Result<(bool, &'a [u8], Length), Error> {
     let mut reader = SliceReader::new(octets)?;
     let choice: Either<IntRef<'a>, BooleanRef<'a>> = Either::decode(alloc, &mut reader)?;

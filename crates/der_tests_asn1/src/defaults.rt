@@ -5,7 +5,7 @@ use der_asn1::{BooleanRef, Defaulted};
 use der_fixtures::readers::{ber_reader, der_reader};
 use std::alloc::Global;
 
-// The value of the field at the front, and the position behind it.
+// The value of the field at the front, and the position after it.
 fn field<'a>(
     alloc: Global,
     reader: Result<SliceReader<'a>, Error>,

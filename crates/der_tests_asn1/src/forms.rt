@@ -54,7 +54,7 @@ fn integer_of_ber<'a>(alloc: Global, octets: &'a [u8]) -> Result<&'a [u8], Error
     Ok(value.octets())
 }
 
-// Contents of this tag are refused behind their last octet.
+// The error for contents of this tag, at the position after their last octet.
 fn refused(tag: Tag, end: u32) -> Result<&'static [u8], Error> {
     Err(ErrorKind::Value { tag }.at(Length::new(end)))
 }

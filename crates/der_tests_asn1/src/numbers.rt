@@ -11,7 +11,7 @@ fn number<N: IntegerNumber + Drop>(alloc: Global, octets: &[u8]) -> Result<(N, b
     Ok((value.number, written.as_slice() == octets))
 }
 
-// The contents are refused behind their last octet.
+// The error for the contents, at the position after their last octet.
 fn refused<N>(end: u32) -> Result<(N, bool), Error> {
     Err(ErrorKind::Value { tag: Tag::Integer }.at(Length::new(end)))
 }
@@ -88,7 +88,7 @@ fn signed_numbers_of_64_bits_are_read_and_larger_ones_refused(rt: HostRuntime) {
     }
 }
 
-// The number of these contents, where they have the form of an INTEGER.
+// The number of these contents, if they are those of an INTEGER.
 fn told<N: IntegerNumber>(contents: &[u8]) -> Option<N> {
     IntRef::new(contents)?.to_number()
 }

@@ -11,7 +11,7 @@ fn text<'a>(alloc: Global, octets: &'a [u8]) -> Result<(&'a str, bool), Error> {
     Ok((value.as_str(), written.as_slice() == octets))
 }
 
-// The contents are refused behind their last octet.
+// The error for the contents, at the position after their last octet.
 fn refused(end: u32) -> Result<(&'static str, bool), Error> {
     let tag = Tag::Utf8String;
     Err(ErrorKind::Value { tag }.at(Length::new(end)))

@@ -1,5 +1,5 @@
-//! Worked cases of octets that stand in segments; what is expected is worked out by hand from X.690
-//! and from the rules of refusals.
+//! Worked cases of octets in segments. The expected results are worked out by hand from X.690 and
+//! the rules for errors.
 use crate::readers::next_header;
 use der::{
     BytesOwned, Decode, Error, ErrorKind, Header, Length, Reader, ReaderExt, SliceReader, Tag,
@@ -26,7 +26,7 @@ mod segments;
 
 // Readers that segments are joined by, without saying all that they are.
 trait Joins: Placed + Drop {
-    // What segments with this tag are joined to, behind a length.
+    // The joined segments with this tag, after a length.
     fn join(&mut self, alloc: Global, length: Length, tag: Tag) -> Result<Vec<u8>, Error>;
 }
 

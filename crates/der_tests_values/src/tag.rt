@@ -22,7 +22,7 @@ const TO_SEQUENCE: [(Tag, u32, &str); 11] = [
     (Tag::Sequence, 16, "SEQUENCE"),
 ];
 
-/// The universal tags behind `SEQUENCE`, each with its number and its name.
+/// The universal tags after `SEQUENCE`, each with its number and its name.
 const FROM_SET: [(Tag, u32, &str); 11] = [
     (Tag::Set, 17, "SET"),
     (Tag::NumericString, 18, "NumericString"),

@@ -1,4 +1,4 @@
-//! A month, which takes one octet: as a string that is constructed too, and never as segments.
+//! A month of one octet: also as a constructed string, but never as segments.
 use super::*;
 use crate::checks::{same, same_at};
 
@@ -18,7 +18,7 @@ fn a_month_is_read_from_primitive_and_constructed_strings(rt: HostRuntime) -> Re
     Ok(())
 }
 
-// The contents of a body are not joined: its first octet is read, and the rest is left.
+// Indefinite-length contents are not joined: the first octet is read, and the rest is left.
 #[test]
 fn no_month_is_read_from_an_indefinite_length(rt: HostRuntime) {
     let rows: [(&[u8], Error); 6] = [

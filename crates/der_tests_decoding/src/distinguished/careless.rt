@@ -1,4 +1,4 @@
-//! Types of a careless author: what they leave, or read past the end, is refused.
+//! Types with faulty implementations: octets that they leave, or reads past the end, are errors.
 ghost use Rattle.std.specs.Prelude.{◌≡◌, [], false};
 ghost use Rattle.der.specs.Prelude.{OctetString};
 
@@ -6,7 +6,7 @@ use super::*;
 use crate::checks::{holds, same};
 use der::{DecodeValue, FixedTag, ReadValue};
 
-// An octet, answered although the one behind it was refused; so no contents are read as it.
+// An octet, returned although reading the next one failed; so no contents are accepted as it.
 #[derive(Clone, Copy)]
 pub(super) struct Hasty {
     octet: u8,

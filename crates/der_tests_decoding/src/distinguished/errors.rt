@@ -1,4 +1,4 @@
-//! A type with an error of its own, to which those of decoding are converted.
+//! A type with its own error type, to which decoding errors are converted.
 ghost use Rattle.std.specs.Prelude.{◌≡◌, [], ◌∷◌, false};
 ghost use Rattle.std.proofs.Common.{ap};
 ghost use Rattle.der.specs.Prelude.{kind_of, OctetString};

@@ -78,7 +78,7 @@ fn a_month_with_a_wrong_length_number_or_tag_is_refused(rt: HostRuntime) {
     );
 }
 
-// The number of the month of this number, where there is one.
+// The number of the month with this number, if there is one.
 fn number_of(number: u8) -> Option<u8> {
     let month = MyByteMonth::new(number)?;
     Some(month.month())

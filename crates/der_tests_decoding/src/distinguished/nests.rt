@@ -1,4 +1,4 @@
-//! A type that reads its contents inside so many parts, each of which is all of them.
+//! A type that reads its contents inside nested parts, each of which is all of them.
 ghost use Rattle.std.specs.Prelude.{false};
 ghost use Rattle.der.specs.Prelude.{OctetString, Same};
 
@@ -48,7 +48,7 @@ impl<const LEVELS: u8, R: Reader> DecodeValue<R> for Nest<LEVELS> {
     fn is_value(&self) {}
 }
 
-// Passes what is left inside so many parts.
+// Consumes what is left inside this number of nested parts.
 #[cycle(nest)]
 fn pass_inside<R: Reader>(reader: &mut R, levels: u8) -> Result<(), Error>
     ensures same { Same (R.state reader.old) (R.state reader.new) }

@@ -25,7 +25,7 @@ fn octet_24_is_read_as_a_constructed_octet_string(rt: HostRuntime) -> Result<(),
     Ok(())
 }
 
-// The constructed bit tells two headers apart that say the same else.
+// The constructed bit distinguishes two headers that are otherwise equal.
 #[test]
 fn the_constructed_bit_tells_two_headers_apart(rt: HostRuntime) -> Result<(), Fail> {
     let primitive = header_of(rt.alloc(), &[0x04, 0x00])?;

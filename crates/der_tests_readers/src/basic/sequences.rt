@@ -1,4 +1,5 @@
-//! Contents of indefinite lengths that are read by a function, and the end marks behind them.
+//! Indefinite-length contents that are read by a function, and the end-of-contents octets after
+//! them.
 ghost use Rattle.std.specs.Prelude.{◌≡◌};
 ghost use Rattle.der.specs.Prelude.{Same, slice_state};
 
@@ -117,7 +118,7 @@ fn a_sequence_in_a_sequence_is_read_whatever_their_forms(rt: HostRuntime) -> Res
     Ok(())
 }
 
-// The end of a SEQUENCE of definite length ends the bodies in it.
+// The end of a SEQUENCE of definite length ends the indefinite-length contents in it.
 #[test]
 fn a_body_that_is_cut_by_its_sequence_is_refused(rt: HostRuntime) -> Result<(), Fail> {
     let octets = [0x30, 0x05, 0x30, 0x80, 0x05, 0x00, 0x00, 0x00];
@@ -189,7 +190,8 @@ fn contents_of_definite_length_get_their_header_unchanged(rt: HostRuntime) -> Re
     Ok(())
 }
 
-// A header of the caller's own may say more than a scan would: then no end mark stands there.
+// A header that the caller makes may give more octets than a scan would: then there are no
+// end-of-contents octets at its end.
 #[test]
 fn contents_without_their_end_mark_are_refused(rt: HostRuntime) -> Result<(), Fail> {
     let mut reader = ber_reader(&[0x05, 0x00, 0x00, 0x01])?;

@@ -1,4 +1,4 @@
-//! A reader that cannot lend, through which the generic calls run a second time.
+//! The generic calls again, on a reader that returns no slices.
 ghost use Rattle.der.specs.Prelude.{Same};
 
 use super::*;

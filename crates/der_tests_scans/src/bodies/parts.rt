@@ -1,4 +1,5 @@
-//! Bodies inside parts: a scan goes up to the end of the part, and counts its own levels.
+//! Indefinite-length contents inside parts: a scan goes up to the end of the part, and counts its
+//! own levels.
 ghost use Rattle.std.specs.Prelude.{◌≡◌};
 ghost use Rattle.der.specs.Prelude.{Same};
 
@@ -28,7 +29,7 @@ fn a_body_that_its_part_cuts_is_refused(rt: HostRuntime) -> Result<(), Fail> {
     Ok(())
 }
 
-// A part that holds the body, and one that cuts its contents.
+// A part that holds the contents, and one that truncates them.
 #[test]
 fn a_body_is_scanned_up_to_the_end_of_its_part(rt: HostRuntime) -> Result<(), Fail> {
     let rows: [(&[u8], u32, Error, bool); 2] = [
@@ -66,7 +67,7 @@ fn an_element_is_refused_where_a_part_cuts_it_and_then_lent(rt: HostRuntime) -> 
     Ok(())
 }
 
-// The reader inside so many parts of these octets.
+// The reader inside this number of parts of these octets.
 fn inside(octets: &[u8; 4], parts: u8) -> Result<SliceReader<'_>, Error> {
     let mut reader = ber_reader(octets)?;
     for _ in 0..parts {
@@ -75,7 +76,7 @@ fn inside(octets: &[u8; 4], parts: u8) -> Result<SliceReader<'_>, Error> {
     Ok(reader)
 }
 
-// A header wants no level of nesting, its contents want one.
+// A header needs no level of nesting, its contents need one.
 #[test]
 fn a_sequence_is_entered_inside_63_parts_and_not_inside_64(rt: HostRuntime) -> Result<(), Fail> {
     let octets = [0x30, 0x80, 0x00, 0x00];
@@ -97,7 +98,8 @@ fn read_none<R: Reader>(reader: &mut R) -> Result<(), Error>
     Ok(())
 }
 
-// The header inside so many elements, each of them read with its contents and its end mark.
+// The header inside `levels` elements, each of them read with its contents and its end-of-contents
+// octets.
 fn innermost<R: Reader>(reader: &mut R, levels: u8) -> Result<Header, Error>
     ensures { Same (R.state reader.old) (R.state reader.new) }
 {
@@ -125,7 +127,7 @@ fn bodies_are_entered_64_levels_deep(rt: HostRuntime) -> Result<(), Fail> {
     Ok(())
 }
 
-// Inside one part more the header is still read, but not the contents of the 64th element.
+// Inside one more part the header is still read, but not the contents of the 64th element.
 #[test]
 fn inside_a_part_the_64th_body_is_not_entered(rt: HostRuntime) -> Result<(), Fail> {
     let octets = around_null(rt.alloc(), 64)?;

@@ -1,4 +1,4 @@
-//! A reader that lends all that is left, and reads nothing.
+//! A reader that returns a slice of all that is left, and reads nothing.
 ghost use Rattle.std.specs.Prelude.{◌≡◌, false, true, IfOk};
 ghost use Rattle.der.specs.Prelude.{Ber, slice_state};
 
@@ -6,7 +6,7 @@ use super::*;
 use der::Resumption;
 use std::alloc::Allocator;
 
-/// A reader over a slice that lends what is left of it, and refuses to read any of it.
+/// A reader over a slice that returns a slice of what is left, and fails at each read.
 #[derive(Drop)]
 pub struct LendingReader<'a> {
     inner: SliceReader<'a>,
@@ -29,7 +29,7 @@ impl<'a> Reader for LendingReader<'a> {
 
     ghost state = { λ r. slice_state r.inner };
 
-    // it refuses where no table says so
+    // it fails where no spec says so
     ghost reliable = { false };
 
     ghost lends = { true };

@@ -1,4 +1,4 @@
-//! How many turns a scan takes, which is proved.
+//! How many turns a scan takes, as proved.
 ghost use Rattle.std.specs.Prelude.{◌≡◌, ◌+◌, Ok};
 ghost use Rattle.der.specs.Prelude.{indefinite_length};
 
@@ -7,7 +7,7 @@ use crate::checks::same;
 use std::marker::Brand;
 use std::sync::ledger::{Blank, Ledger};
 
-// Three NULLs and an end mark are a body of eight octets, and take a turn each.
+// Three NULLs and end-of-contents octets are contents of eight octets, and take a turn each.
 fn scan_nulls<L: Ledger>(turns: &mut Turns<L>) -> Result<Length, Error>
     ensures answer { result ≡ Ok (indefinite_length 8) }
     ensures turned { turns.new ≡ turns.old + 4 }

@@ -3,7 +3,7 @@ use super::*;
 use crate::checks::same_at;
 use std::process::Abort;
 
-// What segments are joined to, or why they are refused, and where the reader stands then.
+// The joined segments, or their error, and the place of the reader then.
 fn joining<R: Joins>(
     rt: &impl Abort,
     alloc: Global,
@@ -19,7 +19,7 @@ fn joining<R: Joins>(
     same_at(rt, end, reader.place(), (position, end, failed));
 }
 
-// Segments are joined so, whether the reader lends or not.
+// Segments are joined so, whether the reader returns slices or not.
 fn joining_each(
     rt: &impl Abort,
     alloc: Global,
@@ -32,7 +32,7 @@ fn joining_each(
     Ok(())
 }
 
-// Primitive segments are alike under both rules.
+// Primitive segments are treated equally under both rules.
 fn joining_primitive(
     rt: &impl Abort,
     alloc: Global,
@@ -143,7 +143,7 @@ fn segments_with_other_tags_are_refused(rt: HostRuntime) -> Result<(), Fail> {
     Ok(())
 }
 
-// A segment of either form of length that is cut into segments.
+// A segment with either form of length that consists of segments.
 #[test]
 fn segments_of_segments_are_joined_under_ber(rt: HostRuntime) -> Result<(), Fail> {
     // the segments, what they are joined to, and how many octets they have

@@ -1,4 +1,4 @@
-//! Octets and texts in memory of their own.
+//! Owned octets and texts.
 use super::*;
 use crate::checks::{holds, same};
 use der::{box_to_ref, slice_to_owned};

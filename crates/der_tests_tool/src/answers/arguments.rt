@@ -1,4 +1,4 @@
-//! Arguments as the system hands them in.
+//! Arguments as the system passes them.
 use super::USAGE;
 use super::writers::Tally;
 use der_answers::run_arguments;
@@ -70,7 +70,7 @@ fn arguments_for_which_no_memory_is_left_are_refused(rt: HostRuntime) {
     assert!(rt; out.as_slice() == REFUSED.as_bytes());
 }
 
-// No word is answered in silence.
+// Every call prints something.
 #[test]
 fn an_output_that_never_fails_is_told(rt: HostRuntime) {
     let rows: [(&[&[u8]], u8); 3] = [

@@ -73,14 +73,14 @@ const OPENED: &str = "2480248024802480248024802480248024802480248024802480248024
     2480248024802480248024802480248024802480248024802480248024802480\
     2480248024802480248024802480248024802480248024802480248024802480";
 
-/// As many end marks.
+/// The end-of-contents octets of the same number of levels.
 const CLOSED: &str = "0000000000000000000000000000000000000000000000000000000000000000\
     0000000000000000000000000000000000000000000000000000000000000000\
     0000000000000000000000000000000000000000000000000000000000000000\
     0000000000000000000000000000000000000000000000000000000000000000";
 
-// 64 levels are joined; the 65th is refused behind its header, which a scan has not yet passed where
-// it stands inside a definite length.
+// 64 levels are joined; the 65th fails after its header, which a scan has not yet read if it is
+// inside a definite length.
 #[test]
 fn joins_64_levels_and_refuses_the_65th(rt: HostRuntime) -> Result<(), Fail> {
     let alloc = rt.alloc();

@@ -1,11 +1,11 @@
-//! What is refused in a comparison, and when.
+//! The errors of a comparison, and when they occur.
 ghost use Rattle.std.specs.Prelude.{◌≡◌, [], Ok, IsOk};
 ghost use Rattle.der.specs.Prelude.{definite_length, map_ok};
 
 use super::*;
 use crate::checks::same;
 
-// A value without contents, whose length may be refused, and whose comparison is told.
+// A value without contents, whose length may fail, and whose comparison is given.
 #[derive(Clone, Copy)]
 struct Told {
     tag: Tag,
@@ -60,7 +60,7 @@ fn telling(tag: Tag, answer: Result<Ordering, Error>) -> Told {
     }
 }
 
-// One whose header is refused at this position.
+// A value whose header fails at this position.
 fn refused(tag: Tag, position: u32) -> Told {
     Told {
         tag,

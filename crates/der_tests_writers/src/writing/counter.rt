@@ -13,7 +13,7 @@ struct Counter {
 }
 
 impl Writer for Counter {
-    // it vows nothing of the memory that is left, and so counts as failed
+    // it promises nothing about the memory that is left, and so counts as failed
     ghost state = { λ w. record {
       octets = w.octets.items;
       behind = [];

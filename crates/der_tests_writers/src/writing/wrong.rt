@@ -1,4 +1,4 @@
-//! A type that writes an octet and then refuses.
+//! A type that writes an octet and then fails.
 ghost use Rattle.std.specs.Prelude.{◌≡◌, [], ◌∷◌, Ok, Err};
 ghost use Rattle.der.specs.Prelude.{definite_length, error_of_kind, write_outcome};
 ghost use Rattle.der.specs.ErrorKinds.{Overflow};

@@ -8,7 +8,7 @@ use crate::checks::same;
 use der::{Encode, EncodeValue, Tagged, Writer, WrittenValue, encoded_len_tlv, to_der_in};
 use linked_list_allocator::LocalHeap;
 
-// An OCTET STRING of so many zero octets.
+// An OCTET STRING of `count` zero octets.
 #[derive(Clone, Copy)]
 struct Zeros {
     count: u32,
@@ -31,7 +31,7 @@ impl WrittenValue for Zeros {
 impl EncodeValue for Zeros {
     ghost value_size = { λ zeros. Ok (definite_length zeros.count) };
 
-    // what its refusals are is left open
+    // its errors are left open
     ghost encode_value_answers = { λ _ _ _ _. Unit {0} };
 
     fn value_len(&self) -> Result<Length, Error> {
@@ -89,7 +89,7 @@ fn an_element_that_is_too_long_overflows(rt: HostRuntime) -> Result<(), Fail> {
     Ok(())
 }
 
-// The refusal asks for no memory: none is left.
+// The error allocates nothing: no memory is left.
 #[test]
 fn what_is_too_long_overflows_before_memory_is_asked_for(rt: HostRuntime) -> Result<(), Fail> {
     let heap = LocalHeap::new(rt.alloc(), 32)?;

@@ -1,7 +1,7 @@
 use Rattle.std.proofs.Common.{◌*◌, ◌+◌}
 use Rattle.der_tests_readers.proofs.distinguished.depth.+nest.Given as goal
 
--- the closure stands between two calls of the function
+-- the closure is between two calls of the function
 abbrev pub decreases-nest : goal.decreases-nest
 decreases-nest l = 2 * l.levels
 
