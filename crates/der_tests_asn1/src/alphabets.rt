@@ -1,4 +1,4 @@
-//! Further strings with an alphabet, and ENUMERATED.
+//! Other restricted character strings, and ENUMERATED.
 use crate::checks::same_at;
 use der::{Encode, Error, ErrorKind, Length, Tag};
 use der_asn1::{
@@ -8,7 +8,7 @@ use der_asn1::{
 use der_fixtures::errors::unexpected;
 use std::alloc::Global;
 
-// The contents that these octets are the element of, and whether it is written as it was read.
+// The contents of this element, and whether it is written exactly as it was read.
 fn visible<'a>(alloc: Global, octets: &'a [u8]) -> Result<(&'a [u8], bool), Error> {
     let value: VisibleStringRef<'a> = lawful_from_der(alloc, octets)?;
     let written = value.to_der(alloc)?;

@@ -34,7 +34,7 @@ fn the_tag_ahead_tells_which_type_is_read(rt: HostRuntime) {
     }
 }
 
-// Whether the octets are a value of one type, and are written again as they were.
+// Whether the octets are a value of one of the types, and are written exactly as they were.
 fn is_read_and_written<'a>(alloc: Global, octets: &'a [u8]) -> bool {
     let Ok(choice) = <Either<IntRef<'a>, BooleanRef<'a>>>::from_der(alloc, octets) else {
         return false;

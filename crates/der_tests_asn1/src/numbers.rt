@@ -4,7 +4,7 @@ use der::{Encode, Error, ErrorKind, Length, Tag};
 use der_asn1::{IntRef, IntegerNumber, IntegerOf, lawful_from_der};
 use std::alloc::Global;
 
-// The number that these octets are the element of, and whether it is written as it was read.
+// The number in this element, and whether it is written exactly as it was read.
 fn number<N: IntegerNumber + Drop>(alloc: Global, octets: &[u8]) -> Result<(N, bool), Error> {
     let value: IntegerOf<N> = lawful_from_der(alloc, octets)?;
     let written = value.to_der(alloc)?;

@@ -56,7 +56,7 @@ fn elements_of_a_set_are_checked(rt: HostRuntime) {
     }
 }
 
-// Whether a set is read under BER, and out of order.
+// Whether a set is read under BER, in order and out of order.
 #[test]
 fn the_order_is_wanted_under_ber_too(rt: HostRuntime) {
     let rows: [(&[u8], bool); 2] = [

@@ -4,14 +4,14 @@ use der::{Decode, Encode, Error, ErrorKind, Length, Reader, ReaderExt, SliceRead
 use der_asn1::{Choice, DateTime, GeneralizedTime, UtcTime, lawful_from_der};
 use std::alloc::Global;
 
-// The UTCTime that these octets are the element of, and whether it is written as it was read.
+// The UTCTime in this element, and whether it is written exactly as it was read.
 fn told_utc(alloc: Global, octets: &[u8]) -> Result<(DateTime, bool), Error> {
     let value: UtcTime = lawful_from_der(alloc, octets)?;
     let written = value.to_der(alloc)?;
     Ok((value.date_time(), written.as_slice() == octets))
 }
 
-// The GeneralizedTime of these contents.
+// The same for a GeneralizedTime.
 fn told_generalized(alloc: Global, octets: &[u8]) -> Result<(DateTime, bool), Error> {
     let value: GeneralizedTime = lawful_from_der(alloc, octets)?;
     let written = value.to_der(alloc)?;

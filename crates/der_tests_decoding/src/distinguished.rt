@@ -34,7 +34,7 @@ mod tags;
 // Calls that several tests make. They have no contracts, because a contract costs the checker
 // seconds at each call.
 
-// The value that all the octets are.
+// Reads the octets as exactly one value.
 fn value_of<'a, T: Decode<SliceReader<'a>>>(
     alloc: Global,
     octets: &'a [u8],
@@ -66,7 +66,7 @@ fn refusal_by<R: Reader, T: Decode<R>>(
     T::decode(alloc, reader).err()
 }
 
-// What the reader decodes.
+// The next value of the reader.
 fn next_of<R: Reader, T: Decode<R>>(
     alloc: Global,
     reader: &mut R,

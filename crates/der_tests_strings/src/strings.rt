@@ -23,7 +23,7 @@ mod texts;
 
 // The functions below have no contracts, because the tests need none.
 
-// Octets that are borrowed.
+// Borrowed octets.
 fn bytes_of(octets: &[u8]) -> Result<BytesRef<'_>, Error> {
     BytesRef::new(octets)
 }
@@ -33,12 +33,12 @@ fn owned_bytes(alloc: Global, octets: &[u8]) -> Result<BytesOwned, Error> {
     BytesOwned::from_slice(alloc, octets)
 }
 
-// A text that is borrowed.
+// A borrowed text.
 fn text_of(text: &str) -> Result<StringRef<'_>, Error> {
     StringRef::new(text)
 }
 
-// A text that is borrowed, of its octets.
+// A borrowed text, from its octets.
 fn text_from(octets: &[u8]) -> Result<StringRef<'_>, Error> {
     StringRef::from_bytes(octets)
 }

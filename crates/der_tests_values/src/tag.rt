@@ -202,7 +202,7 @@ fn tags_are_equal_and_hashed_equally_exactly_where_all_is_equal(rt: HostRuntime)
     }
 }
 
-/// A derived hash feeds the place of the variant in 8 octets, the lowest first, and then the
+/// A derived hash feeds the index of the variant in 8 octets, the lowest first, and then the
 /// fields.
 #[test]
 fn a_hasher_gets_the_variant_and_then_the_fields(rt: HostRuntime) {

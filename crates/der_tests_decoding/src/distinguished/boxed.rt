@@ -4,7 +4,7 @@ use crate::checks::{same, same_octets};
 use der::{EncodeValue, Tagged};
 use der_uses::lent::Lent;
 
-// The month that all the octets are.
+// Reads the octets as exactly one month.
 fn boxed_month(alloc: Global, octets: &[u8]) -> Result<Box<MyByteMonth>, Error> {
     value_of(alloc, octets)
 }

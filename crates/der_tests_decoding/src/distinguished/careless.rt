@@ -97,7 +97,7 @@ impl FixedTag for Unread {
 impl ReadValue for Unread {
     ghost valid = { λ _. Unit {0} };
 
-    // there has to be nothing to read
+    // only empty contents are accepted
     ghost takes = { λ _ _ _ octets. octets ≡ [] };
 
     ghost value_levels = { λ _. 0 };

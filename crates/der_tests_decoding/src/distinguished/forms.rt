@@ -4,7 +4,7 @@ use crate::checks::same_at;
 use der_uses::lent::Lent;
 use std::process::Abort;
 
-// The contents whose encoding all the octets are.
+// Reads the octets as exactly one element, and returns its contents.
 fn contents_of(alloc: Global, octets: &[u8]) -> Result<&[u8], Error> {
     let lent: Lent<'_> = value_of(alloc, octets)?;
     Ok(lent.octets)

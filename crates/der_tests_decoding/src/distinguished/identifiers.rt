@@ -3,7 +3,7 @@ use super::*;
 use crate::checks::{same, same_octets};
 use der_uses::algorithm_identifier::AlgorithmIdentifier;
 
-// The identifier that all the octets are.
+// Reads the octets as exactly one identifier.
 fn identifier_of(alloc: Global, bytes: &[u8]) -> Result<AlgorithmIdentifier<'_>, Error> {
     value_of(alloc, bytes)
 }

@@ -25,7 +25,7 @@ impl<const LEVELS: u8> ReadValue for Nest<LEVELS> {
 
     ghost takes = { λ _ _ _ _. Unit {0} };
 
-    // it is promised at no depth that it is read
+    // reading it is promised at no depth
     ghost value_levels = { λ _. 64 };
 
     ghost allocates = { false };

@@ -3,7 +3,7 @@ use super::*;
 use crate::checks::{same, same_at, same_octets};
 use std::marker::PhantomData;
 
-// The two months that all the octets are.
+// Reads the octets as exactly two months.
 fn pair_of(alloc: Global, bytes: &[u8]) -> Result<(MyByteMonth, MyByteMonth), Error> {
     value_of(alloc, bytes)
 }

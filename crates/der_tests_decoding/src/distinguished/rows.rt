@@ -3,7 +3,7 @@
 use der::EncodingRules::{self, Ber, Der};
 use der_fixtures::bodies::{ENCRYPTED_CONTENT_INFO, SEGMENT_OF_ZEROS};
 
-/// What octets are decoded as.
+/// The types that octets are decoded as.
 #[derive(Clone, Copy)]
 pub enum Kind {
     Tag,

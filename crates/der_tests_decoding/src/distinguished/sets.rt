@@ -33,7 +33,7 @@ fn set_of(alloc: Global, elements: &mut [BorrowedOctets<'_>]) -> Result<Vec<u8>,
     set_of_der(alloc, elements)
 }
 
-// The contents of the SET OF that all the octets are.
+// Reads the octets as exactly one SET OF, and returns its contents.
 fn contents_of(alloc: Global, octets: &[u8]) -> Result<&[u8], Error> {
     set_of_contents(alloc, octets)
 }

@@ -1,4 +1,4 @@
-//! Whole elements whose lengths have the indefinite form.
+//! Whole elements of indefinite length.
 ghost use Rattle.std.specs.Prelude.{◌≡◌};
 ghost use Rattle.der.specs.Prelude.{Same, slice_state};
 

@@ -39,7 +39,7 @@ fn header_two_within(reader: &mut SliceReader<'_>) -> Result<Header, Error> {
     reader.sequence(read_inner)
 }
 
-// The header that contents get, and the octets of them.
+// The header that the function for the contents gets, and their octets.
 fn read_octets<'a>(
     reader: &mut SliceReader<'a>,
     header: Header,
@@ -163,7 +163,8 @@ fn what_is_no_sequence_is_refused_behind_its_header(rt: HostRuntime) -> Result<(
     Ok(())
 }
 
-// Contents get the header with their own length, which is flagged as the header's was.
+// The function for the contents gets the header with their own length, which is indefinite if that
+// of the header was.
 #[test]
 fn contents_get_a_flagged_header_with_their_own_length(rt: HostRuntime) -> Result<(), Fail> {
     let octets = [0x24, 0x80, 0x04, 0x01, 0x09, 0x00, 0x00, 0x05];

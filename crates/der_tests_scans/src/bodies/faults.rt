@@ -110,7 +110,7 @@ fn read_header<R: Reader>(reader: &mut R) -> Result<Header, Error>
     decode_header(reader)
 }
 
-// The header in a sequence, and the place then.
+// The header in a sequence, and the place of the reader then.
 fn sequence_by<R: Reader>(mut reader: R) -> (Result<Header, Error>, (u32, u32, bool)) {
     let header = reader.sequence(read_header);
     (header, place_of(&reader))

@@ -22,7 +22,7 @@ fn drain_behind(rt: &impl Abort, octets: &[u8], passed: u32, amount: Length) -> 
     Ok(())
 }
 
-// Up to forty octets, flagged and not.
+// Up to forty octets, with definite and indefinite lengths.
 fn drain_each(rt: &impl Abort, octets: &[u8], passed: u32) -> Result<(), Error> {
     for amount in 0..=40u32 {
         drain_behind(rt, octets, passed, Length::new(amount))?;

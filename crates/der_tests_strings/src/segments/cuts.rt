@@ -29,7 +29,7 @@ fn refused(rt: &impl Abort, cut: usize, read: &Result<JoinedOctets, Error>, erro
     }
 }
 
-// The whole is joined to these octets.
+// The whole element is joined to these octets.
 fn read(rt: &impl Abort, row: usize, read: &Result<JoinedOctets, Error>, joined: &[u8]) {
     match read {
         Ok(whole) => same_at(rt, row, whole.octets.as_slice(), joined),
@@ -37,7 +37,7 @@ fn read(rt: &impl Abort, row: usize, read: &Result<JoinedOctets, Error>, joined:
     }
 }
 
-// The element is joined to these octets, and of each beginning octets are missing.
+// The element is joined to these octets, and each proper prefix of it is truncated.
 fn cut_everywhere(
     rt: &impl Abort,
     alloc: Global,

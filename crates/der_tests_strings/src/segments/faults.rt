@@ -1,4 +1,4 @@
-//! Readers one of whose reads fails, for each read in turn until none does.
+//! Readers that fail at one read, for each read in turn until none fails.
 use super::joined::decoding;
 use super::*;
 use crate::checks::same_at;

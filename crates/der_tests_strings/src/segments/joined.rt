@@ -28,7 +28,7 @@ fn octets_of(read: &Result<JoinedOctets, Error>) -> Result<&[u8], Error> {
     }
 }
 
-// Under the Basic Encoding Rules, by every call that decodes.
+// Under the Basic Encoding Rules, with every call that decodes.
 fn under_ber(
     rt: &impl Abort,
     alloc: Global,
@@ -48,7 +48,7 @@ fn wholly_under_ber(rt: &impl Abort, alloc: Global, octets: &[u8], answer: Resul
     same_at(rt, octets.len(), octets_of(&whole), answer);
 }
 
-// Under the Distinguished Encoding Rules, by every call that decodes.
+// Under the Distinguished Encoding Rules, with every call that decodes.
 fn under_der(
     rt: &impl Abort,
     alloc: Global,

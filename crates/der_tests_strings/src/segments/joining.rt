@@ -85,7 +85,7 @@ fn ber_joins_segments_behind_any_definite_length(rt: HostRuntime) -> Result<(), 
     Ok(())
 }
 
-// Segments with this tag, of the context.
+// Segments with this context-specific tag.
 fn tagged<R: Joins>(
     rt: &impl Abort,
     alloc: Global,

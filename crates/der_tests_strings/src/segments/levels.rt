@@ -5,7 +5,7 @@ use crate::elements::joined_of_ber;
 use der_fixtures::errors::too_deep;
 use std::process::Abort;
 
-/// Which levels have a length of the indefinite form, counted from the innermost.
+/// Which levels have an indefinite length, counted from the innermost.
 #[derive(Clone, Copy)]
 pub enum Forms {
     /// None.
@@ -54,7 +54,7 @@ pub fn nested(alloc: Global, forms: Forms, levels: usize, octets: &[u8]) -> Resu
 
 const SEGMENT: [u8; 3] = [0x04, 0x01, 0x2A];
 
-// All that the octets are joined to, as one element.
+// The joined octets of exactly one element.
 fn whole(rt: &impl Abort, alloc: Global, row: usize, octets: &[u8], answer: Result<&[u8], Error>) {
     match joined_of_ber(alloc, octets) {
         Ok(joined) => same_at(rt, row, Ok(joined.octets.as_slice()), answer),

@@ -1,5 +1,4 @@
-//! All lists of a few octets, joined by a plain function that goes down into segments, and by the
-//! library.
+//! All lists of a few octets, joined by a simple recursive function and by the library.
 use super::*;
 use crate::checks::{holds_at, same, same_at};
 use std::alloc::AllocError;
@@ -86,7 +85,7 @@ fn list_of(alloc: Global, number: u32, count: usize) -> Result<Vec<u8>, AllocErr
     Ok(octets)
 }
 
-// Whether a reader joins octets as the plain function does.
+// Whether a reader joins octets as the simple function does.
 fn is_joined_plainly<R: Joins>(
     alloc: Global,
     mut reader: R,
@@ -131,7 +130,7 @@ fn all_short_lists_are_joined_as_by_a_plain_function(rt: HostRuntime) -> Result<
     Ok(())
 }
 
-// The plain function itself, on rows that are worked out.
+// The simple function itself, on rows worked out by hand.
 #[test]
 fn the_plain_function_joins_the_worked_rows(rt: HostRuntime) -> Result<(), Fail> {
     let rows: [(&[u8], u32, Option<&[u8]>); 8] = [

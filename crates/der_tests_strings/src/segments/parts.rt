@@ -4,7 +4,7 @@ use crate::checks::{same, same_at};
 use der::close_value;
 use std::process::Abort;
 
-// Readers that contents are read by, without saying all that they are.
+// Readers that read contents, without naming their types.
 trait Parts: Placed + Drop {
     // The result of reading the contents after this header.
     fn parts(&mut self, alloc: Global, header: Header) -> Result<BytesOwned, Error>;

@@ -1,4 +1,4 @@
-//! Segments up to the end.
+//! Segments up to the end of the input.
 use super::*;
 use crate::checks::same_at;
 use std::process::Abort;
@@ -48,7 +48,7 @@ fn joining_primitive(
 
 #[test]
 fn primitive_segments_are_joined_under_both_rules(rt: HostRuntime) -> Result<(), Fail> {
-    // the segments, what they are joined to, and how many octets they have
+    // the segments, their joined octets, and their number of octets
     let rows: [(&[u8], &[u8], u32); 6] = [
         (&[], &[], 0u32),
         (&[0x04, 0x00], &[], 2),
@@ -146,7 +146,7 @@ fn segments_with_other_tags_are_refused(rt: HostRuntime) -> Result<(), Fail> {
 // A segment with either form of length that consists of segments.
 #[test]
 fn segments_of_segments_are_joined_under_ber(rt: HostRuntime) -> Result<(), Fail> {
-    // the segments, what they are joined to, and how many octets they have
+    // the segments, their joined octets, and their number of octets
     let rows: [(&[u8], &[u8], u32); 5] = [
         (&[0x24, 0x00], &[], 2u32),
         (&[0x24, 0x80, 0x00, 0x00], &[], 4),

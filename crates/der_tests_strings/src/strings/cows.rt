@@ -83,7 +83,7 @@ fn octets_that_are_no_text_are_refused_behind_them(rt: HostRuntime) -> Result<()
 
 const TEXT: [u8; 3] = [0x67, 0xC3, 0xBC];
 
-// What is written is that of the view, whichever it is.
+// The encoding is that of the view, borrowed or owned.
 fn written<T: EncodeValue>(rt: &impl Abort, value: &T) -> Result<(), Error> {
     same(rt, value.value_len(), Ok(Length::new(3)));
     let mut buffer = [0u8; 4];

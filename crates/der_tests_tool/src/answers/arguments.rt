@@ -33,8 +33,8 @@ impl Env for Fixed<'_> {
 
 const REFUSED: &str = "error: out of memory\n";
 
-// The program's name is no word, each other argument is one, and an argument that is not text is no
-// word of a command.
+// The name of the program is not a word, each other argument is one, and an argument that is not
+// text is not a word of a command.
 #[test]
 fn takes_arguments_as_words(rt: HostRuntime) {
     let lines = "tag: SEQUENCE\nconstructed: yes\nlength: 0\nrest: -\n";

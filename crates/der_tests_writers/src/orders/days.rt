@@ -1,4 +1,4 @@
-//! Types of a user: one whose `Ord` is the order of its contents, and one that is not orderly.
+//! User-defined types: one whose `Ord` is the order of its contents, and one that is not orderly.
 ghost use Rattle.std.specs.Prelude.{◌≡◌, [], ◌∷◌, Ok};
 ghost use Rattle.std.specs.Ordering.{nat_cmp};
 ghost use Rattle.std.proofs.Common.{sym};

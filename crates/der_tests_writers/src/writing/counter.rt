@@ -1,4 +1,4 @@
-//! A writer that counts its writes, through which the generic calls run a second time.
+//! A writer that counts its writes, on which the generic calls run a second time.
 ghost use Rattle.std.specs.Prelude.{true, false, []};
 
 use super::month::september;

@@ -11,7 +11,7 @@ pub fn september() -> Result<MyByteMonth, Error> {
     MyByteMonth::new(9).ok_or(ErrorKind::DateTime.to_error())
 }
 
-// What is proved of every type is known of this one.
+// What is proved for every type holds for this one.
 fn month_der(alloc: Global, month: &MyByteMonth) -> Result<Vec<u8>, Error>
     ensures { IfOk result (λ v. v.items ≡ 4 ∷ 1 ∷ month.now.number ∷ []) }
 {
