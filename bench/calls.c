@@ -1,5 +1,5 @@
-/* What calls.rs measures of C: the same work by the library's calls, by hand, and by mbedTLS where MBEDTLS is
- * defined. Each tells what it passed or wrote, so that all can be compared. */
+/* What calls.rs measures of C: the same work with the library's functions and by hand. Each
+ * function returns what it read or wrote, so that all can be compared. */
 #include <der.h>
 #include <string.h>
 
@@ -7,7 +7,7 @@ typedef struct {
     uint64_t elements, contents, first_octets;
 } totals;
 
-/* a header that is wanted, as written.rs lays it out */
+/* a header to write, with the layout of written.rs */
 typedef struct {
     uint32_t number, length;
     uint8_t class, constructed;
@@ -22,7 +22,7 @@ static inline void pass(totals *told, const uint8_t *contents, size_t length)
     told->first_octets += length ? contents[0] : 0;
 }
 
-/* By the library's calls. */
+/* With the library's functions. */
 
 totals calls_walk(const uint8_t *octets, size_t length)
 {
@@ -62,7 +62,7 @@ totals calls_nested(const uint8_t *octets, size_t length)
     return told;
 }
 
-/* a certificate a call */
+/* one call for each certificate */
 totals calls_tree(const uint8_t *octets, size_t length)
 {
     static der_node nodes[512];
@@ -156,7 +156,7 @@ static inline bool write_four(der_writer *writer, uint64_t number)
     return true;
 }
 
-/* by the lengths first */
+/* with the lengths computed first */
 totals calls_sequences(const uint64_t *numbers, size_t count, uint8_t *out, size_t room)
 {
     totals told = {0, 0, 0};
@@ -171,7 +171,7 @@ totals calls_sequences(const uint64_t *numbers, size_t count, uint8_t *out, size
     return written(&writer, told);
 }
 
-/* by begin and end */
+/* with a begin and an end */
 totals calls_parts(const uint64_t *numbers, size_t count, uint8_t *out, size_t room)
 {
     totals told = {0, 0, 0};
@@ -224,7 +224,7 @@ static __attribute__((noinline)) bool long_length(const uint8_t *octets, size_t 
     return sum >= (count == 1 ? 128 : (size_t)1 << 8 * (count - 1));
 }
 
-/* the element at a position, which has to end by |end| */
+/* the element at a position, which must end at |end| or before it */
 static inline bool part_at(const uint8_t *octets, size_t at, size_t end, part *it)
 {
     if (at >= end)

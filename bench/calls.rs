@@ -1,5 +1,5 @@
-//! Reads and writes through the calls for C, from C and from Rust, and does the same inside Rattle,
-//! by hand, by the crate `der` and by mbedTLS: tells how long an element takes each.
+//! Reads and writes with the library for C, from C and from Rust, and does the same inside Rattle,
+//! by hand, with the crate `der` and with mbedTLS. Prints the time for one element each.
 #[allow(dead_code, reason = "other drivers use the rest")]
 mod certificates;
 #[allow(dead_code, reason = "as above")]
@@ -36,14 +36,14 @@ use std::hint::black_box;
 use std::time::{Duration, Instant};
 use written::Wanted;
 
-/// How many parts stand inside each other at most.
+/// How many levels of nested parts are entered.
 const LEVELS: usize = 64;
-/// How long the rounds of a row go on at least, and how many there are.
+/// The minimum duration of the rounds of a row, and their minimum number.
 const WHILE: Duration = Duration::from_secs(1);
 const ROUNDS: usize = 7;
 
 unsafe extern "C" {
-    // A slice is handed over as a pointer and then a length.
+    // A slice is passed as a pointer and then a length.
     fn der_bench_nested(octets: *const u8, len: usize) -> Totals;
 }
 
@@ -59,7 +59,7 @@ pub fn pass(totals: &mut Totals, contents: &[u8]) {
     totals.first_octets = totals.first_octets.wrapping_add(first as u64);
 }
 
-/// The flat walk by the crate `der`.
+/// The flat walk with the crate `der`.
 #[inline(never)]
 fn walk_by_crate(bytes: &[u8]) -> Totals {
     fn walk(bytes: &[u8], totals: &mut Totals) -> Result<(), der::Error> {
@@ -75,8 +75,9 @@ fn walk_by_crate(bytes: &[u8]) -> Totals {
     totals
 }
 
-/// The least time of each way, in nanoseconds a thing of which there are `count`; the rounds
-/// alternate, so that all see the same machine. All tell the same.
+/// Prints the minimum time of each way, in nanoseconds for each of `count` things. The rounds
+/// alternate between the ways, so that all see the same machine. All ways must return the same
+/// totals.
 fn tell<F: Copy>(
     name: &str,
     size: usize,
@@ -125,7 +126,7 @@ fn tell_putting<I>(name: &str, size: usize, input: &[I], ways: &[(&str, Putting<
     });
 }
 
-/// The ways, and that of mbedTLS where it is there.
+/// The ways, with that of mbedTLS if it is available.
 macro_rules! ways {
     ($type:ty, $mbedtls:ident, $($name:literal: $way:expr),*) => {{
         #[allow(unused_mut, reason = "mbedTLS is not there")]

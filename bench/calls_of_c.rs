@@ -1,8 +1,8 @@
-//! The work of calls.c and mbedtls.c.
+//! Wrappers of the functions of calls.c and mbedtls.c.
 use crate::common::Totals;
 use crate::written::Wanted;
 
-/// Functions that hand slices to those of C, as pointers and then lengths.
+/// Functions that pass slices to those of C, as pointers and then lengths.
 macro_rules! reading {
     ($($name:ident: $of_c:literal),*) => { $(
         pub fn $name(bytes: &[u8]) -> Totals {

@@ -1,10 +1,10 @@
-//! The work of calls.c by the wrapper in Rust.
+//! The work of calls.c with the Rust crate `der_c`.
 use crate::common::Totals;
 use crate::written::Wanted;
 use crate::{LEVELS, pass};
 use der_c::{Error, Node, Reader, Tag, Writer, element_length};
 
-/// What a reader of all octets passes, until it refuses.
+/// The totals that `read` counts, up to an error.
 #[inline(always)]
 fn told(bytes: &[u8], read: impl Fn(&mut Reader<'_>, &mut Totals) -> Result<(), Error>) -> Totals {
     let mut totals = Totals::default();
@@ -42,7 +42,7 @@ pub fn nested(bytes: &[u8]) -> Totals {
     told(bytes, |reader, totals| walk_part(reader, LEVELS, totals))
 }
 
-/// A certificate a call.
+/// One call for each certificate.
 #[inline(never)]
 pub fn tree(bytes: &[u8]) -> Totals {
     let mut nodes = [Node::default(); 512];
@@ -98,8 +98,8 @@ fn read_key(reader: &mut Reader<'_>, totals: &mut Totals) -> Result<(), Error> {
     Ok(())
 }
 
-/// What `write` writes of each of the values by one writer, until an error: how many, and the
-/// octets of all.
+/// Writes each value with `write` and one writer, until an error. Returns the number of values and
+/// of octets.
 #[inline(always)]
 fn put_all<I>(
     values: &[I],
@@ -152,7 +152,7 @@ fn put_four(writer: &mut Writer<'_>, number: u64) -> Result<(), Error> {
     Ok(())
 }
 
-/// By the lengths first.
+/// With the lengths computed first.
 #[inline(never)]
 pub fn sequences(numbers: &[u64], out: &mut [u8]) -> Totals {
     put_all(numbers, out, |writer, number| {
@@ -162,7 +162,7 @@ pub fn sequences(numbers: &[u64], out: &mut [u8]) -> Totals {
     })
 }
 
-/// By begin and end.
+/// With a begin and an end.
 #[inline(never)]
 pub fn parts(numbers: &[u64], out: &mut [u8]) -> Totals {
     put_all(numbers, out, |writer, number| {

@@ -1,5 +1,5 @@
-/* Certificates, one behind the other, read by OpenSSL and by mbedTLS, and walked: how many there are. And one, written by
- * OpenSSL so many times. */
+/* Certificates in sequence, read with OpenSSL and with mbedTLS, and walked: each function returns
+ * their number. And one certificate, written |times| times with OpenSSL. */
 #include <openssl/x509.h>
 #include <stdint.h>
 
@@ -17,7 +17,7 @@ uint64_t openssl_certificates(const uint8_t *octets, size_t len)
     return count;
 }
 
-/* What OpenSSL has read it keeps as octets, of which it writes the certificate's contents. */
+/* OpenSSL keeps the octets that it read, and writes the certificate's contents from them. */
 uint64_t openssl_written(const uint8_t *octets, size_t len, uint64_t times)
 {
     const unsigned char *ahead = octets;
@@ -34,7 +34,7 @@ uint64_t openssl_written(const uint8_t *octets, size_t len, uint64_t times)
     return count;
 }
 
-/* The length of the element ahead with its header, whose length has three octets; 0 where it is of another form. */
+/* The length of the next element with its header, if its length has three octets; else 0. */
 static size_t element_len(const uint8_t *ahead, const uint8_t *end)
 {
     if (end - ahead < 4 || ahead[0] != 0x30 || ahead[1] != 0x82)
@@ -43,7 +43,7 @@ static size_t element_len(const uint8_t *ahead, const uint8_t *end)
     return len <= (size_t)(end - ahead) ? len : 0;
 }
 
-/* Each element, and those inside: no tag is asked for, and no contents are looked at. */
+/* Walks over each element and those inside it, without checking tags or contents. */
 static int walk(const uint8_t *ahead, const uint8_t *end, uint64_t *elements)
 {
     while (ahead < end) {
@@ -84,7 +84,7 @@ uint64_t walked_certificates(const uint8_t *octets, size_t len)
 #ifdef MBEDTLS
 #include <mbedtls/x509_crt.h>
 
-/* The octets are lent, as to the library. */
+/* The certificates borrow the octets, as with the library. */
 uint64_t mbedtls_certificates(const uint8_t *octets, size_t len)
 {
     uint64_t count = 0;

@@ -1,4 +1,4 @@
-//! Octets with the tags and the sizes of certificates (RFC 5280, 4.1), and contents at random.
+//! Octets with the tags and sizes of certificates (RFC 5280, 4.1), and random contents.
 use crate::common::{Numbers, push_length};
 use crate::hand::element_at;
 
@@ -16,8 +16,8 @@ const SET: u8 = 0x31;
 const VERSION: u8 = 0xA0;
 const EXTENSIONS: u8 = 0xA3;
 
-/// How many octets the identifier of an extension has and how many its value, and whether it says
-/// that it is critical.
+/// The number of octets of the identifier and of the value of each extension, and whether it is
+/// critical.
 const KNOWN_EXTENSIONS: [(usize, usize, bool); 9] = [
     (3, 4, true),
     (3, 22, false),
@@ -30,7 +30,7 @@ const KNOWN_EXTENSIONS: [(usize, usize, bool); 9] = [
     (10, 246, false),
 ];
 
-/// Certificates until there are so many octets.
+/// Certificates of `wanted` octets or more together.
 pub fn certificates(wanted: usize) -> Vec<u8> {
     let mut numbers = Numbers(0x9E37_79B9_7F4A_7C15);
     let mut out = Vec::with_capacity(wanted + (1 << 12));
@@ -67,7 +67,7 @@ fn element(tag: u8, contents: &[u8]) -> Vec<u8> {
     out
 }
 
-/// An element with so many octets of contents at random.
+/// An element with `len` random octets of contents.
 fn random(tag: u8, numbers: &mut Numbers, len: usize) -> Vec<u8> {
     let contents: Vec<u8> = (0..len).map(|_| numbers.next() as u8).collect();
     element(tag, &contents)
@@ -81,7 +81,7 @@ fn algorithm(numbers: &mut Numbers, is_curve: bool) -> Vec<u8> {
     element(SEQUENCE, &[identifier, element(NULL, &[])].concat())
 }
 
-/// A name of so many parts: a country, and others.
+/// A name of `parts` attributes, one of them a country.
 fn name(numbers: &mut Numbers, parts: usize) -> Vec<u8> {
     let mut contents = Vec::new();
     for part in 0..parts {
@@ -127,8 +127,8 @@ fn extensions(numbers: &mut Numbers) -> Vec<u8> {
     element(SEQUENCE, &contents)
 }
 
-/// The first octets of the elements and how many octets of contents they have, in the order that
-/// certificates of so many octets are read in.
+/// The first octet and the number of octets of contents of each element of certificates with
+/// `octets` octets, in the order in which they are read.
 pub fn headers(octets: usize) -> Vec<(u8, usize)> {
     let mut headers = Vec::new();
     push_headers(&mut headers, &certificates(octets));

@@ -1,11 +1,11 @@
-//! What all measurements have in common.
+//! What all drivers share.
 use std::hint::black_box;
 use std::time::Instant;
 
 pub const INPUT_LEN: usize = 16 << 20;
 const ROUNDS: usize = 31;
 
-/// What a walk has passed, as the library lays it out.
+/// What was read or written, with the layout of the library.
 #[repr(C)]
 #[derive(Clone, Copy, Debug, Default, PartialEq, Eq)]
 pub struct Totals {
@@ -14,7 +14,7 @@ pub struct Totals {
     pub first_octets: u64,
 }
 
-/// The contents behind the length ahead, and the octets behind them.
+/// The contents after the next length, and the octets after them.
 #[inline(always)]
 pub fn split_contents(bytes: &[u8]) -> Option<(&[u8], &[u8])> {
     let (&first, rest) = bytes.split_first()?;
@@ -26,7 +26,7 @@ pub fn split_contents(bytes: &[u8]) -> Option<(&[u8], &[u8])> {
     rest.split_at_checked(len)
 }
 
-/// The length behind its first octet, from 128 on, and the octets behind it.
+/// A length after its first octet, which is 128 or more, and the octets after it.
 fn long_length(first: u8, bytes: &[u8]) -> Option<(usize, &[u8])> {
     let count = (first & 0x7F) as usize;
     if !(1..=4).contains(&count) {
@@ -45,7 +45,7 @@ fn long_length(first: u8, bytes: &[u8]) -> Option<(usize, &[u8])> {
     (len >= least).then_some((len, rest))
 }
 
-/// A sequence of numbers that is the same in every run.
+/// A pseudo-random sequence of numbers, the same in every run.
 pub struct Numbers(pub u64);
 
 impl Numbers {
@@ -72,11 +72,11 @@ pub fn push_length(out: &mut Vec<u8>, len: usize) {
     out.extend_from_slice(&octets[zeros..]);
 }
 
-/// A walk, what it walks over, and how many elements that has.
+/// A walk, its input, and the number of elements in it.
 pub type Timed<'a> = (fn(&[u8]) -> Totals, &'a [u8], u64);
 
-/// The least times of the walks among the rounds, in nanoseconds an element; the rounds of the
-/// walks alternate, so that all see the same machine.
+/// The minimum time of each walk, in nanoseconds per element. The rounds alternate between the
+/// walks, so that all see the same machine.
 pub fn measure<const N: usize>(walks: [Timed<'_>; N]) -> [f64; N] {
     let mut least = [f64::INFINITY; N];
     for _ in 0..ROUNDS {

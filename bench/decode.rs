@@ -1,4 +1,4 @@
-//! Decodes 16 MiB of keys by the proved reader and by hand, and tells how long a key takes each.
+//! Decodes 16 MiB of keys with the proved reader and by hand, and prints the time for one key each.
 mod common;
 mod keys;
 

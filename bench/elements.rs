@@ -1,4 +1,4 @@
-//! Elements, and a walk over them: what the walk and the scan have in common.
+//! Elements, and a walk over them, for the drivers `walk` and `scan`.
 use crate::common::{Numbers, Totals, push_length};
 
 // Tags of one octet, as certificates have them.
@@ -7,7 +7,7 @@ const TAGS: [u8; 12] = [
 ];
 
 unsafe extern "C" {
-    // A slice is handed over as a pointer and then a length.
+    // A slice is passed as a pointer and then a length.
     #[link_name = "der_bench_walk"]
     fn library_walk(octets: *const u8, len: usize) -> Totals;
 }
@@ -17,7 +17,7 @@ pub fn proved_walk(bytes: &[u8]) -> Totals {
     unsafe { library_walk(bytes.as_ptr(), bytes.len()) }
 }
 
-/// Counts what `split` splits off the octets, until their end, or it refuses.
+/// Counts what `split` splits off the octets, until they end or it returns `None`.
 #[inline(always)]
 pub fn count_contents(bytes: &[u8], split: impl Fn(&[u8]) -> Option<(&[u8], &[u8])>) -> Totals {
     let mut totals = Totals::default();
@@ -32,7 +32,7 @@ pub fn count_contents(bytes: &[u8], split: impl Fn(&[u8]) -> Option<(&[u8], &[u8
     totals
 }
 
-/// The octets that are universal tags, as bits.
+/// The octets that are identifiers of universal tags, as bits.
 pub const UNIVERSAL: u64 = {
     const KNOWN: [u8; 22] = [
         0x01, 0x02, 0x03, 0x04, 0x05, 0x06, 0x09, 0x0A, 0x0C, 0x0D, 0x12, 0x13, 0x14, 0x15, 0x16,
@@ -47,7 +47,7 @@ pub const UNIVERSAL: u64 = {
     mask
 };
 
-/// The octets behind the identifier ahead, which has to be one of these below 40.
+/// The octets after the next identifier, which must be one of these bits if it is below 0x40.
 #[inline(always)]
 pub fn skip_identifier(universal: u64, bytes: &[u8]) -> Option<&[u8]> {
     let (&identifier, rest) = bytes.split_first()?;
@@ -83,7 +83,7 @@ pub fn short_len(numbers: &mut Numbers) -> usize {
     1 + numbers.below(18) as usize
 }
 
-/// Appends an element with as many octets of contents as `next_len` tells.
+/// Appends an element with `next_len` octets of contents.
 pub fn push_element(out: &mut Vec<u8>, numbers: &mut Numbers, next_len: fn(&mut Numbers) -> usize) {
     out.push(TAGS[numbers.below(TAGS.len() as u64) as usize]);
     let len = next_len(numbers);

@@ -1,12 +1,12 @@
-//! Keys, and how they are decoded by the proved reader and by hand. A key is a SEQUENCE of an
-//! algorithm and an OCTET STRING, and an algorithm a SEQUENCE of an OCTET STRING and a month.
+//! Keys, and decoding them with the proved reader and by hand. A key is a SEQUENCE of an algorithm
+//! and an OCTET STRING, and an algorithm is a SEQUENCE of an OCTET STRING and a month.
 use crate::common::{Numbers, Totals, push_length, split_contents};
 
 const SEQUENCE: u8 = 0x30;
 const OCTET_STRING: u8 = 0x04;
 
 unsafe extern "C" {
-    // A slice is handed over as a pointer and then a length; the allocator has no octets.
+    // A slice is passed as a pointer and then a length; the allocator has size 0 and is not passed.
     #[link_name = "der_bench_decode"]
     fn library_decode(octets: *const u8, len: usize) -> Totals;
 }
@@ -16,7 +16,7 @@ pub fn proved_decode(bytes: &[u8]) -> Totals {
     unsafe { library_decode(bytes.as_ptr(), bytes.len()) }
 }
 
-/// The keys as one reads them by hand, without a reader: it refuses the same octets.
+/// Reads keys by hand, without a reader. It rejects the same octets.
 #[inline(never)]
 pub fn decode_by_hand(bytes: &[u8]) -> Totals {
     let mut totals = Totals::default();
@@ -34,7 +34,7 @@ pub fn decode_by_hand(bytes: &[u8]) -> Totals {
     totals
 }
 
-/// The algorithm's octets, its month, and the key's octets.
+/// The octets of the algorithm, its month, and the octets of the key.
 #[inline(always)]
 fn split_key(key: &[u8]) -> Option<(&[u8], u8, &[u8])> {
     let (identifier, rest) = split_element(SEQUENCE, key)?;
@@ -49,7 +49,7 @@ fn split_key(key: &[u8]) -> Option<(&[u8], u8, &[u8])> {
     }
 }
 
-/// The contents of the element ahead, which has to have this tag, and the octets behind it.
+/// The contents of the next element, which must have this tag, and the octets after it.
 #[inline(always)]
 fn split_element(tag: u8, bytes: &[u8]) -> Option<(&[u8], &[u8])> {
     let (&identifier, rest) = bytes.split_first()?;
@@ -78,7 +78,7 @@ fn push_key(out: &mut Vec<u8>, numbers: &mut Numbers, len: usize) {
     push_element(out, SEQUENCE, &contents);
 }
 
-/// Keys until the input is as long as wanted; their number stands beside them.
+/// Keys until the input is `wanted` octets long, and their number.
 pub fn keys(bound: u64, wanted: usize) -> (Vec<u8>, u64) {
     let mut numbers = Numbers(0x9E37_79B9_7F4A_7C15);
     let mut out = Vec::with_capacity(wanted + (1 << 12));

@@ -1,5 +1,5 @@
-/* The work of calls.c by mbedTLS's reader, which looks at no tag but where one is asked for, and by its writer, which
- * writes from the end of a buffer on. */
+/* The work of calls.c with the reader of mbedTLS, which checks a tag only where one is requested,
+ * and with its writer, which writes from the end of a buffer backwards. */
 #include <mbedtls/asn1.h>
 #include <mbedtls/asn1write.h>
 #include <stdint.h>

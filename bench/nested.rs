@@ -1,5 +1,5 @@
-//! Walks over certificates and what is inside them, and decodes keys, by the proved reader and by
-//! hand, and tells how long an element and a key take each.
+//! Walks over certificates and the elements inside them, and decodes keys, with the proved reader
+//! and by hand. Prints the time for one element and for one key each.
 #[cfg(beside)]
 #[path = "nested_beside.rs"]
 mod beside;
@@ -20,11 +20,11 @@ use hand::{Element, element_at};
 use keys::{decode_by_hand, keys, proved_decode};
 use rounds::{By, Row, SIZES, tell, way};
 
-/// How many parts stand inside each other at most.
+/// How many levels of nested parts are entered.
 const LEVELS: usize = 64;
 
 unsafe extern "C" {
-    // A slice is handed over as a pointer and then a length.
+    // A slice is passed as a pointer and then a length.
     fn der_bench_nested(octets: *const u8, len: usize) -> Totals;
     fn der_bench_values(octets: *const u8, len: usize) -> Totals;
     fn der_bench_halves(octets: *const u8, len: usize) -> Totals;
@@ -45,7 +45,7 @@ fn halves_proved(bytes: &[u8]) -> Totals {
     unsafe { der_bench_halves(bytes.as_ptr(), bytes.len()) }
 }
 
-/// The same by the reader of mbedTLS, which looks at no tag but those of keys.
+/// The same with the reader of mbedTLS, which checks no tags but those of keys.
 #[cfg(mbedtls)]
 mod mbedtls {
     use crate::Totals;
@@ -73,7 +73,7 @@ pub fn pass(totals: &mut Totals, contents: &[u8]) {
     totals.first_octets = totals.first_octets.wrapping_add(first as u64);
 }
 
-/// By a function that calls itself inside each part.
+/// With a function that calls itself for each nested part.
 #[inline(never)]
 fn walk_by_calls(bytes: &[u8]) -> Totals {
     let mut totals = Totals::default();
@@ -102,7 +102,7 @@ fn walk_part(
     Some(())
 }
 
-/// By one loop that keeps the ends of the parts around.
+/// With one loop that stores the ends of the parts around.
 #[inline(never)]
 fn walk_by_ends(bytes: &[u8]) -> Totals {
     let mut totals = Totals::default();
@@ -183,7 +183,7 @@ fn tell_keys(size: usize, bound: u64) {
     tell(&row, &ways, &mut ());
 }
 
-/// Decodes the keys by index.
+/// Decodes the keys with an index.
 #[inline(never)]
 fn decode_by_index(bytes: &[u8]) -> Totals {
     let mut totals = Totals::default();
@@ -199,7 +199,7 @@ fn decode_by_index(bytes: &[u8]) -> Totals {
     totals
 }
 
-/// The key at this position, its algorithm's octets, its month, and its octets.
+/// The key at position `at`, the octets of its algorithm, its month, and its octets.
 #[inline(always)]
 fn key_at(bytes: &[u8], at: usize) -> Option<(Element, Element, u8, Element)> {
     let key = tagged_at(0x30, bytes, at, bytes.len())?;
@@ -215,7 +215,7 @@ fn key_at(bytes: &[u8], at: usize) -> Option<(Element, Element, u8, Element)> {
     }
 }
 
-/// The element at this position, which has to begin with this octet.
+/// The element at position `at`, which must begin with the octet `tag`.
 #[inline(always)]
 fn tagged_at(tag: u8, bytes: &[u8], at: usize, end: usize) -> Option<Element> {
     if *bytes.get(at)? != tag {

@@ -1,4 +1,4 @@
-//! The walk and the decoding of nested.rs by the crate `der`.
+//! The walk and the decoding of nested.rs with the crate `der`.
 use crate::common::Totals;
 use crate::{LEVELS, pass};
 use der::{Decode, DecodeValue, Error, FixedTag, Header, Length, Reader, SliceReader, Tag};
@@ -12,7 +12,7 @@ pub fn walk(bytes: &[u8]) -> Totals {
     totals
 }
 
-/// Walks up to the end of the part that the reader stands in.
+/// Walks up to the end of the part that the reader is in.
 fn walk_part<'a>(
     reader: &mut SliceReader<'a>,
     levels: usize,

@@ -1,5 +1,5 @@
-//! Compares the OCTET STRINGs of 16 MiB, each with the one ahead, reads them as a SET OF, and sorts
-//! some for one, by the proved library and by hand, and tells how long an element takes.
+//! Compares the OCTET STRINGs of 16 MiB, each with the preceding one, reads them as a SET OF, and
+//! sorts some for one, with the proved library and by hand. Prints the time for one element.
 mod common;
 
 use common::{INPUT_LEN, Numbers, Totals, measure, push_length, split_contents};
@@ -9,7 +9,7 @@ const OCTET_STRING: u8 = 0x04;
 const SET: u8 = 0x31;
 
 unsafe extern "C" {
-    // A slice is handed over as a pointer and then a length; the allocator has no octets.
+    // A slice is passed as a pointer and then a length; the allocator has size 0 and is not passed.
     fn der_bench_orders(octets: *const u8, len: usize) -> Totals;
     fn der_bench_set(octets: *const u8, len: usize) -> Totals;
     fn der_bench_sorted(octets: *const u8, len: usize) -> Totals;
@@ -30,7 +30,7 @@ fn sort_proved(bytes: &[u8]) -> Totals {
     unsafe { der_bench_sorted(bytes.as_ptr(), bytes.len()) }
 }
 
-/// The whole element ahead, which has to have this tag, its contents, and the octets behind it.
+/// The next element, which must have this tag, its contents, and the octets after it.
 #[inline(always)]
 fn split_element(tag: u8, bytes: &[u8]) -> Option<(&[u8], &[u8], &[u8])> {
     let (&identifier, rest) = bytes.split_first()?;
@@ -74,7 +74,7 @@ fn read_by_hand(bytes: &[u8]) -> Totals {
     }
 }
 
-/// The contents of a SET OF OCTET STRING whose elements stand in order.
+/// The contents of a SET OF OCTET STRING whose elements are in order.
 fn ordered_contents(bytes: &[u8]) -> Option<&[u8]> {
     let (_, contents, behind) = split_element(SET, bytes)?;
     let (mut ahead, mut rest): (&[u8], _) = (&[], contents);
@@ -100,7 +100,7 @@ fn sort_by_hand(bytes: &[u8]) -> Totals {
     told(elements.len() as u64, &black_box(set_of(&elements)))
 }
 
-/// A SET of these elements.
+/// The encoding of a SET of these elements.
 fn set_of(elements: &[&[u8]]) -> Vec<u8> {
     let mut out = vec![SET];
     push_length(&mut out, elements.iter().map(|it| it.len()).sum());
@@ -108,8 +108,8 @@ fn set_of(elements: &[&[u8]]) -> Vec<u8> {
     out
 }
 
-/// Elements of up to so many octets of contents until there are so many octets, and how many
-/// elements. Most of as many octets differ in the last one alone.
+/// Elements with at most `bound` octets of contents, `wanted` octets together, and their number.
+/// Most of equal length differ in the last octet alone.
 fn elements(bound: u64, wanted: usize) -> (Vec<u8>, u64) {
     let mut numbers = Numbers(0x9E37_79B9_7F4A_7C15);
     let mut out = Vec::with_capacity(wanted + (1 << 12));

@@ -1,10 +1,10 @@
-//! What is written by hand, by index: a position in all of the octets, and no writer.
+//! Writing by hand with an index: a position in the output, and no writer.
 use crate::common::Totals;
 use crate::written::Wanted;
 use std::hint::black_box;
 
-/// What `write` writes of each of the values at a position, which answers the one behind, or
-/// nothing where there is no room: how many, and the octets of all.
+/// Writes each value with `write`, which takes a position and returns the one after the value, or
+/// `None` if there is too little space. Returns the number of values and of octets.
 #[inline(always)]
 fn put_all<I>(
     values: &[I],
@@ -96,7 +96,7 @@ pub fn put_length(out: &mut [u8], at: usize, length: u32) -> Option<usize> {
     Some(behind)
 }
 
-/// An OCTET STRING of the eight octets of a number.
+/// Writes an OCTET STRING of the eight octets of a number.
 #[inline(always)]
 fn put_element(out: &mut [u8], at: usize, number: u64) -> Option<usize> {
     let at = put_octet(out, at, 0x04)?;
@@ -112,7 +112,7 @@ fn push_element(out: &mut Vec<u8>, number: u64) {
     out.extend_from_slice(&number.to_be_bytes());
 }
 
-/// Counts octets that were made, and the last of them.
+/// Counts octets that were written, and the last of them.
 #[inline(always)]
 pub fn pass(totals: &mut Totals, octets: &[u8]) {
     totals.elements = totals.elements.wrapping_add(1);

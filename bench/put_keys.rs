@@ -1,5 +1,5 @@
-//! What keys.rs of the library's benches writes, by hand, by index. A key is a SEQUENCE of an
-//! algorithm and an OCTET STRING, and an algorithm a SEQUENCE of an OCTET STRING and a month.
+//! Writes by hand, with an index, what keys.rt of der_bench writes. A key is a SEQUENCE of an
+//! algorithm and an OCTET STRING, and an algorithm is a SEQUENCE of an OCTET STRING and a month.
 use crate::common::Totals;
 use crate::put::{pass, put_length, put_octet};
 use crate::written::WantedKey;
@@ -8,7 +8,7 @@ use std::hint::black_box;
 const SEQUENCE: u8 = 0x30;
 const OCTET_STRING: u8 = 0x04;
 
-/// How many octets a length has.
+/// The number of octets of a length.
 #[inline(always)]
 fn length_len(length: usize) -> usize {
     if length < 0x80 {
@@ -25,7 +25,7 @@ pub fn element_len(contents: usize) -> Option<usize> {
     Some(1 + length_len(contents) + contents)
 }
 
-/// The octets of a key, and how many its inner SEQUENCE and itself have.
+/// The octets of a key, and the number of octets of its inner SEQUENCE and of the key itself.
 struct Key<'a> {
     algorithm: &'a [u8],
     month: u8,

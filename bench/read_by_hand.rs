@@ -1,5 +1,5 @@
-//! Certificates (RFC 5280, 4.1) as one reads them by hand, by index, without a reader. What the
-//! library refuses is refused: each tag, length and form, each date, default and order.
+//! Certificates (RFC 5280, 4.1), read by hand with an index, without a reader. It rejects what the
+//! library rejects: each tag, length and form, each date, default and order is checked.
 use crate::hand::{element_at, long_length_at};
 
 pub const BOOLEAN: u8 = 0x01;
@@ -28,7 +28,7 @@ pub struct PublicKey<'a> {
     pub key: &'a [u8],
 }
 
-/// A date with a time of the day, and whether it stands as a UTCTime.
+/// A date and time, and whether it is encoded as a UTCTime.
 pub struct Time {
     pub is_utc: bool,
     pub year: u16,
@@ -39,8 +39,8 @@ pub struct Time {
     pub second: u8,
 }
 
-/// A certificate, lent by the octets that it is read from. Names and extensions are contents, of
-/// which each element was looked at.
+/// A certificate that borrows from the octets it is read from. Names and extensions are contents
+/// whose elements were all checked.
 pub struct Certificate<'a> {
     pub version: u8,
     pub serial_number: &'a [u8],
@@ -57,7 +57,7 @@ pub struct Certificate<'a> {
     pub signature: &'a [u8],
 }
 
-/// Octets, of which those from a position on are left.
+/// Octets, of which those from position `at` on are left.
 pub struct Left<'a> {
     pub bytes: &'a [u8],
     pub at: usize,
@@ -79,7 +79,7 @@ impl<'a> Left<'a> {
         self.bytes.get(self.at) == Some(&first)
     }
 
-    /// The contents of the element ahead, which has to have this first octet.
+    /// The contents of the next element, which must begin with the octet `first`.
     #[inline(always)]
     fn contents(&mut self, first: u8) -> Option<&'a [u8]> {
         if !self.begins(first) {
@@ -95,19 +95,19 @@ impl<'a> Left<'a> {
         self.bytes.get(start..start + len)
     }
 
-    /// The same as octets that are left.
+    /// The same, as octets that are left.
     #[inline(always)]
     fn part(&mut self, first: u8) -> Option<Left<'a>> {
         self.contents(first).map(Left::of)
     }
 
-    /// The same where the form of the contents is as it has to be.
+    /// The same, if `is_formed` accepts the contents.
     #[inline(always)]
     fn formed(&mut self, first: u8, is_formed: fn(&[u8]) -> bool) -> Option<&'a [u8]> {
         self.contents(first).filter(|it| is_formed(it))
     }
 
-    /// The same where such an element is ahead.
+    /// The same, or `Some(None)` if the next element begins with another octet.
     #[inline(always)]
     fn perhaps(&mut self, first: u8, is_formed: fn(&[u8]) -> bool) -> Option<Option<&'a [u8]>> {
         if !self.begins(first) {
@@ -116,7 +116,7 @@ impl<'a> Left<'a> {
         self.formed(first, is_formed).map(Some)
     }
 
-    /// The first octet and the contents of the element ahead, of any tag.
+    /// The first octet and the contents of the next element, of any tag.
     #[inline(always)]
     fn any(&mut self) -> Option<(u8, &'a [u8])> {
         let element = element_at(self.bytes, self.at, self.bytes.len())?;
@@ -124,14 +124,14 @@ impl<'a> Left<'a> {
         Some((element.first, &self.bytes[element.start..element.end]))
     }
 
-    /// The value, where nothing is left.
+    /// The value, if no octets are left.
     #[inline(always)]
     fn whole<T>(&self, value: T) -> Option<T> {
         self.is_empty().then_some(value)
     }
 }
 
-/// The certificate ahead.
+/// The next certificate.
 #[inline(never)]
 pub fn certificate<'a>(left: &mut Left<'a>) -> Option<Certificate<'a>> {
     let mut outer = left.part(SEQUENCE)?;
@@ -167,7 +167,7 @@ pub fn certificate<'a>(left: &mut Left<'a>) -> Option<Certificate<'a>> {
     })
 }
 
-/// 1 for version 2, and 2 for version 3; version 1 is not written.
+/// The version: 1 for version 2, and 2 for version 3; version 1 is not written.
 #[inline(always)]
 fn version(left: &mut Left<'_>) -> Option<u8> {
     if !left.begins(VERSION) {
@@ -192,7 +192,7 @@ fn algorithm<'a>(left: &mut Left<'a>) -> Option<Algorithm<'a>> {
     part.whole(Algorithm { oid, parameters })
 }
 
-/// The public key ahead.
+/// The next public key.
 #[inline(always)]
 pub fn public_key<'a>(left: &mut Left<'a>) -> Option<PublicKey<'a>> {
     let mut part = left.part(SEQUENCE)?;
@@ -230,7 +230,7 @@ fn attribute(left: &mut Left<'_>) -> Option<()> {
     part.whole(())
 }
 
-/// The contents of the extensions, where there are any.
+/// The contents of the extensions, if there are any.
 #[inline(always)]
 fn extensions<'a>(left: &mut Left<'a>) -> Option<Option<&'a [u8]>> {
     if !left.begins(EXTENSIONS) {
@@ -249,7 +249,7 @@ fn extensions<'a>(left: &mut Left<'a>) -> Option<Option<&'a [u8]>> {
     part.whole(Some(contents))
 }
 
-/// That a BOOLEAN is true; false is the default, which is not written.
+/// Whether a BOOLEAN is true; false is the default, which is not written.
 #[inline(always)]
 fn is_true(octets: &[u8]) -> bool {
     octets == [0xFF]
@@ -300,7 +300,7 @@ fn time(left: &mut Left<'_>) -> Option<Time> {
     time_of(false, year, &octets[4..])
 }
 
-/// The time in this year of which these are the octets from the month on.
+/// The time in this year, from the octets that begin with the month.
 #[inline(always)]
 fn time_of(is_utc: bool, year: u16, octets: &[u8]) -> Option<Time> {
     let time = Time {
@@ -321,7 +321,7 @@ fn time_of(is_utc: bool, year: u16, octets: &[u8]) -> Option<Time> {
     is_time.then_some(time)
 }
 
-/// The number of two digits.
+/// The number of two decimal digits.
 #[inline(always)]
 fn digits(octets: &[u8], at: usize) -> Option<u16> {
     let (tens, ones) = (

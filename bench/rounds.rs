@@ -1,23 +1,23 @@
-//! Ways to do the same work, measured in turn over inputs that grow.
+//! Several ways to do the same work, measured in alternation over inputs of growing size.
 use crate::common::Totals;
 use std::hint::black_box;
 use std::time::{Duration, Instant};
 
-// So many octets ahead of all code, by which it lies elsewhere.
+// Octets before all code, so that each placement puts the code at other addresses.
 std::arch::global_asm!(concat!(
     ".section .text.placement,\"axR\",@progbits\n.skip ",
     env!("PLACEMENT"),
     "\n.text"
 ));
 
-/// How many octets an input has.
+/// The sizes of inputs in octets.
 pub const SIZES: [usize; 3] = [16 << 10, 1 << 20, 16 << 20];
-/// How many rounds a row has at least.
+/// The minimum number of rounds of a row.
 const ROUNDS: usize = 7;
-/// How long they go on at least, as others may use the machine for a while.
+/// The minimum duration of these rounds, as other processes may use the machine for a while.
 const WHILE: Duration = Duration::from_secs(1);
 
-/// Who does the work of a way.
+/// What does the work of a way.
 #[derive(Clone, Copy, PartialEq, Eq)]
 pub enum By {
     Library,
@@ -29,7 +29,8 @@ pub enum By {
     Mbedtls,
 }
 
-/// A way to do the work; `S` is what it works on beside its input, as octets to write to.
+/// A way to do the work; `S` is what it works on in addition to its input, such as octets to write
+/// to.
 pub struct Way<'a, S> {
     by: By,
     run: Box<dyn Fn(&mut S) -> Totals + 'a>,
@@ -42,19 +43,19 @@ pub fn way<'a, S>(by: By, run: impl Fn(&mut S) -> Totals + 'a) -> Way<'a, S> {
     }
 }
 
-/// A row of a table: what it is called, and how much there is of it.
+/// A row of a table: its name and its size.
 pub struct Row {
     pub name: String,
-    /// About how many octets are read or written.
+    /// The approximate number of octets that are read or written.
     pub size: usize,
-    /// How many they are.
+    /// The exact number of octets.
     pub octets: usize,
-    /// How many elements, or whatever times are told for.
+    /// The number of elements, or of whatever the times are given for.
     pub count: u64,
 }
 
-/// Measures the ways, of which all have to tell and to write the same, and tells their times and
-/// ratios. Of several ways by hand the fastest counts.
+/// Measures the ways, which must all return and write the same, and prints their times and ratios.
+/// Of several ways by hand the fastest counts.
 pub fn tell<S: Clone + PartialEq>(row: &Row, ways: &[Way<'_, S>], scratch: &mut S) {
     let clean = scratch.clone();
     let told = (ways[0].run)(scratch);
@@ -81,8 +82,8 @@ pub fn tell<S: Clone + PartialEq>(row: &Row, ways: &[Way<'_, S>], scratch: &mut 
     println!();
 }
 
-/// The least times by the library, by hand, by the crate and by mbedTLS, in nanoseconds; without a
-/// way they are infinite. The rounds alternate, so that all see the same machine.
+/// The minimum times of the library, by hand, of the crate and of mbedTLS, in nanoseconds, infinite
+/// without such a way. The rounds alternate, so that all see the same machine.
 fn least_times<S>(row: &Row, ways: &[Way<'_, S>], scratch: &mut S) -> [f64; 4] {
     let mut least = [f64::INFINITY; 4];
     let begun = Instant::now();

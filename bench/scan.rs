@@ -1,5 +1,5 @@
-//! Reads 16 MiB of messages in indefinite lengths by the proved reader and by hand, and walks over
-//! their items alone; tells how long an item takes each.
+//! Reads 16 MiB of messages with indefinite lengths with the proved reader and by hand, and walks
+//! over their items alone. Prints the time for one item each.
 mod common;
 mod elements;
 
@@ -8,7 +8,7 @@ use elements::{UNIVERSAL, count_contents, proved_walk, push_element, short_len, 
 
 const INDEFINITE: u8 = 0x80;
 const MAX_LEVEL: usize = 64;
-// How many levels are open, and how many items a message has, as many on each level.
+// How many levels of a message are open, and how many items it has, equally many on each level.
 const MESSAGES: [(usize, usize); 6] = [
     (1, 256),
     (4, 256),
@@ -17,11 +17,11 @@ const MESSAGES: [(usize, usize); 6] = [
     (1, 1 << 14),
     (1, 1 << 20),
 ];
-// Octet 24 is an identifier too.
+// Under BER, 0x24 is an identifier too.
 const BER_IDENTIFIERS: u64 = UNIVERSAL | 1 << 0x24;
 
 unsafe extern "C" {
-    // A slice is handed over as a pointer and then a length.
+    // A slice is passed as a pointer and then a length.
     #[link_name = "der_bench_scan"]
     fn library_scan(octets: *const u8, len: usize) -> Totals;
     #[link_name = "der_bench_scan_by_octets"]
@@ -38,13 +38,13 @@ fn scan_by_octets(bytes: &[u8]) -> Totals {
     unsafe { library_scan_by_octets(bytes.as_ptr(), bytes.len()) }
 }
 
-/// The messages as one reads them by hand, without a reader: it refuses the same octets.
+/// Reads the messages by hand, without a reader. It rejects the same octets.
 #[inline(never)]
 fn scan_by_hand(bytes: &[u8]) -> Totals {
     count_contents(bytes, split_message)
 }
 
-/// The contents of the message ahead, with their end mark if they have one, and the octets behind.
+/// The contents of the next message, with any end-of-contents octets, and the octets after it.
 #[inline(always)]
 fn split_message(bytes: &[u8]) -> Option<(&[u8], &[u8])> {
     let rest = skip_identifier(BER_IDENTIFIERS, bytes)?;
@@ -58,7 +58,7 @@ fn is_constructed(identifier: u8) -> bool {
     identifier & 0x20 != 0
 }
 
-/// How many octets the body ahead has, with the end mark that closes it.
+/// The number of octets of indefinite-length contents, end-of-contents octets included.
 #[inline(never)]
 fn body_len(bytes: &[u8]) -> Option<usize> {
     let mut level = 1;
@@ -91,14 +91,14 @@ fn body_len(bytes: &[u8]) -> Option<usize> {
     }
 }
 
-/// Messages until the input is as long as wanted, and their items alone.
+/// Messages until the input is as long as requested, and their items alone.
 struct Input {
     messages: Vec<u8>,
     message_count: u64,
     items: Vec<u8>,
 }
 
-/// Messages of so many items, with so many levels open in them.
+/// Messages of `items` items, with `levels` levels open in them.
 fn input(levels: usize, items: usize) -> Input {
     let mut numbers = Numbers(0x9E37_79B9_7F4A_7C15);
     let mut input = Input {

@@ -1,5 +1,5 @@
-//! Decodes 16 MiB of OCTET STRINGs and UTF8Strings by the proved reader and by hand, and tells how
-//! long one takes each: borrowed, copied as a text, and joined of segments, flat and inside each other.
+//! Decodes 16 MiB of OCTET STRINGs and UTF8Strings with the proved reader and by hand: borrowed,
+//! copied as text, and joined from segments, flat and nested. Prints the time for one string each.
 mod common;
 
 use common::{INPUT_LEN, Numbers, Totals, measure, push_length, split_contents};
@@ -11,7 +11,7 @@ const SEGMENTS: [u8; 2] = [0x24, 0x80];
 const END_MARK: [u8; 2] = [0x00, 0x00];
 
 unsafe extern "C" {
-    // A slice is handed over as a pointer and then a length; the allocator has no octets.
+    // A slice is passed as a pointer and then a length; the allocator has size 0 and is not passed.
     fn der_bench_borrowed(octets: *const u8, len: usize) -> Totals;
     fn der_bench_texts(octets: *const u8, len: usize) -> Totals;
     fn der_bench_joined(octets: *const u8, len: usize) -> Totals;
@@ -40,7 +40,7 @@ fn count(totals: &mut Totals, contents: &[u8]) {
     totals.first_octets = totals.first_octets.wrapping_add(first as u64);
 }
 
-/// The contents of the element ahead, which has to have this tag, and the octets behind it.
+/// The contents of the next element, which must have this tag, and the octets after it.
 #[inline(always)]
 fn split_element(tag: u8, bytes: &[u8]) -> Option<(&[u8], &[u8])> {
     let (&identifier, rest) = bytes.split_first()?;
@@ -89,7 +89,7 @@ fn join_by_hand(bytes: &[u8]) -> Totals {
     totals
 }
 
-/// What the segments up to the end mark are joined to, and the octets behind the mark.
+/// The joined segments up to the end-of-contents octets, and the octets after those.
 #[inline(always)]
 fn join_segments(bytes: &[u8]) -> Option<(Vec<u8>, &[u8])> {
     let mut joined = Vec::new();
@@ -119,8 +119,8 @@ fn join_levels_by_hand(bytes: &[u8]) -> Totals {
     totals
 }
 
-/// Appends what the segments up to the end mark are joined to, those inside each other too, and
-/// gives the octets behind the mark. No octet is looked at twice.
+/// Appends the segments up to the end-of-contents octets, nested ones too, and returns the octets
+/// after those. No octet is read twice.
 fn append_segments<'a>(bytes: &'a [u8], joined: &mut Vec<u8>) -> Option<&'a [u8]> {
     let mut rest = bytes;
     loop {
@@ -143,7 +143,7 @@ fn push_element(out: &mut Vec<u8>, numbers: &mut Numbers, tag: u8, len: usize) {
     out.extend((0..len).map(|_| b'a' + numbers.below(26) as u8));
 }
 
-/// Elements until the input is as long as wanted; their number stands beside them.
+/// Elements until the input is as long as requested, and their number.
 fn elements(tag: u8, bound: u64) -> (Vec<u8>, u64) {
     let mut numbers = Numbers(0x9E37_79B9_7F4A_7C15);
     let mut out = Vec::with_capacity(INPUT_LEN + (1 << 12));
@@ -156,7 +156,7 @@ fn elements(tag: u8, bound: u64) -> (Vec<u8>, u64) {
     (out, count)
 }
 
-/// Strings of so many segments each, likewise, which stand inside so many levels.
+/// The same for strings of `segments` segments each, nested in `levels` levels.
 fn segmented(levels: usize, segments: usize, bound: u64) -> (Vec<u8>, u64) {
     let mut numbers = Numbers(0x9E37_79B9_7F4A_7C15);
     let mut out = Vec::with_capacity(INPUT_LEN + (1 << 16));

@@ -1,5 +1,5 @@
-//! Walks over elements by the proved reader and by hand, with their tags left alone, summed and
-//! counted, and tells how long an element takes each.
+//! Walks over elements with the proved reader and by hand, with their tags unused, summed and
+//! counted. Prints the time for one element each.
 #[cfg(beside)]
 #[path = "tags_beside.rs"]
 mod beside;
@@ -19,7 +19,7 @@ use hand::{Element, element_at};
 use rounds::{By, Row, SIZES, tell, way};
 
 unsafe extern "C" {
-    // A slice is handed over as a pointer and then a length.
+    // A slice is passed as a pointer and then a length.
     fn der_bench_numbers(octets: *const u8, len: usize) -> Totals;
     fn der_bench_counts(octets: *const u8, len: usize) -> Totals;
 }
@@ -34,7 +34,7 @@ fn count_proved(bytes: &[u8]) -> Totals {
     unsafe { der_bench_counts(bytes.as_ptr(), bytes.len()) }
 }
 
-/// Walks by index; what stands for the first octet of an element is what `read` tells.
+/// Walks with an index; `read` returns what is summed in place of first octets.
 #[inline(always)]
 fn walk(bytes: &[u8], mut read: impl FnMut(&Element) -> u64) -> Totals {
     let mut totals = Totals::default();
@@ -81,14 +81,15 @@ fn count_by_hand(bytes: &[u8]) -> Totals {
     }
 }
 
-/// A number that each of the counts changes, by its place.
+/// A number that depends on each count and its index.
 fn mixed(counts: &[u64; 256]) -> u64 {
     counts.iter().fold(0, |sum: u64, count| {
         sum.wrapping_mul(31).wrapping_add(*count)
     })
 }
 
-/// Elements of 1 to 18 octets of contents with these tags in turn, until there are so many octets.
+/// Elements of 1 to 18 octets of contents with the tags of `next_tag`, `wanted` octets together,
+/// and their number.
 fn elements(mut next_tag: impl FnMut(&mut Numbers) -> u8, wanted: usize) -> (Vec<u8>, u64) {
     let mut numbers = Numbers(0x9E37_79B9_7F4A_7C15);
     let mut out = Vec::with_capacity(wanted + (1 << 7));

@@ -1,10 +1,10 @@
-//! The walks of tags.rs by the crate `der`.
+//! The walks of tags.rs with the crate `der`.
 use crate::common::Totals;
 use crate::mixed;
 use der::{Decode, Header, Reader, SliceReader};
 
-/// Walks until the end of the octets, or an error; what stands for the first octet of an element is
-/// what `read` tells.
+/// Walks until the octets end or there is an error; `read` returns what is summed in place of first
+/// octets.
 #[inline(always)]
 fn pass(bytes: &[u8], read: impl FnMut(&Header, &[u8]) -> u64) -> Totals {
     let mut totals = Totals::default();

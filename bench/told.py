@@ -1,4 +1,4 @@
-"""The lines that the drivers of rounds.rs tell, one for each row."""
+"""The lines that the drivers with rounds.rs print, one per row."""
 import re
 
 LINE = re.compile(

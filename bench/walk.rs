@@ -1,30 +1,30 @@
-//! Walks over 16 MiB of elements by the proved reader and by hand, and tells how long an element
-//! takes each.
+//! Walks over 16 MiB of elements with the proved reader and by hand. Prints the time for one
+//! element each.
 mod common;
 mod elements;
 
 use common::{INPUT_LEN, Numbers, Totals, measure, split_contents};
 use elements::{UNIVERSAL, count_contents, proved_walk, push_element, short_len, skip_identifier};
 
-/// The walk as one writes it by hand, without a reader: it refuses the same elements.
+/// Walks by hand, without a reader. It rejects the same elements.
 #[inline(never)]
 fn walk_by_hand(bytes: &[u8]) -> Totals {
     count_contents(bytes, split_element)
 }
 
-/// The contents of the element ahead, and the octets behind it.
+/// The contents of the next element, and the octets after it.
 #[inline(always)]
 fn split_element(bytes: &[u8]) -> Option<(&[u8], &[u8])> {
     split_contents(skip_identifier(UNIVERSAL, bytes)?)
 }
 
-/// From 1 to 65536 octets of contents, of every size from few to many.
+/// From 1 to 65536 octets of contents, of all magnitudes.
 fn any_len(numbers: &mut Numbers) -> usize {
     let bound = 1 << numbers.below(17);
     1 + numbers.below(bound) as usize
 }
 
-/// Elements until the input is as long as wanted; their number stands beside them.
+/// Elements until the input is as long as requested, and their number.
 fn elements(next_len: fn(&mut Numbers) -> usize) -> (Vec<u8>, u64) {
     let mut numbers = Numbers(0x9E37_79B9_7F4A_7C15);
     let mut out = Vec::with_capacity(INPUT_LEN + (1 << 17));

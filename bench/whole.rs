@@ -1,5 +1,5 @@
-//! Counts the octets of keys and writes keys, each a whole value, by the proved library and by
-//! hand, and tells how long one takes each.
+//! Computes the lengths of keys and writes keys, each as a whole value, with the proved library and
+//! by hand. Prints the time for one key each.
 #[cfg(beside)]
 #[path = "whole_beside.rs"]
 mod beside;
@@ -16,14 +16,14 @@ use common::{Numbers, Totals};
 use rounds::{By, Row, SIZES, tell, way};
 use written::WantedKey;
 
-/// A way to make something of keys, and one to write them to octets.
+/// A way to compute something from keys, and a way to write them.
 type Making = fn(&[WantedKey], &[u8]) -> Totals;
 type Putting = fn(&[WantedKey], &[u8], &mut [u8]) -> Totals;
 
-/// How many octets are lent: those of a key at most.
+/// The number of octets that keys borrow from: the most that one key needs.
 const LENT: usize = 512;
 
-/// Keys with as many octets as this bound allows, until they have about so many together.
+/// Keys whose sizes are below `bound`, about `size` octets together.
 fn wanted_keys(bound: u64, size: usize) -> Vec<WantedKey> {
     let mut numbers = Numbers(0x9E37_79B9_7F4A_7C15);
     let mut wanted = Vec::new();
@@ -40,7 +40,7 @@ fn wanted_keys(bound: u64, size: usize) -> Vec<WantedKey> {
     wanted
 }
 
-/// A row of what is made of keys, by the library, by hand and by the crate.
+/// A row of what is computed from keys, by the library, by hand and by the crate.
 macro_rules! making {
     ($name:literal, $library:ident, $hand:ident, $bound:expr, $size:expr, $lent:expr) => {{
         let wanted = wanted_keys($bound, $size);

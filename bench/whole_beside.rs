@@ -1,4 +1,4 @@
-//! What whole.rs writes, by the crate `der`.
+//! The work of whole.rs with the crate `der`.
 use crate::common::Totals;
 use crate::put::pass;
 use crate::written::WantedKey;

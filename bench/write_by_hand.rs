@@ -1,5 +1,5 @@
-//! Certificates and public keys (RFC 5280, 4.1) as one writes them by hand, by index: all lengths are
-//! counted first, and then each element is put at its place.
+//! Certificates and public keys (RFC 5280, 4.1), written by hand with an index: all lengths are
+//! computed first, and then each element is written at its position.
 use crate::put::put_octet;
 use crate::put_keys::{element_len, put_header};
 use crate::read_by_hand::{
@@ -7,7 +7,7 @@ use crate::read_by_hand::{
     OBJECT_IDENTIFIER, PublicKey, SEQUENCE, SUBJECT_ID, Time, UTC_TIME, VERSION,
 };
 
-/// How many octets of contents the SEQUENCEs of a certificate have.
+/// The number of octets of contents of each SEQUENCE of a certificate.
 struct Lengths {
     signed_by: usize,
     validity: usize,
@@ -18,7 +18,7 @@ struct Lengths {
     outer: usize,
 }
 
-/// The same of a public key.
+/// The same for a public key.
 struct KeyLengths {
     algorithm: usize,
     all: usize,

@@ -1,5 +1,5 @@
-//! Writes headers, OCTET STRINGs of eight octets and SEQUENCEs of four of these by the proved
-//! library and by hand, and tells how long one takes each.
+//! Writes headers, OCTET STRINGs of eight octets and SEQUENCEs of four of these, with the proved
+//! library and by hand. Prints the time for one each.
 #[cfg(beside)]
 #[path = "writing_beside.rs"]
 mod beside;
@@ -20,12 +20,12 @@ use common::{Numbers, Totals};
 use rounds::{By, Row, SIZES, Way, tell, way};
 use written::Wanted;
 
-/// The ways to write octets out of an input.
+/// A way to write an input to octets.
 type Putting<I> = fn(&[I], &mut [u8]) -> Totals;
-/// The ways to write octets that are looked at and given up.
+/// A way to write octets that are inspected and dropped.
 type Making = fn(&[u64]) -> Totals;
 
-/// One row: what is written, and how it is by the library, by hand and by the crate.
+/// One row: its name, and the ways of the library, by hand and of the crate.
 struct Ways<F> {
     name: &'static str,
     library: F,
@@ -33,7 +33,7 @@ struct Ways<F> {
     by_crate: Option<F>,
 }
 
-/// How many octets the ways by hand write of this input, at most so many.
+/// The number of octets that a way writes for this input, at most `most`.
 fn octets_of<I>(put: Putting<I>, input: &[I], most: usize) -> usize {
     put(input, &mut vec![0; most]).contents as usize
 }
@@ -68,7 +68,7 @@ fn all_of<'a, F: Copy, S>(ways: &Ways<F>, run: impl Fn(By, F) -> Way<'a, S>) -> 
     all
 }
 
-/// The way of the crate, where the driver is built beside it.
+/// The way of the crate, if the driver is built with it.
 macro_rules! beside {
     ($name:ident) => {{
         #[cfg(beside)]

@@ -1,4 +1,4 @@
-//! What writing.rs writes, by the crate `der`.
+//! The work of writing.rs with the crate `der`.
 use crate::common::Totals;
 use crate::put::pass;
 use crate::written::Wanted;
@@ -23,8 +23,8 @@ impl EncodeValue for Eight {
     }
 }
 
-/// What `write` writes of each of the values by one writer, until an error: how many, and the
-/// octets of all.
+/// Writes each value with `write` and one writer, until an error. Returns the number of values and
+/// of octets.
 #[inline(always)]
 fn put_all<I>(
     values: &[I],

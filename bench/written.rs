@@ -1,7 +1,7 @@
-//! What the proved library writes.
+//! What the proved library is asked to write, and the functions that call it.
 use crate::common::Totals;
 
-/// A header that is wanted, as the library lays it out.
+/// A header to write, with the layout of the library.
 #[repr(C)]
 #[derive(Clone, Copy)]
 pub struct Wanted {
@@ -12,7 +12,7 @@ pub struct Wanted {
 }
 
 impl Wanted {
-    /// The header with this first octet, whose tag is short, and so many octets of contents.
+    /// The header with this first octet, which is a whole identifier, and `len` octets of contents.
     pub fn new(first: u8, len: usize) -> Wanted {
         Wanted {
             number: (first & 0x1F) as u32,
@@ -23,8 +23,8 @@ impl Wanted {
     }
 }
 
-/// A key that is wanted, of octets that are lent: how many of them its algorithm has and itself,
-/// and its month.
+/// A key to write, whose fields borrow the first octets of a common slice: how many its algorithm
+/// and the key itself have, and its month.
 #[repr(C)]
 #[derive(Clone, Copy)]
 pub struct WantedKey {
@@ -36,7 +36,7 @@ pub struct WantedKey {
 mod library {
     use super::{Totals, Wanted, WantedKey};
 
-    // Slices are handed over as pointers and then lengths; the allocator has no octets.
+    // Slices are passed as pointers and then lengths; the allocator has size 0 and is not passed.
     unsafe extern "C" {
         pub fn der_bench_put_headers(_: *const Wanted, _: usize, _: *mut u8, _: usize) -> Totals;
         pub fn der_bench_put_known(_: *const u32, _: usize, _: *mut u8, _: usize) -> Totals;
@@ -75,7 +75,7 @@ mod library {
     }
 }
 
-/// A function that hands these slices to the library.
+/// A function that passes these slices to the library.
 macro_rules! handed {
     ($name:ident, $library:ident, $input:ty) => {
         pub fn $name(input: &[$input], out: &mut [u8]) -> Totals {
@@ -93,7 +93,7 @@ macro_rules! handed {
     };
 }
 
-/// The same of keys, and of the octets that are lent to them.
+/// The same for keys, and for the octets that they borrow from.
 macro_rules! keys {
     ($name:ident, $library:ident) => {
         pub fn $name(wanted: &[WantedKey], lent: &[u8]) -> Totals {

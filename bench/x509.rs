@@ -1,7 +1,7 @@
-//! Reads and writes certificates by the proved library, by hand, by OpenSSL and by mbedTLS, and tells
-//! how long one takes each. First each certificate is read with each octet in turn changed to each
-//! other value, by the library and by hand, which have to refuse the same. Those behind `--` are read
-//! so alone.
+//! Reads and writes certificates with the proved library, by hand, with OpenSSL and with mbedTLS,
+//! and prints the time for one each. First each certificate is read with each octet in turn changed
+//! to each other value, by the library and by hand, which must reject the same. Files after `--`
+//! are used for that alone.
 #[allow(dead_code, reason = "other drivers use the rest")]
 mod common;
 #[allow(dead_code, reason = "as above")]
@@ -26,17 +26,18 @@ use rounds::SIZES;
 use std::hint::black_box;
 use std::time::{Duration, Instant};
 
-/// How long the rounds of a row go on at least, and how many there are.
+/// The minimum duration of the rounds of a row, and their minimum number.
 const WHILE: Duration = Duration::from_secs(1);
 const ROUNDS: usize = 7;
-/// How often a row of writing writes.
+/// How many times a row of writing writes.
 const TIMES: u64 = 1000;
 
-/// A way to do the work; all tell how many were read or written, and those of one row that tell more
-/// tell the same.
+/// A way to do the work. All ways return how many were read or written; those of one row that
+/// return more must agree.
 type Way<'a> = (&'static str, Box<dyn Fn() -> Totals + 'a>);
 
-/// Sees that library and hand refuse the same where an octet is changed, and where it is cut.
+/// Checks that the library and the code by hand reject the same if an octet is changed, and if the
+/// file is truncated.
 fn agree(name: &str, file: &[u8]) {
     let same = |octets: &[u8], at: usize| {
         let (library, hand) = (ways::read(octets), ways::read_by_hand(octets));
@@ -54,8 +55,8 @@ fn agree(name: &str, file: &[u8]) {
     same(file, file.len());
 }
 
-/// The least time of each way, in nanoseconds a thing of which there are `count`; the rounds
-/// alternate, so that all see the same machine.
+/// Prints the minimum time of each way, in nanoseconds for each of `count` things. The rounds
+/// alternate between the ways, so that all see the same machine.
 fn tell(name: &str, size: usize, count: u64, ways: &[Way<'_>]) {
     let wanted = (ways[0].1)();
     assert_eq!(wanted.elements, count, "{name}");

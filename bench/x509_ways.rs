@@ -1,4 +1,4 @@
-//! What x509.rs does, in several ways.
+//! The work of x509.rs, in several ways.
 use crate::common::Totals;
 use crate::put::pass;
 use crate::read_by_hand::{Certificate, Left, PublicKey, certificate, public_key};
@@ -8,7 +8,7 @@ use std::hint::black_box;
 mod other {
     use super::Totals;
 
-    // Slices are handed over as pointers and then lengths; the allocator has no octets.
+    // Slices are passed as pointers and then lengths; the allocator has size 0 and is not passed.
     unsafe extern "C" {
         pub fn der_bench_certificates(_: *const u8, _: usize) -> Totals;
         pub fn der_bench_certificate_to_slice(
@@ -57,7 +57,7 @@ pub fn read_by_hand(bytes: &[u8]) -> Totals {
     totals
 }
 
-/// Ways that tell how many there are, and no more.
+/// Ways that return the number of elements alone.
 macro_rules! counting {
     ($name:ident, $other:ident $(, $times:ident)?) => {
         pub fn $name(bytes: &[u8] $(, $times: u64)?) -> Totals {
@@ -77,7 +77,7 @@ counting!(read_by_mbedtls, mbedtls_certificates);
 counting!(walked, walked_certificates);
 counting!(written_by_openssl, openssl_written, times);
 
-/// The ways of the library to write what it reads of the octets.
+/// The ways of the library to write what it read from the octets.
 macro_rules! writing {
     ($to_slice:ident, $slice:ident, $to_der:ident, $der:ident) => {
         pub fn $to_slice(bytes: &[u8], times: u64, out: &mut [u8]) -> Totals {
@@ -161,7 +161,7 @@ writing_by_hand!(
     public_key_to_der
 );
 
-/// The octets of a certificate's public key.
+/// The octets of the public key of a certificate.
 pub fn public_key_of(bytes: &[u8]) -> Vec<u8> {
     let one = certificate(&mut Left::of(bytes)).expect("a certificate");
     write_by_hand::public_key_to_der(&one.public_key).expect("a key of few octets")

@@ -1,5 +1,5 @@
-//! Tests of `der_asn1`, made from outside as a user makes them: forms of contents, fields, tags,
-//! lists and times.
+//! Tests of `der_asn1`, from outside the library like a user's code: forms of contents, fields,
+//! tags, lists and times.
 
 mod alphabets;
 mod arcs;

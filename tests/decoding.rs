@@ -1,4 +1,4 @@
-//! Tests of decoding by traits, made from outside as a user makes them.
+//! Tests of decoding by traits, from outside the library like a user's code.
 
 mod basic;
 mod distinguished;

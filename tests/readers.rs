@@ -1,5 +1,5 @@
-//! Tests of readers, and of the tags, lengths and headers that are read by them, made from outside
-//! as a user makes them.
+//! Tests of readers, and of the tags, lengths and headers that they read, from outside the library
+//! like a user's code.
 
 mod basic;
 mod distinguished;

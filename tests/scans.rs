@@ -1,4 +1,4 @@
-//! Tests of bodies of indefinite lengths, made from outside as a user makes them.
+//! Tests of indefinite-length contents, from outside the library like a user's code.
 
 mod bodies;
 mod readers;

@@ -1,5 +1,4 @@
-//! Tests of byte strings, texts and segments that are joined, made from outside as a user makes
-//! them.
+//! Tests of byte strings, texts and joined segments, from outside the library like a user's code.
 
 mod elements;
 mod readers;

@@ -1,5 +1,5 @@
-//! Tests of the values of `der_base` and of their printed texts, which no clause compares with
-//! outside examples.
+//! Tests of the values of `der_base` and of their printed texts against outside examples, which no
+//! clause does.
 
 mod class;
 mod error;

@@ -1,4 +1,4 @@
-//! Tests of writing and of orders by encodings, made from outside as a user makes them.
+//! Tests of writing and of orders by encodings, from outside the library like a user's code.
 
 mod orders;
 mod writing;

@@ -1,4 +1,5 @@
-/* Answers as the program der_tool does, by the library: cases head|tlv [--ber] HEX, or order HEX HEX. */
+/* Prints what the program der_tool prints, using the C library:
+ * cases head|tlv [--ber] HEX, or order HEX HEX. */
 #include <der.h>
 #include <stdio.h>
 #include <stdlib.h>
@@ -31,7 +32,7 @@ static int refuse(der_error error)
 
 static void print_tag(der_tag tag)
 {
-    /* the text of a tag stands at the end of that of an error */
+    /* the text of this error ends with the text of the tag */
     static const char front[] = "unexpected ASN.1 DER tag: got ";
     char text[160];
     der_error error = {DER_TAG_UNEXPECTED, false, 0, (uint8_t)(tag % 256), 0, 0, (uint32_t)(tag / 256)};
@@ -51,7 +52,7 @@ static int head(const uint8_t *octets, size_t count, bool ber)
     print_tag(header.tag);
     printf("constructed: %s\nlength: %u%s\nrest: ", header.constructed ? "yes" : "no", header.length,
            header.indefinite ? " indefinite" : "");
-    /* what is left is told by what der_finish counts */
+    /* der_finish returns how many octets are left */
     error = der_finish(&reader);
     print_hex(octets + count - error.second, error.second);
     return 0;

@@ -1,26 +1,29 @@
 /* der.h: a proved reader and writer of DER (ITU-T X.690), and a reader of BER.
  *
- * No call allocates, blocks, calls back or keeps what it is given but where it says so. A reader, a writer
- * and an element are small values of the caller's: copy them, keep them on the stack, throw them away.
+ * No function allocates, blocks or calls back. A function keeps a pointer only where its comment
+ * says so. Readers, writers and elements are small values that the caller owns: copy them, keep
+ * them on the stack, discard them.
  *
- * Errors. A call that can be refused returns a |der_error| by value, whose |kind| is |DER_OK| where nothing
- * went wrong. What a refused call leaves is said at each call; an out-parameter that is not named there is
- * unchanged.
+ * Errors. A function that can fail returns a |der_error| by value, whose |kind| is |DER_OK| on
+ * success. The comment of each function says what an error leaves behind; an out-parameter that it
+ * does not mention is unchanged.
  *
- * Duties of the caller, which no call can look at:
- *   - A pointer and a length are those of octets that may be read, or of a buffer that may be written. The
- *     pointer may be NULL where the length is 0. Any other pointer is not NULL.
- *   - Octets that a |der_reader| or a |der_element| points to live as long as it does, and are not written
- *     meanwhile. The buffer of a |der_writer| is written by the calls alone.
- *   - A |der_reader|, |der_writer|, |der_element| or |der_header| that is handed in was set by
- *     |DER_READER|, |DER_WRITER|, |DER_ELEMENT| or |DER_HEADER|, or by a call here; the fields of the first
- *     two are changed by the calls alone. A |bool| is 0 or 1.
- *   - Two pointers of one call lead to different structs, and a buffer that is written overlaps nothing else
- *     that the call is given: |inside| is another reader than |reader|.
- *   - No two threads use one |der_reader| or |der_writer| at a time, unless all of them only read it.
- * A length past 4294967295 is told by an error.
+ * The caller must ensure the following, which no function can check:
+ *   - A pointer and a length describe octets that may be read, or a buffer that may be written. The
+ *     pointer may be NULL if the length is 0. No other pointer may be NULL.
+ *   - Octets that a |der_reader| or a |der_element| points to live as long as it does, and are not
+ *     written meanwhile. The buffer of a |der_writer| is written only by the functions here.
+ *   - A |der_reader|, |der_writer|, |der_element| or |der_header| that is passed in was initialised
+ *     with |DER_READER|, |DER_WRITER|, |DER_ELEMENT| or |DER_HEADER|, or set by a function here.
+ *     The fields of readers and writers are changed only by the functions here. A |bool| is 0 or 1.
+ *   - Two pointers in one call point to different structs, and a buffer that is written overlaps
+ *     nothing else that is passed to the call: |inside| is another reader than |reader|.
+ *   - No two threads use one |der_reader| or |der_writer| at a time, unless all of them only read
+ *     it.
+ * A length above 4294967295 is reported as an error.
  *
- * Link with libder_c.a. It wants memcpy, memmove and memset, and nothing else. The machine is x86-64-v2. */
+ * Link with libder_c.a. It needs memcpy, memmove and memset, and nothing else. It is compiled for
+ * x86-64-v2. */
 #ifndef DER_H
 #define DER_H
 
@@ -37,30 +40,30 @@ extern "C" {
 
 /* Errors. */
 
-/* The kinds of |der_error|. Numbers stay as they are; new ones are added behind. */
+/* The kinds of |der_error|. The numbers never change; new kinds get new numbers at the end. */
 enum {
     DER_OK = 0,
-    DER_DATE_TIME = 1,         /* a value is no date or time */
-    DER_ENCODING_RULES = 2,    /* the reader does not read by the rules that the call wants */
+    DER_DATE_TIME = 1,         /* a value is not a date or time */
+    DER_ENCODING_RULES = 2,    /* the call does not work under the encoding rules of the reader */
     DER_FAILED = 3,            /* the reader or writer had failed before */
-    DER_INCOMPLETE = 4,        /* |first| octets are wanted, and there are |second| */
-    DER_INDEFINITE_LENGTH = 5, /* an indefinite length where none may stand, or one not closed rightly */
-    DER_LENGTH = 6,            /* the length of an element with the tag |actual| is not spelled as it has to be */
-    DER_NESTING_DEPTH = 7,     /* elements stand inside each other too deeply */
-    DER_NONCANONICAL = 8,      /* a value with the tag |actual| is not spelled canonically */
+    DER_INCOMPLETE = 4,        /* |first| octets are needed, and there are |second| */
+    DER_INDEFINITE_LENGTH = 5, /* an indefinite length not allowed here, or not closed properly */
+    DER_LENGTH = 6,            /* the length octets after tag |actual| break the encoding rules */
+    DER_NESTING_DEPTH = 7,     /* elements are nested too deeply */
+    DER_NONCANONICAL = 8,      /* a value with tag |actual| is not encoded canonically */
     DER_OID_MALFORMED = 9,
     DER_SET_DUPLICATE = 10,
     DER_SET_ORDERING = 11,
-    DER_OVERFLOW = 12,           /* a number of octets passes 4294967295 */
-    DER_OVERLENGTH = 13,         /* there is no room for so many octets */
-    DER_READER = 14,             /* the reader cannot do what is asked */
+    DER_OVERFLOW = 12,           /* a number of octets exceeds 4294967295 */
+    DER_OVERLENGTH = 13,         /* there is too little space */
+    DER_READER = 14,             /* the reader cannot do what is requested */
     DER_TAG_MODE_UNKNOWN = 15,
-    DER_TAG_NUMBER_INVALID = 16, /* a tag number is not spelled as it has to be, or a |der_tag| is no tag's */
-    DER_TAG_UNEXPECTED = 17,     /* |actual| stands where |expected| was asked for */
-    DER_TAG_UNKNOWN = 18,        /* no universal tag has the first octet |first| */
+    DER_TAG_NUMBER_INVALID = 16, /* a tag number is malformed, or a |der_tag| is not a tag */
+    DER_TAG_UNEXPECTED = 17,     /* the tag is |actual|, and |expected| was requested */
+    DER_TAG_UNKNOWN = 18,        /* no universal tag has the identifier octet |first| */
     DER_TRAILING_DATA = 19,      /* |first| octets are read, and |second| are left */
     DER_UTF8 = 20,
-    DER_VALUE = 21,              /* a value with the tag |actual| is malformed */
+    DER_VALUE = 21,              /* a value with tag |actual| is malformed */
     DER_OUT_OF_MEMORY = 22
 };
 
@@ -68,21 +71,22 @@ enum {
 typedef struct der_error {
     uint8_t kind;
     bool has_position; /* whether |position| is known */
-    uint8_t expected;  /* the first octet of the tag that was expected, or 0 */
-    uint8_t actual;    /* the first octet of the tag that was met, or 0 */
-    uint32_t position; /* in octets from the beginning of the input or of what is written */
-    uint32_t first;    /* a number, by |kind|; the number of |expected| where that is 31 or more */
-    uint32_t second;   /* a number, by |kind|; the number of |actual| where that is 31 or more */
+    uint8_t expected;  /* the first octet of the expected tag, or 0 */
+    uint8_t actual;    /* the first octet of the tag that was found, or 0 */
+    uint32_t position; /* in octets from the start of the input or of the output */
+    uint32_t first;    /* depends on |kind|; the tag number of |expected| if it is 31 or more */
+    uint32_t second;   /* depends on |kind|; the tag number of |actual| if it is 31 or more */
 } der_error;
 
-/* der_error_text writes the text of |error| into |text|, cut to |room| octets, and returns how many it wrote: "no
- * error" where |error| is none that a call answers. No zero octet stands behind it. 160 octets are enough for every
- * text. */
+/* der_error_text writes the text of |error| into |text|, truncated to |room| octets, and returns
+ * how many octets it wrote. It writes "no error" if |error| is not an error that a function here
+ * returns. No zero octet follows the text. 160 octets are enough for every text. */
 size_t der_error_text(der_error error, char *text, size_t room);
 
 /* Tags. */
 
-/* A der_tag is the first octet of a tag's identifier, and 256 times its number where that is 31 or more. */
+/* A der_tag is the first identifier octet of a tag, plus 256 times its number if that is 31 or
+ * more. */
 typedef uint64_t der_tag;
 
 #define DER_BOOLEAN UINT64_C(0x01)
@@ -108,8 +112,9 @@ typedef uint64_t der_tag;
 #define DER_SEQUENCE UINT64_C(0x30)
 #define DER_SET UINT64_C(0x31)
 
-/* DER_CONTEXT(n) is [n]; DER_APPLICATION and DER_PRIVATE are of the two other classes. |n| is a constant or a
- * variable below 2^32, and is used more than once. Each is primitive: add DER_CONSTRUCTED for the other form. */
+/* DER_CONTEXT(n) is the tag [n]; DER_APPLICATION and DER_PRIVATE are the same for the two other
+ * classes. |n| is a constant or a variable below 2^32, and is evaluated more than once. The tags
+ * are primitive: add DER_CONSTRUCTED for a constructed tag. */
 #define DER_CONSTRUCTED UINT64_C(0x20)
 #define DER_CLASS_TAG(octet, n) \
     ((uint64_t)(n) < 31 ? (octet) + (uint64_t)(n) : (octet) + 31 + 256 * (uint64_t)(n))
@@ -131,10 +136,10 @@ typedef struct der_reader {
 } der_reader;
 #define DER_READER {(const uint8_t *)"", 0, 0, 0, 0, false, false}
 
-/* What a header says. */
+/* The header of an element. */
 typedef struct der_header {
     der_tag tag;
-    uint32_t length;  /* of the contents, in octets, with the end mark where |indefinite| */
+    uint32_t length;  /* of the contents, in octets, with end-of-contents octets if any */
     bool constructed; /* whether the identifier has the constructed bit */
     bool indefinite;  /* whether the length was read in the indefinite form */
 } der_header;
@@ -143,79 +148,86 @@ typedef struct der_header {
 /* An element. Its |contents| point into the octets of the reader. */
 typedef struct der_element {
     const uint8_t *contents;
-    size_t length;           /* of |contents|, without the end mark of an indefinite length */
+    size_t length;           /* of |contents|, without end-of-contents octets */
     der_tag tag;
-    uint32_t start;          /* where the header begins, in octets from the beginning of the input */
+    uint32_t start;          /* where the header begins, in octets from the start of the input */
     uint32_t contents_start; /* where the contents begin */
     bool constructed;
     bool indefinite;
 } der_element;
 #define DER_ELEMENT {(const uint8_t *)"", 0, 0, 0, 0, false, false}
 
-/* der_reader_init makes |reader| read |length| octets from |octets| on, by the Basic Encoding Rules where |ber|
- * is true, and by the Distinguished ones else. It keeps |octets|. Refused by DER_OVERFLOW where |length| passes
- * 4294967295. */
+/* der_reader_init makes |reader| read the |length| octets at |octets|, under the Basic Encoding
+ * Rules if |ber| is true, and else under the Distinguished Encoding Rules. It keeps |octets|. Fails
+ * with DER_OVERFLOW if |length| exceeds 4294967295. */
 der_error der_reader_init(const uint8_t *octets, size_t length, bool ber, der_reader *reader);
 
 /* der_is_finished returns whether no octets are left. */
 bool der_is_finished(const der_reader *reader);
 
-/* der_finish returns DER_OK where no octets are left and the reader has not failed; else DER_FAILED or
- * DER_TRAILING_DATA, at the position. */
+/* der_finish returns DER_OK if no octets are left and the reader has not failed; else DER_FAILED or
+ * DER_TRAILING_DATA, at the position of the reader. */
 der_error der_finish(const der_reader *reader);
 
-/* der_read_header reads a header (X.690 8.1.2, 8.1.3, 10.1). Refused by DER_FAILED, DER_INCOMPLETE,
- * DER_OVERFLOW, DER_TAG_UNKNOWN, DER_TAG_NUMBER_INVALID, DER_INDEFINITE_LENGTH, DER_LENGTH and, where bodies of
- * indefinite lengths ahead stand inside each other too deeply, DER_NESTING_DEPTH. The reader has then failed, and
- * refuses every later call; a fault found ahead behind octet 0x80, and DER_OVERFLOW, leave it at work. */
+/* der_read_header reads a header (X.690 8.1.2, 8.1.3, 10.1). Fails with DER_FAILED, DER_INCOMPLETE,
+ * DER_OVERFLOW, DER_TAG_UNKNOWN, DER_TAG_NUMBER_INVALID, DER_INDEFINITE_LENGTH, DER_LENGTH and, if
+ * indefinite-length contents after it are nested too deeply, DER_NESTING_DEPTH. The reader has then
+ * failed, and every later call on it fails. Two errors leave it usable: one that is found in the
+ * contents after octet 0x80, and DER_OVERFLOW. */
 der_error der_read_header(der_reader *reader, der_header *header);
 
-/* der_read_element reads a header and its contents, and passes the end mark of an indefinite length. Refused as
- * |der_read_header|, and by DER_INCOMPLETE and DER_OVERFLOW where the contents are not all there. */
+/* der_read_element reads a header and its contents, and consumes the end-of-contents octets of an
+ * indefinite length. Fails like |der_read_header|, and with DER_INCOMPLETE and DER_OVERFLOW if the
+ * contents are not all there. An error leaves |*element| with no meaning. */
 der_error der_read_element(der_reader *reader, der_element *element);
 
-/* der_skip passes an element. Refused as |der_read_element|. */
+/* der_skip consumes an element. Fails like |der_read_element|. */
 der_error der_skip(der_reader *reader);
 
-/* der_expect reads an element that has this tag. Refused as |der_read_element|, and by DER_TAG_UNEXPECTED where
- * another tag stands ahead; the reader is then unchanged, so that the caller may ask for another. */
+/* der_expect reads an element that has this tag. Fails like |der_read_element|, and with
+ * DER_TAG_UNEXPECTED if the next element has another tag; the reader is then unchanged, so that the
+ * caller may ask for another tag. Every error leaves |*element| unchanged. */
 der_error der_expect(der_reader *reader, der_tag tag, der_element *element);
 
-/* der_enter passes an element that has this tag, and makes |inside| read its contents. Refused as |der_expect|,
- * and by DER_NESTING_DEPTH inside 64 others. |inside| ends at the contents' end: call |der_finish| on it. */
+/* der_enter consumes an element that has this tag, and makes |inside| read its contents. Fails like
+ * |der_expect|, and with DER_NESTING_DEPTH inside 64 others. |inside| ends where the contents end:
+ * call |der_finish| on it. */
 der_error der_enter(der_reader *reader, der_tag tag, der_reader *inside);
 
-/* der_open makes |inside| read the contents of |element|, which |reader| or a copy of it has read before. Refused
- * by DER_READER where the element does not lie in the reader's octets, by DER_FAILED where the reader has failed,
- * and by DER_NESTING_DEPTH inside 64 others. */
+/* der_open makes |inside| read the contents of |element|, which |reader| or a copy of it has read
+ * before. Fails with DER_READER if the element does not lie in the octets of the reader, with
+ * DER_FAILED if the reader has failed, and with DER_NESTING_DEPTH inside 64 others. */
 der_error der_open(const der_reader *reader, const der_element *element, der_reader *inside);
 
-/* der_scan passes the body of an indefinite length, and sets |*count| to its octets, with the end mark that
- * closes it (X.690 8.1.3.6). The reader stands behind octet 0x80. Refused by DER_ENCODING_RULES where the reader
- * does not read by the Basic Encoding Rules, and by what is wrong with the body; the reader has then failed. */
+/* der_scan consumes indefinite-length contents and the end-of-contents octets that close them
+ * (X.690 8.1.3.6), and sets |*count| to the number of octets consumed, end-of-contents octets
+ * included. The reader is just after octet 0x80 before the call. Fails with DER_ENCODING_RULES if
+ * the reader does not read under the Basic Encoding Rules, which leaves the reader unchanged, and
+ * with the error that is found in the contents; the reader has then failed. */
 der_error der_scan(der_reader *reader, uint32_t *count);
 
-/* An element of a tree, by positions in octets from the beginning of the input. */
+/* An element of a tree. Positions are in octets from the start of the input. */
 typedef struct der_node {
     der_tag tag;
     uint32_t start;          /* where the header begins */
     uint32_t contents_start; /* where the contents begin */
     uint32_t end;            /* where the contents end */
-    uint8_t depth;           /* how many elements of the tree stand around it */
+    uint8_t depth;           /* how many elements of the tree contain it */
     bool constructed;
     bool indefinite;
 } der_node;
 
-/* der_read_tree reads all elements that are left and all that is inside constructed ones, each before what is
- * inside it, into |nodes|, an array of |room|, and sets |*count| to their number. It looks into 32 levels; a
- * deeper element is one node. |nodes| hold any octets before, of which each |bool| is 0 or 1 (an array of zeros
- * is well). Refused as |der_read_element|, and by DER_OVERLENGTH where |room| are too few; the reader has then
+/* der_read_tree reads all elements that are left and everything inside constructed ones into
+ * |nodes|, an array of |room|, each element before those inside it, and sets |*count| to their
+ * number. It descends 32 levels; an element deeper than that is one node. Before the call each
+ * |bool| in |nodes| is 0 or 1, and all else in them is arbitrary (an array of zeros will do). Fails
+ * like |der_read_element|, and with DER_OVERLENGTH if |room| nodes are too few; the reader has then
  * failed, and |*count| nodes are set. */
 der_error der_read_tree(der_reader *reader, der_node *nodes, size_t room, size_t *count);
 
-/* der_compare compares two whole elements under the Distinguished Encoding Rules in the order of a SET OF (X.690
- * 11.6), and sets |*order| to -1, 0 or 1. Refused where |first|, or else |second|, is not wholly an element: as
- * |der_read_element|, by DER_OVERFLOW, or by DER_TRAILING_DATA. */
+/* der_compare compares two whole elements under the Distinguished Encoding Rules in the order of a
+ * SET OF (X.690 11.6), and sets |*order| to -1, 0 or 1. Fails if |first|, or else |second|, is not
+ * exactly one element: like |der_read_element|, with DER_OVERFLOW, or with DER_TRAILING_DATA. */
 der_error der_compare(const uint8_t *first, size_t first_length, const uint8_t *second, size_t second_length,
                       int32_t *order);
 
@@ -230,47 +242,52 @@ typedef struct der_writer {
 } der_writer;
 #define DER_WRITER {(uint8_t *)"", 0, 0, false}
 
-/* der_writer_init makes |writer| write into |length| octets from |octets| on. It keeps |octets|. No more than
- * 4294967295 octets are written. */
+/* der_writer_init makes |writer| write into the |length| octets at |octets|. It keeps |octets|. At
+ * most 4294967295 octets are written. */
 void der_writer_init(uint8_t *octets, size_t length, der_writer *writer);
 
-/* der_written returns how many octets are written. They stand at the beginning of the buffer. */
+/* der_written returns how many octets are written. They are at the start of the buffer. */
 size_t der_written(const der_writer *writer);
 
-/* der_writer_finish returns DER_OK where the writer has not failed, else DER_FAILED: so calls may be written one
- * behind the other, and looked at here at once. */
+/* der_writer_finish returns DER_OK if the writer has not failed, else DER_FAILED. A caller may thus
+ * ignore the errors of a sequence of writing calls, and check once here. */
 der_error der_writer_finish(const der_writer *writer);
 
-/* der_write writes |length| octets as they stand. Refused by DER_FAILED, DER_OVERFLOW and DER_OVERLENGTH; nothing
- * is written, and the writer has failed and refuses every later call. */
+/* der_write writes |length| octets unchanged. Fails with DER_FAILED, DER_OVERFLOW and
+ * DER_OVERLENGTH; nothing is written then, and the writer has failed: every later call on it fails.
+ * */
 der_error der_write(der_writer *writer, const uint8_t *octets, size_t length);
 
-/* der_write_header writes the header of |tag| and of |length| octets of contents. Refused as |der_write|, and by
- * DER_TAG_NUMBER_INVALID where |tag| is no tag's; octets of the header that were written stand. */
+/* der_write_header writes the header of an element of |tag| with |length| octets of contents. Fails
+ * like |der_write|, and with DER_TAG_NUMBER_INVALID if |tag| is not a tag; octets of the header
+ * that were already written remain. */
 der_error der_write_header(der_writer *writer, der_tag tag, uint32_t length);
 
-/* der_write_element writes a header and the contents. Refused as |der_write_header|, and by DER_OVERFLOW where
- * |length| passes 4294967295. */
+/* der_write_element writes a header and the contents. Fails like |der_write_header|, and with
+ * DER_OVERFLOW if |length| exceeds 4294967295. */
 der_error der_write_element(der_writer *writer, der_tag tag, const uint8_t *contents, size_t length);
 
-/* An element with others inside is written by the lengths first, or by its begin and its end.
+/* To write an element with others inside, either compute the lengths first, or begin and end it.
  *
- * der_element_length sets |*count| to the octets of an element of |tag| with |length| octets of contents: the sum of
- * those inside is what |der_write_header| is handed. Refused by DER_TAG_NUMBER_INVALID where |tag| is no tag's, and by
- * DER_OVERFLOW where there are more than 4294967295. */
+ * der_element_length sets |*count| to the number of octets of an element of |tag| with |length|
+ * octets of contents: the sum over the elements inside is the length to pass to |der_write_header|.
+ * Fails with DER_TAG_NUMBER_INVALID if |tag| is not a tag, and with DER_OVERFLOW if the number
+ * exceeds 4294967295. */
 der_error der_element_length(der_tag tag, uint32_t length, uint32_t *count);
 
-/* der_begin begins an element of |tag|, and sets |*start| to where its contents begin: what is written from there on,
- * elements that are begun and ended among it. Refused as |der_write_header|. */
+/* der_begin begins an element of |tag|, and sets |*start| to where its contents begin. All that is
+ * written from there on belongs to the contents, including elements begun and ended in between.
+ * Fails like |der_write_header|. */
 der_error der_begin(der_writer *writer, der_tag tag, size_t *start);
 
-/* der_end ends the element whose contents begin at |start|, as |der_begin| set it, once. Their length takes the place
- * of the octet ahead of them, and 128 octets or more are moved to make room for it. Refused by DER_FAILED; by
- * DER_OVERLENGTH without a position where nothing was written ahead of |start|, or it lies behind what is written; and
- * as |der_write| where there is no room for the length. Nothing is moved, and the writer has failed. */
+/* der_end ends the element whose contents begin at |start|, as set by |der_begin|; call it once for
+ * each. The length of the contents replaces the octet before them; contents of 128 octets or more
+ * are moved to make space for it. Fails with DER_FAILED; with DER_OVERLENGTH without a position if
+ * nothing was written before |start|, or if |start| is after what is written; and like |der_write|
+ * if there is no space for the length. Nothing is moved then, and the writer has failed. */
 der_error der_end(der_writer *writer, size_t start);
 
-/* The shapes that the library was made for. */
+/* The layouts that the library was compiled for. */
 DER_STATIC_ASSERT(sizeof(void *) == 8 && sizeof(size_t) == 8 && sizeof(bool) == 1);
 DER_STATIC_ASSERT(sizeof(der_error) == 16 && offsetof(der_error, has_position) == 1 &&
                   offsetof(der_error, expected) == 2 && offsetof(der_error, actual) == 3 &&

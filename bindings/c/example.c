@@ -1,4 +1,4 @@
-/* Prints the elements of a file as `openssl asn1parse -inform DER` does, up to their types.
+/* Prints the elements of a file as `openssl asn1parse -inform DER` does, up to and including types.
  *
  *     cc example.c $(pkg-config --cflags --libs der_c) -o example
  *     ./example FILE [ber]

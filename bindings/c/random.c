@@ -1,5 +1,6 @@
-/* Reads random octets by the library and by a parser of its own, written after X.690 alone, and stops where they
- * answer differently: random COUNT. What is read is written again, and walked as a tree. */
+/* Reads random octets with the library and with an independent parser, written from X.690 alone,
+ * and stops at the first difference: random COUNT. What is read is also written again, and read as
+ * a tree. */
 #include <der.h>
 #include <stdio.h>
 #include <stdlib.h>
@@ -37,7 +38,7 @@ static answer cut(uint64_t expected, uint32_t count, uint32_t position)
     return it;
 }
 
-/* the first element of the octets under DER */
+/* the first element of the octets under DER, by the independent parser */
 static answer by_hand(const uint8_t *octets, uint32_t count)
 {
     static const char universal[] = "\1\2\3\4\5\6\11\12\14\15\22\23\24\25\26\27\30\32\33\36\60\61";
@@ -55,7 +56,7 @@ static answer by_hand(const uint8_t *octets, uint32_t count)
             if (at == count)
                 return cut((uint64_t)count + 1, count, count);
             number = number * 128 + octets[at] % 128;
-            /* the least number that goes on so, and the only one that ends so */
+            /* the smallest number that continues so, and the only one that ends so */
             if (octets[at] < 128 ? number < 31 || number > UINT32_MAX : number == 0 || number * 128 > UINT32_MAX)
                 return refuse(DER_TAG_NUMBER_INVALID, at + 1);
             if (octets[at++] < 128)
@@ -141,7 +142,7 @@ static void see_tree(const uint8_t *octets, uint32_t count, bool ber)
     size_t wanted = walk(&copy, 0, others, 0, &is_refused);
     if ((error.kind != 0) != is_refused || number != wanted)
         stop("a tree", octets, count);
-    /* room for as many nodes and for one less */
+    /* space for exactly that number of nodes, and for one less */
     for (size_t room = number; !is_refused && room + 1 >= number && room <= number; room--) {
         der_reader again = DER_READER;
         size_t told = 0;
@@ -156,7 +157,8 @@ static void see_tree(const uint8_t *octets, uint32_t count, bool ber)
             stop("a node", octets, count);
 }
 
-/* writes an element inside another by begin and end, and stops where it is not what the lengths say */
+/* writes an element inside another with der_begin and der_end, and compares it with the same
+ * element written with its lengths computed first */
 static void see_parts(der_tag tag, uint32_t length, uint32_t room)
 {
     static uint8_t written[1100], wanted[1100], contents[1024];
@@ -190,7 +192,7 @@ static void see_parts(der_tag tag, uint32_t length, uint32_t room)
         stop("an end without a begin", contents, length);
 }
 
-/* as docs/BINDINGS.md has it */
+/* the function that docs/BINDINGS.md shows */
 static bool join(const der_reader *reader, const der_element *string, uint8_t *out, size_t room, size_t *count)
 {
     der_reader inside = DER_READER;
@@ -229,7 +231,8 @@ static void see_segments(void)
     }
 }
 
-/* a text is cut to its room, and what no error is told as has no text of one */
+/* a text is truncated to its space; a tag that is none is left out; no error has the text "no
+ * error" */
 static void see_texts(void)
 {
     static const char wanted[] = "unexpected ASN.1 DER tag: expected INTEGER, got NULL";
@@ -246,7 +249,7 @@ static void see_texts(void)
         if (count != (room < whole ? room : whole) || memcmp(text, wanted, count) || text[count] != '#')
             stop("a text", octets, sizeof octets);
     }
-    /* 7 is no tag */
+    /* 7 is not a tag */
     error = der_expect(&reader, 7, &element);
     if (der_error_text(error, text, sizeof text) != sizeof unknown - 1 || memcmp(text, unknown, sizeof unknown - 1))
         stop("a text without the tag that was expected", octets, sizeof octets);

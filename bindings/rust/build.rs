@@ -1,4 +1,4 @@
-//! Links libder_c.a, which stands in the folder that DER_C_LIB names, or else in /usr/local/lib.
+//! Links libder_c.a from the folder that DER_C_LIB names, or else from /usr/local/lib.
 fn main() {
     let folder = std::env::var("DER_C_LIB").unwrap_or_else(|_| "/usr/local/lib".to_owned());
     println!("cargo:rustc-link-search=native={folder}");

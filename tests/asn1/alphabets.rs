@@ -1,4 +1,4 @@
-//! Further strings with an alphabet, and ENUMERATED.
+//! Other restricted character strings, and ENUMERATED.
 use crate::checks::same_at;
 use der::{Encode, Error, ErrorKind, Length, Tag};
 use der_asn1::{
@@ -8,7 +8,7 @@ use der_asn1::{
 use crate::fixtures::errors::unexpected;
 use std::alloc::Global;
 
-// The contents that these octets are the element of, and whether it is written as it was read.
+// The contents of this element, and whether it is written exactly as it was read.
 fn visible<'a>(alloc: Global, octets: &'a [u8]) -> Result<(&'a [u8], bool), Error> {
     let value: VisibleStringRef<'a> = lawful_from_der(alloc, octets)?;
     let written = value.to_der(alloc)?;
@@ -33,13 +33,13 @@ fn teletex<'a>(alloc: Global, octets: &'a [u8]) -> Result<(&'a [u8], bool), Erro
     Ok((value.octets(), written.as_slice() == octets))
 }
 
-// The number that these octets are the element of, where it is below 256.
+// The number in this element, if it is below 256.
 fn enumerated(alloc: Global, octets: &[u8]) -> Result<Option<u8>, Error> {
     let value: EnumeratedRef<'_> = lawful_from_der(alloc, octets)?;
     Ok(value.to_number())
 }
 
-// Contents of this tag are refused behind their last octet.
+// The error for contents of this tag, at the position after their last octet.
 fn refused(tag: Tag, end: u32) -> Result<(&'static [u8], bool), Error> {
     Err(ErrorKind::Value { tag }.at(Length::new(end)))
 }

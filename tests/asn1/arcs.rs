@@ -16,7 +16,7 @@ fn told(contents: &[u8]) -> Option<([Option<Option<u32>>; 5], bool)> {
     Some((first, arcs.next().is_some()))
 }
 
-// So many arcs that have 32 bits each.
+// The arcs of these numbers, of 32 bits each.
 fn arcs(numbers: &[u32]) -> Option<([Option<Option<u32>>; 5], bool)> {
     let mut all = [None; 5];
     let mut place = 0;
@@ -50,7 +50,7 @@ fn arcs_are_told(rt: HostRuntime) {
     }
 }
 
-// An arc of 33 bits or more is no number, and those behind it are told.
+// An arc of 33 bits or more has no number, and the arcs after it are returned.
 #[test]
 fn arcs_that_are_too_large(rt: HostRuntime) {
     let of_33_bits = [0x2A, 0x90, 0x80, 0x80, 0x80, 0x00, 0x05];
@@ -79,7 +79,7 @@ fn arcs_that_are_too_large(rt: HostRuntime) {
     same_at(&rt, 2, told(&of_71_bits), Some((expected, false)));
 }
 
-// Six arcs of 1.2.840.113549.1.1.1, of which the first five are looked at.
+// 1.2.840.113549.1.1.1 has six arcs, of which the first five are compared.
 #[test]
 fn further_arcs(rt: HostRuntime) {
     let contents = [0x2A, 0x86, 0x48, 0x86, 0xF7, 0x0D, 0x01, 0x01, 0x01];

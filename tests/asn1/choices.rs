@@ -4,7 +4,7 @@ use der::{Decode, DecodeBytes, Encode, Error, ErrorKind, Length, Reader, SliceRe
 use der_asn1::{BooleanRef, Either, IntRef};
 use std::alloc::Global;
 
-// Which type stands at the front of the octets, with its contents, and the position behind it.
+// Which type the front of the octets has, with its contents, and the position after it.
 fn choice_ahead<'a>(alloc: Global, octets: &'a [u8]) -> Result<(bool, &'a [u8], Length), Error> {
     let mut reader = SliceReader::new(octets)?;
     let choice: Either<IntRef<'a>, BooleanRef<'a>> = Either::decode(alloc, &mut reader)?;
@@ -34,7 +34,7 @@ fn the_tag_ahead_tells_which_type_is_read(rt: HostRuntime) {
     }
 }
 
-// Whether the octets are a value of one type, and are written again as they were.
+// Whether the octets are a value of one of the types, and are written exactly as they were.
 fn is_read_and_written<'a>(alloc: Global, octets: &'a [u8]) -> bool {
     let Ok(choice) = <Either<IntRef<'a>, BooleanRef<'a>>>::from_der(alloc, octets) else {
         return false;

@@ -1,4 +1,5 @@
-//! The constants of types of ASN.1, which no clause can name, and the functions that say the same.
+//! The constants of types of ASN.1, which no clause can name, and the functions that return the
+//! same.
 use crate::checks::holds;
 use der::{Tag, TagNumber};
 use der_asn1::{

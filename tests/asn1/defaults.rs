@@ -5,7 +5,7 @@ use der_asn1::{BooleanRef, Defaulted};
 use crate::fixtures::readers::{ber_reader, der_reader};
 use std::alloc::Global;
 
-// The value of the field at the front, and the position behind it.
+// The value of the field at the front, and the position after it.
 fn field<'a>(
     alloc: Global,
     reader: Result<SliceReader<'a>, Error>,
@@ -40,7 +40,7 @@ fn a_default_may_be_written_under_ber(rt: HostRuntime) {
     same_at(&rt, 0, answer, Ok((false, Length::new(3))));
 }
 
-// The octets that a field with this value is written as.
+// The encoding of a field with this value.
 fn written(alloc: Global, contents: &[u8]) -> Result<Option<Vec<u8>>, Error> {
     match BooleanRef::new(contents) {
         Some(value) => Ok(Some(Defaulted(value).to_der(alloc)?)),

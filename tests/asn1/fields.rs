@@ -6,7 +6,7 @@ use der::{
 use der_asn1::{AnyRef, IntRef, Optional};
 use std::alloc::Global;
 
-// The integer that may stand at the front of the octets, and the position behind it.
+// The optional integer at the front of the octets, and the position after it.
 fn integer_ahead<'a>(alloc: Global, octets: &'a [u8]) -> Result<(Option<&'a [u8]>, Length), Error> {
     let mut reader = SliceReader::new(octets)?;
     let field: Optional<IntRef<'a>> = Optional::decode(alloc, &mut reader)?;

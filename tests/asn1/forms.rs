@@ -1,4 +1,4 @@
-//! Contents that have a form of X.690, and contents that have it not.
+//! Contents in the form of X.690, and contents that are not.
 use crate::checks::same_at;
 use der::{DecodeBytes, Error, ErrorKind, Length, Tag};
 use der_asn1::{
@@ -7,7 +7,7 @@ use der_asn1::{
 };
 use std::alloc::Global;
 
-// The contents that these octets are the element of.
+// The contents of this element.
 fn integer<'a>(alloc: Global, octets: &'a [u8]) -> Result<&'a [u8], Error> {
     let value: IntRef<'a> = lawful_from_der(alloc, octets)?;
     Ok(value.octets())
@@ -54,7 +54,7 @@ fn integer_of_ber<'a>(alloc: Global, octets: &'a [u8]) -> Result<&'a [u8], Error
     Ok(value.octets())
 }
 
-// Contents of this tag are refused behind their last octet.
+// The error for contents of this tag, at the position after their last octet.
 fn refused(tag: Tag, end: u32) -> Result<&'static [u8], Error> {
     Err(ErrorKind::Value { tag }.at(Length::new(end)))
 }

@@ -6,7 +6,7 @@ use der_asn1::{Explicit, IntRef, SequenceOf, lawful_from_der};
 use crate::fixtures::errors::{incomplete, unexpected};
 use std::alloc::Global;
 
-// What a walk over a list tells, and whether the list is written as it was read.
+// The first two items of a list, and whether the list is written exactly as it was read.
 fn walked<'a>(alloc: Global, octets: &'a [u8]) -> Result<(FirstTwo<'a>, bool), Error> {
     let list: SequenceOf<'a, IntRef<'a>> = lawful_from_der(alloc, octets)?;
     let written = list.to_der(alloc)?;

@@ -4,14 +4,14 @@ use der::{Encode, Error, ErrorKind, Length, Tag};
 use der_asn1::{IntRef, IntegerNumber, IntegerOf, lawful_from_der};
 use std::alloc::Global;
 
-// The number that these octets are the element of, and whether it is written as it was read.
+// The number in this element, and whether it is written exactly as it was read.
 fn number<N: IntegerNumber + Drop>(alloc: Global, octets: &[u8]) -> Result<(N, bool), Error> {
     let value: IntegerOf<N> = lawful_from_der(alloc, octets)?;
     let written = value.to_der(alloc)?;
     Ok((value.number, written.as_slice() == octets))
 }
 
-// The contents are refused behind their last octet.
+// The error for the contents, at the position after their last octet.
 fn refused<N>(end: u32) -> Result<(N, bool), Error> {
     Err(ErrorKind::Value { tag: Tag::Integer }.at(Length::new(end)))
 }
@@ -88,7 +88,7 @@ fn signed_numbers_of_64_bits_are_read_and_larger_ones_refused(rt: HostRuntime) {
     }
 }
 
-// The number of these contents, where they have the form of an INTEGER.
+// The number of these contents, if they are those of an INTEGER.
 fn told<N: IntegerNumber>(contents: &[u8]) -> Option<N> {
     IntRef::new(contents)?.to_number()
 }

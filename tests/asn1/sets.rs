@@ -1,4 +1,4 @@
-//! SET OF INTEGER: the encodings stand in order (X.690 11.6).
+//! SET OF INTEGER: the encodings are in order (X.690 11.6).
 use crate::checks::same_at;
 use crate::asn1::walks::{FirstTwo, first_two};
 use der::{DecodeBytes, Encode, Error, ErrorKind, Length, Tag};
@@ -6,7 +6,7 @@ use der_asn1::{IntRef, SetOf, lawful_from_der};
 use crate::fixtures::errors::{incomplete, unexpected};
 use std::alloc::Global;
 
-// What a walk over a set tells, and whether the set is written as it was read.
+// The first two members of a set, and whether the set is written exactly as it was read.
 fn walked<'a>(alloc: Global, octets: &'a [u8]) -> Result<(FirstTwo<'a>, bool), Error> {
     let set: SetOf<'a, IntRef<'a>> = lawful_from_der(alloc, octets)?;
     let written = set.to_der(alloc)?;
@@ -56,7 +56,7 @@ fn elements_of_a_set_are_checked(rt: HostRuntime) {
     }
 }
 
-// Whether a set is read under BER, and out of order.
+// Whether a set is read under BER, in order and out of order.
 #[test]
 fn the_order_is_wanted_under_ber_too(rt: HostRuntime) {
     let rows: [(&[u8], bool); 2] = [

@@ -5,7 +5,8 @@ use der_asn1::{Explicit, Implicit, IntRef, lawful_from_der};
 use crate::fixtures::errors::{trailing, unexpected};
 use std::alloc::Global;
 
-// The contents of an integer behind tag [1], where it is written again as it was read.
+// The contents of an integer with the implicit tag [1], and whether it is written exactly as it was
+// read.
 fn implicit<'a>(alloc: Global, octets: &'a [u8]) -> Result<(&'a [u8], bool), Error> {
     let value: Implicit<IntRef<'a>, 1> = lawful_from_der(alloc, octets)?;
     let written = value.to_der(alloc)?;

@@ -4,14 +4,14 @@ use der::{Encode, Error, ErrorKind, Length, Tag};
 use der_asn1::{Utf8StringRef, lawful_from_der};
 use std::alloc::Global;
 
-// The text that these octets are the element of, and whether it is written as it was read.
+// The text in this element, and whether it is written exactly as it was read.
 fn text<'a>(alloc: Global, octets: &'a [u8]) -> Result<(&'a str, bool), Error> {
     let value: Utf8StringRef<'a> = lawful_from_der(alloc, octets)?;
     let written = value.to_der(alloc)?;
     Ok((value.as_str(), written.as_slice() == octets))
 }
 
-// The contents are refused behind their last octet.
+// The error for the contents, at the position after their last octet.
 fn refused(end: u32) -> Result<(&'static str, bool), Error> {
     let tag = Tag::Utf8String;
     Err(ErrorKind::Value { tag }.at(Length::new(end)))

@@ -4,21 +4,21 @@ use der::{Decode, Encode, Error, ErrorKind, Length, Reader, ReaderExt, SliceRead
 use der_asn1::{Choice, DateTime, GeneralizedTime, UtcTime, lawful_from_der};
 use std::alloc::Global;
 
-// The UTCTime that these octets are the element of, and whether it is written as it was read.
+// The UTCTime in this element, and whether it is written exactly as it was read.
 fn told_utc(alloc: Global, octets: &[u8]) -> Result<(DateTime, bool), Error> {
     let value: UtcTime = lawful_from_der(alloc, octets)?;
     let written = value.to_der(alloc)?;
     Ok((value.date_time(), written.as_slice() == octets))
 }
 
-// The GeneralizedTime of these contents.
+// The same for a GeneralizedTime.
 fn told_generalized(alloc: Global, octets: &[u8]) -> Result<(DateTime, bool), Error> {
     let value: GeneralizedTime = lawful_from_der(alloc, octets)?;
     let written = value.to_der(alloc)?;
     Ok((value.date_time(), written.as_slice() == octets))
 }
 
-// It is such a day and time.
+// The result for this day and time.
 fn read(date: (u16, u8, u8), time: (u8, u8, u8)) -> Result<(DateTime, bool), Error> {
     let (year, month, day) = date;
     let (hour, minute, second) = time;
@@ -35,7 +35,7 @@ fn read(date: (u16, u8, u8), time: (u8, u8, u8)) -> Result<(DateTime, bool), Err
     ))
 }
 
-// The contents are refused behind their last octet.
+// The error for the contents, at the position after their last octet.
 fn refused(tag: Tag, octets: &[u8]) -> Result<(DateTime, bool), Error> {
     let end = Length::new_usize(octets.len())?;
     Err(ErrorKind::Value { tag }.at(end))
@@ -123,7 +123,7 @@ fn octets_that_are_no_generalized_time(rt: HostRuntime) {
     }
 }
 
-// A Time of RFC 5280, 4.1: the tag tells which of the two it is.
+// A Time of RFC 5280, 4.1: the tag determines which of the two types it is.
 fn time<'a>(alloc: Global, octets: &'a [u8]) -> Result<DateTime, Error> {
     let mut reader = SliceReader::new(octets)?;
     if <UtcTime as Choice<SliceReader<'a>>>::can_decode(reader.peek_tag()?) {

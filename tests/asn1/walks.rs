@@ -1,4 +1,4 @@
-//! What a walk over a list or a set of integers tells.
+//! What a walk over a list or a set of integers returns.
 use der_asn1::{IntRef, Items};
 use std::alloc::Global;
 
@@ -13,7 +13,7 @@ fn next<'a>(alloc: Global, items: &mut Items<'a, IntRef<'a>>) -> Option<&'a [u8]
     }
 }
 
-/// What a walk tells that stands at the first integer.
+/// The first two integers of a walk, and whether that is all.
 pub fn first_two<'a>(alloc: Global, mut items: Items<'a, IntRef<'a>>) -> FirstTwo<'a> {
     let first = next(alloc, &mut items);
     let second = next(alloc, &mut items);

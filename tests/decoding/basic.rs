@@ -1,5 +1,5 @@
-//! Worked cases of values that are decoded under the Basic Encoding Rules; what is expected is
-//! worked out by hand from X.690 and from the rules of refusals.
+//! Worked cases of values that are decoded under the Basic Encoding Rules. The expected results are
+//! worked out by hand from X.690 and the rules for errors.
 use der::example::MyByteMonth;
 use der::{
     Decode, DecodeBytes, EncodingRules, Error, ErrorKind, Header, Length, Reader, ReaderExt,

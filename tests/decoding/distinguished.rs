@@ -1,5 +1,5 @@
-//! Worked cases of values that are decoded and encoded; what is expected is worked out by hand from
-//! X.690 and from the rules of refusals.
+//! Worked cases of values that are decoded and encoded. The expected results are worked out by hand
+//! from X.690 and the rules for errors.
 use der::example::MyByteMonth;
 use der::{
     Decode, DecodeBytes, Encode, Error, ErrorKind, Header, Length, Reader, ReaderExt, SliceReader,
@@ -31,10 +31,10 @@ mod rows;
 mod sets;
 mod tags;
 
-// The functions below make calls that several tests need, and nothing is said of what they answer:
-// what a contract says costs the checker seconds at each place where it is called.
+// Calls that several tests make. They have no contracts, because a contract costs the checker
+// seconds at each call.
 
-// The value that all the octets are.
+// Reads the octets as exactly one value.
 fn value_of<'a, T: Decode<SliceReader<'a>>>(
     alloc: Global,
     octets: &'a [u8],
@@ -42,7 +42,7 @@ fn value_of<'a, T: Decode<SliceReader<'a>>>(
     T::from_der(alloc, octets)
 }
 
-// How the octets are refused, as the value that they all are.
+// The error of reading the octets as exactly one value.
 fn refusal_of<'a, T: Decode<SliceReader<'a>>>(
     alloc: Global,
     octets: &'a [u8],
@@ -50,7 +50,7 @@ fn refusal_of<'a, T: Decode<SliceReader<'a>>>(
     T::from_der(alloc, octets).err()
 }
 
-// The value at the front of the octets, and the octets behind it.
+// The value at the front of the octets, and the octets after it.
 fn front_of<'a, T: Decode<SliceReader<'a>>>(
     alloc: Global,
     octets: &'a [u8],
@@ -58,7 +58,7 @@ fn front_of<'a, T: Decode<SliceReader<'a>>>(
     T::from_der_partial(alloc, octets)
 }
 
-// How a type refuses what is ahead of the reader.
+// The error of reading the next value as this type.
 fn refusal_by<R: Reader, T: Decode<R>>(
     alloc: Global,
     reader: &mut R,
@@ -66,7 +66,7 @@ fn refusal_by<R: Reader, T: Decode<R>>(
     T::decode(alloc, reader).err()
 }
 
-// What the reader decodes.
+// The next value of the reader.
 fn next_of<R: Reader, T: Decode<R>>(
     alloc: Global,
     reader: &mut R,

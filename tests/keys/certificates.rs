@@ -154,8 +154,8 @@ fn a_certificate_with_another_octet_is_refused_where_it_stands(rt: HostRuntime) 
     );
 }
 
-// The version is [0], behind which octet 12 stands. The extensions' octets begin at octet 151, and
-// `critical` of the third ends at octet 225.
+// The version is [0], after which octet 12 comes. The octets of the extensions begin at octet 151,
+// and `critical` of the third ends at octet 225.
 #[test]
 fn a_default_that_a_certificate_writes_is_refused_behind_it(rt: HostRuntime) {
     let written = |tag: Tag, end: u32| -> Option<Error> {

@@ -23,7 +23,7 @@ static FIRST_VERSION: [u8; 193] = [
 ];
 
 // Whether the octets are read as a certificate of version 1 with this serial number and no
-// extensions, and are written again as they were.
+// extensions, and are written exactly as they were.
 fn is_read(alloc: Global, octets: &[u8], serial_number: &[u8]) -> bool {
     let Ok(certificate) = Certificate::from_der(alloc, octets) else {
         return false;

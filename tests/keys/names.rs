@@ -11,14 +11,14 @@ fn refusal(alloc: Global, octets: &[u8]) -> Option<Error> {
     name.err()
 }
 
-// One level, with a common name (2.5.4.3) ahead of a country (2.5.4.6).
+// One level, with a common name (2.5.4.3) before a country (2.5.4.6).
 static IN_ORDER: [u8; 24] = [
     0x30, 0x16, 0x31, 0x14, 0x30, 0x08, 0x06, 0x03, 0x55, 0x04, 0x03, 0x13, 0x01, 0x42, 0x30, 0x08,
     0x06, 0x03, 0x55, 0x04, 0x06, 0x13, 0x01, 0x41,
 ];
 
-// The encodings of the attributes stand in order (X.690 11.6): where they do not, the second is
-// refused, which begins behind ten octets of the SET's contents.
+// The encodings of the attributes are in order (X.690 11.6). If they are not, reading fails at the
+// second, which begins after ten octets of the contents of the SET.
 #[test]
 fn attributes_out_of_order_are_refused_where_the_second_begins(rt: HostRuntime) {
     same_at(&rt, "in order", refusal(rt.alloc(), &IN_ORDER), None);

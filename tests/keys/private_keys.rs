@@ -37,8 +37,8 @@ static WITH_PUBLIC_KEY: [u8; 116] = [
     0x70, 0x31, 0x66, 0xE1,
 ];
 
-// Whether the octets are read as a key with this version, so many octets of key, and of attributes
-// and of a public key where there are some, and are written again as they were.
+// Whether the octets are read as a key with this version, these numbers of octets of the key and of
+// any attributes and public key, and are written exactly as they were.
 fn is_read(
     alloc: Global,
     octets: &[u8],

@@ -37,8 +37,8 @@ static ED25519: [u8; 44] = [
     0x15, 0xCC, 0xEE, 0xB7, 0x49, 0x78, 0x7F, 0x25, 0x1B, 0xC9, 0xB0, 0x54,
 ];
 
-// Whether the octets are read as a key with this algorithm and as many octets of parameters, or
-// none, and of the key, and are written again as they were.
+// Whether the octets are read as a key with this algorithm and these numbers of octets of
+// parameters, if any, and of the key, and are written exactly as they were.
 fn is_read(
     alloc: Global,
     octets: &[u8],

@@ -23,8 +23,8 @@ static REQUEST: [u8; 193] = [
     0x08,
 ];
 
-// Whether the octets are read as a request of version 1 with so many octets of subject, of key and of
-// attributes, and are written again as they were.
+// Whether the octets are read as a request of version 1 with these numbers of octets of subject,
+// key and attributes, and are written exactly as they were.
 fn is_read(
     alloc: Global,
     octets: &[u8],
@@ -51,7 +51,7 @@ fn a_request_is_read_and_written_as_it_was(rt: HostRuntime) {
     holds(&rt, is_read(rt.alloc(), &REQUEST, 22, 33, 41));
 }
 
-// How many octets the values of the first attribute have, where it asks for extensions
+// The number of octets of the values of the first attribute, if it requests extensions
 // (1.2.840.113549.1.9.14).
 fn asked_extensions(alloc: Global, octets: &[u8]) -> Option<usize> {
     let request = CertReq::from_der(alloc, octets).ok()?;
@@ -119,8 +119,8 @@ fn value_refusal(alloc: Global, first: u8) -> Option<Error> {
     Attribute::from_der(alloc, &octets).err()
 }
 
-// The values stand in the order of their encodings (X.690 11.6): where they do not, the second is
-// refused, which begins behind three octets of the SET's contents.
+// The values are in the order of their encodings (X.690 11.6). If they are not, reading fails at
+// the second, which begins after three octets of the contents of the SET.
 #[test]
 fn values_out_of_order_are_refused_where_the_second_begins(rt: HostRuntime) {
     same_at(&rt, "in order", value_refusal(rt.alloc(), 1), None);

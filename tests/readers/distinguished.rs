@@ -1,5 +1,5 @@
-//! Worked cases of reading under the Distinguished Encoding Rules; what is expected is worked out
-//! by hand from X.690 and from the rules of refusals.
+//! Worked cases of reading under the Distinguished Encoding Rules. The expected results are worked
+//! out by hand from X.690 and the rules for errors.
 use der::{
     Decode, Error, ErrorKind, Header, Length, Octets, Reader, ReaderExt, SliceReader, Tag,
     TagNumber, decode_header, decode_length,
@@ -24,8 +24,8 @@ mod unlent;
 mod unlent_parts;
 mod unlent_peeks;
 
-// What is said of a call costs the checker seconds in each test that makes it. Few tests need it,
-// so they make those that several make by functions of which nothing is said.
+// Calls that several tests make. They have no contracts, because a contract costs the checker
+// seconds in each test, and few tests need one.
 fn octet(reader: &mut SliceReader<'_>) -> Result<u8, Error> {
     reader.read_byte()
 }

@@ -1,5 +1,5 @@
-//! Worked cases of bodies of indefinite lengths, scanned by themselves and behind headers; what is
-//! expected is worked out by hand from X.690 and from the rules of refusals.
+//! Worked cases of indefinite-length contents, scanned alone and after headers. The expected
+//! results are worked out by hand from X.690 and the rules for errors.
 use der::{
     Decode, DecodeBytes, EncodingRules, Error, ErrorKind, Header, Length, Reader, ReaderExt,
     SliceReader, Tag, decode_header,

@@ -1,11 +1,11 @@
-//! Readers that stand where a scan begins, and what tests read by readers of slices. What a
-//! contract says of a call is made out anew in each test that makes it, and few tests need it: so
-//! of most of these nothing is said.
+//! Readers at the position where a scan begins, and what tests read with readers of slices. Most
+//! functions have no contract, because the checker handles a contract anew in each test that calls,
+//! and few tests need one.
 
 use der::{Error, Header, Length, Reader, ReaderExt, SliceReader, decode_header, decode_length};
 use crate::fixtures::readers::ruled_reader;
 
-/// A reader that is known to be under the Basic Encoding Rules, and has passed so many octets.
+/// A reader under the Basic Encoding Rules, as its contract says, that has consumed `count` octets.
 pub fn ruled_behind(octets: &[u8], count: u32) -> Result<SliceReader<'_>, Error>
 {
     let mut reader = ruled_reader(octets)?;
@@ -15,17 +15,17 @@ pub fn ruled_behind(octets: &[u8], count: u32) -> Result<SliceReader<'_>, Error>
     }
 }
 
-/// The header that stands next.
+/// The next header.
 pub fn next_header(reader: &mut SliceReader<'_>) -> Result<Header, Error> {
     decode_header(reader)
 }
 
-/// The length that stands next, without a tag.
+/// The next length, without a tag.
 pub fn next_length(reader: &mut SliceReader<'_>) -> Result<Length, Error> {
     decode_length(reader)
 }
 
-/// The whole element that stands next.
+/// The next element, whole.
 pub fn next_element<'a>(reader: &mut SliceReader<'a>) -> Result<&'a [u8], Error> {
     reader.tlv_bytes()
 }

@@ -1,7 +1,7 @@
-//! What tests do with a reader that lends, without saying what it is then.
+//! Calls that tests make on a reader that returns slices, without contracts.
 use der::{Error, Header, SliceReader, decode_header};
 
-/// The header that stands next.
+/// The next header.
 pub fn next_header(reader: &mut SliceReader<'_>) -> Result<Header, Error> {
     decode_header(reader)
 }

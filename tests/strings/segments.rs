@@ -1,5 +1,5 @@
-//! Worked cases of octets that stand in segments; what is expected is worked out by hand from X.690
-//! and from the rules of refusals.
+//! Worked cases of octets in segments. The expected results are worked out by hand from X.690 and
+//! the rules for errors.
 use crate::strings::readers::next_header;
 use der::{
     BytesOwned, Decode, Error, ErrorKind, Header, Length, Reader, ReaderExt, SliceReader, Tag,
@@ -24,9 +24,9 @@ mod model;
 mod parts;
 mod segments;
 
-// Readers that segments are joined by, without saying all that they are.
+// Readers that join segments, without naming their types.
 trait Joins: Placed + Drop {
-    // What segments with this tag are joined to, behind a length.
+    // The joined segments with this tag, after a length.
     fn join(&mut self, alloc: Global, length: Length, tag: Tag) -> Result<Vec<u8>, Error>;
 }
 
@@ -42,7 +42,7 @@ impl<'a> Joins for CopyingReader<'a> {
     }
 }
 
-// What was read into a vector, or why it was not.
+// The octets of the vector, or the error.
 fn view(read: &Result<Vec<u8>, Error>) -> Result<&[u8], Error> {
     match read {
         Ok(octets) => Ok(octets.as_slice()),
@@ -55,7 +55,7 @@ fn count_of(octets: &[u8]) -> Result<u32, Error> {
     Ok(u32::from(Length::new_usize(octets.len())?))
 }
 
-// Number 0 of the context.
+// The tag `[0]`.
 fn context_specific(constructed: bool) -> Tag {
     TagNumber::new(0).context_specific(constructed)
 }

@@ -1,5 +1,5 @@
-//! Worked cases of byte strings and texts; what is expected is worked out by hand from X.690, from
-//! the rules of refusals, and from the definition of UTF-8.
+//! Worked cases of byte strings and texts. The expected results are worked out by hand from X.690,
+//! the rules for errors, and the definition of UTF-8.
 use der::example::{BorrowedOctets, OwnedText};
 use der::{
     BytesCow, BytesOwned, BytesRef, Decode, DecodeBytes, DecodeValue, Encode, EncodeValue, Error,
@@ -21,44 +21,44 @@ mod sizes;
 mod tagged;
 mod texts;
 
-// What a contract says of the calls below is not needed by the tests: so nothing is said here.
+// The functions below have no contracts, because the tests need none.
 
-// Octets that are borrowed.
+// Borrowed octets.
 fn bytes_of(octets: &[u8]) -> Result<BytesRef<'_>, Error> {
     BytesRef::new(octets)
 }
 
-// Octets in memory of their own.
+// Owned octets.
 fn owned_bytes(alloc: Global, octets: &[u8]) -> Result<BytesOwned, Error> {
     BytesOwned::from_slice(alloc, octets)
 }
 
-// A text that is borrowed.
+// A borrowed text.
 fn text_of(text: &str) -> Result<StringRef<'_>, Error> {
     StringRef::new(text)
 }
 
-// A text that is borrowed, of its octets.
+// A borrowed text, from its octets.
 fn text_from(octets: &[u8]) -> Result<StringRef<'_>, Error> {
     StringRef::from_bytes(octets)
 }
 
-// A text in memory of its own, of the octets of a text.
+// An owned text, from the octets of a text.
 fn owned_text(alloc: Global, octets: &[u8]) -> Result<StringOwned, Error> {
     StringOwned::from_bytes(alloc, octets)
 }
 
-// A text in memory of its own, of one that is borrowed.
+// An owned text, from a borrowed one.
 fn copied_text(alloc: Global, text: &StringRef<'_>) -> Result<StringOwned, Error> {
     text.ref_to_owned(alloc)
 }
 
-// A text in memory of its own, of another one.
+// An owned text, from another one.
 fn cloned_text(alloc: Global, text: &StringOwned) -> Result<StringOwned, Error> {
     text.clone_in(alloc)
 }
 
-// The contents of a text, borrowed from a reader that lends.
+// The contents of a text, borrowed from a reader that returns slices.
 fn lent_text<'a>(
     alloc: Global,
     reader: &mut SliceReader<'a>,
@@ -67,7 +67,7 @@ fn lent_text<'a>(
     StringRef::decode_value(alloc, reader, header)
 }
 
-// Whether an error says that octets are no text; it has no position.
+// Whether an error says that octets are not text, and has no position.
 fn is_no_text(error: Option<Error>) -> bool {
     match error {
         Some(error) => { matches!(error.kind(), ErrorKind::Utf8(_)) && error.position().is_none() }
@@ -75,7 +75,7 @@ fn is_no_text(error: Option<Error>) -> bool {
     }
 }
 
-// The header of an OCTET STRING of so many octets.
+// The header of an OCTET STRING of `count` octets.
 fn header_of(count: u32) -> Header {
     Header::new(Tag::OctetString, Length::new(count))
 }

@@ -6,7 +6,7 @@ use std::process::Abort;
 use std::str;
 use std::test::Fail;
 
-/// The kinds whose text holds no length and no tag.
+/// The kinds whose text contains no length and no tag.
 const PLAIN: [(ErrorKind, &str); 14] = [
     (ErrorKind::DateTime, "date/time error"),
     (ErrorKind::EncodingRules, "invalid encoding rules"),

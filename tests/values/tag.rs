@@ -22,7 +22,7 @@ const TO_SEQUENCE: [(Tag, u32, &str); 11] = [
     (Tag::Sequence, 16, "SEQUENCE"),
 ];
 
-/// The universal tags behind `SEQUENCE`, each with its number and its name.
+/// The universal tags after `SEQUENCE`, each with its number and its name.
 const FROM_SET: [(Tag, u32, &str); 11] = [
     (Tag::Set, 17, "SET"),
     (Tag::NumericString, 18, "NumericString"),
@@ -202,7 +202,7 @@ fn tags_are_equal_and_hashed_equally_exactly_where_all_is_equal(rt: HostRuntime)
     }
 }
 
-/// A derived hash feeds the place of the variant in 8 octets, the lowest first, and then the
+/// A derived hash feeds the index of the variant in 8 octets, the lowest first, and then the
 /// fields.
 #[test]
 fn a_hasher_gets_the_variant_and_then_the_fields(rt: HostRuntime) {

@@ -1,4 +1,4 @@
-//! Worked cases of orders; what is expected is worked out by hand from X.690 11.6.
+//! Worked cases of orders. The expected results are worked out by hand from X.690 11.6.
 use der::example::{BorrowedOctets, JoinedOctets, MyByteMonth, OwnedText};
 use der::{
     BytesOwned, BytesRef, DerOrd, EncodeValue, EncodeValueRef, Error, ErrorKind, FixedTag, Header,

@@ -1,5 +1,5 @@
-//! Worked cases of writing; what is expected is worked out by hand from X.690 and from
-//! the rules of refusals.
+//! Worked cases of writing. The expected results are worked out by hand from X.690 and the rules
+//! for errors.
 use der::{Error, ErrorKind, Header, Length, Tag, TagNumber};
 use std::alloc::Global;
 use std::test::Fail;

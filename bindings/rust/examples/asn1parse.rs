@@ -1,4 +1,5 @@
-//! Prints the elements of a file as `openssl asn1parse -inform DER` does, up to their types.
+//! Prints the elements of a file as `openssl asn1parse -inform DER` does, up to and including
+//! types.
 //!
 //!     DER_C_LIB=/usr/local/lib cargo run --example asn1parse FILE [ber]
 use der_c::{Element, Error, Reader};

@@ -1,5 +1,5 @@
-//! A safe reader and writer of DER (ITU-T X.690), and a reader of BER, over the proved library `libder_c.a`. No call
-//! allocates. Lengths and positions are in octets.
+//! A safe reader and writer of DER (ITU-T X.690), and a reader of BER, over the proved library
+//! `libder_c.a`. No function allocates. Lengths and positions are in octets.
 #![no_std]
 
 mod sys;
@@ -10,7 +10,7 @@ use core::marker::PhantomData;
 pub use sys::Node;
 use sys::{RawElement, RawError, RawHeader, RawReader, RawWriter};
 
-/// Why octets are refused. It is `Copy`, and holds no octets.
+/// Why a read or a write failed. It is `Copy`, and holds no octets of the input.
 #[derive(Clone, Copy, PartialEq, Eq, Debug)]
 pub struct Error(RawError);
 
@@ -18,45 +18,45 @@ pub struct Error(RawError);
 #[derive(Clone, Copy, PartialEq, Eq, Debug)]
 #[non_exhaustive]
 pub enum ErrorKind {
-    /// The reader does not read by the rules that the call wants.
+    /// The call does not work under the encoding rules of the reader.
     EncodingRules,
     /// The reader or writer had failed before.
     Failed,
     /// The input ends too early.
     Incomplete {
-        /// How many octets the input would have to have.
+        /// How many octets the input would need.
         expected: u32,
         /// How many it has.
         actual: u32,
     },
-    /// An indefinite length where none may stand, or one that is not closed rightly.
+    /// An indefinite length where none is allowed, or one that is not closed properly.
     IndefiniteLength,
-    /// The length of an element with this tag is not spelled as it has to be.
+    /// The length octets of an element with this tag break the encoding rules.
     Length(Tag),
-    /// Elements stand inside each other too deeply.
+    /// Elements are nested too deeply.
     NestingDepth,
-    /// A number of octets passes 4294967295.
+    /// A number of octets exceeds 4294967295.
     Overflow,
-    /// There is no room for so many octets.
+    /// There is too little space.
     Overlength,
     /// The element was not read by this reader.
     Reader,
-    /// A tag number is not spelled as it has to be, or a [`Tag`] is none.
+    /// A tag number is malformed, or a [`Tag`] is not a tag.
     TagNumberInvalid,
     /// Another tag was expected.
     TagUnexpected {
-        /// The tag that was asked for.
+        /// The tag that was requested.
         expected: Tag,
-        /// The tag that stands there.
+        /// The tag that was found.
         actual: Tag,
     },
-    /// No universal tag has this first octet.
+    /// No universal tag has this identifier octet.
     TagUnknown(u8),
     /// Octets are left at the end.
     TrailingData {
-        /// How many are read.
+        /// How many octets are read.
         decoded: u32,
-        /// How many are left.
+        /// How many octets are left.
         remaining: u32,
     },
     /// Another kind, by its number in `der.h`.
@@ -64,7 +64,7 @@ pub enum ErrorKind {
 }
 
 impl Error {
-    /// What went wrong, with its tags and numbers.
+    /// The kind of error, with its tags and numbers.
     pub fn kind(&self) -> ErrorKind {
         let RawError { first, second, .. } = self.0;
         let expected = Tag(self.0.expected as u64 + 256 * first as u64);
@@ -93,7 +93,7 @@ impl Error {
         }
     }
 
-    /// The position, where one is known.
+    /// The position, if one is known.
     pub fn position(&self) -> Option<u32> {
         self.0.has_position.then_some(self.0.position)
     }
@@ -102,7 +102,7 @@ impl Error {
 impl fmt::Display for Error {
     fn fmt(&self, f: &mut fmt::Formatter<'_>) -> fmt::Result {
         let mut text = [0; 160];
-        // SAFETY: pointer and length are those of an array that the call only writes.
+        // SAFETY: pointer and length describe an array, and the call only writes it.
         let count = unsafe { sys::der_error_text(self.0, text.as_mut_ptr(), text.len()) };
         f.write_str(core::str::from_utf8(&text[..count]).unwrap_or("error"))
     }
@@ -115,11 +115,11 @@ fn answer(error: RawError) -> Result<(), Error> {
     if error.kind == 0 { Ok(()) } else { Err(Error(error)) }
 }
 
-/// A tag: the first octet of its identifier, and 256 times its number where that is 31 or more.
+/// A tag: the first octet of its identifier, plus 256 times its number if that is 31 or more.
 #[derive(Clone, Copy, PartialEq, Eq, Hash, Debug)]
 pub struct Tag(pub u64);
 
-/// The universal tags that the library knows are constants.
+/// The universal tags that the library knows.
 #[allow(missing_docs)]
 impl Tag {
     pub const BOOLEAN: Tag = Tag(0x01);
@@ -160,7 +160,7 @@ impl Tag {
         Self::of_class(0xC0, number, constructed)
     }
 
-    // the tag of a class, whose first octet begins so
+    // the tag of a class, which is given by the class bits of the first octet
     const fn of_class(class: u64, number: u32, constructed: bool) -> Tag {
         let first = class + if constructed { 0x20 } else { 0 };
         Tag(if number < 31 {
@@ -171,12 +171,13 @@ impl Tag {
     }
 }
 
-/// What a header says.
+/// The header of an element.
 #[derive(Clone, Copy, PartialEq, Eq, Debug)]
 pub struct Header {
     /// The tag.
     pub tag: Tag,
-    /// How many octets of contents there are, with the end mark where the length is indefinite.
+    /// How many octets of contents there are, with the end-of-contents octets of an indefinite
+    /// length.
     pub length: u32,
     /// Whether the identifier has the constructed bit.
     pub constructed: bool,
@@ -184,11 +185,11 @@ pub struct Header {
     pub indefinite: bool,
 }
 
-/// An element that a reader lent.
+/// An element, whose contents borrow from the input of the reader.
 #[derive(Clone, Copy)]
 pub struct Element<'a>(RawElement<'a>);
 
-// SAFETY: an element is numbers and a `&[u8]`, which may be sent.
+// SAFETY: an element consists of numbers and a `&[u8]`, all of which are `Send` and `Sync`.
 unsafe impl Send for Element<'_> {}
 // SAFETY: as above.
 unsafe impl Sync for Element<'_> {}
@@ -200,10 +201,10 @@ impl<'a> Element<'a> {
         Tag(self.0.tag)
     }
 
-    /// The contents, without an end mark.
+    /// The contents, without end-of-contents octets.
     #[inline]
     pub fn contents(&self) -> &'a [u8] {
-        // SAFETY: proved: they are a part of the reader's octets, which live for 'a.
+        // SAFETY: proved: they lie in the octets of the reader, which live for 'a.
         unsafe { core::slice::from_raw_parts(self.0.contents, self.0.length) }
     }
 
@@ -219,7 +220,7 @@ impl<'a> Element<'a> {
         self.0.indefinite
     }
 
-    /// Where the header begins, and where the contents do.
+    /// The positions where the header and the contents begin.
     #[inline]
     pub fn positions(&self) -> (u32, u32) {
         (self.0.start, self.0.contents_start)
@@ -236,29 +237,29 @@ impl fmt::Debug for Element<'_> {
     }
 }
 
-/// A reader of octets. It is a small value: a copy reads on by itself.
+/// A reader of octets. It is a small value: a copy reads on independently.
 #[derive(Clone, Copy)]
 pub struct Reader<'a>(RawReader<'a>);
 
-// SAFETY: a reader is numbers and a `&[u8]`.
+// SAFETY: a reader consists of numbers and a `&[u8]`.
 unsafe impl Send for Reader<'_> {}
 // SAFETY: as above.
 unsafe impl Sync for Reader<'_> {}
 
 impl<'a> Reader<'a> {
-    /// Under the Distinguished Encoding Rules.
+    /// A reader under the Distinguished Encoding Rules.
     pub fn der(octets: &'a [u8]) -> Result<Self, Error> {
         Self::new(octets, false)
     }
 
-    /// Under the Basic Encoding Rules.
+    /// A reader under the Basic Encoding Rules.
     pub fn ber(octets: &'a [u8]) -> Result<Self, Error> {
         Self::new(octets, true)
     }
 
     fn new(octets: &'a [u8], ber: bool) -> Result<Self, Error> {
         let mut raw = RawReader::EMPTY;
-        // SAFETY: pointer and length are those of a slice, which the reader borrows for 'a.
+        // SAFETY: pointer and length describe a slice, which the reader borrows for 'a.
         answer(unsafe { sys::der_reader_init(octets.as_ptr(), octets.len(), ber, &mut raw) })?;
         Ok(Reader(raw))
     }
@@ -282,13 +283,14 @@ impl<'a> Reader<'a> {
         })
     }
 
-    /// Passes the next element.
+    /// Consumes the next element.
     #[inline]
     pub fn skip(&mut self) -> Result<(), Error> {
         answer(sys::der_skip(&mut self.0))
     }
 
-    /// Passes the body of an indefinite length, behind octet `0x80`, and tells how many octets it has, with its end mark.
+    /// Returns the number of octets of indefinite-length contents, end-of-contents octets included,
+    /// and consumes them. The reader has to be just after octet `0x80`.
     pub fn scan(&mut self) -> Result<u32, Error> {
         let mut count = 0;
         answer(sys::der_scan(&mut self.0, &mut count))?;
@@ -303,7 +305,8 @@ impl<'a> Reader<'a> {
         Ok(Element(element))
     }
 
-    /// The next element, with this tag; another leaves the reader as it was.
+    /// The next element, which must have this tag; any other tag is an error that leaves the reader
+    /// unchanged.
     #[inline]
     pub fn expect(&mut self, tag: Tag) -> Result<Element<'a>, Error> {
         let mut element = RawElement::EMPTY;
@@ -323,7 +326,7 @@ impl<'a> Reader<'a> {
         }
     }
 
-    /// Passes an element with this tag, and reads its contents.
+    /// Consumes the next element, which must have this tag, and returns a reader of its contents.
     #[inline]
     pub fn enter(&mut self, tag: Tag) -> Result<Reader<'a>, Error> {
         let mut inside = RawReader::EMPTY;
@@ -331,7 +334,7 @@ impl<'a> Reader<'a> {
         Ok(Reader(inside))
     }
 
-    /// Reads the contents of an element of this reader.
+    /// A reader of the contents of an element that this reader has read.
     #[inline]
     pub fn open(&self, element: &Element<'a>) -> Result<Reader<'a>, Error> {
         let mut inside = RawReader::EMPTY;
@@ -339,14 +342,15 @@ impl<'a> Reader<'a> {
         Ok(Reader(inside))
     }
 
-    /// Whether nothing is left.
+    /// Whether no octets are left.
     #[inline]
     pub fn is_finished(&self) -> bool {
-        // what der_is_finished answers; the fields are private, so no call is needed for it
+        // the result of der_is_finished, from private fields that only the library sets, without a
+        // call
         self.0.position == self.0.end as usize
     }
 
-    /// Refuses octets that are left.
+    /// Fails if octets are left.
     pub fn finish(self) -> Result<(), Error> {
         answer(sys::der_finish(&self.0))
     }
@@ -359,16 +363,17 @@ impl<'a> Reader<'a> {
         }
     }
 
-    /// All elements that are left and what is inside them, each before its parts: how many there were.
+    /// Fills `nodes` with all elements that are left and those inside them, each before those
+    /// inside it, and returns their number.
     pub fn tree(mut self, nodes: &mut [Node]) -> Result<usize, Error> {
         let mut count = 0;
-        // SAFETY: pointer and length are those of a slice that the call only writes.
+        // SAFETY: pointer and length describe a slice, and the call only writes it.
         answer(unsafe { sys::der_read_tree(&mut self.0, nodes.as_mut_ptr(), nodes.len(), &mut count) })?;
         Ok(count)
     }
 }
 
-/// The elements that a reader had left; behind an error there is nothing.
+/// The elements that are left in a reader; the iterator ends after an error.
 pub struct Elements<'a> {
     reader: Reader<'a>,
     is_refused: bool,
@@ -393,16 +398,16 @@ impl core::iter::FusedIterator for Elements<'_> {}
 /// The order of two whole elements in a SET OF (X.690 11.6).
 pub fn compare(first: &[u8], second: &[u8]) -> Result<Ordering, Error> {
     let mut order = 0;
-    // SAFETY: pointers and lengths are those of slices, which the call only reads.
+    // SAFETY: pointers and lengths describe slices, and the call only reads them.
     answer(unsafe { sys::der_compare(first.as_ptr(), first.len(), second.as_ptr(), second.len(), &mut order) })?;
     Ok(order.cmp(&0))
 }
 
-/// A writer into octets of the caller's.
+/// A writer into octets that the caller owns.
 pub struct Writer<'a>(RawWriter<'a>);
 
 impl<'a> Writer<'a> {
-    /// A writer into these octets, at their beginning.
+    /// A writer into these octets, from their start.
     pub fn new(octets: &'a mut [u8]) -> Self {
         let mut raw = RawWriter {
             octets: core::ptr::NonNull::dangling().as_ptr(),
@@ -411,12 +416,12 @@ impl<'a> Writer<'a> {
             failed: false,
             lent: PhantomData,
         };
-        // SAFETY: pointer and length are those of a slice, which the writer borrows for 'a.
+        // SAFETY: pointer and length describe a slice, which the writer borrows for 'a.
         unsafe { sys::der_writer_init(octets.as_mut_ptr(), octets.len(), &mut raw) };
         Writer(raw)
     }
 
-    /// Writes the header of a tag and of so many octets of contents.
+    /// Writes the header of an element with this tag and number of octets of contents.
     #[inline]
     pub fn header(&mut self, tag: Tag, length: u32) -> Result<(), Error> {
         answer(sys::der_write_header(&mut self.0, tag.0, length))
@@ -425,11 +430,12 @@ impl<'a> Writer<'a> {
     /// Writes an element.
     #[inline]
     pub fn element(&mut self, tag: Tag, contents: &[u8]) -> Result<(), Error> {
-        // SAFETY: pointer and length are those of a slice, which the call only reads.
+        // SAFETY: pointer and length describe a slice, and the call only reads it.
         answer(unsafe { sys::der_write_element(&mut self.0, tag.0, contents.as_ptr(), contents.len()) })
     }
 
-    /// Writes an element, whose contents are what `write` writes. Behind an error of `write` the element is not ended.
+    /// Writes an element whose contents are written by `write`. If `write` fails, the element is
+    /// not ended.
     #[inline]
     pub fn inside(&mut self, tag: Tag, write: impl FnOnce(&mut Self) -> Result<(), Error>) -> Result<(), Error> {
         let mut start = 0;
@@ -438,7 +444,7 @@ impl<'a> Writer<'a> {
         answer(sys::der_end(&mut self.0, start))
     }
 
-    /// Writes octets as they stand.
+    /// Writes octets unchanged.
     #[inline]
     pub fn write(&mut self, octets: &[u8]) -> Result<(), Error> {
         // SAFETY: as above.
@@ -450,15 +456,15 @@ impl<'a> Writer<'a> {
         sys::der_written(&self.0)
     }
 
-    /// The octets that were written; refused where the writer had failed.
+    /// The octets that were written, or an error if the writer had failed.
     pub fn finish(self) -> Result<&'a [u8], Error> {
         answer(sys::der_writer_finish(&self.0))?;
-        // SAFETY: proved: so many octets of the slice are written, and it is borrowed for 'a.
+        // SAFETY: proved: that number of octets of the slice is written, and it is borrowed for 'a.
         Ok(unsafe { core::slice::from_raw_parts(self.0.octets, self.0.position) })
     }
 }
 
-/// How many octets an element has, of a tag and so many octets of contents.
+/// How many octets an element with this tag and number of octets of contents has.
 pub fn element_length(tag: Tag, length: u32) -> Result<u32, Error> {
     let mut count = 0;
     answer(sys::der_element_length(tag.0, length, &mut count))?;

@@ -1,6 +1,8 @@
-//! The structs and calls of `der.h`, as they are. A reference in a call is never null, never leads to what another
-//! one of the call leads to, and holds a value that Rust made: so the calls whose other parameters are numbers are
-//! safe. Those with a pointer and a length are not: the caller sees to it that they are those of a slice.
+//! The structs and functions of `der.h`.
+//!
+//! References in a call are never null, point to different structs and hold values that Rust made,
+//! so functions whose other parameters are numbers are safe. Functions with a pointer and a length
+//! are unsafe: the caller ensures that they describe a slice.
 use core::marker::PhantomData;
 
 #[repr(C)]
@@ -59,11 +61,11 @@ pub struct RawWriter<'a> {
     pub lent: PhantomData<&'a mut [u8]>,
 }
 
-/// An element of a tree, by positions in octets from the beginning of the input.
+/// An element of a tree. Positions are in octets from the start of the input.
 #[repr(C)]
 #[derive(Clone, Copy, Default, Debug, PartialEq, Eq)]
 pub struct Node {
-    /// The tag, as [`Tag`](crate::Tag) has it.
+    /// The tag, as in [`Tag`](crate::Tag).
     pub tag: u64,
     /// Where the header begins.
     pub start: u32,
@@ -71,7 +73,7 @@ pub struct Node {
     pub contents_start: u32,
     /// Where the contents end.
     pub end: u32,
-    /// How many elements of the tree stand around it.
+    /// How many elements of the tree contain it.
     pub depth: u8,
     /// Whether the identifier has the constructed bit.
     pub constructed: bool,
@@ -79,7 +81,7 @@ pub struct Node {
     pub indefinite: bool,
 }
 
-// The shapes that the library was made for.
+// The layouts that the library was compiled for.
 const _: () = {
     use core::mem::{offset_of, size_of};
     assert!(size_of::<usize>() == 8);
@@ -100,7 +102,7 @@ const _: () = {
     assert!(offset_of!(RawWriter, failed) == 24);
 };
 
-/// The number of a kind that the wrapper looks at.
+/// The number of the one kind that the wrapper checks.
 pub const TAG_UNEXPECTED: u8 = 17;
 
 impl RawReader<'_> {

@@ -47,7 +47,7 @@ fn errors_are_told() {
         error.to_string(),
         "unexpected ASN.1 DER tag: expected CONTEXT-SPECIFIC [1000] (constructed), got APPLICATION [129] (primitive)"
     );
-    // it is still there
+    // the element was not consumed
     assert_eq!(reader.read().unwrap().tag(), Tag(0x5f + 256 * 129));
     assert!(reader.finish().is_ok());
     let error = Reader::der(&[5, 0, 5, 0]).unwrap().finish().unwrap_err();
@@ -122,7 +122,8 @@ fn what_is_written_is_read() {
 
 #[test]
 fn a_word_that_is_no_tag_is_refused() {
-    // a number below 31 behind five set bits, one behind others, an unknown universal tag, a number past 32 bits
+    // a number below 31 in the long form, a number next to a short form, an unknown universal tag,
+    // a universal tag in the long form, a number past 32 bits
     for word in [0x9F + 256 * 30, 0x80 + 256, 0x07, 0x1F + 256 * 40, 0x9F + (1 << 40)] {
         let mut room = [0; 20];
         let mut writer = Writer::new(&mut room);
@@ -131,7 +132,7 @@ fn a_word_that_is_no_tag_is_refused() {
         assert_eq!(writer.element(Tag::NULL, &[]).unwrap_err().kind(), ErrorKind::Failed);
         assert!(element_length(Tag(word), 0).is_err());
     }
-    // [1000] has three octets of tag
+    // the identifier of [1000] has three octets
     assert_eq!(element_length(Tag::context(1000, false), 200).unwrap(), 3 + 2 + 200);
     assert_eq!(
         element_length(Tag::NULL, u32::MAX).unwrap_err().kind(),
@@ -166,12 +167,12 @@ fn elements_are_written_inside_others() {
         })
         .unwrap();
     let octets = writer.finish().unwrap();
-    // 203 octets of the string, with their header of [1000] 208, and the NULL
+    // the string has 203 octets, with the header of [1000] 208, and then the NULL
     let mut wanted = vec![0x30, 0x81, 210, 0xBF, 0x87, 0x68, 0x81, 203, 4, 0x81, 200];
     wanted.extend([7; 200]);
     wanted.extend([5, 0]);
     assert_eq!(octets, wanted);
-    // room for all but the octet that the length of 128 octets has more
+    // enough space for all but the second length octet that a length of 128 needs
     for more in [0, 1] {
         let mut room = [0xee; 2 + 128 + 1];
         let mut writer = Writer::new(&mut room[..130 + more]);

@@ -1,4 +1,4 @@
--- What the octets of a whole element say of the input.
+-- What reading an element implies about the input.
 use Rattle.std.proofs.Common.{◌≡◌, ℕ, ◌+◌, ◌^◌, ◌<◌, ◌≤◌, if◌then◌else◌, Bool, true, Result, Ok, Err, IfOk, IfErr, List, length, take, refl, sym, ap, ◌∙◌, subst, ⊎_elim, arith}
 use Rattle.std.proofs.lemmas.Bool.{lt-ltb, le-ltb, cases_lt, lt-leb, le-leb}
 use Rattle.der.specs.Prelude.{error_of_kind, number, Head, HeadAhead, Error, EncodingRules, ReaderState, rest_of, map_ok, read_slice_outcome, head_of}
@@ -12,7 +12,7 @@ use Rattle.der.proofs.DecodeLemmas.{rest-beginning}
 use Rattle.der_answers.specs.Answer.{IsElement, NoElement}
 use Rattle.der_answers.proofs.HeaderLemmas.{fault_refused}
 
--- an answer told of octets: their element, or why there is none
+-- the result for these octets: their element, or why there is none
 abbrev ElementSays : EncodingRules → List ℕ → Result (List ℕ) Error → Type 0
 ElementSays rules octets (Ok element) = IsElement rules octets element
 ElementSays rules octets (Err e) = NoElement rules octets e
@@ -24,7 +24,7 @@ module _ (rules : EncodingRules) (octets : List ℕ) where
   left : rest_of begun ≡ octets
   left = rest-beginning rules octets
 
-  -- the answer of an element of n octets, and what its two tests choose from
+  -- the result for an element of n octets, and what its two tests choose from
   abbrev whole_answer : ℕ → Result (List ℕ) Error
   whole_answer n = (tlv_outcome n begun).answer
 
@@ -67,7 +67,7 @@ module _ (rules : EncodingRules) (octets : List ℕ) where
   element_says : (s t : ReaderState) (r : Result (List ℕ) Error) → length octets < 2 ^ 32 → s ≡ begun → TlvAnswer s r t → ElementSays rules octets r
   element_says s t r small e h = begun_says r t small (subst (λ x. TlvAnswer x r t) e h)
 
-  -- what a reliable reader lends, or the error that it tells
+  -- the slice that a reliable reader returns, or its error
   pub lent_says : {B : Type 0} (now : B → List ℕ) (s t : ReaderState) (r : Result B Error) → length octets < 2 ^ 32 → s ≡ begun → (IsBinding true r → TlvAnswer s (map_ok now r) t)
       → IfOk r (λ e. IsElement rules octets (now e))
   lent_says now s t (Ok e) small is h = element_says s t (Ok (now e)) small is (h tt)

@@ -1,4 +1,4 @@
--- What a header that was read, or refused, says of the input.
+-- What reading a header, or failing to, implies about the input.
 use Rattle.std.proofs.Common.{◌≡◌, ℕ, ◌+◌, ◌-◌, ◌^◌, ◌<◌, true, false, Ok, List, length, take, drop, ap, ◌∙◌, subst, inr, length-drop, arith}
 use Rattle.std.proofs.lemmas.List.{take_all}
 use Rattle.der.specs.ScanGrammar.{BodyFault}
@@ -11,7 +11,7 @@ use Rattle.der.proofs.DecodeLemmas.{rest-beginning, remaining_ok}
 use Rattle.der_answers.specs.Answer.{IsHeaderRead, IsRefusedFor}
 
 module _ (rules : EncodingRules) (octets : List ℕ) where
-  -- a reader of the octets refuses
+  -- a reader of the octets fails
   pub fault_refused : (e : Error) {t : ReaderState} → length octets < 2 ^ 32 → IsRefusedBy (HeaderFault BodyFault) (initial_state rules octets) e t → IsRefusedFor rules octets e
   fault_refused e small (IsRefusedBy.has_failed h told same) = absurd (let no : false ≡ true = h in cc)
   fault_refused e small (IsRefusedBy.at_fault r working fault told leaves) = inr (r, small, subst (λ o. HeaderFault BodyFault rules 0 o r) (rest-beginning rules octets) fault, told)
@@ -25,7 +25,7 @@ module _ (rules : EncodingRules) (octets : List ℕ) where
     pub refused_header : (e : Error) → IsRefusedBy (HeaderFault BodyFault) s e t → IsRefusedFor rules octets e
     refused_header e refused = fault_refused e small (subst (λ x. IsRefusedBy (HeaderFault BodyFault) x e t) begun refused)
 
-    -- the octets behind the header are those that are left
+    -- the octets after the header are those that are left
     pub read_header : (h : Header) (left : List ℕ) → Passes (HeaderAhead h) s t → Ok left ≡ remaining_answer t → IsHeaderRead rules octets (head_of h) left
     read_header h left passes is =
         let passed : Passes (HeaderAhead h) (initial_state rules octets) t = subst (λ x. Passes (HeaderAhead h) x t) begun passes in

@@ -1,4 +1,4 @@
--- What is joined, or refused, is told.
+-- Joined segments are printed, and so is each error of joining.
 use Rattle.std.proofs.Common.{◌≡◌, ℕ, zero, suc, ◌+◌, ◌^◌, ◌<◌, nat_lt, nat_le, not, List, [], ◌∷◌, length, Result, Ok, Err, IfOk, IfErr, inl, inr, refl, sym, ◌∙◌, subst}
 use Rattle.std.proofs.lemmas.Bool.{cases_Bool}
 use Rattle.der.specs.HeaderGrammar.{HeaderFault}
@@ -18,7 +18,7 @@ use Rattle.der_answers.specs.Answer.{IsJoined, NotJoined, HandsOn, TellsError, A
 use Rattle.der_answers.specs.Text.{octets_line}
 use Rattle.der_answers.proofs.TextLemmas.{HasText, missing_printed, header_text}
 
--- what an answer refuses has a text
+-- the error of a result has a text
 abbrev Prints : {A : Type 0} → Result A Error → Type 0
 Prints (Ok v) = Unit {0}
 Prints (Err e) = HasText (error_text e)
@@ -26,7 +26,7 @@ Prints (Err e) = HasText (error_text e)
 printed : {A : Type 0} {e : Error} {r : Result A Error} → Err e ≡ r → Prints r → HasText (error_text e)
 printed {A} {e} {r} told prints = subst (λ (x : Result A Error). Prints x) (sym told) prints
 
--- the calls of a reader
+-- the methods of a reader
 module _ (s : ReaderState) where
   slice_prints : (n : ℕ) → Prints (read_slice_outcome n s).answer
   slice_prints n =

@@ -1,4 +1,4 @@
--- What is refused has a text.
+-- Each error has a text.
 use Rattle.std.proofs.Common.{◌≡◌, ℕ, ◌+◌, ◌-◌, min, ◌++◌, ◌^◌, ◌==◌, nat_lt, List, length, [], ◌∷◌, Option, Some, refl, inl, inr}
 use Rattle.std.proofs.lemmas.Bool.{cases_Bool}
 use Rattle.der.specs.Prelude.{length_octets, Head, byte_order, kind_of, position_of, number, Error, EncodingRules, Der}
@@ -33,7 +33,7 @@ identifier_text {at = at} (IdentifierFault.refused [] o rest c n) =
     ]
 identifier_text (IdentifierFault.refused (first ∷ s) o rest c n) = (_, refl)
 
--- what is read of a body may have any fault whose error prints
+-- contents may have any fault whose error has a text
 abbrev BodyText : (ℕ → List ℕ → Refusal → Type 0) → Type 0
 BodyText Fault = (at : ℕ) (s : List ℕ) (r : Refusal) → Fault at s r → HasText (error_text r.error)
 
@@ -71,7 +71,7 @@ header_text (HeaderFault.no_length i f) = length_text body_text (_, refl) f
 header_text (HeaderFault.primitive i l f) = (_, refl)
 
 module _ (rules : EncodingRules) (octets : List ℕ) where
-  -- each error that a refused input is told as prints
+  -- each error of a header has a text
   refused_text : (e : Error) → IsRefusedFor rules octets e → HasText (error_text e)
   refused_text e (inl (long, told)) = rw told (_, refl)
   refused_text e (inr (r, small, fault, told)) = rw told (header_text fault)
@@ -84,7 +84,7 @@ module _ (rules : EncodingRules) (octets : List ℕ) where
       let printed = refused_text e refused in
       AnswersHead.refused record { error = e; reason = printed.0; refused = refused; says = printed.1; line = tells printed.0 printed.1 }
 
-  -- each error that missing elements are told as has a text
+  -- each error of a missing element has a text
   missing_text : (e : Error) → NoElement rules octets e → HasText (error_text e)
   missing_text e (NoElement.no_header refused) = refused_text e refused
   missing_text e (NoElement.past_every_length h count small ahead far) = (_, refl)
@@ -98,7 +98,7 @@ module _ (rules : EncodingRules) (octets : List ℕ) where
       let printed = missing_text e refused in
       AnswersTlv.refused record { error = e; reason = printed.0; refused = refused; says = printed.1; line = tells printed.0 printed.1 }
 
--- each error of octets that are not wholly an element has a text, alone or as one of two
+-- each error of octets that are not exactly one element has a text, for one and for two inputs
 whole_text : (octets : List ℕ) (e : Error) → NoWholeElement octets e → HasText (error_text e)
 whole_text octets e (NoWholeElement.no_header refused) = refused_text Der octets e refused
 whole_text octets e (NoWholeElement.past_every_length h count small ahead far) = (_, refl)

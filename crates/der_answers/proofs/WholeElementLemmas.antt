@@ -1,4 +1,4 @@
--- What an element that was read, or refused, says of all of the input.
+-- What reading a whole element, or failing to, implies about the input.
 use Rattle.std.proofs.Common.{◌≡◌, ℕ, ◌+◌, ◌-◌, ◌^◌, ◌<◌, ◌≤◌, ◌++◌, Bool, true, false, Result, Ok, Err, List, length, take, drop, refl, sym, ap, ◌∙◌, subst, inl, inr, take-take, length-drop, nat_lt, arith}
 use Rattle.std.proofs.lemmas.Bool.{lt-ltb, le-leb, cases_lt}
 use Rattle.std.proofs.lemmas.List.{take_all, drop_at}
@@ -16,15 +16,15 @@ use Rattle.der.proofs.DerLemmas.{HeaderRead, header_read}
 use Rattle.der.proofs.WholeLemmas.{finish_ok, finishes}
 use Rattle.der_answers.specs.Answer.{IsWholeElement, NoWholeElement, trailing_error}
 
--- behind so many of the octets
+-- the state after n of the octets
 abbrev behind : List ℕ → ℕ → ReaderState
 behind octets n = record (initial_state Der octets) { position = n }
 
--- what is made of the contents of a length by a closure that lends so many octets
+-- the result of reading contents of this length with a closure that returns that many octets
 abbrev Lends : {B : Type 0} → (Error → Error → Type 0) → (B → List ℕ) → Length → ReaderState → Result B Error → ReaderState → Type 0
 Lends converts octets_of l = ValueAnswer converts (λ s r q. Gives (read_slice_outcome (number l)) s (map_ok octets_of r) q) (λ p. p) (λ q. q) l
 
--- a header stands at the front
+-- the octets begin with a header
 module _ (octets : List ℕ) (h : Head) (m : ℕ) (small : length octets < 2 ^ 32) (ahead : HeadAhead h Der octets m) where
   abbrev n : ℕ
   n = number h.length
@@ -42,7 +42,7 @@ module _ (octets : List ℕ) (h : Head) (m : ℕ) (small : length octets < 2 ^ 3
           subst (NoWholeElement octets) (sym is) (NoWholeElement.contents_missing h m ahead (grind arith) (grind arith))
       go true false p q = absurd (let a = gives.answered in grind arith)
 
-  -- octets that are left behind the element are told
+  -- octets left after the element are reported
   not_finished : (e : Error) → Err e ≡ finish_answer (behind octets (m + n)) → NoWholeElement octets e
   not_finished e told =
       elim (cases_lt (m + n) (length octets)) [
@@ -55,7 +55,7 @@ module _ (octets : List ℕ) (h : Head) (m : ℕ) (small : length octets < 2 ^ 3
             absurd (cc)
       ]
 
-  -- inside the contents so many octets are there to be lent
+  -- inside the contents, all of their octets are there
   abbrev inside : ReaderState
   inside = nested_state (behind octets m) n
 
@@ -75,7 +75,7 @@ module _ (octets : List ℕ) (h : Head) (m : ℕ) (small : length octets < 2 ^ 3
     ContentsSay (Ok v) t = ContentsLent (octets_of v) t
     ContentsSay (Err e) t = NoWholeElement octets e
 
-    -- contents that were lent are closed
+    -- contents that were read are closed
     module _ (answer : Result B Error) (q t : ReaderState) (answered : map_ok octets_of answer ≡ Ok (take n (drop m octets))) (left : q ≡ advanced_state inside n) where
       none_refused : {r : Result B Error} (e : Error) → Closes converts answer q (length octets) 0 r t → r ≡ Err e → ⊥
       none_refused e (handed_on f a r l) is = (let no : map_ok octets_of (Err f) ≡ Ok (take n (drop m octets)) = subst (λ x. map_ok octets_of x ≡ Ok (take n (drop m octets))) a answered in cc)
@@ -91,7 +91,7 @@ module _ (octets : List ℕ) (h : Head) (m : ℕ) (small : length octets < 2 ^ 3
       closed result fits (with_mark v u c marked g is) = absurd (cc)
       closed result fits (mark_refused v u e f c marked g told is) = absurd (cc)
 
-    -- contents that a closure lent, or that are missing
+    -- the contents are read by a closure, or are truncated
     read : (result : Result B Error) (t : ReaderState) → Lends converts octets_of (definite_length n) (behind octets m) result t → ContentsSay result t
     read result t (not_opened e f gives told is) = subst (λ r. ContentsSay r t) (sym is) (subst (NoWholeElement octets) (sym (handed e f told)) (not_entered e t gives))
     read result t (opened p answer q can there ran closes) =
@@ -106,7 +106,7 @@ module _ (octets : List ℕ) (h : Head) (m : ℕ) (small : length octets < 2 ^ 3
     contents_say : (result : Result B Error) (t : ReaderState) → Lends converts octets_of (sans_eoc h.length) (behind octets m) result t → ContentsSay result t
     contents_say result t h = read result t (subst (λ l. Lends converts octets_of l (behind octets m) result t) (ap sans_eoc is_definite) h)
 
-  -- an element behind which nothing is left is all of the octets
+  -- an element with nothing after it is all of the octets
   whole_of : (contents : List ℕ) (t : ReaderState) → ContentsLent contents t → finish_answer t ≡ Ok tt → m + n ≡ length octets
   whole_of contents t c finished =
       let none_left = (finish_ok t finished).1 in
@@ -126,7 +126,7 @@ module _ (octets : List ℕ) (h : Head) (m : ℕ) (small : length octets < 2 ^ 3
   is_whole : m + n ≡ length octets → IsWholeElement octets
   is_whole all = record { countable = small; head = h; count = m; ahead = ahead; whole = all }
 
--- a reader of the octets passes a header, and its contents
+-- a reader of the octets consumes a header, and its contents
 module _ (octets : List ℕ) (s u t : ReaderState) (h : Header) {B : Type 0} (octets_of : B → List ℕ) {converts : Error → Error → Type 0} (handed : (e f : Error) → converts e f → f ≡ e)
     (begun : s ≡ initial_state Der octets) (small : length octets < 2 ^ 32) (passed : Passes (HeaderAhead h) s u) where
   ahead_of : HeadAhead (head_of h) Der octets passed.octets
@@ -142,14 +142,14 @@ module _ (octets : List ℕ) (s u t : ReaderState) (h : Header) {B : Type 0} (oc
   said : (result : Result B Error) → Lends converts octets_of (sans_eoc (head_of h).length) u result t → ContentsSay octets (head_of h) passed.octets small ahead_of octets_of handed result t
   said result lends = contents_say octets (head_of h) passed.octets small ahead_of octets_of handed result t (subst (λ x. Lends converts octets_of (sans_eoc (head_of h).length) x result t) stands_behind lends)
 
-  -- contents that are missing, and octets that are left behind
+  -- contents that are truncated, and octets that are left after them
   pub contents_refused : (e : Error) → Lends converts octets_of (sans_eoc (head_of h).length) u (Err e) t → NoWholeElement octets e
   contents_refused e lends = said (Err e) lends
 
   pub finish_refused : (v : B) (e : Error) → Lends converts octets_of (sans_eoc (head_of h).length) u (Ok v) t → Err e ≡ finish_answer t → NoWholeElement octets e
   finish_refused v e lends told = not_finished octets (head_of h) passed.octets small ahead_of e (told ∙ ap finish_answer (said (Ok v) lends).leaves)
 
-  -- an element that is all of the octets, and how it is written
+  -- an element that is all of the octets, and its encoding
   pub whole_read : (v : B) → Lends converts octets_of (sans_eoc (head_of h).length) u (Ok v) t → finish_answer t ≡ Ok tt → IsWholeElement octets × (element_octets (head_of h).tag (octets_of v) ≡ octets)
   whole_read v lends finished =
       let c = said (Ok v) lends in

@@ -1,4 +1,4 @@
--- What the program may say to its words.
+-- What the program may print, and the status with it.
 use Rattle.std.specs.Prelude.{◌≡◌, ℕ, ◌+◌, ◌-◌, ◌^◌, ◌<◌, ◌≤◌, ◌⊎◌, List, length, take, drop, codes, Option, Some, Ok, Err, string_bytes}
 use Rattle.std.specs.Io.KnownBytes.{Appends}
 use Rattle.hex.specs.Hex.{decode_of}
@@ -19,7 +19,7 @@ use Rattle.der_answers.specs.declared.command.Command.TheVariants.{Head as HeadO
 use Rattle.der_answers.specs.declared.answer.Answer.{Answer}
 use Rattle.der_answers.specs.declared.answer.Answer.TheVariants as answer
 
--- as many octets as a length can count begin with this header, and these are left behind it
+-- the octets fit a length and begin with this header, and `rest` are the octets after it
 pub record IsHeaderRead (rules : EncodingRules) (octets : List ℕ) (h : Head) (rest : List ℕ)
     : Type 0 where
   pub countable : length octets < 2 ^ 32
@@ -27,21 +27,21 @@ pub record IsHeaderRead (rules : EncodingRules) (octets : List ℕ) (h : Head) (
   pub ahead : HeadAhead h rules octets count
   pub behind : rest ≡ drop count octets
 
--- the octets are more than a length can count, or begin with no header; the error tells which
+-- the octets are too many for a length, or do not begin with a header; the error says which
 abbrev pub IsRefusedFor : EncodingRules → List ℕ → Error → Type 0
 IsRefusedFor rules octets e =
     ((2 ^ 32 ≤ length octets) × (e ≡ error_of_kind Overflow))
     ⊎ ((r : Refusal) × (length octets < 2 ^ 32) × HeaderFault BodyFault rules 0 octets r
     × (e ≡ r.error))
 
--- the error where so many octets were read, and others are left behind them, up to an end
+-- the error after `passed` octets, if others are left up to `end`
 abbrev pub trailing_error : ℕ → ℕ → Error
 trailing_error passed end =
     error_at (TrailingData (definite_length passed) (definite_length (end - passed)))
     (definite_length passed)
 
--- as many octets as a length can count begin with this element: a header, and as many octets more
--- as its length says
+-- the octets fit a length and begin with this element: a header, and the number of octets that its
+-- length gives
 pub record IsElement (rules : EncodingRules) (octets element : List ℕ) : Type 0 where
   pub countable : length octets < 2 ^ 32
   pub head : Head
@@ -50,7 +50,7 @@ pub record IsElement (rules : EncodingRules) (octets element : List ℕ) : Type 
   pub there : count + number head.length ≤ length octets
   pub whole : element ≡ take (count + number head.length) octets
 
--- the octets begin with no whole element; the error tells why
+-- the octets do not begin with a whole element; the error says why
 pub data NoElement (rules : EncodingRules) (octets : List ℕ) : Error → Type 0 where
   no_header : {e : Error} → IsRefusedFor rules octets e → NoElement rules octets e
   past_every_length : (h : Head) (count : ℕ) → length octets < 2 ^ 32
@@ -60,8 +60,8 @@ pub data NoElement (rules : EncodingRules) (octets : List ℕ) : Error → Type 
       → count + number h.length < 2 ^ 32 → length octets < count + number h.length
       → NoElement rules octets (missing_refusal (count + number h.length) (length octets) 0).error
 
--- as many octets as a length can count are wholly one element under DER: a header, and as many
--- octets more as its length says (X.690 8.1.1)
+-- the octets fit a length and are exactly one element under DER: a header, and the number of octets
+-- that its length gives (X.690 8.1.1)
 pub record IsWholeElement (octets : List ℕ) : Type 0 where
   pub countable : length octets < 2 ^ 32
   pub head : Head
@@ -69,7 +69,7 @@ pub record IsWholeElement (octets : List ℕ) : Type 0 where
   pub ahead : HeadAhead head Der octets count
   pub whole : count + number head.length ≡ length octets
 
--- the octets are not wholly one element; the error tells why
+-- the octets are not exactly one element; the error says why
 pub data NoWholeElement (octets : List ℕ) : Error → Type 0 where
   no_header : {e : Error} → IsRefusedFor Der octets e → NoWholeElement octets e
   past_every_length : (h : Head) (count : ℕ) → length octets < 2 ^ 32
@@ -82,40 +82,40 @@ pub data NoWholeElement (octets : List ℕ) : Error → Type 0 where
       → HeadAhead h Der octets count → count + number h.length < length octets
       → NoWholeElement octets (trailing_error (count + number h.length) (length octets))
 
--- one of the two is not wholly an element, the second where the first is one; the error tells why
+-- the first is not exactly one element; or the first is, and the second is not; the error says why
 pub data NoPair (first second : List ℕ) (e : Error) : Type 0 where
   first_refused : NoWholeElement first e → NoPair first second e
   second_refused : IsWholeElement first → NoWholeElement second e → NoPair first second e
 
--- as many octets as a length can count are wholly an OCTET STRING under BER, and these are its
--- contents, or what the segments there are joined to (X.690 8.7)
+-- the octets fit a length and are exactly one OCTET STRING under BER, and `out` are its contents,
+-- or its joined segments (X.690 8.7)
 pub record IsJoined (octets out : List ℕ) : Type 0 where
   pub countable : length octets < 2 ^ 32
   pub whole : Whole (ElementAhead OctetString (TakesParts OctetString) out) Ber octets
 
--- an error that is handed on as it is
+-- the error is forwarded unchanged
 abbrev pub HandsOn : Error → Error → Type 0
 HandsOn given e = e ≡ given
 
--- the octets are none; the error is that of the first step of decoding which fails, or that memory
--- was refused
+-- the octets are not exactly one OCTET STRING; the error is that of the first step of decoding that
+-- fails, or that an allocation failed
 abbrev pub NotJoined : List ℕ → Error → Type 0
 NotJoined octets e =
     WholeAnswer {A = JoinedOctets} Ber (ElementRead OctetString HandsOn JoinedRead) HandsOn
     octets (Err e)
 
--- the lines tell the header that the octets begin with
+-- the lines print the header that the octets begin with
 pub record Tells (rules : EncodingRules) (octets text : List ℕ) : Type 0 where
   pub head : Head
   pub rest : List ℕ
   pub read : IsHeaderRead rules octets head rest
   pub lines : text ≡ header_lines head rest
 
--- the line tells the error, where its text is known
+-- the line prints the error, if its text is known
 abbrev pub TellsError : Error → List ℕ → Type 0
 TellsError e text = (reason : List ℕ) → error_text e ≡ Some reason → text ≡ error_line reason
 
--- the line tells why octets are refused, for the errors that they are refused by
+-- the line prints one of the errors that are possible here
 pub record Refuses (IsRefused : Error → Type 0) (text : List ℕ) : Type 0 where
   pub error : Error
   pub reason : List ℕ
@@ -123,52 +123,52 @@ pub record Refuses (IsRefused : Error → Type 0) (text : List ℕ) : Type 0 whe
   pub says : error_text error ≡ Some reason
   pub line : text ≡ error_line reason
 
--- what `head` says to octets: a status and a text
+-- the status and text of `head` for these octets
 pub data AnswersHead (rules : EncodingRules) (octets : List ℕ) : ℕ → List ℕ → Type 0 where
   told : {text : List ℕ} → Tells rules octets text → AnswersHead rules octets 0 text
   refused : {text : List ℕ} → Refuses (IsRefusedFor rules octets) text
       → AnswersHead rules octets 1 text
 
--- the line tells the element that the octets begin with
+-- the line prints the element that the octets begin with
 pub record TellsElement (rules : EncodingRules) (octets text : List ℕ) : Type 0 where
   pub element : List ℕ
   pub read : IsElement rules octets element
   pub line : text ≡ element_line element
 
--- what `tlv` says to octets: a status and a text
+-- the status and text of `tlv` for these octets
 pub data AnswersTlv (rules : EncodingRules) (octets : List ℕ) : ℕ → List ℕ → Type 0 where
   told : {text : List ℕ} → TellsElement rules octets text → AnswersTlv rules octets 0 text
   refused : {text : List ℕ} → Refuses (NoElement rules octets) text → AnswersTlv rules octets 1 text
 
--- the line tells the byte order of two whole elements (X.690 11.6)
+-- the line prints the byte order of two whole elements (X.690 11.6)
 pub record TellsOrder (first second text : List ℕ) : Type 0 where
   pub first_whole : IsWholeElement first
   pub second_whole : IsWholeElement second
   pub line : text ≡ order_line (byte_order first second)
 
--- what `order` says to octets of two: a status and a text
+-- the status and text of `order` for these octets
 pub data AnswersOrder (first second : List ℕ) : ℕ → List ℕ → Type 0 where
   told : {text : List ℕ} → TellsOrder first second text → AnswersOrder first second 0 text
   refused : {text : List ℕ} → Refuses (NoPair first second) text → AnswersOrder first second 1 text
 
--- the line tells what the octets are joined to
+-- the line prints the joined octets
 pub record TellsJoined (octets text : List ℕ) : Type 0 where
   pub out : List ℕ
   pub read : IsJoined octets out
   pub line : text ≡ octets_line out
 
--- what `join` says to octets: a status and a text
+-- the status and text of `join` for these octets
 pub data AnswersJoin (octets : List ℕ) : ℕ → List ℕ → Type 0 where
   told : {text : List ℕ} → TellsJoined octets text → AnswersJoin octets 0 text
   refused : {text : List ℕ} → Refuses (NotJoined octets) text → AnswersJoin octets 1 text
 
--- this is answered to the octets that a text spells
+-- the text decodes to octets that this holds for
 pub record ToSpelled (hex : List ℕ) (AnswersTo : List ℕ → Type 0) : Type 0 where
   pub octets : List ℕ
   pub spelled : decode_of hex ≡ Ok octets
   pub answered : AnswersTo octets
 
--- what a command is answered, memory aside
+-- the status and text of a command, if no allocation fails
 abbrev pub Fulfils : Command → ℕ → List ℕ → Type 0
 Fulfils (HeadOf rules hex) status text =
     ToSpelled hex.now (λ octets. AnswersHead rules octets status text)
@@ -178,19 +178,19 @@ Fulfils (OrderOf first second) status text =
     ToSpelled first.now (λ one. ToSpelled second.now (λ other. AnswersOrder one other status text))
 Fulfils (JoinOf hex) status text = ToSpelled hex.now (λ octets. AnswersJoin octets status text)
 
--- what the program may say to its words
+-- the statuses and texts that are possible for these words
 pub data Answers (words : List (List ℕ)) : ℕ → List ℕ → Type 0 where
   misused : (IsCommand words → ⊥) → Answers words 2 usage_line
   fulfilled : {status : ℕ} {text : List ℕ} (command : Command) → words ≡ words_of command
       → Fulfils command status text → Answers words status text
   no_memory : IsCommand words → Answers words 1 (error_line (codes "out of memory"))
 
--- the output took an answer to the words whole, and nothing else
+-- the output got a whole possible text for these words, and nothing else
 abbrev pub WritesAnswer : List (List ℕ) → ℕ → Option (List ℕ) → Option (List ℕ) → Type 0
 WritesAnswer words status old new = (text : List ℕ) × Answers words status text
     × Appends old new text
 
--- an answer's status and text
+-- the status and the text of a result
 abbrev pub status_of : {A : Type 0} → Answer A → ℕ
 status_of (answer.Told lines) = 0
 status_of (answer.Refused line) = 1

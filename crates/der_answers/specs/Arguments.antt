@@ -1,4 +1,4 @@
--- What the program may say to its arguments, as the system hands them in.
+-- What the program may print for its arguments, as the system passes them.
 use Rattle.std.specs.Prelude.{◌≡◌, ℕ, List, drop, codes, Option, Result, Ok, Err, String}
 use Rattle.std.specs.Iterator.{Drains}
 use Rattle.std.specs.Vec.Iter.{into_iter_steps}
@@ -11,14 +11,14 @@ use Rattle.der_answers.specs.Command.{texts}
 use Rattle.der_answers.specs.Answer.{Answers}
 use Rattle.der_answers.specs.Text.{usage_line, error_line}
 
--- the words are what the arguments give until they end, without the first, the program's name
+-- the words are all arguments but the first, which is the name of the program
 abbrev pub AreWordsOf : {A B : Type 0} → IntoIter (String A) B → List (List ℕ) → Type 0
 AreWordsOf {A} arguments words =
     (given : List (String A)) × Drains into_iter_steps arguments given
     × (words ≡ drop 1 (texts given))
 
--- what the program may say to its arguments, or to why there are none: with one that is not text
--- they are no command
+-- the statuses and texts that are possible for these arguments, or for the error instead of them:
+-- arguments that are not text are not a command
 pub data AnswersArguments {A B : Type 0} : Result (IntoIter (String A) B) Error → ℕ → List ℕ
     → Type 0 where
   answered : {status : ℕ} {text : List ℕ} (arguments : IntoIter (String A) B)
@@ -31,7 +31,7 @@ pub data AnswersArguments {A B : Type 0} : Result (IntoIter (String A) B) Error 
   no_memory : (e : Error) → (error_kind e ≡ InvalidData → ⊥)
       → AnswersArguments (Err e) 1 (error_line (codes "out of memory"))
 
--- the output took an answer to the arguments whole, and nothing else
+-- the output got a whole possible text for these arguments, and nothing else
 abbrev pub WritesToArguments : {A B : Type 0} → Result (IntoIter (String A) B) Error → ℕ
     → Option (List ℕ) → Option (List ℕ) → Type 0
 WritesToArguments given status old new =

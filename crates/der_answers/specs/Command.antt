@@ -1,4 +1,4 @@
--- The commands, as words.
+-- The commands of the program, as words.
 use Rattle.std.specs.Prelude.{◌≡◌, ◌⊎◌, ℕ, ◌%◌, List, [], ◌∷◌, length, map, codes, String, string_bytes}
 use Rattle.std.specs.List.{AllPass}
 use Rattle.hex.specs.Hex.{is_hex_digit}
@@ -14,7 +14,7 @@ texts words = map string_bytes words
 abbrev pub IsHex : List ℕ → Type 0
 IsHex text = (length text % 2 ≡ 0) × AllPass is_hex_digit text
 
--- what a command that reads one text under either rules is called
+-- the name of a command that reads one text, under either rules
 abbrev pub IsName : List ℕ → Type 0
 IsName name = (name ≡ codes "head") ⊎ (name ≡ codes "tlv")
 
@@ -24,16 +24,16 @@ two first second = first ∷ second ∷ []
 abbrev pub three : List ℕ → List ℕ → List ℕ → List (List ℕ)
 three first second third = first ∷ second ∷ third ∷ []
 
--- a name, behind it `--ber` exactly where octets are read by these rules, and the octets' text
+-- the name, `--ber` if the rules are BER, and the text of the octets
 abbrev pub words_under : EncodingRules → List ℕ → List ℕ → List (List ℕ)
 words_under Der name hex = two name hex
 words_under Ber name hex = three name (codes "--ber") hex
 
--- the command that compares what two texts spell
+-- the words of the command that compares two elements
 abbrev pub order_words : List ℕ → List ℕ → List (List ℕ)
 order_words first second = three (codes "order") first second
 
--- the command that joins the segments of what a text spells
+-- the words of the command that joins segments
 abbrev pub join_words : List ℕ → List (List ℕ)
 join_words hex = two (codes "join") hex
 
@@ -43,7 +43,7 @@ words_of (Tlv rules hex) = words_under rules (codes "tlv") hex.now
 words_of (Order first second) = order_words first.now second.now
 words_of (Join hex) = join_words hex.now
 
--- each text of a command spells octets
+-- each text of a command is octets in hexadecimal
 abbrev pub SpellsOctets : Command → Type 0
 SpellsOctets (Head rules hex) = IsHex hex.now
 SpellsOctets (Tlv rules hex) = IsHex hex.now

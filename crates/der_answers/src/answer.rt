@@ -1,27 +1,27 @@
-//! Answers of the program.
+//! What the program prints, and the status it exits with.
 ghost use Rattle.std.specs.Prelude.{◌≡◌, IfOk, string_bytes};
 ghost use Rattle.der_answers.specs.Answer.{TellsError};
 
 use der::Error;
 use std::alloc::{AllocError, Allocator};
 
-/// What the program says, and how it ends.
+/// What the program prints, and how it ends.
 #[derive(Drop)]
 pub enum Answer<A: Allocator> {
-    /// What the octets begin with or are joined to, or how they stand to others, as these lines.
+    /// The lines of a header, an element, an order or joined octets.
     Told(String<A>),
-    /// The octets are refused, for the reason that this line gives.
+    /// The octets are not accepted, for the reason in this line.
     Refused(String<A>),
-    /// Memory was refused.
+    /// An allocation failed.
     OutOfMemory,
-    /// The words are no command.
+    /// The words are not a command.
     Usage,
 }
 
 impl<A: Allocator> Answer<A> {
     ghost use Rattle.der_answers.specs.Answer.{status_of, text_of};
 
-    /// The status that the program ends with.
+    /// The exit status of the program.
     pub fn status(&self) -> u8
         ensures { result ≡ status_of self.now }
     {
@@ -32,7 +32,7 @@ impl<A: Allocator> Answer<A> {
         }
     }
 
-    /// What the program writes.
+    /// The text that the program prints.
     pub fn text(&self) -> &str
         ensures { result.now ≡ text_of self.now }
     {
@@ -47,7 +47,7 @@ impl<A: Allocator> Answer<A> {
     }
 }
 
-/// The line of an error.
+/// The line that reports an error.
 pub fn error_line<A: Allocator>(alloc: A, error: Error) -> Result<String<A>, AllocError>
     ensures { IfOk result (λ s. TellsError error (string_bytes s)) }
 {

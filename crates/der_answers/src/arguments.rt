@@ -1,4 +1,4 @@
-//! The program, over its arguments and an output.
+//! The program as a function of its arguments and an output.
 ghost use Rattle.std.specs.Prelude.{◌≡◌, ◌⊎◌, true, IfOk};
 ghost use Rattle.der_answers.specs.Command.{texts};
 ghost use Rattle.der_answers.specs.Arguments.{AreWordsOf, WritesToArguments};
@@ -10,8 +10,8 @@ use std::alloc::{AllocError, Global};
 use std::env::Args;
 use std::io;
 
-/// Answers the arguments on the output, and gives the status, as `run` does. The first is the
-/// program's name; an error says why there are none.
+/// Runs the program on its arguments and returns the status, as `run` does. The first argument is
+/// the name of the program; an error says why there are no arguments.
 pub fn run_arguments<W: Output>(alloc: Global, given: io::Result<Args>, out: &mut W) -> u8
     ensures answers { (result ≡ 1)
         ⊎ WritesToArguments given result (W.contents out.old) (W.contents out.new) }
@@ -23,7 +23,7 @@ pub fn run_arguments<W: Output>(alloc: Global, given: io::Result<Args>, out: &mu
             Ok(words) => run(alloc, &words, out),
             Err(_) => say(&Answer::<Global>::OutOfMemory, out).unwrap_or(1),
         },
-        // An argument that is not text is no word of a command.
+        // An argument that is not UTF-8 text is not a word of a command.
         Err(error) if error.kind() == io::ErrorKind::InvalidData => {
             say(&Answer::<Global>::Usage, out).unwrap_or(1)
         }
@@ -31,7 +31,7 @@ pub fn run_arguments<W: Output>(alloc: Global, given: io::Result<Args>, out: &mu
     }
 }
 
-/// The arguments behind the program's name.
+/// The arguments after the name of the program.
 fn words_of(alloc: Global, mut arguments: Args) -> Result<Vec<String>, AllocError>
     ensures { IfOk result (λ words. AreWordsOf arguments (texts words.items)) }
 {

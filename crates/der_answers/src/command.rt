@@ -1,26 +1,26 @@
-//! Commands.
+//! The commands of the program, parsed from its words.
 ghost use Rattle.std.specs.Prelude.{◌≡◌, ◌↔◌, IsSome, IfSome, IsTrue};
 ghost use Rattle.der_answers.specs.Command.{IsHex, IsName, IsCommand, texts};
 
 use der::EncodingRules;
 
-/// What the words ask for.
+/// What the words request.
 #[derive(Clone, Copy)]
 pub enum Command<'a> {
     /// `head [--ber] HEX`: the header at the front of these octets.
     Head { rules: EncodingRules, hex: &'a str },
     /// `tlv [--ber] HEX`: the whole element at the front of these octets.
     Tlv { rules: EncodingRules, hex: &'a str },
-    /// `order HEX HEX`: how two whole elements stand to each other.
+    /// `order HEX HEX`: the order of two whole elements.
     Order { first: &'a str, second: &'a str },
-    /// `join HEX`: what the segments of a whole element are joined to.
+    /// `join HEX`: the joined segments of a whole element.
     Join { hex: &'a str },
 }
 
 impl<'a> Command<'a> {
     ghost use Rattle.der_answers.specs.Command.{words_of, words_under, order_words, join_words, two, three, SpellsOctets};
 
-    /// The command, if the words are one.
+    /// The command of these words, if they are one.
     pub fn parse(words: &'a [String]) -> Option<Self>
         ensures found { IsSome result ↔ IsCommand (texts words.now) }
         ensures words { IfSome result (λ c. texts words.now ≡ words_of c) }
@@ -61,7 +61,8 @@ impl<'a> Command<'a> {
         }
     }
 
-    /// The command of this name that reads one text, if there is one and the text spells octets.
+    /// The command of this name with one text, if there is one and the text is octets in
+    /// hexadecimal.
     fn named(name: &str, rules: EncodingRules, hex: &'a str) -> Option<Self>
         ensures found { IsSome result ↔ (IsName name.now × IsHex hex.now) }
         ensures words { IfSome result (λ c. words_under rules name.now hex.now ≡ words_of c) }
@@ -74,7 +75,7 @@ impl<'a> Command<'a> {
         }
     }
 
-    /// The command `order` of these texts, if both spell octets.
+    /// The command `order` with these texts, if both are octets in hexadecimal.
     fn ordering(first: &'a str, second: &'a str) -> Option<Self>
         ensures found { IsSome result ↔ (IsHex first.now × IsHex second.now) }
         ensures words { IfSome result (λ c. order_words first.now second.now ≡ words_of c) }
@@ -87,7 +88,7 @@ impl<'a> Command<'a> {
         }
     }
 
-    /// The command `join` of this text, if it spells octets.
+    /// The command `join` with this text, if it is octets in hexadecimal.
     fn joining(hex: &'a str) -> Option<Self>
         ensures found { IsSome result ↔ IsHex hex.now }
         ensures words { IfSome result (λ c. join_words hex.now ≡ words_of c) }

@@ -1,4 +1,4 @@
-//! Elements under DER.
+//! Whole elements under DER.
 ghost use Rattle.std.specs.Prelude.{◌≡◌, IfOk, IfErr};
 ghost use Rattle.std.proofs.Common.{refl};
 ghost use Rattle.der.specs.Prelude.{element_octets, Gives, map_ok, read_slice_outcome, Same, slice_state, number};
@@ -14,7 +14,7 @@ use der::{
 };
 use std::cmp::Ordering;
 
-/// A tag, and the contents that stand behind its header (X.690 8.1.1).
+/// A tag, and the contents after its header (X.690 8.1.1).
 #[derive(Clone, Copy)]
 pub struct Element<'a> {
     tag: Tag,
@@ -22,16 +22,16 @@ pub struct Element<'a> {
 }
 
 impl<'a> Element<'a> {
-    /// The element that all of the octets are, under DER.
+    /// Reads the octets as exactly one element under DER.
     ///
     /// # Errors
     ///
-    /// - `Overflow` without a position, where there are more than 4294967295 octets.
+    /// - `Overflow` without a position if there are more than 4294967295 octets.
     /// - `Incomplete`, `Overflow`, `TagUnknown`, `TagNumberInvalid`, `IndefiniteLength` and
-    ///   `Length` of the header, as by [`decode_header`].
-    /// - `Overflow` without a position, where the contents would pass 4294967295.
-    /// - `Incomplete` at the end, where the contents pass it.
-    /// - `TrailingData` behind the contents, where octets are left.
+    ///   `Length` for the header, as by [`decode_header`].
+    /// - `Overflow` without a position if the contents end after octet 4294967295.
+    /// - `Incomplete` at the end if the contents are truncated.
+    /// - `TrailingData` after the contents if octets are left.
     pub fn from_octets(octets: &'a [u8]) -> Result<Self, Error>
         ensures whole { IfOk result (λ e. IsWholeElement octets.now) }
         ensures ok { IfOk result (λ e. element_octets e.tag (contents_of e) ≡ octets.now) }
@@ -73,7 +73,7 @@ impl<'a> WrittenValue for Element<'a> {
 
 /// # Errors
 ///
-/// The number of octets is never refused. Writing hands on the writer's errors, as by
+/// The number of octets is always known. Writing forwards the errors of the writer, as by
 /// [`Writer::write`].
 impl<'a> EncodeValue for Element<'a> {
     ghost value_size = { octets_size contents_of };
@@ -89,7 +89,7 @@ impl<'a> EncodeValue for Element<'a> {
     }
 }
 
-/// The octets are compared. It is never refused.
+/// Compares the contents octet by octet. Never fails.
 impl<'a> ValueOrd for Element<'a> {
     ghost value_order = { octets_order contents_of };
 

@@ -8,7 +8,7 @@ use crate::answer::{Answer, error_line};
 use der::{EncodingRules, Error, Header, Reader, SliceReader, decode_header};
 use std::alloc::{AllocError, Allocator};
 
-/// What is told of the header at the front of the octets.
+/// Prints the header at the start of the octets.
 pub fn answer_head<A: Allocator + Copy>(
     alloc: A,
     rules: EncodingRules,
@@ -22,7 +22,7 @@ pub fn answer_head<A: Allocator + Copy>(
     }
 }
 
-/// The header at the front of the octets, and the octets behind it.
+/// The header at the start of the octets, and the octets after it.
 fn read_head(rules: EncodingRules, octets: &[u8]) -> Result<(Header, &[u8]), Error>
     ensures ok { IfOk result (λ p. IsHeaderRead rules octets.now (head_of p.0) p.1.now) }
     ensures err { IfErr result (IsRefusedFor rules octets.now) }
@@ -33,7 +33,7 @@ fn read_head(rules: EncodingRules, octets: &[u8]) -> Result<(Header, &[u8]), Err
     Ok((header, rest))
 }
 
-/// The four lines of a header and the octets behind it.
+/// The four lines of a header and the octets after it.
 fn header_lines<A: Allocator + Copy>(
     alloc: A,
     header: &Header,
@@ -57,14 +57,14 @@ fn yes_or_no(answer: bool) -> &'static str
     if answer { "yes" } else { "no" }
 }
 
-/// What stands behind a length: a mark where it was read in the indefinite form.
+/// The text after a length, which says whether it was read in the indefinite form.
 fn indefinite_mark(indefinite: bool) -> &'static str
     ensures { result.now ≡ text.indefinite_mark indefinite }
 {
     if indefinite { " indefinite" } else { "" }
 }
 
-/// The octets in lower case hexadecimal, or a dash for none.
+/// The octets in lower-case hexadecimal, or a dash if there are none.
 pub fn octets_text<A: Allocator>(alloc: A, octets: &[u8]) -> Result<String<A>, AllocError>
     ensures { IfOk result (λ s. string_bytes s ≡ text.octets_text octets.now) }
 {

@@ -10,7 +10,7 @@ use der::example::JoinedOctets;
 use der::{DecodeBytes, Error};
 use std::alloc::{AllocError, Allocator, Global};
 
-/// What is told of the octets of an element, whose segments are joined in memory of `global`.
+/// Prints the joined segments of an element. The segments are joined in memory of `global`.
 pub fn answer_join<A: Allocator + Copy>(
     global: Global,
     alloc: A,
@@ -24,7 +24,7 @@ pub fn answer_join<A: Allocator + Copy>(
     }
 }
 
-/// The octets of the OCTET STRING that all of the octets are, under BER.
+/// Reads the octets as exactly one OCTET STRING under BER, and joins its segments.
 fn read_joined(global: Global, octets: &[u8]) -> Result<JoinedOctets, Error>
     ensures ok { IfOk result (λ j. IsJoined octets.now (joined_octets j)) }
     ensures err { IfErr result (NotJoined octets.now) }
@@ -32,7 +32,7 @@ fn read_joined(global: Global, octets: &[u8]) -> Result<JoinedOctets, Error>
     JoinedOctets::from_ber(global, octets)
 }
 
-/// The line of octets.
+/// The line that prints octets.
 fn octets_line<A: Allocator + Copy>(alloc: A, octets: &[u8]) -> Result<String<A>, AllocError>
     ensures { IfOk result (λ s. string_bytes s ≡ text.octets_line octets.now) }
 {

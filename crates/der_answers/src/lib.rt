@@ -1,6 +1,6 @@
-//! What the program `der_tool` answers its words: the header, or the whole element, at the front of
-//! DER or BER octets that are given as hexadecimal text, the order of two elements, or what the
-//! segments of one are joined to.
+//! The commands of the program `der_tool`: print the header, or the whole element, at the start of
+//! DER or BER octets in hexadecimal, the order of two elements, or the joined segments of an OCTET
+//! STRING.
 #![tactic(auto)]
 
 mod answer;

@@ -10,7 +10,7 @@ use der::{DerOrd, Error};
 use std::alloc::{AllocError, Allocator};
 use std::cmp::Ordering;
 
-/// What is told of the order of two elements.
+/// Prints the order of two elements.
 pub fn answer_order<A: Allocator + Copy>(
     alloc: A,
     first: &[u8],
@@ -24,8 +24,8 @@ pub fn answer_order<A: Allocator + Copy>(
     }
 }
 
-/// How the first element stands to the second, by their encodings (X.690 11.6). The first is read
-/// before the second.
+/// The order of two whole elements by their encodings (X.690 11.6). The first is read before the
+/// second.
 fn compare(first: &[u8], second: &[u8]) -> Result<Ordering, Error>
     ensures whole { IfOk result (λ _. IsWholeElement first.now × IsWholeElement second.now) }
     ensures ok { IfOk result (λ o. o ≡ byte_order first.now second.now) }
@@ -36,7 +36,7 @@ fn compare(first: &[u8], second: &[u8]) -> Result<Ordering, Error>
     first.der_cmp(&second)
 }
 
-/// The line of an ordering.
+/// The line that prints an ordering.
 fn order_line(ordering: Ordering) -> &'static str
     ensures { result.now ≡ text.order_line ordering }
 {

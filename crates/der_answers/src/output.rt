@@ -1,18 +1,18 @@
-//! Where answers go.
+//! Where the program prints.
 ghost use Rattle.std.specs.Prelude.{◌≡◌, ℕ, Bool, true, false, List, Option, OnOk, IsOk};
 ghost use Rattle.std.specs.Io.KnownBytes.{Appends};
 
 use std::io;
 
-/// What takes a text whole, or fails. Each `io::Write` is one.
+/// Writes a whole text, or fails. Every `io::Write` is an `Output`.
 pub trait Output {
-    // The octets that it holds, where they are known.
+    // The octets that were written, where they are known.
     ghost contents: { Self → Option (List ℕ) };
 
-    // Whether it never fails, of which an `io::Write` says nothing.
+    // Whether it never fails. Unknown for an `io::Write`.
     ghost reliable: { Bool };
 
-    /// Takes the text, and keeps none of it back.
+    /// Writes the text and flushes it.
     fn put(&mut self, text: &str) -> io::Result<()>
         ensures written { OnOk result (Appends (contents self.old) (contents self.new) text.now) }
         ensures succeeds { reliable ≡ true → IsOk result };

@@ -1,4 +1,4 @@
-//! The program, over its words and an output.
+//! The program as a function of its words and an output.
 ghost use Rattle.std.specs.Prelude.{◌≡◌, ◌⊎◌, true, Ok, IfOk, OnOk, IsOk};
 ghost use Rattle.std.specs.Io.KnownBytes.{Appends};
 ghost use Rattle.hex.specs.Hex.{decode_of};
@@ -16,9 +16,9 @@ use hex::FromHexError;
 use std::alloc::{AllocError, Allocator, Global};
 use std::io;
 
-/// Answers the words on the output, and gives the status: 0 where the octets are told, 1 where
-/// they are refused, memory is refused or the output fails, and 2 where the words are no command.
-/// Nothing is said of what an output that fails took.
+/// Runs the command of these words, prints its result and returns the status: 0 on success, 1 if
+/// the octets are not accepted, an allocation fails or the output fails, and 2 if the words are not
+/// a command. What an output that fails has written is unspecified.
 pub fn run<W: Output>(alloc: Global, words: &[String], out: &mut W) -> u8
     ensures answers { (result ≡ 1)
         ⊎ WritesAnswer (texts words.now) result (W.contents out.old) (W.contents out.new) }
@@ -28,9 +28,9 @@ pub fn run<W: Output>(alloc: Global, words: &[String], out: &mut W) -> u8
     respond(alloc, alloc, words, out).unwrap_or(1)
 }
 
-/// Answers the words on the output, which is called only when no memory is asked for any more; an
-/// error is the output's. The octets and lines are in memory of `alloc`, so that a test can refuse
-/// it; but segments are joined in memory of `global`, as the library joins them.
+/// Runs the command of these words and prints its result; an error is that of the output. Nothing
+/// is allocated once the output is called. Octets and lines are allocated with `alloc`, so that a
+/// test can make that fail; segments are joined in memory of `global`, as in the library.
 pub fn respond<A: Allocator + Copy, W: Output>(
     global: Global,
     alloc: A,
@@ -44,7 +44,7 @@ pub fn respond<A: Allocator + Copy, W: Output>(
     say(&answer(global, alloc, words), out)
 }
 
-/// Puts the answer out, and gives its status.
+/// Prints a result, and returns its status.
 pub fn say<A: Allocator, W: Output>(answer: &Answer<A>, out: &mut W) -> io::Result<u8>
     ensures status { IfOk result (λ status. status ≡ status_of answer.now) }
     ensures written { OnOk result
@@ -55,7 +55,7 @@ pub fn say<A: Allocator, W: Output>(answer: &Answer<A>, out: &mut W) -> io::Resu
     Ok(answer.status())
 }
 
-/// What the program says to the words.
+/// The result for these words.
 fn answer<A: Allocator + Copy>(global: Global, alloc: A, words: &[String]) -> Answer<A>
     ensures { Answers (texts words.now) (status_of result) (text_of result) }
 {
@@ -65,8 +65,8 @@ fn answer<A: Allocator + Copy>(global: Global, alloc: A, words: &[String]) -> An
     }
 }
 
-/// What the command is answered. Each of its texts is an even number of hexadecimal digits, so that
-/// only want of memory keeps the octets that it spells from being read.
+/// The result of a command. Its texts are even numbers of hexadecimal digits, so decoding them
+/// fails only if an allocation does.
 fn fulfil<A: Allocator + Copy>(
     global: Global,
     alloc: A,
@@ -87,7 +87,7 @@ fn fulfil<A: Allocator + Copy>(
     }
 }
 
-/// The octets that the digits spell.
+/// The octets of these hexadecimal digits.
 fn octets_of<A: Allocator>(alloc: A, hex: &str) -> Result<Vec<u8, A>, AllocError>
     requires { IsHex hex.now }
     ensures { IfOk result (λ octets. decode_of hex.now ≡ Ok octets.items) }

@@ -7,7 +7,7 @@ use crate::answer::{Answer, error_line};
 use der::{EncodingRules, Error, ReaderExt, SliceReader};
 use std::alloc::{AllocError, Allocator};
 
-/// What is told of the whole element at the front of the octets.
+/// Prints the whole element at the start of the octets.
 pub fn answer_tlv<A: Allocator + Copy>(
     alloc: A,
     rules: EncodingRules,
@@ -21,7 +21,7 @@ pub fn answer_tlv<A: Allocator + Copy>(
     }
 }
 
-/// The octets of the element at the front of the octets, header and contents.
+/// The octets of the element at the start, header and contents.
 fn read_element(rules: EncodingRules, octets: &[u8]) -> Result<&[u8], Error>
     ensures ok { IfOk result (λ e. IsElement rules octets.now e.now) }
     ensures err { IfErr result (NoElement rules octets.now) }
@@ -30,7 +30,7 @@ fn read_element(rules: EncodingRules, octets: &[u8]) -> Result<&[u8], Error>
     reader.tlv_bytes()
 }
 
-/// The line of an element.
+/// The line that prints an element.
 fn element_line<A: Allocator + Copy>(alloc: A, element: &[u8]) -> Result<String<A>, AllocError>
     ensures { IfOk result (λ s. string_bytes s ≡ text.element_line element.now) }
 {

@@ -1,4 +1,4 @@
-//! Certificates and public keys that are read once, and written again and again.
+//! Certificates and public keys that are read once and written repeatedly.
 use crate::Totals;
 use crate::writing::last_of;
 use der::{Decode, DecodeBytes, Encode, Error, SliceReader};
@@ -6,8 +6,8 @@ use spki::SubjectPublicKeyInfoRef;
 use std::alloc::Global;
 use x509::Certificate;
 
-/// Writes a certificate so many times to the beginning of the same octets, until an error. The sum
-/// of first octets is that of the last ones written.
+/// Writes a certificate `times` times to the start of the same octets, until an error.
+/// `first_octets` is the sum of the last octets written.
 #[unsafe(no_mangle)]
 pub extern "C" fn der_bench_certificate_to_slice(
     alloc: Global,
@@ -18,13 +18,13 @@ pub extern "C" fn der_bench_certificate_to_slice(
     to_slice::<Certificate<'_>>(alloc, octets, times, out)
 }
 
-/// The same into a vector of its own each.
+/// The same, each time into a new vector.
 #[unsafe(no_mangle)]
 pub extern "C" fn der_bench_certificate_to_der(alloc: Global, octets: &[u8], times: u64) -> Totals {
     to_der::<Certificate<'_>>(alloc, octets, times)
 }
 
-/// Writes a public key so many times to the beginning of the same octets, as a certificate.
+/// Writes a public key `times` times to the start of the same octets, as for a certificate.
 #[unsafe(no_mangle)]
 pub extern "C" fn der_bench_public_key_to_slice(
     alloc: Global,
@@ -35,7 +35,7 @@ pub extern "C" fn der_bench_public_key_to_slice(
     to_slice::<SubjectPublicKeyInfoRef<'_>>(alloc, octets, times, out)
 }
 
-/// The same into a vector of its own each.
+/// The same, each time into a new vector.
 #[unsafe(no_mangle)]
 pub extern "C" fn der_bench_public_key_to_der(alloc: Global, octets: &[u8], times: u64) -> Totals {
     to_der::<SubjectPublicKeyInfoRef<'_>>(alloc, octets, times)

@@ -22,8 +22,8 @@ impl<'a> Counted for Certificate<'a> {
     }
 }
 
-/// Decodes certificates, one behind the other, until the octets end, or an error. The contents are
-/// those of signatures, and the first octets those of serial numbers.
+/// Decodes certificates in sequence until the octets end or there is an error. `contents` counts
+/// those of the signatures, and `first_octets` sums the first octets of the serial numbers.
 #[unsafe(no_mangle)]
 pub extern "C" fn der_bench_certificates(alloc: Global, bytes: &[u8]) -> Totals {
     decode_each::<Certificate<'_>>(alloc, bytes, EncodingRules::Der)

@@ -1,16 +1,16 @@
-//! Decoding of values, one behind the other: of a SEQUENCE type with another one inside it, and of
-//! whatever type can be counted.
+//! Decoding of values in sequence: of a SEQUENCE type with another inside it, and of any type that
+//! implements `Counted`.
 use crate::Totals;
 use der::{Decode, EncodingRules, Error, ReaderExt, SliceReader};
 use der_uses::key_info::KeyInfo;
 use std::alloc::Global;
 
-// A value that is counted.
+// A value that is counted in the totals.
 pub(crate) trait Counted: Drop {
     // How many octets of contents it has.
     fn contents(&self) -> usize;
 
-    // The first of them, or what stands in its place.
+    // The first of them, or another octet in its place.
     fn first_octet(&self) -> u8;
 }
 
@@ -27,14 +27,14 @@ impl<'a> Counted for KeyInfo<'a> {
     }
 }
 
-/// Decodes keys, one behind the other, until the octets end, or an error. The sum of first octets
-/// is that of the months.
+/// Decodes keys in sequence until the octets end or there is an error. `first_octets` is the sum of
+/// the months.
 #[unsafe(no_mangle)]
 pub extern "C" fn der_bench_decode(alloc: Global, bytes: &[u8]) -> Totals {
     decode_each::<KeyInfo<'_>>(alloc, bytes, EncodingRules::Der)
 }
 
-// Decodes values, one behind the other, until the octets end, or an error.
+// Decodes values in sequence until the octets end or there is an error.
 #[inline(always)]
 pub(crate) fn decode_each<'a, T: Decode<SliceReader<'a>, Error = Error> + Counted>(
     alloc: Global,
@@ -45,7 +45,7 @@ pub(crate) fn decode_each<'a, T: Decode<SliceReader<'a>, Error = Error> + Counte
     let Ok(mut reader) = SliceReader::new_with_encoding_rules(bytes, rules) else {
         return totals;
     };
-    // Each value has an octet at least.
+    // Each value has at least one octet.
     for _ in 0..bytes.len() {
         if reader.is_finished() {
             break;

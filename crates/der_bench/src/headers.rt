@@ -2,7 +2,7 @@
 use crate::Totals;
 use der::{Header, Length, SliceWriter, Tag, TagNumber};
 
-/// A header that is wanted.
+/// A header to write.
 #[repr(C)]
 pub struct Wanted {
     /// The number of its tag.
@@ -15,8 +15,8 @@ pub struct Wanted {
     pub constructed: u8,
 }
 
-/// Writes the headers, one behind the other, until all are written, or an error: how many, and
-/// how many octets they have.
+/// Writes headers in sequence until all are written or there is an error. Returns their number and
+/// the number of their octets.
 #[unsafe(no_mangle)]
 pub extern "C" fn der_bench_put_headers(wanted: &[Wanted], out: &mut [u8]) -> Totals {
     let mut totals = Totals::none();
@@ -31,8 +31,8 @@ pub extern "C" fn der_bench_put_headers(wanted: &[Wanted], out: &mut [u8]) -> To
     totals.written(writer.finish())
 }
 
-/// The same of four headers for each length, whose tags are known beforehand: SEQUENCE, INTEGER,
-/// OBJECT IDENTIFIER and the number 3 of the context.
+/// Writes four headers for each length, whose tags are constants: SEQUENCE, INTEGER, OBJECT
+/// IDENTIFIER and context-specific 3.
 #[unsafe(no_mangle)]
 pub extern "C" fn der_bench_put_known(lengths: &[u32], out: &mut [u8]) -> Totals {
     let mut totals = Totals::none();
@@ -66,7 +66,7 @@ fn tag_of(wanted: &Wanted) -> Tag {
     }
 }
 
-// The universal tags that certificates have.
+// The universal tags that occur in certificates.
 #[inline(always)]
 fn universal_of(number: u32) -> Tag {
     match number {

@@ -1,4 +1,4 @@
-//! Keys that are written, each a whole value: a SEQUENCE with another one inside it.
+//! Keys that are written, each as a whole value: a SEQUENCE with another inside it.
 use crate::Totals;
 use crate::writing::last_of;
 use der::example::MyByteMonth;
@@ -8,14 +8,14 @@ use der_uses::key_info::KeyInfo;
 use der_uses::lent::Lent;
 use std::alloc::Global;
 
-/// A key that is wanted, of octets that are lent.
+/// A key to write, whose fields borrow the first octets of a common slice.
 #[repr(C)]
 pub struct WantedKey {
-    /// How many of them its algorithm has.
+    /// How many of these octets its algorithm has.
     pub algorithm: u32,
-    /// How many of them it has itself.
+    /// How many of these octets the key has.
     pub key: u32,
-    /// The algorithm's month, below 12.
+    /// The month of the algorithm, below 12.
     pub month: u8,
 }
 
@@ -33,7 +33,7 @@ fn key_of<'a>(wanted: &WantedKey, lent: &'a [u8]) -> Option<KeyInfo<'a>> {
     })
 }
 
-/// Counts the octets of the keys' encodings, until all are counted, or an error.
+/// Computes the lengths of the encodings of keys until all are done or there is an error.
 #[unsafe(no_mangle)]
 pub extern "C" fn der_bench_count_keys(wanted: &[WantedKey], lent: &[u8]) -> Totals {
     let mut totals = Totals::none();
@@ -49,8 +49,8 @@ pub extern "C" fn der_bench_count_keys(wanted: &[WantedKey], lent: &[u8]) -> Tot
     totals
 }
 
-/// Writes the keys, one behind the other, until all are written, or an error: how many, and how
-/// many octets they have.
+/// Writes keys in sequence until all are written or there is an error. Returns their number and the
+/// number of their octets.
 #[unsafe(no_mangle)]
 pub extern "C" fn der_bench_put_keys(wanted: &[WantedKey], lent: &[u8], out: &mut [u8]) -> Totals {
     let mut totals = Totals::none();
@@ -67,8 +67,8 @@ pub extern "C" fn der_bench_put_keys(wanted: &[WantedKey], lent: &[u8], out: &mu
     totals.written(writer.finish())
 }
 
-/// Writes each key to the beginning of the same octets. The sum of first octets is that of the
-/// keys' last ones.
+/// Writes each key to the start of the same octets. `first_octets` is the sum of the last octets of
+/// the keys.
 #[unsafe(no_mangle)]
 pub extern "C" fn der_bench_keys_to_slice(wanted: &[WantedKey], lent: &[u8]) -> Totals {
     let mut totals = Totals::none();
@@ -85,7 +85,7 @@ pub extern "C" fn der_bench_keys_to_slice(wanted: &[WantedKey], lent: &[u8]) -> 
     totals
 }
 
-/// The same into a vector of its own.
+/// The same, each key into a new vector.
 #[unsafe(no_mangle)]
 pub extern "C" fn der_bench_keys_to_der(
     alloc: Global,

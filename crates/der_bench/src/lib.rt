@@ -1,6 +1,7 @@
-//! What `bench/` measures the speed of: walks over the elements of an input, the decoding of keys,
-//! of certificates, of byte strings and of texts, the comparison of elements, the reading of messages in indefinite
-//! lengths, and writing; and what `.ci/real_files` reads and writes back.
+//! The functions whose speed `bench/` measures: walks over elements, decoding of keys,
+//! certificates, byte strings and texts, comparison of elements, reading of messages with
+//! indefinite lengths, and writing; and those with which `.ci/real_files` reads files and writes
+//! them back.
 #![tactic(auto)]
 
 mod again;
@@ -19,14 +20,14 @@ mod writing;
 
 use der::{EncodingRules, Error, Reader, ReaderExt, SliceReader, decode_header};
 
-/// What a walk has passed.
+/// What was read or written.
 #[repr(C)]
 pub struct Totals {
-    /// How many elements.
+    /// The number of elements.
     pub elements: u64,
-    /// How many octets of contents they have together.
+    /// The number of octets of their contents.
     pub contents: u64,
-    /// The sum of the first octets of contents.
+    /// The sum of the first octets of the contents.
     pub first_octets: u64,
 }
 
@@ -39,7 +40,7 @@ impl Totals {
         }
     }
 
-    // Counts an element with so many octets of contents.
+    // Counts an element with `contents` octets of contents.
     #[inline(always)]
     fn pass(&mut self, contents: usize, first: u64) {
         self.elements = self.elements.wrapping_add(1);
@@ -47,7 +48,7 @@ impl Totals {
         self.first_octets = self.first_octets.wrapping_add(first);
     }
 
-    // Has as contents the octets that were written.
+    // Sets the octets of contents to those that were written.
     #[inline(always)]
     fn written(mut self, answer: Result<&[u8], Error>) -> Totals {
         if let Ok(octets) = answer {
@@ -57,20 +58,20 @@ impl Totals {
     }
 }
 
-/// Walks over the elements of the octets until their end, or an error.
+/// Walks over the elements of the octets until they end or there is an error.
 #[unsafe(no_mangle)]
 pub extern "C" fn der_bench_walk(bytes: &[u8]) -> Totals {
     walk(bytes, EncodingRules::Der)
 }
 
-// The same by any rules.
+// The same under any rules.
 #[inline(always)]
 fn walk(bytes: &[u8], rules: EncodingRules) -> Totals {
     let mut totals = Totals::none();
     let Ok(mut reader) = SliceReader::new_with_encoding_rules(bytes, rules) else {
         return totals;
     };
-    // Each element has an octet at least.
+    // Each element has at least one octet.
     for _ in 0..bytes.len() {
         if reader.is_finished() {
             break;

@@ -7,11 +7,12 @@ use der::{
     Error, Header, Length, Reader, ReaderExt, Resumption, SliceReader, decode_header, read_value,
 };
 
-// How many parts stand inside each other at most.
+// How many levels of nested parts are entered.
 const LEVELS: u8 = 64;
 
-/// Walks over the elements of the octets, and over those inside the constructed ones, until their
-/// end, or an error. Contents are those of primitive elements; they are entered by `read_nested`.
+/// Walks over the elements of the octets and those inside constructed ones, until the octets end or
+/// there is an error. Contents are those of primitive elements. Nested parts are entered with
+/// `read_nested`.
 #[unsafe(no_mangle)]
 pub extern "C" fn der_bench_nested(bytes: &[u8]) -> Totals {
     let mut totals = Totals::none();
@@ -21,7 +22,7 @@ pub extern "C" fn der_bench_nested(bytes: &[u8]) -> Totals {
     totals
 }
 
-/// The same by `read_value`.
+/// The same with `read_value`.
 #[unsafe(no_mangle)]
 pub extern "C" fn der_bench_values(bytes: &[u8]) -> Totals {
     let mut totals = Totals::none();
@@ -31,11 +32,11 @@ pub extern "C" fn der_bench_values(bytes: &[u8]) -> Totals {
     totals
 }
 
-// Walks up to the end of the part that the reader stands in.
+// Walks up to the end of the part that the reader is in.
 fn walk_nested(reader: &mut SliceReader<'_>, levels: u8, totals: &mut Totals) -> Result<(), Error>
     ensures { Same (slice_state reader.old) (slice_state reader.new) }
 {
-    // Each element has an octet at least.
+    // Each element has at least one octet.
     for _ in 0..u32::from(reader.remaining_len()) {
         if reader.is_finished() {
             break;
@@ -61,11 +62,11 @@ fn walk_nested(reader: &mut SliceReader<'_>, levels: u8, totals: &mut Totals) ->
     Ok(())
 }
 
-// The same by `read_value`.
+// The same with `read_value`.
 fn walk_values(reader: &mut SliceReader<'_>, levels: u8, totals: &mut Totals) -> Result<(), Error>
     ensures { Same (slice_state reader.old) (slice_state reader.new) }
 {
-    // Each element has an octet at least.
+    // Each element has at least one octet.
     for _ in 0..u32::from(reader.remaining_len()) {
         if reader.is_finished() {
             break;
@@ -92,8 +93,8 @@ fn walk_values(reader: &mut SliceReader<'_>, levels: u8, totals: &mut Totals) ->
     Ok(())
 }
 
-/// The same by a loop that enters parts by `enter_nested` and leaves them by `leave_nested`, without
-/// a closure or a call of itself.
+/// The same with a loop that enters parts with `enter_nested` and leaves them with `leave_nested`,
+/// without closures or recursion.
 #[unsafe(no_mangle)]
 pub extern "C" fn der_bench_halves(bytes: &[u8]) -> Totals {
     let mut totals = Totals::none();
@@ -103,14 +104,14 @@ pub extern "C" fn der_bench_halves(bytes: &[u8]) -> Totals {
     totals
 }
 
-// The same over a reader whose input has so many octets.
+// The same over a reader whose input has `len` octets.
 #[inline(always)]
 fn walk_halves(reader: &mut SliceReader<'_>, len: usize, totals: &mut Totals) -> Result<(), Error>
     requires { length (slice_state reader.old).input ≡ len }
 {
     let mut ends = [0u32; 64];
     let mut level = 0usize;
-    // Each element has an octet at least, and each part is left once.
+    // Each element has at least one octet, and each part is left once.
     for _ in 0..len.saturating_mul(2) {
         if reader.is_finished() {
             if level == 0 {
@@ -118,7 +119,7 @@ fn walk_halves(reader: &mut SliceReader<'_>, len: usize, totals: &mut Totals) ->
             }
             level -= 1;
             let end = ends[level];
-            // What `leave_nested` asks is looked at in place of a proof that it is so.
+            // The precondition of `leave_nested` is checked here instead of proved.
             if end as usize > len || u32::from(reader.position()) > end {
                 break;
             }

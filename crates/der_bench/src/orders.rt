@@ -1,12 +1,12 @@
-//! Comparison of OCTET STRINGs, each with the one ahead of it, as those of a SET OF are.
+//! Comparison of OCTET STRINGs, each with the preceding one, as in a SET OF.
 use crate::Totals;
 use der::example::BorrowedOctets;
 use der::{DerOrd, ReaderExt, SliceReader};
 use std::alloc::Global;
 use std::cmp::Ordering;
 
-/// Decodes OCTET STRINGs, one behind the other, and compares each with the one ahead, until the
-/// octets end, or an error. The sum of first octets is the number of those that are less.
+/// Decodes OCTET STRINGs in sequence and compares each with the preceding one, until the octets end
+/// or there is an error. `first_octets` is the number of those that are less.
 #[unsafe(no_mangle)]
 pub extern "C" fn der_bench_orders(alloc: Global, bytes: &[u8]) -> Totals {
     let mut totals = Totals::none();
@@ -16,7 +16,7 @@ pub extern "C" fn der_bench_orders(alloc: Global, bytes: &[u8]) -> Totals {
     let Ok(mut ahead) = reader.decode::<BorrowedOctets<'_>>(alloc) else {
         return totals;
     };
-    // Each value has an octet at least.
+    // Each value has at least one octet.
     for _ in 0..bytes.len() {
         if reader.is_finished() {
             break;

@@ -1,4 +1,4 @@
-//! Reading of messages whose lengths are indefinite.
+//! Reading of messages with indefinite lengths.
 ghost use Rattle.std.specs.Prelude.{◌≡◌};
 
 use crate::{Totals, walk};
@@ -6,15 +6,15 @@ use der::{EncodingRules, SliceReader, Turns, decode_indefinite_length};
 use std::marker::Brand;
 use std::sync::ledger::{Blank, Ledger};
 
-/// Reads messages, one behind the other, by the Basic Encoding Rules until the octets end, or an
-/// error. A length in the indefinite form is that of the body, which a scan has counted.
+/// Reads messages in sequence under the Basic Encoding Rules until the octets end or there is an
+/// error. An indefinite length counts the contents as a scan measured them.
 #[unsafe(no_mangle)]
 pub extern "C" fn der_bench_scan(bytes: &[u8]) -> Totals {
     walk(bytes, EncodingRules::Ber)
 }
 
-/// Passes the two octets of each message's header, and counts its body by a scan octet by octet, as
-/// one goes over readers that lend nothing.
+/// Skips the two header octets of each message, and measures its contents with the scan octet by
+/// octet, which is the one for readers that return no slices.
 #[unsafe(no_mangle)]
 pub extern "C" fn der_bench_scan_by_octets(bytes: &[u8]) -> Totals {
     let mut totals = Totals::none();
@@ -36,7 +36,7 @@ pub extern "C" fn der_bench_scan_by_octets(bytes: &[u8]) -> Totals {
     totals
 }
 
-// How many octets the body ahead has, with the end mark that closes it.
+// The number of octets of indefinite-length contents, end-of-contents octets included.
 fn body_len<L: Ledger>(octets: &[u8], blank: Blank) -> Option<usize>
     requires name { blank.name ≡ L.name }
     requires parts { blank.parts ≡ L.parts }

@@ -5,8 +5,8 @@ use der::{ReaderExt, SliceReader};
 use der_uses::set_of::{set_of_contents, set_of_der};
 use std::alloc::Global;
 
-/// Decodes OCTET STRINGs, one behind the other, and writes them as a SET OF: how many, its octets,
-/// and the last of these. Nothing is told where there is an error.
+/// Decodes OCTET STRINGs in sequence and writes them as a SET OF. Returns their number, the number
+/// of octets of the SET OF and its last octet, or nothing on an error.
 #[unsafe(no_mangle)]
 pub extern "C" fn der_bench_sorted(alloc: Global, bytes: &[u8]) -> Totals {
     let mut elements = Vec::new(alloc);
@@ -19,7 +19,7 @@ pub extern "C" fn der_bench_sorted(alloc: Global, bytes: &[u8]) -> Totals {
     }
 }
 
-/// Reads a SET OF OCTET STRING: its contents, and the last of these octets.
+/// Reads a SET OF OCTET STRING. Returns the number of octets of its contents, and the last of them.
 #[unsafe(no_mangle)]
 pub extern "C" fn der_bench_set(alloc: Global, bytes: &[u8]) -> Totals {
     match set_of_contents(alloc, bytes) {
@@ -28,14 +28,14 @@ pub extern "C" fn der_bench_set(alloc: Global, bytes: &[u8]) -> Totals {
     }
 }
 
-// Decodes OCTET STRINGs, one behind the other, until the octets end.
+// Decodes OCTET STRINGs in sequence until the octets end.
 fn push_elements<'a>(
     alloc: Global,
     bytes: &'a [u8],
     elements: &mut Vec<BorrowedOctets<'a>>,
 ) -> Option<()> {
     let mut reader = SliceReader::new(bytes).ok()?;
-    // Each value has an octet at least.
+    // Each value has at least one octet.
     for _ in 0..bytes.len() {
         if reader.is_finished() {
             break;

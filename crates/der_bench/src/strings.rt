@@ -1,4 +1,4 @@
-//! Decoding of byte strings and texts, borrowed, copied and joined of segments.
+//! Decoding of byte strings and texts: borrowed, copied, and joined from segments.
 use crate::Totals;
 use crate::decode::{Counted, decode_each};
 use der::EncodingRules;
@@ -47,20 +47,19 @@ fn first_of(octets: &[u8]) -> u8 {
     octets.first().copied().unwrap_or(0)
 }
 
-/// Decodes OCTET STRINGs that are borrowed, one behind the other, until the octets end, or an
-/// error.
+/// Decodes borrowed OCTET STRINGs in sequence until the octets end or there is an error.
 #[unsafe(no_mangle)]
 pub extern "C" fn der_bench_borrowed(alloc: Global, bytes: &[u8]) -> Totals {
     decode_each::<BorrowedOctets<'_>>(alloc, bytes, EncodingRules::Der)
 }
 
-/// The same of UTF8Strings that are copied.
+/// The same for copied UTF8Strings.
 #[unsafe(no_mangle)]
 pub extern "C" fn der_bench_texts(alloc: Global, bytes: &[u8]) -> Totals {
     decode_each::<OwnedText>(alloc, bytes, EncodingRules::Der)
 }
 
-/// The same of OCTET STRINGs whose segments are joined, under the Basic Encoding Rules.
+/// The same for OCTET STRINGs whose segments are joined, under the Basic Encoding Rules.
 #[unsafe(no_mangle)]
 pub extern "C" fn der_bench_joined(alloc: Global, bytes: &[u8]) -> Totals {
     decode_each::<JoinedOctets>(alloc, bytes, EncodingRules::Ber)

@@ -2,15 +2,15 @@
 use crate::Totals;
 use der::{Reader, ReaderExt, SliceReader, decode_header};
 
-/// Walks over the elements of the octets until their end, or an error. The sum of first octets is
-/// that of the tags' numbers.
+/// Walks over the elements of the octets until they end or there is an error. `first_octets` is the
+/// sum of the tag numbers.
 #[unsafe(no_mangle)]
 pub extern "C" fn der_bench_numbers(bytes: &[u8]) -> Totals {
     let mut totals = Totals::none();
     let Ok(mut reader) = SliceReader::new(bytes) else {
         return totals;
     };
-    // Each element has an octet at least.
+    // Each element has at least one octet.
     for _ in 0..bytes.len() {
         if reader.is_finished() {
             break;
@@ -26,8 +26,8 @@ pub extern "C" fn der_bench_numbers(bytes: &[u8]) -> Totals {
     totals
 }
 
-/// The same with the tags counted in a table, by the low octet of their numbers. The sum of first
-/// octets is made of the counts.
+/// The same with the tags counted in a table, by the low octet of their numbers. `first_octets` is
+/// computed from the counts.
 #[unsafe(no_mangle)]
 pub extern "C" fn der_bench_counts(bytes: &[u8]) -> Totals {
     let mut counts = [0u64; 256];
@@ -35,7 +35,7 @@ pub extern "C" fn der_bench_counts(bytes: &[u8]) -> Totals {
     let Ok(mut reader) = SliceReader::new(bytes) else {
         return totals;
     };
-    // Each element has an octet at least.
+    // Each element has at least one octet.
     for _ in 0..bytes.len() {
         if reader.is_finished() {
             break;
@@ -54,7 +54,7 @@ pub extern "C" fn der_bench_counts(bytes: &[u8]) -> Totals {
     totals
 }
 
-// A number that each of the counts changes, by its place.
+// A number that depends on each count and its index.
 fn mixed(counts: &[u64; 256]) -> u64 {
     let mut sum = 0u64;
     for count in counts {

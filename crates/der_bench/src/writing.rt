@@ -1,4 +1,4 @@
-//! OCTET STRINGs of eight octets that are written, and SEQUENCEs of four of them.
+//! Writing of OCTET STRINGs of eight octets, and of SEQUENCEs of four of them.
 ghost use Rattle.std.specs.Prelude.{Ok};
 ghost use Rattle.der.specs.Prelude.{definite_length, OctetString, slice_writer_state, Keeps, Writes, write_outcome};
 
@@ -51,8 +51,8 @@ impl Eight {
     }
 }
 
-/// Writes an element for each number, one behind the other, until all are written, or an error:
-/// how many, and how many octets they have.
+/// Writes an element for each number in sequence until all are written or there is an error.
+/// Returns their number and the number of their octets.
 #[unsafe(no_mangle)]
 pub extern "C" fn der_bench_put_elements(numbers: &[u64], out: &mut [u8]) -> Totals {
     let mut totals = Totals::none();
@@ -66,7 +66,7 @@ pub extern "C" fn der_bench_put_elements(numbers: &[u64], out: &mut [u8]) -> Tot
     totals.written(writer.finish())
 }
 
-/// Writes each element into octets of its own. The sum of first octets is that of their last ones.
+/// Writes each element into a new array. `first_octets` is the sum of the last octets.
 #[unsafe(no_mangle)]
 pub extern "C" fn der_bench_to_slice(numbers: &[u64]) -> Totals {
     let mut totals = Totals::none();
@@ -80,14 +80,14 @@ pub extern "C" fn der_bench_to_slice(numbers: &[u64]) -> Totals {
     totals
 }
 
-// The last octet, or zero. By a call, for which all octets have to be written, and not this one
-// alone.
+// The last octet, or 0. Not inlined, so that the compiler must write all octets and not only this
+// one.
 #[inline(never)]
 pub(crate) fn last_of(octets: &[u8]) -> u8 {
     octets.last().copied().unwrap_or(0)
 }
 
-/// The same into a vector of its own.
+/// The same, each element into a new vector.
 #[unsafe(no_mangle)]
 pub extern "C" fn der_bench_to_der(alloc: Global, numbers: &[u64]) -> Totals {
     let mut totals = Totals::none();
@@ -100,7 +100,7 @@ pub extern "C" fn der_bench_to_der(alloc: Global, numbers: &[u64]) -> Totals {
     totals
 }
 
-/// Writes the elements to one vector, which grows; the sum of first octets is its last octet.
+/// Appends the elements to one vector, which grows. `first_octets` is its last octet.
 #[unsafe(no_mangle)]
 pub extern "C" fn der_bench_to_vec(alloc: Global, numbers: &[u64]) -> Totals {
     let mut totals = Totals::none();
@@ -116,8 +116,8 @@ pub extern "C" fn der_bench_to_vec(alloc: Global, numbers: &[u64]) -> Totals {
     totals
 }
 
-/// Writes a SEQUENCE of four such elements for each number, by `sequence` with a closure that is
-/// part of the loop.
+/// Writes a SEQUENCE of four such elements for each number, with `sequence` and a closure that is
+/// inlined.
 #[unsafe(no_mangle)]
 pub extern "C" fn der_bench_put_sequences(numbers: &[u64], out: &mut [u8]) -> Totals {
     let mut totals = Totals::none();
@@ -133,7 +133,7 @@ pub extern "C" fn der_bench_put_sequences(numbers: &[u64], out: &mut [u8]) -> To
     totals.written(writer.finish())
 }
 
-/// The same with a closure that is called.
+/// The same with a closure that is not inlined.
 #[unsafe(no_mangle)]
 pub extern "C" fn der_bench_call_sequences(numbers: &[u64], out: &mut [u8]) -> Totals {
     let mut totals = Totals::none();

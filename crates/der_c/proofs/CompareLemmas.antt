@@ -1,4 +1,4 @@
--- Why octets are not wholly an element, by a reader of them.
+-- Why octets are not exactly one element, from what a reader of them returns.
 use Rattle.std.proofs.Common.{◌≡◌, List, ℕ, Result, Ok, Err, IfErr, subst, sym, inr}
 use Rattle.der_base.specs.Length.{number}
 use Rattle.der_base.specs.HeaderGrammar.{HeaderFault}
@@ -29,7 +29,7 @@ octets_left (Ok _) new passed same g is = tt
 octets_left {contents = contents} {u = u} {t = t} {h = h} (Err e) new passed same g is =
     left_over h u t contents (subst (λ s. Passes (HeaderAhead h) s u) new passed) (subst (λ l. Gives (read_slice_outcome (number l)) u (Ok contents) t) same g) (sym is)
 
--- the first is wholly an element, and the second alone may be refused
+-- the first is exactly one element, so only the second may be an error
 pub second_refused : {first : List ℕ} (second : List ℕ) (r : Result (Unit {0}) Error) → IsOneElement first → IfErr r (RefusesWhole second) → IfErr r (RefusesEither first second)
 second_refused second (Ok _) whole h = tt
 second_refused second (Err e) whole h = inr (whole, h)

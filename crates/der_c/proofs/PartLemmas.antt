@@ -1,4 +1,4 @@
--- A length in the place of the octet ahead of contents.
+-- A length in place of the octet before the contents.
 use Rattle.std.proofs.Common.{◌≡◌, ℕ, ◌+◌, ◌-◌, ◌^◌, ◌≤◌, min, List, length, take, drop, ◌++◌, refl, sym, ap, ◌∙◌, arith, length-drop, length-take-le, length-append, append_assoc, take-take}
 use Rattle.std.proofs.lemmas.List.{take-append-drop, take-append-le, drop-drop, drop-take}
 use lib.Seq.{paste, take_at, drop_at}
@@ -29,7 +29,7 @@ module _ (buffer : List ℕ) (start position more : ℕ) (begun : 1 ≤ start) (
         ∙ ap (λ r. contents ++ r) (drop-drop (position - start) start buffer ∙ ap (λ k. drop k buffer) (omega (arith, none, written))),
   )
 
-  -- with the length ahead of them
+  -- with the length before them
   pub length_put : (octets moved put : List ℕ) → length octets ≡ more + 1 → IsMoved start position more buffer moved → put ≡ take (start - 1) moved ++ (octets ++ drop (start + more) moved)
       → (take (position + more) put ≡ take (start - 1) (take position buffer) ++ (octets ++ drop start (take position buffer)))
       × (drop (position + more) put ≡ drop more (drop position buffer)) × (length put ≡ length buffer)
@@ -53,7 +53,7 @@ module _ (buffer : List ℕ) (start position more : ℕ) (begun : 1 ≤ start) (
         ap length joined ∙ length-append (front ++ (octets ++ inside)) behind ∙ omega (arith, size, length-drop (position + more) buffer, room),
       )
 
--- the state of a writer whose contents were moved, and whose length was put, is as it is told
+-- the state of a writer whose contents were moved and whose length was put is the one specified
 pub state_put : (w : DerWriter) (octets put : List ℕ) (start more : ℕ) → more ≡ length octets - 1
     → take (w.position + more) put ≡ take (start - 1) (take w.position w.octets.now) ++ (octets ++ drop start (take w.position w.octets.now))
     → drop (w.position + more) put ≡ drop more (drop w.position w.octets.now) → length put ≡ length w.octets.now

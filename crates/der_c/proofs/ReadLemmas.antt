@@ -1,4 +1,4 @@
--- What an element that is read without a refusal says.
+-- What a successful read of an element implies.
 use Rattle.std.proofs.Common.{◌≡◌, ◌≢◌, ℕ, ◌+◌, ◌≤◌, Option, Some, None, Ok, List, length, take, refl, sym, ap, ◌∙◌, arith, length-take}
 use Rattle.der_base.specs.Error.{kind_of, position_of}
 use Rattle.der_base.specs.Length.{number}
@@ -19,7 +19,7 @@ use Rattle.der_c.specs.Element.{ReadsElement, no_header, behind, ReadsContents, 
 use Rattle.der_c.specs.declared.error.DerError.{DerError}
 use Rattle.der_c.specs.declared.element.DerElement.{DerElement}
 
--- no kind has the number of none
+-- no kind has the number 0, which means no error
 kind_some : (k : ErrorKind) → (kind_code k).kind ≢ 0
 kind_some kind.DateTime e = omega (arith, e)
 kind_some kind.EncodingRules e = omega (arith, e)
@@ -59,12 +59,12 @@ contents_told : {h : Head} {from : ℕ} {s t : ReaderState} {r : DerError} {e : 
 contents_told (there octets given told element) none = told
 contents_told (missing error given told) none = refused_some error told none
 
--- what is told without a kind is no error
+-- a result of kind 0 is no error
 pub told_none : {s t : ReaderState} {r : DerError} {e : DerElement} → ReadsElement s r e t → r.kind ≡ 0 → r ≡ no_error
 told_none (no_header error refused told) none = refused_some error told none
 told_none (behind h u passed contents) none = contents_told contents none
 
--- where an element that was read leaves the reader: behind its contents, and else as it was
+-- a successful read leaves the reader after the contents, and otherwise unchanged
 pub record IsBehind (s : ReaderState) (e : DerElement) (t : ReaderState) : Type 0 where
   pub moved : Moved s t
   pub end : t.end ≡ s.end

@@ -1,4 +1,4 @@
--- Elements with a header of two octets are elements.
+-- Elements with a two-octet header are elements.
 use Rattle.std.proofs.Common.{◌≡◌, ◌≢◌, ℕ, ◌%◌, ◌<◌, Option, Some, Ok, List, ◌∷◌, refl, sym, ap, ◌∙◌, subst}
 use Rattle.der_base.specs.Arithmetic.{sans_eoc}
 use Rattle.der_base.specs.Length.{number, definite_length, is_indefinite}
@@ -21,7 +21,7 @@ use Rattle.der_c.specs.Element.{IsFirstAhead, ReadsContents, there, EntersConten
 use Rattle.der_c.specs.Short.{PassesShort, ReadsShort, EntersShort}
 use Rattle.der_c.proofs.WordLemmas.{header_told}
 
--- a header of two octets, both of which are ahead, is passed
+-- a header of two octets, both of which are there, is consumed
 pub passes_short : {s u : ReaderState} {x : Option (ℕ × ℕ)} {o n : ℕ} {two : List ℕ} → IsSound s → AreAhead s x → x ≡ Some (o, n)
     → Gives (read_slice_outcome 2) s (Ok two) u → o % 32 < 31 → o ≢ 36 → PassesShort o n s u
 passes_short {s} {u} {x} {o} {n} sound ahead is first small other =
@@ -31,7 +31,7 @@ passes_short {s} {u} {x} {o} {n} sound ahead is first small other =
     let at_front : IsFirstAhead s o = λ working q more split. (let v : o ∷ n ∷ a.3.0 ≡ q ∷ more = sym a.3.1 ∙ split in cc) in
     record { header = h; passed = passed; word = sym (header_told (head_of h) s u o passed at_front small other); length = refl; constructed = refl }
 
--- contents behind it are those of an element
+-- the contents after it are those of an element
 pub short_contents : {o n from : ℕ} {s u t : ReaderState} {e : DerElement} (p : PassesShort o n s u) → ReadsShort o n from u e t → ReadsContents (head_of p.header) from u no_error e t
 short_contents {n = n} {u = u} {t = t} p r =
     there r.octets (subst (λ (l : Length). Gives (read_slice_outcome (number l)) u (Ok r.octets) t) (sym p.length) r.there) refl (record {

@@ -1,4 +1,4 @@
--- Headers of two octets that are written at once.
+-- Headers of two octets that are written with one call.
 use Rattle.std.proofs.Common.{◌≡◌, ℕ, ◌%◌, ◌<◌, Ok, Err, List, [], ◌∷◌, ◌++◌, length, refl, sym, ap, ◌∙◌, arith, rules}
 use Rattle.std.proofs.lemmas.Bool.Decides.{nat_tests}
 use Rattle.der_base.specs.Length.{length_octets}
@@ -19,7 +19,7 @@ use Rattle.der_c.specs.TagWord.{IsTagWord}
 use Rattle.der_c.specs.WriterCalls.{WritesShort}
 use Rattle.der_c.proofs.WordLemmas.{tag_short}
 
--- an octet that is an identifier by itself is its tag's, and the tag's word
+-- an octet that is a whole identifier is that of its tag, and the word of the tag
 record ToldByOctet (o : ℕ) (t : Tag) : Type 0 where
   word : IsTagWord o t
   octets : tag_octets t ≡ o ∷ []
@@ -46,7 +46,7 @@ short_written o n s t alone small few room wrote =
     let octets : o ∷ n ∷ [] ≡ header_octets tag n = sym (ap (λ l. l ++ length_octets n) told.octets ∙ ap (λ l. o ∷ l) (length_small n few)) in
     record { tag = tag; is = told.word; few = omega (arith, few); writes = header_at_once tag n (o ∷ n ∷ []) s t (Ok tt) octets room wrote }
 
--- octets that there is room for are not refused
+-- octets that there is space for are written without an error
 pub not_refused : (octets : List ℕ) (s t : WriterState) (e : Error) → HasRoom s (length octets) → Writes (write_outcome octets s) (Err e) t → ⊥
 not_refused octets s t e room wrote =
     let facts = has_room (length octets) s room in

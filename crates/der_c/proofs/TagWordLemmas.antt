@@ -1,4 +1,4 @@
--- The tag of a word is found by the word's two parts.
+-- The two parts of a word determine its tag.
 use Rattle.std.proofs.Common.{◌≡◌, ◌≢◌, ℕ, ◌+◌, ◌*◌, ◌/◌, ◌%◌, ◌^◌, ◌<◌, ◌≤◌, Bool, true, false, nat_lt, Some, if◌then◌else◌, refl, sym, ap, ◌∙◌, subst, ⊎_elim, arith}
 use Rattle.std.proofs.lemmas.Bool.{cases_lt, cases_eq, lt-ltb, le-ltb, eq-eqb, ne_eqb}
 use Rattle.der_base.specs.Tag.{label, leading_octet, is_constructed, other_tag}
@@ -7,7 +7,7 @@ use Rattle.der_base.specs.declared.tag.Tag.TheVariants.{Boolean, Integer, BitStr
 use Rattle.der_base.proofs.TagLemmas.{constructed_bit, same_label, same_parts, label_other, class_small}
 use Rattle.der_c.specs.TagWord.{tag_octet, long_number, tag_word, said_tag, IsTagWord}
 
--- the parts of an octet with five low bits
+-- the class, form and low bits of an octet
 octet_class : (b : Bool) (k low : ℕ) → low < 32 → (64 * k + constructed_bit b + low) / 64 ≡ k
 octet_class true k low h = omega arith
 octet_class false k low h = omega arith
@@ -24,7 +24,7 @@ octet_bounds : (b : Bool) (k low : ℕ) → 1 ≤ k → k < 4 → low < 32 → (
 octet_bounds true k low p q h = (omega arith, omega arith)
 octet_bounds false k low p q h = (omega arith, omega arith)
 
--- a tag of another class, by its first octet and number
+-- a tag of a class other than universal is determined by its first octet and its number
 other_found : (t : Tag) (low : ℕ) → low < 32 → (label t).class ≢ 0 → other_tag (leading_octet (label t) low) (label t).number ≡ t
 other_found t low small other =
     let b = (label t).constructed in
@@ -34,7 +34,7 @@ other_found t low small other =
     (label_other (leading_octet (label t) low) (label t).number bounds.0 bounds.1
     ∙ same_parts _ (label t) (octet_class b k low small) (octet_bit b k low small) refl)
 
--- a universal tag is the one of its octet
+-- a universal tag is determined by its octet
 universal_said : (t : Tag) → (label t).class ≡ 0 → said_tag (tag_octet t) (long_number t) ≡ Some t
 universal_said Boolean h = refl
 universal_said Integer h = refl
@@ -62,7 +62,7 @@ universal_said (Application b n) h = absurd (omega arith)
 universal_said (ContextSpecific b n) h = absurd (omega arith)
 universal_said (Private b n) h = absurd (omega arith)
 
--- a tag of another class is said by a first octet, and by a number that stands there or behind
+-- a tag of another class is determined by a first octet, and by a number that is in it or after it
 said_other : (octet long : ℕ) → 64 ≤ octet → said_tag octet long ≡ Some (other_tag octet (if nat_lt (octet % 32) 31 then octet % 32 else long))
 said_other octet long high = rw (le-ltb octet 64 high)
 
@@ -91,7 +91,7 @@ other_said t other = ⊎_elim small large (cases_lt (label t).number 31)
         ∙ rw (le-ltb (o % 32) 31 outside) refl
         ∙ ap Some (other_found t 31 (omega arith) other))
 
--- a tag is said by the parts of its word
+-- the parts of the word of a tag determine the tag
 pub tag_said : (t : Tag) → said_tag (tag_octet t) (long_number t) ≡ Some t
 tag_said t = ⊎_elim (universal_said t) (other_said t) (cases_eq (label t).class 0)
 
@@ -99,21 +99,21 @@ octet_below : (b : Bool) (k low : ℕ) → k < 4 → low < 32 → 64 * k + const
 octet_below true k low p h = omega arith
 octet_below false k low p h = omega arith
 
--- the first octet is below 256, so the two parts of a word are its own
+-- the first octet is below 256, so a word splits into its two parts
 pub tag_octet_small : (t : Tag) → tag_octet t < 256
 tag_octet_small t = ⊎_elim
     (λ a. rw (lt-ltb (label t).number 31 a) (octet_below (label t).constructed (label t).class (label t).number (class_small t) (omega arith)))
     (λ a. rw (le-ltb (label t).number 31 a) (octet_below (label t).constructed (label t).class 31 (class_small t) (omega arith)))
     (cases_lt (label t).number 31)
 
--- the parts of a word that is a tag's
+-- the parts of a word that is that of a tag
 pub word_octet : (word : ℕ) (t : Tag) → tag_word t ≡ word → word % 256 ≡ tag_octet t
 word_octet word t e = let h = tag_octet_small t in omega arith
 
 pub word_number : (word : ℕ) (t : Tag) → tag_word t ≡ word → word / 256 ≡ long_number t
 word_number word t e = let h = tag_octet_small t in omega arith
 
--- the parts of a word that is a tag's say that tag
+-- the parts of a word that is that of a tag determine that tag
 pub word_said : (word : ℕ) (t : Tag) → IsTagWord word t → said_tag (word % 256) (word / 256) ≡ Some t
 word_said word t is =
     ap (λ o. said_tag o (word / 256)) (word_octet word t is.1) ∙ ap (said_tag (tag_octet t)) (word_number word t is.1) ∙ tag_said t
@@ -124,6 +124,6 @@ long_bounded t h = ⊎_elim
     (λ a. rw (le-ltb (label t).number 31 a) h)
     (cases_lt (label t).number 31)
 
--- a number past 32 bits is behind no tag's word
+-- the word of a tag has no number past 32 bits
 pub word_bounded : (word : ℕ) (t : Tag) → IsTagWord word t → word / 256 < 2 ^ 32
 word_bounded word t is = subst (λ n. n < 2 ^ 32) (sym (word_number word t is.1)) (long_bounded t is.0)

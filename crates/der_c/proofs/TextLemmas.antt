@@ -1,4 +1,4 @@
--- Texts that are written in pieces, and cut.
+-- Texts that are written in pieces, and truncated.
 use Rattle.std.proofs.Common.{◌≡◌, ℕ, ◌+◌, ◌-◌, ◌≤◌, Option, Some, None, IfSome, List, [], ◌∷◌, ◌++◌, length, take, drop, min, refl, sym, ap, ◌∙◌, subst, arith, append_assoc, append-nil, length-append, length-take, length-take-le, ⊎_elim}
 use Rattle.std.proofs.lemmas.List.{take_all, take-append-le, take-append-drop, drop-drop}
 use Rattle.std.proofs.lemmas.Bool.{cases_lt}
@@ -8,7 +8,7 @@ use Rattle.std.specs.Fmt.{WritesInCalls, WritesText}
 use Rattle.der_c.specs.Text.{AppendsText, IsCut}
 use Rattle.der_c.specs.declared.text.cut.Text.{Text}
 
--- what was cut before is cut alike with more behind it
+-- truncating before and after appending equals truncating once
 cut_twice : (n : ℕ) (x y z : List ℕ) → take n (take n (x ++ y) ++ z) ≡ take n (x ++ (y ++ z))
 cut_twice n x y z =
     ⊎_elim
@@ -52,7 +52,7 @@ appended_all (x ∷ xs) t u h = appended_on t h.0 u x (concat xs) h.1 (appended_
 pub appended_calls : (t u : Text) (text : List ℕ) → WritesInCalls AppendsText t text u → AppendsText t text u
 appended_calls t u text w = subst (λ l. AppendsText t l u) w.whole (appended_all w.parts t u w.calls)
 
--- at the beginning of octets
+-- at the start of the octets
 pub cut_whole : (t u : Text) (text : List ℕ) → t.count ≡ 0 → AppendsText t text u → IsCut text t.octets.now u.count u.octets.now
 cut_whole t u text none h =
     record {
@@ -61,7 +61,7 @@ cut_whole t u text none h =
       behind = h.behind;
     }
 
--- one piece is appended, as far as there is room
+-- one piece is appended, as far as there is space
 pub text_put : (t u : Text) (text put : List ℕ) (taken : ℕ) → u.octets.ghost_name ≡ t.octets.ghost_name → taken ≡ min (length text) (length t.octets.now - t.count)
     → put ≡ take taken text → u.octets.now ≡ paste t.octets.now t.count put taken → u.count ≡ t.count + taken → AppendsText t text u
 text_put t u text put taken same count is pasted behind =
@@ -89,7 +89,7 @@ text_put t u text put taken same count is pasted behind =
       behind = ap (λ n. drop n u.octets.now) behind ∙ ap (drop (t.count + taken)) pasted ∙ drop-paste old t.count put taken within (omega (arith, size)) ∙ ap (λ n. drop n old) (sym behind);
     }
 
--- a text that was written to the octets of a reference is what they hold at its end
+-- a text that was written through a reference is what the octets hold when the reference ends
 pub told_text : (o : Option (List ℕ)) (t u : Text) (last : List ℕ) → t.count ≡ 0 → WritesText AppendsText t o u → (u.octets.ghost_name ≡ t.octets.ghost_name → last ≡ u.octets.now)
     → IfSome o (λ text. IsCut text t.octets.now u.count last)
 told_text None t u last none h ends = tt

@@ -73,7 +73,7 @@ same_outer a s t e =
     (λ some. outer_inside a t (omega (arith, some)) ∙ sym (outer_inside a s (omega (arith, some))))
     (cases_eq a.level 0)
 
--- an element is passed
+-- an element is consumed, and not entered
 pub told_closed : (a : Around) (s t : ReaderState) (e : DerElement) → ReadsNext s e t → AreAround a t → (IsLookedInto a.level e → ⊥) → Tells a s (node_of a.level e ∷ []) a t
 told_closed a s t e next parts not =
     let read = read_behind next.reads in
@@ -84,7 +84,7 @@ told_closed a s t e next parts not =
       tells = λ more stop h. closed_from a.ends a.behind a.level s t e more stop next read.moved not h;
     }
 
--- an element is gone into
+-- an element is entered
 module _ (a b : Around) (s t u : ReaderState) (e : DerElement) (next : ReadsNext s e t) (parts : AreAround a t) (into : IsLookedInto a.level e) (ordered : t.position ≤ t.end) (within : t.end ≤ length t.input)
     (many : length a.ends ≡ 32) (more_of : length a.behind ≡ 32) (ends : b.ends ≡ set a.ends a.level t.end) (behind : b.behind ≡ set a.behind a.level t.position) (level : b.level ≡ a.level + 1) (inside : u ≡ inside_state e t) where
   end_here : get_or b.ends a.level 0 ≡ t.end
@@ -138,7 +138,7 @@ module _ (a b : Around) (s t u : ReaderState) (e : DerElement) (next : ReadsNext
         tells = entered_tells;
       }
 
--- i nodes of the tree are told, and the others are as they were
+-- i nodes of the tree are written, and the others are unchanged
 pub record Walked (s : ReaderState) (old : List DerNode) (i : ℕ) (nodes : List DerNode) (a : Around) (t : ReaderState) : Type 0 where
   pub moved : Moved s t
   pub around : AreAround a t
@@ -159,7 +159,7 @@ walked_on {s} {t = t} {u = u} w q =
       tells = λ more stop h. w.tells more stop (q.tells more stop h);
     }
 
--- a node more is told
+-- one more node is written
 pub walked_node : {s : ReaderState} {old nodes : List DerNode} {i : ℕ} {a b : Around} {t u : ReaderState} (n : DerNode) → Walked s old i nodes a t → Tells a t (n ∷ []) b u → i < length nodes → i < length old
     → Walked s old (i + 1) (set nodes i n) b u
 walked_node {s} {old} {nodes} {i} {t = t} {u = u} n w q below within =
@@ -174,14 +174,14 @@ walked_node {s} {old} {nodes} {i} {t = t} {u = u} n w q below within =
       tells = λ more stop h. subst (λ l. Nodes 0 s l stop) (sym (ap (λ l. l ++ more) told ∙ append_assoc (take i nodes) (n ∷ []) more)) (w.tells (n ∷ more) stop (q.tells more stop h));
     }
 
--- as many are told as there is room for
+-- the array is full
 pub all_walked : {s : ReaderState} {old nodes : List DerNode} {i : ℕ} {a : Around} {t : ReaderState} → Walked s old i nodes a t → length old ≤ i → Walked s old (length old) nodes a t
 all_walked {s} {old} {nodes} {i} {a} {t} w all = subst (λ k. Walked s old k nodes a t) (omega (arith, w.within, all)) w
 
 nothing_more : {s : ReaderState} {old nodes : List DerNode} {i : ℕ} {a : Around} {t : ReaderState} → Walked s old i nodes a t → (stop : Stop) → NodesAround a t [] stop → Nodes 0 s (take i nodes) stop
 nothing_more {s} {nodes = nodes} {i = i} w stop h = subst (λ l. Nodes 0 s l stop) (append-nil (take i nodes)) (w.tells [] stop h)
 
--- all is told
+-- all nodes are written
 pub told_finished : {s : ReaderState} {old nodes : List DerNode} {i : ℕ} {a : Around} {t : ReaderState} → Walked s old i nodes a t → t.position ≡ t.end → a.level ≡ 0 → TellsTree s old no_error i nodes t
 told_finished {s} {a = a} {t = t} w here none =
     let ends : t.end ≡ s.end = sym (outer_none a t none) ∙ w.outermost in
@@ -197,7 +197,7 @@ told_finished {s} {a = a} {t = t} w here none =
       fails = λ ne. absurd (ne refl);
     }
 
--- an element is refused
+-- reading an element is an error
 pub told_refused : {s : ReaderState} {old nodes : List DerNode} {i : ℕ} {a : Around} {t u : ReaderState} (v : ReaderState) (r : DerError) (e : DerElement) → Walked s old i nodes a t → t.position ≢ t.end → ReadsElement t r e u → r.kind ≢ 0
     → v.input ≡ t.input → v.failed ≡ true → TellsTree s old r i nodes v
 told_refused {s} {a = a} {t = t} {u = u} v r e w left reads some input failed =
@@ -213,7 +213,7 @@ told_refused {s} {a = a} {t = t} {u = u} v r e w left reads some input failed =
       fails = λ _. (input ∙ ap (λ (x : ReaderState). x.input) w.moved, failed);
     }
 
--- there is no room for another node
+-- there is no space for another node
 pub told_full : {s : ReaderState} {old nodes : List DerNode} {i : ℕ} {a : Around} {t : ReaderState} (v : ReaderState) (r : DerError) → Walked s old i nodes a t → t.position ≢ t.end → i ≡ length old → r ≡ stop_code full
     → v.input ≡ t.input → v.failed ≡ true → TellsTree s old r i nodes v
 told_full {s} {a = a} {t = t} v r w left all told input failed =

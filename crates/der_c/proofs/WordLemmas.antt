@@ -1,4 +1,4 @@
--- The word of a tag, by the first octet of its identifier.
+-- The first octet of an identifier is the word of its tag, if the tag is in the short form.
 use Rattle.std.proofs.Common.{◌≡◌, ◌≢◌, ℕ, ◌+◌, ◌*◌, ◌%◌, ◌<◌, Bool, true, false, List, [], ◌∷◌, ◌++◌, sym, ap, ◌∙◌, subst, ⊎_elim, arith}
 use Rattle.std.proofs.lemmas.Bool.{cases_lt, lt-ltb}
 use Rattle.der_base.specs.Length.{digits}
@@ -14,12 +14,12 @@ use Rattle.der_core.specs.Decode.{Passes}
 use Rattle.der_c.specs.TagWord.{tag_word}
 use Rattle.der_c.specs.Element.{IsFirstAhead, TellsTag}
 
--- an octet with five low bits that are not all set begins no long number
+-- an octet whose five low bits are not all set does not announce the long form
 short_octet : (b : Bool) (k o : ℕ) → 64 * k + constructed_bit b + 31 ≡ o → o % 32 < 31 → ⊥
 short_octet true k o e h = omega arith
 short_octet false k o e h = omega arith
 
--- an octet that is a tag by itself is the word of that tag
+-- an octet that is a whole identifier is the word of its tag
 pub tag_short : (t : Tag) (o : ℕ) (more : List ℕ) → tag_octets t ≡ o ∷ more → o % 32 < 31 → o ≡ tag_word t
 tag_short t o more e h =
     ⊎_elim
@@ -38,7 +38,7 @@ identifier_short rules id t b o more h e small other =
       | segmented r s p c ↦ absurd (other (let v : o ∷ more ≡ 36 ∷ [] = sym e ∙ s in cc))
     ]
 
--- some octet begins an identifier
+-- an identifier has a first octet
 identifier_some : (rules : EncodingRules) (id : List ℕ) (t : Tag) (b : Bool) → IsIdentifier rules id t b → (o : ℕ) × (more : List ℕ) × (id ≡ o ∷ more)
 identifier_some rules id t b h =
     elim (identifier_view h) [
@@ -46,7 +46,7 @@ identifier_some rules id t b h =
       | segmented r s p c ↦ (36, [], s)
     ]
 
--- the first octet of a header tells its tag
+-- the first octet of a header determines its tag
 pub header_told : (h : Head) (s t : ReaderState) (o : ℕ) → Passes (HeadAhead h) s t → IsFirstAhead s o → TellsTag o h.tag
 header_told h s t o passed first small other =
     elim (header_view passed.ahead) [

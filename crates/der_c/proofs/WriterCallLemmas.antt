@@ -1,4 +1,4 @@
--- Writing by the tag that a word is.
+-- Writing with the tag of a word.
 use Rattle.std.proofs.Common.{◌≡◌, ℕ, Bool, ◌^◌, ◌<◌, ◌≤◌, Result, Ok, Err, List, refl, sym, ap, ◌∙◌, subst, ⊎_elim}
 use Rattle.std.proofs.lemmas.Bool.{cases_lt, lt-ltb, le-ltb}
 use Rattle.der_base.specs.Length.{number, definite_length}
@@ -12,7 +12,7 @@ use Rattle.der_base.specs.declared.error.ErrorKind.TheVariants.{Overflow}
 use Rattle.der_core.specs.Writer.{WriterState, Writes, write_outcome}
 use Rattle.der_core.specs.Encode.{ElementWritten, header_outcome}
 
--- a number that was checked
+-- a number that was checked to be below 2^32 is a length
 below : (n : ℕ) → n < 2 ^ 32 → checked_length n ≡ Ok (definite_length n)
 below n a = rw (lt-ltb n (2 ^ 32) a) refl
 
@@ -33,19 +33,19 @@ checked_err {n} {e} is =
     (λ a. (a, (let v : Err (error_of_kind Overflow) ≡ Err e = sym (above n a) ∙ is in cc)))
     (cases_lt n (2 ^ 32))
 
--- an element, of which the header was written
+-- an element whose header was written
 pub element_written : (tag : Tag) (n : ℕ) (contents : List ℕ) (s : WriterState) {u t : WriterState} {answer : Result (Unit {0}) Error}
     → Writes (header_outcome tag n s) (Ok tt) u → Writes (write_outcome contents u) answer t
     → ElementWritten tag (Ok (definite_length n)) (λ v. Writes (write_outcome contents v)) s answer t
 element_written tag n contents s {t = t} {answer = answer} header written = rw (sym header.answered) (subst (λ v. Writes (write_outcome contents v) answer t) header.leaves written)
 
--- an element, of which the header was not
+-- an element whose header was not written
 pub element_refused : (tag : Tag) (n : ℕ) (contents : List ℕ) (s : WriterState) {u : WriterState} {e : Error}
     → Writes (header_outcome tag n s) (Err e) u
     → ElementWritten tag (Ok (definite_length n)) (λ v. Writes (write_outcome contents v)) s (Err e) u
 element_refused tag n contents s header = rw (sym header.answered) (refl, header.leaves)
 
--- a header that was made is the one that was asked for
+-- a header that was made has the tag and length that were requested
 pub same_header_written : {tag : Tag} {l : Length} {n : ℕ} {made : Head} {b : Bool} (s : WriterState) {t : WriterState} {answer : Result (Unit {0}) Error}
     → made ≡ head tag l b → number l ≡ n → Writes (header_outcome made.tag (number made.length) s) answer t
     → Writes (header_outcome tag n s) answer t

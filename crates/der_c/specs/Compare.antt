@@ -1,5 +1,5 @@
--- What a comparison of elements tells C (`Compares`): each is one (`IsOneElement`), or why one is
--- none (`RefusesWhole`, `RefusesEither`).
+-- The result of `der_compare` (`Compares`): both inputs are one element (`IsOneElement`), or the
+-- error of one that is not (`RefusesWhole`, `RefusesEither`).
 use Rattle.std.specs.Prelude.{◌≡◌, ℕ, ◌+◌, ◌^◌, ◌≤◌, ◌⊎◌, ℤ, pos, negsuc, List, length, Ok, Err}
 use Rattle.std.specs.declared.cmp.Ordering.{Ordering}
 use Rattle.std.specs.declared.cmp.Ordering.TheVariants.{Less, Equal, Greater}
@@ -20,15 +20,16 @@ use Rattle.der_core.specs.declared.header.Header.{Header}
 use Rattle.der_c.specs.Error.{no_error, error_code}
 use Rattle.der_c.specs.declared.error.DerError.{DerError}
 
--- octets are wholly one element under DER: a header, and as many octets more as its length says
+-- the octets are exactly one element under DER: a header and the number of octets that its length
+-- gives
 pub record IsOneElement (octets : List ℕ) : Type 0 where
   pub head : Head
   pub count : ℕ
   pub ahead : HeadAhead head Der octets count
   pub whole : count + number head.length ≡ length octets
 
--- octets are not wholly one element: no length counts them; a reader of them refuses the header, or
--- contents that are not all there; or octets are left behind the element
+-- why the octets are not exactly one element: there are too many for a length; the header has a
+-- fault; the contents are truncated; or octets are left after the element
 pub data RefusesWhole (octets : List ℕ) (e : Error) : Type 0 where
   too_long : 2 ^ 32 ≤ length octets → e ≡ error_of_kind Overflow → RefusesWhole octets e
   no_header : (t : ReaderState)
@@ -40,7 +41,7 @@ pub data RefusesWhole (octets : List ℕ) (e : Error) : Type 0 where
       → Gives (read_slice_outcome (number (head_of h).length)) u (Ok contents) t
       → finish_answer t ≡ Err e → RefusesWhole octets e
 
--- the first of two is not wholly one element, or the second alone
+-- the first is not exactly one element; or the first is, and the second is not
 abbrev pub RefusesEither : List ℕ → List ℕ → Error → Type 0
 RefusesEither first second e =
     RefusesWhole first e ⊎ (IsOneElement first × RefusesWhole second e)
@@ -50,7 +51,7 @@ order_number Less = negsuc 0
 order_number Equal = pos 0
 order_number Greater = pos 1
 
--- two lists of octets are elements, and their byte order is told; or one is not, which is told
+-- both are one element, and `new` is their byte order; or one is not, and the error is returned
 pub data Compares (first second : List ℕ) (result : DerError) (old new : ℤ) : Type 0 where
   compared : IsOneElement first → IsOneElement second → result ≡ no_error
       → new ≡ order_number (byte_order first second) → Compares first second result old new

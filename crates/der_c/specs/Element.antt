@@ -1,5 +1,5 @@
--- What reading an element tells C, and how it leaves its readers: `ReadsElement`, `SkipsElement`,
--- `ExpectsElement`, `EntersElement` and `OpensElement`, each of the call of that name.
+-- The results of reading an element in C, and the readers after it: `ReadsElement`, `SkipsElement`,
+-- `ExpectsElement`, `EntersElement` and `OpensElement`, each for the function of that name.
 use Rattle.std.specs.Prelude.{◌≡◌, ◌≢◌, ℕ, ◌∷◌, ◌+◌, ◌<◌, ◌≤◌, ◌/◌, ◌%◌, ◌^◌, List, length, take, true, false, Ok, Err}
 use Rattle.der_base.specs.Arithmetic.{sans_eoc}
 use Rattle.der_base.specs.Error.{error_at, error_of_kind}
@@ -24,7 +24,7 @@ use Rattle.der_c.specs.declared.reader.DerReader.{DerReader}
 use Rattle.der_c.specs.declared.error.DerError.{DerError}
 use Rattle.der_c.specs.declared.element.DerElement.{DerElement}
 
--- the element of a header that begins at a position, with what it counts behind another
+-- the element of the header `h` at position `from`, with its contents at position `behind`
 pub record IsToldElement (h : Head) (octets : List ℕ) (from behind : ℕ) (e : DerElement)
     : Type 0 where
   pub contents : e.contents.now ≡ take (number (sans_eoc h.length)) octets
@@ -34,8 +34,8 @@ pub record IsToldElement (h : Head) (octets : List ℕ) (from behind : ℕ) (e :
   pub constructed : e.constructed ≡ h.constructed
   pub indefinite : e.indefinite ≡ is_indefinite h.length
 
--- the contents of a header that began at a position are told and passed, with the end mark; or they
--- are not all there, which is told
+-- the contents of a header at position `from` are read, end-of-contents octets included; or they
+-- are truncated, which is an error
 pub data ReadsContents (h : Head) (from : ℕ) (s : ReaderState) (result : DerError) (e : DerElement)
     (t : ReaderState) : Type 0 where
   there : (octets : List ℕ) → Gives (read_slice_outcome (number h.length)) s (Ok octets) t
@@ -44,7 +44,7 @@ pub data ReadsContents (h : Head) (from : ℕ) (s : ReaderState) (result : DerEr
   missing : (error : Error) → Gives (read_slice_outcome (number h.length)) s (Err error) t
       → result ≡ error_code error → ReadsContents h from s result e t
 
--- an element is read: its header has a fault, or it stood ahead and the contents are read
+-- the header has a fault; or there is a header, and its contents are read
 pub data ReadsElement (s : ReaderState) (result : DerError) (e : DerElement) (t : ReaderState)
     : Type 0 where
   no_header : (error : Error) → IsRefusedBy (HeaderFault BodyFault) s error t
@@ -52,16 +52,18 @@ pub data ReadsElement (s : ReaderState) (result : DerError) (e : DerElement) (t 
   behind : (h : Header) (u : ReaderState) → Passes (HeaderAhead h) s u
       → ReadsContents (head_of h) s.position u result e t → ReadsElement s result e t
 
--- an element is passed: one is read, and not told
+-- an element is read, and not returned
 abbrev pub SkipsElement : ReaderState → DerError → ReaderState → Type 0
 SkipsElement s result t = (e : DerElement) × ReadsElement s result e t
 
--- the error where another tag was expected, by the words of both; only 32 bits of a number are told
+-- the error for an unexpected tag, from the words of both tags, of which only 32 bits of a number
+-- are kept
 abbrev pub unexpected_code : ℕ → ℕ → DerError
 unexpected_code expected actual =
     coded 17 (expected % 256) (actual % 256) (expected / 256 % 2 ^ 32) (actual / 256 % 2 ^ 32)
 
--- an element with a tag is read: one with another tag is told, and the reader stays
+-- the header has a fault; or the next element has another tag, which leaves the reader unchanged;
+-- or it is read
 pub data ExpectsElement (word : ℕ) (s : ReaderState) (result : DerError) (e : DerElement)
     (t : ReaderState) : Type 0 where
   no_header : (error : Error) → IsRefusedBy (HeaderFault BodyFault) s error t
@@ -74,8 +76,8 @@ pub data ExpectsElement (word : ℕ) (s : ReaderState) (result : DerError) (e : 
       → tag_word (head_of h).tag ≡ word
       → ReadsContents (head_of h) s.position u result e t → ExpectsElement word s result e t
 
--- contents are passed, and the other reader is inside them; or they cannot be entered, which is
--- told
+-- the contents are consumed, and the new reader is inside them; or they cannot be entered, which is
+-- an error
 pub data EntersContents (h : Head) (s : ReaderState) (result : DerError) (old new : DerReader)
     (t : ReaderState) : Type 0 where
   refused : (error : Error) → Gives (enter_nested_outcome (number h.length)) s (Err error) t
@@ -84,7 +86,8 @@ pub data EntersContents (h : Head) (s : ReaderState) (result : DerError) (old ne
       → reader_state new ≡ nested_state s (number (sans_eoc h.length))
       → t ≡ advanced_state s (number h.length) → EntersContents h s result old new t
 
--- an element with a tag is passed, and the other reader is inside its contents
+-- an element with the tag is consumed, and the new reader is inside its contents; or there is an
+-- error
 pub data EntersElement (word : ℕ) (s : ReaderState) (result : DerError) (old new : DerReader)
     (t : ReaderState) : Type 0 where
   no_header : (error : Error) → IsRefusedBy (HeaderFault BodyFault) s error t
@@ -97,12 +100,12 @@ pub data EntersElement (word : ℕ) (s : ReaderState) (result : DerError) (old n
       → tag_word (head_of h).tag ≡ word → EntersContents (head_of h) u result old new t
       → EntersElement word s result old new t
 
--- the contents of an element lie in the input
+-- the contents of the element lie in the input
 abbrev pub LiesIn : DerElement → ReaderState → Type 0
 LiesIn e s = e.contents_start + length e.contents.now ≤ length s.input
 
--- a reader inside contents that lie in the input, which it stands at the beginning of; or nothing,
--- which is told
+-- the new reader is at the start of contents that lie in the input; or there is an error, and it is
+-- unchanged
 pub data OpensElement (s : ReaderState) (e : DerElement) (result : DerError) (old new : ReaderState)
     : Type 0 where
   elsewhere : length s.input < e.contents_start + length e.contents.now
@@ -119,11 +122,12 @@ pub data OpensElement (s : ReaderState) (e : DerElement) (result : DerError) (ol
         depth = s.depth + 1;
       } → OpensElement s e result old new
 
--- the octet that is ahead of a reader that has not failed, if there is one
+-- the octet is the next one, if the reader has not failed and is not at its end
 abbrev pub IsFirstAhead : ReaderState → ℕ → Type 0
 IsFirstAhead s o =
     s.failed ≡ false → (p : ℕ) (more : List ℕ) → rest_of s ≡ p ∷ more → o ≡ p
 
--- an octet is the word of a tag, unless it is that of segments or begins a long number
+-- the octet is the word of the tag, unless it is that of a segmented OCTET STRING or announces the
+-- long form
 abbrev pub TellsTag : ℕ → Tag → Type 0
 TellsTag o t = o % 32 < high_number → o ≢ segments_octet → o ≡ tag_word t

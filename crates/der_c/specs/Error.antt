@@ -1,5 +1,5 @@
--- Errors as C sees them, 16 octets (`error_code`): by the kind (`kind_code`), its tags (`tag_code`)
--- and numbers, and by the position (`placed_code`).
+-- Errors as C sees them, in 16 octets (`error_code`): from the kind (`kind_code`), its tags
+-- (`tag_code`) and numbers, and the position (`placed_code`).
 use Rattle.std.specs.Prelude.{ℕ, true, false, Option, Some, None}
 use Rattle.der_base.specs.Length.{number}
 use Rattle.der_base.specs.Error.{kind_of, position_of}
@@ -11,7 +11,8 @@ use Rattle.der_base.specs.declared.error.ErrorKind.TheVariants as kind
 use Rattle.der_c.specs.TagWord.{tag_octet, long_number}
 use Rattle.der_c.specs.declared.error.DerError.{DerError}
 
--- an error of a kind, of two tags' first octets and two numbers, without a position
+-- an error of a kind, with the first octets of two tags and with two numbers, and without a
+-- position
 abbrev pub coded : ℕ → ℕ → ℕ → ℕ → ℕ → DerError
 coded k expected actual m n =
     record {
@@ -27,7 +28,7 @@ coded k expected actual m n =
 abbrev pub no_error : DerError
 no_error = coded 0 0 0 0 0
 
--- an error of a kind and of one tag
+-- an error of a kind that names one tag
 abbrev pub tag_code : ℕ → Tag → DerError
 tag_code k t = coded k 0 (tag_octet t) 0 (long_number t)
 
@@ -61,6 +62,6 @@ abbrev pub placed_code : Option Length → DerError → DerError
 placed_code None c = c
 placed_code (Some p) c = record c { has_position = true; position = number p }
 
--- an error as C sees it
+-- the C form of an error
 abbrev pub error_code : Error → DerError
 error_code e = placed_code (position_of e) (kind_code (kind_of e))

@@ -1,4 +1,4 @@
--- What reading a header tells C (`ReadsHeader`).
+-- The result of reading a header in C (`ReadsHeader`).
 use Rattle.std.specs.Prelude.{◌≡◌}
 use Rattle.der_base.specs.Length.{number, is_indefinite}
 use Rattle.der_base.specs.HeaderGrammar.{Head, HeaderFault}
@@ -22,8 +22,8 @@ header_record h =
       indefinite = is_indefinite h.length;
     }
 
--- a header stood ahead, is told and passed; or the octets have a fault, which is told, and nothing
--- is written
+-- there is a header, which is returned and consumed; or the octets have a fault, which is returned,
+-- and the header is unchanged
 pub data ReadsHeader (s : ReaderState) (result : DerError) (old new : DerHeader) (t : ReaderState)
     : Type 0 where
   read : (h : Header) → Passes (HeaderAhead h) s t → result ≡ no_error

@@ -1,5 +1,5 @@
--- What writing an element by its begin and its end tells C (`BeginsElement`, `EndsElement`): where
--- its contents begin (`IsBegun`), and how they and their length stand then (`IsMoved`,
+-- Writing an element with a begin and an end in C (`BeginsElement`, `EndsElement`): where its
+-- contents begin (`IsBegun`), and where they and their length are afterwards (`IsMoved`,
 -- `ended_state`).
 use Rattle.std.specs.Prelude.{◌≡◌, ◌⊎◌, ℕ, ◌+◌, ◌-◌, ◌<◌, ◌≤◌, true, false, List, ◌++◌, length, take, drop, Ok, Err}
 use Rattle.der_base.specs.Error.{error_at}
@@ -14,8 +14,8 @@ use Rattle.der_c.specs.TagWord.{IsTagWord, NoTagWord}
 use Rattle.der_c.specs.WriterCalls.{RefusesBy}
 use Rattle.der_c.specs.declared.error.DerError.{DerError}
 
--- the header of the tag that a word is and of no contents is written, and where contents begin is
--- told; or it is refused
+-- the header of the tag of this word and of empty contents is written, and `new` is where contents
+-- begin; or there is an error
 pub data BeginsElement (word : ℕ) (s : WriterState) (result : DerError) (old new : ℕ)
     (t : WriterState) : Type 0 where
   no_tag : NoTagWord word → RefusesBy TagNumberInvalid s result t → new ≡ old
@@ -26,23 +26,23 @@ pub data BeginsElement (word : ℕ) (s : WriterState) (result : DerError) (old n
   begun : (tag : Tag) → IsTagWord word tag → Writes (header_outcome tag 0 s) (Ok tt) t
       → result ≡ no_error → new ≡ length t.octets → BeginsElement word s result old new t
 
--- contents that were written from `start` on have an octet ahead of them, the place of their length
+-- contents begin at `start`, after an octet that their length may replace
 abbrev pub IsBegun : ℕ → WriterState → Type 0
 IsBegun start s = (1 ≤ start) × (start ≤ length s.octets)
 
--- how many octets the length of contents has more than the one ahead of them
+-- how many octets the length of the contents needs beyond the one before them
 abbrev pub more_octets : ℕ → WriterState → ℕ
 more_octets start s = length (length_octets (length s.octets - start)) - 1
 
--- contents that end at a position are moved for so many octets more; what stands ahead of them is
--- as it was, and so is the buffer behind the place that they are moved to
+-- contents that end at `position` are moved by `more` octets; the octets before them are unchanged,
+-- and so is the buffer after the place they are moved to
 abbrev pub IsMoved : ℕ → ℕ → ℕ → List ℕ → List ℕ → Type 0
 IsMoved start position more old new =
     (take (start - 1) new ≡ take (start - 1) old)
     × (drop (start + more) new
     ≡ take (position - start) (drop start old) ++ drop (position + more) old)
 
--- a writer with these octets in the place of the one ahead of contents
+-- the writer with these octets in place of the one before the contents
 abbrev pub put_state : ℕ → List ℕ → WriterState → WriterState
 put_state start octets s =
     record s {
@@ -50,12 +50,12 @@ put_state start octets s =
       behind = drop (length octets - 1) s.behind;
     }
 
--- a writer with the length of contents in the place of the octet ahead of them
+-- the writer with the length of the contents in place of the octet before them
 abbrev pub ended_state : ℕ → WriterState → WriterState
 ended_state start s = put_state start (length_octets (length s.octets - start)) s
 
--- the length is put in its place; or nothing is changed but that the writer has failed: it had,
--- nothing was begun there, or there is no room for the octets that the length has more
+-- the length is put in its place; or there is an error, and at most `failed` changes: the writer
+-- had failed, no element begins at `start`, or there is no space for the additional length octets
 pub data EndsElement (start : ℕ) (s : WriterState) (result : DerError) (t : WriterState)
     : Type 0 where
   has_failed : s.failed ≡ true → result ≡ error_code (error_at Failed (writer_position s)) → t ≡ s

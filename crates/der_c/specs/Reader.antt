@@ -1,4 +1,4 @@
--- What a reader in C means (`reader_state`), by its rules (`rules_of`).
+-- The state of a C reader as a reader of `der_core` (`reader_state`), and its rules (`rules_of`).
 use Rattle.std.specs.Prelude.{Bool, true, false, Result, Ok, Err}
 use Rattle.der_base.specs.declared.error.Error.{Error}
 use Rattle.der_c.specs.Error.{no_error, error_code}
@@ -24,7 +24,7 @@ reader_state r =
       marks = true;
     }
 
--- an answer as C sees it, whose value is told elsewhere
+-- the C form of a result, without its value
 abbrev pub answer_code : {A : Type 0} → Result A Error → DerError
 answer_code (Ok _) = no_error
 answer_code (Err e) = error_code e

@@ -1,4 +1,4 @@
--- What a scan of a body tells C (`ScansBody`).
+-- The result of scanning indefinite-length contents in C (`ScansBody`).
 use Rattle.std.specs.Prelude.{◌≡◌, ℕ}
 use Rattle.der_base.specs.Length.{number}
 use Rattle.der_base.specs.Error.{error_of_kind}
@@ -12,8 +12,8 @@ use Rattle.der_core.specs.Decode.{Passes, IsRefusedBy}
 use Rattle.der_c.specs.Error.{no_error, error_code}
 use Rattle.der_c.specs.declared.error.DerError.{DerError}
 
--- a body stood ahead, is counted and passed; or the octets have a fault, which is told; under DER
--- nothing is looked at
+-- there are such contents, which are counted and consumed; or the octets have a fault, which is
+-- returned; or the rules are DER, and nothing is read
 pub data ScansBody (s : ReaderState) (result : DerError) (old new : ℕ) (t : ReaderState)
     : Type 0 where
   not_ber : s.rules ≡ Der → result ≡ error_code (error_of_kind EncodingRules) → new ≡ old → t ≡ s

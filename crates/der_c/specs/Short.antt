@@ -1,5 +1,5 @@
--- What reading an element with a header of two octets tells (`PassesShort`, `ReadsShort`,
--- `EntersShort`), where nothing is refused.
+-- Reading an element with a two-octet header, if it succeeds (`PassesShort`, `ReadsShort`,
+-- `EntersShort`).
 use Rattle.std.specs.Prelude.{◌≡◌, ℕ, false, List, take, Ok}
 use Rattle.der_base.specs.Length.{definite_length}
 use Rattle.der_base.specs.Tag.{is_constructed}
@@ -13,7 +13,7 @@ use Rattle.der_core.specs.declared.header.Header.{Header}
 use Rattle.der_c.specs.TagWord.{tag_word}
 use Rattle.der_c.specs.declared.element.DerElement.{DerElement}
 
--- a header of two octets stood ahead, o and the number n of octets of contents, and is passed
+-- the next header is the two octets `o` and `n`, of which `n` is the length, and it is consumed
 pub record PassesShort (o n : ℕ) (s u : ReaderState) : Type 0 where
   pub header : Header
   pub passed : Passes (HeaderAhead header) s u
@@ -21,7 +21,7 @@ pub record PassesShort (o n : ℕ) (s u : ReaderState) : Type 0 where
   pub length : (head_of header).length ≡ definite_length n
   pub constructed : (head_of header).constructed ≡ is_constructed o
 
--- the element of a header that began at a position is told, and its contents are passed
+-- the element of a two-octet header at position `from` is returned, and its contents are consumed
 pub record ReadsShort (o n from : ℕ) (s : ReaderState) (e : DerElement) (t : ReaderState)
     : Type 0 where
   pub octets : List ℕ
@@ -33,7 +33,7 @@ pub record ReadsShort (o n from : ℕ) (s : ReaderState) (e : DerElement) (t : R
   pub constructed : e.constructed ≡ is_constructed o
   pub indefinite : e.indefinite ≡ false
 
--- n octets of contents are passed, and another reader is inside them
+-- `n` octets of contents are consumed, and another reader is inside them
 pub record EntersShort (n : ℕ) (s inside t : ReaderState) : Type 0 where
   pub fits : CanNest s n
   pub entered : inside ≡ nested_state s n

@@ -1,4 +1,4 @@
--- What reading a tree tells C (`TellsTree`): elements in order, each before what is inside it
+-- The result of reading a tree in C (`TellsTree`): elements in order, each before those inside it
 -- (`Nodes`), and how they end (`Stop`).
 use Rattle.std.specs.Prelude.{◌≡◌, ◌≢◌, ℕ, suc, ◌+◌, ◌<◌, ◌≤◌, true, List, [], ◌∷◌, ◌++◌, length, take, drop}
 use Rattle.der_base.specs.Error.{error_of_kind}
@@ -10,7 +10,7 @@ use Rattle.der_c.specs.declared.error.DerError.{DerError}
 use Rattle.der_c.specs.declared.element.DerElement.{DerElement}
 use Rattle.der_c.specs.declared.tree.DerNode.{DerNode}
 
--- the node of an element that stands inside so many others
+-- the node of an element that is inside `level` others
 abbrev pub node_of : ℕ → DerElement → DerNode
 node_of level e =
     record {
@@ -23,22 +23,22 @@ node_of level e =
       indefinite = e.indefinite;
     }
 
--- a reader inside the contents of an element, which it has passed
+-- a reader inside the contents of an element that it has consumed
 abbrev pub inside_state : DerElement → ReaderState → ReaderState
 inside_state e s =
     record s { position = e.contents_start; end = e.contents_start + length e.contents.now }
 
--- an element is looked into where it is constructed and stands inside fewer than 32 others
+-- an element is entered if it is constructed and inside fewer than 32 others
 abbrev pub IsLookedInto : ℕ → DerElement → Type 0
 IsLookedInto level e = (e.constructed ≡ true) × (level < 32)
 
--- an element is read where the reader is not at its end
+-- the reader is not at its end, and an element is read
 pub record ReadsNext (s : ReaderState) (e : DerElement) (t : ReaderState) : Type 0 where
   pub left : s.position ≢ s.end
   pub reads : ReadsElement s no_error e t
 
--- where the nodes end: at the end of the part; where there is no room for another; or where an
--- element is refused
+-- how the nodes end: at the end of the part, because there is no space for another, or because of
+-- an error
 pub data Stop : Type 0 where
   finished : Stop
   full : Stop
@@ -49,8 +49,8 @@ stop_code finished = no_error
 stop_code full = error_code (error_of_kind Overlength)
 stop_code (refused e) = e
 
--- the nodes of a part, inside so many others, up to where they end: an element that is not looked
--- into; one whose nodes inside are all told; or one inside which they end
+-- the nodes of a part that is inside `level` others, up to where they end: after an element that is
+-- not entered, after one with all the nodes inside it, or inside one
 pub data Nodes : ℕ → ReaderState → List DerNode → Stop → Type 0 where
   at_end : {level : ℕ} {s : ReaderState} → s.position ≡ s.end → Nodes level s [] finished
   no_room : {level : ℕ} {s : ReaderState} → s.position ≢ s.end → Nodes level s [] full
@@ -69,8 +69,8 @@ pub data Nodes : ℕ → ReaderState → List DerNode → Stop → Type 0 where
       → Nodes (suc level) (inside_state e t) inner stop → stop ≢ finished
       → Nodes level s (node_of level e ∷ inner) stop
 
--- the nodes of all that is left are told, and the others are as they were; all are told, and
--- passed; or there was no room for another, or an element is refused, and the reader has failed
+-- the nodes of all that is left are written, and the other nodes are unchanged; either all are
+-- written and consumed, or there is no space for another or an error, and the reader has failed
 pub record TellsTree (s : ReaderState) (old : List DerNode) (result : DerError) (count : ℕ)
     (new : List DerNode) (t : ReaderState) : Type 0 where
   pub stop : Stop

@@ -1,6 +1,5 @@
--- What the calls on a writer tell C: what is written, refused and left (`WritesOctets`,
--- `WritesHeader`, `WritesElement`, and of a header of two octets `WritesShort`), and the size of an
--- element (`Measures`).
+-- The results of the functions on a writer in C (`WritesOctets`, `WritesHeader`, `WritesElement`,
+-- and `WritesShort` for a two-octet header), and of the size of an element (`Measures`).
 use Rattle.std.specs.Prelude.{◌≡◌, ℕ, ◌^◌, ◌<◌, ◌≤◌, List, length, Result, Ok}
 use Rattle.der_base.specs.Length.{definite_length}
 use Rattle.der_base.specs.Error.{error_of_kind}
@@ -16,28 +15,28 @@ use Rattle.der_c.specs.Reader.{answer_code}
 use Rattle.der_c.specs.TagWord.{IsTagWord, NoTagWord}
 use Rattle.der_c.specs.declared.error.DerError.{DerError}
 
--- a call is refused by a kind without a position, and the writer has failed
+-- the error is this kind without a position, and the writer has failed
 pub record RefusesBy (kind : ErrorKind) (s : WriterState) (result : DerError) (t : WriterState)
     : Type 0 where
   pub told : result ≡ error_code (error_of_kind kind)
   pub leaves : t ≡ failed_state s
 
--- octets are written
+-- octets are written, or there is an error
 pub record WritesOctets (octets : List ℕ) (s : WriterState) (result : DerError) (t : WriterState)
     : Type 0 where
   pub answer : Result (Unit {0}) Error
   pub writes : Writes (write_outcome octets s) answer t
   pub told : result ≡ answer_code answer
 
--- the header of the tag that a word is, and of n octets, is written
+-- the header of the tag of this word and of n octets is written
 pub record WritesShort (word n : ℕ) (s t : WriterState) : Type 0 where
   pub tag : Tag
   pub is : IsTagWord word tag
   pub few : n < 2 ^ 32
   pub writes : Writes (header_outcome tag n s) (Ok tt) t
 
--- the header of the tag that a word is, and of n octets, is written or refused; or the word is no
--- tag's
+-- the header of the tag of this word and of n octets is written, or there is an error; or the word
+-- is that of no tag
 pub data WritesHeader (word n : ℕ) (s : WriterState) (result : DerError) (t : WriterState)
     : Type 0 where
   no_tag : NoTagWord word → RefusesBy TagNumberInvalid s result t → WritesHeader word n s result t
@@ -45,7 +44,8 @@ pub data WritesHeader (word n : ℕ) (s : WriterState) (result : DerError) (t : 
       → Writes (header_outcome tag n s) answer t → result ≡ answer_code answer
       → WritesHeader word n s result t
 
--- an element with the tag that a word is is written or refused; or the word is no tag's
+-- an element with the tag of this word is written, or there is an error; or the word is that of no
+-- tag
 pub data WritesElement (word : ℕ) (contents : List ℕ) (s : WriterState) (result : DerError)
     (t : WriterState) : Type 0 where
   too_long : 2 ^ 32 ≤ length contents → RefusesBy Overflow s result t
@@ -58,7 +58,7 @@ pub data WritesElement (word : ℕ) (contents : List ℕ) (s : WriterState) (res
       (λ u. Writes (write_outcome contents u)) s answer t
       → result ≡ answer_code answer → WritesElement word contents s result t
 
--- how many octets an element has, of a tag and of n octets of contents
+-- `new` is the number of octets of an element with the tag of this word and n octets of contents
 pub data Measures (word n : ℕ) (result : DerError) (old new : ℕ) : Type 0 where
   no_tag : NoTagWord word → result ≡ error_code (error_of_kind TagNumberInvalid) → new ≡ old
       → Measures word n result old new

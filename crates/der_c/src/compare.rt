@@ -10,9 +10,9 @@ use std::cmp::Ordering;
 /// Compares two whole elements under the Distinguished Encoding Rules by their octets, as a SET OF
 /// is sorted (X.690 11.6): -1, 0 or 1.
 ///
-/// Refused where the first, or else the second, is not wholly an element, as by a reader of it: as
-/// `der_read_element`, by `Overflow` without a position where it has more than 4294967295 octets,
-/// and by `TrailingData` where octets stand behind the element. The order is unchanged then.
+/// Fails if the first, or else the second, is not exactly one element, with the error of a reader:
+/// like `der_read_element`, with `Overflow` without a position if there are more than 4294967295
+/// octets, and with `TrailingData` if octets follow the element. The order is unchanged then.
 #[unsafe(no_mangle)]
 pub extern "C" fn der_compare(first: &[u8], second: &[u8], order: &mut i32) -> DerError
     ensures { Compares first.now second.now result order.old order.new }
@@ -30,7 +30,7 @@ pub extern "C" fn der_compare(first: &[u8], second: &[u8], order: &mut i32) -> D
     }
 }
 
-// Whether both are wholly elements.
+// Succeeds if both are exactly one element.
 fn both_whole(first: &[u8], second: &[u8]) -> Result<(), Error>
     ensures first { IfOk result (λ _. IsOneElement first.now) }
     ensures second { IfOk result (λ _. IsOneElement second.now) }
@@ -42,7 +42,7 @@ fn both_whole(first: &[u8], second: &[u8]) -> Result<(), Error>
     }
 }
 
-// Whether the octets are wholly an element.
+// Succeeds if the octets are exactly one element.
 fn whole(octets: &[u8]) -> Result<(), Error>
     ensures ok { IfOk result (λ _. IsOneElement octets.now) }
     ensures refused { IfErr result (RefusesWhole octets.now) }

@@ -1,4 +1,4 @@
-//! Elements in C.
+//! Elements in C: reading, skipping, entering and opening them.
 ghost use Rattle.std.specs.Prelude.{◌≡◌};
 ghost use Rattle.der_core.specs.ReaderState.{Same};
 ghost use Rattle.der_core.specs.Header.{head_of};
@@ -16,7 +16,7 @@ use der_core::{Header, Reader, decode_header};
 #[repr(C)]
 #[derive(Clone, Copy)]
 pub struct DerElement<'a> {
-    /// The contents, without the end mark of an indefinite length.
+    /// The contents, without end-of-contents octets.
     pub contents: &'a [u8],
     /// The tag, as in a header.
     pub tag: u64,
@@ -42,7 +42,7 @@ impl DerElement<'_> {
     };
 }
 
-// Reads the contents behind a header that began at a position.
+// Reads the contents after a header that begins at `start`.
 #[inline(always)]
 fn read_contents<'a>(
     reader: &mut DerReader<'a>,
@@ -72,9 +72,10 @@ fn read_contents<'a>(
     }
 }
 
-/// Reads an element: its header, its contents, and the end mark of an indefinite length.
+/// Reads an element: its header, its contents, and the end-of-contents octets of an indefinite
+/// length.
 ///
-/// Refused as [`der_read_header`](crate::der_read_header), and by `Incomplete` and `Overflow` where
+/// Fails like [`der_read_header`](crate::der_read_header), and with `Incomplete` and `Overflow` if
 /// the contents are not all there.
 #[unsafe(no_mangle)]
 pub extern "C" fn der_read_element<'a>(
@@ -88,9 +89,9 @@ pub extern "C" fn der_read_element<'a>(
     read_element(reader, element)
 }
 
-/// Passes an element, and the end mark of an indefinite length.
+/// Consumes an element, and the end-of-contents octets of an indefinite length.
 ///
-/// Refused as [`der_read_element`].
+/// Fails like [`der_read_element`].
 #[unsafe(no_mangle)]
 pub extern "C" fn der_skip(reader: &mut DerReader<'_>) -> DerError
     ensures same { Same (reader_state reader.old) (reader_state reader.new) }
@@ -100,8 +101,8 @@ pub extern "C" fn der_skip(reader: &mut DerReader<'_>) -> DerError
     read_element(reader, &mut element)
 }
 
-// Reads an element. One with a header of two octets is read here, any other by a function of its
-// own, so that nothing is kept for that one.
+// Reads an element. One with a two-octet header is read inline; any other is read by a function
+// that is not inlined, so that the inline path needs no registers or stack for it.
 #[inline(always)]
 pub(crate) fn read_element<'a>(reader: &mut DerReader<'a>, element: &mut DerElement<'a>) -> DerError
     ensures same { Same (reader_state reader.old) (reader_state reader.new) }
@@ -115,7 +116,7 @@ pub(crate) fn read_element<'a>(reader: &mut DerReader<'a>, element: &mut DerElem
             return DerError::NONE;
         }
     }
-    // copies, so that reader and element may be kept in registers
+    // copies, so that the compiler may keep reader and element in registers
     let mut copy = before;
     let mut read = DerElement::NONE;
     let error = read_slowly(&mut copy, &mut read);
@@ -124,7 +125,7 @@ pub(crate) fn read_element<'a>(reader: &mut DerReader<'a>, element: &mut DerElem
     error
 }
 
-// Reads an element with each error looked at.
+// Reads an element with any header, and reports each error.
 #[inline(never)]
 fn read_slowly<'a>(reader: &mut DerReader<'a>, element: &mut DerElement<'a>) -> DerError
     ensures same { Same (reader_state reader.old) (reader_state reader.new) }
@@ -138,7 +139,7 @@ fn read_slowly<'a>(reader: &mut DerReader<'a>, element: &mut DerElement<'a>) -> 
     }
 }
 
-// The error where another tag was expected, by the words of both.
+// The error for an unexpected tag, from the words of both tags.
 #[cold]
 #[inline(never)]
 fn unexpected(expected: u64, actual: u64) -> DerError
@@ -157,8 +158,8 @@ fn unexpected(expected: u64, actual: u64) -> DerError
 
 /// Reads an element with this tag.
 ///
-/// Refused as [`der_read_element`], and by `TagUnexpected` without a position where another tag
-/// stands ahead; the reader is unchanged then.
+/// Fails like [`der_read_element`], and with `TagUnexpected` without a position if the next element
+/// has another tag; the reader is unchanged then.
 #[unsafe(no_mangle)]
 pub extern "C" fn der_expect<'a>(
     reader: &mut DerReader<'a>,
@@ -184,7 +185,7 @@ pub extern "C" fn der_expect<'a>(
     expect_slowly(reader, tag, element)
 }
 
-// Reads an element with this tag, with each error looked at.
+// Reads an element with this tag and any header, and reports each error.
 #[inline(never)]
 fn expect_slowly<'a>(reader: &mut DerReader<'a>, tag: u64, element: &mut DerElement<'a>) -> DerError
     ensures same { Same (reader_state reader.old) (reader_state reader.new) }
@@ -205,9 +206,9 @@ fn expect_slowly<'a>(reader: &mut DerReader<'a>, tag: u64, element: &mut DerElem
     }
 }
 
-/// Passes an element with this tag, and makes a reader of its contents.
+/// Consumes an element with this tag, and makes `inside` a reader of its contents.
 ///
-/// Refused as [`der_expect`], and by `NestingDepth` inside 64 others; `inside` is unchanged then.
+/// Fails like [`der_expect`], and with `NestingDepth` inside 64 others; `inside` is unchanged then.
 #[unsafe(no_mangle)]
 pub extern "C" fn der_enter<'a>(
     reader: &mut DerReader<'a>,
@@ -232,7 +233,7 @@ pub extern "C" fn der_enter<'a>(
     enter_slowly(reader, tag, inside)
 }
 
-// Enters an element with this tag, with each error looked at.
+// Enters an element with this tag and any header, and reports each error.
 #[inline(never)]
 fn enter_slowly<'a>(reader: &mut DerReader<'a>, tag: u64, inside: &mut DerReader<'a>) -> DerError
     ensures same { Same (reader_state reader.old) (reader_state reader.new) }
@@ -253,7 +254,7 @@ fn enter_slowly<'a>(reader: &mut DerReader<'a>, tag: u64, inside: &mut DerReader
     }
 }
 
-// Passes the contents behind a header, and makes a reader of them.
+// Consumes the contents after a header, and makes `inside` a reader of them.
 #[inline(always)]
 fn enter<'a>(reader: &mut DerReader<'a>, header: Header, inside: &mut DerReader<'a>) -> DerError
     ensures same { Same (reader_state reader.old) (reader_state reader.new) }
@@ -280,11 +281,12 @@ fn enter<'a>(reader: &mut DerReader<'a>, header: Header, inside: &mut DerReader<
     }
 }
 
-/// Makes a reader of the contents of an element that this reader, or one like it, has read.
+/// Makes `inside` a reader of the contents of an element that this reader, or a copy of it, has
+/// read.
 ///
-/// Refused by `Reader` without a position, where the element is not one of these octets, by
-/// `Failed` without one, where the reader has failed, and by `NestingDepth` at the contents inside
-/// 64 others; `inside` is unchanged then.
+/// Fails with `Reader` without a position if the element does not lie in the octets of the reader,
+/// with `Failed` without a position if the reader has failed, and with `NestingDepth` at the
+/// position of the contents inside 64 others; `inside` is unchanged then.
 #[unsafe(no_mangle)]
 pub extern "C" fn der_open<'a>(
     reader: &DerReader<'a>,

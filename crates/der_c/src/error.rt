@@ -5,25 +5,25 @@ ghost use Rattle.der_c.specs.Error.{error_code, kind_code, tag_code, coded as co
 use crate::tag::{first_octet, number_behind};
 use der_base::{Error, ErrorKind, Tag};
 
-/// An error, in 16 octets that two registers hold. Kind 0 is none.
+/// An error in 16 octets, which fit in two registers. Kind 0 is no error.
 #[repr(C)]
 #[derive(Clone, Copy)]
 pub struct DerError {
-    /// Which kind, or 0.
+    /// The number of the kind, or 0.
     pub kind: u8,
     /// Whether a position is known.
     pub has_position: bool,
     /// The first octet of the tag that was expected, or 0.
     pub expected: u8,
-    /// The first octet of the tag that was met, or 0.
+    /// The first octet of the tag that was found, or 0.
     pub actual: u8,
-    /// The position, or 0.
+    /// The position in octets, or 0.
     pub position: u32,
-    /// The number of octets that was expected or read; the octet that is no tag; the number of the
-    /// tag that was expected, where it is 31 or more.
+    /// The number of octets that was expected or read; the octet that begins no tag; the number of
+    /// the expected tag, if that is 31 or more.
     pub first: u32,
-    /// The number of octets that there are, or that are left; the number of the tag that was met,
-    /// where it is 31 or more.
+    /// The number of octets that there are, or that are left; the number of the tag that was found,
+    /// if that is 31 or more.
     pub second: u32,
 }
 
@@ -40,7 +40,7 @@ impl DerError {
     };
 }
 
-// An error of a kind, of two tags and of two numbers.
+// An error of a kind, with the first octets of two tags and with two numbers, and no position.
 fn coded(kind: u8, expected: u8, actual: u8, first: u32, second: u32) -> DerError
     ensures { result ≡ coded_error kind expected actual first second }
 {
@@ -55,14 +55,14 @@ fn coded(kind: u8, expected: u8, actual: u8, first: u32, second: u32) -> DerErro
     }
 }
 
-// An error of a kind and of a tag.
+// An error of a kind that names one tag.
 fn coded_tag(kind: u8, tag: Tag) -> DerError
     ensures { result ≡ tag_code kind tag }
 {
     coded(kind, 0, first_octet(tag), 0, number_behind(tag))
 }
 
-// The kind, as C sees it.
+// The C form of a kind.
 fn coded_kind(kind: ErrorKind) -> DerError
     ensures { result ≡ kind_code kind }
 {
@@ -97,7 +97,7 @@ fn coded_kind(kind: ErrorKind) -> DerError
     }
 }
 
-// The error where another tag was expected, if that is known.
+// The error for an unexpected tag, with the expected tag if it is known.
 fn coded_tags(expected: Option<Tag>, actual: Tag) -> DerError
     ensures { result ≡ kind_code (ErrorKind.TagUnexpected expected actual) }
 {
@@ -113,7 +113,7 @@ fn coded_tags(expected: Option<Tag>, actual: Tag) -> DerError
     }
 }
 
-/// The error, as C sees it.
+/// The C form of an error.
 #[cold]
 #[inline(never)]
 pub(crate) fn told(error: Error) -> DerError

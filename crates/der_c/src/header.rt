@@ -14,10 +14,10 @@ use der_core::{Header, decode_header};
 #[repr(C)]
 #[derive(Clone, Copy)]
 pub struct DerHeader {
-    /// The tag: the first octet of its identifier, and 256 times its number, where that is 31 or
-    /// more.
+    /// The tag: the first octet of its identifier, plus 256 times its number if that is 31 or more.
     pub tag: u64,
-    /// How many octets of contents there are, with the end mark where the length is indefinite.
+    /// How many octets of contents there are, with the end-of-contents octets of an indefinite
+    /// length.
     pub length: u32,
     /// Whether the identifier has the constructed bit.
     pub constructed: bool,
@@ -25,7 +25,7 @@ pub struct DerHeader {
     pub indefinite: bool,
 }
 
-// The header, as C sees it.
+// The C form of a header.
 #[inline(always)]
 fn told_header(header: Header) -> DerHeader
     ensures { result ≡ header_record (head_of header) }
@@ -41,7 +41,7 @@ fn told_header(header: Header) -> DerHeader
 
 /// Reads a header, as `decode_header` does.
 ///
-/// Refused by `Failed`, `Overflow`, `Incomplete`, `TagUnknown`, `TagNumberInvalid`,
+/// Fails with `Failed`, `Overflow`, `Incomplete`, `TagUnknown`, `TagNumberInvalid`,
 /// `IndefiniteLength`, `Length` and `NestingDepth`; the header is unchanged then.
 #[unsafe(no_mangle)]
 pub extern "C" fn der_read_header(reader: &mut DerReader<'_>, header: &mut DerHeader) -> DerError

@@ -1,8 +1,8 @@
 //! The readers and writers of `der_core` for programs in C, and in any language that calls C: see
 //! `bindings/c/der.h`.
 //!
-//! No call takes memory, and none asks anything of its caller but that a pointer and a length are
-//! those of octets, and that a struct was made by the calls here.
+//! No function allocates. The caller only ensures that a pointer and a length describe octets, and
+//! that a struct was made by the functions here.
 #![tactic(auto)]
 
 mod compare;

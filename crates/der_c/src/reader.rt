@@ -8,18 +8,19 @@ use der_base::{EncodingRules, Error, ErrorKind, Length};
 use der_core::{Reader, Resumption};
 use std::alloc::Allocator;
 
-// how many octets `drain` passes in one step
+// how many octets `drain` consumes in one step
 const STEP: u32 = 16;
 
-// how many parts may stand inside each other
+// how many nested parts may be inside each other
 const MAX_DEPTH: u8 = 64;
 
-/// A reader of octets. C makes it by [`der_reader_init`], and changes it by the calls here alone.
+/// A reader of octets. C makes it with [`der_reader_init`], and changes it only with the functions
+/// here.
 #[repr(C)]
 #[derive(Drop)]
 pub struct DerReader<'a> {
     pub(crate) octets: &'a [u8],
-    // a `usize`, as slices are cut by it
+    // a `usize`, because it is the bound of slices
     pub(crate) position: usize,
     pub(crate) end: u32,
     pub(crate) depth: u8,
@@ -39,7 +40,7 @@ impl<'a> DerReader<'a> {
     ghost use Rattle.der_core.specs.Reader.{short_outcome};
     ghost use Rattle.der_c.specs.Reader.{reader_state};
 
-    // where it stands
+    // the position of the reader
     #[inline(always)]
     fn place(&self) -> Length
         ensures { result ≡ definite_length self.now.position }
@@ -55,7 +56,7 @@ impl<'a> DerReader<'a> {
         ErrorKind::Failed.at(self.place())
     }
 
-    // so many octets are not there
+    // fails because `count` octets are not all there
     #[inline(always)]
     fn incomplete(&mut self, count: u32) -> Error
         ensures told { result ≡ (missing_refusal (self.old.position + count)
@@ -68,7 +69,7 @@ impl<'a> DerReader<'a> {
     }
 }
 
-// The error where so many octets are not there at a position, in an input that ends so.
+// The error if `count` octets at `position` pass `end`, the end of the input.
 #[cold]
 #[inline(never)]
 fn missing_octets(position: usize, count: u32, end: u32) -> Error
@@ -86,8 +87,8 @@ fn missing_octets(position: usize, count: u32, end: u32) -> Error
     kind.at(Length::new(position as u32))
 }
 
-/// A reliable reader, as `SliceReader` is: it refuses exactly where [`Reader`] says, keeps a failed
-/// state, and lends.
+/// A reliable reader, as `SliceReader` is: it fails exactly where [`Reader`] says, keeps a failed
+/// state, and returns slices of its input.
 impl<'a> Reader for DerReader<'a> {
     ghost use Rattle.std.proofs.Common.{rules};
     ghost use Rattle.der_c.specs.Reader.{reader_state};

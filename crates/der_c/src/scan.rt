@@ -1,4 +1,4 @@
-//! Counting bodies of indefinite lengths, in C.
+//! Measuring indefinite-length contents, in C.
 ghost use Rattle.std.specs.Prelude.{◌≡◌, true};
 ghost use Rattle.der_base.specs.declared.encoding_rules.EncodingRules.TheVariants.{Ber};
 ghost use Rattle.der_core.specs.Scan.{Scans};
@@ -12,12 +12,12 @@ use der_core::{Turns, decode_indefinite_length};
 use std::marker::Brand;
 use std::sync::ledger::{Blank, Ledger};
 
-/// Passes the body of an indefinite length, and tells how many octets it has, with the end mark
-/// that closes it (X.690 8.1.3.6). The reader stands behind octet `0x80` before, and behind the
-/// mark then.
+/// Consumes indefinite-length contents, and sets `count` to their number of octets, with the
+/// end-of-contents octets that close them (X.690 8.1.3.6). The reader is just after octet `0x80`
+/// before, and just after the end-of-contents octets then.
 ///
-/// Refused by `EncodingRules` without a position, where the reader does not read by the Basic
-/// Encoding Rules, which leaves it as it is, and as by `decode_indefinite_length`; `count` is
+/// Fails with `EncodingRules` without a position if the reader does not read under the Basic
+/// Encoding Rules, which leaves it unchanged, and like `decode_indefinite_length`; `count` is
 /// unchanged then.
 #[unsafe(no_mangle)]
 pub extern "C" fn der_scan(reader: &mut DerReader<'_>, count: &mut u32) -> DerError
@@ -36,7 +36,7 @@ pub extern "C" fn der_scan(reader: &mut DerReader<'_>, count: &mut u32) -> DerEr
     }
 }
 
-// Passes the body, with a counter of turns, which takes no memory.
+// Consumes the contents with a counter of turns, which allocates nothing.
 fn scan_counted<L: Ledger>(reader: &mut DerReader<'_>, blank: Blank) -> Result<Length, Error>
     requires name { blank.name ≡ L.name }
     requires parts { blank.parts ≡ L.parts }

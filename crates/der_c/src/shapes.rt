@@ -1,4 +1,4 @@
-//! The sizes that programs in C were told, as `bindings/c/der.h` has them.
+//! The sizes and alignments that `bindings/c/der.h` promises to programs in C.
 use crate::element::DerElement;
 use crate::error::DerError;
 use crate::header::DerHeader;

@@ -1,5 +1,5 @@
-//! Elements with a header of two octets, in which no error is made: what is refused here is read
-//! again.
+//! Elements with a header of two octets. The functions here build no errors: what they do not
+//! accept is read again by the general functions.
 ghost use Rattle.std.specs.Prelude.{◌≡◌, true, false, IfSome};
 ghost use Rattle.der_core.specs.ReaderState.{Same};
 ghost use Rattle.der_core.specs.AfterFirstOctet.{AreAhead, IsAlone};
@@ -12,7 +12,7 @@ use crate::tag::universal;
 use der_base::Length;
 use der_core::Reader;
 
-// The identifier and the length ahead, where each has one octet.
+// The next two octets, if they are an identifier and a length of one octet each.
 #[inline(always)]
 fn short_header(reader: &DerReader<'_>) -> Option<(u8, u8)>
     ensures { AreAhead (reader_state reader.now) result }
@@ -31,7 +31,7 @@ fn short_header(reader: &DerReader<'_>) -> Option<(u8, u8)>
     }
 }
 
-// Whether this octet is an identifier by itself, under any rules.
+// Whether this octet is a whole identifier, under any rules.
 #[inline(always)]
 pub(crate) fn is_identifier(octet: u8) -> bool
     ensures { result ≡ true → IsAlone octet }
@@ -39,7 +39,7 @@ pub(crate) fn is_identifier(octet: u8) -> bool
     universal(octet).is_some() || octet >= 0x40 && octet % 32 < 31
 }
 
-// Passes the header ahead, where it has two octets, and tells them.
+// Consumes the next header and returns its two octets, if it has two.
 #[inline(always)]
 pub(crate) fn pass_short(reader: &mut DerReader<'_>) -> Option<(u8, u8)>
     ensures same { Same (reader_state reader.old) (reader_state reader.new) }
@@ -55,8 +55,8 @@ pub(crate) fn pass_short(reader: &mut DerReader<'_>) -> Option<(u8, u8)>
     None
 }
 
-// Reads so many octets of contents behind a short header that began at a position, if they are
-// there.
+// Reads the contents after a two-octet header that begins at `start`. Returns false if they are not
+// all there.
 #[inline(always)]
 pub(crate) fn read_short<'a>(
     reader: &mut DerReader<'a>,
@@ -84,7 +84,8 @@ pub(crate) fn read_short<'a>(
     true
 }
 
-// Passes so many octets of contents, and makes a reader of them, if they can be entered.
+// Consumes `count` octets of contents, and makes `inside` a reader of them. Returns false if they
+// cannot be entered.
 #[inline(always)]
 pub(crate) fn enter_short<'a>(
     reader: &mut DerReader<'a>,

@@ -1,11 +1,11 @@
-//! Tags as words of C.
+//! Tags as 64-bit words of C.
 ghost use Rattle.std.specs.Prelude.{◌≡◌, IfSome, None};
 ghost use Rattle.der_base.specs.Tag.{universal_tag};
 ghost use Rattle.der_c.specs.TagWord.{IsTagWord, NoTagWord, said_tag, tag_octet, long_number, tag_word};
 
 use der_base::{Class, Tag, TagNumber};
 
-/// The tag that a word is, if it is one's.
+/// The tag of a word, or `None` if the word is not that of a tag.
 #[inline(always)]
 pub(crate) fn tag_of_word(word: u64) -> Option<Tag>
     ensures is { IfSome result (λ t. IsTagWord word t) }
@@ -23,7 +23,7 @@ pub(crate) fn tag_of_word(word: u64) -> Option<Tag>
     }
 }
 
-/// The tag that a first octet says, with a number behind it where that is long.
+/// The tag with this first octet, and with the number `long` if the octet announces the long form.
 pub(crate) fn tag_of(octet: u8, long: u32) -> Option<Tag>
     ensures { result ≡ said_tag octet long }
 {
@@ -51,7 +51,7 @@ pub(crate) fn tag_of(octet: u8, long: u32) -> Option<Tag>
     })
 }
 
-/// The universal tag whose only octet this is (X.680 8.6).
+/// The universal tag whose identifier is this one octet (X.680 8.6).
 #[inline(always)]
 pub(crate) fn universal(octet: u8) -> Option<Tag>
     ensures { result ≡ universal_tag octet }
@@ -100,7 +100,7 @@ pub(crate) fn first_octet(tag: Tag) -> u8
     class + form + low
 }
 
-/// A tag's number, where it does not stand in the first octet.
+/// The number of a tag if it needs the long form (31 or more), else 0.
 #[inline(always)]
 pub(crate) fn number_behind(tag: Tag) -> u32
     ensures { result ≡ long_number tag }
@@ -109,7 +109,7 @@ pub(crate) fn number_behind(tag: Tag) -> u32
     if number < 31 { 0 } else { number }
 }
 
-/// A tag as a word: its first octet, and 256 times the number behind it.
+/// A tag as a word: its first octet, plus 256 times a number in the long form.
 #[inline(always)]
 pub(crate) fn word_of(tag: Tag) -> u64
     ensures { result ≡ tag_word tag }

@@ -26,8 +26,8 @@ impl fmt::Write for Text<'_> {
     }
 }
 
-/// Writes what went wrong into the octets, as far as there is room, without a zero octet behind it,
-/// and tells how many octets were written.
+/// Writes the text of an error into `text`, truncated to its length and without a final zero octet,
+/// and returns how many octets were written.
 #[unsafe(no_mangle)]
 pub extern "C" fn der_error_text(error: DerError, text: &mut [u8]) -> usize
     ensures { TellsText error text.old result text.new }
@@ -48,7 +48,7 @@ pub extern "C" fn der_error_text(error: DerError, text: &mut [u8]) -> usize
     }
 }
 
-// The error that C sees so, with the tag that was expected, or else without it.
+// The error with this C form, with the tag that was expected, or else without it.
 fn seen_error(code: DerError) -> Option<Error>
     ensures { IfSome result (λ e. IsSeenAs e code) }
 {
@@ -62,7 +62,7 @@ fn seen_error(code: DerError) -> Option<Error>
     }
 }
 
-// The error that C sees so, if there is one: what C sees of it says all that its text does.
+// The error with this C form, if there is one. Errors with equal C forms have equal texts.
 fn known_error(code: DerError) -> Option<Error>
     ensures { IfSome result (λ e. error_code e ≡ code) }
 {
@@ -74,7 +74,7 @@ fn known_error(code: DerError) -> Option<Error>
     }
 }
 
-// Whether two errors are one, as C sees them.
+// Whether two errors have the same C form.
 fn is_same(a: DerError, b: DerError) -> bool
     ensures { result ≡ true → a ≡ b }
 {
@@ -87,7 +87,7 @@ fn is_same(a: DerError, b: DerError) -> bool
         && a.second == b.second
 }
 
-// An error with this kind, and with the tags and numbers that such a kind has.
+// An error of the kind of this code, with the tags and numbers that the kind has.
 fn error_of(code: DerError) -> Option<Error> {
     let kind = kind_of(code)?;
     Some(if code.has_position {

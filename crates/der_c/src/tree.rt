@@ -1,4 +1,4 @@
-//! All elements of a part at once, in C.
+//! All elements of a part in one call, in C.
 ghost use Rattle.std.specs.Prelude.{◌≡◌, ◌+◌, ◌^◌, ◌<◌, ◌≤◌, length};
 ghost use Rattle.der_c.specs.Reader.{reader_state};
 ghost use Rattle.der_c.specs.Tree.{TellsTree, node_of};
@@ -14,7 +14,7 @@ use crate::tree::walk::{climb, look_into};
 use der_base::ErrorKind;
 use der_core::Reader;
 
-/// An element of a tree, by positions.
+/// An element of a tree, by positions in octets.
 #[repr(C)]
 #[derive(Clone, Copy)]
 pub struct DerNode {
@@ -26,7 +26,7 @@ pub struct DerNode {
     pub contents_start: u32,
     /// Where the contents end.
     pub end: u32,
-    /// How many elements stand around it.
+    /// How many elements of the tree contain it.
     pub depth: u8,
     /// Whether the identifier has the constructed bit.
     pub constructed: bool,
@@ -34,11 +34,12 @@ pub struct DerNode {
     pub indefinite: bool,
 }
 
-/// Reads elements and all that is inside constructed ones, each before what is inside it, and tells
-/// how many there were. They are read to 32 levels; what is deeper is not looked into.
+/// Reads all elements that are left and everything inside constructed ones, each before those
+/// inside it, and sets `count` to their number. It descends 32 levels; an element deeper than that
+/// is one node.
 ///
-/// Refused as [`der_read_element`](crate::der_read_element), and by kind `Overlength` without a
-/// position where there is no room for all. The reader has then failed.
+/// Fails like [`der_read_element`](crate::der_read_element), and with `Overlength` without a
+/// position if there are more elements than nodes. The reader has then failed.
 #[unsafe(no_mangle)]
 pub extern "C" fn der_read_tree(
     reader: &mut DerReader<'_>,
@@ -80,7 +81,7 @@ pub extern "C" fn der_read_tree(
     told(ErrorKind::Overlength.to_error())
 }
 
-// The node of an element that stands inside so many others.
+// The node of an element that is inside `level` others.
 #[inline(always)]
 fn node(level: usize, element: &DerElement<'_>) -> DerNode
     requires shallow { level ≤ 32 }

@@ -1,4 +1,4 @@
--- Three NULLs and an end mark, scanned from the beginning of an input.
+-- Three NULLs and end-of-contents octets, scanned from the start of an input.
 use Rattle.std.proofs.Common.{◌≡◌, ℕ, ◌+◌, true, Result, Ok, Err, List, [], ◌∷◌, refl, sym, ap, ◌∙◌, arith}
 use Rattle.der.specs.Body.{Item, Body, definite, ends, more}
 use Rattle.der.specs.Prelude.{indefinite_length, Length, Error, Null, Ber, ReaderState, rest_of}
@@ -22,13 +22,13 @@ nulls_body = more null (more null (more null (ends (omega arith, omega arith))))
 nulls_left : (s : ReaderState) → s ≡ initial_state Ber nulls → rest_of s ≡ nulls
 nulls_left s e = ap rest_of e ∙ rest-beginning Ber nulls
 
--- a scan answers all eight octets
+-- a scan returns all eight octets
 pub nulls_scanned : (s : ReaderState) (r : Result Length Error) → s ≡ initial_state Ber nulls → ScansAhead true s r → r ≡ Ok (indefinite_length 8)
 nulls_scanned s r e (t, h) =
     let ahead : BodyAhead (indefinite_length 8) s.rules (rest_of s) 8 = record { parts = 4; body = nulls; behind = []; is_body = nulls_body; split = nulls_left s e; sized = refl; counts = refl } in
     (accepts body_grammar s t r (indefinite_length 8) 8 h (ap (λ (x : ReaderState). x.failed) e) ahead).0
 
--- a scan takes a turn for each of the four parts of these octets
+-- a scan takes a turn for each of the three NULLs and for the end-of-contents octets
 pub nulls_turned : (s : ReaderState) (r : Result Length Error) (before after : ℕ) → s ≡ initial_state Ber nulls → ScansAhead true s r → IsTurned (rest_of s) r before after → after ≡ before + 4
 nulls_turned s (Ok l) before after e scans (parts, (body, behind, is, split), counted) =
     let one = body_front is nulls_body behind [] (sym split ∙ nulls_left s e) in

@@ -1,4 +1,5 @@
-//! A lawful type with a tag of its own over octets that are borrowed if the reader can lend them.
+//! A type with its own tag over octets that are borrowed if the reader returns slices: it is
+//! lawful.
 ghost use Rattle.std.specs.Prelude.{◌≡◌, false};
 ghost use Rattle.std.proofs.Common.{arith};
 ghost use Rattle.der.specs.Prelude.{OctetString};

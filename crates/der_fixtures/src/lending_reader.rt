@@ -5,7 +5,7 @@ ghost use Rattle.der.specs.Prelude.{Ber, slice_state};
 use der::{EncodingRules, Error, ErrorKind, Length, Reader, Resumption, SliceReader};
 use std::alloc::Allocator;
 
-/// A reader over a slice that returns what is left of it, and fails at every read.
+/// A reader that returns what is left as a slice, and fails at each read.
 #[derive(Drop)]
 pub struct LendingReader<'a> {
     inner: SliceReader<'a>,
@@ -28,7 +28,7 @@ impl<'a> Reader for LendingReader<'a> {
 
     ghost state = { λ r. slice_state r.inner };
 
-    // it fails where no table says so
+    // it fails where no spec says so
     ghost reliable = { false };
 
     ghost lends = { true };

@@ -1,4 +1,4 @@
-//! A type that reads its contents inside nested parts.
+//! A type that reads its contents inside nested parts, each of which is all of them.
 ghost use Rattle.std.specs.Prelude.{false};
 ghost use Rattle.der.specs.Prelude.{OctetString, Same};
 
@@ -24,7 +24,7 @@ impl<const LEVELS: u8> ReadValue for Nest<LEVELS> {
 
     ghost takes = { λ _ _ _ _. Unit {0} };
 
-    // it is promised at no depth that it is read
+    // reading it is promised at no depth
     ghost value_levels = { λ _. 64 };
 
     ghost allocates = { false };
@@ -47,7 +47,7 @@ impl<const LEVELS: u8, R: Reader> DecodeValue<R> for Nest<LEVELS> {
     fn is_value(&self) {}
 }
 
-// Passes what is left inside so many parts.
+// Consumes what is left inside this number of nested parts.
 #[cycle(nest)]
 fn pass_inside<R: Reader>(reader: &mut R, levels: u8) -> Result<(), Error>
     ensures same { Same (R.state reader.old) (R.state reader.new) }

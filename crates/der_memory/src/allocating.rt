@@ -1,5 +1,6 @@
-//! Calls that allocate. Each line is the result of a call: the value, or that memory was refused and
-//! the state after it is the one that the call promises.
+//! Calls that allocate with the global allocator, in sequence. Each prints a line with its result:
+//! the value, or that an allocation failed and all else is as the function documents.
+//! `.ci/refused_memory` runs this program with each allocation failing in turn.
 use der::example::{BorrowedOctets, JoinedOctets, MyByteMonth, OwnedText};
 use der::{
     BytesCow, BytesOwned, BytesRef, Decode, DecodeValue, Encode, EncodingRules, Error, ErrorKind,
@@ -71,7 +72,7 @@ fn clone_text(alloc: Global) -> Result<u32, Error> {
     Ok(u32::from(text.clone_in(alloc)?.len()))
 }
 
-// A copy of three octets; a reader that a refusal moved is told as failed.
+// A copy of three octets. If an error moved the reader, the result is `Failed`.
 fn owned_octets(alloc: Global) -> Result<BoxedSlice<u8>, Error> {
     let mut reader = SliceReader::new(&OCTETS)?;
     let header = Header::new(Tag::OctetString, Length::new(3));
@@ -82,8 +83,8 @@ fn owned_octets(alloc: Global) -> Result<BoxedSlice<u8>, Error> {
     Ok(read?.into_box())
 }
 
-// Three octets of a reader that lends nothing; one that has moved then, or has failed, is told as
-// failed.
+// Three octets of a reader that returns no slices of its input. If an error moved the reader or
+// made it fail, the result is `Failed`.
 fn owned_cow(alloc: Global) -> Result<u32, Error> {
     let mut reader = CopyingReader::new(SliceReader::new(&OCTETS)?);
     let header = Header::new(Tag::OctetString, Length::new(3));
@@ -94,7 +95,7 @@ fn owned_cow(alloc: Global) -> Result<u32, Error> {
     Ok(u32::from(read?.as_bytes_ref().len()))
 }
 
-// A text of three octets; a reader that does not stand behind it, or has failed, is told as failed.
+// A text of three octets. If the reader is not after it, or has failed, the result is `Failed`.
 fn owned_text(alloc: Global) -> Result<u32, Error> {
     let mut reader = SliceReader::new(&[0x0C, 0x03, 0x61, 0x62, 0x63])?;
     let read = OwnedText::decode(alloc, &mut reader);
@@ -106,7 +107,8 @@ fn owned_text(alloc: Global) -> Result<u32, Error> {
 
 const SEGMENT: [u8; 4] = [0x04, 0x02, 0xAA, 0xBB];
 
-// A segment of which the length tells enough; a reader that a refusal moved is told as failed.
+// A segment, with a length that gives the size to allocate. If an error moved the reader, the
+// result is `Failed`.
 fn segments_at_once(alloc: Global) -> Result<Vec<u8>, Error> {
     let mut reader = SliceReader::new(&SEGMENT)?;
     let length = Length::new_indefinite(4);
@@ -117,8 +119,8 @@ fn segments_at_once(alloc: Global) -> Result<Vec<u8>, Error> {
     joined
 }
 
-// A segment of which the length tells nothing; a reader that a refusal leaves elsewhere than behind
-// its header is told as failed.
+// A segment, with a length that gives no size to allocate. If an error leaves the reader elsewhere
+// than after its header, the result is `Failed`.
 fn segment_by_segment(alloc: Global) -> Result<Vec<u8>, Error> {
     let mut reader = SliceReader::new(&SEGMENT)?;
     let length = Length::new_indefinite(0);
@@ -129,8 +131,9 @@ fn segment_by_segment(alloc: Global) -> Result<Vec<u8>, Error> {
     joined
 }
 
-// A segment inside another, of whose length nothing is told; a reader that a refusal leaves
-// elsewhere than behind the inner header, or inside the outer segment, is told as failed.
+// A segment inside another, with a length that gives no size to allocate. If an error leaves the
+// reader elsewhere than after the inner header, or inside the outer segment, the result is
+// `Failed`.
 fn segment_in_segment(alloc: Global) -> Result<Vec<u8>, Error> {
     let segments = [0x24, 0x05, 0x04, 0x03, 0x61, 0x62, 0x63];
     let mut reader = SliceReader::new_with_encoding_rules(&segments, EncodingRules::Ber)?;
@@ -145,8 +148,8 @@ fn segment_in_segment(alloc: Global) -> Result<Vec<u8>, Error> {
     joined
 }
 
-// Segments behind a header; a reader that a refusal leaves elsewhere than behind the header is told
-// as failed.
+// Segments after a header. If an error leaves the reader elsewhere than after the header, the
+// result is `Failed`.
 fn joined_octets(alloc: Global) -> Result<BoxedSlice<u8>, Error> {
     let segments = [
         0x24, 0x80, 0x24, 0x80, 0x04, 0x01, 0x61, 0x00, 0x00, 0x04, 0x02, 0x62, 0x63, 0x00, 0x00,
@@ -159,7 +162,7 @@ fn joined_octets(alloc: Global) -> Result<BoxedSlice<u8>, Error> {
     Ok(joined?.octets.into_box())
 }
 
-// Octets behind a primitive header; a reader that a refusal moved is told as failed.
+// Octets after a primitive header. If an error moved the reader, the result is `Failed`.
 fn octets_in_one(alloc: Global) -> Result<BoxedSlice<u8>, Error> {
     let mut reader = SliceReader::new(&OCTETS)?;
     let header = Header::new(Tag::OctetString, Length::new(3));
@@ -175,7 +178,7 @@ fn borrowed(octets: &[u8]) -> Result<BorrowedOctets<'_>, Error> {
     Ok(BorrowedOctets { octets })
 }
 
-// A SET OF two elements, which are sorted for it.
+// A SET OF two elements, which are sorted first.
 fn sorted_set(alloc: Global) -> Result<Vec<u8>, Error> {
     let mut elements = [borrowed(&[0x00, 0x00])?, borrowed(&[0xFF])?];
     set_of_der(alloc, &mut elements)
@@ -191,8 +194,8 @@ fn tell<T: Debug + Drop>(rt: &impl Print, call: &str, answer: Result<T, Error>) 
     }
 }
 
-// A full vector of one octet that a month is appended to; it is handed out where a refusal changed
-// it.
+// Appends a month to a full vector of one octet. If an error changed the vector, the result is the
+// vector.
 fn append(alloc: Global) -> Result<Vec<u8>, Error> {
     let Some(month) = MyByteMonth::new(9) else {
         return Err(ErrorKind::DateTime.to_error());
@@ -206,7 +209,7 @@ fn append(alloc: Global) -> Result<Vec<u8>, Error> {
     }
 }
 
-// A copy of two octets; a reader that a refusal moved is told as failed.
+// A copy of two octets. If an error moved the reader, the result is `Failed`.
 fn copy(alloc: Global) -> Result<Vec<u8>, Error> {
     let mut reader = SliceReader::new(&[0x01, 0x02])?;
     let copied = reader.read_vec(alloc, Length::new(2));
@@ -216,8 +219,8 @@ fn copy(alloc: Global) -> Result<Vec<u8>, Error> {
     copied
 }
 
-// The number of a boxed month; a reader that does not stand behind it, or has failed, is told as
-// failed.
+// The number of a boxed month. If the reader is not after it, or has failed, the result is
+// `Failed`.
 fn boxed_month(alloc: Global) -> Result<u8, Error> {
     let mut reader = SliceReader::new(&[0x04, 0x01, 0x09])?;
     let decoded = Box::<MyByteMonth>::decode(alloc, &mut reader);

@@ -1,4 +1,4 @@
-//! Values that are decoded from slices without memory.
+//! Values that are decoded from slices without allocating.
 use crate::tell::tell_result;
 use der::example::{BorrowedOctets, MyByteMonth};
 use der::{
@@ -84,7 +84,7 @@ fn pair(alloc: Global) -> Result<u8, Error> {
     Ok(month.month())
 }
 
-// How many octets of contents such a SET OF has.
+// The number of octets of contents of a SET OF that is in order.
 fn set_in_order(alloc: Global) -> Result<usize, Error> {
     let octets = [0x31, 0x07, 0x04, 0x01, 0xFF, 0x04, 0x02, 0x00, 0x00];
     Ok(set_of_contents(alloc, &octets)?.len())

@@ -1,6 +1,6 @@
-//! Calls that allocate nothing, group by group, and then, after a line `allocating`, calls that
-//! allocate. Each line is the result of a call. `.ci/refused_memory` counts the requests for memory,
-//! which only a line `prepared` may follow before `allocating`, and refuses each of the later ones.
+//! Calls that allocate nothing, in groups, and then, after a line `allocating`, calls that allocate.
+//! Each prints a line with its result. Before the line `allocating` only what is printed before a
+//! line `prepared` may allocate: `.ci/refused_memory` counts the requests, and fails each in turn.
 #![tactic(auto)]
 
 mod allocating;

@@ -1,4 +1,4 @@
-//! Readers of slices, but for `read_vec`, and their positions.
+//! Readers of slices, without `read_vec`, and their positions.
 ghost use Rattle.std.specs.Prelude.{◌≡◌, IfOk};
 ghost use Rattle.der.specs.Prelude.{Ber, slice_state};
 
@@ -110,12 +110,13 @@ pub fn scans(rt: &impl Print) -> io::Result<()> {
     tell_result(rt, "decode_indefinite_length", scanned(false))
 }
 
-// How many octets a body has, by a scan ahead or by one that reads.
+// The number of octets of indefinite-length contents, by a scan that consumes nothing or by one
+// that does.
 fn scanned(ahead: bool) -> Result<u32, Error> {
     counted::<Brand>(ahead, Blank::new(1))
 }
 
-// How many octets a body has, counted by a ledger that the caller names.
+// The same, counted with a ledger that the caller names.
 fn counted<L: Ledger>(ahead: bool, blank: Blank) -> Result<u32, Error>
     requires name { blank.name ≡ L.name }
     requires parts { blank.parts ≡ L.parts }

@@ -1,4 +1,4 @@
-//! Refusals by calls that take memory, but never ask for it when they refuse so.
+//! Errors of calls that may allocate, but that allocate nothing before these errors.
 use crate::tell::tell_result;
 use crate::zeros::Zeros;
 use der::example::OwnedText;
@@ -29,7 +29,7 @@ fn octets_past_the_end(alloc: Global) -> Result<Length, Error> {
     Ok(BytesOwned::decode_value(alloc, &mut reader, header)?.len())
 }
 
-// No octets are announced, so none are asked for before the segment is met.
+// The length gives no octets to allocate, so nothing is allocated before the segment is read.
 fn segment_past_the_end(alloc: Global) -> Result<usize, Error> {
     let mut reader = SliceReader::new(&[0x04, 0x05, 0xAA])?;
     let length = Length::new_indefinite(0);
@@ -49,7 +49,7 @@ pub fn of_strings(rt: &impl Print, alloc: Global) -> io::Result<()> {
     )
 }
 
-// Whether the octets are no text, the error's own words apart.
+// Whether the octets are not text, without the text of the error.
 fn is_refused<T: Drop>(answer: Result<T, Error>) -> Result<bool, Error> {
     Ok(answer.is_err())
 }
@@ -58,7 +58,7 @@ pub fn of_writing(rt: &impl Print, alloc: Global) -> io::Result<()> {
     tell_result(rt, "to_der past 32 bits", to_der(alloc))
 }
 
-// An element whose header and contents 32 bits cannot count together.
+// An element whose header and contents together exceed 32 bits.
 fn to_der(alloc: Global) -> Result<usize, Error> {
     let zeros = Zeros { count: 4294967290 };
     Ok(zeros.to_der(alloc)?.len())

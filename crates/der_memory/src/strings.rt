@@ -1,4 +1,4 @@
-//! Byte strings and texts, borrowed, and in memory that is there already.
+//! Byte strings and texts, borrowed, and in memory that was allocated before.
 use crate::tell::{tell, tell_result, tell_text};
 use der::{BytesOwned, BytesRef, Encode, Error, Length, StringOwned, StringRef, box_to_ref};
 use std::alloc::Global;
@@ -53,7 +53,7 @@ pub fn owned(rt: &impl Print, alloc: Global) -> io::Result<()> {
     tell(rt, "empty", BytesOwned::empty(alloc).is_empty())
 }
 
-// The octets of a vector are taken over, boxed, and taken over again.
+// The octets of a vector are moved in, boxed, and moved in again.
 fn from_vec(octets: Vec<u8>) -> Result<usize, Error> {
     let octets = BytesOwned::new(BytesOwned::from_vec(octets)?.into_box())?;
     let views = octets.as_bytes_ref().len() == octets.owned_to_ref().len();

@@ -1,19 +1,19 @@
-//! Lines that tell what a call answered.
+//! Lines that print the results of calls.
 use der::Error;
 use std::fmt::{Debug, Display};
 use std::io;
 
-/// The answer of a call that is never refused.
+/// Prints the result of a call that never fails.
 pub fn tell<T: Debug + Drop>(rt: &impl Print, call: &str, value: T) -> io::Result<()> {
     println!(rt; "{call}: {value:?}")
 }
 
-/// The text of a value.
+/// Prints the text of a value.
 pub fn tell_text<T: Display + Drop>(rt: &impl Print, call: &str, value: T) -> io::Result<()> {
     println!(rt; "{call}: {value}")
 }
 
-/// The answer of a call, or its error.
+/// Prints the result of a call, or its error.
 pub fn tell_result<T: Debug + Drop>(
     rt: &impl Print,
     call: &str,

@@ -5,7 +5,7 @@ ghost use Rattle.der.specs.ErrorKinds.{Overlength};
 
 use der::{EncodeValue, Error, ErrorKind, Length, Tag, Tagged, Writer, WrittenValue};
 
-/// So many zero octets, which are never written.
+/// `count` zero octets, which are never written.
 #[derive(Drop)]
 pub struct Zeros {
     pub count: u32,

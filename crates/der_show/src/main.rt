@@ -1,13 +1,13 @@
-//! Tells what a file of DER or BER is: the fields of a certificate or a key, a line for each, or which
-//! of them is refused; and of anything else a line for each element.
+//! Prints what a file of DER or BER holds: the fields of a certificate, request or key, one per
+//! line, or the field that failed; and for anything else one line per element.
 #![tactic(auto)]
 
 use der_views::run_arguments;
 use std::env;
 use std::process::ExitCode;
 
-// What the system hands in, no clause can name; that it is what the arguments are is seen in the
-// stored run.
+// No clause can name the arguments that the system passes; the recorded run checks that they reach
+// the program.
 fn main(rt: HostRuntime) -> ExitCode {
     ExitCode::from(run_arguments(&rt, env::args(&rt), &mut rt.stdout()))
 }

@@ -1,4 +1,4 @@
-//! What the contracts do not say: that calls succeed, and what the words and texts are.
+//! What the contracts do not say: that calls succeed, and the exact words and texts.
 mod arguments;
 mod ber;
 mod ber_cases;

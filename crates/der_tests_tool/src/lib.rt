@@ -1,4 +1,4 @@
-//! Tests of what the program answers, made from outside as `main` calls it.
+//! Tests of what the program prints, from outside like `main`.
 #![tactic(auto)]
 
 #[cfg(test)]

@@ -18,18 +18,18 @@ use Rattle.der_uses.specs.SetOf.{string_octets, octets_of, joined_strings, Ascen
 pub string_count : (octets : List ℕ) → element_count OctetString (length octets) ≡ length (string_octets octets)
 string_count octets = let n = length octets in omega (arith, length-append (header_octets OctetString n) octets, length-append (tag_octets OctetString) (length_octets n))
 
--- more octets than a length can count
+-- more octets than a length can hold
 pub uncounted : (n : ℕ) → 2 ^ 32 ≤ n → checked_length n ≡ Err (error_of_kind Overflow)
 uncounted n far = rw (le-ltb n (2 ^ 32) far) refl
 
--- an element and those ahead of it have no more octets than all
+-- an element and those before it have no more octets than all together
 pub within_all : (xs : List BorrowedOctets) (i : ℕ) (x : BorrowedOctets) → i < length xs → x ≡ get_or xs i x
     → length (joined_strings (octets_of (take i xs))) + length (string_octets (borrowed_octets x)) ≤ length (joined_strings (octets_of xs))
 within_all xs i x inside is =
     let most = length-flat_map-take (λ b. string_octets (borrowed_octets b)) xs i x inside in
     omega (arith, most, ap length (flat_map-map string_octets borrowed_octets (take i xs)), ap length (flat_map-map string_octets borrowed_octets xs), ap (λ b. length (string_octets (borrowed_octets b))) is)
 
--- one element more
+-- one more element
 pub one_more : (xs : List BorrowedOctets) (i : ℕ) (x : BorrowedOctets) → i < length xs → x ≡ get_or xs i x
     → joined_strings (octets_of (take (i + 1) xs)) ≡ joined_strings (octets_of (take i xs)) ++ string_octets (borrowed_octets x)
 one_more xs i x inside is =
@@ -38,7 +38,7 @@ one_more xs i x inside is =
     ∙ flat_map-append string_octets (octets_of (take i xs)) (borrowed_octets x ∷ [])
     ∙ ap (λ l. joined_strings (octets_of (take i xs)) ++ l) (append-nil (string_octets (borrowed_octets x)))
 
--- behind its first element a sorted list is sorted
+-- a sorted list without its first element is sorted
 rest_sorted : {X : Type 0} (lt : X → X → Bool) (x : X) (xs : List X) → IsSortedBy lt (x ∷ xs) → IsSortedBy lt xs
 rest_sorted lt x xs up k d low inside =
     let at = λ (i : ℕ). get_or-cons x xs i d in
@@ -60,7 +60,7 @@ ascends (x ∷ y ∷ more) up = (
   ascends (y ∷ more) (rest_sorted is_before x (y ∷ more) up),
 )
 
--- elements in another order have as many octets
+-- a permutation of elements has the same number of octets
 pub same_count : (xs ys : List BorrowedOctets) → IsPermutation xs ys → length (joined_strings (octets_of ys)) ≡ length (joined_strings (octets_of xs))
 same_count xs ys same =
     let one = λ (b : BorrowedOctets). string_octets (borrowed_octets b) in

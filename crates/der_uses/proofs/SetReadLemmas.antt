@@ -1,4 +1,4 @@
--- SETs OF OCTET STRINGs that are read.
+-- SETs OF OCTET STRINGs, as they are read.
 use Rattle.std.proofs.Common.{◌≡◌, ◌≢◌, ℕ, ◌+◌, ◌-◌, ◌^◌, ◌<◌, ◌≤◌, Bool, true, false, Result, Ok, Err, IfOk, OnOk, IsOk, IsTrue, List, [], ◌∷◌, ◌++◌, length, Bor, take, drop, take_at, refl, sym, ap, subst, ◌∙◌, append-nil, append_assoc, length-append, ◌⊎◌, ⊎_elim, arith}
 use Rattle.der.specs.Prelude.{error_at, number, definite_length, IsBefore, Error, OctetString, Set, header_octets, Der, ElementAhead, ElementRead, head_of, HeaderAhead, Gives, Header, read_slice_outcome, ReaderState, rest_of, reader_position, Reads, slice_state}
 use Rattle.der.specs.Tag.{label}
@@ -30,7 +30,7 @@ use Rattle.der_uses.specs.SetOf.{string_octets, joined_strings, MayFollow, set_o
 pub slice_sound : (r : SliceReader) → IsSound (slice_state r)
 slice_sound r = record { ordered = r.ordered; in_input = r.in_input; addressable = r.addressable; shallow = r.shallow; marked = λ failed. refl }
 
--- these octets, lent at the place of others
+-- these octets, borrowed in place of others
 abbrev pub lent_string : Bor (List ℕ) → (octets : List ℕ) → length octets < 2 ^ 32 → BorrowedOctets
 lent_string place octets counted = record { octets = record { bytes = record place { now = octets }; counted = counted } }
 
@@ -48,24 +48,24 @@ element_working {t = t} {v = v} (in_contents h u passed tagged answers) =
     let ran = value_ran answers in
     closed_working ran.last t u.end u.depth ran.behind (lent_working _ ran.part ran.last (borrowed_octets v) ran.ran)
 
--- a reader that has answered an OCTET STRING has not failed
+-- a reader that has returned an OCTET STRING has not failed
 pub decoded_working : {converts : Error → Error → Type 0} {s t : ReaderState} {v : BorrowedOctets} → ReaderDecodes true (ElementRead OctetString converts (LentOctetsRead borrowed_octets)) converts s (Ok v) t → t.failed ≡ false
 decoded_working (had_failed f refused leaves) = absurd refused
 decoded_working (decodes w ok answers) = element_working (answers refl)
 decoded_working (refuses u w refused answers leaves) = absurd (let no : false ≡ true = refused in cc)
 
--- a reader that has answered an OCTET STRING has read its encoding
+-- a reader that has returned an OCTET STRING has read its encoding
 pub string_read : {converts : Error → Error → Type 0} {s t : ReaderState} (result : Result BorrowedOctets Error) → s.rules ≡ Der
     → IfOk result (λ v. t.failed ≡ false → Passes (ElementAhead OctetString (TakesOctets IsCounted borrowed_octets) v) s t)
     → ReaderDecodes true (ElementRead OctetString converts (LentOctetsRead borrowed_octets)) converts s result t → IfOk result (λ v. Reads s t (string_octets (borrowed_octets v)))
 string_read (Err e) der ok exact = tt
 string_read {s = s} {t = t} (Ok v) der ok exact = (passed_encodings (elements_are_encodings borrowed_lawful) s t v der (ok (decoded_working exact))).1
 
--- an OCTET STRING that stands ahead can be counted
+-- the octets of the next OCTET STRING fit a length
 pub string_counted : (s : ReaderState) (x more : List ℕ) → IsSound s → rest_of s ≡ string_octets x ++ more → length x < 2 ^ 32
 string_counted s x more sound ahead = omega (arith, length-rest s sound, sound.in_input, sound.addressable, ap length ahead, length-append (string_octets x) more, length-append (header_octets OctetString (length x)) x)
 
--- an OCTET STRING that stands ahead is an element
+-- the next OCTET STRING is an element
 pub string_ahead : (s : ReaderState) (v : BorrowedOctets) (more : List ℕ) → IsSound s → s.rules ≡ Der → rest_of s ≡ string_octets (borrowed_octets v) ++ more
     → ElementAhead OctetString (TakesOctets IsCounted borrowed_octets) v s.rules (rest_of s) (length (string_octets (borrowed_octets v)))
 string_ahead s v more sound der ahead =
@@ -73,11 +73,11 @@ string_ahead s v more sound der ahead =
     subst (λ r. ElementAhead OctetString (TakesOctets IsCounted borrowed_octets) v r (rest_of s) m) (sym der)
     ((elements_are_encodings borrowed_lawful).every (rest_of s) v m (omega (arith, length-rest s sound, sound.in_input, sound.addressable)) (record { is_valid = v.octets.counted; behind = more; split = ahead; whole = refl }))
 
--- reading that takes no memory is not refused it
+-- reading that does not allocate is never out of memory
 pub not_lacking : {A E : Type 0} (oom : E → Bool) (s t : ReaderState) (m : ℕ) (result : Result A E) → ReadsOrLacks oom false s m result t → IsOk result
 not_lacking oom s t m result read = ⊎_elim (λ h. h.0) (λ h. absurd (let no = h.0 in cc)) read
 
--- OCTET STRINGs that were read up to here and ascend, the last of which is told
+-- ascending OCTET STRINGs were read up to here, and `last` is the last of them
 pub record PassedTo (s t : ReaderState) (last : List ℕ) : Type 0 where
   pub front : List (List ℕ)
   pub ascend : Ascend (front ++ last ∷ [])
@@ -110,7 +110,7 @@ passed_ready ready p =
       shallow = omega (arith, ready.shallow, ap (λ (r : ReaderState). r.depth) p.reads.state);
     }
 
--- joined encodings are those of these OCTET STRINGs alone
+-- joined encodings determine their OCTET STRINGs
 pub record Split (front strings : List (List ℕ)) (behind : List ℕ) : Type 0 where
   pub more : List (List ℕ)
   pub split : strings ≡ front ++ more
@@ -149,7 +149,7 @@ passed_all {s} {t} x p end = record { ok = (record { strings = p.front ++ x ∷ 
         let none = empty split.more (sym split.left ∙ nothing_left t (omega (arith, end))) in
         ascending (subst Ascend (sym (split.split ∙ ap (λ l. (p.front ++ x ∷ []) ++ l) none ∙ append-nil _)) p.ascend) refl
 
--- the OCTET STRING that was read is the one that stood ahead
+-- the OCTET STRING that was read is the one in the input
 pub string_is : {s t : ReaderState} (x y more : List ℕ) → Reads s t (string_octets y) → rest_of s ≡ string_octets x ++ more → x ≡ y
 string_is {t = t} x y more reads ahead = (element_front OctetString OctetString x y more (rest_of t) (sym ahead ∙ reads.split)).1
 
@@ -162,17 +162,17 @@ same_error result e f was is = cc
 something_left : (s : ReaderState) → IsSound s → s.end ≢ s.position → rest_of s ≢ []
 something_left s sound unfinished none = unfinished (omega (arith, length-rest s sound, ap length none, sound.ordered))
 
--- a reader that says that it is not finished is not at its end
+-- a reader that returns that it is not finished is not at its end
 pub unfinished_at : {b : Bool} (s : ReaderState) → b ≡ false → (s.end ≡ s.position → IsTrue b) → s.end ≢ s.position
 unfinished_at s said told end = let no = told end in cc
 
--- the first is not refused
+-- reading the first does not fail
 pub first_refused : (s : ReaderState) (strings : List (List ℕ)) (result : Result BorrowedOctets Error) (e : Error) → result ≡ Err e → IsSound s → s.end ≢ s.position → rest_of s ≡ joined_strings strings
     → ((x more : List ℕ) → rest_of s ≡ string_octets x ++ more → IsOk result) → ⊥
 first_refused s [] result e was sound unfinished are complete = something_left s sound unfinished are
 first_refused s (x ∷ more) result e was sound unfinished are complete = not_both result e was (complete x (joined_strings more) are)
 
--- a string is refused where it comes before the one ahead of it
+-- reading a string fails if it comes before the preceding one
 pub next_refused : {s t : ReaderState} (x : List ℕ) (strings : List (List ℕ)) (result : Result BorrowedOctets Error) (e : Error) → result ≡ Err e → IsSound t → t.end ≢ t.position → PassedTo s t x → rest_of s ≡ joined_strings strings
     → ((y more : List ℕ) → rest_of t ≡ string_octets y ++ more
     → IsOk result ⊎ (IsBefore (string_octets y) (string_octets x) × (result ≡ Err (error_at SetOrdering (reader_position t)))))
@@ -194,7 +194,7 @@ next_refused {s} {t} x strings result e was sound unfinished p are exact =
 pub set_read : {s t : ReaderState} (h : Header) → s.rules ≡ Der → Passes (HeaderAhead h) s t → (head_of h).tag ≡ Set → Reads s t (header_octets Set (number (head_of h).length))
 set_read {s} {t} h der passed tagged = subst (λ tag. Reads s t (header_octets tag (number (head_of h).length))) tagged (passed_encodings headers_are_encodings s t h der passed).1
 
--- the header of a SET that stands ahead
+-- the header of a SET with n octets of contents
 abbrev pub header_of_set : ℕ → Header
 header_of_set n = record { tag = Set; length = definite_length n; constructed = (label Set).constructed }
 
@@ -205,7 +205,7 @@ set_ahead s n more sound der small ahead =
     (headers_are_encodings.every (rest_of s) (header_of_set n) _ (omega (arith, length-rest s sound, sound.in_input, sound.addressable))
     (record { is_valid = record { says = refl; numbered = omega arith; small = small }; behind = more; split = ahead; whole = refl }))
 
--- where the header of a SET stands ahead nothing else is read
+-- octets that begin with the header of a SET are read as that header alone
 pub set_alone : {s t : ReaderState} (h : Header) (n : ℕ) (more : List ℕ) → s.rules ≡ Der → Passes (HeaderAhead h) s t → rest_of s ≡ header_octets Set n ++ more → (head_of h).tag ≡ Set
 set_alone {s} {t} h n more der passed ahead =
     let reads = (passed_encodings headers_are_encodings s t h der passed).1 in
@@ -222,7 +222,7 @@ behind_part n s t q within r at_end leaves =
       omega (arith, count, ap (λ (x : ReaderState). x.position) there),
     )
 
--- a part that was read by a closure
+-- a nested part that was read by a closure
 module _ {P Q : Type 0} {converts : Error → Error → Type 0} {post : P → Result (Unit {0}) Error → Q → Type 0} (before : P → ReaderState) (after : Q → ReaderState) (n : ℕ) (s t : ReaderState)
     (result : Result (Unit {0}) Error) (ran : (p : P) (a : Result (Unit {0}) Error) (q : Q) → before p ≡ nested_state s n → post p a q → PassesStrings (before p) a (after q)) where
   passed_part : (v : Unit {0}) → result ≡ Ok v → NestedAnswer converts post before after n s result t → ReadsAscending s t × (t.position ≡ s.position + n)
@@ -239,7 +239,7 @@ module _ {P Q : Type 0} {converts : Error → Error → Type 0} {post : P → Re
       go (Ok v) is = passed_part v is (answers (subst (IsBinding true) (sym is) tt))
       go (Err e) is = tt
 
-  -- the elements in it are judged
+  -- the elements in it are checked
   pub part_judged : (strings : List (List ℕ)) (more : List ℕ) → IsSound s → s.depth < 64 → rest_of s ≡ joined_strings strings ++ more → n ≡ length (joined_strings strings)
       → NestedAnswer converts post before after n s result t → OrderAnswer {A = Unit {0}} s.position strings tt result
   part_judged strings more sound shallow are count answers = go answers
@@ -262,7 +262,7 @@ module _ {P Q : Type 0} {converts : Error → Error → Type 0} {post : P → Re
       go (entered p answer q it there h closes) =
           closed there h (subst (λ (x : ReaderState). OrderAnswer {A = Unit {0}} x.position strings tt answer) there ((ran p answer q there h).exact strings (ap rest_of there ∙ inside))) closes
 
--- a SET that is all of some octets, behind its header
+-- a SET that is all of the octets, after its header
 module _ (octets : List ℕ) (s t : ReaderState) (n : ℕ) (begun : s ≡ initial_state Der octets) (reads : Reads s t (header_octets Set n)) where
   whole_octets : octets ≡ header_octets Set n ++ rest_of t
   whole_octets = sym (ap rest_of begun ∙ rest-beginning Der octets) ∙ reads.split
@@ -284,14 +284,14 @@ module _ (octets : List ℕ) (s t : ReaderState) (n : ℕ) (begun : s ≡ initia
       let count : n ≡ length all = omega (arith, passed, position_on r.reads) in
       (r.strings, r.ascend, whole_octets ∙ ap (λ l. header_octets Set n ++ l) left ∙ ap (λ k. header_octets Set k ++ all) count, (remaining_ok t contents lent).1 ∙ left)
 
-  -- a reader behind the last of the strings is finished
+  -- a reader after the last string is finished
   pub set_finished : (u : ReaderState) (strings : List (List ℕ)) → IsSound t → octets ≡ set_octets strings → ReadsAscending t u → u.position ≡ t.position + n → finish_answer u ≡ Ok tt
   set_finished u strings sound e r passed =
       let counted = header_count strings e in
       finishes u (failed_on r.reads ∙ failed_on reads ∙ ap (λ (x : ReaderState). x.failed) begun)
       (omega (arith, passed, counted.0, ap length counted.1, length-rest t sound, ap (λ (x : ReaderState). x.end) r.reads.state))
 
--- an answer to elements is one to the octets, at the position where these begin
+-- a result for the elements is one for the octets, at the position where the elements begin
 pub order_refused : {begins : ℕ} (at_position : ℕ) (strings : List (List ℕ)) (octets : List ℕ) (result : Result (Unit {0}) Error) (e : Error) → result ≡ Err e → begins ≡ at_position
     → OrderAnswer begins strings tt result → OrderAnswer at_position strings octets (Err e)
 order_refused at_position strings octets result e is begins (ascending up r) = absurd (cc)

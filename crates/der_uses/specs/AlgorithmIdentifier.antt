@@ -1,4 +1,4 @@
--- An algorithm and a month, one behind the other.
+-- An algorithm and a month, in sequence.
 use Rattle.std.specs.Prelude.{◌≡◌, ℕ, List, ◌++◌, Result}
 use Rattle.std.proofs.Common.{arith}
 use Rattle.der.specs.Prelude.{Head, Length, OctetString, Sequence, Error, EncodingRules, ElementAhead, ElementRead, element_levels, WriterAnswer, ElementWritten, element_octets, element_size, FieldsAhead, FieldsRead, FieldsWritten, TakesWhole, fields_levels, fields_size, IsLawful, map_ok, ReaderState}
@@ -20,7 +20,7 @@ algorithm_contents v =
     element_octets OctetString (lent_contents v.algorithm)
     ++ element_octets OctetString (month_contents v.month)
 
--- contents are taken as an identifier where they are its two elements
+-- contents are accepted as an identifier if they are its two elements
 abbrev pub TakesAlgorithm : AlgorithmIdentifier → EncodingRules → Head → List ℕ → Type 0
 TakesAlgorithm v =
     TakesWhole (FieldsAhead (ElementAhead OctetString TakesLent)
@@ -29,14 +29,14 @@ TakesAlgorithm v =
 abbrev pub algorithm_levels : EncodingRules → ℕ
 algorithm_levels = fields_levels (element_levels (λ _. 0)) (element_levels (λ _. 0))
 
--- what reading answers: both, or the first refusal
+-- the result of reading: both fields, or the first error
 abbrev pub AlgorithmRead : Head → ReaderState → Result AlgorithmIdentifier Error → ReaderState
     → Type 0
 AlgorithmRead h s result t =
     FieldsRead (ElementRead OctetString (λ e f. f ≡ e) LentRead)
     (ElementRead OctetString (λ e f. f ≡ e) MonthRead) s (map_ok identifier_fields result) t
 
--- how many octets there are, and what writing answers
+-- the number of octets, and the result of writing
 abbrev pub algorithm_size : AlgorithmIdentifier → Result Length Error
 algorithm_size v =
     fields_size (element_size OctetString (lent_size v.algorithm))
@@ -47,7 +47,7 @@ AlgorithmWritten v =
     FieldsWritten (ElementWritten OctetString (lent_size v.algorithm) (LentWritten v.algorithm))
     (ElementWritten OctetString (month_size v.month) (MonthWritten v.month))
 
--- such a SEQUENCE is read as it is written
+-- such a SEQUENCE is read exactly as it is written
 pub algorithm_lawful : IsLawful Sequence TakesAlgorithm IsAlgorithm algorithm_contents
     algorithm_levels
 algorithm_lawful =

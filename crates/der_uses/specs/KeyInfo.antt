@@ -1,4 +1,4 @@
--- A key behind the identifier of its algorithm.
+-- A key after the identifier of its algorithm.
 use Rattle.std.specs.Prelude.{◌≡◌, ℕ, List, ◌++◌, Result}
 use Rattle.std.proofs.Common.{arith}
 use Rattle.der.specs.Prelude.{Head, Length, OctetString, Sequence, Error, EncodingRules, ElementAhead, ElementRead, element_levels, WriterAnswer, ElementWritten, element_octets, element_size, FieldsAhead, FieldsRead, FieldsWritten, TakesWhole, fields_levels, fields_size, IsLawful, map_ok, ReaderState}
@@ -20,7 +20,7 @@ key_info_contents v =
     element_octets Sequence (algorithm_contents v.algorithm)
     ++ element_octets OctetString (lent_contents v.key)
 
--- contents are taken as a key where they are its two elements
+-- contents are accepted as a key if they are its two elements
 abbrev pub TakesKeyInfo : KeyInfo → EncodingRules → Head → List ℕ → Type 0
 TakesKeyInfo v =
     TakesWhole (FieldsAhead (ElementAhead Sequence TakesAlgorithm)
@@ -29,13 +29,13 @@ TakesKeyInfo v =
 abbrev pub key_info_levels : EncodingRules → ℕ
 key_info_levels = fields_levels (element_levels algorithm_levels) (element_levels (λ _. 0))
 
--- what reading answers: both, or the first refusal
+-- the result of reading: both fields, or the first error
 abbrev pub KeyInfoRead : Head → ReaderState → Result KeyInfo Error → ReaderState → Type 0
 KeyInfoRead h s result t =
     FieldsRead (ElementRead Sequence (λ e f. f ≡ e) AlgorithmRead)
     (ElementRead OctetString (λ e f. f ≡ e) LentRead) s (map_ok key_info_fields result) t
 
--- how many octets there are, and what writing answers
+-- the number of octets, and the result of writing
 abbrev pub key_info_size : KeyInfo → Result Length Error
 key_info_size v =
     fields_size (element_size Sequence (algorithm_size v.algorithm))
@@ -47,7 +47,7 @@ KeyInfoWritten v =
     (ElementWritten Sequence (algorithm_size v.algorithm) (AlgorithmWritten v.algorithm))
     (ElementWritten OctetString (lent_size v.key) (LentWritten v.key))
 
--- such a SEQUENCE is read as it is written
+-- such a SEQUENCE is read exactly as it is written
 pub key_info_lawful : IsLawful Sequence TakesKeyInfo IsKeyInfo key_info_contents key_info_levels
 key_info_lawful =
     contents_lawful Sequence key_info_levels key_info_fields

@@ -1,4 +1,4 @@
--- Octets that are lent.
+-- Octets borrowed from the input.
 use Rattle.std.specs.Prelude.{◌≡◌, ℕ, List, length, Result, Ok}
 use Rattle.std.proofs.Common.{arith}
 use Rattle.der.specs.Prelude.{checked_length, Head, byte_order, Length, OctetString, number, Error, EncodingRules, ReaderState, Gives, map_ok, read_slice_outcome, Compared, WriterAnswer, IsLawful, Writes, write_outcome}
@@ -10,7 +10,7 @@ lent_contents lent = lent.octets.now
 abbrev pub IsLent : Lent → Type 0
 IsLent lent = Unit {0}
 
--- octets that are lent are taken as they stand
+-- any contents are accepted, and borrowed unchanged
 abbrev pub TakesLent : Lent → EncodingRules → Head → List ℕ → Type 0
 TakesLent lent rules h octets = lent_contents lent ≡ octets
 
@@ -18,18 +18,18 @@ abbrev pub LentRead : Head → ReaderState → Result Lent Error → ReaderState
 LentRead h s result t =
     Gives (read_slice_outcome (number h.length)) s (map_ok lent_contents result) t
 
--- how many octets there are, and what writing answers
+-- the number of octets, and the result of writing
 abbrev pub lent_size : Lent → Result Length Error
 lent_size lent = checked_length (length (lent_contents lent))
 
 abbrev pub LentWritten : Lent → WriterAnswer
 LentWritten lent s result t = Writes (write_outcome (lent_contents lent) s) result t
 
--- octets that are lent are compared octet by octet, which is never refused
+-- borrowed octets are compared octet by octet, which never fails
 abbrev pub lent_order : Lent → Lent → Compared
 lent_order v w = Ok (byte_order (lent_contents v) (lent_contents w))
 
--- octets that are lent are read as they are written
+-- borrowed octets are read exactly as they are written
 pub lent_lawful : IsLawful OctetString TakesLent IsLent lent_contents (λ _. 0)
 lent_lawful =
     record {

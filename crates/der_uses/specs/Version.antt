@@ -1,5 +1,5 @@
 -- A version of a certificate, as an INTEGER of one octet (RFC 5280, 4.1.2.1): its number and its
--- contents, what is taken as one, what reading and writing answer, and the law.
+-- contents, what is accepted as one, the results of reading and writing, and the law.
 use Rattle.std.specs.Prelude.{◌≡◌, ℕ, List, [], ◌∷◌, Result, Ok, nat_lt, if◌then◌else◌}
 use Rattle.std.proofs.Common.{arith}
 use Rattle.der.specs.ErrorKinds.{Value}
@@ -21,11 +21,11 @@ version_contents v = version_number v ∷ []
 abbrev pub IsVersion : Version → Type 0
 IsVersion v = Unit {0}
 
--- an octet is taken as the version of that number, whatever the header
+-- an octet is accepted as the version of that number, whatever the header
 abbrev pub TakesVersion : Version → EncodingRules → Head → List ℕ → Type 0
 TakesVersion v rules h octets = version_contents v ≡ octets
 
--- an octet from 3 on is refused behind it
+-- an octet from 3 on is an error, at the position after it
 abbrev pub version_of : ℕ → ReaderState → Outcome ℕ
 version_of octet s =
     if nat_lt octet 3 then outcome_of (Ok octet) s else kind_outcome ℕ (Value Integer) s
@@ -33,18 +33,18 @@ version_of octet s =
 abbrev pub version_outcome : ReaderState → Outcome ℕ
 version_outcome s = chained_outcome (read_byte_outcome s) version_of
 
--- what reading a version answers
+-- the result of reading a version
 abbrev pub VersionRead : Head → ReaderState → Result Version Error → ReaderState → Type 0
 VersionRead h s result t = Gives version_outcome s (map_ok version_number result) t
 
--- how many octets a version has, and what writing it answers
+-- the number of octets of a version, and the result of writing it
 abbrev pub version_size : Version → Result Length Error
 version_size v = Ok (definite_length 1)
 
 abbrev pub VersionWritten : Version → WriterAnswer
 VersionWritten v s result t = Writes (write_outcome (version_contents v) s) result t
 
--- a version is read as it is written
+-- a version is read exactly as it is written
 pub version_lawful : IsLawful Integer TakesVersion IsVersion version_contents (λ _. 0)
 version_lawful =
     record {

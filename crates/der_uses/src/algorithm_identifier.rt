@@ -1,4 +1,4 @@
-//! A SEQUENCE of two fields, as an algorithm and its parameter are written in a certificate.
+//! A SEQUENCE of two fields, like an algorithm and its parameter in a certificate.
 ghost use Rattle.std.specs.Prelude.{◌≡◌, false};
 ghost use Rattle.der.specs.Prelude.{Sequence};
 ghost use Rattle.der_uses.specs.AlgorithmIdentifier.{IsAlgorithm, TakesAlgorithm, AlgorithmRead, algorithm_contents, algorithm_levels, algorithm_size, AlgorithmWritten, algorithm_lawful};
@@ -14,7 +14,7 @@ use std::alloc::Global;
 /// An algorithm, and a month as its parameter.
 #[derive(Clone, Copy)]
 pub struct AlgorithmIdentifier<'a> {
-    /// The algorithm, lent by the input.
+    /// The algorithm, borrowed from the input.
     pub algorithm: Lent<'a>,
     /// Its parameter.
     pub month: MyByteMonth,

@@ -1,4 +1,4 @@
-//! Fields that are borrowed from the input, and fields in memory of their own.
+//! Fields that borrow from the input, and fields that own their memory.
 ghost use Rattle.std.specs.Prelude.{◌≡◌, IfOk};
 ghost use Rattle.der.specs.Prelude.{OctetString, Utf8String, element_octets};
 ghost use Rattle.der.specs.BytesRef.{reference_octets};
@@ -8,7 +8,7 @@ use der::example::{BorrowedOctets, OwnedText};
 use der::{BytesRef, DecodeBytes, Error, StringOwned};
 use std::alloc::Global;
 
-/// The octets of an OCTET STRING, which live as long as the input does.
+/// The octets of an OCTET STRING, which borrow from the input.
 pub fn lent_octets(alloc: Global, octets: &[u8]) -> Result<BytesRef<'_>, Error>
     ensures { IfOk result (λ b. octets.now ≡ element_octets OctetString (reference_octets b)) }
 {

@@ -1,11 +1,11 @@
-//! What octets begin with.
+//! The header that octets begin with.
 ghost use Rattle.std.specs.Prelude.{◌≡◌, ℕ, drop, IfOk};
 ghost use Rattle.der.specs.Prelude.{HeadAhead, Der, head_of};
 
 use der::{DecodeBytes, Error, Header};
 use std::alloc::Global;
 
-/// The header at the front of the octets, and the octets behind it.
+/// The header at the front of the octets, and the octets after it.
 pub fn first_header(alloc: Global, octets: &[u8]) -> Result<(Header, &[u8]), Error>
     ensures { IfOk result (λ p. (m : ℕ) × HeadAhead (head_of p.0) Der octets.now m
         × (p.1.now ≡ drop m octets.now)) }

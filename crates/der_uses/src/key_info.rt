@@ -1,4 +1,4 @@
-//! A SEQUENCE with another one inside it, as a key stands in a certificate.
+//! A SEQUENCE inside another, like a key in a certificate.
 ghost use Rattle.std.specs.Prelude.{◌≡◌, ◌<◌, ◌^◌, false, length, IfOk, IsOk};
 ghost use Rattle.der.specs.Prelude.{Sequence, element_octets};
 ghost use Rattle.der_uses.specs.KeyInfo.{IsKeyInfo, TakesKeyInfo, KeyInfoRead, key_info_contents, key_info_levels, key_info_size, KeyInfoWritten, key_info_lawful};
@@ -16,7 +16,7 @@ use std::alloc::Global;
 pub struct KeyInfo<'a> {
     /// What it is for.
     pub algorithm: AlgorithmIdentifier<'a>,
-    /// The key, lent by the input.
+    /// The key, borrowed from the input.
     pub key: Lent<'a>,
 }
 
@@ -86,7 +86,7 @@ impl<'a> Lawful for KeyInfo<'a> {
     ghost lawful = { key_info_lawful };
 }
 
-/// The key that these octets are the encoding of.
+/// Reads the octets as exactly one key.
 pub fn key_info_from_der<'a>(alloc: Global, octets: &'a [u8]) -> Result<KeyInfo<'a>, Error>
     ensures ok { IfOk result (λ v. IsKeyInfo v
         × (octets.now ≡ element_octets Sequence (key_info_contents v))) }

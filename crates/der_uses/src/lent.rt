@@ -1,4 +1,4 @@
-//! A type of a user's own that is lent by the input: an `OCTET STRING`.
+//! A user-defined type that borrows from the input: an `OCTET STRING`.
 ghost use Rattle.std.specs.Prelude.{◌≡◌, false, length};
 ghost use Rattle.std.proofs.Common.{refl};
 ghost use Rattle.der.specs.Prelude.{OctetString};
@@ -11,7 +11,7 @@ use der::{
 use std::alloc::Global;
 use std::cmp::Ordering;
 
-/// Octets that are lent.
+/// Octets borrowed from the input.
 #[derive(Clone, Copy)]
 pub struct Lent<'a> {
     /// The octets.

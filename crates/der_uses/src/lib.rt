@@ -1,4 +1,4 @@
-//! Callers of the libraries, as a user writes them. The guide `docs/CALLING.md` quotes them.
+//! Code that calls the libraries, as a user would write it. The guide `docs/CALLING.md` quotes it.
 #![tactic(auto)]
 
 pub mod algorithm_identifier;

@@ -7,8 +7,8 @@ use der::{
 };
 use std::sync::ledger::Ledger;
 
-/// The header at the front of a message, and the octets that it announces; behind contents of an
-/// indefinite length their end mark is among them.
+/// The header at the front of a message, and the contents that follow it. Contents of an indefinite
+/// length include their end-of-contents octets.
 pub fn first_message(octets: &[u8]) -> Result<(Header, &[u8]), Error>
     ensures { IfOk result (λ p. (m : ℕ) × HeadAhead (head_of p.0) Ber octets.now m
         × (p.1.now ≡ take (number (head_of p.0).length) (drop m octets.now))) }
@@ -19,8 +19,8 @@ pub fn first_message(octets: &[u8]) -> Result<(Header, &[u8]), Error>
     Ok((header, contents))
 }
 
-/// How many octets the contents of an indefinite length have at the front of the octets, with the
-/// end mark. Whatever the octets are, that takes a turn for each two of them at most, and one more.
+/// The number of octets of the indefinite-length contents at the front, end-of-contents octets
+/// included. At most n/2 + 1 turns for n octets, whatever they are.
 pub fn indefinite_len<L: Ledger>(octets: &[u8], turns: &mut Turns<L>) -> Result<Length, Error>
     ensures { turns.new ≤ turns.old + (length octets.now / 2 + 1) }
 {

@@ -1,9 +1,9 @@
-//! Parts that are entered and left by hand.
+//! Nested parts that are entered and left explicitly.
 ghost use Rattle.der.specs.Prelude.{Same, slice_state};
 
 use der::{Error, Reader, ReaderExt, SliceReader, Tag, decode_header};
 
-/// How many elements stand in the SEQUENCE at the front of the octets.
+/// The number of elements in the SEQUENCE at the front of the octets.
 pub fn count_of_elements(octets: &[u8]) -> Result<usize, Error> {
     let mut reader = SliceReader::new(octets)?;
     let header = decode_header(&mut reader)?;
@@ -13,7 +13,7 @@ pub fn count_of_elements(octets: &[u8]) -> Result<usize, Error> {
     reader.close_nested(outer, count)
 }
 
-// Passes element after element, up to the end of the part; each has an octet at least.
+// Counts the elements up to the end of the part; each has at least one octet.
 fn count_rest(reader: &mut SliceReader<'_>) -> Result<usize, Error>
     ensures { Same (slice_state reader.old) (slice_state reader.new) }
 {

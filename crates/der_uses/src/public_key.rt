@@ -4,18 +4,18 @@ ghost use Rattle.der.specs.Prelude.{Same, slice_state};
 
 use der::{Error, Reader, ReaderExt, SliceReader, Tag, decode_header};
 
-/// A public key, lent by the input.
+/// A public key, borrowed from the input.
 #[derive(Clone, Copy, Debug, PartialEq, Eq)]
 pub struct PublicKey<'a> {
     /// The contents of the OBJECT IDENTIFIER that names the algorithm.
     pub algorithm: &'a [u8],
-    /// The parameters of the algorithm, a whole element, where there are any.
+    /// The parameters of the algorithm, as a whole element, if there are any.
     pub parameters: Option<&'a [u8]>,
     /// The octets of the key.
     pub key: &'a [u8],
 }
 
-/// The public key that all the octets are.
+/// Reads the octets as exactly one public key.
 pub fn public_key(octets: &[u8]) -> Result<PublicKey<'_>, Error> {
     let mut reader = SliceReader::new(octets)?;
     let key = reader.sequence(read_fields)?;
@@ -29,7 +29,7 @@ fn read_fields<'a>(reader: &mut SliceReader<'a>) -> Result<PublicKey<'a>, Error>
 {
     let (algorithm, parameters) = reader.sequence(read_algorithm)?;
     let bits = read_contents(reader, Tag::BitString)?;
-    // The first octet counts bits of the last one that are not used (X.690 8.6.2); a key has none.
+    // The first octet is the number of unused bits in the last octet (X.690 8.6.2); a key has none.
     match bits.split_first() {
         Some((0, key)) => Ok(PublicKey {
             algorithm,
@@ -40,7 +40,7 @@ fn read_fields<'a>(reader: &mut SliceReader<'a>) -> Result<PublicKey<'a>, Error>
     }
 }
 
-// The fields of the SEQUENCE that tells the algorithm, of which the second may be absent.
+// The fields of the SEQUENCE that names the algorithm. The second may be absent.
 fn read_algorithm<'a>(reader: &mut SliceReader<'a>) -> Result<(&'a [u8], Option<&'a [u8]>), Error>
     ensures { Same (slice_state reader.old) (slice_state reader.new) }
 {
@@ -52,7 +52,7 @@ fn read_algorithm<'a>(reader: &mut SliceReader<'a>) -> Result<(&'a [u8], Option<
     Ok((algorithm, Some(parameters)))
 }
 
-// The contents of the element ahead, which has to have this tag.
+// The contents of the next element, which must have this tag.
 fn read_contents<'a>(reader: &mut SliceReader<'a>, tag: Tag) -> Result<&'a [u8], Error>
     ensures { Same (slice_state reader.old) (slice_state reader.new) }
 {

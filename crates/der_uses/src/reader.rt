@@ -1,5 +1,5 @@
-//! A reader of a user's own, as one over a connection would be: it hands out copies, lends nothing,
-//! and one of its reads may fail.
+//! A user-defined reader, like one over a connection: it copies what it reads, returns no slices of
+//! its input, and one of its reads may fail.
 ghost use Rattle.std.specs.Prelude.{◌≡◌, false};
 ghost use Rattle.der.specs.Prelude.{error_at, reader_position, slice_state};
 ghost use Rattle.der.specs.ErrorKinds.{Reader as CannotRead};
@@ -7,30 +7,32 @@ ghost use Rattle.der.specs.ErrorKinds.{Reader as CannotRead};
 use der::{EncodingRules, Error, ErrorKind, Length, Reader, Resumption, SliceReader};
 use std::alloc::Allocator;
 
-/// A reader over another one that lends nothing. It goes on behind a read that failed.
+/// A reader over another one that returns no slices of its input. It continues after a read that
+/// failed.
 #[derive(Drop)]
 pub struct CopyingReader<'a> {
     inner: SliceReader<'a>,
-    // how many reads are left up to the one that fails, and with it; zero where none does
+    // the number of reads up to and including the one that fails; 0 if none does
     reads: u32,
 }
 
 impl<'a> CopyingReader<'a> {
-    /// Reads on where this reader stands.
+    /// A reader that continues where `inner` is.
     pub fn new(inner: SliceReader<'a>) -> Self
         ensures inner { result.inner ≡ inner.entry }
     {
         CopyingReader { inner, reads: 0 }
     }
 
-    /// Reads on where this reader stands; the read of this number fails, the first being 1.
+    /// A reader that continues where `inner` is, and fails at the read of this number; the first is
+    /// 1.
     pub fn failing(inner: SliceReader<'a>, reads: u32) -> Self
         ensures inner { result.inner ≡ inner.entry }
     {
         CopyingReader { inner, reads }
     }
 
-    // Counts a read, which may be the one that fails.
+    // Counts a read, and fails if it is the one that does.
     fn begin_read(&mut self) -> Result<(), Error>
         ensures inner { self.new.inner ≡ self.old.inner }
     {
@@ -44,7 +46,7 @@ impl<'a> CopyingReader<'a> {
         Ok(())
     }
 
-    // What is refused that the reader does not do, or cannot.
+    // The error for what this reader does not support, and for the read that fails.
     fn unsupported(&self) -> Error
         ensures { result ≡ error_at CannotRead (reader_position (slice_state self.now.inner)) }
     {
@@ -57,10 +59,10 @@ impl<'a> Reader for CopyingReader<'a> {
 
     type Lent = &'a [u8];
 
-    // what it means is what the reader below means
+    // its state is that of the inner reader
     ghost state = { λ r. slice_state r.inner };
 
-    // it vows no more than its answers, so it may refuse where no table says so
+    // it promises nothing beyond its clauses, so it may fail where no spec says so
     ghost reliable = { false };
 
     ghost lends = { false };
@@ -118,7 +120,7 @@ impl<'a> Reader for CopyingReader<'a> {
         self.inner.read_vec_in(alloc, len)
     }
 
-    // it reads into a buffer of its own; a flagged zero is one read of no octets
+    // it reads in steps of 16 octets into a buffer; 0 octets are no read
     fn drain(&mut self, amount: Length) -> Result<(), Error> {
         if amount == Length::ZERO {
             return Ok(());
@@ -148,7 +150,8 @@ impl<'a> Reader for CopyingReader<'a> {
         self.inner.leave_nested(resumption);
     }
 
-    // the laws: those of the reader below, and that a reader which lends nothing is not reliable
+    // the laws: those of the inner reader, and that a reader which returns no slices is not
+    // reliable
     ghost sound_state = { λ r. record {
       ordered = r.inner.ordered;
       in_input = r.inner.in_input;

@@ -1,10 +1,11 @@
-//! A SEQUENCE, read by a function.
+//! A SEQUENCE that is read by a function.
 ghost use Rattle.std.specs.Prelude.{◌≡◌};
 ghost use Rattle.der.specs.Prelude.{Same, slice_state};
 
 use der::{Error, Reader, ReaderExt, SliceReader, Tag, decode_header};
 
-/// The contents of the OCTET STRING that is all of the SEQUENCE that is all of the octets.
+/// Reads the octets as exactly one SEQUENCE that holds exactly one OCTET STRING, and returns its
+/// contents.
 pub fn wrapped_octets(octets: &[u8]) -> Result<&[u8], Error> {
     let mut reader = SliceReader::new(octets)?;
     let contents = reader.sequence(read_octet_string)?;
@@ -12,8 +13,8 @@ pub fn wrapped_octets(octets: &[u8]) -> Result<&[u8], Error> {
     Ok(contents)
 }
 
-// A closure that lends a slice is left open by the checker; a named function is not. What it has
-// to promise is that it hands back the same reader.
+// A named function, because the checker does not support a closure that returns a slice of the
+// input. It only has to promise that it leaves the same reader.
 fn read_octet_string<'a>(reader: &mut SliceReader<'a>) -> Result<&'a [u8], Error>
     ensures { Same (slice_state reader.old) (slice_state reader.new) }
 {

@@ -1,4 +1,4 @@
-//! A SET OF OCTET STRING: its elements stand in the order of their encodings (X.690 11.6).
+//! A SET OF OCTET STRING: its elements are in the order of their encodings (X.690 11.6).
 ghost use Rattle.std.specs.Prelude.{◌≡◌, ◌+◌, ◌++◌, ◌^◌, ◌<◌, ◌≤◌, ◌⊎◌, ℕ, List, length, Err, IfOk, IsOk, IsErrAnd, OnOk, IsPermutation};
 ghost use Rattle.der.specs.Prelude.{checked_length, error_at, error_of_kind, header_octets, number, IsBefore, byte_order, Set, map_ok, Reads, Same, reader_position, rest_of, slice_state};
 ghost use Rattle.der.specs.ErrorKinds.{Overflow, OutOfMemory, SetOrdering};
@@ -13,12 +13,12 @@ use der::{
 use std::alloc::Global;
 use std::cmp::Ordering;
 
-/// The encoding of a SET OF the elements, which are sorted for it.
+/// The encoding of a SET OF these elements, which are sorted first.
 ///
 /// # Errors
 ///
-/// - `Overflow` without a position, where the contents have more than 4294967295 octets.
-/// - `OutOfMemory` without a position, where memory is refused.
+/// - `Overflow` without a position if the contents have more than 4294967295 octets.
+/// - `OutOfMemory` without a position if an allocation fails.
 pub fn set_of_der(alloc: Global, elements: &mut [BorrowedOctets<'_>]) -> Result<Vec<u8>, Error>
     ensures same { IsPermutation elements.old elements.new }
     ensures sorted { Ascend (octets_of elements.new) }
@@ -44,7 +44,7 @@ fn encoding_order(a: &BorrowedOctets<'_>, b: &BorrowedOctets<'_>) -> Ordering
     }
 }
 
-// The encoding of a SET of the elements, in the order in which they stand.
+// The encoding of a SET of the elements in their present order.
 fn ordered_der(alloc: Global, elements: &[BorrowedOctets<'_>]) -> Result<Vec<u8>, Error>
     ensures ok { IfOk result (λ v. v.items ≡ set_octets (octets_of elements.now)) }
     ensures succeeds { length (joined_strings (octets_of elements.now)) < 2 ^ 32
@@ -59,7 +59,7 @@ fn ordered_der(alloc: Global, elements: &[BorrowedOctets<'_>]) -> Result<Vec<u8>
     Ok(out)
 }
 
-// How many octets the encodings of the elements have.
+// The number of octets of the encodings of the elements.
 fn encoded_len_of(elements: &[BorrowedOctets<'_>]) -> Result<Length, Error>
     ensures { result ≡ checked_length (length (joined_strings (octets_of elements.now))) }
 {
@@ -84,20 +84,19 @@ fn write_all(elements: &[BorrowedOctets<'_>], out: &mut Vec<u8>) -> Result<(), E
     Ok(())
 }
 
-/// The contents of the SET OF OCTET STRING whose encoding the octets are, all of them. No
-/// memory is taken.
+/// Reads the octets as exactly one SET OF OCTET STRING, and returns its contents. Allocates
+/// nothing.
 ///
 /// # Errors
 ///
-/// - `Overflow` without a position, where there are more than 4294967295 octets.
+/// - `Overflow` without a position if there are more than 4294967295 octets.
 /// - Those of the header, as by [`Header::decode`](der::Decode::decode), and `TagUnexpected`
-///   without a position, where it is not that of a SET.
-/// - `Overflow` and `Incomplete` of contents that are not all there, as by
-///   [`Reader::enter_nested`].
+///   without a position if it is not that of a SET.
+/// - `Overflow` and `Incomplete` if the contents are truncated, as by [`Reader::enter_nested`].
 /// - Those of an element, as by [`ReaderExt::decode`].
-/// - `SetOrdering` at the position where the first element begins that comes before the one ahead
-///   of it (X.690 11.6); equal ones may follow each other.
-/// - `TrailingData` at the position behind the SET, where octets are left.
+/// - `SetOrdering` at the position of the first element that comes before the one preceding it
+///   (X.690 11.6); equal ones may follow each other.
+/// - `TrailingData` at the position after the SET if octets are left.
 pub fn set_of_contents(alloc: Global, octets: &[u8]) -> Result<&[u8], Error>
     ensures ok { IfOk result (λ r. (strings : List (List ℕ)) × Ascend strings
         × (octets.now ≡ set_octets strings) × (r.now ≡ joined_strings strings)) }
@@ -114,7 +113,7 @@ pub fn set_of_contents(alloc: Global, octets: &[u8]) -> Result<&[u8], Error>
     Ok(contents)
 }
 
-// The length of the contents of the SET ahead; its header is passed.
+// The length of the contents of the next SET, whose header is consumed.
 fn set_header(reader: &mut SliceReader<'_>) -> Result<Length, Error>
     requires { IsReady 0 (slice_state reader.old) }
     ensures same { Same (slice_state reader.old) (slice_state reader.new) }
@@ -128,8 +127,7 @@ fn set_header(reader: &mut SliceReader<'_>) -> Result<Length, Error>
     Ok(header.length())
 }
 
-// Passes contents of so many octets, which are elements of which none comes before the one ahead of
-// it.
+// Consumes `len` octets of contents, which are elements in ascending order.
 fn pass_contents(alloc: Global, reader: &mut SliceReader<'_>, len: Length) -> Result<(), Error>
     requires { IsReady 2 (slice_state reader.old) }
     ensures same { Same (slice_state reader.old) (slice_state reader.new) }
@@ -146,7 +144,7 @@ fn pass_contents(alloc: Global, reader: &mut SliceReader<'_>, len: Length) -> Re
     })
 }
 
-// Passes the elements up to the end, of which none may come before the one ahead of it.
+// Consumes the elements up to the end, which must be in ascending order.
 fn pass_elements(alloc: Global, reader: &mut SliceReader<'_>) -> Result<(), Error>
     requires { IsReady 1 (slice_state reader.old) }
     ensures same { Same (slice_state reader.old) (slice_state reader.new) }
@@ -162,7 +160,7 @@ fn pass_elements(alloc: Global, reader: &mut SliceReader<'_>) -> Result<(), Erro
     Ok(())
 }
 
-// The next element, which may not come before the one ahead of it.
+// The next element, which must not come before the preceding one.
 #[inline(always)]
 fn next_behind<'a>(
     alloc: Global,

@@ -1,4 +1,4 @@
-//! A type of a user's own that has three values alone: a version, as an INTEGER of one octet.
+//! A user-defined type with just three values: a version, as an INTEGER of one octet.
 ghost use Rattle.std.specs.Prelude.{◌≡◌, false};
 ghost use Rattle.der.specs.Prelude.{Integer};
 ghost use Rattle.der_uses.specs.Version.{IsVersion, TakesVersion, VersionRead, VersionWritten, version_contents, version_lawful, version_number, version_size};
@@ -12,11 +12,11 @@ use std::alloc::Global;
 /// A version of a certificate (RFC 5280, 4.1.2.1).
 #[derive(Clone, Copy, Debug, PartialEq, Eq)]
 pub enum Version {
-    /// It is written as 0.
+    /// Written as 0.
     V1,
-    /// It is written as 1.
+    /// Written as 1.
     V2,
-    /// It is written as 2.
+    /// Written as 2.
     V3,
 }
 
@@ -68,7 +68,7 @@ impl Lawful for Version {
 /// # Errors
 ///
 /// - `Failed`, `Overflow` and `Incomplete`, as by [`ReaderExt::read_byte`].
-/// - `Value` behind an octet that is no version; the reader has failed then.
+/// - `Value` after an octet that is no version; the reader has failed then.
 impl<R: Reader> DecodeValue<R> for Version {
     type Error = Error;
 

@@ -1,10 +1,10 @@
-//! A writer of a user's own: one that collects what is written.
+//! A user-defined writer: one that collects what is written.
 ghost use Rattle.std.specs.Prelude.{◌≡◌, ◌++◌, true, false, [], OnOk};
 ghost use Rattle.der.specs.Prelude.{tag_octets};
 
 use der::{Encode, Error, ErrorKind, Tag, Writer};
 
-/// What was written, in a vector that grows.
+/// The octets that were written, in a growing vector.
 #[derive(Drop)]
 pub struct Collected {
     /// The octets.
@@ -12,8 +12,8 @@ pub struct Collected {
 }
 
 impl Writer for Collected {
-    // It has no buffer, and nobody knows how much it takes: so it begins at 0, stops at 0, and
-    // counts as failed, which promises nothing of what it takes.
+    // It has no buffer, and how much it can hold is unknown: so it begins at 0, stops at 0 and
+    // counts as failed, which promises nothing about what fits.
     ghost state = { λ w. record {
       octets = w.octets.items;
       behind = [];
@@ -34,7 +34,7 @@ impl Writer for Collected {
     }
 }
 
-/// Writes a tag behind what was collected.
+/// Writes a tag after what was collected.
 pub fn collect_tag(tag: &Tag, out: &mut Collected) -> Result<(), Error>
     ensures { OnOk result (out.new.octets.items ≡ out.old.octets.items ++ tag_octets tag.now) }
 {

@@ -12,8 +12,8 @@ use std::alloc::{AllocError, Global};
 use std::fmt::Write;
 use x509::{Certificate, Extension, Extensions, TbsCertificate};
 
-/// Writes a line for each field, in the words of `openssl x509 -text`. The offsets are those of the
-/// octets that the certificate was read from.
+/// Writes one line per field, in the words of `openssl x509 -text`. `offsets` must be at the start
+/// of the octets that the certificate was read from.
 pub fn write_certificate(
     alloc: Global,
     text: &mut String,
@@ -36,7 +36,7 @@ pub fn write_certificate(
     write_warnings(text, certificate, offsets)
 }
 
-/// Writes a line for each rule that the certificate breaks, of those that reading does not ask for.
+/// Writes one line for each rule that the certificate breaks although reading accepts it.
 fn write_warnings(
     text: &mut String,
     certificate: &Certificate<'_>,
@@ -61,7 +61,7 @@ fn write_head(
 ) -> Result<(), AllocError> {
     let version = tbs.version.0.0.octets();
     if version == [0].as_slice() {
-        // a default, which no element tells
+        // a default, which has no element
         offsets.put_none(text)?;
     } else {
         offsets.put(text)?;
@@ -100,8 +100,8 @@ fn write_parties(
     text.push('\n')
 }
 
-/// Writes a serial number in hexadecimal: a positive one without the octet of zeros that its sign
-/// may need, and a negative one in two's complement.
+/// Writes a serial number in hexadecimal: a positive one without a leading zero octet, and a
+/// negative one in two's complement.
 fn write_serial_number(text: &mut String, number: &IntRef<'_>) -> Result<(), AllocError> {
     match number.octets() {
         [0, second, rest @ ..] => {
@@ -139,7 +139,7 @@ pub fn write_signature(
     writeln!(text, "Signature Value: {signature_len} octets")
 }
 
-/// Writes the line of a unique identifier, where there is one.
+/// Writes the line of a unique identifier, if there is one.
 fn write_unique_id<const N: u32>(
     text: &mut String,
     of: &str,
@@ -175,8 +175,8 @@ fn write_extensions(
     Ok(())
 }
 
-/// Writes the line of an extension: its identifier, whether it is critical, and how many octets its
-/// value has, in which nothing is looked at.
+/// Writes the line of an extension: its identifier, whether it is critical, and the number of
+/// octets of its value, which is not parsed.
 fn write_extension(text: &mut String, extension: &Extension<'_>) -> Result<(), AllocError> {
     text.push_str("    ")?;
     write_identifier(text, &extension.extn_id)?;

@@ -7,11 +7,11 @@ use std::alloc::AllocError;
 use std::fmt::Write;
 use std::str;
 
-/// How many octets are shown of contents that are not text.
+/// How many octets are printed of contents that are not text.
 const SHOWN_OCTETS: usize = 32;
 
-/// Writes what is in an element: an identifier by its arcs, text as it is, and octets of anything
-/// else in hexadecimal, of which the first 32.
+/// Writes the contents of an element: an object identifier by its arcs, text unchanged, and the
+/// first 32 octets of anything else in hexadecimal.
 pub fn write_contents(text: &mut String, tag: Tag, contents: &[u8]) -> Result<(), AllocError> {
     if tag == Tag::ObjectIdentifier {
         if let Some(oid) = ObjectIdentifierRef::new(contents) {
@@ -24,8 +24,8 @@ pub fn write_contents(text: &mut String, tag: Tag, contents: &[u8]) -> Result<()
     }
 }
 
-/// The text that the contents of a string or a time are, where a line can show it: UTF-8 without
-/// control characters.
+/// The contents of a string or a time as text, if they fit on a line: UTF-8 without control
+/// characters.
 pub fn shown_text(tag: Tag, contents: &[u8]) -> Option<&str> {
     match tag {
         Tag::Utf8String
@@ -42,7 +42,7 @@ pub fn shown_text(tag: Tag, contents: &[u8]) -> Option<&str> {
     }
 }
 
-/// Writes octets in upper case hexadecimal.
+/// Writes octets in upper-case hexadecimal.
 pub fn write_octets(text: &mut String, octets: &[u8]) -> Result<(), AllocError> {
     for octet in octets {
         write!(text, "{octet:02X}")?;
@@ -50,7 +50,7 @@ pub fn write_octets(text: &mut String, octets: &[u8]) -> Result<(), AllocError> 
     Ok(())
 }
 
-/// Writes the first octets, and points where there are more.
+/// Writes the first octets in hexadecimal, followed by `..` if there are more.
 pub fn write_first_octets(text: &mut String, octets: &[u8]) -> Result<(), AllocError> {
     match octets.get(..SHOWN_OCTETS) {
         Some(first) if octets.len() > SHOWN_OCTETS => {

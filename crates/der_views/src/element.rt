@@ -1,8 +1,8 @@
-//! Elements, by positions in all of the octets.
+//! Elements with their positions in the input.
 
 use der::{EncodingRules, Error, Header, Length, Reader, SliceReader, decode_header, read_eoc};
 
-/// An element, and where it stands.
+/// An element and its positions in the input.
 #[derive(Clone, Copy)]
 pub struct Element<'a> {
     /// Its header.
@@ -11,16 +11,16 @@ pub struct Element<'a> {
     pub start: u32,
     /// Where its contents begin.
     pub contents_start: u32,
-    /// Its contents, without an end mark.
+    /// Its contents, without end-of-contents octets.
     pub contents: &'a [u8],
     /// Where its contents end.
     pub contents_end: u32,
-    /// Where it ends, behind an end mark.
+    /// Where it ends, after any end-of-contents octets.
     pub end: u32,
 }
 
 impl<'a> Element<'a> {
-    /// The element that begins at a position and may go to an end.
+    /// Reads the element at position `start`, which must not pass `end`.
     pub fn read(
         octets: &'a [u8],
         start: u32,

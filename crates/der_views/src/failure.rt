@@ -1,14 +1,14 @@
-//! Why a text is not written.
+//! Why printing stops.
 
 use der::Error;
 use std::alloc::AllocError;
 
-/// Why a text is not written to its end.
+/// Why a text is not complete.
 #[derive(Drop)]
 pub enum Failure {
-    /// The octets are refused.
+    /// The octets are not accepted.
     Refused(Error),
-    /// Memory was refused.
+    /// An allocation failed.
     OutOfMemory,
 }
 

@@ -14,7 +14,7 @@ use spki::SubjectPublicKeyInfoRef;
 use std::alloc::Global;
 use x509::{CertReq, Certificate};
 
-/// Writes a line for each field of what the octets are meant to be, or which of them is refused.
+/// Writes one line per field of the expected type, or the field that failed.
 pub fn write_fields(
     alloc: Global,
     text: &mut String,
@@ -29,7 +29,7 @@ pub fn write_fields(
     }
 }
 
-/// Writes the fields of what is read.
+/// Writes the fields of octets that are a value of the expected type.
 fn write_accepted(
     alloc: Global,
     text: &mut String,
@@ -58,7 +58,7 @@ fn write_accepted(
     Ok(())
 }
 
-/// The value that the octets are.
+/// Reads the octets as exactly one value.
 fn read<'a, T: Decode<SliceReader<'a>, Error = Error>>(
     alloc: Global,
     octets: &'a [u8],

@@ -5,7 +5,7 @@ use der_asn1::ObjectIdentifierRef;
 use std::alloc::AllocError;
 use std::fmt::Write;
 
-/// Writes the name of an identifier where it has one here, and its arcs.
+/// Writes an object identifier: its name, if `name_of` knows one, and its arcs.
 pub fn write_identifier(
     text: &mut String,
     oid: &ObjectIdentifierRef<'_>,
@@ -20,7 +20,8 @@ pub fn write_identifier(
     }
 }
 
-/// Writes the arcs of an identifier, with points between them; `?` for one of more than 32 bits.
+/// Writes the arcs of an object identifier, separated by dots, with `?` for an arc of more than 32
+/// bits.
 pub fn write_arcs(text: &mut String, oid: &ObjectIdentifierRef<'_>) -> Result<(), AllocError> {
     let mut is_first = true;
     for arc in oid.arcs() {

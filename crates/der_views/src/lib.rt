@@ -1,5 +1,5 @@
-//! What the program `der_show` tells of a file: the fields of a certificate, a request or a key, a
-//! line for each, or which of them is refused; and of any other DER or BER a line for each element.
+//! What the program `der_show` prints for a file: the fields of a certificate, a request or a key,
+//! one per line, or the field that failed; and for any other DER or BER one line per element.
 #![tactic(auto)]
 
 mod certificate;

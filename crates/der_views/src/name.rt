@@ -6,7 +6,7 @@ use crate::names::name_of;
 use std::alloc::{AllocError, Global};
 use x509::{AttributeTypeAndValue, Name, RelativeDistinguishedName};
 
-/// Writes a name, its levels from the outermost, with commas between them.
+/// Writes a name: its levels from the outermost, separated by commas.
 pub fn write_name(alloc: Global, text: &mut String, name: &Name<'_>) -> Result<(), AllocError> {
     let mut levels = name.levels.items();
     for at in 0..name.levels.octets().len() {
@@ -39,7 +39,7 @@ fn write_level(
     Ok(())
 }
 
-/// Writes an attribute: its type, and its value as text, or in hexadecimal behind `#`.
+/// Writes an attribute: its type, and its value as text, or in hexadecimal after `#`.
 fn write_attribute(
     text: &mut String,
     attribute: &AttributeTypeAndValue<'_>,
@@ -59,7 +59,7 @@ fn write_attribute(
     }
 }
 
-/// Writes text, with a backslash before what has a meaning in a name (RFC 4514, 2.4).
+/// Writes text, with a backslash before each character that is special in a name (RFC 4514, 2.4).
 fn write_escaped(text: &mut String, shown: &str) -> Result<(), AllocError> {
     for c in shown.chars() {
         if matches!(c, ',' | '+' | '"' | '\\' | '<' | '>' | ';' | '#' | '=') {

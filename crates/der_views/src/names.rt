@@ -1,6 +1,6 @@
 //! Names of object identifiers.
 
-/// The name that openssl gives an object identifier, of the contents of its element.
+/// The name that openssl gives the object identifier with these contents.
 pub fn name_of(octets: &[u8]) -> Option<&'static str> {
     match octets {
         [0x55, 0x04, last] => attribute_name(*last),

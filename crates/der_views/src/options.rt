@@ -1,29 +1,29 @@
-//! Words of the command line.
+//! The command line.
 
 use der::EncodingRules;
 
-/// What the words ask for.
+/// The options of the command line.
 #[derive(Clone, Copy)]
 pub struct Options {
-    /// The rules that the octets are read by.
+    /// The encoding rules of the octets.
     pub rules: EncodingRules,
-    /// Whether each line tells where its element begins.
+    /// Whether each line begins with the offset of its element.
     pub has_offsets: bool,
-    /// Whether the elements are shown, whatever the octets are.
+    /// Whether to print elements, whatever type the octets have.
     pub is_tree: bool,
 }
 
-/// What to read, and how it is shown.
+/// What to read, and how to print it.
 #[derive(Clone, Copy)]
 pub struct Command<'a> {
-    /// How it is shown.
+    /// How to print it.
     pub options: Options,
-    /// The file; none for standard input.
+    /// The file, or `None` for standard input.
     pub file: Option<&'a str>,
 }
 
 impl<'a> Command<'a> {
-    /// The command of the words, where they are options and at most one file behind them.
+    /// The command of these words, if they are options and then at most one file.
     pub fn parse(words: &'a [String]) -> Option<Self> {
         let mut options = Options {
             rules: EncodingRules::Der,

@@ -9,7 +9,7 @@ use pkcs8::PrivateKeyInfo;
 use std::alloc::AllocError;
 use std::fmt::Write;
 
-/// Writes a line for each field of a private key: of the key itself only how many octets it has.
+/// Writes one line per field of a private key; of the key itself, only its number of octets.
 pub fn write_private_key(
     text: &mut String,
     key: &PrivateKeyInfo<'_>,

@@ -1,4 +1,4 @@
-//! The program, over its arguments, files and an output.
+//! The program as a function of its arguments, files and an output.
 
 use crate::failure::Failure;
 use crate::options::{Command, Options};
@@ -12,9 +12,9 @@ use std::{fs, io};
 
 const USAGE: &str = "usage: der_show [--offsets] [--tree] [--ber] [FILE]\n";
 
-/// Tells the file that the arguments name, or standard input, on the output, and gives the status:
-/// 0 where the octets are told, 1 where they are refused or not read, memory is refused or the
-/// output fails, and 2 where the words are no command. The first argument is the program's name.
+/// Prints the file that the arguments name, or standard input, and returns the status: 0 on
+/// success, 1 if the octets are not accepted or cannot be read, an allocation fails or the output
+/// fails, and 2 if the words are not a command. The first argument is the name of the program.
 pub fn run_arguments<R: Files + Input + AllocGlobal, W: Write>(
     rt: &R,
     given: io::Result<Args>,
@@ -44,7 +44,7 @@ fn run<R: Files + Input + AllocGlobal, W: Write>(rt: &R, command: Command<'_>, o
     }
 }
 
-/// The octets of the file, or of standard input.
+/// Reads the file, or standard input.
 fn read_octets<R: Files + Input + AllocGlobal>(rt: &R, file: Option<&str>) -> io::Result<Vec<u8>> {
     match file {
         Some(path) => fs::read(rt, path),
@@ -56,8 +56,8 @@ fn read_octets<R: Files + Input + AllocGlobal>(rt: &R, file: Option<&str>) -> io
     }
 }
 
-/// The text that is told of the octets, and the status. Behind what is told of octets that are
-/// refused stands a line of the error.
+/// The text and the status for these octets. On an error of the octets, the text ends with an error
+/// line.
 fn view(alloc: Global, octets: &[u8], options: Options) -> Result<(String, u8), AllocError> {
     let mut text = String::new(alloc);
     match write_view(alloc, &mut text, octets, options) {
@@ -74,7 +74,7 @@ fn error_line(alloc: Global, error: Error) -> Result<String, AllocError> {
     format!(in alloc; "error: {error}\n")
 }
 
-/// Puts the text out, and gives the status, or 1 where the output fails.
+/// Prints the text, and returns the status, or 1 if the output fails.
 fn say<W: Write>(text: &str, status: u8, out: &mut W) -> u8 {
     match put(text, out) {
         Ok(()) => status,

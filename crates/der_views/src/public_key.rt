@@ -15,7 +15,7 @@ const RSA: &[u8] = &[0x2a, 0x86, 0x48, 0x86, 0xf7, 0x0d, 0x01, 0x01, 0x01];
 /// id-ecPublicKey (RFC 5480, 2.1.1).
 const ELLIPTIC_CURVE: &[u8] = &[0x2a, 0x86, 0x48, 0xce, 0x3d, 0x02, 0x01];
 
-/// Writes the lines of a public key: its algorithm, its size and the curve that it names.
+/// Writes the lines of a public key: its algorithm, its size and its named curve.
 pub fn write_public_key(
     text: &mut String,
     key: &SubjectPublicKeyInfoRef<'_>,
@@ -36,7 +36,7 @@ pub fn write_public_key(
     write_curve(text, &key.algorithm, &mut parameters)
 }
 
-/// How many bits a key of an algorithm that is known here is said to have.
+/// The nominal size of a key in bits, if its algorithm and curve are known here.
 fn key_bits(key: &SubjectPublicKeyInfoRef<'_>, octets: &[u8]) -> Option<u64> {
     let algorithm = key.algorithm.oid.octets();
     if algorithm == RSA {
@@ -50,7 +50,7 @@ fn key_bits(key: &SubjectPublicKeyInfoRef<'_>, octets: &[u8]) -> Option<u64> {
     None
 }
 
-/// How many bits the order of a named curve has (RFC 5480, 2.1.1.1).
+/// The number of bits of the order of a named curve (RFC 5480, 2.1.1.1).
 fn curve_bits(curve: &[u8]) -> Option<u64> {
     match curve {
         [0x2a, 0x86, 0x48, 0xce, 0x3d, 0x03, 0x01, 0x07] => Some(256),
@@ -60,8 +60,8 @@ fn curve_bits(curve: &[u8]) -> Option<u64> {
     }
 }
 
-/// Writes the line of the curve that the parameters of an algorithm name, where it is that of
-/// elliptic curves. The offsets are those of the algorithm's element.
+/// Writes the line of the curve that the parameters name, if the algorithm is that of elliptic
+/// curves. `offsets` must be at the element of the algorithm.
 pub fn write_curve(
     text: &mut String,
     algorithm: &AlgorithmIdentifierRef<'_>,
@@ -89,7 +89,7 @@ pub fn write_curve(
     text.push('\n')
 }
 
-/// How many bits the modulus has, of an RSAPublicKey (RFC 8017, A.1.1).
+/// The number of bits of the modulus of an RSAPublicKey (RFC 8017, A.1.1).
 fn modulus_bits(octets: &[u8]) -> Result<u64, Error> {
     let mut reader = SliceReader::new(octets)?;
     let key = decode_header(&mut reader)?;
@@ -99,7 +99,7 @@ fn modulus_bits(octets: &[u8]) -> Result<u64, Error> {
     Ok(bit_count(reader.read_slice(modulus.length())?))
 }
 
-/// How many bits a natural number has, whose octets begin with no more than one of zeros.
+/// The number of bits of a natural number with at most one leading zero octet.
 fn bit_count(octets: &[u8]) -> u64 {
     match octets {
         [0, rest @ ..] => bits_from_first(rest),

@@ -1,4 +1,4 @@
-//! What is told of a certificate, a request or a key that is refused.
+//! The report on a certificate, a request or a key that is not accepted.
 
 use crate::failure::Failure;
 use crate::refused_certificate::search_certificate;
@@ -11,8 +11,8 @@ use der::Error;
 use std::alloc::{AllocError, Global};
 use std::fmt::Write;
 
-/// Writes a line with the innermost field that is refused, where one is, by its path and where it
-/// begins in the file; and gives its error.
+/// Writes a line with the path and the offset of the innermost field that failed, if one did, and
+/// returns its error.
 pub fn refuse(
     alloc: Global,
     text: &mut String,

@@ -10,7 +10,7 @@ use der_asn1::{
 };
 use x509::{Extension, Extensions, TbsCertificate, Time, Validity, Version};
 
-/// Looks inside a certificate that is refused.
+/// Searches a certificate for the field that fails.
 pub fn search_certificate(search: &mut Search<'_>) {
     let _found = search.enter(Tag::Sequence)
         && (search_signed(search)
@@ -18,7 +18,7 @@ pub fn search_certificate(search: &mut Search<'_>) {
             || search_bits(search, "signatureValue"));
 }
 
-/// A TBSCertificate.
+/// Searches a TBSCertificate.
 fn search_signed(search: &mut Search<'_>) -> bool {
     if !search.is_refused::<TbsCertificate<'_>>("tbsCertificate") {
         return false;
@@ -27,7 +27,7 @@ fn search_signed(search: &mut Search<'_>) -> bool {
     true
 }
 
-/// Its first fields.
+/// Searches the fields before the subject.
 fn search_issued(search: &mut Search<'_>) -> bool {
     search.is_refused::<Defaulted<Explicit<Version<'_>, 0>>>("version")
         || search.is_refused::<IntRef<'_>>("serialNumber")
@@ -36,7 +36,7 @@ fn search_issued(search: &mut Search<'_>) -> bool {
         || search_validity(search)
 }
 
-/// Its fields from the subject on.
+/// Searches the fields from the subject on.
 fn search_subject(search: &mut Search<'_>) -> bool {
     search_name(search, "subject")
         || search_key(search, "subjectPublicKeyInfo")
@@ -45,7 +45,7 @@ fn search_subject(search: &mut Search<'_>) -> bool {
         || search_extensions(search)
 }
 
-/// A validity, with its times.
+/// Searches a validity and its times.
 fn search_validity(search: &mut Search<'_>) -> bool {
     if !search.is_refused::<Validity>("validity") {
         return false;
@@ -59,7 +59,7 @@ fn search_time(search: &mut Search<'_>, name: &str) -> bool {
     search.is_refused::<Time>(name)
 }
 
-/// Extensions, where there are some, and the fields of each.
+/// Searches the extensions, if there are any, and the fields of each.
 fn search_extensions(search: &mut Search<'_>) -> bool {
     if !search.is_refused::<Optional<Explicit<Extensions<'_>, 3>>>("extensions") {
         return false;

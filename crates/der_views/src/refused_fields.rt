@@ -1,6 +1,7 @@
-//! Fields that stand in several formats, by the names of RFC 5280, 4.1. A function, here and in its
-//! neighbours, that answers something tells whether the field ahead is refused. It looks inside one
-//! that is, and passes one that is not.
+//! Fields that occur in several formats, with the names of RFC 5280, 4.1.
+//!
+//! A function of this module and its neighbours that returns `bool` returns whether the next field
+//! fails. It searches inside a field that fails, and skips one that does not.
 
 use crate::search::Search;
 use der::Tag;
@@ -8,22 +9,22 @@ use der_asn1::{AnyRef, BitStringRef, Implicit, ObjectIdentifierRef, Optional};
 use spki::{AlgorithmIdentifierRef, SubjectPublicKeyInfoRef};
 use x509::{AttributeTypeAndValue, Name, RelativeDistinguishedName};
 
-/// An OBJECT IDENTIFIER.
+/// Searches an OBJECT IDENTIFIER.
 pub fn search_identifier(search: &mut Search<'_>, name: &str) -> bool {
     search.is_refused::<ObjectIdentifierRef<'_>>(name)
 }
 
-/// A BIT STRING.
+/// Searches a BIT STRING.
 pub fn search_bits(search: &mut Search<'_>, name: &str) -> bool {
     search.is_refused::<BitStringRef<'_>>(name)
 }
 
-/// A BIT STRING behind `[1]`, where there is one.
+/// Searches an optional BIT STRING with the implicit tag `[1]`.
 pub fn search_first_bits(search: &mut Search<'_>, name: &str) -> bool {
     search.is_refused::<Optional<Implicit<BitStringRef<'_>, 1>>>(name)
 }
 
-/// An algorithm.
+/// Searches an algorithm.
 pub fn search_algorithm(search: &mut Search<'_>, name: &str) -> bool {
     if !search.is_refused::<AlgorithmIdentifierRef<'_>>(name) {
         return false;
@@ -34,7 +35,7 @@ pub fn search_algorithm(search: &mut Search<'_>, name: &str) -> bool {
     true
 }
 
-/// A public key.
+/// Searches a public key that is a field.
 pub fn search_key(search: &mut Search<'_>, name: &str) -> bool {
     if !search.is_refused::<SubjectPublicKeyInfoRef<'_>>(name) {
         return false;
@@ -43,13 +44,13 @@ pub fn search_key(search: &mut Search<'_>, name: &str) -> bool {
     true
 }
 
-/// The same of a key that is refused.
+/// Searches a public key that is the whole input and fails.
 pub fn search_public_key(search: &mut Search<'_>) {
     let _found = search.enter(Tag::Sequence)
         && (search_algorithm(search, "algorithm") || search_bits(search, "subjectPublicKey"));
 }
 
-/// A name, with its levels and their attributes.
+/// Searches a name, with its levels and their attributes.
 pub fn search_name(search: &mut Search<'_>, name: &str) -> bool {
     if !search.is_refused::<Name<'_>>(name) {
         return false;

@@ -1,4 +1,4 @@
-//! Fields of a private key, by the names of RFC 5958, 2.
+//! Fields of a private key, with the names of RFC 5958, 2.
 
 use crate::refused_fields::{search_algorithm, search_first_bits};
 use crate::search::Search;
@@ -6,7 +6,7 @@ use der::Tag;
 use der_asn1::{Implicit, OctetStringRef, Optional};
 use pkcs8::{Attributes, Version};
 
-/// Looks inside a private key that is refused.
+/// Searches a private key for the field that fails.
 pub fn search_private_key(search: &mut Search<'_>) {
     let _found = search.enter(Tag::Sequence)
         && (search.is_refused::<Version<'_>>("version")

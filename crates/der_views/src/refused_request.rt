@@ -1,4 +1,4 @@
-//! Fields of a request, by the names of RFC 2986, 4.
+//! Fields of a request, with the names of RFC 2986, 4.
 
 use crate::refused_fields::{
     search_algorithm, search_bits, search_identifier, search_key, search_name,
@@ -8,7 +8,7 @@ use der::{Tag, TagNumber};
 use der_asn1::{AnyRef, Implicit};
 use x509::{Attribute, AttributeValues, Attributes, CertReqInfo, CertReqVersion};
 
-/// Looks inside a request that is refused.
+/// Searches a request for the field that fails.
 pub fn search_request(search: &mut Search<'_>) {
     let _found = search.enter(Tag::Sequence)
         && (search_info(search)
@@ -16,7 +16,7 @@ pub fn search_request(search: &mut Search<'_>) {
             || search_bits(search, "signature"));
 }
 
-/// A CertificationRequestInfo.
+/// Searches a CertificationRequestInfo.
 fn search_info(search: &mut Search<'_>) -> bool {
     if !search.is_refused::<CertReqInfo<'_>>("certificationRequestInfo") {
         return false;
@@ -29,7 +29,7 @@ fn search_info(search: &mut Search<'_>) -> bool {
     true
 }
 
-/// Attributes, and the fields of each.
+/// Searches attributes, and the fields of each.
 fn search_attributes(search: &mut Search<'_>) -> bool {
     if !search.is_refused::<Implicit<Attributes<'_>, 0>>("attributes") {
         return false;
@@ -45,7 +45,7 @@ fn search_attributes(search: &mut Search<'_>) -> bool {
     true
 }
 
-/// The values of an attribute.
+/// Searches the values of an attribute.
 fn search_values(search: &mut Search<'_>) -> bool {
     if !search.is_refused::<AttributeValues<'_>>("values") {
         return false;

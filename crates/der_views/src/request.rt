@@ -1,4 +1,4 @@
-//! Requests for certificates.
+//! Certification requests.
 
 use crate::certificate::{write_signature, write_signature_algorithm};
 use crate::identifier::write_identifier;
@@ -10,7 +10,7 @@ use std::alloc::{AllocError, Global};
 use std::fmt::Write;
 use x509::{Attributes, CertReq};
 
-/// Writes a line for each field, in the words of `openssl req -text`.
+/// Writes one line per field, in the words of `openssl req -text`.
 pub fn write_request(
     alloc: Global,
     text: &mut String,
@@ -32,8 +32,8 @@ pub fn write_request(
     write_signature(text, &request.signature, offsets)
 }
 
-/// Writes a line for each attribute: its identifier, and how many octets its values have, in which
-/// nothing is looked at.
+/// Writes one line per attribute: its identifier, and the number of octets of its values, which are
+/// not parsed.
 fn write_attributes(
     alloc: Global,
     text: &mut String,

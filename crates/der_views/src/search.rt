@@ -1,30 +1,29 @@
-//! A search for the field that is refused.
+//! A search for the field that makes a value fail.
 
 use der::{Decode, Error, Reader, ReaderExt, SliceReader, Tag, decode_header};
 use std::alloc::Global;
 use std::fmt::Write;
 
-/// A walk over the fields of a value that is refused, down to the innermost that is. Each field is
-/// read by its own type.
+/// A walk over the fields of a value that fails to decode, down to the innermost field that fails.
+/// Each field is decoded as its own type.
 #[derive(Drop)]
 pub struct Search<'a> {
     alloc: Global,
-    // Stands before the next field.
+    // At the next field.
     reader: SliceReader<'a>,
-    /// The error of the innermost field that was found to be refused, by positions in all of the
-    /// octets.
+    /// The error of the innermost failing field found so far, with positions in the whole input.
     pub error: Error,
-    /// The names of the fields that it stands in, and its own, with points between them; items of
-    /// lists by their place, from 0 on.
+    /// The names of the fields around that field, and its own, separated by dots; items of lists
+    /// have their index, from 0 on.
     pub path: String,
-    /// Where it begins.
+    /// The offset of that field.
     pub start: u32,
-    /// Whether memory was refused, so that the path is not whole.
+    /// Whether an allocation failed, so that the path is not complete.
     pub lacks_memory: bool,
 }
 
 impl<'a> Search<'a> {
-    /// A walk from the beginning of octets that are refused so.
+    /// A walk from the start of octets that fail to decode with this error.
     pub fn new(alloc: Global, octets: &'a [u8], error: Error) -> Result<Self, Error> {
         let reader = SliceReader::new(octets)?;
         Ok(Search {
@@ -37,8 +36,8 @@ impl<'a> Search<'a> {
         })
     }
 
-    /// Whether the field ahead, of this name, is refused. One that is not is passed; before one
-    /// that is, the walk stays.
+    /// Whether the next field, which has this name, fails to decode. The walk skips a field that
+    /// does not, and stays at one that does.
     pub fn is_refused<T: Decode<SliceReader<'a>, Error = Error>>(&mut self, name: &str) -> bool {
         if self.passes::<T>() {
             return false;
@@ -50,8 +49,8 @@ impl<'a> Search<'a> {
         true
     }
 
-    /// Whether one of the items of a list is refused, in whose contents the walk stands. It stays
-    /// before the first that is.
+    /// Whether an item of a list fails to decode. The walk must be at the start of the contents of
+    /// the list, and stays at the first item that fails.
     pub fn is_item_refused<T: Decode<SliceReader<'a>, Error = Error>>(&mut self) -> bool {
         for at in 0..u32::from(self.reader.remaining_len()) {
             if self.reader.is_finished() {
@@ -65,8 +64,8 @@ impl<'a> Search<'a> {
         false
     }
 
-    /// The same of a SET, which is refused for the order of its members where none of them is. The
-    /// position of that is told from the beginning of the SET's contents, and set right.
+    /// The same for a SET. If no member fails, the SET fails for the order of its members; the
+    /// position of that error is counted from the start of the contents, and is corrected here.
     pub fn is_member_refused<T: Decode<SliceReader<'a>, Error = Error>>(&mut self) -> bool {
         let order = self.error_from_here();
         if self.is_item_refused::<T>() {
@@ -76,8 +75,8 @@ impl<'a> Search<'a> {
         false
     }
 
-    /// Goes into the element ahead, and tells whether it did: where it has this tag, and its header
-    /// and its contents are all there.
+    /// Enters the next element. Returns false if it has another tag or its header or contents are
+    /// not valid and complete.
     pub fn enter(&mut self, tag: Tag) -> bool {
         match decode_header(&mut self.reader) {
             Ok(header) => header.tag() == tag && self.reader.enter_nested(header.length()).is_ok(),
@@ -85,7 +84,7 @@ impl<'a> Search<'a> {
         }
     }
 
-    /// The error, with its position counted from where the walk stands.
+    /// The error with its position counted from the position of the walk.
     fn error_from_here(&self) -> Error {
         let Some(position) = self.error.position() else {
             return self.error;
@@ -96,7 +95,7 @@ impl<'a> Search<'a> {
         }
     }
 
-    /// Passes the field ahead, or stays before it, with its error.
+    /// Skips the next field; or stays at it, and keeps its error, if it fails to decode.
     fn passes<T: Decode<SliceReader<'a>, Error = Error>>(&mut self) -> bool {
         let ahead = self.reader.fork();
         match self.reader.decode::<T>(self.alloc) {

@@ -1,9 +1,9 @@
-//! What octets are, as their outer elements tell.
+//! The expected type of octets, from the tags of their outer elements.
 
 use crate::element::Element;
 use der::{EncodingRules, Error, Length, Tag, TagNumber};
 
-/// What octets are meant to be. That they are it is not said.
+/// The type that octets are expected to have. They may still fail to decode as it.
 #[derive(Clone, Copy)]
 pub enum Shape {
     /// A certificate (RFC 5280, 4.1).
@@ -16,17 +16,17 @@ pub enum Shape {
     PrivateKey,
 }
 
-/// What octets are meant to be, by the tags of the elements in the SEQUENCE that they begin with.
-/// An *algorithm* is a SEQUENCE that begins with an OBJECT IDENTIFIER.
+/// The expected type of the octets, from the tags of the elements in the SEQUENCE that they begin
+/// with. An *algorithm* is a SEQUENCE that begins with an OBJECT IDENTIFIER.
 ///
 /// - A public key: an algorithm and a BIT STRING.
 /// - A private key: an INTEGER, an algorithm and an OCTET STRING.
-/// - A certificate: a SEQUENCE, an algorithm and a BIT STRING, where the first of them begins with
-///   `[0]`, or with an INTEGER, an algorithm and two SEQUENCEs.
-/// - A request: the same, where the first begins with an INTEGER, a SEQUENCE that is empty or
+/// - A certificate: a SEQUENCE, an algorithm and a BIT STRING, if the SEQUENCE begins with `[0]`,
+///   or with an INTEGER, an algorithm and two SEQUENCEs.
+/// - A request: the same, if the SEQUENCE begins with an INTEGER, a SEQUENCE that is empty or
 ///   begins with a SET, and another SEQUENCE.
 ///
-/// Nothing else is looked at, neither what is inside other elements nor what stands behind.
+/// Nothing else is checked: neither the inside of other elements nor what follows.
 pub fn shape_of(octets: &[u8]) -> Option<Shape> {
     match find_shape(octets) {
         Ok(shape) => shape,
@@ -56,7 +56,7 @@ fn find_shape(octets: &[u8]) -> Result<Option<Shape>, Error> {
     }
 }
 
-/// What is meant to be signed.
+/// The expected type of a signed structure, from the elements of its signed part.
 fn find_signed_shape(octets: &[u8], signed: &Element<'_>) -> Result<Option<Shape>, Error> {
     let first = first_in(octets, signed)?;
     if first.header.tag() == context_tag() {
@@ -77,7 +77,7 @@ fn find_signed_shape(octets: &[u8], signed: &Element<'_>) -> Result<Option<Shape
     Ok(None)
 }
 
-/// The tag `[0]` of an element around another.
+/// The constructed tag `[0]`.
 fn context_tag() -> Tag {
     Tag::ContextSpecific {
         constructed: true,
@@ -85,13 +85,13 @@ fn context_tag() -> Tag {
     }
 }
 
-/// The first element in another.
+/// The first element inside another.
 fn first_in<'a>(octets: &'a [u8], whole: &Element<'a>) -> Result<Element<'a>, Error> {
     let start = whole.contents_start;
     Element::read(octets, start, whole.contents_end, EncodingRules::Der)
 }
 
-/// The element behind one in another.
+/// The element after one inside another.
 fn next_in<'a>(
     octets: &'a [u8],
     whole: &Element<'a>,

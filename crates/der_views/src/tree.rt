@@ -1,4 +1,4 @@
-//! The elements of octets, a line for each.
+//! The elements of octets, one line each.
 
 use crate::contents::write_contents;
 use crate::element::Element;
@@ -8,10 +8,10 @@ use der::{Error, ErrorKind, Length};
 use std::alloc::{AllocError, Global};
 use std::fmt::Write;
 
-/// How many elements may stand around one.
+/// How many elements may be around one.
 const MAX_DEPTH: usize = 64;
 
-/// A constructed element that is looked into.
+/// A constructed element that was entered.
 #[derive(Clone, Copy)]
 struct Part {
     // Where its contents end.
@@ -20,7 +20,7 @@ struct Part {
     end: u32,
 }
 
-/// Writes a line for each element, each before what is inside it, to the first that is refused.
+/// Writes one line per element, each before those inside it, up to the first error.
 pub fn write_tree(
     alloc: Global,
     text: &mut String,
@@ -47,7 +47,7 @@ pub fn write_tree(
     Ok(())
 }
 
-/// Leaves each part that ends there, and gives where what is next begins.
+/// Leaves each part that ends at this position, and returns the position of the next element.
 fn climb(around: &mut Vec<Part>, mut position: u32) -> u32 {
     for _ in 0..=MAX_DEPTH {
         match around.last() {
@@ -61,7 +61,7 @@ fn climb(around: &mut Vec<Part>, mut position: u32) -> u32 {
     position
 }
 
-/// Looks into an element.
+/// Enters an element.
 fn enter(around: &mut Vec<Part>, element: &Element<'_>) -> Result<(), Failure> {
     if around.len() >= MAX_DEPTH {
         let error: Error = ErrorKind::NestingDepth.at(Length::new(element.start));
@@ -77,7 +77,8 @@ fn enter(around: &mut Vec<Part>, element: &Element<'_>) -> Result<(), Failure> {
     }
 }
 
-/// The line of an element inside so many others, in the words of `openssl asn1parse`.
+/// Writes the line of an element that is inside `depth` others, in the words of `openssl
+/// asn1parse`.
 fn write_line(
     text: &mut String,
     element: &Element<'_>,

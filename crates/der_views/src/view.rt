@@ -1,4 +1,4 @@
-//! What is told of octets.
+//! What is printed for octets.
 
 use crate::failure::Failure;
 use crate::fields::write_fields;
@@ -8,9 +8,9 @@ use crate::tree::write_tree;
 use der::EncodingRules;
 use std::alloc::Global;
 
-/// Writes the fields of octets that are meant to be a certificate, a request or a key (`Shape`), or
-/// which of them is refused; and the elements of any other octets. The elements are written of all
-/// octets where they are asked for, or BER is.
+/// Writes the fields of octets that are expected to be a certificate, a request or a key (`Shape`),
+/// or the field that failed; and the elements of any other octets. With the option `is_tree`, or
+/// under BER, it writes elements for all octets.
 pub fn write_view(
     alloc: Global,
     text: &mut String,

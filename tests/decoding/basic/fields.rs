@@ -9,7 +9,7 @@ fn identifier_of(alloc: Global, octets: &[u8]) -> Result<AlgorithmIdentifier<'_>
     AlgorithmIdentifier::from_ber(alloc, octets)
 }
 
-// Four spellings of one value, of which the Distinguished Encoding Rules have the first alone.
+// Four encodings of one value, of which only the first is DER.
 #[test]
 fn each_spelling_of_an_identifier_is_read_and_written_as_der(rt: HostRuntime) -> Result<(), Fail> {
     let der: &[u8] = &[0x30, 0x06, 0x04, 0x01, 0x2A, 0x04, 0x01, 0x09];
@@ -44,7 +44,7 @@ fn an_identifier_is_decoded_among_other_elements(rt: HostRuntime) -> Result<(), 
     Ok(())
 }
 
-// The segments of a string are lent as they stand, without the end mark behind them.
+// The segments of a string are borrowed unchanged, without the end-of-contents octets after them.
 #[test]
 fn segments_are_lent_as_they_stand_without_the_end_mark(rt: HostRuntime) -> Result<(), Fail> {
     let rows: [(&[u8], &[u8]); 2] = [
@@ -77,14 +77,14 @@ fn missing_fields_spare_octets_and_other_tags_are_refused(rt: HostRuntime) {
             trailing(8, 2),
         ),
         (
-            // octets are left behind
+            // octets are left after it
             &[
                 0x30, 0x80, 0x04, 0x01, 0x2A, 0x04, 0x01, 0x09, 0x00, 0x00, 0x00,
             ],
             trailing(10, 1),
         ),
         (
-            // the end mark is missing
+            // the end-of-contents octets are missing
             &[0x30, 0x80, 0x04, 0x01, 0x2A, 0x04, 0x01, 0x09],
             incomplete(9, 8, 8),
         ),

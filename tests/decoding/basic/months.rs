@@ -1,8 +1,8 @@
-//! A month, which takes one octet: as a string that is constructed too, and never as segments.
+//! A month of one octet: also as a constructed string, but never as segments.
 use super::*;
 use crate::checks::{same, same_at};
 
-// The number of the month that all the octets are.
+// Reads the octets as exactly one month, and returns its number.
 fn month(alloc: Global, octets: &[u8]) -> Result<u8, Error> {
     let month = MyByteMonth::from_ber(alloc, octets)?;
     Ok(month.month())
@@ -18,7 +18,7 @@ fn a_month_is_read_from_primitive_and_constructed_strings(rt: HostRuntime) -> Re
     Ok(())
 }
 
-// The contents of a body are not joined: its first octet is read, and the rest is left.
+// Indefinite-length contents are not joined: the first octet is read, and the rest is left.
 #[test]
 fn no_month_is_read_from_an_indefinite_length(rt: HostRuntime) {
     let rows: [(&[u8], Error); 6] = [
@@ -117,7 +117,7 @@ fn boxed_months_and_pairs_of_months_are_read_under_ber(rt: HostRuntime) -> Resul
     Ok(())
 }
 
-// What is not there under the Distinguished Encoding Rules.
+// Encodings that the Distinguished Encoding Rules do not have.
 #[test]
 fn constructed_months_are_refused_under_der(rt: HostRuntime) {
     let rows: [&[u8]; 2] = [&[0x24, 0x01, 0x09], &[0x24, 0x80, 0x00, 0x00]];

@@ -1,4 +1,4 @@
-//! What is decoded needs all the octets that it passes: each beginning of them is refused.
+//! Decoding needs all the octets that it consumes: it fails on each proper prefix of them.
 use super::rows::{Kind, ROWS};
 use super::*;
 use crate::checks::same_at;
@@ -9,7 +9,7 @@ use crate::fixtures::bodies::{around_contents, around_null, first_octets};
 use crate::fixtures::encodings::{LENGTHS, tags};
 use std::process::Abort;
 
-// How many octets are passed, or nothing where they are refused.
+// How many octets are consumed, or `None` on an error.
 fn passed(alloc: Global, kind: Kind, rules: EncodingRules, octets: &[u8]) -> Option<u32> {
     let reader = SliceReader::new_with_encoding_rules(octets, rules).ok()?;
     match kind {
@@ -38,7 +38,7 @@ fn element_passed(mut reader: SliceReader<'_>) -> Option<u32> {
     Some(element.len() as u32)
 }
 
-// So many octets are passed, and no beginning of them is enough.
+// This number of octets is consumed, and no proper prefix of them is enough.
 fn wants_all(
     rt: &impl Abort,
     alloc: Global,
@@ -58,7 +58,7 @@ fn each_beginning_of_what_the_worked_cases_decode_is_refused(rt: HostRuntime) {
     }
 }
 
-// Under the Distinguished Encoding Rules all of these octets are passed.
+// Under the Distinguished Encoding Rules all of these octets are consumed.
 fn wants_whole(rt: &impl Abort, alloc: Global, kind: Kind, octets: &[u8]) -> Result<(), Error> {
     let count = u32::from(Length::new_usize(octets.len())?);
     wants_all(rt, alloc, (kind, EncodingRules::Der, octets, count));
@@ -76,7 +76,7 @@ fn each_beginning_of_a_tag_and_of_a_length_is_refused(rt: HostRuntime) -> Result
     Ok(())
 }
 
-// A body of indefinite length, whose octets are made here.
+// Indefinite-length contents, whose octets are made here.
 #[test]
 fn each_beginning_of_a_long_body_is_refused(rt: HostRuntime) -> Result<(), Fail> {
     let alloc = rt.alloc();

@@ -1,15 +1,15 @@
-//! A month in memory of its own.
+//! A boxed month.
 use super::*;
 use crate::checks::{same, same_octets};
 use der::{EncodeValue, Tagged};
 use der_uses::lent::Lent;
 
-// The month that all the octets are.
+// Reads the octets as exactly one month.
 fn boxed_month(alloc: Global, octets: &[u8]) -> Result<Box<MyByteMonth>, Error> {
     value_of(alloc, octets)
 }
 
-// How the octets are refused.
+// The error of reading the octets.
 fn refusal(alloc: Global, octets: &[u8]) -> Option<Error> {
     boxed_month(alloc, octets).err()
 }

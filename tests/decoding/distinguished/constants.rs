@@ -1,4 +1,4 @@
-//! The constants of types, which no clause can name, and the functions that say the same.
+//! The constants of types, which no clause can name, and the functions that return the same.
 use super::*;
 use crate::checks::holds;
 use crate::fixtures::constants::tags_agree;

@@ -1,4 +1,4 @@
-//! Values from a reader that cannot lend.
+//! Values from a reader that returns no slices.
 use super::*;
 use crate::checks::{holds, same};
 use der_uses::algorithm_identifier::AlgorithmIdentifier;

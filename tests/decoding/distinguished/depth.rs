@@ -1,8 +1,8 @@
-//! Values inside as many parts as there may be.
+//! Values at the maximum nesting depth.
 use super::*;
 use crate::checks::same;
 
-// A reader of three octets inside so many parts, each of them all.
+// A reader of three octets inside `parts` nested parts, each of which is all of them.
 fn reader_inside(octets: &[u8; 3], parts: u8) -> Result<SliceReader<'_>, Error> {
     let mut reader = der_reader(octets)?;
     for _ in 0..parts {

@@ -1,4 +1,4 @@
-//! A type with an error of its own, to which those of decoding are converted.
+//! A type with its own error type, to which decoding errors are converted.
 
 use super::*;
 use crate::checks::{holds, same, same_at};

@@ -4,26 +4,26 @@ use crate::checks::same_at;
 use der_uses::lent::Lent;
 use std::process::Abort;
 
-// The contents whose encoding all the octets are.
+// Reads the octets as exactly one element, and returns its contents.
 fn contents_of(alloc: Global, octets: &[u8]) -> Result<&[u8], Error> {
     let lent: Lent<'_> = value_of(alloc, octets)?;
     Ok(lent.octets)
 }
 
-// The contents at the front, and the octets behind them.
+// The contents at the front, and the octets after them.
 fn contents_at_front(alloc: Global, octets: &[u8]) -> Result<(&[u8], &[u8]), Error> {
     let (lent, rest): (Lent<'_>, &[u8]) = front_of(alloc, octets)?;
     Ok((lent.octets, rest))
 }
 
-// The second octets behind the first.
+// The first octets and then the second.
 fn joined(alloc: Global, first: &[u8], second: &[u8]) -> Result<Vec<u8>, Fail> {
     let mut octets = Vec::from_slice(alloc, first)?;
     octets.extend_from_slice(second)?;
     Ok(octets)
 }
 
-// The contents are written behind this header, and are read behind it, whether or not an octet
+// The contents are written after this header, and are read after it, whether or not an octet
 // follows.
 fn both_ways(rt: &impl Abort, alloc: Global, header: &[u8], contents: &[u8]) -> Result<(), Fail> {
     let count = contents.len();

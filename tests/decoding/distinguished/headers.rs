@@ -1,9 +1,9 @@
-//! Headers that are all the octets.
+//! Headers that are the whole input.
 use super::*;
 use crate::checks::{same, same_at, same_octets};
 use crate::fixtures::errors::{incorrect, indefinite};
 
-// The header that all the octets are.
+// Reads the octets as exactly one header.
 fn header_of(alloc: Global, bytes: &[u8]) -> Result<Header, Error> {
     value_of(alloc, bytes)
 }

@@ -3,18 +3,18 @@ use super::*;
 use crate::checks::{same, same_octets};
 use der_uses::algorithm_identifier::AlgorithmIdentifier;
 
-// The identifier that all the octets are.
+// Reads the octets as exactly one identifier.
 fn identifier_of(alloc: Global, bytes: &[u8]) -> Result<AlgorithmIdentifier<'_>, Error> {
     value_of(alloc, bytes)
 }
 
-// The two fields of the identifier at the front, and the octets behind it.
+// The two fields of the identifier at the front, and the octets after it.
 fn fields_at_front(alloc: Global, bytes: &[u8]) -> Result<(&[u8], u8, &[u8]), Error> {
     let (identifier, rest): (AlgorithmIdentifier<'_>, &[u8]) = front_of(alloc, bytes)?;
     Ok((identifier.algorithm.octets, identifier.month.month(), rest))
 }
 
-// How the octets are refused.
+// The error of reading the octets.
 fn refusal(alloc: Global, bytes: &[u8]) -> Option<Error> {
     identifier_of(alloc, bytes).err()
 }
@@ -55,7 +55,7 @@ fn an_identifier_without_a_field_is_refused(rt: HostRuntime) {
         refusal(alloc, &[0x30, 0x03, 0x04, 0x01, 0x2A]),
         no_month,
     );
-    // what stands behind the SEQUENCE is no field of it
+    // what follows the SEQUENCE is not a field of it
     same(
         &rt,
         refusal(alloc, &[0x30, 0x03, 0x04, 0x01, 0x2A, 0x04, 0x01, 0x09]),
@@ -99,7 +99,7 @@ fn a_field_past_the_end_of_an_identifier_is_refused(rt: HostRuntime) {
     let alloc = rt.alloc();
     let algorithm = [0x30, 0x06, 0x04, 0x05, 0x2A, 0x04, 0x01, 0x09];
     same(&rt, refusal(alloc, &algorithm), Some(incomplete(9, 8, 8)));
-    // the octet is there, but behind the SEQUENCE
+    // the octet is there, but after the SEQUENCE
     let month = [0x30, 0x05, 0x04, 0x01, 0x2A, 0x04, 0x01, 0x09];
     same(&rt, refusal(alloc, &month), Some(incomplete(8, 7, 7)));
     let whole = [0x30, 0x07, 0x04, 0x01, 0x2A, 0x04, 0x01, 0x09];

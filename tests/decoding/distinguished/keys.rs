@@ -1,9 +1,9 @@
-//! A SEQUENCE with another one inside it.
+//! A SEQUENCE with another inside it.
 use super::*;
 use crate::checks::{same, same_at, same_octets};
 use der_uses::key_info::{KeyInfo, key_info_der, key_info_from_der};
 
-// The key that all the octets are.
+// Reads the octets as exactly one key.
 fn key_of(alloc: Global, bytes: &[u8]) -> Result<KeyInfo<'_>, Error> {
     key_info_from_der(alloc, bytes)
 }
@@ -18,7 +18,7 @@ fn buffered<'b>(info: &KeyInfo<'_>, buf: &'b mut [u8]) -> Result<&'b [u8], Error
     info.encode_to_slice(buf)
 }
 
-// How the octets are refused.
+// The error of reading the octets.
 fn refusal(alloc: Global, bytes: &[u8]) -> Option<Error> {
     key_of(alloc, bytes).err()
 }
@@ -111,21 +111,21 @@ fn a_key_with_octets_left_or_missing_is_refused(rt: HostRuntime) {
             trailing(13, 2),
         ),
         (
-            // behind it
+            // after it
             &[
                 0x30, 0x0B, 0x30, 0x06, 0x04, 0x01, 0x2A, 0x04, 0x01, 0x09, 0x04, 0x01, 0xFF, 0x00,
             ],
             trailing(13, 1),
         ),
         (
-            // the inner sequence is to end far behind the outer one
+            // the inner sequence ends far after the outer one
             &[
                 0x30, 0x0B, 0x30, 0x14, 0x04, 0x01, 0x2A, 0x04, 0x01, 0x09, 0x04, 0x01, 0xFF,
             ],
             incomplete(14, 13, 13),
         ),
         (
-            // its last octet stands behind the outer one
+            // its last octet is after the outer one
             &[
                 0x30, 0x07, 0x30, 0x06, 0x04, 0x01, 0x2A, 0x04, 0x01, 0x09, 0x04, 0x01, 0xFF,
             ],

@@ -1,10 +1,10 @@
-//! Lengths that are all the octets.
+//! Lengths that are the whole input.
 use super::*;
 use crate::checks::{same, same_at};
 use crate::fixtures::encodings::LENGTHS;
 use crate::fixtures::errors::indefinite;
 
-// The length that all the octets are.
+// Reads the octets as exactly one length.
 fn length_of(alloc: Global, bytes: &[u8]) -> Result<Length, Error> {
     value_of(alloc, bytes)
 }

@@ -2,7 +2,7 @@
 use super::*;
 use crate::checks::{same, same_at, same_octets};
 
-// The month that all the octets are.
+// Reads the octets as exactly one month.
 fn month_of(alloc: Global, bytes: &[u8]) -> Result<MyByteMonth, Error> {
     value_of(alloc, bytes)
 }
@@ -46,7 +46,7 @@ fn octets_left_in_or_behind_a_month_are_refused(rt: HostRuntime) {
     );
 }
 
-// No length counts the octets up to the end of the contents, or one does and they are not there.
+// The position of the end of the contents exceeds 32 bits, or the contents are truncated.
 #[test]
 fn months_of_the_longest_lengths_are_refused(rt: HostRuntime) {
     let alloc = rt.alloc();
@@ -78,7 +78,7 @@ fn a_month_with_a_wrong_length_number_or_tag_is_refused(rt: HostRuntime) {
     );
 }
 
-// The number of the month of this number, where there is one.
+// The number of the month with this number, if there is one.
 fn number_of(number: u8) -> Option<u8> {
     let month = MyByteMonth::new(number)?;
     Some(month.month())

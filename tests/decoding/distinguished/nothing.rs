@@ -3,7 +3,7 @@ use super::*;
 use crate::checks::{holds, same, same_octets};
 use std::marker::PhantomData;
 
-// Nothing, where that is what all the octets are.
+// Reads the octets as exactly nothing.
 fn nothing_of(alloc: Global, bytes: &[u8]) -> Result<PhantomData<u8>, Error> {
     value_of(alloc, bytes)
 }

@@ -1,9 +1,9 @@
-//! Values one behind the other.
+//! Values in sequence.
 use super::*;
 use crate::checks::{same, same_at, same_octets};
 use std::marker::PhantomData;
 
-// The two months that all the octets are.
+// Reads the octets as exactly two months.
 fn pair_of(alloc: Global, bytes: &[u8]) -> Result<(MyByteMonth, MyByteMonth), Error> {
     value_of(alloc, bytes)
 }
@@ -45,7 +45,7 @@ fn two_months_are_read_and_written(rt: HostRuntime) -> Result<(), Fail> {
     Ok(())
 }
 
-// The numbers of the three months at the front, and the octets behind them.
+// The numbers of the three months at the front, and the octets after them.
 fn three_months(alloc: Global, bytes: &[u8]) -> Result<((u8, u8, u8), &[u8]), Error> {
     let ((first, (second, third)), rest): ((MyByteMonth, (MyByteMonth, MyByteMonth)), &[u8]) =
         front_of(alloc, bytes)?;

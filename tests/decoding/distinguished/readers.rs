@@ -9,13 +9,13 @@ fn next_month(alloc: Global, reader: &mut SliceReader<'_>) -> Result<u8, Error> 
     Ok(month.month())
 }
 
-// The number of the month that is the element ahead.
+// The number of the month that is the next element.
 fn element_month(alloc: Global, reader: &mut SliceReader<'_>) -> Result<u8, Error> {
     let month: MyByteMonth = decode_tlv(alloc, reader)?;
     Ok(month.month())
 }
 
-// The number of the month whose contents are ahead, behind this header.
+// The number of the month whose contents are next, after this header.
 fn month_by_header(
     alloc: Global,
     reader: &mut SliceReader<'_>,
@@ -26,7 +26,7 @@ fn month_by_header(
     Ok(month.month())
 }
 
-// The number of the month that is all that stands in the contents ahead, behind this header.
+// The number of the month that is all of the next contents, after this header.
 fn field_month(alloc: Global, reader: &mut SliceReader<'_>, header: Header) -> Result<u8, Error> {
     let month: MyByteMonth = decode_contents(alloc, reader, header)?;
     Ok(month.month())

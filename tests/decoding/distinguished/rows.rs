@@ -1,9 +1,9 @@
-//! What is decoded in the worked cases of all tests, as data; tags and lengths by themselves stand
-//! in `der_fixtures`.
+//! What the worked cases of all tests decode, as data; tags and lengths alone are in
+//! `der_fixtures`.
 use der::EncodingRules::{self, Ber, Der};
 use crate::fixtures::bodies::{ENCRYPTED_CONTENT_INFO, SEGMENT_OF_ZEROS};
 
-/// What octets are decoded as.
+/// The types that octets are decoded as.
 #[derive(Clone, Copy)]
 pub enum Kind {
     Tag,
@@ -14,11 +14,11 @@ pub enum Kind {
     Text,
     Joined,
     Nest,
-    /// A whole element, which is lent.
+    /// A whole element, which is borrowed.
     Element,
 }
 
-/// What octets are decoded as, under which rules, the octets, and how many of them are passed.
+/// The type to decode, the rules, the octets, and how many of them are consumed.
 pub const ROWS: [(Kind, EncodingRules, &[u8], u32); 32] = [
     (Kind::Length, Ber, &[0x80, 0x05, 0x00, 0x00, 0x00], 1),
     (Kind::Tag, Der, &[0xA0, 0x00], 1),

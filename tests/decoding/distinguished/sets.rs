@@ -33,12 +33,12 @@ fn set_of(alloc: Global, elements: &mut [BorrowedOctets<'_>]) -> Result<Vec<u8>,
     set_of_der(alloc, elements)
 }
 
-// The contents of the SET OF that all the octets are.
+// Reads the octets as exactly one SET OF, and returns its contents.
 fn contents_of(alloc: Global, octets: &[u8]) -> Result<&[u8], Error> {
     set_of_contents(alloc, octets)
 }
 
-// How the octets are refused.
+// The error of reading the octets.
 fn refusal(alloc: Global, octets: &[u8]) -> Option<Error> {
     contents_of(alloc, octets).err()
 }
@@ -68,7 +68,7 @@ fn a_set_of_no_elements_is_read_and_written(rt: HostRuntime) -> Result<(), Fail>
     Ok(())
 }
 
-// 127 octets, `04 7F ..`, stand before 128, `04 81 80 ..`.
+// 127 octets, `04 7F ..`, come before 128, `04 81 80 ..`.
 #[test]
 fn an_element_of_127_octets_is_sorted_before_one_of_128(rt: HostRuntime) -> Result<(), Fail> {
     let zeros = [0x00; 128];
@@ -86,7 +86,7 @@ fn an_element_of_127_octets_is_sorted_before_one_of_128(rt: HostRuntime) -> Resu
     Ok(())
 }
 
-// 257 elements of about 2^24 octets, which are lent again and again.
+// 257 elements of about 2^24 octets, which all borrow the same octets.
 #[test]
 fn more_contents_than_a_length_counts_overflow(rt: HostRuntime) -> Result<(), Fail> {
     let octets = vec![in rt.alloc(); 0u8; 16777216]?;

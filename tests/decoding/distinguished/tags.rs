@@ -1,10 +1,10 @@
-//! Tags that are all the octets.
+//! Tags that are the whole input.
 use super::*;
 use crate::checks::{same, same_at};
 use crate::fixtures::encodings::{WRONG_TAG_NUMBERS, tags};
 use crate::fixtures::errors::{invalid_number, unknown};
 
-// The tag that all the octets are.
+// Reads the octets as exactly one tag.
 fn tag_of(alloc: Global, bytes: &[u8]) -> Result<Tag, Error> {
     value_of(alloc, bytes)
 }

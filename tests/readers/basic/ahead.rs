@@ -1,4 +1,4 @@
-//! What is ahead of a reader under the Basic Encoding Rules; the reader stays.
+//! Peeks under the Basic Encoding Rules, which leave the reader unchanged.
 use super::*;
 use crate::checks::{holds, same, same_octets};
 use der::{Class, TagNumber, TagPeek};
@@ -12,7 +12,7 @@ fn header_ahead(reader: &SliceReader<'_>) -> Result<Header, Error> {
     Header::peek(reader)
 }
 
-// Whether the tag ahead is the universal one of this number.
+// Whether the next tag is the universal one of this number.
 fn is_ahead(reader: &mut SliceReader<'_>, number: u32) -> Result<bool, Error> {
     Tag::peek_matches(reader, Class::Universal, TagNumber(number))
 }
@@ -71,7 +71,7 @@ fn a_peek_refuses_segments_under_der_and_the_reader_stays(rt: HostRuntime) -> Re
     Ok(())
 }
 
-// The tag alone is looked at, whatever is refused behind it.
+// Only the tag is checked, whatever follows it.
 #[test]
 fn a_tag_is_peeked_although_what_stands_behind_it_is_refused(rt: HostRuntime) -> Result<(), Fail> {
     let mut reader = ber_reader(&[0x24, 0x80, 0x3F, 0x00])?;
@@ -102,7 +102,8 @@ fn a_primitive_header_with_octet_80_is_refused_ahead(rt: HostRuntime) -> Result<
     Ok(())
 }
 
-// A body is lent behind its header, and what is left behind a header that was refused.
+// Indefinite-length contents are borrowed after their header, and so is what is left after a header
+// that failed.
 #[test]
 fn what_stands_behind_a_header_is_lent_even_if_it_is_refused(rt: HostRuntime) -> Result<(), Fail> {
     let mut reader = ber_reader(&[0x30, 0x80, 0x05, 0x00, 0x00, 0x00])?;

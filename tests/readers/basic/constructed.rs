@@ -1,4 +1,5 @@
-//! Octet `0x24`: the identifier of a string of segments, which the Basic Encoding Rules alone know.
+//! Octet `0x24`: the identifier of a segmented OCTET STRING, which only the Basic Encoding Rules
+//! have.
 use super::*;
 use crate::checks::{same, same_at, same_octets};
 use der::{Encode, TagPeek};
@@ -25,7 +26,7 @@ fn octet_24_is_read_as_a_constructed_octet_string(rt: HostRuntime) -> Result<(),
     Ok(())
 }
 
-// The constructed bit tells two headers apart that say the same else.
+// The constructed bit distinguishes two headers that are otherwise equal.
 #[test]
 fn the_constructed_bit_tells_two_headers_apart(rt: HostRuntime) -> Result<(), Fail> {
     let primitive = header_of(rt.alloc(), &[0x04, 0x00])?;
@@ -65,7 +66,7 @@ fn octet_24_is_a_tag_under_ber_alone(rt: HostRuntime) -> Result<(), Fail> {
     Ok(())
 }
 
-// What was read of it is written without the constructed bit, and a length in the definite form.
+// What was read from it is written without the constructed bit and with a definite length.
 #[test]
 fn constructed_bit_and_indefinite_form_are_not_written(rt: HostRuntime) -> Result<(), Fail> {
     let tag = tag_under_ber(rt.alloc(), &[0x24])?;
@@ -81,7 +82,7 @@ fn constructed_bit_and_indefinite_form_are_not_written(rt: HostRuntime) -> Resul
     Ok(())
 }
 
-// No other octet is read as another tag than under the Distinguished Encoding Rules.
+// Every other octet is read as the same tag as under the Distinguished Encoding Rules.
 #[test]
 fn all_octets_but_24_are_read_alike_under_both_rules(rt: HostRuntime) {
     let alloc = rt.alloc();

@@ -1,4 +1,4 @@
-//! Whole elements whose lengths have the indefinite form.
+//! Whole elements of indefinite length.
 
 use super::*;
 use crate::checks::{same, same_at, same_octets};
@@ -17,8 +17,8 @@ fn an_element_of_indefinite_length_is_lent_with_its_end_mark(rt: HostRuntime) ->
     Ok(())
 }
 
-// An element is as long as what was read of it says, also where its number would take more octets
-// in the definite form than the one octet `0x80`.
+// An element ends where the octets that were read for it end, even if its number would take more
+// octets in the definite form than the one octet `0x80`.
 #[test]
 fn an_element_is_lent_whole_whatever_the_number_of_its_octets(rt: HostRuntime) -> Result<(), Fail> {
     for count in [0u8, 1, 122, 123, 124, 125, 126, 127] {

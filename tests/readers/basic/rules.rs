@@ -1,4 +1,4 @@
-//! What both rules answer alike, and what the Distinguished Encoding Rules refuse.
+//! What both rules treat equally, and what only the Distinguished Encoding Rules reject.
 use super::*;
 use crate::checks::{same, same_at, same_octets};
 use der::TagNumber;

@@ -1,4 +1,5 @@
-//! Contents of indefinite lengths that are read by a function, and the end marks behind them.
+//! Indefinite-length contents that are read by a function, and the end-of-contents octets after
+//! them.
 
 use super::*;
 use crate::checks::{same, same_at, same_octets};
@@ -33,7 +34,7 @@ fn header_two_within(reader: &mut SliceReader<'_>) -> Result<Header, Error> {
     reader.sequence(read_inner)
 }
 
-// The header that contents get, and the octets of them.
+// The header that the function for the contents gets, and their octets.
 fn read_octets<'a>(
     reader: &mut SliceReader<'a>,
     header: Header,
@@ -111,7 +112,7 @@ fn a_sequence_in_a_sequence_is_read_whatever_their_forms(rt: HostRuntime) -> Res
     Ok(())
 }
 
-// The end of a SEQUENCE of definite length ends the bodies in it.
+// The end of a SEQUENCE of definite length ends the indefinite-length contents in it.
 #[test]
 fn a_body_that_is_cut_by_its_sequence_is_refused(rt: HostRuntime) -> Result<(), Fail> {
     let octets = [0x30, 0x05, 0x30, 0x80, 0x05, 0x00, 0x00, 0x00];
@@ -156,7 +157,8 @@ fn what_is_no_sequence_is_refused_behind_its_header(rt: HostRuntime) -> Result<(
     Ok(())
 }
 
-// Contents get the header with their own length, which is flagged as the header's was.
+// The function for the contents gets the header with their own length, which is indefinite if that
+// of the header was.
 #[test]
 fn contents_get_a_flagged_header_with_their_own_length(rt: HostRuntime) -> Result<(), Fail> {
     let octets = [0x24, 0x80, 0x04, 0x01, 0x09, 0x00, 0x00, 0x05];
@@ -183,7 +185,8 @@ fn contents_of_definite_length_get_their_header_unchanged(rt: HostRuntime) -> Re
     Ok(())
 }
 
-// A header of the caller's own may say more than a scan would: then no end mark stands there.
+// A header that the caller makes may give more octets than a scan would: then there are no
+// end-of-contents octets at its end.
 #[test]
 fn contents_without_their_end_mark_are_refused(rt: HostRuntime) -> Result<(), Fail> {
     let mut reader = ber_reader(&[0x05, 0x00, 0x00, 0x01])?;

@@ -1,4 +1,4 @@
-//! What is ahead of a reader, whole elements, and octets that are passed.
+//! Peeks, whole elements, and octets that are skipped.
 use super::*;
 use crate::checks::{holds, same, same_at};
 use der::{Class, TagPeek};
@@ -111,7 +111,7 @@ fn no_tag_matches_at_the_end(rt: HostRuntime) -> Result<(), Fail> {
     Ok(())
 }
 
-// The whole element that is ahead.
+// The next element, whole.
 fn element<'a>(reader: &mut SliceReader<'a>) -> Result<&'a [u8], Error> {
     reader.tlv_bytes()
 }

@@ -1,4 +1,4 @@
-//! Whether a reader lends, by its constant and by its function.
+//! Whether a reader returns slices, by its constant and by its function.
 use super::*;
 use crate::checks::holds;
 use crate::fixtures::constants::lending_agrees;

@@ -1,11 +1,11 @@
-//! Parts inside each other, entered and left.
+//! Nested parts that are entered and left.
 
 use super::*;
 use crate::checks::{same, same_at};
 use der::{Resumption, close_value};
 use crate::fixtures::errors::too_deep;
 
-// So many empty parts inside each other.
+// `levels` empty nested parts.
 #[cycle(nest)]
 fn nest(reader: &mut SliceReader<'_>, levels: u8) -> Result<(), Error>
 {
@@ -50,7 +50,7 @@ fn a_part_in_a_part_is_read(rt: HostRuntime) -> Result<(), Fail> {
     Ok(())
 }
 
-// Two of three octets are read, and then they are refused.
+// Reads two of three octets, and then fails.
 fn refuse_behind_two(reader: &mut SliceReader<'_>) -> Result<(), Error>
 {
     reader.drain(Length::new(2))?;
@@ -63,7 +63,7 @@ fn refused_within(reader: &mut SliceReader<'_>) -> Result<(), Error>
     reader.read_nested(Length::new(3), refuse_behind_two)
 }
 
-// Both parts are left, so that as many may be entered as before.
+// Both parts are left, so the same number may be entered as before.
 #[test]
 fn a_refusal_in_a_part_leaves_all_parts(rt: HostRuntime) -> Result<(), Fail> {
     let octets = [0x01, 0x02, 0x03, 0x04, 0x05, 0x06];

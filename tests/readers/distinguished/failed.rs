@@ -19,7 +19,7 @@ fn lends_nothing<R: Reader>(rt: &impl Abort, alloc: Global, reader: &mut R, fail
     same(rt, reader.peek_byte(), None);
 }
 
-// What reads no octet is not refused.
+// Reading no octets is not an error.
 fn passes_nothing<R: Reader>(rt: &impl Abort, reader: &mut R, failed: Error) {
     same(rt, reader.drain(Length::ONE), Err(failed));
     same(rt, reader.drain(Length::new_indefinite(0)), Err(failed));
@@ -34,7 +34,7 @@ fn decodes_nothing<R: Reader>(rt: &impl Abort, alloc: Global, reader: &mut R, fa
     same(rt, reader.sequence(read_none), Err(failed));
 }
 
-// After all of these calls the reader stands where it failed.
+// After all of these calls the reader is where it failed.
 fn answers_nothing<R: Reader>(rt: &impl Abort, alloc: Global, mut reader: R) {
     let failed = ErrorKind::Failed.at(Length::ZERO);
     lends_nothing(rt, alloc, &mut reader, failed);

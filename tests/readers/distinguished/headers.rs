@@ -61,7 +61,7 @@ fn headers_that_are_cut_or_wrong_are_refused(rt: HostRuntime) {
     }
 }
 
-// Each octet of the longest header is wanted where it is missing.
+// Each octet of the longest header is required, and reported if it is missing.
 #[test]
 fn a_cut_header_wants_the_octet_that_is_missing(rt: HostRuntime) {
     let longest = [

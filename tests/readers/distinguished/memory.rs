@@ -1,4 +1,4 @@
-//! Memory that is refused where octets are copied from a reader.
+//! Allocations that fail when octets are copied from a reader.
 use super::*;
 use crate::checks::{holds_at, same, same_at};
 use linked_list_allocator::LocalHeap;
@@ -7,7 +7,8 @@ use std::test::Fail;
 
 const SIZES: [usize; 8] = [32, 48, 64, 80, 96, 128, 160, 256];
 
-// Copies sixty octets, and says whether there was memory; where it is refused the reader stays.
+// Copies sixty octets, and returns whether there was enough memory; if not, the reader is
+// unchanged.
 fn copy_sixty<R: Reader>(rt: &impl Abort, heap: &LocalHeap, mut reader: R, size: usize) -> bool {
     match reader.read_vec_in(heap, Length::new(60)) {
         Ok(copy) => {
@@ -34,7 +35,7 @@ fn a_copy_without_memory_leaves_the_reader_where_it_is(rt: HostRuntime) -> Resul
         filled[copy_sixty(&rt, &heap, der_unlent(&octets)?, size) as usize] = true;
         same_at(&rt, size, heap.used(), 0);
     }
-    // each was refused once and copied once
+    // each failed once and copied once
     same(&rt, lent, [true, true]);
     same(&rt, filled, [true, true]);
     Ok(())

@@ -82,7 +82,7 @@ fn advance(position: &mut Position, count: u32) -> Result<Length, Error> {
     position.advance(Length::new(count))
 }
 
-// Where the position is, how far it may go, and how many parts it is in.
+// The position, its end, and the number of parts it is in.
 fn place_in(position: &Position) -> (u32, u32, u8) {
     let current = u32::from(position.current());
     (current, u32::from(position.input_len()), position.depth())

@@ -1,4 +1,4 @@
-//! A reader of a slice: what it tells of itself, what it lends, and what it refuses.
+//! A reader of a slice: its state, the slices it returns, and its errors.
 use super::*;
 use crate::checks::{holds, same};
 use der::DecodeError;

@@ -1,4 +1,4 @@
-//! A reader that cannot lend, through which the generic calls run a second time.
+//! The generic calls again, on a reader that returns no slices.
 
 use super::*;
 use crate::checks::{holds, same};

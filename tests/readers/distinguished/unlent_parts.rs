@@ -1,4 +1,4 @@
-//! Parts and values of a reader that cannot lend.
+//! Parts and values of a reader that returns no slices.
 
 use super::*;
 use crate::checks::same;

@@ -1,4 +1,4 @@
-//! What is ahead of a reader that cannot lend, and what it decodes.
+//! Peeks and decoding of a reader that returns no slices.
 use super::*;
 use crate::checks::{holds, same};
 use der::{Class, TagPeek};

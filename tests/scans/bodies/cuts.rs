@@ -1,11 +1,11 @@
-//! Elements of indefinite lengths, cut behind each of their octets.
+//! Elements of indefinite length, truncated after each of their octets.
 use super::*;
 use crate::checks::{same, same_at};
 use crate::scans::readers::next_element;
 use std::process::Abort;
 
-// The header of octets that are cut is refused so. A reader fails only where the cut is in the
-// header; an element leaves it as it was.
+// Reading the header of truncated octets gives this error. A reader fails only if the truncation is
+// in the header; reading an element leaves it unchanged.
 fn cut(rt: &impl Abort, octets: &[u8], error: Error) -> Result<(), Error> {
     cut_header(rt, ber_reader(octets)?, error);
     cut_header(rt, ber_unlent(octets)?, error);
@@ -24,7 +24,7 @@ fn cut_header<R: Reader>(rt: &impl Abort, mut reader: R, error: Error) {
 
 #[test]
 fn each_cut_of_a_body_in_a_body_is_refused(rt: HostRuntime) -> Result<(), Fail> {
-    // how many octets there are, how many are wanted, and where
+    // how many octets there are, how many are needed, and where
     let rows = [
         (0u32, 1, 0),
         (1, 2, 1),
@@ -49,8 +49,9 @@ fn each_cut_of_a_body_in_a_body_is_refused(rt: HostRuntime) -> Result<(), Fail> 
     Ok(())
 }
 
-// Contents from position 4 to 130 are passed in steps of sixteen octets, of which the last has
-// fourteen. A cut in a step is told where the step begins, with where it ends.
+// Contents from position 4 to 130 are consumed in steps of sixteen octets, of which the last has
+// fourteen. A truncation is reported at the position where its step begins, with the position where
+// the step ends.
 #[test]
 fn each_cut_of_a_long_body_is_refused_at_its_step_of_16(rt: HostRuntime) -> Result<(), Fail> {
     let octets = around_contents(rt.alloc(), 126)?;

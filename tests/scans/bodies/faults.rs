@@ -1,20 +1,20 @@
-//! Readers one of whose reads fails, for each read in turn until none does: no other answer comes
-//! of it than without that failure.
+//! Readers that fail at one read, for each read in turn until none fails: every other result is the
+//! same as without the failure.
 
 use super::scans::{body_ahead, pass_body};
 use super::*;
 use crate::checks::same_at;
 use std::process::Abort;
 
-// What is answered for a header where the read of this number fails, and the place then.
+// The result for a header if the read of this number fails, and the place of the reader then.
 fn header_of(octets: &[u8], read: u32) -> Result<(Result<Header, Error>, (u32, u32, bool)), Error> {
     let mut reader = ber_failing(octets, read)?;
     let header = decode_header(&mut reader);
     Ok((header, place_of(&reader)))
 }
 
-// The position that a read of each number begins at: each octet of the header and of the body is
-// read once, and contents are passed at once.
+// The position of each read: each octet of the header and of the indefinite-length contents is read
+// once, and definite contents are skipped at once.
 const READS: [(u32, u32); 11] = [
     (1, 0),
     (2, 1),
@@ -67,7 +67,7 @@ fn a_scan_is_refused_at_whichever_read_fails(rt: HostRuntime) -> Result<(), Fail
     Ok(())
 }
 
-// A primitive identifier before octet `0x80` is never taken, whichever read fails.
+// A primitive identifier before octet `0x80` is never accepted, whichever read fails.
 #[test]
 fn a_wrong_body_is_never_taken_whichever_read_fails(rt: HostRuntime) -> Result<(), Fail> {
     let octets = [0x30, 0x80, 0x04, 0x80, 0x00, 0x00, 0x00, 0x00];
@@ -82,7 +82,7 @@ fn a_wrong_body_is_never_taken_whichever_read_fails(rt: HostRuntime) -> Result<(
     Ok(())
 }
 
-// The header is read ahead; then the element is to be lent, and is not.
+// The header is read by a peek; then a slice of the element is requested, which fails.
 #[test]
 fn an_element_is_never_lent_whichever_read_fails(rt: HostRuntime) -> Result<(), Fail> {
     for (read, begins) in READS {
@@ -107,7 +107,7 @@ fn read_header<R: Reader>(reader: &mut R) -> Result<Header, Error>
     decode_header(reader)
 }
 
-// The header in a sequence, and the place then.
+// The header in a sequence, and the place of the reader then.
 fn sequence_by<R: Reader>(mut reader: R) -> (Result<Header, Error>, (u32, u32, bool)) {
     let header = reader.sequence(read_header);
     (header, place_of(&reader))
@@ -128,7 +128,7 @@ fn a_sequence_is_refused_at_whichever_read_fails(rt: HostRuntime) -> Result<(), 
     Ok(())
 }
 
-// The body is scanned ahead, so what fails in it fails before the contents are entered.
+// The contents are scanned first, so a read that fails there fails before they are entered.
 #[test]
 fn an_indefinite_sequence_is_refused_at_whichever_read_fails(rt: HostRuntime) -> Result<(), Fail> {
     let octets = [0x30, 0x80, 0x05, 0x00, 0x00, 0x00];

@@ -1,15 +1,16 @@
-//! Headers with lengths of the indefinite form, and those that are refused before or behind a scan.
+//! Headers with indefinite lengths, and those that fail before or after a scan.
 use super::*;
 use crate::checks::{same, same_at};
 use crate::scans::readers::{next_header, next_length};
 use std::process::Abort;
 
-// A SEQUENCE whose body has so many octets, with its end mark.
+// A SEQUENCE of indefinite length, with the number of octets of its contents, end-of-contents
+// octets included.
 fn sequence_of(count: u32) -> Header {
     Header::new(Tag::Sequence, Length::new_indefinite(count))
 }
 
-// The header of a SEQUENCE of indefinite length is read, and its octets alone are passed.
+// The header of a SEQUENCE of indefinite length is read, and only its octets are consumed.
 fn reads<R: Reader>(rt: &impl Abort, mut reader: R, count: u32) {
     let end = u32::from(reader.input_len());
     same_at(rt, count, Header::peek(&reader), Ok(sequence_of(count)));
@@ -57,7 +58,7 @@ fn bodies_of_each_kind_are_counted_with_their_end_marks(rt: HostRuntime) -> Resu
     Ok(())
 }
 
-// Contents of a definite length are passed unread, whatever they are.
+// Contents of a definite length are skipped unread, whatever they are.
 #[test]
 fn contents_of_definite_length_are_passed_unread(rt: HostRuntime) -> Result<(), Fail> {
     let octets = [0x30, 0x80, 0x30, 0x03, 0x3F, 0x80, 0x00, 0x00, 0x00];
@@ -84,7 +85,7 @@ fn a_header_counts_64_bodies_inside_each_other(rt: HostRuntime) -> Result<(), Fa
     Ok(())
 }
 
-// At the top the body is scanned first; inside a scan the identifier is refused at once.
+// At the top the contents are scanned first; inside a scan the identifier fails at once.
 #[test]
 fn a_primitive_identifier_is_refused_once_its_body_is_scanned(rt: HostRuntime) -> Result<(), Fail> {
     let rows: [&[u8]; 3] = [
@@ -108,7 +109,7 @@ fn a_primitive_identifier_is_refused_once_its_body_is_scanned(rt: HostRuntime) -
     Ok(())
 }
 
-// The header is refused, and the reader stands behind two octets.
+// Reading the header fails, and leaves the reader after two octets.
 fn refused_behind<R: Reader>(rt: &impl Abort, mut reader: R, error: Error, failed: bool) {
     let end = u32::from(reader.input_len());
     same_at(rt, error, Header::peek(&reader), Err(error));
@@ -133,7 +134,7 @@ fn a_length_without_a_tag_counts_its_body(rt: HostRuntime) -> Result<(), Fail> {
     Ok(())
 }
 
-// A header is not the octets of its body.
+// A header does not include the octets of its contents.
 #[test]
 fn a_header_is_not_the_octets_of_its_body(rt: HostRuntime) {
     let rows: [(&[u8], Error); 2] = [
@@ -146,7 +147,7 @@ fn a_header_is_not_the_octets_of_its_body(rt: HostRuntime) {
     }
 }
 
-// A body is refused with the tags in it, also behind a length that has none.
+// Reading a length fails for the tags in its contents, also if the length follows no tag.
 #[test]
 fn a_length_is_refused_by_the_error_of_its_body(rt: HostRuntime) -> Result<(), Fail> {
     let mut reader = ber_reader(&[0x80, 0x04, 0x81, 0x7F])?;
@@ -166,7 +167,7 @@ fn a_header_is_read_behind_a_refused_one(rt: HostRuntime) -> Result<(), Fail> {
     Ok(())
 }
 
-// A reader that decodes marks every refusal.
+// A reader that decodes fails on every error.
 #[test]
 fn a_reader_that_decodes_fails_by_a_refused_header(rt: HostRuntime) -> Result<(), Fail> {
     let mut reader = ber_reader(&[0x30, 0x80])?;

@@ -1,4 +1,5 @@
-//! Bodies inside parts: a scan goes up to the end of the part, and counts its own levels.
+//! Indefinite-length contents inside parts: a scan goes up to the end of the part, and counts its
+//! own levels.
 
 use super::*;
 use crate::checks::{same, same_at};
@@ -25,7 +26,7 @@ fn a_body_that_its_part_cuts_is_refused(rt: HostRuntime) -> Result<(), Fail> {
     Ok(())
 }
 
-// A part that holds the body, and one that cuts its contents.
+// A part that holds the contents, and one that truncates them.
 #[test]
 fn a_body_is_scanned_up_to_the_end_of_its_part(rt: HostRuntime) -> Result<(), Fail> {
     let rows: [(&[u8], u32, Error, bool); 2] = [
@@ -63,7 +64,7 @@ fn an_element_is_refused_where_a_part_cuts_it_and_then_lent(rt: HostRuntime) -> 
     Ok(())
 }
 
-// The reader inside so many parts of these octets.
+// The reader inside this number of parts of these octets.
 fn inside(octets: &[u8; 4], parts: u8) -> Result<SliceReader<'_>, Error> {
     let mut reader = ber_reader(octets)?;
     for _ in 0..parts {
@@ -72,7 +73,7 @@ fn inside(octets: &[u8; 4], parts: u8) -> Result<SliceReader<'_>, Error> {
     Ok(reader)
 }
 
-// A header wants no level of nesting, its contents want one.
+// A header needs no level of nesting, its contents need one.
 #[test]
 fn a_sequence_is_entered_inside_63_parts_and_not_inside_64(rt: HostRuntime) -> Result<(), Fail> {
     let octets = [0x30, 0x80, 0x00, 0x00];
@@ -93,7 +94,8 @@ fn read_none<R: Reader>(reader: &mut R) -> Result<(), Error>
     Ok(())
 }
 
-// The header inside so many elements, each of them read with its contents and its end mark.
+// The header inside `levels` elements, each of them read with its contents and its end-of-contents
+// octets.
 fn innermost<R: Reader>(reader: &mut R, levels: u8) -> Result<Header, Error>
 {
     let header = decode_header(reader)?;
@@ -120,7 +122,7 @@ fn bodies_are_entered_64_levels_deep(rt: HostRuntime) -> Result<(), Fail> {
     Ok(())
 }
 
-// Inside one part more the header is still read, but not the contents of the 64th element.
+// Inside one more part the header is still read, but not the contents of the 64th element.
 #[test]
 fn inside_a_part_the_64th_body_is_not_entered(rt: HostRuntime) -> Result<(), Fail> {
     let octets = around_null(rt.alloc(), 64)?;

@@ -1,5 +1,5 @@
-//! What a body is refused for: by a header that wants it, by a scan that passes it, and by one that
-//! stays.
+//! The errors of indefinite-length contents: of a header with them, of a scan that consumes them,
+//! and of a scan that peeks.
 
 use super::scans::{body_ahead, pass_body};
 use super::*;
@@ -7,7 +7,8 @@ use crate::checks::same_at;
 use crate::scans::readers::next_element;
 use std::process::Abort;
 
-// The body behind the first two octets is refused so, by every call and on both readers.
+// Reading the contents after the first two octets gives this error, in every call and on both
+// readers.
 fn refused(rt: &impl Abort, octets: &[u8], error: Error) -> Result<(), Error> {
     header_refused(rt, ber_reader(octets)?, error);
     header_refused(rt, ber_unlent(octets)?, error);
@@ -16,7 +17,7 @@ fn refused(rt: &impl Abort, octets: &[u8], error: Error) -> Result<(), Error> {
     body_refused(rt, ber_unlent(octets)?, error)
 }
 
-// Each of these bodies is refused by its error.
+// Reading each of these contents gives its error.
 fn refused_each(rt: &impl Abort, rows: &[(&[u8], Error)]) -> Result<(), Fail> {
     for (octets, error) in rows {
         refused(rt, octets, *error)?;
@@ -24,7 +25,7 @@ fn refused_each(rt: &impl Abort, rows: &[(&[u8], Error)]) -> Result<(), Fail> {
     Ok(())
 }
 
-// A refused header leaves the reader behind octet `0x80`, and it has not failed.
+// A header whose contents fail leaves the reader after octet `0x80`, and not failed.
 fn header_refused<R: Reader>(rt: &impl Abort, mut reader: R, error: Error) {
     let end = u32::from(reader.input_len());
     same_at(rt, error, reader.peek_header(), Err(error));
@@ -33,14 +34,14 @@ fn header_refused<R: Reader>(rt: &impl Abort, mut reader: R, error: Error) {
     same_at(rt, error, place_of(&reader), (2, end, false));
 }
 
-// An element whose header is refused leaves the reader as it was.
+// An element whose header fails leaves the reader unchanged.
 fn element_refused(rt: &impl Abort, mut reader: SliceReader<'_>, error: Error) {
     let end = u32::from(reader.input_len());
     same_at(rt, error, next_element(&mut reader).err(), Some(error));
     same_at(rt, error, reader.place(), (0, end, false));
 }
 
-// A refused scan leaves the reader at the error's position, failed, where it does not look ahead.
+// A scan that consumes and fails leaves the reader failed, at the position of the error.
 fn body_refused<R: Reader>(rt: &impl Abort, mut reader: R, error: Error) -> Result<(), Error>
 {
     let end = u32::from(reader.input_len());
@@ -113,7 +114,7 @@ fn wrong_identifiers_in_a_body_are_refused(rt: HostRuntime) -> Result<(), Fail> 
     refused_each(&rt, &rows)
 }
 
-// What is refused early is no identifier that is cut.
+// What fails early is not a truncated identifier.
 #[test]
 fn a_wrong_identifier_at_the_end_is_not_told_as_cut(rt: HostRuntime) -> Result<(), Fail> {
     refused(&rt, &[0x30, 0x80, 0x5F, 0x80], invalid_number(4))?;
@@ -162,7 +163,7 @@ fn more_than_64_open_bodies_are_refused(rt: HostRuntime) -> Result<(), Fail> {
     Ok(())
 }
 
-// Where 64 bodies are open, all other refusals are as before.
+// With 64 open levels, all other errors are as before.
 #[test]
 fn inside_64_open_bodies_other_refusals_are_as_before(rt: HostRuntime) -> Result<(), Fail> {
     let octets = around_null(rt.alloc(), 65)?;
@@ -211,7 +212,7 @@ fn cut_lengths_in_a_body_are_refused(rt: HostRuntime) -> Result<(), Fail> {
     refused_each(&rt, &rows)
 }
 
-// An OCTET STRING whose first octets are there: behind its header is position 4.
+// A truncated OCTET STRING, with its first octets: position 4 is after its header.
 fn begun(alloc: Global, count: u8, there: usize) -> Result<Vec<u8>, Fail> {
     let mut octets = Vec::from_slice(alloc, &[0x30, 0x80, 0x04, count])?;
     for _ in 0..there {
@@ -220,7 +221,7 @@ fn begun(alloc: Global, count: u8, there: usize) -> Result<Vec<u8>, Fail> {
     Ok(octets)
 }
 
-// Whole steps of sixteen octets are passed before the next step is refused.
+// Whole steps of sixteen octets are consumed before the next step fails.
 #[test]
 fn cut_contents_are_refused_at_their_step_of_16_octets(rt: HostRuntime) -> Result<(), Fail> {
     let rows = [

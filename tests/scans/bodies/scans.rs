@@ -1,4 +1,4 @@
-//! The scan of a body, by a reader that passes it and by one that stays.
+//! The scan of indefinite-length contents, by a reader that consumes them and by one that peeks.
 
 use super::*;
 use crate::checks::{same, same_at};
@@ -8,7 +8,7 @@ use std::marker::Brand;
 use std::process::Abort;
 use std::sync::ledger::{Blank, Ledger};
 
-// Passes a body, and counts for nobody.
+// Consumes indefinite-length contents, without counting turns.
 pub(super) fn pass_body<R: Reader>(reader: &mut R) -> Result<Length, Error>
 {
     pass_counted::<R, Brand>(reader, Blank::new(1))
@@ -20,7 +20,7 @@ fn pass_counted<R: Reader, L: Ledger>(reader: &mut R, blank: Blank) -> Result<Le
     decode_indefinite_length(reader, &mut turns)
 }
 
-// Scans a body ahead of a reader, and counts for nobody.
+// Scans indefinite-length contents without consuming them and without counting turns.
 pub(super) fn body_ahead<R: Reader>(reader: &R) -> Result<Length, Error>
 {
     ahead_counted::<R, Brand>(reader, Blank::new(1))
@@ -32,8 +32,8 @@ fn ahead_counted<R: Reader, L: Ledger>(reader: &R, blank: Blank) -> Result<Lengt
     reader.scan_indefinite(&mut turns)
 }
 
-// The body ahead has so many octets: a scan that looks ahead stays, and one that passes it stands
-// behind its end mark.
+// The next contents have this number of octets: a scan that peeks leaves the reader unchanged, and
+// one that consumes them leaves it after the end-of-contents octets.
 fn scans<R: Reader>(rt: &impl Abort, mut reader: R, count: u32)
 {
     let start = u32::from(reader.position());

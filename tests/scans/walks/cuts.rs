@@ -1,16 +1,16 @@
-//! Bodies behind the two octets of a header, and each beginning of them.
+//! Indefinite-length contents after the two octets of a header, and each prefix of them.
 use super::scans::{Answer, answer_between};
 use super::*;
 use crate::checks::same;
 use std::process::Abort;
 
-// A body of so many octets, with its end mark.
+// The result for contents of `count` octets, end-of-contents octets included.
 fn body_of(count: u32) -> Answer {
     Ok(Length::new_indefinite(count))
 }
 
-// Behind the first two octets both scans answer so, and answer the same of each beginning. Where a
-// part ends before it, an end mark follows.
+// After the first two octets both scans return this result, and equal results for each prefix. If a
+// part ends before that, end-of-contents octets follow.
 fn scans_each_cut(
     rt: &impl Abort,
     alloc: Global,

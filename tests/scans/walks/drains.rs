@@ -1,15 +1,15 @@
-//! Octets that a slice drains at once, and a reader that lends nothing in steps.
+//! Octets that a slice drains at once, and a reader without slices in steps.
 use super::*;
 use crate::checks::same_at;
 use std::process::Abort;
 
-// Both readers answer the same, and stand at the same place.
+// Both readers return the same, and are at the same position.
 fn drain_both<R: Reader, S: Reader>(rt: &impl Abort, mut reader: R, mut steps: S, amount: Length) {
     same_at(rt, amount, reader.drain(amount), steps.drain(amount));
     same_at(rt, amount, place_of(&reader), place_of(&steps));
 }
 
-// Both readers drain alike where the first octets are read, and where both have failed behind them.
+// Both readers drain equally after the first octets are read, and after both have failed.
 fn drain_behind(rt: &impl Abort, octets: &[u8], passed: u32, amount: Length) -> Result<(), Error> {
     let mut reader = ber_reader(octets)?;
     let mut steps = ber_unlent(octets)?;
@@ -22,7 +22,7 @@ fn drain_behind(rt: &impl Abort, octets: &[u8], passed: u32, amount: Length) -> 
     Ok(())
 }
 
-// Up to forty octets, flagged and not.
+// Up to forty octets, with definite and indefinite lengths.
 fn drain_each(rt: &impl Abort, octets: &[u8], passed: u32) -> Result<(), Error> {
     for amount in 0..=40u32 {
         drain_behind(rt, octets, passed, Length::new(amount))?;

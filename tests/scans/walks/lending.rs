@@ -1,4 +1,4 @@
-//! A reader that lends what is left, and refuses each read.
+//! A reader that returns a slice of what is left, and fails at each read.
 use super::scans::scans;
 use super::*;
 use crate::checks::same;
@@ -10,7 +10,7 @@ fn constant_and_function_say_alike_that_it_lends(rt: HostRuntime) {
     same(&rt, lending_agrees::<LendingReader>(true), true);
 }
 
-// The scan ahead walks what is lent. One that passes the body has to read it.
+// The scan that peeks walks over the returned slice. The one that consumes has to read.
 #[test]
 fn a_body_that_is_lent_is_counted_ahead_and_not_passed(rt: HostRuntime) -> Result<(), Fail> {
     let mut reader = ber_lending(&SEGMENT_OF_ZEROS)?;

@@ -3,10 +3,10 @@ use super::scans::answer_between;
 use super::*;
 use std::process::Abort;
 
-// half an end mark, a BOOLEAN, an OCTET STRING and one of segments, a SEQUENCE, an indefinite form
+// half of the end-of-contents octets, a BOOLEAN
 const OCTETS: [u8; 6] = [0x00, 0x01, 0x04, 0x24, 0x30, 0x80];
 
-// Of so many octets, the first so many lists by the six as digits.
+// The first `lists` lists of `count` octets, with the six octets as digits.
 fn scan_lists(rt: &impl Abort, count: u32, lists: usize) -> Result<(), Error> {
     for list in 0..lists {
         let octets = [

@@ -1,4 +1,4 @@
-//! The scan of a body ahead of a reader, and that of a fork which passes the body.
+//! A scan that peeks, and a scan of a fork that consumes.
 
 use super::*;
 use crate::checks::same_at;
@@ -8,10 +8,10 @@ use std::marker::Brand;
 use std::process::Abort;
 use std::sync::ledger::{Blank, Ledger};
 
-/// How many octets a body has, or why there is none.
+/// How many octets the contents have, or the error.
 pub(super) type Answer = Result<Length, Error>;
 
-// What a scan ahead of the reader answers, and what a fork does that passes the body.
+// The result of a scan that peeks, and that of a fork that consumes.
 pub(super) fn scans<R: Reader>(reader: &R) -> (Answer, Answer)
 {
     scans_counted::<R, Brand>(reader, Blank::new(1))
@@ -25,7 +25,7 @@ fn scans_counted<R: Reader, L: Ledger>(reader: &R, blank: Blank) -> (Answer, Ans
     (ahead, decode_indefinite_length(&mut fork, &mut turns))
 }
 
-// What both scans answer inside a part, whose octets are passed.
+// The results of both scans inside a part, whose octets are consumed.
 fn scans_of_part<R: Reader>(reader: &mut R) -> Result<(Answer, Answer), Error>
 {
     let answers = scans(reader);
@@ -34,8 +34,8 @@ fn scans_of_part<R: Reader>(reader: &mut R) -> Result<(Answer, Answer), Error>
     Ok(answers)
 }
 
-// What both scans answer from a position on, up to an end, where a reader has no octets behind it
-// and where a part ends there.
+// The results of both scans from a position to an end, for a reader with no octets after it and for
+// a part that ends there.
 pub(super) fn answer_between(
     rt: &impl Abort,
     octets: &[u8],

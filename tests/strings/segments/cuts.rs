@@ -1,4 +1,4 @@
-//! Every beginning of elements in segments: each is refused where it was cut.
+//! Every prefix of elements in segments: each is an error where it was truncated.
 use super::joined::ELEMENTS;
 use super::levels::{Forms, nested};
 use super::*;
@@ -7,11 +7,11 @@ use crate::strings::elements::joined_of_ber;
 use der::example::JoinedOctets;
 use std::process::Abort;
 
-// Where contents stand that a scan passes at once, and how many octets they have, 16 at most.
+// The position of contents that a scan skips at once, and their number of octets, 16 at most.
 pub(super) type Passed = (u32, u32);
 
-// What is missing of an element that was cut behind so many octets: the next one, or those that a
-// scan passes at once.
+// The error of an element that was truncated after `cut` octets: the next octet is missing, or
+// those that a scan skips at once.
 fn missing(passed: &[Passed], cut: u32) -> Error {
     for (start, count) in passed {
         if cut >= *start && cut - *start < *count {
@@ -21,7 +21,7 @@ fn missing(passed: &[Passed], cut: u32) -> Error {
     incomplete(cut.saturating_add(1), cut, cut)
 }
 
-// A beginning is refused by this error.
+// Reading a prefix gives this error.
 fn refused(rt: &impl Abort, cut: usize, read: &Result<JoinedOctets, Error>, error: Error) {
     match read {
         Ok(_) => same_at(rt, cut, None, Some(error)),
@@ -29,7 +29,7 @@ fn refused(rt: &impl Abort, cut: usize, read: &Result<JoinedOctets, Error>, erro
     }
 }
 
-// The whole is joined to these octets.
+// The whole element is joined to these octets.
 fn read(rt: &impl Abort, row: usize, read: &Result<JoinedOctets, Error>, joined: &[u8]) {
     match read {
         Ok(whole) => same_at(rt, row, whole.octets.as_slice(), joined),
@@ -37,7 +37,7 @@ fn read(rt: &impl Abort, row: usize, read: &Result<JoinedOctets, Error>, joined:
     }
 }
 
-// The element is joined to these octets, and of each beginning octets are missing.
+// The element is joined to these octets, and each proper prefix of it is truncated.
 fn cut_everywhere(
     rt: &impl Abort,
     alloc: Global,

@@ -1,9 +1,9 @@
-//! Readers one of whose reads fails, for each read in turn until none does.
+//! Readers that fail at one read, for each read in turn until none fails.
 use super::joined::decoding;
 use super::*;
 use crate::checks::same_at;
 
-// The body is scanned ahead, so what fails in it fails behind octet `0x80`.
+// The contents are scanned first, so a read that fails there fails after octet `0x80`.
 #[test]
 fn an_element_is_refused_at_whichever_read_fails(rt: HostRuntime) -> Result<(), Fail> {
     let octets = [

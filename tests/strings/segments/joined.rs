@@ -1,4 +1,4 @@
-//! Elements whose octets may stand in segments.
+//! Elements whose octets may be in segments.
 use super::cuts::Passed;
 use super::*;
 use crate::checks::{same, same_at};
@@ -6,7 +6,7 @@ use crate::strings::elements::{joined_of_ber, joined_of_der, joined_to_der};
 use der::example::JoinedOctets;
 use std::process::Abort;
 
-// What an element gives, and where the reader stands then.
+// The result of an element, and the place of the reader then.
 pub(super) fn decoding<R: Reader>(
     rt: &impl Abort,
     alloc: Global,
@@ -28,7 +28,7 @@ fn octets_of(read: &Result<JoinedOctets, Error>) -> Result<&[u8], Error> {
     }
 }
 
-// Under the Basic Encoding Rules, by every call that decodes.
+// Under the Basic Encoding Rules, with every call that decodes.
 fn under_ber(
     rt: &impl Abort,
     alloc: Global,
@@ -48,7 +48,7 @@ fn wholly_under_ber(rt: &impl Abort, alloc: Global, octets: &[u8], answer: Resul
     same_at(rt, octets.len(), octets_of(&whole), answer);
 }
 
-// Under the Distinguished Encoding Rules, by every call that decodes.
+// Under the Distinguished Encoding Rules, with every call that decodes.
 fn under_der(
     rt: &impl Abort,
     alloc: Global,
@@ -82,8 +82,8 @@ fn primitive_octets_are_taken_as_they_stand(rt: HostRuntime) -> Result<(), Fail>
     Ok(())
 }
 
-/// Elements in segments, which may be cut into segments again, what each is joined to, and where
-/// contents stand in it that a scan passes at once.
+/// Elements in segments, possibly nested, with their joined octets, and the contents in them that a
+/// scan skips at once.
 pub(super) const ELEMENTS: [(&[u8], &[u8], &[Passed]); 12] = [
     (&[0x24, 0x00], &[], &[]),
     (&[0x24, 0x80, 0x00, 0x00], &[], &[]),

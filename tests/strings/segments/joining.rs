@@ -1,9 +1,9 @@
-//! Segments behind lengths of each form, with other tags, inside parts, and of a failed reader.
+//! Segments after lengths of each form, with other tags, inside parts, and of a failed reader.
 use super::*;
 use crate::checks::{same, same_at};
 use std::process::Abort;
 
-// Two segments behind a length of the indefinite form, whatever its number.
+// Two segments after an indefinite length, whatever its number.
 fn behind_indefinite<R: Joins>(rt: &impl Abort, alloc: Global, mut reader: R, number: u32) {
     let length = Length::new_indefinite(number);
     let joined = reader.join(alloc, length, Tag::OctetString);
@@ -21,7 +21,7 @@ fn segments_are_joined_behind_any_indefinite_length(rt: HostRuntime) -> Result<(
     Ok(())
 }
 
-// A length of the definite form is refused at once, under the Distinguished Encoding Rules.
+// A definite length fails at once, under the Distinguished Encoding Rules.
 fn refused_behind_definite<R: Joins>(rt: &impl Abort, alloc: Global, mut reader: R, number: u32) {
     let (position, end, _) = reader.place();
     let length = Length::new(number);
@@ -44,7 +44,7 @@ fn der_refuses_segments_behind_a_definite_length(rt: HostRuntime) -> Result<(), 
     Ok(())
 }
 
-// Under the Basic Encoding Rules segments behind it are joined.
+// Under the Basic Encoding Rules segments after it are joined.
 fn behind_definite<R: Joins>(
     rt: &impl Abort,
     alloc: Global,
@@ -85,7 +85,7 @@ fn ber_joins_segments_behind_any_definite_length(rt: HostRuntime) -> Result<(), 
     Ok(())
 }
 
-// Segments with this tag, of the context.
+// Segments with this context-specific tag.
 fn tagged<R: Joins>(
     rt: &impl Abort,
     alloc: Global,
@@ -116,8 +116,7 @@ fn segments_are_joined_that_have_the_tag_asked_for(rt: HostRuntime) -> Result<()
     Ok(())
 }
 
-// Under the Distinguished Encoding Rules segments are primitive, also where the tag that is asked
-// for is not.
+// Under the Distinguished Encoding Rules segments are primitive, even if the requested tag is not.
 #[test]
 fn der_refuses_segments_with_a_constructed_tag(rt: HostRuntime) -> Result<(), Fail> {
     let alloc = rt.alloc();
@@ -129,7 +128,7 @@ fn der_refuses_segments_with_a_constructed_tag(rt: HostRuntime) -> Result<(), Fa
     Ok(())
 }
 
-// Under the Basic Encoding Rules each of them is cut into segments with that tag.
+// Under the Basic Encoding Rules each of them consists of segments with that tag.
 fn cut_again<R: Joins>(
     rt: &impl Abort,
     alloc: Global,

@@ -1,11 +1,11 @@
-//! Segments inside segments, as deep as they may stand and one deeper.
+//! Nested segments, at the maximum depth and one deeper.
 use super::*;
 use crate::checks::{same, same_at};
 use crate::strings::elements::joined_of_ber;
 use crate::fixtures::errors::too_deep;
 use std::process::Abort;
 
-/// Which levels have a length of the indefinite form, counted from the innermost.
+/// Which levels have an indefinite length, counted from the innermost.
 #[derive(Clone, Copy)]
 pub enum Forms {
     /// None.
@@ -43,7 +43,7 @@ fn around(alloc: Global, octets: &[u8], indefinite: bool) -> Result<Vec<u8>, Fai
     Ok(segment)
 }
 
-/// So many segments inside each other, and these octets in the innermost.
+/// `levels` nested segments, and these octets in the innermost.
 pub fn nested(alloc: Global, forms: Forms, levels: usize, octets: &[u8]) -> Result<Vec<u8>, Fail> {
     let mut segments = Vec::from_slice(alloc, octets)?;
     for level in 0..levels {
@@ -54,7 +54,7 @@ pub fn nested(alloc: Global, forms: Forms, levels: usize, octets: &[u8]) -> Resu
 
 const SEGMENT: [u8; 3] = [0x04, 0x01, 0x2A];
 
-// All that the octets are joined to, as one element.
+// The joined octets of exactly one element.
 fn whole(rt: &impl Abort, alloc: Global, row: usize, octets: &[u8], answer: Result<&[u8], Error>) {
     match joined_of_ber(alloc, octets) {
         Ok(joined) => same_at(rt, row, Ok(joined.octets.as_slice()), answer),
@@ -89,7 +89,7 @@ fn the_65th_definite_level_is_refused(rt: HostRuntime) -> Result<(), Fail> {
     Ok(())
 }
 
-// The scan looks at all 65 from the first on.
+// The scan sees all 65 from the first on.
 #[test]
 fn the_65th_indefinite_level_is_refused_by_the_scan(rt: HostRuntime) -> Result<(), Fail> {
     let octets = nested(rt.alloc(), Forms::Indefinite, 65, &[])?;
@@ -98,8 +98,8 @@ fn the_65th_indefinite_level_is_refused_by_the_scan(rt: HostRuntime) -> Result<(
     Ok(())
 }
 
-// No scan looks into definite contents: the innermost of 65 is refused where it is entered, behind
-// all headers. Of these 33 are indefinite, which end with two octets each.
+// No scan enters definite contents: the innermost of 65 fails when it is entered, after all
+// headers. Of these 33 are indefinite, and each ends with two octets.
 #[test]
 fn the_65th_level_of_either_form_is_refused_on_entering_it(rt: HostRuntime) -> Result<(), Fail> {
     let octets = nested(rt.alloc(), Forms::Alternating, 65, &SEGMENT)?;
@@ -114,7 +114,7 @@ fn the_65th_level_of_either_form_is_refused_on_entering_it(rt: HostRuntime) -> R
     Ok(())
 }
 
-// Each scan sees 64 levels, but the reader stands inside a part already.
+// Each scan sees 64 levels, but the reader is already inside a part.
 #[test]
 fn a_definite_level_has_room_for_63_indefinite_ones_inside(rt: HostRuntime) -> Result<(), Fail> {
     let alloc = rt.alloc();
@@ -128,7 +128,7 @@ fn a_definite_level_has_room_for_63_indefinite_ones_inside(rt: HostRuntime) -> R
     Ok(())
 }
 
-// What segments are joined to by a reader inside so many parts.
+// The joined segments of a reader inside this number of parts.
 fn inside_parts<R: Reader + Joins>(
     rt: &impl Abort,
     alloc: Global,

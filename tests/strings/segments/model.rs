@@ -1,12 +1,11 @@
-//! All lists of a few octets, joined by a plain function that goes down into segments, and by the
-//! library.
+//! All lists of a few octets, joined by a simple recursive function and by the library.
 use super::*;
 use crate::checks::{holds_at, same, same_at};
 use std::alloc::AllocError;
 use std::process::Abort;
 
-// What stands behind the end mark that closes a body (X.690 8.1.3.6). Of identifiers there are
-// 01, 02, 04 and 80, which are primitive, and 24.
+// What follows the end-of-contents octets that close indefinite-length contents (X.690 8.1.3.6).
+// The only identifiers are 01, 02, 04 and 80, which are primitive, and 24.
 fn behind_body(octets: &[u8], levels: u32) -> Option<&[u8]> {
     if levels == 0 {
         return None;
@@ -24,7 +23,7 @@ fn behind_body(octets: &[u8], levels: u32) -> Option<&[u8]> {
     None
 }
 
-// The first segment: whether it is constructed, its contents, and what stands behind it.
+// The first segment: whether it is constructed, its contents, and what follows it.
 fn first_segment(octets: &[u8]) -> Option<(bool, &[u8], &[u8])> {
     match octets {
         [0x24, 0x80, inner @ ..] => {
@@ -45,8 +44,8 @@ fn first_segment(octets: &[u8]) -> Option<(bool, &[u8], &[u8])> {
     }
 }
 
-// Joins segments, which may be cut into segments so many levels deep, and says whether all of the
-// octets are segments (X.690 8.7.3).
+// Joins segments, which may be nested `levels` deep, and returns whether all of the octets are
+// segments (X.690 8.7.3).
 fn join_plainly(octets: &[u8], levels: u32, out: &mut Vec<u8>) -> Result<bool, AllocError> {
     let mut left = octets;
     for _ in 0..octets.len() {
@@ -75,7 +74,7 @@ fn octet(digit: u32) -> u8 {
     }
 }
 
-// The list of so many octets that a number stands for, a digit in base 6 each.
+// The list of `count` octets with this number, one digit in base 6 for each.
 fn list_of(alloc: Global, number: u32, count: usize) -> Result<Vec<u8>, AllocError> {
     let mut octets = Vec::with_capacity(alloc, count)?;
     let mut digits = number;
@@ -86,7 +85,7 @@ fn list_of(alloc: Global, number: u32, count: usize) -> Result<Vec<u8>, AllocErr
     Ok(octets)
 }
 
-// Whether a reader joins octets as the plain function does.
+// Whether a reader joins octets as the simple function does.
 fn is_joined_plainly<R: Joins>(
     alloc: Global,
     mut reader: R,
@@ -102,7 +101,7 @@ fn is_joined_plainly<R: Joins>(
     })
 }
 
-// Lists of so many octets, and how many of them there are.
+// All lists of `count` octets, of which there are `lists`.
 fn lists_of(rt: &impl Abort, alloc: Global, count: usize, lists: u32) -> Result<(), Fail> {
     for number in 0..lists {
         let list = list_of(alloc, number, count)?;
@@ -131,7 +130,7 @@ fn all_short_lists_are_joined_as_by_a_plain_function(rt: HostRuntime) -> Result<
     Ok(())
 }
 
-// The plain function itself, on rows that are worked out.
+// The simple function itself, on rows worked out by hand.
 #[test]
 fn the_plain_function_joins_the_worked_rows(rt: HostRuntime) -> Result<(), Fail> {
     let rows: [(&[u8], u32, Option<&[u8]>); 8] = [

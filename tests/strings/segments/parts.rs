@@ -1,12 +1,12 @@
-//! Contents that stand as they are or in segments.
+//! Contents in one piece or in segments.
 use super::*;
 use crate::checks::{same, same_at};
 use der::close_value;
 use std::process::Abort;
 
-// Readers that contents are read by, without saying all that they are.
+// Readers that read contents, without naming their types.
 trait Parts: Placed + Drop {
-    // What the contents behind this header give.
+    // The result of reading the contents after this header.
     fn parts(&mut self, alloc: Global, header: Header) -> Result<BytesOwned, Error>;
 }
 
@@ -22,7 +22,7 @@ impl<'a> Parts for CopyingReader<'a> {
     }
 }
 
-// What contents behind this header give, and where the reader stands then.
+// The result of reading the contents after this header, and the place of the reader then.
 fn decoding<R: Parts>(
     rt: &impl Abort,
     alloc: Global,
@@ -45,7 +45,7 @@ fn octets_of(read: &Result<BytesOwned, Error>) -> Result<&[u8], Error> {
     }
 }
 
-// Contents are decoded so under the Basic Encoding Rules, whether the reader lends or not.
+// Contents are decoded so under the Basic Encoding Rules, whether the reader returns slices or not.
 fn under_ber(
     rt: &impl Abort,
     alloc: Global,
@@ -59,7 +59,8 @@ fn under_ber(
     Ok(())
 }
 
-// Contents are decoded so under the Distinguished Encoding Rules, whether the reader lends or not.
+// Contents are decoded so under the Distinguished Encoding Rules, whether the reader returns slices
+// or not.
 fn under_der(
     rt: &impl Abort,
     alloc: Global,
@@ -91,7 +92,7 @@ fn contents_behind_a_primitive_header_are_taken_as_they_stand(rt: HostRuntime) -
     Ok(())
 }
 
-// The header's tag is not looked at, but in what a refusal says.
+// The tag of the header is used only in errors.
 fn segments_behind(rt: &impl Abort, alloc: Global, tag: Tag, length: Length) -> Result<(), Error> {
     let header = Header::new(tag, length);
     let joined = Ok([0x2A].as_slice());
@@ -112,7 +113,7 @@ fn contents_of_constructed_headers_are_joined_under_ber_alone(rt: HostRuntime) -
     Ok(())
 }
 
-// What stands in a constructed element, whatever its tag and the form of its length.
+// The contents of a constructed element, whatever its tag and the form of its length.
 fn contents(alloc: Global, reader: &mut SliceReader<'_>) -> Result<BytesOwned, Error> {
     let header = next_header(reader)?;
     let length = header.length().sans_eoc();
@@ -121,7 +122,7 @@ fn contents(alloc: Global, reader: &mut SliceReader<'_>) -> Result<BytesOwned, E
     close_value(reader, length, outer, read)
 }
 
-// The encrypted octets of a CMS message, whose tag stands in the place of OCTET STRING.
+// The encrypted octets of a CMS message, whose tag replaces that of OCTET STRING.
 fn encrypted(rt: &impl Abort, alloc: Global, octets: &[u8]) -> Result<(), Error> {
     let end = count_of(octets)?;
     let mut reader = ber_reader(octets)?;
@@ -158,7 +159,7 @@ fn contents_behind_an_implicit_tag_are_joined(rt: HostRuntime) -> Result<(), Fai
     Ok(())
 }
 
-// What is refused at the front is told there, and else at the octet before.
+// An error at the front is reported there, and any other at the octet before.
 fn refused_behind<R: Reader + Parts>(
     rt: &impl Abort,
     alloc: Global,
@@ -182,7 +183,7 @@ fn der_refuses_a_constructed_header_at_the_octet_before(rt: HostRuntime) -> Resu
     Ok(())
 }
 
-// Segments that are refused are so as where they are joined.
+// Malformed segments give the same errors as where they are joined.
 #[test]
 fn wrong_segments_in_contents_are_refused(rt: HostRuntime) -> Result<(), Fail> {
     let header = Header::new(Tag::OctetString, Length::new_indefinite(3));

@@ -1,9 +1,9 @@
-//! Segments up to the end.
+//! Segments up to the end of the input.
 use super::*;
 use crate::checks::same_at;
 use std::process::Abort;
 
-// What segments are joined to, or why they are refused, and where the reader stands then.
+// The joined segments, or their error, and the place of the reader then.
 fn joining<R: Joins>(
     rt: &impl Abort,
     alloc: Global,
@@ -19,7 +19,7 @@ fn joining<R: Joins>(
     same_at(rt, end, reader.place(), (position, end, failed));
 }
 
-// Segments are joined so, whether the reader lends or not.
+// Segments are joined so, whether the reader returns slices or not.
 fn joining_each(
     rt: &impl Abort,
     alloc: Global,
@@ -32,7 +32,7 @@ fn joining_each(
     Ok(())
 }
 
-// Primitive segments are alike under both rules.
+// Primitive segments are treated equally under both rules.
 fn joining_primitive(
     rt: &impl Abort,
     alloc: Global,
@@ -48,7 +48,7 @@ fn joining_primitive(
 
 #[test]
 fn primitive_segments_are_joined_under_both_rules(rt: HostRuntime) -> Result<(), Fail> {
-    // the segments, what they are joined to, and how many octets they have
+    // the segments, their joined octets, and their number of octets
     let rows: [(&[u8], &[u8], u32); 6] = [
         (&[], &[], 0u32),
         (&[0x04, 0x00], &[], 2),
@@ -143,10 +143,10 @@ fn segments_with_other_tags_are_refused(rt: HostRuntime) -> Result<(), Fail> {
     Ok(())
 }
 
-// A segment of either form of length that is cut into segments.
+// A segment with either form of length that consists of segments.
 #[test]
 fn segments_of_segments_are_joined_under_ber(rt: HostRuntime) -> Result<(), Fail> {
-    // the segments, what they are joined to, and how many octets they have
+    // the segments, their joined octets, and their number of octets
     let rows: [(&[u8], &[u8], u32); 5] = [
         (&[0x24, 0x00], &[], 2u32),
         (&[0x24, 0x80, 0x00, 0x00], &[], 4),

@@ -1,4 +1,4 @@
-//! Octets and texts that are borrowed.
+//! Borrowed octets and texts.
 use super::*;
 use crate::checks::{holds, same};
 

@@ -1,4 +1,4 @@
-//! The constants of types over octets and texts, and the functions that say the same.
+//! The constants of types over octets and texts, and the functions that return the same.
 use super::*;
 use crate::checks::holds;
 use der::example::JoinedOctets;

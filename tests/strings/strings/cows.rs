@@ -1,10 +1,10 @@
-//! Octets and texts that are borrowed where the reader lends.
+//! Octets and texts that are borrowed if the reader returns slices.
 use super::*;
 use crate::checks::{holds, same};
 use der::encode_value_to_slice;
 use std::process::Abort;
 
-// Contents that a reader cannot lend.
+// Contents of a reader that returns no slices.
 fn octets_of_contents<'a>(
     alloc: Global,
     reader: &mut CopyingReader<'a>,
@@ -13,7 +13,7 @@ fn octets_of_contents<'a>(
     BytesCow::decode_value(alloc, reader, header)
 }
 
-// The contents of a text, which a reader lends.
+// The contents of a text, from a reader that returns slices.
 fn text_of_contents<'a>(
     alloc: Global,
     reader: &mut SliceReader<'a>,
@@ -83,7 +83,7 @@ fn octets_that_are_no_text_are_refused_behind_them(rt: HostRuntime) -> Result<()
 
 const TEXT: [u8; 3] = [0x67, 0xC3, 0xBC];
 
-// What is written is that of the view, whichever it is.
+// The encoding is that of the view, borrowed or owned.
 fn written<T: EncodeValue>(rt: &impl Abort, value: &T) -> Result<(), Error> {
     same(rt, value.value_len(), Ok(Length::new(3)));
     let mut buffer = [0u8; 4];

@@ -20,7 +20,7 @@ fn octets_are_read_and_written(rt: HostRuntime) -> Result<(), Fail> {
     Ok(())
 }
 
-// This element is refused so.
+// Reading this element gives this error.
 fn refused(rt: &impl Abort, alloc: Global, octets: &[u8], error: Error) {
     let refused = borrowed_of_der(alloc, octets).err();
     same(rt, refused, Some(error));
@@ -36,7 +36,7 @@ fn elements_that_are_no_octet_strings_are_refused(rt: HostRuntime) {
     refused(&rt, alloc, &[0x04, 0x02, 0x01], incomplete(4, 3, 3));
 }
 
-// Under the Basic Encoding Rules the contents are taken as they stand, segments too.
+// Under the Basic Encoding Rules the contents are accepted unchanged, segments too.
 #[test]
 fn under_ber_octets_are_taken_as_they_stand_and_segments_too(rt: HostRuntime) -> Result<(), Fail> {
     let alloc = rt.alloc();
@@ -80,7 +80,7 @@ fn elements_that_are_no_texts_are_refused(rt: HostRuntime) -> Result<(), Fail> {
     Ok(())
 }
 
-// Behind the header of what wants lending a reader that cannot stands unmoved.
+// A reader that returns no slices stays after the header of a value that needs one.
 fn unlent<T: Decode<CopyingReader<'static>, Error = Error> + Drop>(
     rt: &impl Abort,
     alloc: Global,

@@ -13,7 +13,7 @@ fn owned_order(alloc: Global, a: &[u8], b: &[u8]) -> Result<Ordering, Error> {
     Ok(a.cmp(&owned_bytes(alloc, b)?))
 }
 
-// Borrowed octets are ordered one by one; those in memory of their own first by their number.
+// Borrowed octets are ordered octet by octet; owned ones first by their number.
 #[test]
 fn borrowed_octets_are_ordered_one_by_one_and_owned_by_number_first(rt: HostRuntime) {
     let rows: [(&[u8], &[u8], Ordering, Ordering); 6] = [

@@ -1,4 +1,4 @@
-//! Octets and texts in memory of their own.
+//! Owned octets and texts.
 use super::*;
 use crate::checks::{holds, same};
 use der::{box_to_ref, slice_to_owned};
@@ -8,7 +8,7 @@ fn three(alloc: Global) -> Result<BytesOwned, Error> {
     owned_bytes(alloc, &[0x01, 0x02, 0x03])
 }
 
-// Octets of whichever origin are these.
+// Octets of any origin equal these.
 fn are_three(rt: &impl Abort, bytes: BytesOwned) {
     same(rt, bytes.as_slice(), [0x01, 0x02, 0x03].as_slice());
 }

@@ -94,7 +94,7 @@ fn a_segment_with_each_form_of_length_is_joined_and_written(rt: HostRuntime) -> 
     Ok(())
 }
 
-// Each segment behind the one before, whatever the number of their octets.
+// Segments in sequence, whatever their numbers of octets.
 #[test]
 fn segments_with_all_forms_of_length_are_joined_to_one(rt: HostRuntime) -> Result<(), Fail> {
     let alloc = rt.alloc();

@@ -35,7 +35,7 @@ fn octets_in_utf8_are_texts(rt: HostRuntime) -> Result<(), Fail> {
     Ok(())
 }
 
-// These octets are none; a reader stands behind them then.
+// These octets are not text; the reader is after them then.
 fn is_refused(rt: &impl Abort, alloc: Global, octets: &[u8]) -> Result<(), Error> {
     let mut reader = der_reader(octets)?;
     let end = u32::from(reader.input_len());
@@ -51,8 +51,8 @@ fn is_refused(rt: &impl Abort, alloc: Global, octets: &[u8]) -> Result<(), Error
     Ok(())
 }
 
-// Longer spellings, surrogates, what is past the last character, a lone octet of the middle, and
-// characters that are cut.
+// Overlong encodings, surrogates, code points past the last one, a lone continuation octet, and
+// truncated characters.
 #[test]
 fn octets_that_are_not_utf8_are_refused_as_texts(rt: HostRuntime) -> Result<(), Fail> {
     let rows: [&[u8]; 13] = [

@@ -2,7 +2,7 @@
 use super::*;
 use crate::checks::{same, same_at};
 
-/// Numbers that ascend, at the edges of the forms of lengths (X.690 8.1.3).
+/// Ascending numbers at the limits of the forms of lengths (X.690 8.1.3).
 const ASCENDING: [u32; 12] = [
     0, 1, 127, 128, 255, 256, 65535, 65536, 16777215, 16777216, 4294967294, 4294967295,
 ];

@@ -1,4 +1,4 @@
-//! What is refused in a comparison, and when.
+//! The errors of a comparison, and when they occur.
 
 use super::*;
 use crate::checks::same;
@@ -12,7 +12,7 @@ fn telling(tag: Tag, answer: Result<Ordering, Error>) -> Ranked {
     }
 }
 
-// One whose header is refused at this position.
+// A value whose header fails at this position.
 fn refused(tag: Tag, position: u32) -> Ranked {
     Ranked {
         tag,

@@ -2,7 +2,7 @@
 use super::*;
 use crate::checks::{same, same_at};
 
-/// Contents that ascend where a header stands before them: fewer octets have the smaller length.
+/// Contents that ascend with their headers: fewer octets have the smaller length.
 const ASCENDING: [&[u8]; 6] = [
     &[],
     &[0x00],
@@ -63,7 +63,7 @@ fn joined_octets_are_compared_as_written(rt: HostRuntime) -> Result<(), Fail> {
     Ok(())
 }
 
-// A text in memory of its own.
+// An owned text.
 fn text(alloc: Global, octets: &[u8]) -> Result<OwnedText, Error> {
     let text = StringOwned::from_bytes(alloc, octets)?;
     Ok(OwnedText { text })

@@ -1,4 +1,4 @@
-//! A writer that counts its writes, through which the generic calls run a second time.
+//! A writer that counts its writes, on which the generic calls run a second time.
 
 use super::month::september;
 use super::*;

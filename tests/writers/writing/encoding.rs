@@ -61,7 +61,7 @@ fn lengths_are_written_in_the_shortest_form_and_read_back(rt: HostRuntime) -> Re
     Ok(())
 }
 
-// Whether a tag is written as these octets, counts them, and is read from them.
+// Whether a tag is written as these octets, has their length, and is read from them.
 fn is_written_as(alloc: Global, tag: Tag, want: &[u8]) -> Result<bool, Error> {
     let mut buf = [0; 6];
     let der = tag.encode_to_slice(&mut buf)?;

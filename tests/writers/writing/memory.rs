@@ -1,4 +1,4 @@
-//! Memory that is refused where octets are written to a vector.
+//! Allocations that fail when octets are written to a vector.
 use super::*;
 use crate::checks::{holds, same, same_at};
 use der::{encode_to_vec_in, to_der_in};

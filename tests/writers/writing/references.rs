@@ -1,4 +1,4 @@
-//! References, which are encoded as what they refer to.
+//! References, which are encoded like what they refer to.
 use super::month::september;
 use super::*;
 use crate::checks::{holds, same};

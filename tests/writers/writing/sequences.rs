@@ -104,7 +104,7 @@ fn a_refusal_inside_a_sequence_fails_the_writer(rt: HostRuntime) {
     same(&rt, writer.sequence(Length::ZERO, |_w| Ok(())), Err(failed));
 }
 
-// A SEQUENCE of which one octet of two is written, and then the rest is refused.
+// A SEQUENCE of which one octet of two is written, and then writing fails.
 fn refused_within(writer: &mut SliceWriter<'_>) -> Result<(), Error>
 {
     writer.sequence(Length::new(2), |w| match w.write_byte(0x05) {
@@ -113,7 +113,7 @@ fn refused_within(writer: &mut SliceWriter<'_>) -> Result<(), Error>
     })
 }
 
-// The part is written by an author who does not look at the refusal.
+// The part is written by a function that ignores the error.
 fn ignored_within(writer: &mut SliceWriter<'_>) -> Result<(), Error>
 {
     match refused_within(writer) {
@@ -129,7 +129,7 @@ fn a_refusal_in_a_sequence_in_a_sequence_fails_the_writer(rt: HostRuntime) {
     let refused = writer.sequence(Length::new(4), refused_within);
     same(&rt, refused, Err(ErrorKind::DateTime.to_error()));
     holds(&rt, writer.is_failed());
-    // the inner part is behind two headers
+    // the inner part is after two headers
     let failed = ErrorKind::Failed.at(Length::new(6));
     holds(
         &rt,

@@ -1,4 +1,4 @@
-//! What a writer into a slice takes, and what it refuses.
+//! What a writer into a slice accepts, and its errors.
 use super::month::september;
 use super::*;
 use crate::checks::{holds, same};

@@ -40,7 +40,7 @@ fn an_element_that_is_too_long_overflows(rt: HostRuntime) -> Result<(), Fail> {
     Ok(())
 }
 
-// The refusal asks for no memory: none is left.
+// The error allocates nothing: no memory is left.
 #[test]
 fn what_is_too_long_overflows_before_memory_is_asked_for(rt: HostRuntime) -> Result<(), Fail> {
     let heap = LocalHeap::new(rt.alloc(), 32)?;

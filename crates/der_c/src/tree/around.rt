@@ -1,15 +1,15 @@
 //! The parts around a reader that walks a tree.
 ghost use Rattle.std.specs.Prelude.{◌≤◌};
 
-// how many parts are looked into inside each other
+// how many levels of nested parts are entered
 pub(crate) const LEVELS: usize = 32;
 
-/// Where the parts around end, and where the reader goes on in each.
+/// For each part around the reader, where it ends, and where the reader continues in it.
 #[derive(Drop)]
 pub(crate) struct Around {
     pub(crate) ends: [u32; 32],
     pub(crate) behind: [u32; 32],
-    // how many they are
+    // the number of parts around the reader
     pub(crate) level: usize,
     ghost shallow: { level ≤ 32 },
 }

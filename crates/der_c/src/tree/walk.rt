@@ -1,4 +1,4 @@
-//! A reader that goes into parts and out of them.
+//! A reader that enters and leaves parts.
 ghost use Rattle.std.specs.Prelude.{◌≡◌, ◌+◌, ◌<◌, ◌≤◌, List, [], ◌∷◌, length};
 ghost use Rattle.der_core.specs.ReaderState.{ReaderState};
 ghost use Rattle.der_c.specs.Reader.{reader_state};
@@ -9,7 +9,7 @@ use crate::element::DerElement;
 use crate::reader::DerReader;
 use crate::tree::around::{Around, LEVELS};
 
-/// Leaves the parts at whose ends the reader stands.
+/// Leaves all parts whose end the reader has reached.
 #[inline(always)]
 pub(crate) fn climb(reader: &mut DerReader<'_>, around: &mut Around)
     requires parts { AreAround around.old (reader_state reader.old) }
@@ -22,7 +22,7 @@ pub(crate) fn climb(reader: &mut DerReader<'_>, around: &mut Around)
     }
 }
 
-// Leaves a part.
+// Leaves the innermost part.
 #[inline(always)]
 fn leave(reader: &mut DerReader<'_>, around: &mut Around)
     requires inside { 0 < around.old.level }
@@ -38,7 +38,7 @@ fn leave(reader: &mut DerReader<'_>, around: &mut Around)
     reader.end = around.ends[level];
 }
 
-/// Goes into an element that was read, if it is looked into.
+/// Enters an element that was read, if it is constructed and less than 32 levels deep.
 #[inline(always)]
 pub(crate) fn look_into(reader: &mut DerReader<'_>, around: &mut Around, element: &DerElement<'_>)
     requires parts { AreAround around.old (reader_state reader.old) }

@@ -13,7 +13,8 @@ use crate::writer::short::write_short;
 use der_base::{Error, ErrorKind, Length};
 use der_core::{Encode, Header, Writer};
 
-/// Makes a writer into these octets, at their beginning. It takes at most 4294967295.
+/// Makes `writer` a writer into these octets, from their start. It writes at most 4294967295
+/// octets.
 #[unsafe(no_mangle)]
 pub extern "C" fn der_writer_init<'a>(octets: &'a mut [u8], writer: &mut DerWriter<'a>)
     ensures { writer_state writer.new ≡ fresh_state octets.old octets.entry.ghost_name }
@@ -33,9 +34,9 @@ pub extern "C" fn der_written(writer: &DerWriter<'_>) -> usize
     writer.position
 }
 
-/// Whether the writer has not failed.
+/// Succeeds if the writer has not failed.
 ///
-/// Refused by `Failed`, at the position.
+/// Fails with `Failed`, at the position.
 #[unsafe(no_mangle)]
 pub extern "C" fn der_writer_finish(writer: &DerWriter<'_>) -> DerError
     ensures { result ≡ answer_code (finished_answer (writer_state writer.now)) }
@@ -46,10 +47,10 @@ pub extern "C" fn der_writer_finish(writer: &DerWriter<'_>) -> DerError
     DerError::NONE
 }
 
-/// Writes octets as they stand.
+/// Writes octets unchanged.
 ///
-/// Refused by `Failed`, `Overflow` and `Overlength`, as by `Writer::write`; nothing is written, and
-/// the writer has failed.
+/// Fails with `Failed`, `Overflow` and `Overlength`, like `Writer::write`; nothing is written then,
+/// and the writer has failed.
 #[unsafe(no_mangle)]
 pub extern "C" fn der_write(writer: &mut DerWriter<'_>, octets: &[u8]) -> DerError
     ensures { WritesOctets octets.now (writer_state writer.old) result (writer_state writer.new) }
@@ -57,10 +58,10 @@ pub extern "C" fn der_write(writer: &mut DerWriter<'_>, octets: &[u8]) -> DerErr
     code(writer.write(octets))
 }
 
-/// Writes the header of a tag and of so many octets of contents.
+/// Writes the header of an element with this tag and `length` octets of contents.
 ///
-/// Refused by `TagNumberInvalid` without a position, where the word is no tag's, and as
-/// [`der_write`]; octets of the header that were written stand, and the writer has failed.
+/// Fails with `TagNumberInvalid` without a position if the word is not that of a tag, and like
+/// [`der_write`]; octets of the header that were already written remain, and the writer has failed.
 #[unsafe(no_mangle)]
 pub extern "C" fn der_write_header(writer: &mut DerWriter<'_>, tag: u64, length: u32) -> DerError
     ensures { WritesHeader tag length (writer_state writer.old) result (writer_state writer.new) }
@@ -83,10 +84,10 @@ fn header_slowly(writer: &mut DerWriter<'_>, tag: u64, length: u32) -> DerError
     code(header.encode(writer))
 }
 
-/// Writes an element: the header of a tag, and the contents.
+/// Writes an element: its header and its contents.
 ///
-/// Refused by `Overflow` without a position, where there are more than 4294967295 octets of
-/// contents, and as [`der_write_header`] and [`der_write`].
+/// Fails with `Overflow` without a position if there are more than 4294967295 octets of contents,
+/// and like [`der_write_header`] and [`der_write`].
 #[unsafe(no_mangle)]
 pub extern "C" fn der_write_element(
     writer: &mut DerWriter<'_>,
@@ -121,10 +122,11 @@ fn element_slowly(writer: &mut DerWriter<'_>, tag: u64, contents: &[u8]) -> DerE
     }
 }
 
-/// How many octets an element has, of a tag and of so many octets of contents.
+/// Sets `count` to the number of octets of an element with this tag and `length` octets of
+/// contents.
 ///
-/// Refused by `TagNumberInvalid` without a position, where the word is no tag's, and by `Overflow`
-/// without one, where there are more than 4294967295; `count` is unchanged then.
+/// Fails with `TagNumberInvalid` without a position if the word is not that of a tag, and with
+/// `Overflow` without a position if there are more than 4294967295; `count` is unchanged then.
 #[unsafe(no_mangle)]
 pub extern "C" fn der_element_length(tag: u64, length: u32, count: &mut u32) -> DerError
     ensures { Measures tag length result count.old count.new }
@@ -141,7 +143,7 @@ pub extern "C" fn der_element_length(tag: u64, length: u32, count: &mut u32) -> 
     }
 }
 
-// An answer, as C sees it.
+// The C form of a result.
 #[inline(always)]
 fn code(answer: Result<(), Error>) -> DerError
     ensures { result ≡ answer_code answer }
@@ -152,7 +154,7 @@ fn code(answer: Result<(), Error>) -> DerError
     }
 }
 
-// Refused by a kind without a position; the writer has failed.
+// Fails with a kind without a position; the writer has failed then.
 #[cold]
 #[inline(never)]
 pub(crate) fn refuse(writer: &mut DerWriter<'_>, kind: ErrorKind) -> DerError

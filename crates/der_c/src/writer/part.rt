@@ -1,4 +1,4 @@
-//! Elements that are written by their begin and their end, in C.
+//! Elements that are written with a begin and an end, in C.
 ghost use Rattle.std.specs.Prelude.{◌≡◌, ◌+◌, ◌^◌, ◌<◌, ◌≤◌, length};
 ghost use Rattle.der_c.specs.Writer.{writer_state};
 ghost use Rattle.der_c.specs.Part.{BeginsElement, EndsElement, IsMoved, put_state};
@@ -11,10 +11,11 @@ use crate::writer::{DerWriter, refusal};
 use der_base::{ErrorKind, Length};
 use der_core::{Encode, Header};
 
-/// Begins an element with a tag: its header is written with an octet for the length, and where its
-/// contents begin is told. What is written then are its contents, until [`der_end`].
+/// Begins an element with this tag: writes its header, with one octet for the length, and sets
+/// `start` to where its contents begin. All that is written then belongs to the contents, until
+/// [`der_end`].
 ///
-/// Refused as [`der_write_header`](crate::der_write_header); `start` is unchanged then.
+/// Fails like [`der_write_header`](crate::der_write_header); `start` is unchanged then.
 #[unsafe(no_mangle)]
 pub extern "C" fn der_begin(writer: &mut DerWriter<'_>, tag: u64, start: &mut usize) -> DerError
     ensures { BeginsElement tag (writer_state writer.old) result start.old start.new
@@ -46,12 +47,12 @@ fn begin_slowly(writer: &mut DerWriter<'_>, tag: u64, start: &mut usize) -> DerE
     }
 }
 
-/// Ends the element whose contents begin at `start`, as [`der_begin`] told. Their length takes the
-/// place of the octet ahead of them; contents of 128 octets or more are moved for it.
+/// Ends the element whose contents begin at `start`, as set by [`der_begin`]. The length of the
+/// contents replaces the octet before them; contents of 128 octets or more are moved for it.
 ///
-/// Refused by `Failed` at the position, where the writer had failed, by `Overlength` without a
-/// position, where nothing is written at `start`, and by `Overlength` and `Overflow` where there is
-/// no room for a longer length; nothing is moved, and the writer has failed.
+/// Fails with `Failed` at the position if the writer had failed, with `Overlength` without a
+/// position if nothing is written at `start`, and with `Overlength` and `Overflow` if there is no
+/// space for a longer length; nothing is moved then, and the writer has failed.
 #[unsafe(no_mangle)]
 pub extern "C" fn der_end(writer: &mut DerWriter<'_>, start: usize) -> DerError
     ensures { EndsElement start (writer_state writer.old) result (writer_state writer.new) }
@@ -77,7 +78,7 @@ pub extern "C" fn der_end(writer: &mut DerWriter<'_>, start: usize) -> DerError
     DerError::NONE
 }
 
-// Puts a length in the place of the octet ahead of contents.
+// Puts a length in place of the octet before the contents.
 #[inline(always)]
 fn put_length(writer: &mut DerWriter<'_>, start: usize, octets: &[u8])
     requires begun { 1 ≤ start }
@@ -93,7 +94,7 @@ fn put_length(writer: &mut DerWriter<'_>, start: usize, octets: &[u8])
     writer.position += more;
 }
 
-// Moves contents, which end at a position, for so many octets more.
+// Moves the contents, which end at `position`, by `more` octets.
 #[inline(always)]
 fn make_room(octets: &mut [u8], start: usize, position: usize, more: usize)
     requires begun { 1 ≤ start }

@@ -1,4 +1,4 @@
-//! Headers of two octets, which are written at once.
+//! Headers of two octets, which are written with one call.
 ghost use Rattle.std.specs.Prelude.{◌≡◌, true, false};
 ghost use Rattle.der_c.specs.Writer.{writer_state};
 ghost use Rattle.der_c.specs.WriterCalls.{WritesShort};
@@ -7,8 +7,8 @@ use crate::short::is_identifier;
 use crate::writer::DerWriter;
 use der_core::Writer;
 
-/// Writes the header of a tag and of so many octets of contents, where it has two octets and there
-/// is room for them.
+/// Writes the header of an element with this tag and `length` octets of contents. Returns false and
+/// writes nothing if the header does not have two octets or there is no space for them.
 #[inline(always)]
 pub(crate) fn write_short(writer: &mut DerWriter<'_>, tag: u64, length: usize) -> bool
     ensures written { result ≡ true → WritesShort tag length (writer_state writer.old)

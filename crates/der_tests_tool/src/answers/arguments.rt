@@ -1,4 +1,4 @@
-//! Arguments as the system hands them in.
+//! Arguments as the system passes them.
 use super::USAGE;
 use super::writers::Tally;
 use der_answers::run_arguments;
@@ -33,8 +33,8 @@ impl Env for Fixed<'_> {
 
 const REFUSED: &str = "error: out of memory\n";
 
-// The program's name is no word, each other argument is one, and an argument that is not text is no
-// word of a command.
+// The name of the program is not a word, each other argument is one, and an argument that is not
+// text is not a word of a command.
 #[test]
 fn takes_arguments_as_words(rt: HostRuntime) {
     let lines = "tag: SEQUENCE\nconstructed: yes\nlength: 0\nrest: -\n";
@@ -70,7 +70,7 @@ fn arguments_for_which_no_memory_is_left_are_refused(rt: HostRuntime) {
     assert!(rt; out.as_slice() == REFUSED.as_bytes());
 }
 
-// No word is answered in silence.
+// Every call prints something.
 #[test]
 fn an_output_that_never_fails_is_told(rt: HostRuntime) {
     let rows: [(&[&[u8]], u8); 3] = [

@@ -1,14 +1,14 @@
-//! Octets that are read by the Basic Encoding Rules.
+//! Octets that are read under the Basic Encoding Rules.
 use super::{USAGE, replay};
 use std::test::Fail;
 
-/// The body of an encrypted message's contents, 66 octets with its end mark: their type, the
-/// cipher, and the encrypted octets as a body within it.
+/// The contents of an encrypted message, 66 octets with the end-of-contents octets: their type, the
+/// cipher, and the encrypted octets in indefinite-length contents.
 const MESSAGE_BODY: &str =
     "06092a864886f70d010701301d060960864801650304012a041037343df1470df625eeb6\
     f4bfd2f1acc3a0800410cc74adf65d973c8b72cd51e1b927f0f000000000";
 
-/// 126 octets, each another.
+/// 126 different octets.
 const CONTENTS: &str = "000102030405060708090a0b0c0d0e0f101112131415161718191a1b1c1d1e1f20212223\
     2425262728292a2b2c2d2e2f303132333435363738393a3b3c3d3e3f4041424344454647\
     48494a4b4c4d4e4f505152535455565758595a5b5c5d5e5f606162636465666768696a6b\
@@ -45,8 +45,8 @@ fn tells_the_header_of_a_message(rt: HostRuntime) -> Result<(), Fail> {
     replay(&rt, &[(&words, 0, &lines)])
 }
 
-// A body that ends too early is found by looking ahead, so a primitive identifier before an
-// indefinite length is told only where a body follows.
+// Indefinite-length contents that end too early are found by the scan first, so a primitive
+// identifier before an indefinite length is reported only if contents follow.
 #[test]
 fn refuses_what_begins_with_no_header_by_ber(rt: HostRuntime) -> Result<(), Fail> {
     let rows = [
@@ -86,7 +86,7 @@ fn tells_an_element_by_ber(rt: HostRuntime) -> Result<(), Fail> {
     replay(&rt, &[(&words, 0, &line)])
 }
 
-// The option stands right behind the command, and all words are looked at before any octets are.
+// The option comes right after the command, and all words are checked before any octets are.
 #[test]
 fn tells_the_usage_of_options_elsewhere(rt: HostRuntime) -> Result<(), Fail> {
     let lines = [

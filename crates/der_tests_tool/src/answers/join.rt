@@ -1,4 +1,4 @@
-//! An OCTET STRING, and what its segments are joined to.
+//! An OCTET STRING, and its joined segments.
 use super::{USAGE, replay};
 use std::test::Fail;
 
@@ -61,7 +61,7 @@ fn refuses_what_is_no_octet_string(rt: HostRuntime) -> Result<(), Fail> {
     replay(&rt, &rows)
 }
 
-/// 64 OCTET STRINGs inside each other, all of definite lengths.
+/// 64 nested OCTET STRINGs, all of definite lengths.
 const DEEPEST: &str = "247e247c247a24782476247424722470246e246c246a24682466246424622460\
     245e245c245a24582456245424522450244e244c244a24482446244424422440\
     243e243c243a24382436243424322430242e242c242a24282426242424222420\
@@ -73,14 +73,14 @@ const OPENED: &str = "2480248024802480248024802480248024802480248024802480248024
     2480248024802480248024802480248024802480248024802480248024802480\
     2480248024802480248024802480248024802480248024802480248024802480";
 
-/// As many end marks.
+/// The end-of-contents octets of the same number of levels.
 const CLOSED: &str = "0000000000000000000000000000000000000000000000000000000000000000\
     0000000000000000000000000000000000000000000000000000000000000000\
     0000000000000000000000000000000000000000000000000000000000000000\
     0000000000000000000000000000000000000000000000000000000000000000";
 
-// 64 levels are joined; the 65th is refused behind its header, which a scan has not yet passed where
-// it stands inside a definite length.
+// 64 levels are joined; the 65th fails after its header, which a scan has not yet read if it is
+// inside a definite length.
 #[test]
 fn joins_64_levels_and_refuses_the_65th(rt: HostRuntime) -> Result<(), Fail> {
     let alloc = rt.alloc();

@@ -1,4 +1,4 @@
-//! Memory that is refused.
+//! Allocations that fail.
 use super::{USAGE, words_of};
 use der_answers::respond;
 use linked_list_allocator::LocalHeap;
@@ -7,8 +7,8 @@ use std::test::Fail;
 
 const REFUSED: &str = "error: out of memory\n";
 
-/// Answers the line on heaps of rising sizes, which refuse the first growth, then the next, and at
-/// last none: each answer is that of want of memory, or the whole one.
+/// Runs the line on heaps of growing sizes, so that the first allocation fails, then the next, and
+/// at last none: each output is that of a failed allocation, or the complete one.
 fn refuse_in_turn(
     rt: &(impl Abort + AllocGlobal),
     line: &str,
@@ -77,7 +77,8 @@ fn refuses_each_growth_for_two_elements_in_turn(rt: HostRuntime) -> Result<(), F
     Ok(())
 }
 
-// The segments are joined in other memory, of which `.ci/refused_memory` refuses each growth.
+// The segments are joined in other memory, for which `.ci/refused_memory` makes each allocation
+// fail.
 #[test]
 fn refuses_each_growth_for_segments_in_turn(rt: HostRuntime) -> Result<(), Fail> {
     let told = refuse_in_turn(&rt, "join 240524030401AA", 0, "aa\n")?;
@@ -88,7 +89,7 @@ fn refuses_each_growth_for_segments_in_turn(rt: HostRuntime) -> Result<(), Fail>
     Ok(())
 }
 
-// The words are looked at without memory.
+// The words are checked without allocating.
 #[test]
 fn tells_the_usage_without_memory(rt: HostRuntime) -> Result<(), Fail> {
     assert_eq!(rt; refuse_in_turn(&rt, "head 0", 2, USAGE)?, 0);

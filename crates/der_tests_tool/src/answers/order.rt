@@ -1,4 +1,4 @@
-//! Two elements, and how they stand to each other.
+//! Two elements, and their order.
 use super::{USAGE, replay};
 use std::test::Fail;
 
@@ -86,7 +86,7 @@ fn an_empty_word_is_no_element(rt: HostRuntime) -> Result<(), Fail> {
     replay(&rt, &rows)
 }
 
-// Both words are looked at before either is decoded, and only DER is read.
+// Both words are checked before either is decoded, and only DER is read.
 #[test]
 fn tells_the_usage_of_other_words_for_order(rt: HostRuntime) -> Result<(), Fail> {
     let lines = [

@@ -1,5 +1,5 @@
-//! A sample of the words of `order` with their answers. An independent model of the definitions
-//! made it, and that model was compared with the Rust crate `der` 0.8.3 on 131 million inputs.
+//! A sample of the words of `order` with their output. It was made by an independent model of the
+//! definitions, which was compared with the Rust crate `der` 0.8.3 on 131 million inputs.
 use super::USAGE;
 
 /// The words with a blank between them, the status, and the text.

@@ -10,7 +10,7 @@ const LINES: &str = "tag: INTEGER\nconstructed: no\nlength: 1\nrest: 2a00\n";
 
 const BER_LINES: &str = "tag: OCTET STRING\nconstructed: yes\nlength: 1\nrest: 09\n";
 
-// Each command with its answer and with a line of an error, and other words.
+// Each command with its result and with an error line, and other words.
 const ROWS: [(&str, u8, &str); 13] = [
     ("head 02012A00", 0, LINES),
     (
@@ -43,7 +43,7 @@ const ROWS: [(&str, u8, &str); 13] = [
     ("order --ber 3000 3000", 2, USAGE),
 ];
 
-/// Takes an octet at a call, and fails once the calls are used up.
+/// Accepts one octet per call, and fails once the calls are used up.
 #[derive(Drop)]
 struct Choppy {
     taken: Vec<u8>,
@@ -66,7 +66,7 @@ impl io::Write for Choppy {
     }
 }
 
-/// Takes nothing, or all of it and then fails to pass it on.
+/// Accepts nothing, or accepts all and then fails to pass it on.
 #[derive(Drop)]
 struct Broken {
     takes: bool,

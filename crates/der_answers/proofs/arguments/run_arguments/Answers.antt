@@ -9,7 +9,7 @@ use Rattle.der_answers.specs.Text.{usage_line, error_line}
 use Rattle.der_answers.specs.Arguments.{AnswersArguments, AreWordsOf, WritesToArguments}
 use Rattle.der_answers.proofs.arguments.run_arguments.Goals as goal
 
--- an answer to the words is one to the arguments
+-- a result for the words is one for the arguments
 to_arguments : {A B : Type 0} (given : Result (IntoIter (String A) B) Error) (arguments : IntoIter (String A) B) (words : List (List ℕ)) (status : ℕ) (old new : Option (List ℕ))
     → given ≡ Ok arguments → AreWordsOf arguments words → WritesAnswer words status old new → WritesToArguments given status old new
 to_arguments given arguments words status old new is are (text, answers, appends) =
@@ -20,12 +20,12 @@ or_to_arguments : {A B : Type 0} (given : Result (IntoIter (String A) B) Error) 
 or_to_arguments given arguments words status old new is are (inl failed) = inl failed
 or_to_arguments given arguments words status old new is are (inr writes) = inr (to_arguments given arguments words status old new is are writes)
 
--- what was said is written
+-- the text that was printed is a possible one
 told : {A B : Type 0} (given : Result (IntoIter (String A) B) Error) (status s : ℕ) (text : List ℕ) (old new : Option (List ℕ))
     → AnswersArguments given status text → s ≡ status → Appends old new text → WritesToArguments given s old new
 told given status s text old new answers is appends = (text, subst (λ x. AnswersArguments given x text) (sym is) answers, appends)
 
--- what `say` put out, if the output did not fail
+-- what `say` printed, if the output did not fail
 said : {A B E : Type 0} (given : Result (IntoIter (String A) B) Error) (status : ℕ) (text : List ℕ) (r : Result ℕ E) (old new : Option (List ℕ))
     → AnswersArguments given status text → IfOk r (λ s. s ≡ status) → OnOk r (Appends old new text)
     → IsOk r → WritesToArguments given (result_unwrap_or r 1) old new

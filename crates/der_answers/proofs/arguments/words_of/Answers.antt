@@ -8,7 +8,7 @@ use Rattle.der_answers.specs.Command.{texts}
 use Rattle.der_answers.specs.Arguments.{AreWordsOf}
 use Rattle.der_answers.proofs.arguments.words_of.Goals as goal
 
--- where none is left, none is given
+-- an iterator with no items left yields none
 none_left : {A B : Type 0} (xs : List A) (s t : IntoIter A B) → into_iter_len s ≡ 0 → Yields into_iter_steps s xs t → xs ≡ []
 none_left [] s t none y = refl
 none_left (x ∷ xs) s t none y = absurd (omega (arith, none, y.1.1))

@@ -8,7 +8,7 @@ use Rattle.der_answers.specs.declared.answer.Answer.TheVariants.{OutOfMemory}
 use Rattle.der_answers.specs.declared.command.Command.{Command}
 use Rattle.der_answers.proofs.program.answer.Goals as goal
 
--- a command's answer, or that memory was refused
+-- the result of a command, or that an allocation failed
 or_no_memory : {A E : Type 0} (words : List (List ℕ)) (command : Command) (r : Result (Answer A) E) → words ≡ words_of command → IsCommand words
     → IfOk r (λ a. Fulfils command (status_of a) (text_of a))
     → Answers words (status_of (result_unwrap_or r OutOfMemory)) (text_of (result_unwrap_or r OutOfMemory))

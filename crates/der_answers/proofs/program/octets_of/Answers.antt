@@ -4,7 +4,7 @@ use Rattle.hex.proofs.HexLemmas.{decode_of-digits}
 use Rattle.hex.specs.declared.error.FromHexError.TheVariants.{OutOfMemory}
 use Rattle.der_answers.proofs.program.octets_of.Goals as goal
 
--- digits decode, so that no other error is left
+-- the digits decode, so no other error is possible
 pub unreachable-requires : goal.unreachable-requires
 unreachable-requires g c =
     elim c.in-Err-2.ensures.err [

@@ -1,7 +1,7 @@
 use Rattle.std.proofs.Common.{◌*◌, ◌+◌}
 use Rattle.der_fixtures.proofs.nest.+nest.Given as goal
 
--- the closure stands between two calls of the function
+-- the closure is between two calls of the function
 abbrev pub decreases-pass_inside : goal.decreases-pass_inside
 decreases-pass_inside g l = 2 * l.levels
 

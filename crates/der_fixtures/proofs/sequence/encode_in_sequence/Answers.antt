@@ -6,7 +6,7 @@ use Rattle.der.proofs.WriterLemmas.{filled_appends}
 use Rattle.der.specs.WrittenSequence.{ClosesPart, handed_on, failed, unfilled, filled, part_state, headed_state}
 use Rattle.der_fixtures.proofs.sequence.encode_in_sequence.Goals as goal
 
--- a part that is filled is not refused
+-- a part that is filled exactly is written without an error
 not_refused : (s p q t : WriterState) (n : ℕ) (octets : List ℕ) (answer result : Result (Unit {0}) Error) (e : Error) → p ≡ part_state s n → length octets ≡ n → n < 2 ^ 32
     → FitsCounted p octets answer → Appends p octets answer q → ClosesPart s n q t answer result → result ≡ Err e → ⊥
 not_refused s p q t n octets _ _ e over full few takes appends (handed_on f abandoned) is =

@@ -3,7 +3,7 @@ use Rattle.der.specs.Prelude.{slice_state, Same}
 use Rattle.der.specs.ReaderState.{advanced_state}
 use Rattle.der_uses.proofs.reader.CopyingReaderReader.drain.Given as goal
 
--- the reader is the same one still, behind what is passed so far
+-- the reader is still the same, after what is consumed so far
 abbrev pub invariant-loop-self : goal.invariant-loop-self
 invariant-loop-self l =
     Same (slice_state l.fn.self.inner) (slice_state l.self.inner)
