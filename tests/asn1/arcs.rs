@@ -3,7 +3,7 @@ use crate::checks::same_at;
 use der_asn1::ObjectIdentifierRef;
 
 // The first five arcs of these contents, and whether there are more.
-fn told(contents: &[u8]) -> Option<([Option<Option<u32>>; 5], bool)> {
+fn reported(contents: &[u8]) -> Option<([Option<Option<u32>>; 5], bool)> {
     let identifier = ObjectIdentifierRef::new(contents)?;
     let mut arcs = identifier.arcs();
     let first = [
@@ -30,7 +30,7 @@ fn arcs(numbers: &[u32]) -> Option<([Option<Option<u32>>; 5], bool)> {
 }
 
 #[test]
-fn arcs_are_told(rt: HostRuntime) {
+fn arcs_are_reported(rt: HostRuntime) {
     let rows: [(&[u8], &[u32]); 12] = [
         (&[0x81, 0x34, 0x03], &[2, 100, 3]),
         (&[0x2A, 0x86, 0x48], &[1, 2, 840]),
@@ -46,7 +46,7 @@ fn arcs_are_told(rt: HostRuntime) {
         (&[0x2A, 0x8F, 0xFF, 0xFF, 0xFF, 0x7F], &[1, 2, 4294967295]),
     ];
     for (row, (contents, expected)) in rows.into_iter().enumerate() {
-        same_at(&rt, row, told(contents), arcs(expected));
+        same_at(&rt, row, reported(contents), arcs(expected));
     }
 }
 
@@ -61,10 +61,10 @@ fn arcs_that_are_too_large(rt: HostRuntime) {
         Some(Some(5)),
         None,
     ];
-    same_at(&rt, 0, told(&of_33_bits), Some((expected, false)));
+    same_at(&rt, 0, reported(&of_33_bits), Some((expected, false)));
     let second = [0x90, 0x80, 0x80, 0x80, 0x50];
     let expected = [Some(Some(2)), Some(None), None, None, None];
-    same_at(&rt, 1, told(&second), Some((expected, false)));
+    same_at(&rt, 1, reported(&second), Some((expected, false)));
     // 2.25.2^70, as of a UUID
     let of_71_bits = [
         0x69, 0x81, 0x80, 0x80, 0x80, 0x80, 0x80, 0x80, 0x80, 0x80, 0x80, 0x00, 0x01,
@@ -76,7 +76,7 @@ fn arcs_that_are_too_large(rt: HostRuntime) {
         Some(Some(1)),
         None,
     ];
-    same_at(&rt, 2, told(&of_71_bits), Some((expected, false)));
+    same_at(&rt, 2, reported(&of_71_bits), Some((expected, false)));
 }
 
 // 1.2.840.113549.1.1.1 has six arcs, of which the first five are compared.
@@ -90,5 +90,5 @@ fn further_arcs(rt: HostRuntime) {
         Some(Some(113549)),
         Some(Some(1)),
     ];
-    same_at(&rt, 0, told(&contents), Some((first, true)));
+    same_at(&rt, 0, reported(&contents), Some((first, true)));
 }

@@ -5,7 +5,7 @@ use der_asn1::{BooleanRef, Either, IntRef};
 use std::alloc::Global;
 
 // Which type the front of the octets has, with its contents, and the position after it.
-fn choice_ahead<'a>(alloc: Global, octets: &'a [u8]) -> Result<(bool, &'a [u8], Length), Error> {
+fn next_choice<'a>(alloc: Global, octets: &'a [u8]) -> Result<(bool, &'a [u8], Length), Error> {
     let mut reader = SliceReader::new(octets)?;
     let choice: Either<IntRef<'a>, BooleanRef<'a>> = Either::decode(alloc, &mut reader)?;
     let (is_first, contents) = match &choice {
@@ -16,7 +16,7 @@ fn choice_ahead<'a>(alloc: Global, octets: &'a [u8]) -> Result<(bool, &'a [u8], 
 }
 
 #[test]
-fn the_tag_ahead_tells_which_type_is_read(rt: HostRuntime) {
+fn the_next_tag_determines_which_type_is_read(rt: HostRuntime) {
     let unexpected = ErrorKind::TagUnexpected {
         expected: None,
         actual: Tag::Null,
@@ -30,7 +30,7 @@ fn the_tag_ahead_tells_which_type_is_read(rt: HostRuntime) {
         (&[0x1F], Err(ErrorKind::TagNumberInvalid.at(Length::new(1)))),
     ];
     for (row, (octets, expected)) in rows.into_iter().enumerate() {
-        same_at(&rt, row, choice_ahead(rt.alloc(), octets), expected);
+        same_at(&rt, row, next_choice(rt.alloc(), octets), expected);
     }
 }
 

@@ -11,7 +11,7 @@ use der_asn1::{
 use crate::fixtures::constants::tags_agree;
 
 #[test]
-fn types_of_a_form_tell_their_tags_alike(rt: HostRuntime) {
+fn types_of_a_form_report_equal_tags(rt: HostRuntime) {
     holds(&rt, tags_agree::<BooleanRef>(Tag::Boolean, false));
     holds(&rt, tags_agree::<IntRef>(Tag::Integer, false));
     holds(&rt, tags_agree::<BitStringRef>(Tag::BitString, false));
@@ -25,7 +25,7 @@ fn types_of_a_form_tell_their_tags_alike(rt: HostRuntime) {
 }
 
 #[test]
-fn texts_and_times_tell_their_tags_alike(rt: HostRuntime) {
+fn texts_and_times_report_equal_tags(rt: HostRuntime) {
     holds(&rt, tags_agree::<Utf8StringRef>(Tag::Utf8String, false));
     holds(
         &rt,
@@ -53,7 +53,7 @@ fn texts_and_times_tell_their_tags_alike(rt: HostRuntime) {
 }
 
 #[test]
-fn types_of_others_tell_their_tags_alike(rt: HostRuntime) {
+fn types_of_others_report_equal_tags(rt: HostRuntime) {
     holds(&rt, tags_agree::<IntegerOf<u8>>(Tag::Integer, false));
     holds(
         &rt,

@@ -7,7 +7,7 @@ use der_asn1::{AnyRef, IntRef, Optional};
 use std::alloc::Global;
 
 // The optional integer at the front of the octets, and the position after it.
-fn integer_ahead<'a>(alloc: Global, octets: &'a [u8]) -> Result<(Option<&'a [u8]>, Length), Error> {
+fn next_integer<'a>(alloc: Global, octets: &'a [u8]) -> Result<(Option<&'a [u8]>, Length), Error> {
     let mut reader = SliceReader::new(octets)?;
     let field: Optional<IntRef<'a>> = Optional::decode(alloc, &mut reader)?;
     let contents = match &field.0 {
@@ -36,7 +36,7 @@ fn a_field_may_be_absent(rt: HostRuntime) {
         (&[0x1F], Err(ErrorKind::TagNumberInvalid.at(Length::new(1)))),
     ];
     for (row, (octets, expected)) in rows.into_iter().enumerate() {
-        same_at(&rt, row, integer_ahead(rt.alloc(), octets), expected);
+        same_at(&rt, row, next_integer(rt.alloc(), octets), expected);
     }
 }
 
@@ -79,7 +79,7 @@ fn an_element_is_written_as_it_was_read(rt: HostRuntime) {
 }
 
 #[test]
-fn under_ber_an_element_has_what_stands_before_its_end_mark(rt: HostRuntime) {
+fn under_ber_an_element_has_what_is_before_its_eoc(rt: HostRuntime) {
     let octets = [0x30, 0x80, 5, 0, 0, 0];
     let any: Result<AnyRef<'_>, Error> = AnyRef::from_ber(rt.alloc(), &octets);
     holds(

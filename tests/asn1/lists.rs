@@ -27,8 +27,8 @@ fn integers_of_a_list_are_walked(rt: HostRuntime) {
             (Some(&[5]), Some(&[6]), false),
         ),
     ];
-    for (row, (octets, told)) in rows.into_iter().enumerate() {
-        same_at(&rt, row, walked(rt.alloc(), octets), Ok((told, true)));
+    for (row, (octets, reported)) in rows.into_iter().enumerate() {
+        same_at(&rt, row, walked(rt.alloc(), octets), Ok((reported, true)));
     }
 }
 
@@ -60,7 +60,7 @@ fn tagged<'a>(alloc: Global, octets: &'a [u8]) -> Result<&'a [u8], Error> {
 }
 
 #[test]
-fn a_list_stands_in_an_element(rt: HostRuntime) {
+fn a_list_is_in_an_element(rt: HostRuntime) {
     same_at(
         &rt,
         0,

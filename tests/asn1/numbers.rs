@@ -89,14 +89,14 @@ fn signed_numbers_of_64_bits_are_read_and_larger_ones_refused(rt: HostRuntime) {
 }
 
 // The number of these contents, if they are those of an INTEGER.
-fn told<N: IntegerNumber>(contents: &[u8]) -> Option<N> {
+fn reported<N: IntegerNumber>(contents: &[u8]) -> Option<N> {
     IntRef::new(contents)?.to_number()
 }
 
 #[test]
-fn lent_integers_are_told_as_numbers(rt: HostRuntime) {
-    same_at(&rt, 0, told::<u8>(&[0, 0xC8]), Some(200));
-    same_at(&rt, 1, told::<i64>(&[0xC8]), Some(-56));
-    same_at(&rt, 2, told::<u8>(&[0xC8]), None);
-    same_at(&rt, 3, told::<u8>(&[0, 5]), None);
+fn borrowed_integers_are_reported_as_numbers(rt: HostRuntime) {
+    same_at(&rt, 0, reported::<u8>(&[0, 0xC8]), Some(200));
+    same_at(&rt, 1, reported::<i64>(&[0xC8]), Some(-56));
+    same_at(&rt, 2, reported::<u8>(&[0xC8]), None);
+    same_at(&rt, 3, reported::<u8>(&[0, 5]), None);
 }

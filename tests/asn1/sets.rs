@@ -26,8 +26,8 @@ fn integers_of_a_set_are_walked(rt: HostRuntime) {
             (Some(&[0x80]), Some(&[0, 0xFF]), false),
         ),
     ];
-    for (row, (octets, told)) in rows.into_iter().enumerate() {
-        same_at(&rt, row, walked(rt.alloc(), octets), Ok((told, true)));
+    for (row, (octets, reported)) in rows.into_iter().enumerate() {
+        same_at(&rt, row, walked(rt.alloc(), octets), Ok((reported, true)));
     }
 }
 

@@ -28,7 +28,7 @@ fn explicit_twice<'a>(alloc: Global, octets: &'a [u8]) -> Result<(&'a [u8], bool
 }
 
 #[test]
-fn a_tag_stands_in_the_place_of_another(rt: HostRuntime) {
+fn a_tag_is_in_the_place_of_another(rt: HostRuntime) {
     let tag = TagNumber(1).context_specific(false);
     let rows: [(&[u8], Result<(&[u8], bool), Error>); 4] = [
         (&[0x81, 1, 5], Ok((&[5], true))),
@@ -48,7 +48,7 @@ fn a_tag_stands_in_the_place_of_another(rt: HostRuntime) {
 }
 
 #[test]
-fn a_tag_stands_around_an_element(rt: HostRuntime) {
+fn a_tag_is_around_an_element(rt: HostRuntime) {
     let tag = TagNumber(300).context_specific(true);
     let rows: [(&[u8], Result<(&[u8], bool), Error>); 4] = [
         (&[0xBF, 0x82, 0x2C, 3, 2, 1, 5], Ok((&[5], true))),

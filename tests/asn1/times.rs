@@ -5,14 +5,14 @@ use der_asn1::{Choice, DateTime, GeneralizedTime, UtcTime, lawful_from_der};
 use std::alloc::Global;
 
 // The UTCTime in this element, and whether it is written exactly as it was read.
-fn told_utc(alloc: Global, octets: &[u8]) -> Result<(DateTime, bool), Error> {
+fn reported_utc(alloc: Global, octets: &[u8]) -> Result<(DateTime, bool), Error> {
     let value: UtcTime = lawful_from_der(alloc, octets)?;
     let written = value.to_der(alloc)?;
     Ok((value.date_time(), written.as_slice() == octets))
 }
 
 // The same for a GeneralizedTime.
-fn told_generalized(alloc: Global, octets: &[u8]) -> Result<(DateTime, bool), Error> {
+fn reported_generalized(alloc: Global, octets: &[u8]) -> Result<(DateTime, bool), Error> {
     let value: GeneralizedTime = lawful_from_der(alloc, octets)?;
     let written = value.to_der(alloc)?;
     Ok((value.date_time(), written.as_slice() == octets))
@@ -52,7 +52,7 @@ fn utc_times(rt: HostRuntime) {
         (b"\x17\x0D000229000000Z", read((2000, 2, 29), (0, 0, 0))),
     ];
     for (row, (octets, expected)) in rows.into_iter().enumerate() {
-        same_at(&rt, row, told_utc(rt.alloc(), octets), expected);
+        same_at(&rt, row, reported_utc(rt.alloc(), octets), expected);
     }
 }
 
@@ -78,7 +78,7 @@ fn octets_that_are_no_utc_time(rt: HostRuntime) {
     ];
     for (row, octets) in rows.into_iter().enumerate() {
         let expected = refused(Tag::UtcTime, octets);
-        same_at(&rt, row, told_utc(rt.alloc(), octets), expected);
+        same_at(&rt, row, reported_utc(rt.alloc(), octets), expected);
     }
 }
 
@@ -101,7 +101,7 @@ fn generalized_times(rt: HostRuntime) {
         ),
     ];
     for (row, (octets, expected)) in rows.into_iter().enumerate() {
-        same_at(&rt, row, told_generalized(rt.alloc(), octets), expected);
+        same_at(&rt, row, reported_generalized(rt.alloc(), octets), expected);
     }
 }
 
@@ -119,7 +119,7 @@ fn octets_that_are_no_generalized_time(rt: HostRuntime) {
     ];
     for (row, octets) in rows.into_iter().enumerate() {
         let expected = refused(Tag::GeneralizedTime, octets);
-        same_at(&rt, row, told_generalized(rt.alloc(), octets), expected);
+        same_at(&rt, row, reported_generalized(rt.alloc(), octets), expected);
     }
 }
 
@@ -135,7 +135,7 @@ fn time<'a>(alloc: Global, octets: &'a [u8]) -> Result<DateTime, Error> {
 }
 
 #[test]
-fn the_tag_tells_the_form_of_a_time(rt: HostRuntime) {
+fn the_tag_determines_the_form_of_a_time(rt: HostRuntime) {
     let expected = DateTime {
         year: 2049,
         month: 12,

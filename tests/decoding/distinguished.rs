@@ -6,7 +6,7 @@ use der::{
     Tag,
 };
 use crate::fixtures::errors::{incomplete, trailing, unexpected};
-use crate::fixtures::readers::{Placed, der_reader, der_unlent};
+use crate::fixtures::readers::{Placed, der_reader, der_not_borrowed};
 use std::alloc::Global;
 use std::test::Fail;
 

@@ -53,7 +53,7 @@ fn a_certificate_is_read_and_written_as_it_was(rt: HostRuntime) {
 }
 
 #[test]
-fn the_fields_of_a_certificate_are_those_that_openssl_tells(rt: HostRuntime) {
+fn the_fields_of_a_certificate_are_those_that_openssl_prints(rt: HostRuntime) {
     let Ok(certificate) = Certificate::from_der(rt.alloc(), &SELF_SIGNED) else {
         holds(&rt, false);
         return;
@@ -126,7 +126,7 @@ fn refusal_with(alloc: Global, place: usize, octet: u8) -> Option<Error> {
 }
 
 #[test]
-fn a_certificate_with_another_octet_is_refused_where_it_stands(rt: HostRuntime) {
+fn a_certificate_with_another_octet_is_rejected_at_its_position(rt: HostRuntime) {
     let value = |tag: Tag, end: u32| -> Option<Error> {
         Some(ErrorKind::Value { tag }.at(Length::new(end)))
     };
@@ -157,7 +157,7 @@ fn a_certificate_with_another_octet_is_refused_where_it_stands(rt: HostRuntime) 
 // The version is [0], after which octet 12 comes. The octets of the extensions begin at octet 151,
 // and `critical` of the third ends at octet 225.
 #[test]
-fn a_default_that_a_certificate_writes_is_refused_behind_it(rt: HostRuntime) {
+fn a_default_that_a_certificate_writes_is_rejected_after_it(rt: HostRuntime) {
     let written = |tag: Tag, end: u32| -> Option<Error> {
         Some(ErrorKind::Noncanonical { tag }.at(Length::new(end)))
     };

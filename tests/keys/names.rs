@@ -34,7 +34,7 @@ fn attributes_out_of_order_are_refused_where_the_second_begins(rt: HostRuntime) 
 }
 
 #[test]
-fn an_octet_behind_a_name_is_refused(rt: HostRuntime) {
+fn an_octet_after_a_name_is_rejected(rt: HostRuntime) {
     same_at(
         &rt,
         "no levels",

@@ -53,7 +53,7 @@ fn is_read(
     let Ok(written) = info.to_der(alloc) else {
         return false;
     };
-    let told = match &info.attributes.0 {
+    let reported = match &info.attributes.0 {
         Some(attributes) => Some(attributes.0.octets().len()),
         None => None,
     };
@@ -63,7 +63,7 @@ fn is_read(
     };
     info.version.octets() == [version].as_slice()
         && info.private_key.octets().len() == key
-        && told == attributes
+        && reported == attributes
         && public == public_key
         && written.as_slice() == octets
 }

@@ -52,12 +52,12 @@ fn is_read(
     let Ok(written) = info.to_der(alloc) else {
         return false;
     };
-    let told = match &info.algorithm.parameters.0 {
+    let reported = match &info.algorithm.parameters.0 {
         Some(any) => Some(any.contents.len()),
         None => None,
     };
     info.algorithm.oid.octets() == algorithm
-        && told == parameters
+        && reported == parameters
         && info.subject_public_key.octets().len() == key
         && written.as_slice() == octets
 }

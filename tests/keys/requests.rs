@@ -82,7 +82,7 @@ fn refusal_with(alloc: Global, place: usize, octet: u8) -> Option<Error> {
 // The version's contents are octet 7. The attributes' contents begin at octet 78, and the first
 // attribute's values are an element at octet 91.
 #[test]
-fn a_request_with_another_octet_is_refused_where_it_stands(rt: HostRuntime) {
+fn a_request_with_another_octet_is_rejected_at_its_position(rt: HostRuntime) {
     let integer = ErrorKind::Value { tag: Tag::Integer };
     same_at(
         &rt,

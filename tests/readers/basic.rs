@@ -12,11 +12,11 @@ use crate::fixtures::calls::{
 use crate::fixtures::errors::{
     incomplete, incorrect, indefinite, invalid_number, trailing, unexpected, unknown,
 };
-use crate::fixtures::readers::{Placed, ber_reader, ber_unlent, der_reader, place_of};
+use crate::fixtures::readers::{Placed, ber_reader, ber_not_borrowed, der_reader, place_of};
 use std::alloc::Global;
 use std::test::Fail;
 
-mod ahead;
+mod peeks;
 mod constructed;
 mod elements;
 mod rules;

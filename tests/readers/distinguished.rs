@@ -5,12 +5,12 @@ use der::{
     TagNumber, decode_header, decode_length,
 };
 use crate::fixtures::errors::{incomplete, trailing};
-use crate::fixtures::readers::{Placed, der_reader, der_unlent, front};
+use crate::fixtures::readers::{Placed, der_reader, der_not_borrowed, front};
 use der_uses::reader::CopyingReader;
 use std::alloc::Global;
 use std::test::Fail;
 
-mod ahead;
+mod peeks;
 mod constants;
 mod depth;
 mod failed;
@@ -20,9 +20,9 @@ mod memory;
 mod nested;
 mod readers;
 mod tags;
-mod unlent;
-mod unlent_parts;
-mod unlent_peeks;
+mod not_borrowed;
+mod not_borrowed_parts;
+mod not_borrowed_peeks;
 
 // Calls that several tests make. They have no contracts, because a contract costs the checker
 // seconds in each test, and few tests need one.
@@ -34,10 +34,10 @@ fn tag_by(alloc: Global, reader: &mut SliceReader<'_>) -> Result<Tag, Error> {
     reader.decode(alloc)
 }
 
-fn unlent_tag(alloc: Global, reader: &mut CopyingReader<'_>) -> Result<Tag, Error> {
+fn not_borrowed_tag(alloc: Global, reader: &mut CopyingReader<'_>) -> Result<Tag, Error> {
     reader.decode(alloc)
 }
 
-fn header_ahead(reader: &SliceReader<'_>) -> Result<Header, Error> {
+fn peeked_header(reader: &SliceReader<'_>) -> Result<Header, Error> {
     Header::peek(reader)
 }

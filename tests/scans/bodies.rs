@@ -9,7 +9,7 @@ use crate::fixtures::errors::{
     incomplete, incorrect, indefinite, invalid_number, too_deep, trailing, unknown, unsupported,
 };
 use crate::fixtures::readers::{
-    Placed, ber_failing, ber_reader, ber_unlent, der_failing, place_of, ruled_reader,
+    Placed, ber_failing, ber_reader, ber_not_borrowed, der_failing, place_of, ruled_reader,
 };
 use std::alloc::Global;
 use std::test::Fail;

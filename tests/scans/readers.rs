@@ -6,7 +6,7 @@ use der::{Error, Header, Length, Reader, ReaderExt, SliceReader, decode_header, 
 use crate::fixtures::readers::ruled_reader;
 
 /// A reader under the Basic Encoding Rules, as its contract says, that has consumed `count` octets.
-pub fn ruled_behind(octets: &[u8], count: u32) -> Result<SliceReader<'_>, Error>
+pub fn ruled_after(octets: &[u8], count: u32) -> Result<SliceReader<'_>, Error>
 {
     let mut reader = ruled_reader(octets)?;
     match reader.drain(Length::new(count)) {

@@ -9,7 +9,7 @@ use crate::fixtures::errors::{
     incomplete, incorrect, indefinite, invalid_number, unexpected, unknown, unsupported,
 };
 use crate::fixtures::readers::{
-    Placed, ber_failing, ber_reader, ber_unlent, der_reader, der_unlent, place_of,
+    Placed, ber_failing, ber_reader, ber_not_borrowed, der_reader, der_not_borrowed, place_of,
 };
 use der_uses::reader::CopyingReader;
 use std::alloc::Global;

@@ -6,7 +6,7 @@ use der::{
     ErrorKind, Header, Length, Reader, SliceReader, StringCow, StringOwned, StringRef, Tag,
 };
 use crate::fixtures::errors::{incomplete, indefinite, trailing, unexpected, unsupported};
-use crate::fixtures::readers::{Placed, ber_reader, der_reader, der_unlent};
+use crate::fixtures::readers::{Placed, ber_reader, der_reader, der_not_borrowed};
 use der_uses::reader::CopyingReader;
 use std::alloc::Global;
 use std::test::Fail;
@@ -59,7 +59,7 @@ fn cloned_text(alloc: Global, text: &StringOwned) -> Result<StringOwned, Error> 
 }
 
 // The contents of a text, borrowed from a reader that returns slices.
-fn lent_text<'a>(
+fn borrowed_text<'a>(
     alloc: Global,
     reader: &mut SliceReader<'a>,
     header: Header,

@@ -165,7 +165,7 @@ fn errors_are_printed_with_their_lengths_tags_and_positions(rt: HostRuntime) -> 
 }
 
 #[test]
-fn an_error_tells_its_kind_and_position(rt: HostRuntime) {
+fn an_error_returns_its_kind_and_position(rt: HostRuntime) {
     let error = Error::new(ErrorKind::Reader, Length::new(9));
     same(&rt, error.kind(), ErrorKind::Reader);
     same(&rt, error.position(), Some(Length::new(9)));

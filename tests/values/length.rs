@@ -97,7 +97,7 @@ fn sums_and_differences_are_exact_refused_or_saturated(rt: HostRuntime) {
 }
 
 #[test]
-fn a_given_error_is_handed_on(rt: HostRuntime) {
+fn a_given_error_is_forwarded(rt: HostRuntime) {
     let given: Result<Length> = Err(ErrorKind::Failed.at(Length::ONE));
     same(&rt, given + Length::ONE, given);
     same(&rt, given - Length::ONE, given);

@@ -5,7 +5,7 @@ use Rattle.der_base.specs.Arithmetic.{sans_eoc}
 use Rattle.der_base.specs.Body.{Body}
 use Rattle.der_base.specs.Length.{number, definite_length, indefinite_length, length_octets}
 use Rattle.der_base.specs.Tag.{label, tag_octets, IsIdentifier, of_tag, of_segments}
-use Rattle.der_base.specs.HeaderGrammar.{header_octets, Head, head, LengthAhead, HeadAhead, header, definite, indefinite}
+use Rattle.der_base.specs.HeaderGrammar.{header_octets, Head, head, LengthNext, HeadNext, header, definite, indefinite}
 use Rattle.der_base.specs.declared.tag.Tag.{Tag}
 use Rattle.der_base.specs.declared.encoding_rules.EncodingRules.{EncodingRules}
 use Rattle.der_base.specs.declared.encoding_rules.EncodingRules.TheVariants.{Ber}
@@ -57,7 +57,7 @@ identifier_numbered of_segments = omega arith
 record SameSegment (p q : Bool) (c d x y : List ℕ) : Type 0 where
   pub bits : p ≡ q
   pub contents : c ≡ d
-  pub behind : x ≡ y
+  pub following : x ≡ y
 
 -- a primitive segment is no constructed one
 not_primitive : {tag : Tag} {id : List ℕ} → (label tag).constructed ≡ false → IsIdentifier Ber id tag true → (c x y : List ℕ) → element_octets tag c ++ x ≡ id ++ y → ⊥
@@ -96,7 +96,7 @@ segment_front {tag} {p} {q} {c} {d} {a} {b} s t x y e = go s t
     at f g = ap (λ z. z ++ x) (sym f) ∙ e ∙ ap (λ z. z ++ y) g
 
     go : IsSegment tag p c a → IsSegment tag q d b → SameSegment p q c d x y
-    go (primitive_form i j k l) (primitive_form m n o r) = (let z = element_front tag c d x y (at l r) in record { bits = i ∙ sym m; contents = z.0; behind = z.1 })
+    go (primitive_form i j k l) (primitive_form m n o r) = (let z = element_front tag c d x y (at l r) in record { bits = i ∙ sym m; contents = z.0; following = z.1 })
     go (primitive_form i j k l) (definite_form id m n o r) =
         absurd (not_primitive j n c x ((length_octets (length d) ++ d) ++ y) (at l r ∙ append_assoc id (length_octets (length d) ++ d) y))
     go (primitive_form i j k l) (indefinite_form id m n o r) =
@@ -105,10 +105,10 @@ segment_front {tag} {p} {q} {c} {d} {a} {b} s t x y e = go s t
         absurd (not_primitive j n d y ((length_octets (length c) ++ c) ++ x) (sym (at r l) ∙ append_assoc id (length_octets (length c) ++ c) x))
     go (indefinite_form id m n o r) (primitive_form i j k l) =
         absurd (not_primitive j n d y ((128 ∷ (c ++ 0 ∷ 0 ∷ [])) ++ x) (sym (at r l) ∙ append_assoc id (128 ∷ (c ++ 0 ∷ 0 ∷ [])) x))
-    go (definite_form id i j k l) (definite_form jd m n o r) = (let z = definite_front j n c d x y (at l r) in record { bits = i ∙ sym m; contents = z.0; behind = z.1 })
+    go (definite_form id i j k l) (definite_form jd m n o r) = (let z = definite_front j n c d x y (at l r) in record { bits = i ∙ sym m; contents = z.0; following = z.1 })
     go (definite_form id i j k l) (indefinite_form jd m n o r) = absurd (mixed_front j n c (d ++ 0 ∷ 0 ∷ []) x y (at l r))
     go (indefinite_form jd m n o r) (definite_form id i j k l) = absurd (mixed_front j n d (c ++ 0 ∷ 0 ∷ []) y x (sym (at r l)))
-    go (indefinite_form id i j k l) (indefinite_form jd m n o r) = (let z = indefinite_front j n c d x y k o (at l r) in record { bits = i ∙ sym m; contents = z.0; behind = z.1 })
+    go (indefinite_form id i j k l) (indefinite_form jd m n o r) = (let z = indefinite_front j n c d x y k o (at l r) in record { bits = i ∙ sym m; contents = z.0; following = z.1 })
 
 -- a segment followed by segments
 pub segment_then : {tag : Tag} {levels : ℕ} {c e more out : List ℕ} → IsSegment tag false c e → Joined tag levels more out → Joined tag levels (e ++ more) (c ++ out)
@@ -151,14 +151,14 @@ joined_view (indefinite_segments {levels = k} {id = id} {more = m} {within = w} 
     view_segments k c (id ++ 128 ∷ (c ++ 0 ∷ 0 ∷ [])) m w o (indefinite_form id refl d body refl) refl into h refl refl
 
 -- the result is `before`, followed by the joined rest
-pub record JoinedBehind (tag : Tag) (levels : ℕ) (s before out : List ℕ) : Type 0 where
+pub record JoinedAfter (tag : Tag) (levels : ℕ) (s before out : List ℕ) : Type 0 where
   pub after : List ℕ
   pub joined : Joined tag levels s after
   pub split : out ≡ before ++ after
 
 -- no octets follow the whole result
-whole_behind : {tag : Tag} {levels : ℕ} {x y : List ℕ} → JoinedBehind tag levels [] x y → y ≡ x
-whole_behind {tag} {levels} {x} {y} h = go (joined_view h.joined)
+nothing_joined_after_all : {tag : Tag} {levels : ℕ} {x y : List ℕ} → JoinedAfter tag levels [] x y → y ≡ x
+nothing_joined_after_all {tag} {levels} {x} {y} h = go (joined_view h.joined)
   where
     go : JoinedView tag levels [] h.after → y ≡ x
     go (view_none p z) = h.split ∙ ap (λ l. x ++ l) z ∙ append-nil x
@@ -167,50 +167,50 @@ whole_behind {tag} {levels} {x} {y} h = go (joined_view h.joined)
 
 -- joining a followed by more octets gives x followed by the joined rest
 abbrev Later : Tag → ℕ → List ℕ → List ℕ → Type 0
-Later tag levels a x = (q b y : List ℕ) → b ≡ a ++ q → Joined tag levels b y → JoinedBehind tag levels q x y
+Later tag levels a x = (q b y : List ℕ) → b ≡ a ++ q → Joined tag levels b y → JoinedAfter tag levels q x y
 
 -- the same after a primitive segment, and after a constructed one
-behind_segment : {tag : Tag} {levels : ℕ} {c e out : List ℕ} (more : List ℕ) → IsSegment tag false c e → Later tag levels more out → Later tag levels (e ++ more) (c ++ out)
-behind_segment {tag} {levels} {c} {e} {out} more s later q b y is g = go (joined_view g)
+splits_after_segment : {tag : Tag} {levels : ℕ} {c e out : List ℕ} (more : List ℕ) → IsSegment tag false c e → Later tag levels more out → Later tag levels (e ++ more) (c ++ out)
+splits_after_segment {tag} {levels} {c} {e} {out} more s later q b y is g = go (joined_view g)
   where
     at : b ≡ e ++ (more ++ q)
     at = is ∙ append_assoc e more q
 
-    go : JoinedView tag levels b y → JoinedBehind tag levels q (c ++ out) y
+    go : JoinedView tag levels b y → JoinedAfter tag levels q (c ++ out) y
     go (view_none p z) = absurd (no_segment_ends s (more ++ q) (sym at ∙ p))
     go (view_segments k d f m w o i l into r p z) = (let same = segment_front s i (more ++ q) m (sym at ∙ p) in absurd (let no : false ≡ true = same.bits in cc))
     go (view_segment d f m o i r p z) =
         let same = segment_front s i (more ++ q) m (sym at ∙ p) in
-        let n = later q m o (sym same.behind) r in
+        let n = later q m o (sym same.following) r in
         record { after = n.after; joined = n.joined; split = z ∙ ap (λ l. l ++ o) (sym same.contents) ∙ ap (λ l. c ++ l) n.split ∙ sym (append_assoc c out n.after) }
 
-behind_segments : {tag : Tag} {below : ℕ} {c e w out : List ℕ} (more : List ℕ) → IsSegment tag true c e → Later tag below c w → Later tag (suc below) more out → Later tag (suc below) (e ++ more) (w ++ out)
-behind_segments {tag} {below} {c} {e} {w} {out} more s once later q b y is g = go (joined_view g)
+after_segments : {tag : Tag} {below : ℕ} {c e w out : List ℕ} (more : List ℕ) → IsSegment tag true c e → Later tag below c w → Later tag (suc below) more out → Later tag (suc below) (e ++ more) (w ++ out)
+after_segments {tag} {below} {c} {e} {w} {out} more s once later q b y is g = go (joined_view g)
   where
     at : b ≡ e ++ (more ++ q)
     at = is ∙ append_assoc e more q
 
-    go : JoinedView tag (suc below) b y → JoinedBehind tag (suc below) q (w ++ out) y
+    go : JoinedView tag (suc below) b y → JoinedAfter tag (suc below) q (w ++ out) y
     go (view_none p z) = absurd (no_segment_ends s (more ++ q) (sym at ∙ p))
     go (view_segment d f m o i r p z) = (let same = segment_front s i (more ++ q) m (sym at ∙ p) in absurd (let no : true ≡ false = same.bits in cc))
     go (view_segments k d f m v o i l into r p z) =
         let same = segment_front s i (more ++ q) m (sym at ∙ p) in
         let level : k ≡ below = cc in
-        let within = whole_behind (once [] d v (sym same.contents ∙ sym (append-nil c)) (subst (λ n. Joined tag n d v) level into)) in
-        let n = later q m o (sym same.behind) r in
+        let within = nothing_joined_after_all (once [] d v (sym same.contents ∙ sym (append-nil c)) (subst (λ n. Joined tag n d v) level into)) in
+        let n = later q m o (sym same.following) r in
         record { after = n.after; joined = n.joined; split = z ∙ ap (λ l. l ++ o) within ∙ ap (λ l. w ++ l) n.split ∙ sym (append_assoc w out n.after) }
 
-pub joined_behind : {tag : Tag} {levels : ℕ} {a x : List ℕ} → Joined tag levels a x → (q b y : List ℕ) → b ≡ a ++ q → Joined tag levels b y → JoinedBehind tag levels q x y
-joined_behind {tag} {levels} none q b y e g = record { after = y; joined = subst (λ l. Joined tag levels l y) e g; split = refl }
-joined_behind (segment {more = m} c bit small h) q b y e g = behind_segment m (primitive_form refl bit small refl) (λ q b y e g. joined_behind h q b y e g) q b y e g
-joined_behind (definite_segments {id = id} {more = m} c d small into h) q b y e g =
-    behind_segments m (definite_form id refl d small refl) (λ q b y e g. joined_behind into q b y e g) (λ q b y e g. joined_behind h q b y e g) q b y e g
-joined_behind (indefinite_segments {id = id} {more = m} c d body into h) q b y e g =
-    behind_segments m (indefinite_form id refl d body refl) (λ q b y e g. joined_behind into q b y e g) (λ q b y e g. joined_behind h q b y e g) q b y e g
+pub joined_after : {tag : Tag} {levels : ℕ} {a x : List ℕ} → Joined tag levels a x → (q b y : List ℕ) → b ≡ a ++ q → Joined tag levels b y → JoinedAfter tag levels q x y
+joined_after {tag} {levels} none q b y e g = record { after = y; joined = subst (λ l. Joined tag levels l y) e g; split = refl }
+joined_after (segment {more = m} c bit small h) q b y e g = splits_after_segment m (primitive_form refl bit small refl) (λ q b y e g. joined_after h q b y e g) q b y e g
+joined_after (definite_segments {id = id} {more = m} c d small into h) q b y e g =
+    after_segments m (definite_form id refl d small refl) (λ q b y e g. joined_after into q b y e g) (λ q b y e g. joined_after h q b y e g) q b y e g
+joined_after (indefinite_segments {id = id} {more = m} c d body into h) q b y e g =
+    after_segments m (indefinite_form id refl d body refl) (λ q b y e g. joined_after into q b y e g) (λ q b y e g. joined_after h q b y e g) q b y e g
 
 -- the same octets have at most one joined result
 pub one_joined : {tag : Tag} {levels : ℕ} {s x y : List ℕ} → Joined tag levels s x → Joined tag levels s y → x ≡ y
-one_joined {s = s} {x = x} {y = y} h g = sym (whole_behind (joined_behind h [] s y (sym (append-nil s)) g))
+one_joined {s = s} {x = x} {y = y} h g = sym (nothing_joined_after_all (joined_after h [] s y (sym (append-nil s)) g))
 
 -- the result stays the same if more levels are allowed
 pub joined_up : {tag : Tag} {levels : ℕ} {s out : List ℕ} → Joined tag levels s out → (n : ℕ) → levels ≤ n → Joined tag n s out
@@ -219,13 +219,13 @@ joined_up (segment c bit small h) n l = segment c bit small (joined_up h n l)
 joined_up {tag} (definite_segments {id = id} {more = m} {within = w} {out = o} c d small into h) n l =
     let e : suc (n - 1) ≡ n = omega arith in
     let below = joined_up into (n - 1) (omega arith) in
-    let behind : Joined tag (suc (n - 1)) m o = joined_up h (suc (n - 1)) (omega arith) in
-    subst (λ x. Joined tag x ((id ++ (length_octets (length c) ++ c)) ++ m) (w ++ o)) e (definite_segments c d small below behind)
+    let following : Joined tag (suc (n - 1)) m o = joined_up h (suc (n - 1)) (omega arith) in
+    subst (λ x. Joined tag x ((id ++ (length_octets (length c) ++ c)) ++ m) (w ++ o)) e (definite_segments c d small below following)
 joined_up {tag} (indefinite_segments {id = id} {more = m} {within = w} {out = o} c d body into h) n l =
     let e : suc (n - 1) ≡ n = omega arith in
     let below = joined_up into (n - 1) (omega arith) in
-    let behind : Joined tag (suc (n - 1)) m o = joined_up h (suc (n - 1)) (omega arith) in
-    subst (λ x. Joined tag x ((id ++ 128 ∷ (c ++ 0 ∷ 0 ∷ [])) ++ m) (w ++ o)) e (indefinite_segments c d body below behind)
+    let following : Joined tag (suc (n - 1)) m o = joined_up h (suc (n - 1)) (omega arith) in
+    subst (λ x. Joined tag x ((id ++ 128 ∷ (c ++ 0 ∷ 0 ∷ [])) ++ m) (w ++ o)) e (indefinite_segments c d body below following)
 
 -- the joined segments inside a constructed one, with one level fewer
 pub record JoinedWithin (tag : Tag) (levels : ℕ) (contents : List ℕ) : Type 0 where
@@ -239,9 +239,9 @@ pub record FirstSegment (tag : Tag) (levels : ℕ) (s : List ℕ) : Type 0 where
   pub constructed : Bool
   pub contents : List ℕ
   pub octets : List ℕ
-  pub behind : List ℕ
+  pub following : List ℕ
   pub form : IsSegment tag constructed contents octets
-  pub split : s ≡ octets ++ behind
+  pub split : s ≡ octets ++ following
   pub within : constructed ≡ true → JoinedWithin tag levels contents
 
 pub first_segment : {tag : Tag} {levels : ℕ} {s out : List ℕ} → Joined tag levels s out → s ≢ [] → FirstSegment tag levels s
@@ -249,66 +249,66 @@ first_segment {tag} {levels} {s} {out} j some = go (joined_view j)
   where
     go : JoinedView tag levels s out → FirstSegment tag levels s
     go (view_none p z) = absurd (some p)
-    go (view_segment c e m o i r p z) = record { constructed = false; contents = c; octets = e; behind = m; form = i; split = p; within = λ set. absurd (cc) }
+    go (view_segment c e m o i r p z) = record { constructed = false; contents = c; octets = e; following = m; form = i; split = p; within = λ set. absurd (cc) }
     go (view_segments k c e m w o i l into r p z) =
-        record { constructed = true; contents = c; octets = e; behind = m; form = i; split = p; within = λ _. record { below = k; out = w; level = l; joined = into } }
+        record { constructed = true; contents = c; octets = e; following = m; form = i; split = p; within = λ _. record { below = k; out = w; level = l; joined = into } }
 
 -- a segment is next: its header, followed by its contents
-pub record SegmentAhead (tag : Tag) (b : Bool) (c : List ℕ) (rules : EncodingRules) (s : List ℕ) : Type 0 where
+pub record SegmentNext (tag : Tag) (b : Bool) (c : List ℕ) (rules : EncodingRules) (s : List ℕ) : Type 0 where
   pub says : Head
   pub count : ℕ
   pub after : List ℕ
   pub tagged : says.tag ≡ tag
   pub bit : says.constructed ≡ b
-  pub ahead : HeadAhead says rules s count
+  pub next : HeadNext says rules s count
   pub split : drop count s ≡ c ++ after
   pub sized : length c ≡ number (sans_eoc says.length)
 
 -- constructed segments occur only under BER
-module _ (tag : Tag) (rules : EncodingRules) (c behind s : List ℕ) where
-  definite_ahead : {id : List ℕ} {b : Bool} → IsIdentifier rules id tag b → length c < 2 ^ 32 → s ≡ id ++ (length_octets (length c) ++ (c ++ behind)) → SegmentAhead tag b c rules s
-  definite_ahead {id} {b} d small is =
+module _ (tag : Tag) (rules : EncodingRules) (c following s : List ℕ) where
+  definite_segment_next : {id : List ℕ} {b : Bool} → IsIdentifier rules id tag b → length c < 2 ^ 32 → s ≡ id ++ (length_octets (length c) ++ (c ++ following)) → SegmentNext tag b c rules s
+  definite_segment_next {id} {b} d small is =
       record {
         says = head tag (definite_length (length c)) b;
         count = length id + length (length_octets (length c));
-        after = behind;
+        after = following;
         tagged = refl;
         bit = refl;
-        ahead = subst (λ x. HeadAhead (head tag (definite_length (length c)) b) rules x (length id + length (length_octets (length c)))) (sym is) (header d (definite (length c) (c ++ behind) small) (λ f. absurd (cc)));
+        next = subst (λ x. HeadNext (head tag (definite_length (length c)) b) rules x (length id + length (length_octets (length c)))) (sym is) (header d (definite (length c) (c ++ following) small) (λ f. absurd (cc)));
         split =
-            ap (drop (length id + length (length_octets (length c)))) (is ∙ sym (append_assoc id (length_octets (length c)) (c ++ behind)))
-            ∙ drop_at (id ++ length_octets (length c)) (c ++ behind) (length id + length (length_octets (length c))) (length-append id (length_octets (length c)));
+            ap (drop (length id + length (length_octets (length c)))) (is ∙ sym (append_assoc id (length_octets (length c)) (c ++ following)))
+            ∙ drop_at (id ++ length_octets (length c)) (c ++ following) (length id + length (length_octets (length c))) (length-append id (length_octets (length c)));
         sized = refl;
       }
 
-  indefinite_ahead : {parts : ℕ} {id : List ℕ} → IsIdentifier rules id tag true → rules ≡ Ber → Body 1 parts (c ++ 0 ∷ 0 ∷ []) → s ≡ id ++ 128 ∷ ((c ++ 0 ∷ 0 ∷ []) ++ behind) → SegmentAhead tag true c rules s
-  indefinite_ahead {parts} {id} d ber body is =
-      let mark = c ++ 0 ∷ 0 ∷ [] in
-      let l = indefinite_length (length mark) in
-      let la : LengthAhead l rules (128 ∷ (mark ++ behind)) 1 = subst (λ x. LengthAhead l x (128 ∷ (mark ++ behind)) 1) (sym ber) (indefinite behind body) in
+  indefinite_segment_next : {parts : ℕ} {id : List ℕ} → IsIdentifier rules id tag true → rules ≡ Ber → Body 1 parts (c ++ 0 ∷ 0 ∷ []) → s ≡ id ++ 128 ∷ ((c ++ 0 ∷ 0 ∷ []) ++ following) → SegmentNext tag true c rules s
+  indefinite_segment_next {parts} {id} d ber body is =
+      let eoc = c ++ 0 ∷ 0 ∷ [] in
+      let l = indefinite_length (length eoc) in
+      let la : LengthNext l rules (128 ∷ (eoc ++ following)) 1 = subst (λ x. LengthNext l x (128 ∷ (eoc ++ following)) 1) (sym ber) (indefinite following body) in
       record {
         says = head tag l true;
         count = length id + 1;
-        after = 0 ∷ 0 ∷ behind;
+        after = 0 ∷ 0 ∷ following;
         tagged = refl;
         bit = refl;
-        ahead = subst (λ x. HeadAhead (head tag l true) rules x (length id + 1)) (sym is) (header d la (λ f. refl));
+        next = subst (λ x. HeadNext (head tag l true) rules x (length id + 1)) (sym is) (header d la (λ f. refl));
         split =
-            ap (drop (length id + 1)) (is ∙ sym (append_assoc id (128 ∷ []) (mark ++ behind))) ∙ drop_at (id ++ 128 ∷ []) (mark ++ behind) (length id + 1) (length-append id (128 ∷ []))
-            ∙ append_assoc c (0 ∷ 0 ∷ []) behind;
+            ap (drop (length id + 1)) (is ∙ sym (append_assoc id (128 ∷ []) (eoc ++ following))) ∙ drop_at (id ++ 128 ∷ []) (eoc ++ following) (length id + 1) (length-append id (128 ∷ []))
+            ∙ append_assoc c (0 ∷ 0 ∷ []) following;
         sized = omega (arith, length-append c (0 ∷ 0 ∷ []));
       }
 
-  pub segment_ahead : {b : Bool} {e : List ℕ} → IsSegment tag b c e → s ≡ e ++ behind → (label tag).number < 2 ^ 32 → (b ≡ true → rules ≡ Ber) → SegmentAhead tag b c rules s
-  segment_ahead {b} {e} (primitive_form isnt bit small is) split numbered ber =
+  pub segment_next : {b : Bool} {e : List ℕ} → IsSegment tag b c e → s ≡ e ++ following → (label tag).number < 2 ^ 32 → (b ≡ true → rules ≡ Ber) → SegmentNext tag b c rules s
+  segment_next {b} {e} (primitive_form isnt bit small is) split numbered ber =
       let d : IsIdentifier rules (tag_octets tag) tag b = subst (IsIdentifier rules (tag_octets tag) tag) (bit ∙ sym isnt) (of_tag numbered) in
-      definite_ahead d small (split ∙ ap (λ l. l ++ behind) is ∙ simp append_assoc)
-  segment_ahead {b} {e} (definite_form id set d small is) split numbered ber =
+      definite_segment_next d small (split ∙ ap (λ l. l ++ following) is ∙ simp append_assoc)
+  segment_next {b} {e} (definite_form id set d small is) split numbered ber =
       let i : IsIdentifier rules id tag b = subst (λ r. IsIdentifier r id tag b) (sym (ber set)) (subst (IsIdentifier Ber id tag) (sym set) d) in
-      definite_ahead i small (split ∙ ap (λ l. l ++ behind) is ∙ simp append_assoc)
-  segment_ahead {b} {e} (indefinite_form id set d body is) split numbered ber =
+      definite_segment_next i small (split ∙ ap (λ l. l ++ following) is ∙ simp append_assoc)
+  segment_next {b} {e} (indefinite_form id set d body is) split numbered ber =
       let i : IsIdentifier rules id tag true = subst (λ r. IsIdentifier r id tag true) (sym (ber set)) d in
-      subst (λ x. SegmentAhead tag x c rules s) (sym set) (indefinite_ahead i (ber set) body (split ∙ ap (λ l. l ++ behind) is ∙ append_assoc id (128 ∷ (c ++ 0 ∷ 0 ∷ [])) behind))
+      subst (λ x. SegmentNext tag x c rules s) (sym set) (indefinite_segment_next i (ber set) body (split ∙ ap (λ l. l ++ following) is ∙ append_assoc id (128 ∷ (c ++ 0 ∷ 0 ∷ [])) following))
 
 -- the joined octets are no longer than the segments
 pub joined_short : {tag : Tag} {levels : ℕ} {s x : List ℕ} → Joined tag levels s x → length x ≤ length s

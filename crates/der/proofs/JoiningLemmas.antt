@@ -15,12 +15,12 @@ use Rattle.der_core.specs.ReaderState.{ReaderState, rest_of, advanced_state, IsS
 use Rattle.der_core.specs.Reader.{VecRefused}
 use Rattle.der_core.specs.Decode.{Passes}
 use Rattle.der_core.specs.Encode.{element_octets}
-use Rattle.der_core.specs.Header.{head_of, HeaderAhead}
+use Rattle.der_core.specs.Header.{head_of, HeaderNext}
 use Rattle.der_core.specs.declared.header.Header.{Header}
 use Rattle.der_core.proofs.StateLemmas.{reads_none, reads_on, reads_front, length-rest, position_on}
 use Rattle.der_core.proofs.TagAssertedLemmas.{tag_asserted}
 use Rattle.der.specs.Joined.{Joined, none}
-use Rattle.der.specs.Joining.{levels_at, levels_left, AppendsOctets, AppendsJoined, PassesTagged, PassesSegmentHeader, RefusesSegment, no_octets, RefusesSegments, behind_segments}
+use Rattle.der.specs.Joining.{levels_at, levels_left, AppendsOctets, AppendsJoined, PassesTagged, PassesSegmentHeader, RefusesSegment, no_octets, RefusesSegments, after_segments}
 use Rattle.der.proofs.JoinedLemmas.{IsSegment, primitive_form, segment_some, segment_then, segments_then, joined_more}
 
 pub reads_there : (s u : ReaderState) (x more : List ℕ) (m : ℕ) → rest_of s ≡ x ++ more → u ≡ advanced_state s m → m ≡ length x → Reads s u x
@@ -47,24 +47,24 @@ record SegmentHeader (tag : Tag) (s u : ReaderState) (n : ℕ) : Type 0 where
   pub reads : Reads s u (header_octets tag n)
 
 segment_header : {tag : Tag} {s u : ReaderState} (h : Header) → PassesTagged tag h s u → (head_of h).constructed ≡ false → SegmentHeader tag s u (number (head_of h).length)
-segment_header {tag} {s} {u} h p primitive = go (header_view p.passes.ahead)
+segment_header {tag} {s} {u} h p primitive = go (header_view p.passes.next)
   where
     m : ℕ
     m = p.passes.octets
 
     on : {k : ℕ} (id more : List ℕ) → IsIdentifier s.rules id (head_of h).tag (head_of h).constructed → (is_indefinite (head_of h).length ≡ true → (head_of h).constructed ≡ true) → rest_of s ≡ id ++ more → m ≡ length id + k
         → LengthView (head_of h).length s.rules more k → SegmentHeader tag s u (number (head_of h).length)
-    on id more d ok e c (view_indefinite body behind ber b q says z) = absurd (let no : false ≡ true = sym primitive ∙ ok (ap is_indefinite says) in cc)
-    on id more d ok e c (view_definite n behind small q says z) =
+    on id more d ok e c (view_indefinite body following ber b q says z) = absurd (let no : false ≡ true = sym primitive ∙ ok (ap is_indefinite says) in cc)
+    on id more d ok e c (view_definite n following small q says z) =
         let r = primitive_identifier primitive d in
         let count : n ≡ number (head_of h).length = sym (ap number says) in
         let octets : id ++ length_octets n ≡ header_octets tag (number (head_of h).length) = ap (λ l. l ++ length_octets n) (r.0 ∙ ap tag_octets p.tagged) ∙ ap (header_octets tag) count in
-        let split : rest_of s ≡ header_octets tag (number (head_of h).length) ++ behind = e ∙ ap (λ l. id ++ l) q ∙ sym (append_assoc id (length_octets n) behind) ∙ ap (λ l. l ++ behind) octets in
+        let split : rest_of s ≡ header_octets tag (number (head_of h).length) ++ following = e ∙ ap (λ l. id ++ l) q ∙ sym (append_assoc id (length_octets n) following) ∙ ap (λ l. l ++ following) octets in
         let long : m ≡ length (header_octets tag (number (head_of h).length)) = c ∙ ap (λ l. length id + l) z ∙ sym (length-append id (length_octets n)) ∙ ap length octets in
         record {
           primitive = ap (λ t. (label t).constructed) (sym p.tagged) ∙ r.1;
           small = subst (λ l. l < 2 ^ 32) count small;
-          reads = reads_there s u (header_octets tag (number (head_of h).length)) behind m split p.passes.leaves long;
+          reads = reads_there s u (header_octets tag (number (head_of h).length)) following m split p.passes.leaves long;
         }
 
     go : HeaderView (head_of h) s.rules (rest_of s) m → SegmentHeader tag s u (number (head_of h).length)
@@ -96,8 +96,8 @@ pub appends_at : {tag : Tag} {levels other : ℕ} {s t : ReaderState} {old new :
 appends_at {tag} {s = s} {t} {old} {new} e h = subst (λ n. AppendsJoined tag n s old new t) e h
 
 -- the same after segments that this reader has read
-pub appends_behind : {tag : Tag} {s u t : ReaderState} {old middle new : List ℕ} → Same s u → AppendsJoined tag (levels_left s) s old middle u → AppendsJoined tag (levels_left u) u middle new t → AppendsJoined tag (levels_left s) s old new t
-appends_behind {s = s} {u = u} same h g = appends_more h (appends_at (levels_same s u same.rules same.depth) g)
+pub appends_after : {tag : Tag} {s u t : ReaderState} {old middle new : List ℕ} → Same s u → AppendsJoined tag (levels_left s) s old middle u → AppendsJoined tag (levels_left u) u middle new t → AppendsJoined tag (levels_left s) s old new t
+appends_after {s = s} {u = u} same h g = appends_more h (appends_at (levels_same s u same.rules same.depth) g)
 
 -- one segment is joined
 pub joined_segment : {tag : Tag} {levels : ℕ} {c e : List ℕ} → IsSegment tag false c e → Joined tag levels e c
@@ -119,9 +119,9 @@ segment_appended {e = e} {out = out} form reads joined appended =
     }
 
 -- a header whose tag was compared with the expected one
-pub passes_tagged : {tag t w : Tag} {h : Header} {s u v : ReaderState} (r : Result Tag Error) → Passes (HeaderAhead h) s u → t ≡ (head_of h).tag → r ≡ Ok w → (t ≢ tag → r ≡ Err (unexpected_tag tag t)) → v ≡ u
+pub passes_tagged : {tag t w : Tag} {h : Header} {s u v : ReaderState} (r : Result Tag Error) → Passes (HeaderNext h) s u → t ≡ (head_of h).tag → r ≡ Ok w → (t ≢ tag → r ≡ Err (unexpected_tag tag t)) → v ≡ u
     → PassesTagged tag h s v
-passes_tagged {tag} {t} {w} {h} {s} r passes is ok other unmoved = record { passes = subst (Passes (HeaderAhead h) s) (sym unmoved) passes; tagged = sym is ∙ tag_asserted t tag w r ok other }
+passes_tagged {tag} {t} {w} {h} {s} r passes is ok other unmoved = record { passes = subst (Passes (HeaderNext h) s) (sym unmoved) passes; tagged = sym is ∙ tag_asserted t tag w r ok other }
 
 -- after the header of a primitive segment with this length
 module _ (tag : Tag) (s u t : ReaderState) (h : Header) (l : Length) (p : PassesSegmentHeader tag h s u) (primitive : (head_of h).constructed ≡ false) (is : l ≡ (head_of h).length) where
@@ -144,7 +144,7 @@ module _ (tag : Tag) (s u t : ReaderState) (h : Header) (l : Length) (p : Passes
 
 -- if octets are left after joined segments, reading the next segment can fail
 pub segments_refuse : {tag : Tag} {s u t : ReaderState} {old new : List ℕ} {e : Error} → AppendsJoined tag (levels_left s) s old new u → IsSound u → (u.end ≡ u.position → ⊥) → RefusesSegment tag u e t → RefusesSegments tag s e t
-segments_refuse {u = u} h sound left r = behind_segments u h.octets h.out h.reads h.joined (omega (arith, sound.ordered, left)) r
+segments_refuse {u = u} h sound left r = after_segments u h.octets h.out h.reads h.joined (omega (arith, sound.ordered, left)) r
 
 -- all octets that were left are joined
 pub record JoinsRest (tag : Tag) (levels : ℕ) (s : ReaderState) (old new : List ℕ) (t : ReaderState) : Type 0 where

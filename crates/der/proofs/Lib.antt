@@ -36,7 +36,7 @@ pub use Rattle.der_core.proofs.DecodeLemmas
 pub use Rattle.der_core.proofs.WholeLemmas
 pub use Rattle.der_core.proofs.NestedLemmas
 pub use Rattle.der_core.proofs.PeekLemmas
-pub use Rattle.der_core.proofs.EndMarkLemmas
+pub use Rattle.der_core.proofs.EocLemmas
 pub use Rattle.der_core.proofs.CompareLemmas
 pub use Rattle.der_core.proofs.ContentsLemmas
 pub use Rattle.der_core.proofs.TagAssertedLemmas

@@ -14,9 +14,9 @@ use Rattle.der_core.specs.ReaderState.{ReaderState, rest_of, advanced_state, nes
 use Rattle.der_core.specs.Outcome.{Gives}
 use Rattle.der_core.specs.Header.{head_of}
 use Rattle.der_core.specs.Reader.{enter_nested_outcome}
-use Rattle.der_core.specs.Nested.{CanNest, Closes, handed_on, left_over, whole, ClosesValue, part_refused, without_mark, with_mark, mark_refused}
+use Rattle.der_core.specs.Nested.{CanNest, Closes, forwarded, left_over, whole, ClosesValue, part_refused, without_eoc, with_eoc, eoc_failed}
 use Rattle.der_core.specs.declared.header.Header.{Header}
-use Rattle.der_core.proofs.ContentsLemmas.{rest_advanced, rest_inside, Behind, unmarked, behind_mark, closes_ok, value_closed}
+use Rattle.der_core.proofs.ContentsLemmas.{rest_advanced, rest_inside, After, definite, after_eoc, closes_ok, value_closed}
 use Rattle.der_core.proofs.ElementLemmas.{flag_stays, no_eoc_fault}
 use Rattle.der_core.proofs.NestedLemmas.{Entered, enter_ok}
 use Rattle.der_core.proofs.StateLemmas.{reads_on, length-rest, rest_after}
@@ -44,11 +44,11 @@ levels_deeper s i ber rules depth less =
 -- the header of a constructed segment, after reading it
 data ConstructedHeader (tag : Tag) (h : Header) (s u : ReaderState) : Type 0 where
   definite_header : (id : List ℕ) → IsIdentifier Ber id tag true → is_indefinite (head_of h).length ≡ false → contents_number h < 2 ^ 32 → Reads s u (id ++ length_octets (contents_number h)) → ConstructedHeader tag h s u
-  indefinite_header : {parts : ℕ} (id c behind : List ℕ) → IsIdentifier Ber id tag true → is_indefinite (head_of h).length ≡ true → Body 1 parts (c ++ 0 ∷ 0 ∷ []) → length c ≡ contents_number h
-      → Reads s u (id ++ 128 ∷ []) → rest_of u ≡ c ++ (0 ∷ 0 ∷ behind) → ConstructedHeader tag h s u
+  indefinite_header : {parts : ℕ} (id c following : List ℕ) → IsIdentifier Ber id tag true → is_indefinite (head_of h).length ≡ true → Body 1 parts (c ++ 0 ∷ 0 ∷ []) → length c ≡ contents_number h
+      → Reads s u (id ++ 128 ∷ []) → rest_of u ≡ c ++ (0 ∷ 0 ∷ following) → ConstructedHeader tag h s u
 
 constructed_header : {tag : Tag} {h : Header} {s u : ReaderState} → PassesSegmentHeader tag h s u → (head_of h).constructed ≡ true → ConstructedHeader tag h s u
-constructed_header {tag} {h} {s} {u} p bit = go (header_view p.passes.passes.ahead)
+constructed_header {tag} {h} {s} {u} p bit = go (header_view p.passes.passes.next)
   where
     m : ℕ
     m = p.passes.passes.octets
@@ -57,21 +57,21 @@ constructed_header {tag} {h} {s} {u} p bit = go (header_view p.passes.passes.ahe
     ident {id} d = subst (λ b. IsIdentifier Ber id tag b) bit (subst (λ t. IsIdentifier Ber id t (head_of h).constructed) p.passes.tagged (subst (λ r. IsIdentifier r id (head_of h).tag (head_of h).constructed) (under_ber p bit) d))
 
     on : {k : ℕ} (id more : List ℕ) → IsIdentifier s.rules id (head_of h).tag (head_of h).constructed → rest_of s ≡ id ++ more → m ≡ length id + k → LengthView (head_of h).length s.rules more k → ConstructedHeader tag h s u
-    on id more d e c (view_definite n behind small q says z) =
+    on id more d e c (view_definite n following small q says z) =
         let count : n ≡ contents_number h = sym (ap (λ x. number (sans_eoc x)) says) in
-        let split : rest_of s ≡ (id ++ length_octets n) ++ behind = e ∙ ap (λ l. id ++ l) q ∙ sym (append_assoc id (length_octets n) behind) in
+        let split : rest_of s ≡ (id ++ length_octets n) ++ following = e ∙ ap (λ l. id ++ l) q ∙ sym (append_assoc id (length_octets n) following) in
         let long : m ≡ length (id ++ length_octets n) = c ∙ ap (λ l. length id + l) z ∙ sym (length-append id (length_octets n)) in
-        let reads = reads_there s u (id ++ length_octets n) behind m split p.passes.passes.leaves long in
+        let reads = reads_there s u (id ++ length_octets n) following m split p.passes.passes.leaves long in
         definite_header id (ident d) (ap is_indefinite says) (subst (λ k. k < 2 ^ 32) count small) (subst (λ k. Reads s u (id ++ length_octets k)) count reads)
-    on id more d e c (view_indefinite {parts = parts} body behind ber bd q says z) =
+    on id more d e c (view_indefinite {parts = parts} body following ber bd q says z) =
         let end = body_ends bd in
-        let split : rest_of s ≡ (id ++ 128 ∷ []) ++ (body ++ behind) = e ∙ ap (λ l. id ++ l) q ∙ sym (append_assoc id (128 ∷ []) (body ++ behind)) in
+        let split : rest_of s ≡ (id ++ 128 ∷ []) ++ (body ++ following) = e ∙ ap (λ l. id ++ l) q ∙ sym (append_assoc id (128 ∷ []) (body ++ following)) in
         let long : m ≡ length (id ++ 128 ∷ []) = c ∙ ap (λ l. length id + l) z ∙ sym (length-append id (128 ∷ [])) in
-        let reads = reads_there s u (id ++ 128 ∷ []) (body ++ behind) m split p.passes.passes.leaves long in
-        let left : rest_of u ≡ body ++ behind = ap rest_of reads.state ∙ rest_after s (id ++ 128 ∷ []) (body ++ behind) split in
+        let reads = reads_there s u (id ++ 128 ∷ []) (body ++ following) m split p.passes.passes.leaves long in
+        let left : rest_of u ≡ body ++ following = ap rest_of reads.state ∙ rest_after s (id ++ 128 ∷ []) (body ++ following) split in
         let count : contents_number h ≡ length body - 2 = ap (λ x. number (sans_eoc x)) says in
-        indefinite_header id end.0 behind (ident d) (ap is_indefinite says) (subst (λ b. Body 1 parts b) end.1 bd) (omega (arith, count, ap length end.1, length-append end.0 (0 ∷ 0 ∷ []))) reads
-        (left ∙ ap (λ b. b ++ behind) end.1 ∙ append_assoc end.0 (0 ∷ 0 ∷ []) behind)
+        indefinite_header id end.0 following (ident d) (ap is_indefinite says) (subst (λ b. Body 1 parts b) end.1 bd) (omega (arith, count, ap length end.1, length-append end.0 (0 ∷ 0 ∷ []))) reads
+        (left ∙ ap (λ b. b ++ following) end.1 ∙ append_assoc end.0 (0 ∷ 0 ∷ []) following)
 
     go : HeaderView (head_of h) s.rules (rest_of s) m → ConstructedHeader tag h s u
     go (header_view_of id more d l ok e c) = on id more d e c (length_view l)
@@ -129,18 +129,18 @@ module _ {tag : Tag} {s u i : ReaderState} {h : Header} {l : Length} {end depth 
       levels_deeper s i (under_ber e.header e.bit) rules (omega (arith, deeper, depth_is)) (omega (arith, part_can.1, depth_is))
 
   -- the end-of-contents octets follow contents of indefinite length
-  mark_there : is_indefinite l ≡ true → (behind : List ℕ) × (rest_of (advanced_state u (contents_number h)) ≡ 0 ∷ 0 ∷ behind)
-  mark_there flag = go (constructed_header e.header e.bit)
+  eoc_next : is_indefinite l ≡ true → (following : List ℕ) × (rest_of (advanced_state u (contents_number h)) ≡ 0 ∷ 0 ∷ following)
+  eoc_next flag = go (constructed_header e.header e.bit)
     where
-      go : ConstructedHeader tag h s u → (behind : List ℕ) × (rest_of (advanced_state u (contents_number h)) ≡ 0 ∷ 0 ∷ behind)
+      go : ConstructedHeader tag h s u → (following : List ℕ) × (rest_of (advanced_state u (contents_number h)) ≡ 0 ∷ 0 ∷ following)
       go (definite_header id d f small reads) = absurd (let no : false ≡ true = sym f ∙ sym (flag_stays (head_of h).length) ∙ ap is_indefinite (sym e.length_is) ∙ flag in cc)
-      go (indefinite_header id c behind d f body long reads left) =
-          (behind, rest_advanced u (contents_number h) part_left ∙ ap (drop (contents_number h)) left ∙ drop_at c (0 ∷ 0 ∷ behind) (contents_number h) long)
+      go (indefinite_header id c following d f body long reads left) =
+          (following, rest_advanced u (contents_number h) part_left ∙ ap (drop (contents_number h)) left ∙ drop_at c (0 ∷ 0 ∷ following) (contents_number h) long)
 
 -- a segment was entered: q is after the segments inside, t after leaving it
 module _ {tag : Tag} (s u i q t : ReaderState) (h : Header) (l : Length) (end depth : ℕ) (e : EntersSegment tag s u i h l end depth) where
-  nested_joined : {old new : List ℕ} → JoinsRest tag (levels_left i) i old new q → Behind (is_indefinite l) (resumed_state q end depth) t → AppendsSegment tag (levels_left s) s old new t
-  nested_joined {old} {new} all behind = go (constructed_header e.header e.bit) behind
+  nested_joined : {old new : List ℕ} → JoinsRest tag (levels_left i) i old new q → After (is_indefinite l) (resumed_state q end depth) t → AppendsSegment tag (levels_left s) s old new t
+  nested_joined {old} {new} all following = go (constructed_header e.header e.bit) following
     where
       n : ℕ
       n = contents_number h
@@ -159,21 +159,21 @@ module _ {tag : Tag} (s u i q t : ReaderState) (h : Header) (l : Length) (end de
           let joined : Joined tag (suc (levels_left i)) octets all.out = joined_segments form (subst (λ x. Joined tag (levels_left i) x all.out) is all.joined) in
           segment_appended form reads (subst (λ x. Joined tag x octets all.out) (sym (part_levels e)) joined) all.appended
 
-      go : ConstructedHeader tag h s u → Behind (is_indefinite l) (resumed_state q end depth) t → AppendsSegment tag (levels_left s) s old new t
-      go (definite_header id d f small reads) (behind_mark m r) = absurd (let no : false ≡ true = sym f ∙ sym flag ∙ m in cc)
-      go (indefinite_header id c after d f body count reads left) (unmarked m r) = absurd (let no : true ≡ false = sym f ∙ sym flag ∙ m in cc)
-      go (definite_header id d f small reads) (unmarked m r) =
+      go : ConstructedHeader tag h s u → After (is_indefinite l) (resumed_state q end depth) t → AppendsSegment tag (levels_left s) s old new t
+      go (definite_header id d f small reads) (after_eoc m r) = absurd (let no : false ≡ true = sym f ∙ sym flag ∙ m in cc)
+      go (indefinite_header id c after d f body count reads left) (definite m r) = absurd (let no : true ≡ false = sym f ∙ sym flag ∙ m in cc)
+      go (definite_header id d f small reads) (definite m r) =
           let next = reads_next n u t e.sound (part_can e).0 (r ∙ part_passes e q all.leaves) in
           let same : (id ++ length_octets n) ++ contents ≡ id ++ (length_octets (length contents) ++ contents) = append_assoc id (length_octets n) contents ∙ ap (λ k. id ++ (length_octets k ++ contents)) (sym long) in
           appends contents (definite_form id refl d (subst (λ k. k < 2 ^ 32) (sym long) small) refl) (subst (Reads s t) same (reads_on reads next.0)) (part_contents e)
-      go (indefinite_header id c after d f body count reads left) (behind_mark m r) =
-          let mark = c ++ 0 ∷ 0 ∷ [] in
-          let whole_left : rest_of u ≡ mark ++ after = left ∙ sym (append_assoc c (0 ∷ 0 ∷ []) after) in
+      go (indefinite_header id c after d f body count reads left) (after_eoc m r) =
+          let eoc = c ++ 0 ∷ 0 ∷ [] in
+          let whole_left : rest_of u ≡ eoc ++ after = left ∙ sym (append_assoc c (0 ∷ 0 ∷ []) after) in
           let there : t ≡ advanced_state (advanced_state u n) 2 = r.leaves ∙ ap (λ x. advanced_state x 2) (part_passes e q all.leaves) in
-          let sum : (u.position + n) + 2 ≡ u.position + length mark = omega (arith, count, length-append c (0 ∷ 0 ∷ [])) in
-          let leaves : t ≡ advanced_state u (length mark) = there ∙ ap (λ p. record u { position = p }) sum in
-          let next = reads_there u t mark after (length mark) whole_left leaves refl in
-          let same : (id ++ 128 ∷ []) ++ mark ≡ id ++ 128 ∷ mark = append_assoc id (128 ∷ []) mark in
+          let sum : (u.position + n) + 2 ≡ u.position + length eoc = omega (arith, count, length-append c (0 ∷ 0 ∷ [])) in
+          let leaves : t ≡ advanced_state u (length eoc) = there ∙ ap (λ p. record u { position = p }) sum in
+          let next = reads_there u t eoc after (length eoc) whole_left leaves refl in
+          let same : (id ++ 128 ∷ []) ++ eoc ≡ id ++ 128 ∷ eoc = append_assoc id (128 ∷ []) eoc in
           let is : rest_of i ≡ c = part_contents e ∙ ap (take n) left ∙ take_at c (0 ∷ 0 ∷ after) n count in
           appends c (indefinite_form id refl d body refl) (subst (Reads s t) same (reads_on reads next)) is
 
@@ -184,7 +184,7 @@ module _ {tag : Tag} (s u i q t : ReaderState) (h : Header) (l : Length) (end de
       let k = value_closed closes in
       let joins = subst (λ x. OnOk x (AppendsJoined tag (levels_left i) i old new q)) k.answered appends in
       let at_end = subst (λ x. OnOk x (q.end ≡ q.position)) k.answered ended in
-      nested_joined (joins_rest joins at_end) k.behind
+      nested_joined (joins_rest joins at_end) k.following
 
   -- reading failed inside the segment
   pub nested_refused : {T : Type 0} {converts : Error → Error → Type 0} (old new : List ℕ) (answer : Result T Error) (x : Error) → OnOk answer (AppendsJoined tag (levels_left i) i old new q)
@@ -198,7 +198,7 @@ module _ {tag : Tag} (s u i q t : ReaderState) (h : Header) (l : Length) (end de
       done v a = (joins_rest (subst (λ z. OnOk z (AppendsJoined tag (levels_left i) i old new q)) a appends) (at_end v a)).leaves
 
       closed : (y : Error) → Closes converts answer q end depth (Err y) t → RefusesSegment tag s y t
-      closed y (handed_on z a r back) =
+      closed y (forwarded z a r back) =
           let same : answer ≡ Err y = a ∙ sym r in
           let inner : RefusesSegments tag i y q = subst (λ k. IfErr k (λ z. RefusesSegments tag i z q)) same refused in
           refused_inside h u q e.header e.bit (part_can e) (subst (λ k. RefusesSegments tag k y q) (part_is e) inner) (back ∙ back_is e q)
@@ -207,11 +207,11 @@ module _ {tag : Tag} (s u i q t : ReaderState) (h : Header) (l : Length) (end de
 
       go : ClosesValue converts answer q end depth (is_indefinite l) (Err x) t → RefusesSegment tag s x t
       go (part_refused y c r) = subst (λ k. RefusesSegment tag s k t) (let same : y ≡ x = cc in same) (closed y c)
-      go (without_mark v c m r) = absurd (cc)
-      go (with_mark v w c m g r) = absurd (cc)
-      go (mark_refused v w y f c m g told r) =
+      go (without_eoc v c m r) = absurd (cc)
+      go (with_eoc v w c m g r) = absurd (cc)
+      go (eoc_failed v w y f c m g reported r) =
           let k = closes_ok c in
           let there_is : w ≡ advanced_state u (contents_number h) = k.2 ∙ part_passes e q (done v k.0) in
-          let mark = mark_there e m in
+          let eoc = eoc_next e m in
           let passes = e.header.passes.passes in
-          absurd (no_eoc_fault w t y mark.0 (ap (λ (x : ReaderState). x.failed) there_is ∙ ap (λ (x : ReaderState). x.failed) passes.leaves ∙ passes.working) (ap rest_of there_is ∙ mark.1) g)
+          absurd (no_eoc_fault w t y eoc.0 (ap (λ (x : ReaderState). x.failed) there_is ∙ ap (λ (x : ReaderState). x.failed) passes.leaves ∙ passes.working) (ap rest_of there_is ∙ eoc.1) g)

@@ -9,7 +9,7 @@ use Rattle.der_base.specs.declared.error.ErrorKind.TheVariants.{OutOfMemory}
 use Rattle.der_base.specs.declared.length.Length.{Length}
 use Rattle.der_base.specs.declared.tag.Tag.{Tag}
 use Rattle.der_base.specs.declared.error.Error.{Error}
-use Rattle.der_core.specs.DecodeValue.{StandsIn}
+use Rattle.der_core.specs.DecodeValue.{IsInside}
 use Rattle.der_core.specs.Outcome.{map_ok}
 use Rattle.der_core.specs.Reader.{read_slice_outcome}
 use Rattle.der_core.specs.ReaderState.{ReaderState, rest_of, IsSound}
@@ -18,7 +18,7 @@ use Rattle.der.specs.Joined.{Joined}
 use Rattle.der.specs.JoinedOctets.{joined_levels}
 use Rattle.der.specs.Joining.{levels_at, levels_left, JoinsAll}
 use Rattle.der.specs.Octets.{checked_octets}
-use Rattle.der.specs.Parts.{HasSegments, TakesParts, as_they_stand, as_segments, levels_inside, ReadsParts, reads_octets, reads_segments, RefusesParts, no_octets, no_segments, not_in_segments}
+use Rattle.der.specs.Parts.{HasSegments, TakesParts, as_contents, as_segments, levels_inside, ReadsParts, reads_octets, reads_segments, RefusesParts, no_octets, no_segments, not_in_segments}
 use Rattle.der.proofs.JoinedLemmas.{joined_short, joined_up}
 use Rattle.der.proofs.RefusedSegmentLemmas.{slice_there}
 
@@ -44,40 +44,40 @@ all_there : (s : ReaderState) (n : ℕ) → IsSound s → length (rest_of s) ≡
 all_there s n sound sized = omega (arith, length-rest s sound, sized, sound.ordered)
 
 -- reading contents of a known length
-module _ {tag : Tag} {h : Head} (s : ReaderState) (stands : StandsIn s (number h.length)) where
+module _ {tag : Tag} {h : Head} (s : ReaderState) (is_next : IsInside s (number h.length)) where
   -- contents that were read are accepted
   pub parts_taken : (out : List ℕ) (t : ReaderState) → IsSound s → ReadsParts tag h s out t → TakesParts tag out s.rules h (rest_of s)
   parts_taken out t sound (reads_octets bit g) =
       let table : (read_slice_outcome (number h.length) s).answer ≡ Ok (take (number h.length) (rest_of s)) =
-      rw stands.working (rw (le-leb (s.position + number h.length) s.end (all_there s (number h.length) sound stands.sized)) refl) in
+      rw is_next.working (rw (le-leb (s.position + number h.length) s.end (all_there s (number h.length) sound is_next.sized)) refl) in
       let same : Ok out ≡ Ok (take (number h.length) (rest_of s)) = g.answered ∙ table in
-      let whole : take (number h.length) (rest_of s) ≡ rest_of s = take_all (number h.length) (rest_of s) (omega (arith, stands.sized)) in
-      as_they_stand bit ((let is : out ≡ take (number h.length) (rest_of s) = cc in is) ∙ whole)
+      let whole : take (number h.length) (rest_of s) ≡ rest_of s = take_all (number h.length) (rest_of s) (omega (arith, is_next.sized)) in
+      as_contents bit ((let is : out ≡ take (number h.length) (rest_of s) = cc in is) ∙ whole)
   parts_taken out t sound (reads_segments has joins) =
       let left : levels_left s ≡ 64 - s.depth = ap (λ r. levels_at r s.depth) has.ber in
-      as_segments has (joined_up joins.joined levels_inside (omega (arith, left, stands.nested)))
+      as_segments has (joined_up joins.joined levels_inside (omega (arith, left, is_next.nested)))
 
   -- for acceptable contents, the only possible error is an allocation failure
   pub parts_lacking : (out : List ℕ) (t : ReaderState) (e : Error) → IsSound s → s.depth + joined_levels s.rules ≤ 64 → TakesParts tag out s.rules h (rest_of s) → RefusesParts tag h s e t
       → ((x : List ℕ) → HasSegments h s.rules → Joined tag (levels_left s) (rest_of s) x → (false ≡ true) ⊎ (e ≡ error_of_kind OutOfMemory)) → e ≡ error_of_kind OutOfMemory
-  parts_lacking out t e sound few (as_they_stand bit same) r complete = go r
+  parts_lacking out t e sound few (as_contents bit same) r complete = go r
     where
       go : RefusesParts tag h s e t → e ≡ error_of_kind OutOfMemory
-      go (no_octets b (inl g)) = absurd (slice_there (number h.length) s t e stands.working (all_there s (number h.length) sound stands.sized) g)
+      go (no_octets b (inl g)) = absurd (slice_there (number h.length) s t e is_next.working (all_there s (number h.length) sound is_next.sized) g)
       go (no_octets b (inr m)) = m.0
       go (no_segments has j) = absurd (let no : true ≡ false = sym has.bit ∙ bit in cc)
-      go (not_in_segments b der told leaves) = absurd (let no : true ≡ false = sym b ∙ bit in cc)
+      go (not_in_segments b der reported leaves) = absurd (let no : true ≡ false = sym b ∙ bit in cc)
   parts_lacking out t e sound few (as_segments has joined) r complete = go (complete out has here)
     where
       levels : levels_inside ≡ levels_left s
       levels =
           let left : levels_left s ≡ 64 - s.depth = ap (λ r. levels_at r s.depth) has.ber in
           let wants : joined_levels s.rules ≡ 63 = ap joined_levels has.ber in
-          omega (arith, left, wants, few, stands.nested)
+          omega (arith, left, wants, few, is_next.nested)
 
       here : Joined tag (levels_left s) (rest_of s) out
       here = subst (λ n. Joined tag n (rest_of s) out) levels joined
 
       go : (false ≡ true) ⊎ (e ≡ error_of_kind OutOfMemory) → e ≡ error_of_kind OutOfMemory
       go (inl ok) = absurd (cc)
-      go (inr told) = told
+      go (inr reported) = reported

@@ -21,25 +21,25 @@ use Rattle.der_core.specs.Outcome.{Gives}
 use Rattle.der_core.specs.Reader.{read_slice_outcome}
 use Rattle.der_core.specs.Nested.{CanNest}
 use Rattle.der_core.specs.Decode.{Passes}
-use Rattle.der_core.specs.Header.{head_of, HeaderAhead}
+use Rattle.der_core.specs.Header.{head_of, HeaderNext}
 use Rattle.der_core.specs.declared.header.Header.{Header}
 use Rattle.der_core.proofs.ContentsLemmas.{rest_advanced, rest_inside}
 use Rattle.der_core.proofs.DecodeLemmas.{not_refused}
 use Rattle.der_core.proofs.ElementLemmas.{entered_part}
 use Rattle.der_core.proofs.StateLemmas.{length-rest}
 use Rattle.der.specs.Joined.{Joined}
-use Rattle.der.specs.Joining.{levels_at, levels_left, contents_number, no_header, other_tag, constructed_segment, RefusesSegment, no_segment, no_octets, not_entered, refused_inside, RefusesSegments, behind_segments}
-use Rattle.der.proofs.JoinedLemmas.{joined_behind, FirstSegment, first_segment, SegmentAhead, segment_ahead}
+use Rattle.der.specs.Joining.{levels_at, levels_left, contents_number, no_header, other_tag, constructed_segment, RefusesSegment, no_segment, no_octets, not_entered, refused_inside, RefusesSegments, after_segments}
+use Rattle.der.proofs.JoinedLemmas.{joined_after, FirstSegment, first_segment, SegmentNext, segment_next}
 use Rattle.der.proofs.JoiningLemmas.{levels_same}
 
 -- after reading octets a reader is still sound
 sound_on : {s u : ReaderState} (m : ℕ) → IsSound s → m ≤ length (rest_of s) → u ≡ advanced_state s m → IsSound u
 sound_on {s} {u} m sound there leaves =
     subst IsSound (sym leaves)
-    (record { ordered = omega (arith, there, length-rest s sound, sound.ordered); in_input = sound.in_input; addressable = sound.addressable; shallow = sound.shallow; marked = sound.marked })
+    (record { ordered = omega (arith, there, length-rest s sound, sound.ordered); in_input = sound.in_input; addressable = sound.addressable; shallow = sound.shallow; has_eoc = sound.has_eoc })
 
 sound_inside : {u : ReaderState} (n : ℕ) → IsSound u → CanNest u n → IsSound (nested_state u n)
-sound_inside {u} n sound can = record { ordered = omega arith; in_input = omega (arith, can.0, sound.in_input); addressable = sound.addressable; shallow = omega (arith, can.1); marked = sound.marked }
+sound_inside {u} n sound can = record { ordered = omega arith; in_input = omega (arith, can.0, sound.in_input); addressable = sound.addressable; shallow = omega (arith, can.1); has_eoc = sound.has_eoc }
 
 -- reading octets that are there does not fail
 pub slice_there : (n : ℕ) (s t : ReaderState) (e : Error) → s.failed ≡ false → s.position + n ≤ s.end → Gives (read_slice_outcome n) s (Err e) t → ⊥
@@ -54,8 +54,8 @@ levels_some Ber depth below e = (refl, omega (arith, e))
 levels_some Der depth below e = absurd (omega (arith, e))
 
 -- primitive contents have the length in the header
-primitive_number : {h : Header} {s u : ReaderState} → Passes (HeaderAhead h) s u → (head_of h).constructed ≡ false → contents_number h ≡ number (head_of h).length
-primitive_number {h} {s} {u} p primitive = go (header_view p.ahead)
+primitive_number : {h : Header} {s u : ReaderState} → Passes (HeaderNext h) s u → (head_of h).constructed ≡ false → contents_number h ≡ number (head_of h).length
+primitive_number {h} {s} {u} p primitive = go (header_view p.next)
   where
     definite_number : (l : Length) → is_indefinite l ≡ false → number (sans_eoc l) ≡ number l
     definite_number l f = rw f refl
@@ -68,9 +68,9 @@ primitive_number {h} {s} {u} p primitive = go (header_view p.ahead)
     go (header_view_of id more d l ok e c) = by_flag (is_indefinite (head_of h).length) refl ok
 
 -- a segment is next, and its header was read
-module _ {tag : Tag} {b : Bool} {c : List ℕ} (s u : ReaderState) (h : Header) (sound : IsSound s) (a : SegmentAhead tag b c s.rules (rest_of s)) (p : Passes (HeaderAhead h) s u) where
+module _ {tag : Tag} {b : Bool} {c : List ℕ} (s u : ReaderState) (h : Header) (sound : IsSound s) (a : SegmentNext tag b c s.rules (rest_of s)) (p : Passes (HeaderNext h) s u) where
   says_so : head_of h ≡ a.says
-  says_so = (one_header p.ahead a.ahead).0
+  says_so = (one_header p.next a.next).0
 
   header_sound : IsSound u
   header_sound = sound_on p.octets sound p.there p.leaves
@@ -78,42 +78,42 @@ module _ {tag : Tag} {b : Bool} {c : List ℕ} (s u : ReaderState) (h : Header) 
   bit_is : (head_of h).constructed ≡ b
   bit_is = ap (λ (x : Head). x.constructed) says_so ∙ a.bit
 
-  contents_ahead : rest_of u ≡ c ++ a.after
-  contents_ahead = ap rest_of p.leaves ∙ rest_advanced s p.octets p.there ∙ ap (λ k. drop k (rest_of s)) (one_header p.ahead a.ahead).1 ∙ a.split
+  contents_next : rest_of u ≡ c ++ a.after
+  contents_next = ap rest_of p.leaves ∙ rest_advanced s p.octets p.there ∙ ap (λ k. drop k (rest_of s)) (one_header p.next a.next).1 ∙ a.split
 
   sized : length c ≡ contents_number h
   sized = a.sized ∙ ap (λ (x : Head). number (sans_eoc x.length)) (sym says_so)
 
   contents_there : u.position + contents_number h ≤ u.end
-  contents_there = omega (arith, length-rest u header_sound, ap length contents_ahead, length-append c a.after, sized, header_sound.ordered)
+  contents_there = omega (arith, length-rest u header_sound, ap length contents_next, length-append c a.after, sized, header_sound.ordered)
 
   contents_are : take (contents_number h) (rest_of u) ≡ c
-  contents_are = ap (take (contents_number h)) contents_ahead ∙ take_at c a.after (contents_number h) sized
+  contents_are = ap (take (contents_number h)) contents_next ∙ take_at c a.after (contents_number h) sized
 
 -- the first segment is next
-first_ahead : {tag : Tag} (s : ReaderState) (f : FirstSegment tag (levels_left s) (rest_of s)) → (label tag).number < 2 ^ 32 → SegmentAhead tag f.constructed f.contents s.rules (rest_of s)
-first_ahead {tag} s f numbered =
-    segment_ahead tag s.rules f.contents f.behind (rest_of s) f.form f.split numbered (λ set. let w = f.within set in (levels_some s.rules s.depth w.below w.level).0)
+first_next : {tag : Tag} (s : ReaderState) (f : FirstSegment tag (levels_left s) (rest_of s)) → (label tag).number < 2 ^ 32 → SegmentNext tag f.constructed f.contents s.rules (rest_of s)
+first_next {tag} s f numbered =
+    segment_next tag s.rules f.contents f.following (rest_of s) f.form f.split numbered (λ set. let w = f.within set in (levels_some s.rules s.depth w.below w.level).0)
 
 mutual
   -- for a valid segment, the only possible error is an allocation failure
   segment_refused : {tag : Tag} {s t : ReaderState} {e : Error} → RefusesSegment tag s e t → IsSound s → s.failed ≡ false → (label tag).number < 2 ^ 32 → FirstSegment tag (levels_left s) (rest_of s) → e ≡ error_of_kind OutOfMemory
-  segment_refused {s = s} (no_segment (no_header r)) sound working numbered f = absurd (not_refused (header_grammar BodyFault body_fault_laws) r working (first_ahead s f numbered).ahead)
-  segment_refused {s = s} {t = t} (no_segment (other_tag h p not told)) sound working numbered f =
-      let a = first_ahead s f numbered in absurd (not (ap (λ (x : Head). x.tag) (says_so s t h sound a p) ∙ a.tagged))
+  segment_refused {s = s} (no_segment (no_header r)) sound working numbered f = absurd (not_refused (header_grammar BodyFault body_fault_laws) r working (first_next s f numbered).next)
+  segment_refused {s = s} {t = t} (no_segment (other_tag h p not reported)) sound working numbered f =
+      let a = first_next s f numbered in absurd (not (ap (λ (x : Head). x.tag) (says_so s t h sound a p) ∙ a.tagged))
   segment_refused {s = s} (no_segment (constructed_segment h u p r)) sound working numbered f =
-      let a = first_ahead s f numbered in
+      let a = first_next s f numbered in
       let w = f.within (sym (bit_is s u h sound a p.passes) ∙ r.bit) in
       let rules : u.rules ≡ s.rules = ap (λ (x : ReaderState). x.rules) p.passes.leaves in
       absurd (let no : Der ≡ Ber = sym r.under_der ∙ rules ∙ (levels_some s.rules s.depth w.below w.level).0 in cc)
   segment_refused {s = s} {t = t} {e = e} (no_octets h u p primitive (inl g)) sound working numbered f =
-      let a = first_ahead s f numbered in
+      let a = first_next s f numbered in
       let passes = p.passes.passes in
       let there = contents_there s u h sound a passes in
       absurd (slice_there (number (head_of h).length) u t e (ap (λ (x : ReaderState). x.failed) passes.leaves ∙ working) (omega (arith, there, primitive_number passes primitive)) g)
   segment_refused (no_octets h u p primitive (inr m)) sound working numbered f = m.0
   segment_refused {s = s} {e = e} (not_entered h u p bit g) sound working numbered f =
-      let a = first_ahead s f numbered in
+      let a = first_next s f numbered in
       let passes = p.passes.passes in
       let w = f.within (sym (bit_is s u h sound a passes) ∙ bit) in
       let depth : u.depth ≡ s.depth = ap (λ (x : ReaderState). x.depth) passes.leaves in
@@ -121,7 +121,7 @@ mutual
       let can : CanNest u (contents_number h) = (contents_there s u h sound a passes, omega (arith, level, depth)) in
       absurd (let no : Err e ≡ Ok (u.end, u.depth) = g.answered ∙ entered_part u (contents_number h) (header_sound s u h sound a passes) can in cc)
   segment_refused {tag} {s = s} (refused_inside h u v p bit can r back) sound working numbered f =
-      let a = first_ahead s f numbered in
+      let a = first_next s f numbered in
       let passes = p.passes.passes in
       let n = contents_number h in
       let w = f.within (sym (bit_is s u h sound a passes) ∙ bit) in
@@ -138,8 +138,8 @@ mutual
   -- for segments that can all be joined, the only possible error is an allocation failure
   pub segments_refused : {tag : Tag} {s t : ReaderState} {e : Error} → RefusesSegments tag s e t → IsSound s → s.failed ≡ false → (label tag).number < 2 ^ 32
       → (out : List ℕ) → Joined tag (levels_left s) (rest_of s) out → e ≡ error_of_kind OutOfMemory
-  segments_refused {tag} {s = s} (behind_segments u octets before reads joined less r) sound working numbered out all =
-      let b = joined_behind joined (rest_of u) (rest_of s) out reads.split all in
+  segments_refused {tag} {s = s} (after_segments u octets before reads joined less r) sound working numbered out all =
+      let b = joined_after joined (rest_of u) (rest_of s) out reads.split all in
       let there : length octets ≤ length (rest_of s) = omega (arith, ap length reads.split, length-append octets (rest_of u)) in
       let sound_u = sound_on (length octets) sound there reads.state in
       let rules : u.rules ≡ s.rules = ap (λ (x : ReaderState). x.rules) reads.state in

@@ -11,7 +11,7 @@ use Rattle.der_core.specs.Lawful.{IsLawful}
 use Rattle.der_core.specs.ReaderState.{ReaderState}
 use Rattle.der.specs.BytesOwned.{owned_octets}
 use Rattle.der.specs.Octets.{IsCounted}
-use Rattle.der.specs.Parts.{TakesParts, as_they_stand, as_segments, levels_inside, PartsRead}
+use Rattle.der.specs.Parts.{TakesParts, as_contents, as_segments, levels_inside, PartsRead}
 use Rattle.der.specs.declared.example.joined_octets.JoinedOctets.{JoinedOctets}
 
 abbrev pub joined_octets : JoinedOctets → List ℕ
@@ -32,7 +32,7 @@ joined_levels Der = 0
 -- the contents of a primitive header are not segments
 primitive_contents : {out octets : List ℕ} {rules : EncodingRules} {h : Head}
     → h.constructed ≡ false → TakesParts OctetString out rules h octets → out ≡ octets
-primitive_contents bit (as_they_stand flag same) = same
+primitive_contents bit (as_contents flag same) = same
 primitive_contents bit (as_segments segments joined) =
     absurd (let no : false ≡ true = sym bit ∙ segments.bit in cc)
 
@@ -42,7 +42,7 @@ pub joined_lawful : IsLawful OctetString TakesJoined (λ v. IsCounted (joined_oc
 joined_lawful =
     record {
       exact = λ octets v short.
-          (λ h. (h.0, primitive_contents refl h.1), λ h. (h.0, as_they_stand refl h.1));
+          (λ h. (h.0, primitive_contents refl h.1), λ h. (h.0, as_contents refl h.1));
       shallow = omega arith;
       numbered = omega arith;
     }

@@ -18,7 +18,7 @@ use Rattle.der_core.specs.Outcome.{Gives}
 use Rattle.der_core.specs.Reader.{VecRefused, enter_nested_outcome}
 use Rattle.der_core.specs.Nested.{CanNest}
 use Rattle.der_core.specs.Decode.{Passes, IsRefusedBy}
-use Rattle.der_core.specs.Header.{head_of, HeaderAhead}
+use Rattle.der_core.specs.Header.{head_of, HeaderNext}
 use Rattle.der_core.specs.declared.header.Header.{Header}
 use Rattle.der.specs.Joined.{Joined}
 
@@ -62,7 +62,7 @@ pub record JoinsAll (l : Length) (tag : Tag) (s : ReaderState) (out : List ℕ) 
 
 -- the header of an element with this tag is read
 pub record PassesTagged (tag : Tag) (h : Header) (s u : ReaderState) : Type 0 where
-  pub passes : Passes (HeaderAhead h) s u
+  pub passes : Passes (HeaderNext h) s u
   pub tagged : (head_of h).tag ≡ tag
 
 -- the header of a segment is read, and under DER it is primitive
@@ -76,7 +76,7 @@ pub record RefusesConstructed (h : Header) (s : ReaderState) (e : Error) (t : Re
     : Type 0 where
   pub under_der : s.rules ≡ Der
   pub bit : (head_of h).constructed ≡ true
-  pub told : e ≡ error_at (Noncanonical (head_of h).tag) (definite_length (s.position - 1))
+  pub reported : e ≡ error_at (Noncanonical (head_of h).tag) (definite_length (s.position - 1))
   pub leaves : t ≡ s
 
 -- reading the header of a segment fails: it is no header; it has another tag, and the reader is
@@ -84,7 +84,7 @@ pub record RefusesConstructed (h : Header) (s : ReaderState) (e : Error) (t : Re
 pub data RefusesSegmentHeader (tag : Tag) (s : ReaderState) (e : Error) (t : ReaderState)
     : Type 0 where
   no_header : IsRefusedBy (HeaderFault BodyFault) s e t → RefusesSegmentHeader tag s e t
-  other_tag : (h : Header) → Passes (HeaderAhead h) s t → (head_of h).tag ≢ tag
+  other_tag : (h : Header) → Passes (HeaderNext h) s t → (head_of h).tag ≢ tag
       → e ≡ unexpected_tag tag (head_of h).tag → RefusesSegmentHeader tag s e t
   constructed_segment : (h : Header) (u : ReaderState) → PassesTagged tag h s u
       → RefusesConstructed h u e t → RefusesSegmentHeader tag s e t
@@ -114,7 +114,7 @@ mutual
 
   -- segments were read and joined, octets are left, and reading the next segment fails
   pub data RefusesSegments (tag : Tag) : ReaderState → Error → ReaderState → Type 0 where
-    behind_segments : {s t : ReaderState} {e : Error} (u : ReaderState) (octets out : List ℕ)
+    after_segments : {s t : ReaderState} {e : Error} (u : ReaderState) (octets out : List ℕ)
         → Reads s u octets → Joined tag (levels_left s) octets out → u.position < u.end
         → RefusesSegment tag u e t → RefusesSegments tag s e t
 

@@ -1,5 +1,5 @@
 -- Types whose contents are octets or a text: the valid values (`IsCounted`, `IsText`), which
--- contents are accepted (`TakesOctets`), and the possible results of reading (`LentOctetsRead` and
+-- contents are accepted (`TakesOctets`), and the possible results of reading (`BorrowedOctetsRead` and
 -- the facts after it) and writing (`OctetsWritten`).
 use Rattle.std.specs.Prelude.{◌≡◌, ℕ, ◌+◌, ◌^◌, ◌<◌, ◌≤◌, ◌⊎◌, Bool, true, false, List, length, drop, take, nat_lt, nat_le, Result, Ok, Err, IsOk, if◌then◌else◌}
 use Rattle.std.proofs.Common.{arith}
@@ -16,7 +16,7 @@ use Rattle.der_base.specs.declared.error.Error.{Error}
 use Rattle.der_base.specs.declared.error.ErrorKind.TheVariants.{Overflow, OutOfMemory, Reader, Utf8}
 use Rattle.der_base.specs.declared.encoding_rules.EncodingRules.{EncodingRules}
 use Rattle.der_core.specs.Decode.{is_out_of_memory_kind}
-use Rattle.der_core.specs.DecodeValue.{ContentsAhead, EndsOrLacks}
+use Rattle.der_core.specs.DecodeValue.{ContentsNext, EndsOrLacks}
 use Rattle.der_core.specs.Encode.{WriterAnswer}
 use Rattle.der_core.specs.Lawful.{IsLawful}
 use Rattle.der_core.specs.Outcome.{Outcome, Gives, outcome_of, chained_outcome, map_ok}
@@ -74,9 +74,9 @@ text_outcome n s =
 
 -- the possible results of reading borrowed octets, copied octets, a borrowed text and a copied
 -- text; the reader is after the contents if the allocation of the copied text fails
-abbrev pub LentOctetsRead : {A : Type 0} → (A → List ℕ)
+abbrev pub BorrowedOctetsRead : {A : Type 0} → (A → List ℕ)
     → Head → ReaderState → Result A Error → ReaderState → Type 0
-LentOctetsRead octets_of h s result t =
+BorrowedOctetsRead octets_of h s result t =
     Gives (read_slice_outcome (number h.length)) s (map_ok octets_of result) t
 
 abbrev pub OwnedOctetsRead : {A : Type 0} → (A → List ℕ)
@@ -84,9 +84,9 @@ abbrev pub OwnedOctetsRead : {A : Type 0} → (A → List ℕ)
 OwnedOctetsRead octets_of h s result t =
     VecMeets true (number h.length) s (map_ok octets_of result) t
 
-abbrev pub LentTextRead : {A : Type 0} → (A → List ℕ)
+abbrev pub BorrowedTextRead : {A : Type 0} → (A → List ℕ)
     → Head → ReaderState → Result A Error → ReaderState → Type 0
-LentTextRead octets_of h s result t =
+BorrowedTextRead octets_of h s result t =
     Gives (text_outcome (number h.length)) s (map_ok octets_of result) t
 
 abbrev pub OwnedTextRead : {A : Type 0} → (A → List ℕ)
@@ -100,13 +100,13 @@ OwnedTextRead octets_of h s result t =
 abbrev pub EndsTaken : {A : Type 0} → (List ℕ → Type 0) → (A → List ℕ)
     → Bool → Head → ReaderState → Result A Error → ReaderState → Type 0
 EndsTaken {A} IsKind octets_of reliable h s result t =
-    (v : A) → reliable ≡ true → ContentsAhead (TakesOctets IsKind octets_of v) h s
+    (v : A) → reliable ≡ true → ContentsNext (TakesOctets IsKind octets_of v) h s
     → s.depth + 0 ≤ 64
     → EndsOrLacks (λ e. is_out_of_memory_kind (kind_of e)) false result t
 
 -- the result of reading a slice from a reader that cannot return slices: an error, and no change
-abbrev pub unlent_outcome : ReaderState → Outcome (List ℕ)
-unlent_outcome s = outcome_of (Err (error_at Reader (reader_position s))) s
+abbrev pub not_borrowed_outcome : ReaderState → Outcome (List ℕ)
+not_borrowed_outcome s = outcome_of (Err (error_at Reader (reader_position s))) s
 
 -- a type with such a tag is lawful: decoding inverts encoding
 pub octets_lawful : {A : Type 0} (tag : Tag) (IsKind : List ℕ → Type 0) (octets_of : A → List ℕ)

@@ -28,7 +28,7 @@ levels_inside = 63
 -- the value is the contents after a primitive header, or what their segments are joined to
 pub data TakesParts (tag : Tag) (out : List ℕ) (rules : EncodingRules) (h : Head)
     (octets : List ℕ) : Type 0 where
-  as_they_stand : h.constructed ≡ false → out ≡ octets → TakesParts tag out rules h octets
+  as_contents : h.constructed ≡ false → out ≡ octets → TakesParts tag out rules h octets
   as_segments : HasSegments h rules → Joined tag levels_inside octets out
       → TakesParts tag out rules h octets
 

@@ -23,15 +23,15 @@ pub use Rattle.der_base.specs.Length.{length_octets}
 pub use Rattle.der_base.specs.Tag.{tag_octets}
 pub use Rattle.der_base.specs.Error.{error_at, error_of_kind, kind_of, position_of}
 pub use Rattle.der_base.specs.Arithmetic.{checked_length}
-pub use Rattle.der_base.specs.HeaderGrammar.{Head, HeadAhead, header_octets}
+pub use Rattle.der_base.specs.HeaderGrammar.{Head, HeadNext, header_octets}
 pub use Rattle.der_base.specs.Order.{IsBefore, byte_order}
-pub use Rattle.der_core.specs.Header.{head_of, HeaderAhead}
+pub use Rattle.der_core.specs.Header.{head_of, HeaderNext}
 pub use Rattle.der_core.specs.ReaderState.{ReaderState, Reads, Same, reader_position, rest_of}
 pub use Rattle.der_core.specs.SliceReader.{slice_state}
 pub use Rattle.der_core.specs.Outcome.{Gives, map_ok}
 pub use Rattle.der_core.specs.Reader.{read_slice_outcome}
-pub use Rattle.der_core.specs.Element.{ElementAhead, ElementRead, element_levels}
-pub use Rattle.der_core.specs.Fields.{FieldsAhead, FieldsRead, FieldsWritten, TakesWhole}
+pub use Rattle.der_core.specs.Element.{ElementNext, ElementRead, element_levels}
+pub use Rattle.der_core.specs.Fields.{FieldsNext, FieldsRead, FieldsWritten, TakesWhole}
 pub use Rattle.der_core.specs.Fields.{fields_levels, fields_size}
 pub use Rattle.der_core.specs.Encode.{ElementWritten, WriterAnswer, element_octets, element_size}
 pub use Rattle.der_core.specs.Writer.{Appends, Keeps, Writes, write_outcome}

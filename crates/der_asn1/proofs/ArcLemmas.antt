@@ -9,74 +9,74 @@ use Rattle.std.proofs.lemmas.Bool.{cases_lt, lt-ltb, le-ltb, ne_eqb, eq-eqb, eqb
 use Rattle.der.specs.Length.{digits}
 use Rattle.der.specs.Tag.{continuation_octets}
 use Rattle.der_asn1.specs.Forms.{ends_subidentifiers, oid_form}
-use Rattle.der_asn1.specs.Arcs.{subidentifiers, told_number, IsFirstNumber, subidentifier_octets, oid_octets, arcs_of, first_arc}
+use Rattle.der_asn1.specs.Arcs.{subidentifiers, subidentifier_value, IsFirstNumber, subidentifier_octets, oid_octets, arcs_of, first_arc}
 
 -- the digits read so far have the value n, and the rest of the octets continues it
-pub record IsTelling (octets : List ℕ) (number : Option ℕ) (at : ℕ) : Type 0 where
+pub record IsReadingSubidentifier (octets : List ℕ) (number : Option ℕ) (at : ℕ) : Type 0 where
   pub n : ℕ
-  pub told : number ≡ told_number n
+  pub reported : number ≡ subidentifier_value n
   pub same : subidentifiers 0 octets ≡ subidentifiers n (drop at octets)
-  pub form : ends_subidentifiers (at == 0) (drop at octets) ≡ true
+  pub grammar : ends_subidentifiers (at == 0) (drop at octets) ≡ true
 
 -- the first subidentifier was read, and the others are after it
-pub record IsTold (octets : List ℕ) (number : Option ℕ) (behind : List ℕ) : Type 0 where
+pub record HasReadSubidentifier (octets : List ℕ) (number : Option ℕ) (following : List ℕ) : Type 0 where
   pub n : ℕ
-  pub told : number ≡ told_number n
-  pub same : subidentifiers 0 octets ≡ n ∷ subidentifiers 0 behind
-  pub form : ends_subidentifiers true behind ≡ true
+  pub reported : number ≡ subidentifier_value n
+  pub same : subidentifiers 0 octets ≡ n ∷ subidentifiers 0 following
+  pub grammar : ends_subidentifiers true following ≡ true
 
-pub is_first_number : {octets behind : List ℕ} {number : Option ℕ} → IsTold octets number behind → IsFirstNumber (subidentifiers 0 octets) number (subidentifiers 0 behind)
-is_first_number {behind = behind} {number} t = subst (λ ns. IsFirstNumber ns number (subidentifiers 0 behind)) (sym t.same) (t.told, refl)
+pub is_first_number : {octets following : List ℕ} {number : Option ℕ} → HasReadSubidentifier octets number following → IsFirstNumber (subidentifiers 0 octets) number (subidentifiers 0 following)
+is_first_number {following = following} {number} t = subst (λ ns. IsFirstNumber ns number (subidentifiers 0 following)) (sym t.same) (t.reported, refl)
 
-pub telling_begins : (octets : List ℕ) → ends_subidentifiers true octets ≡ true → IsTelling octets (Some 0) 0
-telling_begins octets form = record { n = 0; told = refl; same = refl; form = form }
+pub reading_subidentifier_begins : (octets : List ℕ) → ends_subidentifiers true octets ≡ true → IsReadingSubidentifier octets (Some 0) 0
+reading_subidentifier_begins octets grammar = record { n = 0; reported = refl; same = refl; grammar = grammar }
 
-module _ (octets : List ℕ) (number : Option ℕ) (at o : ℕ) (t : IsTelling octets number at) (inside : at < length octets) (is : o ≡ slice_index_or octets at 0) (small : o < 256) where
-  ahead : drop at octets ≡ o ∷ drop (at + 1) octets
-  ahead = drop-cons octets at 0 inside ∙ ap (λ k. slice_index_or octets at 0 ∷ drop k octets) (sym (add-one at)) ∙ ap (λ x. x ∷ drop (at + 1) octets) (sym is)
+module _ (octets : List ℕ) (number : Option ℕ) (at o : ℕ) (t : IsReadingSubidentifier octets number at) (inside : at < length octets) (is : o ≡ slice_index_or octets at 0) (small : o < 256) where
+  next : drop at octets ≡ o ∷ drop (at + 1) octets
+  next = drop-cons octets at 0 inside ∙ ap (λ k. slice_index_or octets at 0 ∷ drop k octets) (sym (add-one at)) ∙ ap (λ x. x ∷ drop (at + 1) octets) (sym is)
 
-  form_ahead : ends_subidentifiers (at == 0) (o ∷ drop (at + 1) octets) ≡ true
-  form_ahead = sym (ap (ends_subidentifiers (at == 0)) ahead) ∙ t.form
+  whole_from_here : ends_subidentifiers (at == 0) (o ∷ drop (at + 1) octets) ≡ true
+  whole_from_here = sym (ap (ends_subidentifiers (at == 0)) next) ∙ t.grammar
 
-  form_behind : ends_subidentifiers (nat_lt o 128) (drop (at + 1) octets) ≡ true
-  form_behind = go ((at == 0) && (o == 128)) form_ahead
+  whole_after_octet : ends_subidentifiers (nat_lt o 128) (drop (at + 1) octets) ≡ true
+  whole_after_octet = go ((at == 0) && (o == 128)) whole_from_here
     where
       go : (b : Bool) → (if b then false else ends_subidentifiers (nat_lt o 128) (drop (at + 1) octets)) ≡ true → ends_subidentifiers (nat_lt o 128) (drop (at + 1) octets) ≡ true
       go true e = absurd (let no : false ≡ true = e in cc)
       go false e = e
 
   step : subidentifiers 0 octets ≡ (if nat_lt o 128 then (t.n * 128 + o) ∷ subidentifiers 0 (drop (at + 1) octets) else subidentifiers (t.n * 128 + (o - 128)) (drop (at + 1) octets))
-  step = t.same ∙ ap (subidentifiers t.n) ahead
+  step = t.same ∙ ap (subidentifiers t.n) next
 
   -- after an octet that is not the last of the subidentifier
-  pub telling_goes_on : (next : Option ℕ) → 128 ≤ o → ((n : ℕ) → number ≡ told_number n → next ≡ told_number (n * 128 + o % 128)) → IsTelling octets next (at + 1)
-  telling_goes_on next more digit =
+  pub reading_subidentifier_continues : (next_value : Option ℕ) → 128 ≤ o → ((n : ℕ) → number ≡ subidentifier_value n → next_value ≡ subidentifier_value (n * 128 + o % 128)) → IsReadingSubidentifier octets next_value (at + 1)
+  reading_subidentifier_continues next_value more digit =
       let big : nat_lt o 128 ≡ false = le-ltb o 128 more in
       let low : o % 128 ≡ o - 128 = omega (arith, more, small) in
       record {
         n = t.n * 128 + (o - 128);
-        told = digit t.n t.told ∙ ap (λ d. told_number (t.n * 128 + d)) low;
+        reported = digit t.n t.reported ∙ ap (λ d. subidentifier_value (t.n * 128 + d)) low;
         same = step ∙ cond-false (nat_lt o 128) ((t.n * 128 + o) ∷ subidentifiers 0 (drop (at + 1) octets)) (subidentifiers (t.n * 128 + (o - 128)) (drop (at + 1) octets)) big;
-        form = ap (λ b. ends_subidentifiers b (drop (at + 1) octets)) (ne_eqb (at + 1) 0 (λ e. omega arith) ∙ sym big) ∙ form_behind;
+        grammar = ap (λ b. ends_subidentifiers b (drop (at + 1) octets)) (ne_eqb (at + 1) 0 (λ e. omega arith) ∙ sym big) ∙ whole_after_octet;
       }
 
   -- after the last octet of the subidentifier
-  pub telling_ends : (next : Option ℕ) → o < 128 → ((n : ℕ) → number ≡ told_number n → next ≡ told_number (n * 128 + o % 128)) → IsTold octets next (drop (at + 1) octets)
-  telling_ends next last digit =
+  pub reading_subidentifier_ends : (next_value : Option ℕ) → o < 128 → ((n : ℕ) → number ≡ subidentifier_value n → next_value ≡ subidentifier_value (n * 128 + o % 128)) → HasReadSubidentifier octets next_value (drop (at + 1) octets)
+  reading_subidentifier_ends next_value last digit =
       let low : nat_lt o 128 ≡ true = lt-ltb o 128 last in
       let whole : o % 128 ≡ o = omega (arith, last) in
       record {
         n = t.n * 128 + o;
-        told = digit t.n t.told ∙ ap (λ d. told_number (t.n * 128 + d)) whole;
+        reported = digit t.n t.reported ∙ ap (λ d. subidentifier_value (t.n * 128 + d)) whole;
         same = step ∙ cond-true (nat_lt o 128) ((t.n * 128 + o) ∷ subidentifiers 0 (drop (at + 1) octets)) (subidentifiers (t.n * 128 + (o - 128)) (drop (at + 1) octets)) low;
-        form = ap (λ b. ends_subidentifiers b (drop (at + 1) octets)) (sym low) ∙ form_behind;
+        grammar = ap (λ b. ends_subidentifiers b (drop (at + 1) octets)) (sym low) ∙ whole_after_octet;
       }
 
 -- octets do not end within a subidentifier
-pub telling_stops : (octets : List ℕ) (number : Option ℕ) (at : ℕ) → IsTelling octets number at → 0 < length octets → length octets ≤ at → ⊥
-telling_stops octets number at t some past =
+pub no_end_within_subidentifier : (octets : List ℕ) (number : Option ℕ) (at : ℕ) → IsReadingSubidentifier octets number at → 0 < length octets → length octets ≤ at → ⊥
+no_end_within_subidentifier octets number at t some past =
     let none : drop at octets ≡ [] = drop_all at octets past in
-    let no : (at == 0) ≡ true = ap (ends_subidentifiers (at == 0)) (sym none) ∙ t.form in
+    let no : (at == 0) ≡ true = ap (ends_subidentifiers (at == 0)) (sym none) ∙ t.grammar in
     omega (arith, eqb-true at 0 no)
 
 -- appending a digit to the octets of a subidentifier
@@ -90,24 +90,24 @@ last_digit n o h = ⊎_elim (λ pos. let whole : digits 128 (n * 128 + o) ≡ di
     (λ none. let a : n ≡ 0 = omega arith in let b : o ≡ 0 = omega arith in rw (a, b) refl) (cases_lt 0 (n * 128 + o))
 
 -- encoding the decoded subidentifiers gives the same octets
-pub told_again : (n : ℕ) (os : List ℕ) → AllBelowBase 256 os → ends_subidentifiers (n == 0) os ≡ true → flat_map subidentifier_octets (subidentifiers n os) ≡ map (λ x. 128 + x) (digits_of 128 n) ++ os
-told_again n [] below form = let none : n ≡ 0 = eqb-true n 0 form in rw none refl
-told_again n (o ∷ os) below form =
+pub subidentifiers_encode_back : (n : ℕ) (os : List ℕ) → AllBelowBase 256 os → ends_subidentifiers (n == 0) os ≡ true → flat_map subidentifier_octets (subidentifiers n os) ≡ map (λ x. 128 + x) (digits_of 128 n) ++ os
+subidentifiers_encode_back n [] below grammar = let none : n ≡ 0 = eqb-true n 0 grammar in rw none refl
+subidentifiers_encode_back n (o ∷ os) below grammar =
     ⊎_elim
     (λ low.
     let is : nat_lt o 128 ≡ true = lt-ltb o 128 low in
-    let more : ends_subidentifiers true os ≡ true = sym (ap (λ b. ends_subidentifiers b os) is) ∙ behind in
+    let more : ends_subidentifiers true os ≡ true = sym (ap (λ b. ends_subidentifiers b os) is) ∙ following in
     ap (flat_map subidentifier_octets) (cond-true (nat_lt o 128) ((n * 128 + o) ∷ subidentifiers 0 os) (subidentifiers (n * 128 + (o - 128)) os) is)
     ∙ ap (λ l. l ++ flat_map subidentifier_octets (subidentifiers 0 os)) (last_digit n o low)
-    ∙ ap (λ l. (map (λ x. 128 + x) (digits_of 128 n) ++ o ∷ []) ++ l) (told_again 0 os below.1 more)
+    ∙ ap (λ l. (map (λ x. 128 + x) (digits_of 128 n) ++ o ∷ []) ++ l) (subidentifiers_encode_back 0 os below.1 more)
     ∙ append_assoc (map (λ x. 128 + x) (digits_of 128 n)) (o ∷ []) os)
     (λ high.
     let is : nat_lt o 128 ≡ false = le-ltb o 128 high in
     let digit : o - 128 < 128 = omega (arith, below.0) in
     let pos : 0 < n * 128 + (o - 128) = positive high in
-    let more : ends_subidentifiers (n * 128 + (o - 128) == 0) os ≡ true = ap (λ b. ends_subidentifiers b os) (ne_eqb (n * 128 + (o - 128)) 0 (λ e. omega (arith, pos)) ∙ sym is) ∙ behind in
+    let more : ends_subidentifiers (n * 128 + (o - 128) == 0) os ≡ true = ap (λ b. ends_subidentifiers b os) (ne_eqb (n * 128 + (o - 128)) 0 (λ e. omega (arith, pos)) ∙ sym is) ∙ following in
     ap (flat_map subidentifier_octets) (cond-false (nat_lt o 128) ((n * 128 + o) ∷ subidentifiers 0 os) (subidentifiers (n * 128 + (o - 128)) os) is)
-    ∙ told_again (n * 128 + (o - 128)) os below.1 more
+    ∙ subidentifiers_encode_back (n * 128 + (o - 128)) os below.1 more
     ∙ ap (λ ds. map (λ x. 128 + x) ds ++ os) (digits_of_push 128 n (o - 128) (omega arith) digit pos)
     ∙ ap (λ l. l ++ os) (map-append (λ x. 128 + x) (digits_of 128 n) ((o - 128) ∷ []))
     ∙ append_assoc (map (λ x. 128 + x) (digits_of 128 n)) ((128 + (o - 128)) ∷ []) os
@@ -118,14 +118,14 @@ told_again n (o ∷ os) below form =
     go true e = absurd (let no : false ≡ true = e in cc)
     go false e = (refl, e)
 
-    behind : ends_subidentifiers (nat_lt o 128) os ≡ true
-    behind = (go ((n == 0) && (o == 128)) form).1
+    following : ends_subidentifiers (nat_lt o 128) os ≡ true
+    following = (go ((n == 0) && (o == 128)) grammar).1
 
     positive : 128 ≤ o → 0 < n * 128 + (o - 128)
     positive high =
         ⊎_elim (λ l. l) (λ g. absurd (let a : n ≡ 0 = omega arith in let b : o ≡ 128 = omega arith in
         let yes : ((n == 0) && (o == 128)) ≡ true = and_from (n == 0) (o == 128) (eq-eqb n 0 a) (eq-eqb o 128 b) in
-        let no : ((n == 0) && (o == 128)) ≡ false = (go ((n == 0) && (o == 128)) form).0 in
+        let no : ((n == 0) && (o == 128)) ≡ false = (go ((n == 0) && (o == 128)) grammar).0 in
         let wrong : true ≡ false = sym yes ∙ no in cc)) (cases_lt 0 (n * 128 + (o - 128)))
 
 first_two : (n : ℕ) → 40 * first_arc n + (n - 40 * first_arc n) ≡ n
@@ -136,8 +136,8 @@ first_two n = ⊎_elim (λ l. let e : first_arc n ≡ 0 = cond-true (nat_lt n 40
 
 -- encoding the decoded arcs gives the same contents
 pub arcs_again : (octets : List ℕ) → AllBelowBase 256 octets → oid_form octets ≡ true → oid_octets (arcs_of (subidentifiers 0 octets)) ≡ octets
-arcs_again [] below form = refl
-arcs_again (o ∷ os) below form = whole (subidentifiers 0 (o ∷ os)) ∙ told_again 0 (o ∷ os) below form
+arcs_again [] below grammar = refl
+arcs_again (o ∷ os) below grammar = whole (subidentifiers 0 (o ∷ os)) ∙ subidentifiers_encode_back 0 (o ∷ os) below grammar
   where
     whole : (ns : List ℕ) → oid_octets (arcs_of ns) ≡ flat_map subidentifier_octets ns
     whole [] = refl

@@ -1,6 +1,6 @@
 -- Lemmas on reading a CHOICE of two types.
 use Rattle.std.proofs.Common.{◌≡◌, ℕ, ◌+◌, ◌≤◌, ◌⊎◌, inl, inr, ◌||◌, max, Bool, true, false, Ok, Err, List, refl, sym, ap, subst, arith}
-use Rattle.der.specs.HeaderGrammar.{TagAhead}
+use Rattle.der.specs.HeaderGrammar.{TagNext}
 use Rattle.der.specs.Tag.{IdentifierFault}
 use Rattle.der.specs.Prelude.{Tag, Error, EncodingRules, ReaderState, rest_of, fields_levels}
 use Rattle.der.proofs.HeaderLemmas.{one_tag, tag_grammar}
@@ -8,7 +8,7 @@ use Rattle.der.specs.Decode.{Passes, Peeks, ReadsOrLacks}
 use Rattle.der.specs.ReaderState.{advanced_state}
 use Rattle.der.proofs.DecodeLemmas.{not_refused, lacks_only, read_on}
 use Rattle.der_asn1.specs.Follow.{TagIn, NoTagIn, other, either_tags}
-use Rattle.der_asn1.specs.Either.{EitherAhead}
+use Rattle.der_asn1.specs.Either.{EitherNext}
 use Rattle.der_asn1.specs.EitherLaws.{either_begins}
 use Rattle.der_asn1.specs.declared.either.Either.{Either}
 use Rattle.der_asn1.specs.declared.either.Either.TheVariants.{First, Second}
@@ -24,29 +24,29 @@ module _ {A B : Type 0} (one_tags two_tags : Tag → Type 0) (One : A → Encodi
     (Two : B → EncodingRules → List ℕ → ℕ → Type 0)
     (one_begins : (v : A) (rules : EncodingRules) (octets : List ℕ) (m : ℕ) → One v rules octets m → TagIn one_tags rules octets)
     (two_begins : (v : B) (rules : EncodingRules) (octets : List ℕ) (m : ℕ) → Two v rules octets m → TagIn two_tags rules octets)
-    (s : ReaderState) (v : Either A B) (m : ℕ) (h : EitherAhead one_tags One Two v s.rules (rest_of s) m) where
+    (s : ReaderState) (v : Either A B) (m : ℕ) (h : EitherNext one_tags One Two v s.rules (rest_of s) m) where
   -- if no tag can be read, or the tag belongs to neither type, no value of the CHOICE is next
-  pub no_tag_neither : {reliable : Bool} {e : Error} → reliable ≡ true → s.failed ≡ false → Peeks TagAhead IdentifierFault reliable s (Err e) → ⊥
-  no_tag_neither reliable working p = not_refused tag_grammar (p.1.refused reliable) working (either_begins one_begins two_begins v s.rules (rest_of s) m h).ahead
+  pub no_tag_neither : {reliable : Bool} {e : Error} → reliable ≡ true → s.failed ≡ false → Peeks TagNext IdentifierFault reliable s (Err e) → ⊥
+  no_tag_neither reliable working p = not_refused tag_grammar (p.1.refused reliable) working (either_begins one_begins two_begins v s.rules (rest_of s) m h).next
 
-  pub other_tag_neither : {reliable : Bool} {t : Tag} → Peeks TagAhead IdentifierFault reliable s (Ok t) → (one_tags t → ⊥) → (two_tags t → ⊥) → ⊥
+  pub other_tag_neither : {reliable : Bool} {t : Tag} → Peeks TagNext IdentifierFault reliable s (Ok t) → (one_tags t → ⊥) → (two_tags t → ⊥) → ⊥
   other_tag_neither {t = t} p not nor =
       let b = either_begins one_begins two_begins v s.rules (rest_of s) m h in
-      of_neither one_tags two_tags t not nor (subst (either_tags one_tags two_tags) (one_tag b.ahead (peeked p)).0 b.among)
+      of_neither one_tags two_tags t not nor (subst (either_tags one_tags two_tags) (one_tag b.next (peeked p)).0 b.among)
 
   -- if a tag of the first type is next, so is a value of it; else a value of the second
-  pub first_stands : {reliable : Bool} {t : Tag} → Peeks TagAhead IdentifierFault reliable s (Ok t) → one_tags t → (a : A) × One a s.rules (rest_of s) m
-  first_stands p is = go v h
+  pub first_next : {reliable : Bool} {t : Tag} → Peeks TagNext IdentifierFault reliable s (Ok t) → one_tags t → (a : A) × One a s.rules (rest_of s) m
+  first_next p is = go v h
     where
-      go : (v : Either A B) → EitherAhead one_tags One Two v s.rules (rest_of s) m → (a : A) × One a s.rules (rest_of s) m
+      go : (v : Either A B) → EitherNext one_tags One Two v s.rules (rest_of s) m → (a : A) × One a s.rules (rest_of s) m
       go (First a) h = (a, h)
       go (Second b) h = absurd (tag_not_absent one_tags s p is h.1)
 
-  pub second_stands : {reliable : Bool} {t : Tag} → Peeks TagAhead IdentifierFault reliable s (Ok t) → (one_tags t → ⊥) → (b : B) × Two b s.rules (rest_of s) m
-  second_stands p not = go v h
+  pub second_next : {reliable : Bool} {t : Tag} → Peeks TagNext IdentifierFault reliable s (Ok t) → (one_tags t → ⊥) → (b : B) × Two b s.rules (rest_of s) m
+  second_next p not = go v h
     where
-      go : (v : Either A B) → EitherAhead one_tags One Two v s.rules (rest_of s) m → (b : B) × Two b s.rules (rest_of s) m
-      go (First a) h = (let b = one_begins a s.rules (rest_of s) m h in absurd (not (subst one_tags (one_tag b.ahead (peeked p)).0 b.among)))
+      go : (v : Either A B) → EitherNext one_tags One Two v s.rules (rest_of s) m → (b : B) × Two b s.rules (rest_of s) m
+      go (First a) h = (let b = one_begins a s.rules (rest_of s) m h in absurd (not (subst one_tags (one_tag b.next (peeked p)).0 b.among)))
       go (Second b) h = (b, h.0)
 
 -- a flag of one type is a flag of the CHOICE
@@ -69,9 +69,9 @@ either_reads {E = E} oom a b s t m x c h = inl (refl, read_on E oom s m x h)
 
 -- reading a value of the second type after checking that the next tag is none of the first type
 pub second_passes : {A B : Type 0} (tags : Tag → Type 0) (One : A → EncodingRules → List ℕ → ℕ → Type 0) (Two : B → EncodingRules → List ℕ → ℕ → Type 0) (s t : ReaderState) (v : B) {reliable : Bool} {u : Tag}
-    → Peeks TagAhead IdentifierFault reliable s (Ok u) → (tags u → ⊥) → Passes (Two v) s t → Passes (EitherAhead tags One Two (Second v)) s t
+    → Peeks TagNext IdentifierFault reliable s (Ok u) → (tags u → ⊥) → Passes (Two v) s t → Passes (EitherNext tags One Two (Second v)) s t
 second_passes tags One Two s t v {u = u} p not passed =
-    record { octets = passed.octets; working = passed.working; ahead = (passed.ahead, other u _ (peeked p) not); there = passed.there; leaves = passed.leaves }
+    record { octets = passed.octets; working = passed.working; next = (passed.next, other u _ (peeked p) not); there = passed.there; leaves = passed.leaves }
 
 -- the levels needed for both types are enough for each
 pub first_deep : (f g : EncodingRules → ℕ) (s : ReaderState) → s.depth + fields_levels f g s.rules ≤ 64 → s.depth + f s.rules ≤ 64

@@ -16,21 +16,21 @@ map-append f (x ∷ xs) ys = ap (λ l. f x ∷ l) (map-append f xs ys)
 pub record IsBuilding (negative : Bool) (n : ℕ) (octets : List ℕ) (start left : ℕ) : Type 0 where
   pub some : 1 ≤ start
   pub inside : start ≤ 9
-  pub room : left < 256 ^ (start - 1)
+  pub space : left < 256 ^ (start - 1)
   pub size : length octets ≡ 9
   pub digits : map (turned negative) (digits_of 256 n) ≡ map (turned negative) (digits_of 256 left) ++ drop start octets
 
 pub building_begins : (negative : Bool) (n : ℕ) (octets : List ℕ) → n < 2 ^ 64 → length octets ≡ 9 → drop 9 octets ≡ [] → IsBuilding negative n octets 9 n
 building_begins negative n octets h size none =
-    record { some = omega arith; inside = omega arith; room = omega arith; size = size; digits = sym (ap (λ l. map (turned negative) (digits_of 256 n) ++ l) none ∙ append-nil _) }
+    record { some = omega arith; inside = omega arith; space = omega arith; size = size; digits = sym (ap (λ l. map (turned negative) (digits_of 256 n) ++ l) none ∙ append-nil _) }
 
 -- if digits remain, there is space for one
-pub building_room : {negative : Bool} {n : ℕ} {octets : List ℕ} {start left : ℕ} → IsBuilding negative n octets start left → 0 < left → 2 ≤ start
-building_room {start = start} {left = left} b h = ⊎_elim (λ l. l) (λ g. absurd (let one : start ≡ 1 = omega (arith, b.some) in let r : left < 256 ^ 0 = subst (λ s. left < 256 ^ (s - 1)) one b.room in omega arith)) (cases_lt 1 start)
+pub building_space : {negative : Bool} {n : ℕ} {octets : List ℕ} {start left : ℕ} → IsBuilding negative n octets start left → 0 < left → 2 ≤ start
+building_space {start = start} {left = left} b h = ⊎_elim (λ l. l) (λ g. absurd (let one : start ≡ 1 = omega (arith, b.some) in let r : left < 256 ^ 0 = subst (λ s. left < 256 ^ (s - 1)) one b.space in omega arith)) (cases_lt 1 start)
 
-pub building_goes_on : {negative : Bool} {n : ℕ} {octets : List ℕ} {start left : ℕ} (d : ℕ) → IsBuilding negative n octets start left → 0 < left → d ≡ turned negative (left % 256) → IsBuilding negative n (set octets (start - 1) d) (start - 1) (left / 256)
-building_goes_on {negative} {n} {octets} {start} {left} d b pos is =
-    let two = building_room b pos in
+pub building_continues : {negative : Bool} {n : ℕ} {octets : List ℕ} {start left : ℕ} (d : ℕ) → IsBuilding negative n octets start left → 0 < left → d ≡ turned negative (left % 256) → IsBuilding negative n (set octets (start - 1) d) (start - 1) (left / 256)
+building_continues {negative} {n} {octets} {start} {left} d b pos is =
+    let two = building_space b pos in
     let step : map (turned negative) (digits_of 256 left) ≡ map (turned negative) (digits_of 256 (left / 256)) ++ d ∷ [] =
     ap (map (turned negative)) (digits_of_step 256 left (omega arith) pos) ∙ map-append (turned negative) (digits_of 256 (left / 256)) (left % 256 ∷ []) ∙ ap (λ x. map (turned negative) (digits_of 256 (left / 256)) ++ x ∷ []) (sym is) in
     let shown : drop (start - 1) (set octets (start - 1) d) ≡ d ∷ drop start octets = drop-set octets (start - 1) d (omega (arith, b.inside, b.size)) ∙ ap (λ k. d ∷ drop k octets) (let e : start - 1 + 1 ≡ start = omega arith in e) in
@@ -38,7 +38,7 @@ building_goes_on {negative} {n} {octets} {start} {left} d b pos is =
     record {
       some = omega arith;
       inside = omega (arith, b.inside);
-      room = let e : start - 1 - 1 ≡ start - 2 = omega arith in subst (λ k. left / 256 < 256 ^ k) (sym e) (omega (arith, b.room, power));
+      space = let e : start - 1 - 1 ≡ start - 2 = omega arith in subst (λ k. left / 256 < 256 ^ k) (sym e) (omega (arith, b.space, power));
       size = length-set octets (start - 1) d ∙ b.size;
       digits = b.digits ∙ ap (λ l. l ++ drop start octets) step ∙ append_assoc (map (turned negative) (digits_of 256 (left / 256))) (d ∷ []) (drop start octets) ∙ ap (λ l. map (turned negative) (digits_of 256 (left / 256)) ++ l) (sym shown);
     }

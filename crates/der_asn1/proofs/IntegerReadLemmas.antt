@@ -12,8 +12,8 @@ use Rattle.std.proofs.lemmas.Int.{ints}
 use Rattle.der_asn1.specs.Integer.{signed_form, unsigned_form, signed_octets, turned, with_first_bit, integer_octets, is_negative, magnitude}
 
 -- a number that is already too large for another digit exceeds the limit
-pub no_room : (f : ℕ → ℕ) (xs : List ℕ) (i : ℕ) → i < length xs → 2 ^ 56 ≤ number_from_digits 256 (map f (take i xs)) → number_from_digits 256 (map f xs) < 2 ^ 64 → ⊥
-no_room f xs i h large small =
+pub no_space : (f : ℕ → ℕ) (xs : List ℕ) (i : ℕ) → i < length xs → 2 ^ 56 ≤ number_from_digits 256 (map f (take i xs)) → number_from_digits 256 (map f xs) < 2 ^ 64 → ⊥
+no_space f xs i h large small =
     let split : map f xs ≡ map f (take i xs) ++ map f (drop i xs) = ap (map f) (sym (take-append-drop i xs)) ∙ map-append f (take i xs) (drop i xs) in
     let next : map f (drop i xs) ≡ f (slice_index_or xs i 0) ∷ map f (drop (suc i) xs) = ap (map f) (drop-cons xs i 0 h) in
     let whole : number_from_digits 256 (map f xs) ≡ number_from_digits_after 256 (number_from_digits 256 (map f (take i xs)) * 256 + f (slice_index_or xs i 0)) (map f (drop (suc i) xs)) =
@@ -83,17 +83,17 @@ negative_turned true o h = ap not (turned_small o h) ∙ twice (nat_lt o 128)
 
 -- valid contents whose first bit is zero are the contents of their number
 pub digits_made : (ds : List ℕ) → AllBelowBase 256 ds → integer_form ds ≡ true → is_negative ds ≡ false → with_first_bit (digits_of 256 (number_from_digits 256 ds)) ≡ ds
-digits_made [] h form sign = absurd (let no : false ≡ true = form in cc)
-digits_made (zero ∷ []) h form sign = refl
-digits_made (zero ∷ p ∷ os) h form sign =
-    let large : nat_lt p 128 ≡ false = is_large (nat_lt p 128) form in
+digits_made [] h grammar sign = absurd (let no : false ≡ true = grammar in cc)
+digits_made (zero ∷ []) h grammar sign = refl
+digits_made (zero ∷ p ∷ os) h grammar sign =
+    let large : nat_lt p 128 ≡ false = is_large (nat_lt p 128) grammar in
     let some : p ≢ 0 = λ e. (let yes : nat_lt p 128 ≡ true = lt-ltb p 128 (omega arith) in let no : true ≡ false = sym yes ∙ large in cc) in
     ap with_first_bit (digits_of_number 256 p os (omega arith) some h.1) ∙ ap (λ b. if b then p ∷ os else 0 ∷ p ∷ os) large
   where
     is_large : (b : Bool) → not (true && b || false && not b) ≡ true → b ≡ false
     is_large true e = absurd (let no : false ≡ true = e in cc)
     is_large false e = refl
-digits_made (suc d ∷ os) h form sign =
+digits_made (suc d ∷ os) h grammar sign =
     let small : nat_lt (suc d) 128 ≡ true = is_small (nat_lt (suc d) 128) sign in
     ap with_first_bit (digits_of_number 256 (suc d) os (omega arith) (λ e. omega arith) h) ∙ ap (λ b. if b then suc d ∷ os else 0 ∷ suc d ∷ os) small
   where
@@ -111,9 +111,9 @@ turned_first (o ∷ os) h = negative_turned (not (nat_lt o 128)) o h.0 ∙ never
 
 -- valid contents are the contents of their number
 pub contents_made : (octets : List ℕ) → AllBelowBase 256 octets → integer_form octets ≡ true → integer_octets (is_negative octets) (magnitude octets) ≡ octets
-contents_made octets h form =
+contents_made octets h grammar =
     let negative = is_negative octets in
-    ap (map (turned negative)) (digits_made (map (turned negative) octets) (turned_below negative octets h) (form_turned negative octets h ∙ form) (turned_first octets h))
+    ap (map (turned negative)) (digits_made (map (turned negative) octets) (turned_below negative octets h) (form_turned negative octets h ∙ grammar) (turned_first octets h))
     ∙ turned_twice negative octets h
 
 -- the contents of a number are valid, and have its sign and its digits

@@ -11,7 +11,7 @@ use Rattle.der.specs.Prelude.{Tag}
 use Rattle.der.specs.Prelude.{EncodingRules}
 use Rattle.der.specs.Prelude.{Der}
 use Rattle.der.specs.Decode.{Passes, ReadsOrLacks, SucceedsOrLacks}
-use Rattle.der.specs.Element.{ElementAhead, element_levels}
+use Rattle.der.specs.Element.{ElementNext, element_levels}
 use Rattle.der.specs.Encode.{element_octets}
 use Rattle.der.specs.Lawful.{IsLawful}
 use Rattle.der.specs.ReaderState.{ReaderState, rest_of, advanced_state, initial_state, IsSound, Reads}
@@ -46,7 +46,7 @@ nil valid encoding e = record { items = []; are_valid = tt; joined = e }
 
 module _ {A : Type 0} {tag : Tag} {takes : A → EncodingRules → Head → List ℕ → Type 0} {valid : A → Type 0} {contents : A → List ℕ} {levels : EncodingRules → ℕ} (laws : IsLawful tag takes valid contents levels) (s : ReaderState) (sound : IsSound s) (at : IsAtItem s) where
   -- an element that was read
-  pub item_passed : (v : A) (t : ReaderState) → Passes (ElementAhead tag takes v) s t → valid v × Reads s t (element_octets tag (contents v))
+  pub item_passed : (v : A) (t : ReaderState) → Passes (ElementNext tag takes v) s t → valid v × Reads s t (element_octets tag (contents v))
   item_passed v t passed = passed_encodings (elements_are_encodings laws) s t v at.der passed
 
   module _ (l : IsListOf valid (λ v. element_octets tag (contents v)) (rest_of s)) (some : rest_of s ≡ [] → ⊥) where
@@ -54,22 +54,22 @@ module _ {A : Type 0} {tag : Tag} {takes : A → EncodingRules → Head → List
     first = uncons l some
 
     -- the first element of the list is next
-    pub item_ahead : ElementAhead tag takes first.first s.rules (rest_of s) (length (element_octets tag (contents first.first)))
-    item_ahead =
-        subst (λ r. ElementAhead tag takes first.first r (rest_of s) (length (element_octets tag (contents first.first)))) (sym at.der)
-        ((elements_are_encodings laws).every (rest_of s) first.first (length (element_octets tag (contents first.first))) (omega (arith, length-rest s sound, sound.in_input, sound.addressable)) (record { is_valid = first.is_valid; behind = first.others; split = first.split; whole = refl }))
+    pub item_next : ElementNext tag takes first.first s.rules (rest_of s) (length (element_octets tag (contents first.first)))
+    item_next =
+        subst (λ r. ElementNext tag takes first.first r (rest_of s) (length (element_octets tag (contents first.first)))) (sym at.der)
+        ((elements_are_encodings laws).every (rest_of s) first.first (length (element_octets tag (contents first.first))) (omega (arith, length-rest s sound, sound.in_input, sound.addressable)) (record { is_valid = first.is_valid; following = first.others; split = first.split; whole = refl }))
 
     pub deep_enough : s.depth + element_levels levels s.rules ≤ 64
     deep_enough = omega (arith, laws.shallow, at.outside, ap levels at.der)
 
     module _ {E : Type 0} (oom : E → Bool) (allocates : Bool) (t : ReaderState) where
       -- the only possible error is an allocation failure
-      pub item_lacks : (e : E) → ((v : A) (m : ℕ) → s.failed ≡ false → ElementAhead tag takes v s.rules (rest_of s) m → s.depth + element_levels levels s.rules ≤ 64 → ReadsOrLacks {A = A} oom allocates s m (Err e) t) → SucceedsOrLacks {A = A} oom allocates (Err e)
-      item_lacks e owed = inr (lacks_only A oom s t _ (owed first.first (length (element_octets tag (contents first.first))) at.working item_ahead deep_enough))
+      pub item_lacks : (e : E) → ((v : A) (m : ℕ) → s.failed ≡ false → ElementNext tag takes v s.rules (rest_of s) m → s.depth + element_levels levels s.rules ≤ 64 → ReadsOrLacks {A = A} oom allocates s m (Err e) t) → SucceedsOrLacks {A = A} oom allocates (Err e)
+      item_lacks e owed = inr (lacks_only A oom s t _ (owed first.first (length (element_octets tag (contents first.first))) at.working item_next deep_enough))
 
-      module _ (a : A) (owed : (v : A) (m : ℕ) → s.failed ≡ false → ElementAhead tag takes v s.rules (rest_of s) m → s.depth + element_levels levels s.rules ≤ 64 → ReadsOrLacks oom allocates s m (Ok a) t) where
+      module _ (a : A) (owed : (v : A) (m : ℕ) → s.failed ≡ false → ElementNext tag takes v s.rules (rest_of s) m → s.depth + element_levels levels s.rules ≤ 64 → ReadsOrLacks oom allocates s m (Ok a) t) where
         there : t ≡ advanced_state s (length (element_octets tag (contents first.first)))
-        there = read_on E oom s (length (element_octets tag (contents first.first))) a (owed first.first (length (element_octets tag (contents first.first))) at.working item_ahead deep_enough)
+        there = read_on E oom s (length (element_octets tag (contents first.first))) a (owed first.first (length (element_octets tag (contents first.first))) at.working item_next deep_enough)
 
         -- the reader has not failed, and the rest of the list is next
         pub item_working : t.failed ≡ false
@@ -81,7 +81,7 @@ module _ {A : Type 0} {tag : Tag} {takes : A → EncodingRules → Head → List
             subst (IsListOf valid (λ v. element_octets tag (contents v))) (sym left) first.list
 
 pub slice_sound : (r : SliceReader) → IsSound (slice_state r)
-slice_sound r = record { ordered = r.ordered; in_input = r.in_input; addressable = r.addressable; shallow = r.shallow; marked = λ failed. refl }
+slice_sound r = record { ordered = r.ordered; in_input = r.in_input; addressable = r.addressable; shallow = r.shallow; failure_kept = λ failed. refl }
 
 -- after an element a reader is again at an element
 pub still_at_item : {s t : ReaderState} {octets : List ℕ} → IsAtItem s → Reads s t octets → IsAtItem t
@@ -117,9 +117,9 @@ begins_walking valid encoding octets s e =
       on = subst (IsListOf valid encoding) (sym left);
     }
 
-pub goes_on_walking : {A : Type 0} {valid : A → Type 0} {encoding : A → List ℕ} {octets : List ℕ} {s t : ReaderState} (v : A) → IsWalking valid encoding octets s → valid v → Reads s t (encoding v)
+pub iterating_continues : {A : Type 0} {valid : A → Type 0} {encoding : A → List ℕ} {octets : List ℕ} {s t : ReaderState} (v : A) → IsWalking valid encoding octets s → valid v → Reads s t (encoding v)
     → (IsListOf valid encoding (rest_of s) → IsListOf valid encoding (rest_of t)) → IsWalking valid encoding octets t
-goes_on_walking v w is r keeps = record { at = still_at_item w.at r; back = λ l. w.back (cons v is r.split l); on = λ l. keeps (w.on l) }
+iterating_continues v w is r keeps = record { at = still_at_item w.at r; back = λ l. w.back (cons v is r.split l); on = λ l. keeps (w.on l) }
 
 pub ends_walking : {A : Type 0} {valid : A → Type 0} {encoding : A → List ℕ} {octets : List ℕ} (s : ReaderState) → IsWalking valid encoding octets s → s.end ≡ s.position → IsListOf valid encoding octets
 ends_walking {valid = valid} {encoding} s w e = w.back (nil valid encoding (rest_at_end s e))
@@ -138,8 +138,8 @@ lacks_merely oom takes e t f =
     (stable_true takes (λ no. not_there t (λ p. no (lacks_takes oom takes e (f p)).0)), stable_true (oom e) (λ no. not_there t (λ p. no (lacks_takes oom takes e (f p)).1)))
 
 -- a slice of all remaining octets
-pub lent_all : (n : ℕ) (s t : ReaderState) (octets : List ℕ) → Gives (read_slice_outcome n) s (Ok octets) t → length (rest_of s) ≡ n → octets ≡ rest_of s
-lent_all n s t octets g size = go s.failed refl (nat_le (s.position + n) s.end) refl
+pub slice_is_rest : (n : ℕ) (s t : ReaderState) (octets : List ℕ) → Gives (read_slice_outcome n) s (Ok octets) t → length (rest_of s) ≡ n → octets ≡ rest_of s
+slice_is_rest n s t octets g size = go s.failed refl (nat_le (s.position + n) s.end) refl
   where
     go : (f : Bool) → s.failed ≡ f → (b : Bool) → nat_le (s.position + n) s.end ≡ b → octets ≡ rest_of s
     go true e b h = absurd (let a = rw e at g.answered in cc)

@@ -53,44 +53,44 @@ bounded t h =
     }
 
 -- two decimal digits determine the number
-digits_tell : (n : ℕ) → n < 100 → (48 + n / 10) % 16 * 10 + (48 + n % 10) % 16 ≡ n
-digits_tell n h = omega (arith, h)
+two_digits_value : (n : ℕ) → n < 100 → (48 + n / 10) % 16 * 10 + (48 + n % 10) % 16 ≡ n
+two_digits_value n h = omega (arith, h)
 
-last_digits_tell : (n : ℕ) → (48 + n % 100 / 10) % 16 * 10 + (48 + n % 100 % 10) % 16 ≡ n % 100
-last_digits_tell n = digits_tell (n % 100) (omega arith)
+last_two_digits_value : (n : ℕ) → (48 + n % 100 / 10) % 16 * 10 + (48 + n % 100 % 10) % 16 ≡ n % 100
+last_two_digits_value n = two_digits_value (n % 100) (omega arith)
 
 same_time : (t : DateTime) (y o d h m s : ℕ) → y ≡ t.year → o ≡ t.month → d ≡ t.day → h ≡ t.hour → m ≡ t.minute → s ≡ t.second
     → record { year = y; month = o; day = d; hour = h; minute = m; second = s } ≡ t
 same_time t y o d h m s ey eo ed eh em es = rw (ey, eo, ed, eh, em, es) refl
 
 -- reading the contents of a time gives the time
-pub generalized_told : (t : DateTime) → is_date_time t ≡ true → generalized_reading (generalized_octets t) ≡ t
-generalized_told t is =
+pub generalized_time_round_trip : (t : DateTime) → is_date_time t ≡ true → generalized_reading (generalized_octets t) ≡ t
+generalized_time_round_trip t is =
     let b = bounded t is in
-    same_time t _ _ _ _ _ _ (omega (arith, b.year)) (digits_tell t.month (omega (arith, b.month))) (digits_tell t.day (omega (arith, b.day))) (digits_tell t.hour (omega (arith, b.hour)))
-    (digits_tell t.minute (omega (arith, b.minute))) (digits_tell t.second (omega (arith, b.second)))
+    same_time t _ _ _ _ _ _ (omega (arith, b.year)) (two_digits_value t.month (omega (arith, b.month))) (two_digits_value t.day (omega (arith, b.day))) (two_digits_value t.hour (omega (arith, b.hour)))
+    (two_digits_value t.minute (omega (arith, b.minute))) (two_digits_value t.second (omega (arith, b.second)))
 
 same_year : (y : ℕ) → 1950 ≤ y → y < 2050 → utc_year (y % 100) ≡ y
 same_year y low high =
     ⊎_elim (λ l. ap (λ b. if b then 2000 + y % 100 else 1900 + y % 100) (lt-ltb (y % 100) 50 l) ∙ omega (arith, low, high, l))
     (λ g. ap (λ b. if b then 2000 + y % 100 else 1900 + y % 100) (le-ltb (y % 100) 50 g) ∙ omega (arith, low, high, g)) (cases_lt (y % 100) 50)
 
-pub utc_told : (t : DateTime) → is_utc_time t ≡ true → utc_reading (utc_octets t) ≡ t
-utc_told t is =
+pub utc_time_round_trip : (t : DateTime) → is_utc_time t ≡ true → utc_reading (utc_octets t) ≡ t
+utc_time_round_trip t is =
     let u = and_parts _ _ is in
     let v = and_parts _ _ u.1 in
     let b = bounded t v.1 in
-    same_time t _ _ _ _ _ _ (ap utc_year (last_digits_tell t.year) ∙ same_year t.year (leb-true 1950 t.year u.0) (ltb-true t.year 2050 v.0)) (digits_tell t.month (omega (arith, b.month))) (digits_tell t.day (omega (arith, b.day))) (digits_tell t.hour (omega (arith, b.hour)))
-    (digits_tell t.minute (omega (arith, b.minute))) (digits_tell t.second (omega (arith, b.second)))
+    same_time t _ _ _ _ _ _ (ap utc_year (last_two_digits_value t.year) ∙ same_year t.year (leb-true 1950 t.year u.0) (ltb-true t.year 2050 v.0)) (two_digits_value t.month (omega (arith, b.month))) (two_digits_value t.day (omega (arith, b.day))) (two_digits_value t.hour (omega (arith, b.hour)))
+    (two_digits_value t.minute (omega (arith, b.minute))) (two_digits_value t.second (omega (arith, b.second)))
 
 -- the contents of a time are valid
 pub generalized_formed : (t : DateTime) → is_date_time t ≡ true → generalized_form (generalized_octets t) ≡ true
 generalized_formed t is =
-    let told = generalized_told t is in
-    all_hold 15 15 _ _ refl (ap is_date_time told ∙ is) (ap (λ u. bytes_eq (generalized_octets u) (generalized_octets t)) told ∙ same_octets (generalized_octets t))
+    let reported = generalized_time_round_trip t is in
+    all_hold 15 15 _ _ refl (ap is_date_time reported ∙ is) (ap (λ u. bytes_eq (generalized_octets u) (generalized_octets t)) reported ∙ same_octets (generalized_octets t))
 
 pub utc_formed : (t : DateTime) → is_utc_time t ≡ true → utc_form (utc_octets t) ≡ true
 utc_formed t is =
-    let told = utc_told t is in
+    let reported = utc_time_round_trip t is in
     let u = and_parts _ _ is in
-    all_hold 13 13 _ _ refl (ap is_date_time told ∙ (and_parts _ _ u.1).1) (ap (λ u. bytes_eq (utc_octets u) (utc_octets t)) told ∙ same_octets (utc_octets t))
+    all_hold 13 13 _ _ refl (ap is_date_time reported ∙ (and_parts _ _ u.1).1) (ap (λ u. bytes_eq (utc_octets u) (utc_octets t)) reported ∙ same_octets (utc_octets t))

@@ -1,11 +1,11 @@
--- Elements of types without a fixed tag, such as ANY and CHOICE (`AnyElementAhead`), the possible
+-- Elements of types without a fixed tag, such as ANY and CHOICE (`AnyElementNext`), the possible
 -- results of reading one (`AnyElementRead`), and when such a type is lawful (`IsLawfulChoice`).
 use Rattle.std.specs.Prelude.{◌≡◌, ◌↔◌, ℕ, ◌^◌, ◌<◌, true, List, length, Result, Err}
 use Rattle.der.specs.Arithmetic.{sans_eoc}
 use Rattle.der.specs.ScanGrammar.{BodyFault}
 use Rattle.der.specs.Tag.{label}
-use Rattle.der.specs.Prelude.{Head, Tag, Error, EncodingRules, Der, ElementAhead, head_of}
-use Rattle.der.specs.Prelude.{HeaderAhead, ReaderState, Header}
+use Rattle.der.specs.Prelude.{Head, Tag, Error, EncodingRules, Der, ElementNext, head_of}
+use Rattle.der.specs.Prelude.{HeaderNext, ReaderState, Header}
 use Rattle.der.specs.HeaderGrammar.{HeaderFault}
 use Rattle.der.specs.Decode.{Passes, Decodes}
 use Rattle.der.specs.Element.{head_sans_eoc}
@@ -13,18 +13,18 @@ use Rattle.der.specs.Lawful.{definite_head}
 use Rattle.der.specs.Nested.{ValueAnswer}
 
 -- an element of some tag, whose contents are accepted as the value under that tag
-pub record AnyElementAhead {A : Type 0} (takes : A → EncodingRules → Head → List ℕ → Type 0) (v : A)
+pub record AnyElementNext {A : Type 0} (takes : A → EncodingRules → Head → List ℕ → Type 0) (v : A)
     (rules : EncodingRules) (octets : List ℕ) (m : ℕ) : Type 0 where
   pub tag : Tag
-  pub element : ElementAhead tag takes v rules octets m
+  pub element : ElementNext tag takes v rules octets m
 
 -- the result of reading: an error of the header, or the result for the contents
 pub data AnyElementRead {T E : Type 0} (converts : Error → E → Type 0)
     (answers : Head → ReaderState → Result T E → ReaderState → Type 0)
     (s : ReaderState) (result : Result T E) (t : ReaderState) : Type 0 where
-  no_header : (e : Error) (f : E) → Decodes HeaderAhead (HeaderFault BodyFault) true s (Err e) t
+  no_header : (e : Error) (f : E) → Decodes HeaderNext (HeaderFault BodyFault) true s (Err e) t
       → converts e f → result ≡ Err f → AnyElementRead converts answers s result t
-  in_contents : (h : Header) (u : ReaderState) → Passes (HeaderAhead h) s u
+  in_contents : (h : Header) (u : ReaderState) → Passes (HeaderNext h) s u
       → ValueAnswer converts (answers (head_sans_eoc (head_of h))) (λ s. s) (λ t. t)
       (sans_eoc (head_of h).length) u result t
       → AnyElementRead converts answers s result t

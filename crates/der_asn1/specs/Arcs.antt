@@ -50,17 +50,17 @@ abbrev pub arcs_left : Arcs → List ℕ
 arcs_left a = arcs_at a.stage a.octets.now
 
 -- an arc, if it fits in 32 bits
-abbrev pub told_arc : ℕ → Option ℕ
-told_arc n = if nat_lt n (2 ^ 32) then Some n else None
+abbrev pub arc_in_32_bits : ℕ → Option ℕ
+arc_in_32_bits n = if nat_lt n (2 ^ 32) then Some n else None
 
 abbrev pub arc_items : Arcs → List (Option ℕ)
-arc_items a = map told_arc (arcs_left a)
+arc_items a = map arc_in_32_bits (arcs_left a)
 
 -- the value of a subidentifier, if it is below 2 ^ 63
-abbrev pub told_number : ℕ → Option ℕ
-told_number n = if nat_lt n (2 ^ 63) then Some n else None
+abbrev pub subidentifier_value : ℕ → Option ℕ
+subidentifier_value n = if nat_lt n (2 ^ 63) then Some n else None
 
 -- the first subidentifier, if it is below 2 ^ 63, and the other ones
 abbrev pub IsFirstNumber : List ℕ → Option ℕ → List ℕ → Type 0
 IsFirstNumber [] a others = ⊥
-IsFirstNumber (n ∷ ns) a others = (a ≡ told_number n) × (others ≡ ns)
+IsFirstNumber (n ∷ ns) a others = (a ≡ subidentifier_value n) × (others ≡ ns)

@@ -3,7 +3,7 @@
 use Rattle.std.specs.Prelude.{◌≡◌, ◌||◌, ℕ, ◌^◌, ◌<◌, ◌≤◌, Bool, true, false, List, length}
 use Rattle.std.proofs.Common.{arith, refl, sym, ap, subst, ◌∙◌}
 use Rattle.der.specs.Prelude.{Head, is_indefinite, definite_length, Tag, ContextSpecific}
-use Rattle.der.specs.Prelude.{EncodingRules, Der, ElementAhead, element_levels, element_octets}
+use Rattle.der.specs.Prelude.{EncodingRules, Der, ElementNext, element_levels, element_octets}
 use Rattle.der.specs.Prelude.{TakesWhole, IsLawful}
 use Rattle.der.specs.HeaderGrammar.{head}
 use Rattle.der.specs.Tag.{label, tag_number}
@@ -56,7 +56,7 @@ pub explicit_lawful : {A B : Type 0} {tag : Tag}
     {contents : A → List ℕ} {levels : EncodingRules → ℕ} (outer : Tag) (value : B → A)
     → (label outer).number < 2 ^ 32 → IsLawful tag takes valid contents levels
     → levels Der ≤ 62
-    → IsLawful outer (λ b. TakesWhole (ElementAhead tag takes) (value b)) (λ b. valid (value b))
+    → IsLawful outer (λ b. TakesWhole (ElementNext tag takes) (value b)) (λ b. valid (value b))
     (λ b. element_octets tag (contents (value b))) (element_levels levels)
 explicit_lawful {levels = levels} outer value numbered laws shallow =
     contents_lawful outer (element_levels levels) value (elements_are_encodings laws)
@@ -66,6 +66,6 @@ pub explicit_holds : {A B : Type 0} {tag : Tag}
     {takes : A → EncodingRules → Head → List ℕ → Type 0} {valid : A → Type 0} (value : B → A)
     → ((v : A) (rules : EncodingRules) (h : Head) (octets : List ℕ) → takes v rules h octets
     → valid v) → (b : B) (rules : EncodingRules) (h : Head) (octets : List ℕ)
-    → TakesWhole (ElementAhead tag takes) (value b) rules h octets → valid (value b)
+    → TakesWhole (ElementNext tag takes) (value b) rules h octets → valid (value b)
 explicit_holds value holds b rules h octets taken =
     holds (value b) rules _ taken.contents taken.taken

@@ -2,9 +2,9 @@
 use Rattle.std.proofs.Common.{◌≡◌, ℕ, ◌^◌, ◌<◌, ◌⊎◌, inl, inr, Bool, true, false, List, [], ◌++◌, length}
 use Rattle.std.proofs.Common.{refl, sym, ap, subst, ◌∙◌, if◌then◌else◌}
 use Rattle.der.specs.Prelude.{Tag, EncodingRules, Der}
-use Rattle.der_asn1.specs.Follow.{FieldAhead, ReadsFields, NoTagIn, StartsIn, Starts, MayStart}
+use Rattle.der_asn1.specs.Follow.{FieldNext, ReadsFields, NoTagIn, StartsIn, Starts, MayStart}
 use Rattle.der_asn1.specs.Follow.{PrecedesBut, either_tags}
-use Rattle.der_asn1.specs.Default.{DefaultAhead, absent, present, default_encoding, IsDefaulted}
+use Rattle.der_asn1.specs.Default.{DefaultNext, absent, present, default_encoding, IsDefaulted}
 use Rattle.der_asn1.specs.Default.{DefaultPrecedes}
 use Rattle.der_asn1.specs.FollowLemmas.{fewer_tags}
 
@@ -14,11 +14,11 @@ valid_of : {A : Type 0} (valid : A → Type 0) (is_default : A → Bool) (v : A)
 valid_of valid is_default v (inl e) f = absurd (let no : true ≡ false = sym e ∙ f in cc)
 valid_of valid is_default v (inr is) f = is
 
-module _ {A : Type 0} {tags : Tag → Type 0} {Ahead : A → EncodingRules → List ℕ → ℕ → Type 0}
+module _ {A : Type 0} {tags : Tag → Type 0} {Next : A → EncodingRules → List ℕ → ℕ → Type 0}
     {valid : A → Type 0} {encoding : A → List ℕ} {P : A → List ℕ → Type 0}
     (is_default : A → Bool) where
-  pub defaults_are_fields : ReadsFields Ahead valid encoding P
-      → ReadsFields (DefaultAhead tags is_default Ahead) (IsDefaulted is_default valid)
+  pub defaults_are_fields : ReadsFields Next valid encoding P
+      → ReadsFields (DefaultNext tags is_default Next) (IsDefaulted is_default valid)
       (default_encoding is_default encoding) (DefaultPrecedes tags is_default P)
   defaults_are_fields reads =
       record { only = from; every = λ octets v m short. to octets v m short (is_default v) refl }
@@ -27,13 +27,13 @@ module _ {A : Type 0} {tags : Tag → Type 0} {Ahead : A → EncodingRules → L
           → default_encoding is_default encoding v ≡ (if b then [] else encoding v)
       written v b e = ap (λ x. if x then [] else encoding v) e
 
-      from : (octets : List ℕ) (v : A) (m : ℕ) → DefaultAhead tags is_default Ahead v Der octets m
-          → FieldAhead (IsDefaulted is_default valid) (default_encoding is_default encoding)
+      from : (octets : List ℕ) (v : A) (m : ℕ) → DefaultNext tags is_default Next v Der octets m
+          → FieldNext (IsDefaulted is_default valid) (default_encoding is_default encoding)
           (DefaultPrecedes tags is_default P) v octets m
       from octets v m (absent e none h) =
           record {
             is_valid = inl e;
-            behind = octets;
+            following = octets;
             split = ap (λ x. x ++ octets) (sym (written v true e));
             whole = none ∙ ap length (sym (written v true e));
             precedes = (λ _. h, λ f. absurd (let no : true ≡ false = sym e ∙ f in cc));
@@ -43,26 +43,26 @@ module _ {A : Type 0} {tags : Tag → Type 0} {Ahead : A → EncodingRules → L
           let e = reads.only octets v m h in
           record {
             is_valid = inr e.is_valid;
-            behind = e.behind;
-            split = e.split ∙ ap (λ x. x ++ e.behind) (sym (written v false not));
+            following = e.following;
+            split = e.split ∙ ap (λ x. x ++ e.following) (sym (written v false not));
             whole = e.whole ∙ ap length (sym (written v false not));
             precedes = (λ f. absurd (let no : true ≡ false = sym f ∙ not in cc), λ _. e.precedes);
           }
 
       to : (octets : List ℕ) (v : A) (m : ℕ) → length octets < 2 ^ 32 → (b : Bool)
           → is_default v ≡ b
-          → FieldAhead (IsDefaulted is_default valid) (default_encoding is_default encoding)
+          → FieldNext (IsDefaulted is_default valid) (default_encoding is_default encoding)
           (DefaultPrecedes tags is_default P) v octets m
-          → DefaultAhead tags is_default Ahead v Der octets m
+          → DefaultNext tags is_default Next v Der octets m
       to octets v m short true d e =
           absent d (e.whole ∙ ap length (written v true d))
-          (subst (NoTagIn tags Der) (sym (e.split ∙ ap (λ x. x ++ e.behind) (written v true d)))
+          (subst (NoTagIn tags Der) (sym (e.split ∙ ap (λ x. x ++ e.following) (written v true d)))
           (e.precedes.0 d))
       to octets v m short false d e =
           present (λ _. d) (reads.every octets v m short (record {
             is_valid = valid_of valid is_default v e.is_valid d;
-            behind = e.behind;
-            split = e.split ∙ ap (λ x. x ++ e.behind) (written v false d);
+            following = e.following;
+            split = e.split ∙ ap (λ x. x ++ e.following) (written v false d);
             whole = e.whole ∙ ap length (written v false d);
             precedes = e.precedes.1 d;
           }))
@@ -88,9 +88,9 @@ pub default_precedes : {A : Type 0} (tags : Tag → Type 0) {valid : A → Type 
     (either_tags tags stops)
 default_precedes tags {valid} is_default one =
     record {
-      precedes = λ v behind is none. (
+      precedes = λ v following is none. (
         λ _. fewer_tags (λ t h. inl h) none,
-        λ f. one.precedes v behind (valid_of valid is_default v is f)
+        λ f. one.precedes v following (valid_of valid is_default v is f)
             (fewer_tags (λ t h. inr h) none),
       );
     }

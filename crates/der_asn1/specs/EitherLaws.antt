@@ -1,10 +1,10 @@
 -- The laws of a CHOICE of two types.
 use Rattle.std.proofs.Common.{◌≡◌, ◌↔◌, ◌⊎◌, inl, inr, ℕ, ◌^◌, ◌<◌, ◌&&◌, Bool, true, List, ◌++◌, length, Option, sym, subst}
 use Rattle.der.specs.Prelude.{Tag, EncodingRules, Der}
-use Rattle.der_asn1.specs.Either.{EitherAhead, IsEither, either_encoding, EitherPrecedes}
-use Rattle.der_asn1.specs.Follow.{FieldAhead, TagIn, NoTagIn, StartsIn, either_tags}
+use Rattle.der_asn1.specs.Either.{EitherNext, IsEither, either_encoding, EitherPrecedes}
+use Rattle.der_asn1.specs.Follow.{FieldNext, TagIn, NoTagIn, StartsIn, either_tags}
 use Rattle.der_asn1.specs.FollowLemmas.{fewer_tags, starts_apart, starts_wider}
-use Rattle.der_asn1.specs.SetLaws.{ToldLaws}
+use Rattle.der_asn1.specs.SetLaws.{DecidedByTagLaws}
 use Rattle.der_asn1.specs.TagSets.{IsIn, are_apart}
 use Rattle.der_asn1.specs.TagSetLemmas.{both_true, sets_apart, in_either}
 use Rattle.der_asn1.specs.declared.either.Either.{Either}
@@ -15,21 +15,21 @@ module _ {A B : Type 0} {one_tags two_tags : Tag → Type 0}
     {P : A → List ℕ → Type 0} {Q : B → List ℕ → Type 0}
     {One : A → EncodingRules → List ℕ → ℕ → Type 0} {Two : B → EncodingRules → List ℕ → ℕ → Type 0}
     {is_one : A → Type 0} {is_two : B → Type 0} {one_octets : A → List ℕ} {two_octets : B → List ℕ}
-    (one : ToldLaws one_tags first one_stops P One is_one one_octets)
-    (two : ToldLaws two_tags second two_stops Q Two is_two two_octets)
+    (one : DecidedByTagLaws one_tags first one_stops P One is_one one_octets)
+    (two : DecidedByTagLaws two_tags second two_stops Q Two is_two two_octets)
     (apart : are_apart first second ≡ true) where
   -- no tag belongs to both
   tags_apart : (t : Tag) → one_tags t → two_tags t → ⊥
   tags_apart t a b = sets_apart first second apart t (one.among t a) (two.among t b)
 
-  from : (octets : List ℕ) (v : Either A B) (m : ℕ) → EitherAhead one_tags One Two v Der octets m
-      → FieldAhead (IsEither is_one is_two) (either_encoding one_octets two_octets)
+  from : (octets : List ℕ) (v : Either A B) (m : ℕ) → EitherNext one_tags One Two v Der octets m
+      → FieldNext (IsEither is_one is_two) (either_encoding one_octets two_octets)
       (EitherPrecedes P Q) v octets m
   from octets (First v) m h =
       let e = one.reads.only octets v m h in
       record {
         is_valid = e.is_valid;
-        behind = e.behind;
+        following = e.following;
         split = e.split;
         whole = e.whole;
         precedes = e.precedes;
@@ -38,21 +38,21 @@ module _ {A B : Type 0} {one_tags two_tags : Tag → Type 0}
       let e = two.reads.only octets v m h.0 in
       record {
         is_valid = e.is_valid;
-        behind = e.behind;
+        following = e.following;
         split = e.split;
         whole = e.whole;
         precedes = e.precedes;
       }
 
   to : (octets : List ℕ) (v : Either A B) (m : ℕ) → length octets < 2 ^ 32
-      → FieldAhead (IsEither is_one is_two) (either_encoding one_octets two_octets)
+      → FieldNext (IsEither is_one is_two) (either_encoding one_octets two_octets)
       (EitherPrecedes P Q) v octets m
-      → EitherAhead one_tags One Two v Der octets m
+      → EitherNext one_tags One Two v Der octets m
   to octets (First v) m short e =
       one.reads.every octets v m short
       (record {
         is_valid = e.is_valid;
-        behind = e.behind;
+        following = e.following;
         split = e.split;
         whole = e.whole;
         precedes = e.precedes;
@@ -61,13 +61,13 @@ module _ {A B : Type 0} {one_tags two_tags : Tag → Type 0}
     two.reads.every octets v m short
         (record {
           is_valid = e.is_valid;
-          behind = e.behind;
+          following = e.following;
           split = e.split;
           whole = e.whole;
           precedes = e.precedes;
         }),
     subst (λ x. NoTagIn one_tags Der x) (sym e.split)
-        (starts_apart (two_octets v) e.behind tags_apart (two.starts.starts v e.is_valid)),
+        (starts_apart (two_octets v) e.following tags_apart (two.starts.starts v e.is_valid)),
   )
 
   begin : (v : Either A B) → IsEither is_one is_two v
@@ -79,54 +79,54 @@ module _ {A B : Type 0} {one_tags two_tags : Tag → Type 0}
   among_both t (inl h) = in_either first second t (inl (one.among t h))
   among_both t (inr h) = in_either first second t (inr (two.among t h))
 
-  may_stand : (v : Either A B) (behind : List ℕ) → IsEither is_one is_two v
-      → NoTagIn (IsIn (one_stops ++ two_stops)) Der behind → EitherPrecedes P Q v behind
-  may_stand (First v) behind is none =
-      one.precedes.precedes v behind is
+  either_precedes : (v : Either A B) (following : List ℕ) → IsEither is_one is_two v
+      → NoTagIn (IsIn (one_stops ++ two_stops)) Der following → EitherPrecedes P Q v following
+  either_precedes (First v) following is none =
+      one.precedes.precedes v following is
       (fewer_tags (λ t h. in_either one_stops two_stops t (inl h)) none)
-  may_stand (Second v) behind is none =
-      two.precedes.precedes v behind is
+  either_precedes (Second v) following is none =
+      two.precedes.precedes v following is
       (fewer_tags (λ t h. in_either one_stops two_stops t (inr h)) none)
 
   hold : (v : Either A B) (rules : EncodingRules) (octets : List ℕ) (m : ℕ)
-      → EitherAhead one_tags One Two v rules octets m → IsEither is_one is_two v
+      → EitherNext one_tags One Two v rules octets m → IsEither is_one is_two v
   hold (First v) rules octets m h = one.holds v rules octets m h
   hold (Second v) rules octets m h = two.holds v rules octets m h.0
 
-  both_told : ToldLaws (either_tags one_tags two_tags) (first ++ second) (one_stops ++ two_stops)
+  both_decided_by_tag : DecidedByTagLaws (either_tags one_tags two_tags) (first ++ second) (one_stops ++ two_stops)
       (EitherPrecedes P Q)
-      (EitherAhead one_tags One Two) (IsEither is_one is_two)
+      (EitherNext one_tags One Two) (IsEither is_one is_two)
       (either_encoding one_octets two_octets)
-  both_told =
+  both_decided_by_tag =
       record {
         reads = record { only = from; every = to };
         starts = record { starts = begin };
         among = among_both;
-        precedes = record { precedes = may_stand };
+        precedes = record { precedes = either_precedes };
         holds = hold;
       }
 
 -- a CHOICE of two alternatives has the laws if both have them and no tag belongs to both
-pub either_told : {A B : Type 0} {one_fits two_fits : Bool} {one_tags two_tags : Tag → Type 0}
+pub either_decided_by_tag : {A B : Type 0} {one_fits two_fits : Bool} {one_tags two_tags : Tag → Type 0}
     {first second one_stops two_stops : List (Option Tag)}
     {P : A → List ℕ → Type 0} {Q : B → List ℕ → Type 0}
     {One : A → EncodingRules → List ℕ → ℕ → Type 0} {Two : B → EncodingRules → List ℕ → ℕ → Type 0}
     {is_one : A → Type 0} {is_two : B → Type 0} {one_octets : A → List ℕ} {two_octets : B → List ℕ}
     → (are_apart first second && (one_fits && two_fits)) ≡ true
-    → (one_fits ≡ true → ToldLaws one_tags first one_stops P One is_one one_octets)
-    → (two_fits ≡ true → ToldLaws two_tags second two_stops Q Two is_two two_octets)
-    → ToldLaws (either_tags one_tags two_tags) (first ++ second) (one_stops ++ two_stops)
+    → (one_fits ≡ true → DecidedByTagLaws one_tags first one_stops P One is_one one_octets)
+    → (two_fits ≡ true → DecidedByTagLaws two_tags second two_stops Q Two is_two two_octets)
+    → DecidedByTagLaws (either_tags one_tags two_tags) (first ++ second) (one_stops ++ two_stops)
     (EitherPrecedes P Q)
-    (EitherAhead one_tags One Two) (IsEither is_one is_two) (either_encoding one_octets two_octets)
-either_told {one_fits = one_fits} {two_fits} {first = first} {second} e one two =
+    (EitherNext one_tags One Two) (IsEither is_one is_two) (either_encoding one_octets two_octets)
+either_decided_by_tag {one_fits = one_fits} {two_fits} {first = first} {second} e one two =
     let p = both_true (are_apart first second) (one_fits && two_fits) e in
     let q = both_true one_fits two_fits p.1 in
-    both_told (one q.0) (two q.1) p.0
+    both_decided_by_tag (one q.0) (two q.1) p.0
 
 wider_tags : {tags more : Tag → Type 0} {rules : EncodingRules} {octets : List ℕ}
     → ((t : Tag) → tags t → more t) → TagIn tags rules octets → TagIn more rules octets
 wider_tags wider b =
-    record { tag = b.tag; count = b.count; ahead = b.ahead; among = wider b.tag b.among }
+    record { tag = b.tag; count = b.count; next = b.next; among = wider b.tag b.among }
 
 -- a value of a CHOICE begins with a tag of one of the types
 pub either_begins : {A B : Type 0} {one_tags two_tags : Tag → Type 0}
@@ -136,7 +136,7 @@ pub either_begins : {A B : Type 0} {one_tags two_tags : Tag → Type 0}
     → ((v : B) (rules : EncodingRules) (octets : List ℕ) (m : ℕ) → Two v rules octets m
     → TagIn two_tags rules octets)
     → (v : Either A B) (rules : EncodingRules) (octets : List ℕ) (m : ℕ)
-    → EitherAhead one_tags One Two v rules octets m
+    → EitherNext one_tags One Two v rules octets m
     → TagIn (either_tags one_tags two_tags) rules octets
 either_begins one two (First v) rules octets m h =
     wider_tags (λ t h. inl h) (one v rules octets m h)

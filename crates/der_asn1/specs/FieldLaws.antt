@@ -2,49 +2,49 @@
 -- `element_laws`, `choice_laws` and `optional_laws` make them, `pair_laws` composes two of them,
 -- and `contents_laws` concludes that a type is lawful.
 use Rattle.std.proofs.Common.{inl, ℕ, ◌^◌, ◌<◌, ◌≤◌, List, ◌++◌, length, drop, Option, Some, None}
-use Rattle.der.specs.Prelude.{Head, Tag, EncodingRules, Der, ElementAhead, element_octets}
-use Rattle.der.specs.Prelude.{FieldsAhead, TakesWhole, IsLawful}
+use Rattle.der.specs.Prelude.{Head, Tag, EncodingRules, Der, ElementNext, element_octets}
+use Rattle.der.specs.Prelude.{FieldsNext, TakesWhole, IsLawful}
 use Rattle.der.specs.Tag.{label}
 use Rattle.der.specs.Element.{head_sans_eoc}
 use Rattle.der.specs.Lawful.{ReadsEncodings}
 use Rattle.der.specs.LawfulLemmas.{elements_are_encodings}
 use Rattle.der_asn1.specs.Follow.{ReadsFields, Anything, Starts, MayStart, PrecedesBut, no_tags}
 use Rattle.der_asn1.specs.Follow.{either_tags, BothPrecede}
-use Rattle.der_asn1.specs.Optional.{OptionAhead, IsOptional, option_encoding, OptionPrecedes}
+use Rattle.der_asn1.specs.Optional.{OptionNext, IsOptional, option_encoding, OptionPrecedes}
 use Rattle.der_asn1.specs.FollowLemmas.{encodings_are_fields, fields_follow, fields_lawful}
 use Rattle.der_asn1.specs.FollowLemmas.{lawful_starts, anything_precedes, pair_precedes}
 use Rattle.der_asn1.specs.FollowLemmas.{pair_precedes_absent, pair_may_start, starts_so_may}
 use Rattle.der_asn1.specs.FollowLemmas.{last_of}
-use Rattle.der_asn1.specs.AnyElement.{AnyElementAhead, IsLawfulChoice}
+use Rattle.der_asn1.specs.AnyElement.{AnyElementNext, IsLawfulChoice}
 use Rattle.der_asn1.specs.AnyElementLemmas.{choices_are_encodings, choices_start}
 use Rattle.der_asn1.specs.OptionalLemmas.{options_are_fields, option_may_start, option_precedes}
 
 -- the laws of a field: it is read as it is written, the tags it may begin with, and the tags that
 -- must not follow it
-pub record FieldLaws {A : Type 0} (Ahead : A → EncodingRules → List ℕ → ℕ → Type 0)
+pub record FieldLaws {A : Type 0} (Next : A → EncodingRules → List ℕ → ℕ → Type 0)
     (valid : A → Type 0) (encoding : A → List ℕ) : Type 1 where
   pub Precedes : A → List ℕ → Type 0
   pub tags : Tag → Type 0
   pub stops : Tag → Type 0
-  pub reads : ReadsFields Ahead valid encoding Precedes
+  pub reads : ReadsFields Next valid encoding Precedes
   pub starts : MayStart valid encoding tags
   pub precedes : PrecedesBut valid Precedes stops
   -- a value that can be read under any rules is valid
-  pub holds : (v : A) (rules : EncodingRules) (octets : List ℕ) (m : ℕ) → Ahead v rules octets m
+  pub holds : (v : A) (rules : EncodingRules) (octets : List ℕ) (m : ℕ) → Next v rules octets m
       → valid v
 
 -- the laws of a field that is never empty
-pub record SomeLaws {A : Type 0} (Ahead : A → EncodingRules → List ℕ → ℕ → Type 0)
+pub record SomeLaws {A : Type 0} (Next : A → EncodingRules → List ℕ → ℕ → Type 0)
     (valid : A → Type 0) (encoding : A → List ℕ) : Type 1 where
-  pub laws : FieldLaws Ahead valid encoding
+  pub laws : FieldLaws Next valid encoding
   pub some : Starts valid encoding laws.tags
 
 -- the laws of a field after which anything may follow
-abbrev pub encoding_laws : {A : Type 0} {Ahead : A → EncodingRules → List ℕ → ℕ → Type 0}
+abbrev pub encoding_laws : {A : Type 0} {Next : A → EncodingRules → List ℕ → ℕ → Type 0}
     {valid : A → Type 0} {encoding : A → List ℕ} {tags : Tag → Type 0}
-    → ReadsEncodings Ahead valid encoding → Starts valid encoding tags
-    → ((v : A) (rules : EncodingRules) (octets : List ℕ) (m : ℕ) → Ahead v rules octets m → valid v)
-    → SomeLaws Ahead valid encoding
+    → ReadsEncodings Next valid encoding → Starts valid encoding tags
+    → ((v : A) (rules : EncodingRules) (octets : List ℕ) (m : ℕ) → Next v rules octets m → valid v)
+    → SomeLaws Next valid encoding
 encoding_laws {valid = valid} {tags = tags} reads some holds =
     record {
       laws = record {
@@ -66,7 +66,7 @@ abbrev pub element_laws : {A : Type 0} {tag : Tag}
     → IsLawful tag takes valid contents levels
     → ((v : A) (rules : EncodingRules) (h : Head) (octets : List ℕ) → takes v rules h octets
     → valid v)
-    → SomeLaws (ElementAhead tag takes) valid (λ v. element_octets tag (contents v))
+    → SomeLaws (ElementNext tag takes) valid (λ v. element_octets tag (contents v))
 element_laws lawful takes_valid =
     encoding_laws (elements_are_encodings lawful) (lawful_starts lawful)
     (λ v rules octets m e. takes_valid v rules (head_sans_eoc e.says) e.contents e.taken)
@@ -78,25 +78,25 @@ abbrev pub choice_laws : {A : Type 0} {tag_of : A → Tag}
     → IsLawfulChoice tag_of takes valid contents → ((v : A) → valid v → tags (tag_of v))
     → ((v : A) (rules : EncodingRules) (h : Head) (octets : List ℕ) → takes v rules h octets
     → valid v)
-    → SomeLaws (AnyElementAhead takes) valid (λ v. element_octets (tag_of v) (contents v))
+    → SomeLaws (AnyElementNext takes) valid (λ v. element_octets (tag_of v) (contents v))
 choice_laws tags lawful among takes_valid =
     encoding_laws (choices_are_encodings lawful) (choices_start lawful tags among)
     (λ v rules octets m e. takes_valid v rules (head_sans_eoc e.element.says) e.element.contents
     e.element.taken)
 
 pub option_holds : {A : Type 0} (tags : Tag → Type 0)
-    {Ahead : A → EncodingRules → List ℕ → ℕ → Type 0}
+    {Next : A → EncodingRules → List ℕ → ℕ → Type 0}
     {valid : A → Type 0}
-    → ((v : A) (rules : EncodingRules) (octets : List ℕ) (m : ℕ) → Ahead v rules octets m → valid v)
+    → ((v : A) (rules : EncodingRules) (octets : List ℕ) (m : ℕ) → Next v rules octets m → valid v)
     → (v : Option A) (rules : EncodingRules) (octets : List ℕ) (m : ℕ)
-    → OptionAhead tags Ahead v rules octets m → IsOptional valid v
+    → OptionNext tags Next v rules octets m → IsOptional valid v
 option_holds tags holds None rules octets m h = tt
 option_holds tags holds (Some v) rules octets m h = holds v rules octets m h
 
 -- the laws of an optional field
-abbrev pub optional_laws : {A : Type 0} {Ahead : A → EncodingRules → List ℕ → ℕ → Type 0}
-    {valid : A → Type 0} {encoding : A → List ℕ} (one : SomeLaws Ahead valid encoding)
-    → FieldLaws (OptionAhead one.laws.tags Ahead) (IsOptional valid) (option_encoding encoding)
+abbrev pub optional_laws : {A : Type 0} {Next : A → EncodingRules → List ℕ → ℕ → Type 0}
+    {valid : A → Type 0} {encoding : A → List ℕ} (one : SomeLaws Next valid encoding)
+    → FieldLaws (OptionNext one.laws.tags Next) (IsOptional valid) (option_encoding encoding)
 optional_laws one =
     record {
       Precedes = OptionPrecedes one.laws.tags one.laws.Precedes;
@@ -109,18 +109,18 @@ optional_laws one =
     }
 
 -- a field converted to another type is read as it is written
-pub seen_reads : {A B : Type 0} {Ahead : A → EncodingRules → List ℕ → ℕ → Type 0}
+pub seen_reads : {A B : Type 0} {Next : A → EncodingRules → List ℕ → ℕ → Type 0}
     {valid : A → Type 0}
     {encoding : A → List ℕ} {P : A → List ℕ → Type 0} (f : B → A)
-    → ReadsFields Ahead valid encoding P
-    → ReadsFields (λ b. Ahead (f b)) (λ b. valid (f b)) (λ b. encoding (f b)) (λ b. P (f b))
+    → ReadsFields Next valid encoding P
+    → ReadsFields (λ b. Next (f b)) (λ b. valid (f b)) (λ b. encoding (f b)) (λ b. P (f b))
 seen_reads f reads =
     record {
       only = λ octets b m h.
           (let e = reads.only octets (f b) m h in
           record {
             is_valid = e.is_valid;
-            behind = e.behind;
+            following = e.following;
             split = e.split;
             whole = e.whole;
             precedes = e.precedes;
@@ -128,16 +128,16 @@ seen_reads f reads =
       every = λ octets b m short e. reads.every octets (f b) m short
           (record {
             is_valid = e.is_valid;
-            behind = e.behind;
+            following = e.following;
             split = e.split;
             whole = e.whole;
             precedes = e.precedes;
           });
     }
 
-abbrev pub seen_laws : {A B : Type 0} {Ahead : A → EncodingRules → List ℕ → ℕ → Type 0}
-    {valid : A → Type 0} {encoding : A → List ℕ} (f : B → A) → FieldLaws Ahead valid encoding
-    → FieldLaws (λ b. Ahead (f b)) (λ b. valid (f b)) (λ b. encoding (f b))
+abbrev pub seen_laws : {A B : Type 0} {Next : A → EncodingRules → List ℕ → ℕ → Type 0}
+    {valid : A → Type 0} {encoding : A → List ℕ} (f : B → A) → FieldLaws Next valid encoding
+    → FieldLaws (λ b. Next (f b)) (λ b. valid (f b)) (λ b. encoding (f b))
 seen_laws f one =
     record {
       Precedes = λ b. one.Precedes (f b);
@@ -146,7 +146,7 @@ seen_laws f one =
       reads = seen_reads f one.reads;
       starts = record { starts = λ b is. one.starts.starts (f b) is };
       precedes =
-          record { precedes = λ b behind is none. one.precedes.precedes (f b) behind is none };
+          record { precedes = λ b following is none. one.precedes.precedes (f b) following is none };
       holds = λ b. one.holds (f b);
     }
 
@@ -157,7 +157,7 @@ abbrev pub pair_laws : {A B : Type 0} {First : A → EncodingRules → List ℕ 
     {is_second : B → Type 0} {first : A → List ℕ} {second : B → List ℕ}
     (one : FieldLaws First is_first first) (two : SomeLaws Second is_second second)
     → ((t : Tag) → one.stops t → two.laws.tags t → ⊥)
-    → FieldLaws (FieldsAhead First Second) (λ v. is_first v.0 × is_second v.1)
+    → FieldLaws (FieldsNext First Second) (λ v. is_first v.0 × is_second v.1)
     (λ v. first v.0 ++ second v.1)
 pair_laws {second = second} one two apart =
     record {
@@ -168,8 +168,8 @@ pair_laws {second = second} one two apart =
       starts = pair_may_start one.starts two.laws.starts;
       precedes = pair_precedes one.precedes two.laws.precedes two.some apart;
       holds = λ v rules octets m f. (
-        one.holds v.0 rules octets f.first f.ahead,
-        two.laws.holds v.1 rules (drop f.first octets) f.second f.behind,
+        one.holds v.0 rules octets f.first f.next,
+        two.laws.holds v.1 rules (drop f.first octets) f.second f.following,
       );
     }
 
@@ -179,7 +179,7 @@ abbrev pub pair_laws_absent : {A B : Type 0} {First : A → EncodingRules → Li
     {is_second : B → Type 0} {first : A → List ℕ} {second : B → List ℕ}
     (one : FieldLaws First is_first first) (two : FieldLaws Second is_second second)
     → ((t : Tag) → one.stops t → two.tags t → ⊥)
-    → FieldLaws (FieldsAhead First Second) (λ v. is_first v.0 × is_second v.1)
+    → FieldLaws (FieldsNext First Second) (λ v. is_first v.0 × is_second v.1)
     (λ v. first v.0 ++ second v.1)
 pair_laws_absent {second = second} one two apart =
     record {
@@ -190,21 +190,21 @@ pair_laws_absent {second = second} one two apart =
       starts = pair_may_start one.starts two.starts;
       precedes = pair_precedes_absent one.precedes two.precedes two.starts apart;
       holds = λ v rules octets m f. (
-        one.holds v.0 rules octets f.first f.ahead,
-        two.holds v.1 rules (drop f.first octets) f.second f.behind,
+        one.holds v.0 rules octets f.first f.next,
+        two.holds v.1 rules (drop f.first octets) f.second f.following,
       );
     }
 
 -- a type whose contents are exactly one field is lawful
-pub contents_laws : {A B : Type 0} {Ahead : A → EncodingRules → List ℕ → ℕ → Type 0}
+pub contents_laws : {A B : Type 0} {Next : A → EncodingRules → List ℕ → ℕ → Type 0}
     {valid : A → Type 0} {encoding : A → List ℕ} (tag : Tag) (levels : EncodingRules → ℕ)
-    (f : B → A) → FieldLaws Ahead valid encoding → levels Der ≤ 63 → (label tag).number < 2 ^ 32
-    → IsLawful tag (λ b. TakesWhole Ahead (f b)) (λ b. valid (f b)) (λ b. encoding (f b)) levels
+    (f : B → A) → FieldLaws Next valid encoding → levels Der ≤ 63 → (label tag).number < 2 ^ 32
+    → IsLawful tag (λ b. TakesWhole Next (f b)) (λ b. valid (f b)) (λ b. encoding (f b)) levels
 contents_laws tag levels f one shallow numbered =
     fields_lawful tag levels f one.reads (last_of one.precedes) shallow numbered
 
-pub contents_hold : {A : Type 0} {Ahead : A → EncodingRules → List ℕ → ℕ → Type 0}
-    {valid : A → Type 0} {encoding : A → List ℕ} → FieldLaws Ahead valid encoding → (v : A)
-    (rules : EncodingRules) (h : Head) (octets : List ℕ) → TakesWhole Ahead v rules h octets
+pub contents_hold : {A : Type 0} {Next : A → EncodingRules → List ℕ → ℕ → Type 0}
+    {valid : A → Type 0} {encoding : A → List ℕ} → FieldLaws Next valid encoding → (v : A)
+    (rules : EncodingRules) (h : Head) (octets : List ℕ) → TakesWhole Next v rules h octets
     → valid v
 contents_hold one v rules h octets taken = one.holds v rules octets (length octets) taken

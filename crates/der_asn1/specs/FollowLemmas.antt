@@ -4,32 +4,32 @@ use Rattle.std.proofs.Common.{drop, refl, sym, ap, subst, ◌∙◌, append_asso
 use Rattle.std.proofs.Common.{length-append, length-drop, arith}
 use Rattle.std.proofs.lemmas.List.{drop_at}
 use Rattle.der.specs.Prelude.{Head, tag_octets, length_octets, Tag, EncodingRules, Der}
-use Rattle.der.specs.Prelude.{element_octets, FieldsAhead, TakesWhole, IsLawful}
-use Rattle.der.specs.HeaderGrammar.{TagAhead, identifier}
+use Rattle.der.specs.Prelude.{element_octets, FieldsNext, TakesWhole, IsLawful}
+use Rattle.der.specs.HeaderGrammar.{TagNext, identifier}
 use Rattle.der.specs.Tag.{label, of_tag}
 use Rattle.der.specs.Decode.{Whole}
 use Rattle.der.specs.Lawful.{ReadsEncodings, ReadsWholeEncodings}
-use Rattle.der_asn1.specs.Follow.{FieldAhead, ReadsFields, Anything, NoTagIn, nothing, other}
+use Rattle.der_asn1.specs.Follow.{FieldNext, ReadsFields, Anything, NoTagIn, nothing, other}
 use Rattle.der_asn1.specs.Follow.{StartsIn, Starts, MayStart, PrecedesBut, this_tag, either_tags}
 use Rattle.der_asn1.specs.Follow.{BothPrecede}
 
 -- a type whose encodings are read regardless of what follows is a field that anything may follow
-pub encodings_are_fields : {A : Type 0} {Ahead : A → EncodingRules → List ℕ → ℕ → Type 0}
-    {valid : A → Type 0} {encoding : A → List ℕ} → ReadsEncodings Ahead valid encoding
-    → ReadsFields Ahead valid encoding Anything
+pub encodings_are_fields : {A : Type 0} {Next : A → EncodingRules → List ℕ → ℕ → Type 0}
+    {valid : A → Type 0} {encoding : A → List ℕ} → ReadsEncodings Next valid encoding
+    → ReadsFields Next valid encoding Anything
 encodings_are_fields reads =
     record {
       only = λ octets v m h.
           (let e = reads.only octets v m h in
           record {
             is_valid = e.is_valid;
-            behind = e.behind;
+            following = e.following;
             split = e.split;
             whole = e.whole;
             precedes = tt;
           });
       every = λ octets v m short f. reads.every octets v m short
-          (record { is_valid = f.is_valid; behind = f.behind; split = f.split; whole = f.whole });
+          (record { is_valid = f.is_valid; following = f.following; split = f.split; whole = f.whole });
     }
 
 -- two fields in sequence, each of which may precede what follows it
@@ -38,55 +38,55 @@ pub fields_follow : {A B : Type 0} {First : A → EncodingRules → List ℕ →
     {is_second : B → Type 0}
     {first : A → List ℕ} {second : B → List ℕ} {P : A → List ℕ → Type 0} {Q : B → List ℕ → Type 0}
     → ReadsFields First is_first first P → ReadsFields Second is_second second Q
-    → ReadsFields (FieldsAhead First Second) (λ v. is_first v.0 × is_second v.1)
+    → ReadsFields (FieldsNext First Second) (λ v. is_first v.0 × is_second v.1)
     (λ v. first v.0 ++ second v.1) (BothPrecede second P Q)
 fields_follow {A} {B} {First} {Second} {is_first} {is_second} {first} {second} {P} {Q} one two =
     record { only = from; every = to }
   where
-    from : (octets : List ℕ) (v : A × B) (m : ℕ) → FieldsAhead First Second v Der octets m
-        → FieldAhead (λ w. is_first w.0 × is_second w.1) (λ w. first w.0 ++ second w.1)
+    from : (octets : List ℕ) (v : A × B) (m : ℕ) → FieldsNext First Second v Der octets m
+        → FieldNext (λ w. is_first w.0 × is_second w.1) (λ w. first w.0 ++ second w.1)
         (BothPrecede second P Q) v octets m
     from octets v m f =
-        let p = one.only octets v.0 f.first f.ahead in
-        let left : drop f.first octets ≡ p.behind =
-        ap (drop f.first) p.split ∙ drop_at (first v.0) p.behind f.first (sym p.whole) in
-        let q = two.only (drop f.first octets) v.1 f.second f.behind in
-        let next : p.behind ≡ second v.1 ++ q.behind = sym left ∙ q.split in
+        let p = one.only octets v.0 f.first f.next in
+        let left : drop f.first octets ≡ p.following =
+        ap (drop f.first) p.split ∙ drop_at (first v.0) p.following f.first (sym p.whole) in
+        let q = two.only (drop f.first octets) v.1 f.second f.following in
+        let next : p.following ≡ second v.1 ++ q.following = sym left ∙ q.split in
         record {
           is_valid = (p.is_valid, q.is_valid);
-          behind = q.behind;
+          following = q.following;
           split = p.split ∙ ap (λ x. first v.0 ++ x) next
-              ∙ sym (append_assoc (first v.0) (second v.1) q.behind);
+              ∙ sym (append_assoc (first v.0) (second v.1) q.following);
           whole = omega (arith, f.whole, p.whole, q.whole, length-append (first v.0) (second v.1));
           precedes = (subst (P v.0) next p.precedes, q.precedes);
         }
 
     to : (octets : List ℕ) (v : A × B) (m : ℕ) → length octets < 2 ^ 32
-        → FieldAhead (λ w. is_first w.0 × is_second w.1) (λ w. first w.0 ++ second w.1)
-        (BothPrecede second P Q) v octets m → FieldsAhead First Second v Der octets m
+        → FieldNext (λ w. is_first w.0 × is_second w.1) (λ w. first w.0 ++ second w.1)
+        (BothPrecede second P Q) v octets m → FieldsNext First Second v Der octets m
     to octets v m short e =
-        let whole : octets ≡ first v.0 ++ (second v.1 ++ e.behind) =
-        e.split ∙ append_assoc (first v.0) (second v.1) e.behind in
-        let left : drop (length (first v.0)) octets ≡ second v.1 ++ e.behind =
+        let whole : octets ≡ first v.0 ++ (second v.1 ++ e.following) =
+        e.split ∙ append_assoc (first v.0) (second v.1) e.following in
+        let left : drop (length (first v.0)) octets ≡ second v.1 ++ e.following =
         ap (drop (length (first v.0))) whole
-        ∙ drop_at (first v.0) (second v.1 ++ e.behind) (length (first v.0)) refl in
+        ∙ drop_at (first v.0) (second v.1 ++ e.following) (length (first v.0)) refl in
         record {
           first = length (first v.0);
           second = length (second v.1);
-          ahead = one.every octets v.0 _ short
+          next = one.every octets v.0 _ short
               (record {
                 is_valid = e.is_valid.0;
-                behind = second v.1 ++ e.behind;
+                following = second v.1 ++ e.following;
                 split = whole;
                 whole = refl;
                 precedes = e.precedes.0;
               });
-          behind =
+          following =
               two.every (drop (length (first v.0)) octets) v.1 _
               (omega (arith, short, length-drop (length (first v.0)) octets))
               (record {
                 is_valid = e.is_valid.1;
-                behind = e.behind;
+                following = e.following;
                 split = left;
                 whole = refl;
                 precedes = e.precedes.1;
@@ -96,43 +96,43 @@ fields_follow {A} {B} {First} {Second} {is_first} {is_second} {first} {second} {
 
 -- octets are exactly one field if and only if they are its encoding, provided valid values may be
 -- last
-pub whole_fields : {A : Type 0} {Ahead : A → EncodingRules → List ℕ → ℕ → Type 0}
+pub whole_fields : {A : Type 0} {Next : A → EncodingRules → List ℕ → ℕ → Type 0}
     {valid : A → Type 0} {encoding : A → List ℕ} {P : A → List ℕ → Type 0}
-    → ReadsFields Ahead valid encoding P → ((v : A) → valid v → P v [])
-    → ReadsWholeEncodings Ahead valid encoding
-whole_fields {A} {Ahead} {valid} {encoding} {P} reads last = record { only = from; every = to }
+    → ReadsFields Next valid encoding P → ((v : A) → valid v → P v [])
+    → ReadsWholeEncodings Next valid encoding
+whole_fields {A} {Next} {valid} {encoding} {P} reads last = record { only = from; every = to }
   where
     no_more : (l : List ℕ) → length l ≡ 0 → l ≡ []
     no_more [] h = refl
     no_more (x ∷ xs) h = absurd (omega arith)
 
-    from : (octets : List ℕ) (v : A) → Whole (Ahead v) Der octets → valid v × (octets ≡ encoding v)
+    from : (octets : List ℕ) (v : A) → Whole (Next v) Der octets → valid v × (octets ≡ encoding v)
     from octets v h =
         let e = reads.only octets v (length octets) h in
-        let none : e.behind ≡ [] =
-        no_more e.behind
-        (omega (arith, e.whole, ap length e.split, length-append (encoding v) e.behind)) in
+        let none : e.following ≡ [] =
+        no_more e.following
+        (omega (arith, e.whole, ap length e.split, length-append (encoding v) e.following)) in
         (e.is_valid, e.split ∙ ap (λ x. encoding v ++ x) none ∙ append-nil (encoding v))
 
     to : (octets : List ℕ) (v : A) → length octets < 2 ^ 32 → valid v → octets ≡ encoding v
-        → Whole (Ahead v) Der octets
+        → Whole (Next v) Der octets
     to octets v short is e =
         reads.every octets v (length octets) short
         (record {
           is_valid = is;
-          behind = [];
+          following = [];
           split = e ∙ sym (append-nil (encoding v));
           whole = ap length e;
           precedes = last v is;
         })
 
 -- a type whose contents are exactly one field, converted from another type, is lawful
-pub fields_lawful : {A B : Type 0} {Ahead : A → EncodingRules → List ℕ → ℕ → Type 0}
+pub fields_lawful : {A B : Type 0} {Next : A → EncodingRules → List ℕ → ℕ → Type 0}
     {valid : A → Type 0} {encoding : A → List ℕ} {P : A → List ℕ → Type 0} (tag : Tag)
-    (levels : EncodingRules → ℕ) (f : B → A) → ReadsFields Ahead valid encoding P
+    (levels : EncodingRules → ℕ) (f : B → A) → ReadsFields Next valid encoding P
     → ((v : A) → valid v → P v []) → levels Der ≤ 63 → (label tag).number < 2 ^ 32
-    → IsLawful tag (λ b. TakesWhole Ahead (f b)) (λ b. valid (f b)) (λ b. encoding (f b)) levels
-fields_lawful {A} {B} {Ahead} {valid} {encoding} tag levels f reads last shallow numbered =
+    → IsLawful tag (λ b. TakesWhole Next (f b)) (λ b. valid (f b)) (λ b. encoding (f b)) levels
+fields_lawful {A} {B} {Next} {valid} {encoding} tag levels f reads last shallow numbered =
     record {
       exact = λ octets b short.
           (let whole = whole_fields reads last in (
@@ -150,29 +150,29 @@ fewer_tags among (nothing e) = nothing e
 fewer_tags among (other t n h not) = other t n h (λ s. not (among t s))
 
 -- the octets of a tag begin with that tag
-pub tag_stands : (t : Tag) (more : List ℕ) → (label t).number < 2 ^ 32
-    → TagAhead t Der (tag_octets t ++ more) (length (tag_octets t))
-tag_stands t more numbered = ((label t).constructed, identifier more (of_tag numbered))
+pub tag_octets_begin_with_tag : (t : Tag) (more : List ℕ) → (label t).number < 2 ^ 32
+    → TagNext t Der (tag_octets t ++ more) (length (tag_octets t))
+tag_octets_begin_with_tag t more numbered = ((label t).constructed, identifier more (of_tag numbered))
 
 -- octets that begin with a tag of one set begin with no tag of a disjoint set
-pub starts_apart : {tags stops : Tag → Type 0} (octets behind : List ℕ)
+pub starts_apart : {tags stops : Tag → Type 0} (octets following : List ℕ)
     → ((t : Tag) → stops t → tags t → ⊥) → StartsIn tags octets
-    → NoTagIn stops Der (octets ++ behind)
-starts_apart {tags} {stops} octets behind apart s =
-    let whole : octets ++ behind ≡ tag_octets s.tag ++ (s.more ++ behind) =
-    ap (λ x. x ++ behind) s.split ∙ append_assoc (tag_octets s.tag) s.more behind in
+    → NoTagIn stops Der (octets ++ following)
+starts_apart {tags} {stops} octets following apart s =
+    let whole : octets ++ following ≡ tag_octets s.tag ++ (s.more ++ following) =
+    ap (λ x. x ++ following) s.split ∙ append_assoc (tag_octets s.tag) s.more following in
     other s.tag (length (tag_octets s.tag))
-    (subst (λ x. TagAhead s.tag Der x (length (tag_octets s.tag))) (sym whole)
-    (tag_stands s.tag (s.more ++ behind) s.numbered)) (λ h. apart s.tag h s.among)
+    (subst (λ x. TagNext s.tag Der x (length (tag_octets s.tag))) (sym whole)
+    (tag_octets_begin_with_tag s.tag (s.more ++ following) s.numbered)) (λ h. apart s.tag h s.among)
 
 -- octets that begin with a tag still do if more octets are appended
-pub starts_append : {tags : Tag → Type 0} (octets behind : List ℕ) → StartsIn tags octets
-    → StartsIn tags (octets ++ behind)
-starts_append octets behind s =
+pub starts_append : {tags : Tag → Type 0} (octets following : List ℕ) → StartsIn tags octets
+    → StartsIn tags (octets ++ following)
+starts_append octets following s =
     record {
       tag = s.tag;
-      more = s.more ++ behind;
-      split = ap (λ x. x ++ behind) s.split ∙ append_assoc (tag_octets s.tag) s.more behind;
+      more = s.more ++ following;
+      split = ap (λ x. x ++ following) s.split ∙ append_assoc (tag_octets s.tag) s.more following;
       numbered = s.numbered;
       among = s.among;
     }
@@ -216,7 +216,7 @@ starts_so_may one = record { starts = λ v is. inr (one.starts v is) }
 -- a field that anything may follow has no tags that must not follow it
 pub anything_precedes : {A : Type 0} (valid : A → Type 0) (stops : Tag → Type 0)
     → PrecedesBut valid Anything stops
-anything_precedes valid stops = record { precedes = λ v behind is none. tt }
+anything_precedes valid stops = record { precedes = λ v following is none. tt }
 
 pub pair_may_start : {A B : Type 0} {is_first : A → Type 0} {is_second : B → Type 0}
     {first : A → List ℕ} {second : B → List ℕ} {tags more : Tag → Type 0}
@@ -245,10 +245,10 @@ module _ {A B : Type 0} {is_first : A → Type 0} {is_second : B → Type 0} {se
       (BothPrecede second P Q) second_stops
   pair_precedes one two follow apart =
       record {
-        precedes = λ v behind is none. (
-          one.precedes v.0 (second v.1 ++ behind) is.0
-              (starts_apart (second v.1) behind apart (follow.starts v.1 is.1)),
-          two.precedes v.1 behind is.1 none,
+        precedes = λ v following is none. (
+          one.precedes v.0 (second v.1 ++ following) is.0
+              (starts_apart (second v.1) following apart (follow.starts v.1 is.1)),
+          two.precedes v.1 following is.1 none,
         );
       }
 
@@ -260,19 +260,19 @@ module _ {A B : Type 0} {is_first : A → Type 0} {is_second : B → Type 0} {se
       (either_tags first_stops second_stops)
   pair_precedes_absent one two follow apart =
       record {
-        precedes = λ v behind is none. (
-          one.precedes v.0 (second v.1 ++ behind) is.0 (go v behind none (follow.starts v.1 is.1)),
-          two.precedes v.1 behind is.1 (fewer_tags (λ t h. inr h) none),
+        precedes = λ v following is none. (
+          one.precedes v.0 (second v.1 ++ following) is.0 (go v following none (follow.starts v.1 is.1)),
+          two.precedes v.1 following is.1 (fewer_tags (λ t h. inr h) none),
         );
       }
     where
-      go : (v : A × B) (behind : List ℕ) → NoTagIn (either_tags first_stops second_stops) Der behind
+      go : (v : A × B) (following : List ℕ) → NoTagIn (either_tags first_stops second_stops) Der following
           → (second v.1 ≡ []) ⊎ StartsIn tags (second v.1)
-          → NoTagIn first_stops Der (second v.1 ++ behind)
-      go v behind none (inl e) =
-          subst (λ x. NoTagIn first_stops Der (x ++ behind)) (sym e)
+          → NoTagIn first_stops Der (second v.1 ++ following)
+      go v following none (inl e) =
+          subst (λ x. NoTagIn first_stops Der (x ++ following)) (sym e)
           (fewer_tags (λ t h. inl h) none)
-      go v behind none (inr s) = starts_apart (second v.1) behind apart s
+      go v following none (inr s) = starts_apart (second v.1) following apart s
 
 -- valid values may be the last in a SEQUENCE
 pub last_of : {A : Type 0} {valid : A → Type 0} {P : A → List ℕ → Type 0} {stops : Tag → Type 0}

@@ -31,7 +31,7 @@ pub data WalkAnswer {T E : Type 0} (converts : Error → E → Type 0)
     : ReaderState → Type 0 where
   walk_ends : {s : ReaderState} → s.end ≡ s.position → result ≡ Ok tt
       → WalkAnswer converts reads result s
-  walk_goes_on : {s : ReaderState} (t : ReaderState) (v : T) → (s.end ≡ s.position → ⊥)
+  items_continue : {s : ReaderState} (t : ReaderState) (v : T) → (s.end ≡ s.position → ⊥)
       → ItemAnswer converts reads s (Ok v) t → WalkAnswer converts reads result t
       → WalkAnswer converts reads result s
   walk_refused : {s : ReaderState} (t : ReaderState) (e : E) → (s.end ≡ s.position → ⊥)
@@ -44,25 +44,25 @@ abbrev pub ListWalked : {T E : Type 0} → (Error → E → Type 0)
 ListWalked converts reads result octets =
     WalkAnswer converts reads result (initial_state Der octets)
 
--- elements after the octets `ahead` are read up to the end, or up to the first error; an element
+-- elements after the octets `next` are read up to the end, or up to the first error; an element
 -- that is smaller than the one before it is an error at its start (X.690 11.6)
 pub data SetAnswer {T E : Type 0} (converts : Error → E → Type 0)
     (reads : ReaderState → Result T E → ReaderState → Type 0) (result : Result (Unit {0}) E)
     : List ℕ → ReaderState → Type 0 where
-  set_ends : {ahead : List ℕ} {s : ReaderState} → s.end ≡ s.position → result ≡ Ok tt
-      → SetAnswer converts reads result ahead s
-  set_goes_on : {ahead : List ℕ} {s : ReaderState} (element : List ℕ) (t : ReaderState) (v : T)
+  set_ends : {next : List ℕ} {s : ReaderState} → s.end ≡ s.position → result ≡ Ok tt
+      → SetAnswer converts reads result next s
+  set_continues : {next : List ℕ} {s : ReaderState} (element : List ℕ) (t : ReaderState) (v : T)
       → (s.end ≡ s.position → ⊥) → ItemAnswer converts reads s (Ok v) t
-      → rest_of s ≡ element ++ rest_of t → (IsBefore element ahead → ⊥)
-      → SetAnswer converts reads result element t → SetAnswer converts reads result ahead s
-  set_refused : {ahead : List ℕ} {s : ReaderState} (t : ReaderState) (e : E)
+      → rest_of s ≡ element ++ rest_of t → (IsBefore element next → ⊥)
+      → SetAnswer converts reads result element t → SetAnswer converts reads result next s
+  set_refused : {next : List ℕ} {s : ReaderState} (t : ReaderState) (e : E)
       → (s.end ≡ s.position → ⊥) → ItemAnswer converts reads s (Err e) t → result ≡ Err e
-      → SetAnswer converts reads result ahead s
-  set_disordered : {ahead : List ℕ} {s : ReaderState} (element : List ℕ) (t : ReaderState) (v : T)
+      → SetAnswer converts reads result next s
+  set_disordered : {next : List ℕ} {s : ReaderState} (element : List ℕ) (t : ReaderState) (v : T)
       (e : E) → (s.end ≡ s.position → ⊥) → ItemAnswer converts reads s (Ok v) t
-      → rest_of s ≡ element ++ rest_of t → IsBefore element ahead
+      → rest_of s ≡ element ++ rest_of t → IsBefore element next
       → converts (error_at SetOrdering (reader_position s)) e → result ≡ Err e
-      → SetAnswer converts reads result ahead s
+      → SetAnswer converts reads result next s
 
 -- the result of reading all elements of these contents as a set
 abbrev pub SetWalked : {T E : Type 0} → (Error → E → Type 0)

@@ -1,18 +1,18 @@
--- OPTIONAL fields (X.690 8.9.3): `OptionAhead`, and the possible results of reading and writing one
+-- OPTIONAL fields (X.690 8.9.3): `OptionNext`, and the possible results of reading and writing one
 -- (`OptionRead`, `OptionWritten`).
 use Rattle.std.specs.Prelude.{◌≡◌, ℕ, true, List, [], Option, Some, None, Result, Ok, Err}
 use Rattle.der.specs.Prelude.{Tag, EncodingRules, Der, Error, definite_length, Length, WriterAnswer}
 use Rattle.der.specs.Prelude.{map_ok, ReaderState}
-use Rattle.der.specs.HeaderGrammar.{TagAhead}
+use Rattle.der.specs.HeaderGrammar.{TagNext}
 use Rattle.der.specs.Tag.{IdentifierFault}
 use Rattle.der.specs.Decode.{Peeks}
 use Rattle.der_asn1.specs.Follow.{NoTagIn}
 
 -- a value, or nothing if none of its tags is next
-abbrev pub OptionAhead : {A : Type 0} → (Tag → Type 0)
+abbrev pub OptionNext : {A : Type 0} → (Tag → Type 0)
     → (A → EncodingRules → List ℕ → ℕ → Type 0) → Option A → EncodingRules → List ℕ → ℕ → Type 0
-OptionAhead tags Ahead None rules octets m = (m ≡ 0) × NoTagIn tags rules octets
-OptionAhead tags Ahead (Some v) rules octets m = Ahead v rules octets m
+OptionNext tags Next None rules octets m = (m ≡ 0) × NoTagIn tags rules octets
+OptionNext tags Next (Some v) rules octets m = Next v rules octets m
 
 abbrev pub IsOptional : {A : Type 0} → (A → Type 0) → Option A → Type 0
 IsOptional valid None = Unit {0}
@@ -24,8 +24,8 @@ option_encoding encoding (Some v) = encoding v
 
 abbrev pub OptionPrecedes : {A : Type 0} → (Tag → Type 0) → (A → List ℕ → Type 0) → Option A
     → List ℕ → Type 0
-OptionPrecedes tags MayPrecede None behind = NoTagIn tags Der behind
-OptionPrecedes tags MayPrecede (Some v) behind = MayPrecede v behind
+OptionPrecedes tags MayPrecede None following = NoTagIn tags Der following
+OptionPrecedes tags MayPrecede (Some v) following = MayPrecede v following
 
 -- the result of reading: nothing at the end or if another tag is next; else the value
 pub data OptionRead {A E : Type 0} (tags : Tag → Type 0) (converts : Error → E → Type 0)
@@ -33,11 +33,11 @@ pub data OptionRead {A E : Type 0} (tags : Tag → Type 0) (converts : Error →
     (result : Result (Option A) E) (t : ReaderState) : Type 0 where
   at_end : s.end ≡ s.position → result ≡ Ok None → t ≡ s
       → OptionRead tags converts answers s result t
-  no_tag : (e : Error) (f : E) → Peeks TagAhead IdentifierFault true s (Err e) → converts e f
+  no_tag : (e : Error) (f : E) → Peeks TagNext IdentifierFault true s (Err e) → converts e f
       → result ≡ Err f → t ≡ s → OptionRead tags converts answers s result t
-  other_tag : (u : Tag) → Peeks TagAhead IdentifierFault true s (Ok u) → (tags u → ⊥)
+  other_tag : (u : Tag) → Peeks TagNext IdentifierFault true s (Ok u) → (tags u → ⊥)
       → result ≡ Ok None → t ≡ s → OptionRead tags converts answers s result t
-  chosen : (u : Tag) (r : Result A E) → Peeks TagAhead IdentifierFault true s (Ok u) → tags u
+  chosen : (u : Tag) (r : Result A E) → Peeks TagNext IdentifierFault true s (Ok u) → tags u
       → answers s r t → result ≡ map_ok Some r → OptionRead tags converts answers s result t
 
 -- the number of octets

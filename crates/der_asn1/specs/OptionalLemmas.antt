@@ -2,42 +2,42 @@
 use Rattle.std.proofs.Common.{◌≡◌, ℕ, ◌^◌, ◌<◌, ◌⊎◌, inl, inr, List, [], length, Option, Some, None}
 use Rattle.std.proofs.Common.{refl, sym, subst}
 use Rattle.der.specs.Prelude.{Tag, EncodingRules, Der}
-use Rattle.der_asn1.specs.Follow.{FieldAhead, ReadsFields, NoTagIn, StartsIn, Starts, MayStart}
+use Rattle.der_asn1.specs.Follow.{FieldNext, ReadsFields, NoTagIn, StartsIn, Starts, MayStart}
 use Rattle.der_asn1.specs.Follow.{PrecedesBut, either_tags}
-use Rattle.der_asn1.specs.Optional.{OptionAhead, IsOptional, option_encoding, OptionPrecedes}
+use Rattle.der_asn1.specs.Optional.{OptionNext, IsOptional, option_encoding, OptionPrecedes}
 use Rattle.der_asn1.specs.FollowLemmas.{fewer_tags}
 
-module _ {A : Type 0} {tags : Tag → Type 0} {Ahead : A → EncodingRules → List ℕ → ℕ → Type 0}
+module _ {A : Type 0} {tags : Tag → Type 0} {Next : A → EncodingRules → List ℕ → ℕ → Type 0}
     {valid : A → Type 0} {encoding : A → List ℕ} {P : A → List ℕ → Type 0} where
-  pub options_are_fields : ReadsFields Ahead valid encoding P
-      → ReadsFields (OptionAhead tags Ahead) (IsOptional valid) (option_encoding encoding)
+  pub options_are_fields : ReadsFields Next valid encoding P
+      → ReadsFields (OptionNext tags Next) (IsOptional valid) (option_encoding encoding)
       (OptionPrecedes tags P)
   options_are_fields reads = record { only = from; every = to }
     where
-      from : (octets : List ℕ) (v : Option A) (m : ℕ) → OptionAhead tags Ahead v Der octets m
-          → FieldAhead (IsOptional valid) (option_encoding encoding)
+      from : (octets : List ℕ) (v : Option A) (m : ℕ) → OptionNext tags Next v Der octets m
+          → FieldNext (IsOptional valid) (option_encoding encoding)
           (OptionPrecedes tags P) v octets m
       from octets None m h =
-          record { is_valid = tt; behind = octets; split = refl; whole = h.0; precedes = h.1 }
+          record { is_valid = tt; following = octets; split = refl; whole = h.0; precedes = h.1 }
       from octets (Some v) m h =
           let e = reads.only octets v m h in
           record {
             is_valid = e.is_valid;
-            behind = e.behind;
+            following = e.following;
             split = e.split;
             whole = e.whole;
             precedes = e.precedes;
           }
 
       to : (octets : List ℕ) (v : Option A) (m : ℕ) → length octets < 2 ^ 32
-          → FieldAhead (IsOptional valid) (option_encoding encoding)
-          (OptionPrecedes tags P) v octets m → OptionAhead tags Ahead v Der octets m
+          → FieldNext (IsOptional valid) (option_encoding encoding)
+          (OptionPrecedes tags P) v octets m → OptionNext tags Next v Der octets m
       to octets None m short e = (e.whole, subst (NoTagIn tags Der) (sym e.split) e.precedes)
       to octets (Some v) m short e =
           reads.every octets v m short
           (record {
             is_valid = e.is_valid;
-            behind = e.behind;
+            following = e.following;
             split = e.split;
             whole = e.whole;
             precedes = e.precedes;
@@ -59,7 +59,7 @@ pub option_precedes : {A : Type 0} (tags : Tag → Type 0) {valid : A → Type 0
     → PrecedesBut (IsOptional valid) (OptionPrecedes tags P) (either_tags tags stops)
 option_precedes {A} tags {valid} {P} {stops} one = record { precedes = go }
   where
-    go : (v : Option A) (behind : List ℕ) → IsOptional valid v
-        → NoTagIn (either_tags tags stops) Der behind → OptionPrecedes tags P v behind
-    go None behind is none = fewer_tags (λ t h. inl h) none
-    go (Some v) behind is none = one.precedes v behind is (fewer_tags (λ t h. inr h) none)
+    go : (v : Option A) (following : List ℕ) → IsOptional valid v
+        → NoTagIn (either_tags tags stops) Der following → OptionPrecedes tags P v following
+    go None following is none = fewer_tags (λ t h. inl h) none
+    go (Some v) following is none = one.precedes v following is (fewer_tags (λ t h. inr h) none)

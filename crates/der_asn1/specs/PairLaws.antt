@@ -1,7 +1,7 @@
 -- The laws of two fields in sequence, from the checks of each (`pair_set`).
 use Rattle.std.proofs.Common.{◌≡◌, ◌↔◌, ◌⊎◌, inl, inr, ℕ, ◌&&◌, ◌||◌, Bool, true, false, List, [], ◌++◌, Option}
 use Rattle.std.proofs.Common.{sym, subst, refl}
-use Rattle.der.specs.Prelude.{Tag, EncodingRules, FieldsAhead}
+use Rattle.der.specs.Prelude.{Tag, EncodingRules, FieldsNext}
 use Rattle.der_asn1.specs.Follow.{Starts, StartsIn, BothPrecede, either_tags}
 use Rattle.der_asn1.specs.FollowLemmas.{starts_append, starts_wider}
 use Rattle.der_asn1.specs.FieldLaws.{pair_laws, pair_laws_absent, seen_laws}
@@ -52,7 +52,7 @@ module _ {A B : Type 0} {a b : Bool} {first second one_stops two_stops : List (O
 
   pair_go : are_apart one_stops second ≡ true → {C : Type 0} (f : C → A × B) (c : Bool) → b ≡ c
       → SetLaws (a || b) (first ++ second) (pair_stops c one_stops two_stops)
-      (λ x. BothPrecede two_octets P Q (f x)) (λ x. FieldsAhead First Second (f x))
+      (λ x. BothPrecede two_octets P Q (f x)) (λ x. FieldsNext First Second (f x))
       (λ x. is_first (f x).0 × is_second (f x).1) (λ x. one_octets (f x).0 ++ two_octets (f x).1)
   pair_go apart f true e =
       set_of (a || b) (first ++ second) two_stops
@@ -81,7 +81,7 @@ pub pair_set : {A B C : Type 0} {a b one_fits two_fits : Bool}
     → (two_fits ≡ true → SetLaws b second two_stops Q Second is_second two_octets)
     → SetLaws (a || b) (first ++ second) (pair_stops b one_stops two_stops)
     (λ c. BothPrecede two_octets P Q (f c))
-    (λ c. FieldsAhead First Second (f c)) (λ c. is_first (f c).0 × is_second (f c).1)
+    (λ c. FieldsNext First Second (f c)) (λ c. is_first (f c).0 × is_second (f c).1)
     (λ c. one_octets (f c).0 ++ two_octets (f c).1)
 pair_set {b = b} {one_fits} {two_fits} {second = second} {one_stops} f e one two =
     let p = both_true (are_apart one_stops second) (one_fits && two_fits) e in

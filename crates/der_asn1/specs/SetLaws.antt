@@ -1,41 +1,41 @@
--- The laws of fields whose tags are decidable sets (`SetLaws`, `ToldLaws`), so that a computed
+-- The laws of fields whose tags are decidable sets (`SetLaws`, `DecidedByTagLaws`), so that a computed
 -- check decides whether fields may follow each other.
 use Rattle.std.proofs.Common.{◌≡◌, ◌⊎◌, inl, inr, ℕ, Bool, true, false}
 use Rattle.std.proofs.Common.{if◌then◌else◌, List, [], ◌∷◌, ◌++◌, Option, Some}
-use Rattle.der.specs.Prelude.{Head, Tag, EncodingRules, ElementAhead, element_octets}
+use Rattle.der.specs.Prelude.{Head, Tag, EncodingRules, ElementNext, element_octets}
 use Rattle.der.specs.Prelude.{IsLawful}
-use Rattle.der_asn1.specs.Default.{DefaultAhead, IsDefaulted, default_encoding, DefaultPrecedes}
+use Rattle.der_asn1.specs.Default.{DefaultNext, IsDefaulted, default_encoding, DefaultPrecedes}
 use Rattle.der_asn1.specs.DefaultLaws.{default_laws}
 use Rattle.der_asn1.specs.Follow.{Starts, StartsIn, MayStart, PrecedesBut, ReadsFields, Anything}
 use Rattle.der_asn1.specs.Follow.{this_tag, either_tags}
 use Rattle.der_asn1.specs.FollowLemmas.{starts_wider, fewer_tags}
 use Rattle.der_asn1.specs.FieldLaws.{FieldLaws, SomeLaws, element_laws, seen_laws, seen_reads}
 use Rattle.der_asn1.specs.FieldLaws.{optional_laws}
-use Rattle.der_asn1.specs.Optional.{OptionAhead, IsOptional, option_encoding, OptionPrecedes}
+use Rattle.der_asn1.specs.Optional.{OptionNext, IsOptional, option_encoding, OptionPrecedes}
 use Rattle.der_asn1.specs.TagSets.{IsIn}
 use Rattle.der_asn1.specs.TagSetLemmas.{in_either}
 
 -- a field is read as it is written, begins with a tag of the set `first`, may precede octets that
 -- begin with no tag of the set `stops`, and is never empty if `always` is true
 pub record SetLaws {A : Type 0} (always : Bool) (first stops : List (Option Tag))
-    (Precedes : A → List ℕ → Type 0) (Ahead : A → EncodingRules → List ℕ → ℕ → Type 0)
+    (Precedes : A → List ℕ → Type 0) (Next : A → EncodingRules → List ℕ → ℕ → Type 0)
     (valid : A → Type 0) (encoding : A → List ℕ) : Type 0 where
-  pub reads : ReadsFields Ahead valid encoding Precedes
+  pub reads : ReadsFields Next valid encoding Precedes
   pub starts : MayStart valid encoding (IsIn first)
   pub some : always ≡ true → Starts valid encoding (IsIn first)
   pub precedes : PrecedesBut valid Precedes (IsIn stops)
-  pub holds : (v : A) (rules : EncodingRules) (octets : List ℕ) (m : ℕ) → Ahead v rules octets m
+  pub holds : (v : A) (rules : EncodingRules) (octets : List ℕ) (m : ℕ) → Next v rules octets m
       → valid v
 
 -- a field that is never empty, and for which the next tag decides whether it is present
-pub record ToldLaws {A : Type 0} (tags : Tag → Type 0) (first stops : List (Option Tag))
-    (Precedes : A → List ℕ → Type 0) (Ahead : A → EncodingRules → List ℕ → ℕ → Type 0)
+pub record DecidedByTagLaws {A : Type 0} (tags : Tag → Type 0) (first stops : List (Option Tag))
+    (Precedes : A → List ℕ → Type 0) (Next : A → EncodingRules → List ℕ → ℕ → Type 0)
     (valid : A → Type 0) (encoding : A → List ℕ) : Type 0 where
-  pub reads : ReadsFields Ahead valid encoding Precedes
+  pub reads : ReadsFields Next valid encoding Precedes
   pub starts : Starts valid encoding tags
   pub among : (t : Tag) → tags t → IsIn first t
   pub precedes : PrecedesBut valid Precedes (IsIn stops)
-  pub holds : (v : A) (rules : EncodingRules) (octets : List ℕ) (m : ℕ) → Ahead v rules octets m
+  pub holds : (v : A) (rules : EncodingRules) (octets : List ℕ) (m : ℕ) → Next v rules octets m
       → valid v
 
 pub may_starts : {A : Type 0} {valid : A → Type 0} {encoding : A → List ℕ}
@@ -57,16 +57,16 @@ precedes_fewer : {A : Type 0} {valid : A → Type 0} {P : A → List ℕ → Typ
     {stops more : Tag → Type 0} → ((t : Tag) → stops t → more t) → PrecedesBut valid P stops
     → PrecedesBut valid P more
 precedes_fewer wider one =
-    record { precedes = λ v behind is none. one.precedes v behind is (fewer_tags wider none) }
+    record { precedes = λ v following is none. one.precedes v following is (fewer_tags wider none) }
 
 -- laws whose tags are in these sets
-module _ {A : Type 0} {Ahead : A → EncodingRules → List ℕ → ℕ → Type 0} {valid : A → Type 0}
+module _ {A : Type 0} {Next : A → EncodingRules → List ℕ → ℕ → Type 0} {valid : A → Type 0}
     {encoding : A → List ℕ} where
   pub set_of : (always : Bool) (first stops : List (Option Tag))
-      (one : FieldLaws Ahead valid encoding)
+      (one : FieldLaws Next valid encoding)
       → ((t : Tag) → one.tags t → IsIn first t) → ((t : Tag) → one.stops t → IsIn stops t)
       → (always ≡ true → Starts valid encoding one.tags)
-      → SetLaws always first stops one.Precedes Ahead valid encoding
+      → SetLaws always first stops one.Precedes Next valid encoding
   set_of always first stops one first_in stops_in some =
       record {
         reads = one.reads;
@@ -78,7 +78,7 @@ module _ {A : Type 0} {Ahead : A → EncodingRules → List ℕ → ℕ → Type
       }
 
   abbrev pub laws_of : {always : Bool} {first stops : List (Option Tag)} {P : A → List ℕ → Type 0}
-      → SetLaws always first stops P Ahead valid encoding → FieldLaws Ahead valid encoding
+      → SetLaws always first stops P Next valid encoding → FieldLaws Next valid encoding
   laws_of {first = first} {stops} {P} one =
       record {
         Precedes = P;
@@ -91,8 +91,8 @@ module _ {A : Type 0} {Ahead : A → EncodingRules → List ℕ → ℕ → Type
       }
 
   abbrev pub some_of : {tags : Tag → Type 0} {first stops : List (Option Tag)}
-      {P : A → List ℕ → Type 0} → ToldLaws tags first stops P Ahead valid encoding
-      → SomeLaws Ahead valid encoding
+      {P : A → List ℕ → Type 0} → DecidedByTagLaws tags first stops P Next valid encoding
+      → SomeLaws Next valid encoding
   some_of {tags} {stops = stops} {P} one =
       record {
         laws = record {
@@ -107,11 +107,11 @@ module _ {A : Type 0} {Ahead : A → EncodingRules → List ℕ → ℕ → Type
         some = one.starts;
       }
 
-  pub told_of : (tags : Tag → Type 0) (first stops : List (Option Tag))
-      (one : SomeLaws Ahead valid encoding) → Starts valid encoding tags
+  pub decided_by_tag_of : (tags : Tag → Type 0) (first stops : List (Option Tag))
+      (one : SomeLaws Next valid encoding) → Starts valid encoding tags
       → ((t : Tag) → tags t → IsIn first t) → ((t : Tag) → one.laws.stops t → IsIn stops t)
-      → ToldLaws tags first stops one.laws.Precedes Ahead valid encoding
-  told_of tags first stops one starts first_in stops_in =
+      → DecidedByTagLaws tags first stops one.laws.Precedes Next valid encoding
+  decided_by_tag_of tags first stops one starts first_in stops_in =
       record {
         reads = one.laws.reads;
         starts = starts;
@@ -120,22 +120,22 @@ module _ {A : Type 0} {Ahead : A → EncodingRules → List ℕ → ℕ → Type
         holds = one.laws.holds;
       }
 
-  pub told_set : {tags : Tag → Type 0} {first stops : List (Option Tag)} {P : A → List ℕ → Type 0}
-      → ToldLaws tags first stops P Ahead valid encoding
-      → SetLaws true first stops P Ahead valid encoding
-  told_set {first = first} {stops} one =
+  pub decided_by_tag_set : {tags : Tag → Type 0} {first stops : List (Option Tag)} {P : A → List ℕ → Type 0}
+      → DecidedByTagLaws tags first stops P Next valid encoding
+      → SetLaws true first stops P Next valid encoding
+  decided_by_tag_set {first = first} {stops} one =
       set_of true first stops (some_of one).laws one.among (λ t h. h) (λ e. one.starts)
 
 -- an element of a lawful type
-pub element_told : {A : Type 0} {tag : Tag} {takes : A → EncodingRules → Head → List ℕ → Type 0}
+pub element_decided_by_tag : {A : Type 0} {tag : Tag} {takes : A → EncodingRules → Head → List ℕ → Type 0}
     {valid : A → Type 0} {contents : A → List ℕ} {levels : EncodingRules → ℕ}
     → IsLawful tag takes valid contents levels
     → ((v : A) (rules : EncodingRules) (h : Head) (octets : List ℕ) → takes v rules h octets
     → valid v)
-    → ToldLaws (this_tag tag) (Some tag ∷ []) [] Anything (ElementAhead tag takes) valid
+    → DecidedByTagLaws (this_tag tag) (Some tag ∷ []) [] Anything (ElementNext tag takes) valid
     (λ v. element_octets tag (contents v))
-element_told {tag = tag} lawful takes_valid =
-    told_of (this_tag tag) (Some tag ∷ []) [] (element_laws lawful takes_valid)
+element_decided_by_tag {tag = tag} lawful takes_valid =
+    decided_by_tag_of (this_tag tag) (Some tag ∷ []) [] (element_laws lawful takes_valid)
     (element_laws lawful takes_valid).some (λ t h. inl h) (λ t h. h)
 
 either_in : (ts us : List (Option Tag)) (f g : Tag → Type 0) → ((t : Tag) → f t → IsIn ts t)
@@ -146,11 +146,11 @@ either_in ts us f g one two t (inr h) = in_either ts us t (inr (two t h))
 -- an OPTIONAL field and a DEFAULT field, each converted to another type
 module _ {A B : Type 0} {tags : Tag → Type 0} {first stops : List (Option Tag)}
     {P : A → List ℕ → Type 0}
-    {Ahead : A → EncodingRules → List ℕ → ℕ → Type 0} {valid : A → Type 0} {encoding : A → List ℕ}
-    (one : ToldLaws tags first stops P Ahead valid encoding) where
+    {Next : A → EncodingRules → List ℕ → ℕ → Type 0} {valid : A → Type 0} {encoding : A → List ℕ}
+    (one : DecidedByTagLaws tags first stops P Next valid encoding) where
   pub optional_set : (f : B → Option A)
       → SetLaws false first (first ++ stops) (λ b. OptionPrecedes tags P (f b))
-      (λ b. OptionAhead tags Ahead (f b)) (λ b. IsOptional valid (f b))
+      (λ b. OptionNext tags Next (f b)) (λ b. IsOptional valid (f b))
       (λ b. option_encoding encoding (f b))
   optional_set f =
       set_of false first (first ++ stops) (seen_laws f (optional_laws (some_of one))) one.among
@@ -159,7 +159,7 @@ module _ {A B : Type 0} {tags : Tag → Type 0} {first stops : List (Option Tag)
 
   pub default_set : (is_default : A → Bool) (f : B → A)
       → SetLaws false first (first ++ stops) (λ b. DefaultPrecedes tags is_default P (f b))
-      (λ b. DefaultAhead tags is_default Ahead (f b)) (λ b. IsDefaulted is_default valid (f b))
+      (λ b. DefaultNext tags is_default Next (f b)) (λ b. IsDefaulted is_default valid (f b))
       (λ b. default_encoding is_default encoding (f b))
   default_set is_default f =
       set_of false first (first ++ stops)
@@ -170,10 +170,10 @@ module _ {A B : Type 0} {tags : Tag → Type 0} {first stops : List (Option Tag)
 -- a field converted to another type
 pub seen_set : {A B : Type 0} {always : Bool} {first stops : List (Option Tag)}
     {P : A → List ℕ → Type 0}
-    {Ahead : A → EncodingRules → List ℕ → ℕ → Type 0} {valid : A → Type 0} {encoding : A → List ℕ}
+    {Next : A → EncodingRules → List ℕ → ℕ → Type 0} {valid : A → Type 0} {encoding : A → List ℕ}
     (f : B → A)
-    → SetLaws always first stops P Ahead valid encoding
-    → SetLaws always first stops (λ b. P (f b)) (λ b. Ahead (f b)) (λ b. valid (f b))
+    → SetLaws always first stops P Next valid encoding
+    → SetLaws always first stops (λ b. P (f b)) (λ b. Next (f b)) (λ b. valid (f b))
     (λ b. encoding (f b))
 seen_set f one =
     record {
@@ -181,7 +181,7 @@ seen_set f one =
       starts = record { starts = λ b is. one.starts.starts (f b) is };
       some = λ e. record { starts = λ b is. (one.some e).starts (f b) is };
       precedes =
-          record { precedes = λ b behind is none. one.precedes.precedes (f b) behind is none };
+          record { precedes = λ b following is none. one.precedes.precedes (f b) following is none };
       holds = λ b. one.holds (f b);
     }
 

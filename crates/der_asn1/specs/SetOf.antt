@@ -4,24 +4,24 @@ use Rattle.std.specs.Prelude.{◌≡◌, ℕ, List, [], ◌∷◌}
 use Rattle.der.specs.Prelude.{Tag, element_octets, IsBefore}
 use Rattle.der_asn1.specs.SequenceOf.{IsListOf}
 
--- no encoding is smaller than the one before it; the octets before the first are `ahead`
-abbrev pub Ascend : {A : Type 0} → (A → List ℕ) → List ℕ → List A → Type 0
-Ascend encoding ahead [] = Unit {0}
-Ascend encoding ahead (v ∷ vs) = (IsBefore (encoding v) ahead → ⊥) × Ascend encoding (encoding v) vs
+-- no encoding is smaller than the one before it; the octets before the first are `next`
+abbrev pub EncodingsAscendAfter : {A : Type 0} → (A → List ℕ) → List ℕ → List A → Type 0
+EncodingsAscendAfter encoding next [] = Unit {0}
+EncodingsAscendAfter encoding next (v ∷ vs) = (IsBefore (encoding v) next → ⊥) × EncodingsAscendAfter encoding (encoding v) vs
 
--- octets are the encodings of valid values, in sequence and in ascending order after `ahead`
-pub record IsSetBehind {A : Type 0} (valid : A → Type 0) (encoding : A → List ℕ)
-    (ahead octets : List ℕ) : Type 0 where
+-- octets are the encodings of valid values, in sequence and in ascending order after `next`
+pub record IsSetAfter {A : Type 0} (valid : A → Type 0) (encoding : A → List ℕ)
+    (next octets : List ℕ) : Type 0 where
   pub list : IsListOf valid encoding octets
-  pub ascend : Ascend encoding ahead list.items
+  pub ascend : EncodingsAscendAfter encoding next list.items
 
 -- octets are the elements of valid values with this tag, in ascending order
 abbrev pub AreAscending : {A : Type 0} → Tag → (A → Type 0) → (A → List ℕ) → List ℕ → Type 0
 AreAscending tag valid contents octets =
-    IsSetBehind valid (λ v. element_octets tag (contents v)) [] octets
+    IsSetAfter valid (λ v. element_octets tag (contents v)) [] octets
 
 -- octets are the element of a valid value
-pub record IsElement {A : Type 0} (tag : Tag) (valid : A → Type 0) (contents : A → List ℕ)
+pub record IsEncodedElement {A : Type 0} (tag : Tag) (valid : A → Type 0) (contents : A → List ℕ)
     (octets : List ℕ) : Type 0 where
   pub value : A
   pub is_valid : valid value

@@ -3,7 +3,7 @@ ghost use Rattle.std.specs.Prelude.{◌≡◌, false};
 ghost use Rattle.der.specs.Prelude.{element_levels};
 ghost use Rattle.der_asn1.specs.AnyRef.{IsAny, TakesAny, AnyRead, any_contents, any_size};
 ghost use Rattle.der_asn1.specs.AnyRef.{AnyWritten};
-ghost use Rattle.der_asn1.specs.AnyElement.{AnyElementAhead, AnyElementRead};
+ghost use Rattle.der_asn1.specs.AnyElement.{AnyElementNext, AnyElementRead};
 
 use crate::element::decode_element;
 use der::{
@@ -47,7 +47,7 @@ impl<'a> ReadValue for AnyRef<'a> {
 /// # Errors
 ///
 /// As by [`Reader::read_slice`].
-impl<'a, R: Reader<Lent = &'a [u8]>> DecodeValue<R> for AnyRef<'a> {
+impl<'a, R: Reader<Borrowed = &'a [u8]>> DecodeValue<R> for AnyRef<'a> {
     type Error = Error;
 
     ghost decode_value_answers = { AnyRead };
@@ -69,10 +69,10 @@ impl<'a, R: Reader<Lent = &'a [u8]>> DecodeValue<R> for AnyRef<'a> {
 /// # Errors
 ///
 /// As by [`decode_element`].
-impl<'a, R: Reader<Lent = &'a [u8]>> Decode<R> for AnyRef<'a> {
+impl<'a, R: Reader<Borrowed = &'a [u8]>> Decode<R> for AnyRef<'a> {
     type Error = Error;
 
-    ghost stands_ahead = { AnyElementAhead TakesAny };
+    ghost is_next = { AnyElementNext TakesAny };
 
     ghost decode_levels = { element_levels (λ _. 0) };
 

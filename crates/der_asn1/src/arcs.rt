@@ -3,7 +3,7 @@ ghost use Rattle.std.specs.Prelude.{◌≡◌, true};
 ghost use Rattle.der_asn1.specs.Forms.{ends_subidentifiers};
 
 use crate::checked::Checked;
-use crate::object_identifier::ObjectIdentifierForm;
+use crate::object_identifier::ObjectIdentifierGrammar;
 use crate::subidentifier::{first_arc_of, first_subidentifier, narrow, second_arc_of};
 
 // Which arc is next.
@@ -19,10 +19,10 @@ enum Stage {
 pub struct Arcs<'a> {
     octets: &'a [u8],
     stage: Stage,
-    ghost form: { ends_subidentifiers true octets.now ≡ true },
+    ghost grammar: { ends_subidentifiers true octets.now ≡ true },
 }
 
-impl<'a> Checked<'a, ObjectIdentifierForm> {
+impl<'a> Checked<'a, ObjectIdentifierGrammar> {
     ghost use Rattle.der_asn1.specs.Arcs.{arcs_left, oid_arcs, oid_octets};
 
     /// An iterator over all arcs.
@@ -66,19 +66,19 @@ impl<'a> Iterator for Arcs<'a> {
         if self.octets.is_empty() {
             return None;
         }
-        let (number, behind) = first_subidentifier(self.octets);
+        let (number, following) = first_subidentifier(self.octets);
         match self.stage {
             Stage::First => {
                 self.stage = Stage::Second;
                 Some(Some(first_arc_of(number)))
             }
             Stage::Second => {
-                self.octets = behind;
+                self.octets = following;
                 self.stage = Stage::Other;
                 Some(second_arc_of(number))
             }
             Stage::Other => {
-                self.octets = behind;
+                self.octets = following;
                 Some(narrow(number))
             }
         }

@@ -5,17 +5,17 @@ ghost use Rattle.der.specs.Prelude.{BitString as BitTag};
 ghost use Rattle.der_asn1.specs.Forms.{bits_form, has_low_zeros};
 
 use crate::checked::Checked;
-use crate::form::Form;
+use crate::grammar::ContentsGrammar;
 use der::{FixedTag, Tag};
 
 /// Contents of a BIT STRING: the number of unused bits, and the octets, whose unused bits are zero
 /// (X.690 8.6.2, 11.2.1).
-pub struct BitStringForm;
+pub struct BitStringGrammar;
 
 /// A BIT STRING borrowed from the input. The first octet is the number of unused bits.
-pub type BitStringRef<'a> = Checked<'a, BitStringForm>;
+pub type BitStringRef<'a> = Checked<'a, BitStringGrammar>;
 
-impl FixedTag for BitStringForm {
+impl FixedTag for BitStringGrammar {
     ghost tag_is = { BitTag };
 
     const TAG: Tag = Tag::BitString;
@@ -26,11 +26,11 @@ impl FixedTag for BitStringForm {
     }
 }
 
-impl Form for BitStringForm {
-    ghost form = { bits_form };
+impl ContentsGrammar for BitStringGrammar {
+    ghost grammar = { bits_form };
 
     #[inline(always)]
-    fn has_form(octets: &[u8]) -> bool {
+    fn matches_grammar(octets: &[u8]) -> bool {
         let [unused, bits @ ..] = octets else {
             return false;
         };

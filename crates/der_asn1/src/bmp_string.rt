@@ -5,17 +5,17 @@ ghost use Rattle.std.specs.Prelude.{◌≡◌, ◌&&◌};
 ghost use Rattle.der_asn1.specs.Alphabets.{bmp_form, is_surrogate};
 
 use crate::checked::Checked;
-use crate::form::Form;
+use crate::grammar::ContentsGrammar;
 use der::{FixedTag, Tag};
 
 /// Contents of a BMPString: characters of the Basic Multilingual Plane, of two octets each (X.690
 /// 8.23.9).
-pub struct BmpStringForm;
+pub struct BmpStringGrammar;
 
 /// A BMPString borrowed from the input.
-pub type BmpStringRef<'a> = Checked<'a, BmpStringForm>;
+pub type BmpStringRef<'a> = Checked<'a, BmpStringGrammar>;
 
-impl FixedTag for BmpStringForm {
+impl FixedTag for BmpStringGrammar {
     ghost tag_is = { BmpTag };
 
     const TAG: Tag = Tag::BmpString;
@@ -25,10 +25,10 @@ impl FixedTag for BmpStringForm {
     }
 }
 
-impl Form for BmpStringForm {
-    ghost form = { bmp_form };
+impl ContentsGrammar for BmpStringGrammar {
+    ghost grammar = { bmp_form };
 
-    fn has_form(octets: &[u8]) -> bool {
+    fn matches_grammar(octets: &[u8]) -> bool {
         let mut starts = true;
         for octet in octets {
             if begins_surrogate(starts, *octet) {

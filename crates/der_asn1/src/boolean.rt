@@ -5,17 +5,17 @@ ghost use Rattle.der.specs.Prelude.{Boolean as BooleanTag};
 ghost use Rattle.der_asn1.specs.Forms.{boolean_form, is_false};
 
 use crate::checked::Checked;
-use crate::default_form::DefaultForm;
-use crate::form::Form;
+use crate::default_form::DefaultContents;
+use crate::grammar::ContentsGrammar;
 use der::{FixedTag, Tag};
 
 /// Contents of a BOOLEAN: `0x00` for false, `0xFF` for true (X.690 8.2, 11.1).
-pub struct BooleanForm;
+pub struct BooleanGrammar;
 
 /// A BOOLEAN borrowed from the input.
-pub type BooleanRef<'a> = Checked<'a, BooleanForm>;
+pub type BooleanRef<'a> = Checked<'a, BooleanGrammar>;
 
-impl FixedTag for BooleanForm {
+impl FixedTag for BooleanGrammar {
     ghost tag_is = { BooleanTag };
 
     const TAG: Tag = Tag::Boolean;
@@ -26,11 +26,11 @@ impl FixedTag for BooleanForm {
     }
 }
 
-impl Form for BooleanForm {
-    ghost form = { boolean_form };
+impl ContentsGrammar for BooleanGrammar {
+    ghost grammar = { boolean_form };
 
     #[inline(always)]
-    fn has_form(octets: &[u8]) -> bool {
+    fn matches_grammar(octets: &[u8]) -> bool {
         match octets {
             [octet] => *octet == 0 || *octet == 0xFF,
             _ => false,
@@ -40,7 +40,7 @@ impl Form for BooleanForm {
     ghost numbered = { Prim.omega arith };
 }
 
-impl<'a> Checked<'a, BooleanForm> {
+impl<'a> Checked<'a, BooleanGrammar> {
     /// Whether the value is true.
     pub fn is_true(&self) -> bool
         ensures { (result ≡ true) ↔ (self.now.octets.now ≡ 255 ∷ []) }
@@ -53,7 +53,7 @@ impl<'a> Checked<'a, BooleanForm> {
 }
 
 /// The default is false, as in modules that have a BOOLEAN with a default.
-impl DefaultForm for BooleanForm {
+impl DefaultContents for BooleanGrammar {
     ghost default_form = { is_false };
 
     #[inline(always)]

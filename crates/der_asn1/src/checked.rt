@@ -1,13 +1,13 @@
 //! Types whose contents are checked octets borrowed from the input.
 ghost use Rattle.std.specs.Prelude.{◌≡◌, true, false, IfSome, IsSome, ◌↔◌, ⊤};
 ghost use Rattle.std.proofs.Common.{arith, subst, sym};
-ghost use Rattle.der_asn1.specs.Checked.{HasForm, TakesForm, FormRead, form_size};
-ghost use Rattle.der_asn1.specs.Checked.{FormWritten, form_lawful};
+ghost use Rattle.der_asn1.specs.Checked.{HasCheckedContents, AcceptsCheckedContents, CheckedContentsRead, contents_size};
+ghost use Rattle.der_asn1.specs.Checked.{ContentsWritten, checked_contents_lawful};
 ghost use Rattle.der_asn1.specs.Meaning.{of_form};
 
 use crate::described::Described;
 use crate::explicit::Nestable;
-use crate::form::Form;
+use crate::grammar::ContentsGrammar;
 use der::{
     DecodeValue, EncodeValue, Error, FixedTag, Header, Lawful, Length, ReadValue, Reader, Tag,
     Writer, WrittenValue,
@@ -16,14 +16,14 @@ use std::alloc::{AllocError, Global};
 use std::marker::PhantomData;
 
 /// Octets borrowed from the input that are valid contents of a type (`F`).
-pub struct Checked<'a, F: Form> {
+pub struct Checked<'a, F: ContentsGrammar> {
     octets: &'a [u8],
-    form: PhantomData<F>,
-    ghost checked: { F.form octets.now ≡ true },
+    grammar: PhantomData<F>,
+    ghost checked: { F.grammar octets.now ≡ true },
 }
 
 /// A clone has the same octets; cloning does not allocate.
-impl<'a, F: Form> Clone for Checked<'a, F> {
+impl<'a, F: ContentsGrammar> Clone for Checked<'a, F> {
     ghost is_clone = { λ p q. q ≡ p };
 
     ghost is_infallible = { λ _. ⊤ };
@@ -33,19 +33,19 @@ impl<'a, F: Form> Clone for Checked<'a, F> {
     }
 }
 
-impl<'a, F: Form> Copy for Checked<'a, F> {}
+impl<'a, F: ContentsGrammar> Copy for Checked<'a, F> {}
 
-impl<'a, F: Form> Checked<'a, F> {
+impl<'a, F: ContentsGrammar> Checked<'a, F> {
     /// Wraps the octets if they are valid contents of the type, else `None`.
     #[inline(always)]
     pub fn new(octets: &'a [u8]) -> Option<Self>
-        ensures some { IsSome result ↔ (F.form octets.now ≡ true) }
+        ensures some { IsSome result ↔ (F.grammar octets.now ≡ true) }
         ensures same { IfSome result (λ v. v.octets.now ≡ octets.now) }
     {
-        if F::has_form(octets) {
+        if F::matches_grammar(octets) {
             Some(Checked {
                 octets,
-                form: PhantomData,
+                grammar: PhantomData,
             })
         } else {
             None
@@ -55,12 +55,12 @@ impl<'a, F: Form> Checked<'a, F> {
     // Wraps octets that are known to be valid contents.
     #[inline(always)]
     pub(crate) fn formed(octets: &'a [u8]) -> Self
-        requires { F.form octets.now ≡ true }
+        requires { F.grammar octets.now ≡ true }
         ensures { result.octets.now ≡ octets.now }
     {
         Checked {
             octets,
-            form: PhantomData,
+            grammar: PhantomData,
         }
     }
 
@@ -68,13 +68,13 @@ impl<'a, F: Form> Checked<'a, F> {
     #[inline(always)]
     pub fn octets(&self) -> &'a [u8]
         ensures value { result.now ≡ self.now.octets.now }
-        ensures formed { F.form result.now ≡ true }
+        ensures formed { F.grammar result.now ≡ true }
     {
         self.octets
     }
 }
 
-impl<'a, F: Form> FixedTag for Checked<'a, F> {
+impl<'a, F: ContentsGrammar> FixedTag for Checked<'a, F> {
     ghost tag_is = { F.tag_is };
 
     const TAG: Tag = F::TAG;
@@ -87,17 +87,17 @@ impl<'a, F: Form> FixedTag for Checked<'a, F> {
     }
 }
 
-impl<'a, F: Form> ReadValue for Checked<'a, F> {
-    ghost valid = { HasForm F.form (λ v. v.octets.now) };
+impl<'a, F: ContentsGrammar> ReadValue for Checked<'a, F> {
+    ghost valid = { HasCheckedContents F.grammar (λ v. v.octets.now) };
 
-    ghost takes = { TakesForm F.form (λ v. v.octets.now) };
+    ghost takes = { AcceptsCheckedContents F.grammar (λ v. v.octets.now) };
 
     ghost value_levels = { λ _. 0 };
 
     ghost allocates = { false };
 
     ghost takes_valid = { λ v rules h octets taken.
-        subst (λ x. F.form x ≡ true) (sym taken.1) taken.0 };
+        subst (λ x. F.grammar x ≡ true) (sym taken.1) taken.0 };
 }
 
 /// Borrows the contents from the input and checks them, under BER as strictly as under DER. The
@@ -108,10 +108,10 @@ impl<'a, F: Form> ReadValue for Checked<'a, F> {
 /// - Those of the contents, as by [`Reader::read_slice`].
 /// - `Value` with the tag, at the position after contents that are not valid; the reader has failed
 ///   then.
-impl<'a, F: Form, R: Reader<Lent = &'a [u8]>> DecodeValue<R> for Checked<'a, F> {
+impl<'a, F: ContentsGrammar, R: Reader<Borrowed = &'a [u8]>> DecodeValue<R> for Checked<'a, F> {
     type Error = Error;
 
-    ghost decode_value_answers = { FormRead F.form F.tag_is (λ v. v.octets.now) };
+    ghost decode_value_answers = { CheckedContentsRead F.grammar F.tag_is (λ v. v.octets.now) };
 
     #[inline(always)]
     fn decode_value(_alloc: Global, reader: &mut R, header: Header) -> Result<Self, Error> {
@@ -127,20 +127,20 @@ impl<'a, F: Form, R: Reader<Lent = &'a [u8]>> DecodeValue<R> for Checked<'a, F> 
     }
 }
 
-impl<'a, F: Form> WrittenValue for Checked<'a, F> {
+impl<'a, F: ContentsGrammar> WrittenValue for Checked<'a, F> {
     ghost contents = { λ v. v.octets.now };
 
-    ghost writable = { HasForm F.form (λ v. v.octets.now) };
+    ghost writable = { HasCheckedContents F.grammar (λ v. v.octets.now) };
 }
 
 /// # Errors
 ///
 /// - `Overflow` without a position, if there are more than 4294967295 octets.
 /// - The writer's errors, as by [`Writer::write`].
-impl<'a, F: Form> EncodeValue for Checked<'a, F> {
-    ghost value_size = { λ v. form_size v.octets.now };
+impl<'a, F: ContentsGrammar> EncodeValue for Checked<'a, F> {
+    ghost value_size = { λ v. contents_size v.octets.now };
 
-    ghost encode_value_answers = { λ v. FormWritten v.octets.now };
+    ghost encode_value_answers = { λ v. ContentsWritten v.octets.now };
 
     #[inline(always)]
     fn value_len(&self) -> Result<Length, Error> {
@@ -153,14 +153,14 @@ impl<'a, F: Form> EncodeValue for Checked<'a, F> {
     }
 }
 
-impl<'a, F: Form> Lawful for Checked<'a, F> {
-    ghost lawful = { form_lawful F.tag_is F.form (λ v. v.octets.now) F.numbered };
+impl<'a, F: ContentsGrammar> Lawful for Checked<'a, F> {
+    ghost lawful = { checked_contents_lawful F.tag_is F.grammar (λ v. v.octets.now) F.numbered };
 }
 
-impl<'a, F: Form> Nestable for Checked<'a, F> {
+impl<'a, F: ContentsGrammar> Nestable for Checked<'a, F> {
     ghost nestable = { Prim.omega arith };
 }
 
-impl<'a, F: Form> Described for Checked<'a, F> {
-    ghost element = { of_form F.tag_is F.form (λ v. v.octets.now) };
+impl<'a, F: ContentsGrammar> Described for Checked<'a, F> {
+    ghost element = { of_form F.tag_is F.grammar (λ v. v.octets.now) };
 }

@@ -20,7 +20,7 @@ pub trait Choice<R: Reader>: Decode<R> {
 
     // A value begins with such a tag.
     ghost begins: { (v : Self) (rules : Rules) (octets : List ℕ) (m : ℕ)
-        → Self.stands_ahead v rules octets m → TagIn chooses rules octets };
+        → Self.is_next v rules octets m → TagIn chooses rules octets };
 }
 
 impl<R: Reader, T: DecodeValue<R> + FixedTag> Choice<R> for T {
@@ -34,7 +34,7 @@ impl<R: Reader, T: DecodeValue<R> + FixedTag> Choice<R> for T {
     ghost begins = { λ v rules octets m e. element_begins e };
 }
 
-impl<'a, R: Reader<Lent = &'a [u8]>> Choice<R> for AnyRef<'a> {
+impl<'a, R: Reader<Borrowed = &'a [u8]>> Choice<R> for AnyRef<'a> {
     ghost chooses = { any_tag };
 
     #[inline(always)]

@@ -6,18 +6,18 @@ ghost use Rattle.der_asn1.specs.CheckedLemmas.{one_form, one_explicit_form};
 use crate::checked::Checked;
 use crate::defaulted::{DefaultValue, HasDefault};
 use crate::explicit::Explicit;
-use crate::form::Form;
+use crate::grammar::ContentsGrammar;
 use der::Reader;
 
 /// Types of which some contents are the default value, for a DEFAULT field.
 ///
 /// Ghost member: `default_form` says which contents those are.
-pub trait DefaultForm: Form {
+pub trait DefaultContents: ContentsGrammar {
     ghost default_form: { List ℕ → Bool };
 
     /// Contents of the default value.
     fn default_octets() -> &'static [u8]
-        ensures formed { Self.Form.form result.now ≡ true }
+        ensures formed { Self.ContentsGrammar.grammar result.now ≡ true }
         ensures value { default_form result.now ≡ true };
 
     /// Whether these contents are the default value.
@@ -25,7 +25,7 @@ pub trait DefaultForm: Form {
         ensures { result ≡ default_form octets.now };
 }
 
-impl<'a, F: DefaultForm> DefaultValue for Checked<'a, F> {
+impl<'a, F: DefaultContents> DefaultValue for Checked<'a, F> {
     ghost is_default = { λ v. F.default_form v.octets.now };
 
     fn default_value() -> Self {
@@ -38,11 +38,11 @@ impl<'a, F: DefaultForm> DefaultValue for Checked<'a, F> {
     }
 }
 
-impl<'a, R: Reader<Lent = &'a [u8]>, F: DefaultForm> HasDefault<R> for Checked<'a, F> {
-    ghost told = { λ v w rules octets m n one two. ap F.default_form (one_form one two) };
+impl<'a, R: Reader<Borrowed = &'a [u8]>, F: DefaultContents> HasDefault<R> for Checked<'a, F> {
+    ghost reported = { λ v w rules octets m n one two. ap F.default_form (one_form one two) };
 }
 
-impl<'a, F: DefaultForm, const N: u32> DefaultValue for Explicit<Checked<'a, F>, N> {
+impl<'a, F: DefaultContents, const N: u32> DefaultValue for Explicit<Checked<'a, F>, N> {
     ghost is_default = { λ v. F.default_form v.0.octets.now };
 
     fn default_value() -> Self {
@@ -55,8 +55,8 @@ impl<'a, F: DefaultForm, const N: u32> DefaultValue for Explicit<Checked<'a, F>,
     }
 }
 
-impl<'a, R: Reader<Lent = &'a [u8]>, F: DefaultForm, const N: u32> HasDefault<R>
+impl<'a, R: Reader<Borrowed = &'a [u8]>, F: DefaultContents, const N: u32> HasDefault<R>
     for Explicit<Checked<'a, F>, N> {
-    ghost told = { λ v w rules octets m n one two.
+    ghost reported = { λ v w rules octets m n one two.
         ap F.default_form (one_explicit_form (λ e. e.0) one two) };
 }

@@ -1,7 +1,7 @@
 //! DEFAULT fields.
 ghost use Rattle.std.specs.Prelude.{◌≡◌, ◌↔◌, ℕ, Bool, true, List, IsTrue};
 ghost use Rattle.der.specs.Prelude.{EncodingRules as Rules, Der, map_ok};
-ghost use Rattle.der_asn1.specs.Default.{DefaultAhead, DefaultRead, IsDefaulted, default_encoding};
+ghost use Rattle.der_asn1.specs.Default.{DefaultNext, DefaultRead, IsDefaulted, default_encoding};
 ghost use Rattle.der_asn1.specs.Default.{default_size, DefaultWritten};
 
 use crate::choice::Choice;
@@ -25,11 +25,11 @@ pub trait DefaultValue: Sized {
 
 /// Types with a default value that can be decoded.
 ///
-/// Ghost member: `told` proves that the octets decide whether a value is the default.
+/// Ghost member: `reported` proves that the octets decide whether a value is the default.
 pub trait HasDefault<R: Reader>: Choice<R> + DefaultValue {
     // If two values can be decoded from the same octets, both are the default or neither is.
-    ghost told: { (v w : Self) (rules : Rules) (octets : List ℕ) (m n : ℕ)
-        → Self.stands_ahead v rules octets m → Self.stands_ahead w rules octets n
+    ghost reported: { (v w : Self) (rules : Rules) (octets : List ℕ) (m n : ℕ)
+        → Self.is_next v rules octets m → Self.is_next w rules octets n
         → Self.is_default v ≡ Self.is_default w };
 }
 
@@ -55,7 +55,7 @@ pub struct Defaulted<T>(pub T);
 impl<R: Reader, T: HasDefault<R>> Decode<R> for Defaulted<T> {
     type Error = <T as Decode<R>>::Error;
 
-    ghost stands_ahead = { λ v. DefaultAhead T.chooses T.is_default T.stands_ahead v.0 };
+    ghost is_next = { λ v. DefaultNext T.chooses T.is_default T.is_next v.0 };
 
     ghost decode_levels = { T.decode_levels };
 

@@ -1,5 +1,5 @@
 //! Lawful types whose specification is composed from those of their parts.
-ghost use Rattle.der_asn1.specs.Meaning.{Element};
+ghost use Rattle.der_asn1.specs.Meaning.{ElementSpec};
 
 /// Types that have the specification of an element, with its laws.
 ///
@@ -7,5 +7,5 @@ ghost use Rattle.der_asn1.specs.Meaning.{Element};
 /// `⟦<AnyType as Described>⟧.element`, so the specification of a SEQUENCE is composed from those
 /// of its fields.
 pub trait Described: Sized {
-    ghost element: { Element Self };
+    ghost element: { ElementSpec Self };
 }

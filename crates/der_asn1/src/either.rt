@@ -1,7 +1,7 @@
 //! CHOICE of two types.
 ghost use Rattle.std.specs.Prelude.{◌||◌};
 ghost use Rattle.der.specs.Prelude.{fields_levels, map_ok};
-ghost use Rattle.der_asn1.specs.Either.{EitherAhead, EitherRead, IsEither, either_encoding};
+ghost use Rattle.der_asn1.specs.Either.{EitherNext, EitherRead, IsEither, either_encoding};
 ghost use Rattle.der_asn1.specs.Either.{either_size, EitherWritten};
 ghost use Rattle.der_asn1.specs.EitherLaws.{either_begins};
 ghost use Rattle.der_asn1.specs.Follow.{either_tags};
@@ -30,7 +30,7 @@ impl<R: Reader, A: Choice<R>, B: Choice<R> + Decode<R, Error = <A as Decode<R>>:
     for Either<A, B> {
     type Error = <A as Decode<R>>::Error;
 
-    ghost stands_ahead = { EitherAhead A.chooses A.stands_ahead B.stands_ahead };
+    ghost is_next = { EitherNext A.chooses A.is_next B.is_next };
 
     ghost decode_levels = { fields_levels A.decode_levels B.decode_levels };
 

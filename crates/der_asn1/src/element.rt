@@ -2,8 +2,8 @@
 ghost use Rattle.std.specs.Prelude.{◌≡◌, ℕ, ◌+◌, ◌≤◌, true, false, IfOk};
 ghost use Rattle.der.specs.Prelude.{rest_of, Same, element_levels, head_of};
 ghost use Rattle.der.specs.Decode.{Passes, ReadsOrLacks};
-ghost use Rattle.der.specs.DecodeValue.{ContentsAhead, EndsOrLacks, TakesContents};
-ghost use Rattle.der_asn1.specs.AnyElement.{AnyElementAhead, AnyElementRead};
+ghost use Rattle.der.specs.DecodeValue.{ContentsNext, EndsOrLacks, TakesContents};
+ghost use Rattle.der_asn1.specs.AnyElement.{AnyElementNext, AnyElementRead};
 
 use der::{DecodeValue, Header, Reader, decode_header, read_value};
 use std::alloc::Global;
@@ -23,10 +23,10 @@ pub fn decode_element<R: Reader, T: DecodeValue<R>>(
 ) -> Result<T, <T as DecodeValue<R>>::Error>
     ensures same { Same (R.state reader.old) (R.state reader.new) }
     ensures ok { IfOk result (λ v. (R.state reader.new).failed ≡ false
-        → Passes (AnyElementAhead T.takes v) (R.state reader.old) (R.state reader.new)) }
+        → Passes (AnyElementNext T.takes v) (R.state reader.old) (R.state reader.new)) }
     ensures complete { (v : T) (m : ℕ) → R.reliable ≡ true
         → (R.state reader.old).failed ≡ false
-        → AnyElementAhead T.takes v (R.state reader.old).rules (rest_of (R.state reader.old)) m
+        → AnyElementNext T.takes v (R.state reader.old).rules (rest_of (R.state reader.old)) m
         → (R.state reader.old).depth + element_levels T.value_levels (R.state reader.old).rules ≤ 64
         → ReadsOrLacks T.Error.out_of_memory T.allocates (R.state reader.old) m result
         (R.state reader.new) }
@@ -43,7 +43,7 @@ pub fn decode_element<R: Reader, T: DecodeValue<R>>(
             ensures sound { TakesContents T.takes (head_of header) (R.state reader.old) result
                 (R.state reader.new) }
             ensures complete { (v : T) → R.reliable ≡ true
-                → ContentsAhead (T.takes v) (head_of header) (R.state reader.old)
+                → ContentsNext (T.takes v) (head_of header) (R.state reader.old)
                 → (R.state reader.old).depth + T.value_levels (R.state reader.old).rules ≤ 64
                 → EndsOrLacks T.Error.out_of_memory T.allocates result (R.state reader.new) }
             ensures exact { R.reliable ≡ true → T.decode_value_answers (head_of header)

@@ -5,18 +5,18 @@ ghost use Rattle.std.specs.Prelude.{◌≡◌, ◌↔◌, true, IsSome, IfSome};
 ghost use Rattle.der_asn1.specs.Forms.{integer_form};
 
 use crate::checked::Checked;
-use crate::form::Form;
-use crate::integer::IntegerForm;
+use crate::grammar::ContentsGrammar;
+use crate::integer::IntegerGrammar;
 use crate::integer_number::IntegerNumber;
 use der::{FixedTag, Tag};
 
 /// Contents of an ENUMERATED: those of the INTEGER that is its number (X.690 8.4).
-pub struct EnumeratedForm;
+pub struct EnumeratedGrammar;
 
 /// An ENUMERATED borrowed from the input.
-pub type EnumeratedRef<'a> = Checked<'a, EnumeratedForm>;
+pub type EnumeratedRef<'a> = Checked<'a, EnumeratedGrammar>;
 
-impl FixedTag for EnumeratedForm {
+impl FixedTag for EnumeratedGrammar {
     ghost tag_is = { EnumeratedTag };
 
     const TAG: Tag = Tag::Enumerated;
@@ -26,11 +26,11 @@ impl FixedTag for EnumeratedForm {
     }
 }
 
-impl Form for EnumeratedForm {
-    ghost form = { integer_form };
+impl ContentsGrammar for EnumeratedGrammar {
+    ghost grammar = { integer_form };
 
-    fn has_form(octets: &[u8]) -> bool {
-        IntegerForm::has_form(octets)
+    fn matches_grammar(octets: &[u8]) -> bool {
+        IntegerGrammar::matches_grammar(octets)
     }
 
     ghost numbered = { Prim.omega arith };
@@ -39,7 +39,7 @@ impl Form for EnumeratedForm {
 impl<'a> EnumeratedRef<'a> {
     /// The number; `None` if it does not fit in this type.
     pub fn to_number<N: IntegerNumber>(&self) -> Option<N>
-        ensures some { IsSome result ↔ (N.form self.now.octets.now ≡ true) }
+        ensures some { IsSome result ↔ (N.grammar self.now.octets.now ≡ true) }
         ensures same { IfSome result (λ v. N.contents_of v ≡ self.now.octets.now) }
     {
         N::from_contents(self.octets())

@@ -1,7 +1,7 @@
 //! EXPLICIT context-specific tags.
 ghost use Rattle.std.specs.Prelude.{◌≡◌, ◌≤◌, true};
 ghost use Rattle.std.proofs.Common.{arith};
-ghost use Rattle.der.specs.Prelude.{Der, ElementAhead, ElementRead, element_levels, map_ok};
+ghost use Rattle.der.specs.Prelude.{Der, ElementNext, ElementRead, element_levels, map_ok};
 ghost use Rattle.der.specs.Prelude.{element_octets, element_size, ElementWritten, TakesWhole};
 ghost use Rattle.der_asn1.specs.ContextSpecific.{context_tag, explicit_lawful, explicit_holds};
 ghost use Rattle.der_asn1.specs.Meaning.{explicit};
@@ -47,7 +47,7 @@ impl<T, const N: u32> FixedTag for Explicit<T, N> {
 impl<T: ReadValue + FixedTag, const N: u32> ReadValue for Explicit<T, N> {
     ghost valid = { λ v. T.valid v.0 };
 
-    ghost takes = { λ v. TakesWhole (ElementAhead T.tag_is T.takes) v.0 };
+    ghost takes = { λ v. TakesWhole (ElementNext T.tag_is T.takes) v.0 };
 
     ghost value_levels = { element_levels T.value_levels };
 

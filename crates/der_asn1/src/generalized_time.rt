@@ -4,7 +4,7 @@ ghost use Rattle.der.specs.Prelude.{GeneralizedTime as GeneralizedTag};
 ghost use Rattle.der_asn1.specs.Times.{generalized_octets, generalized_form, is_date_time};
 
 use crate::date_time::DateTime;
-use crate::time_form::TimeForm;
+use crate::time_form::TimeFormat;
 use crate::time_octets::{TimeOctets, generalized_from};
 use crate::time_of::TimeOf;
 use der::{FixedTag, Tag};
@@ -12,12 +12,12 @@ use der::{FixedTag, Tag};
 /// Contents of a GeneralizedTime: YYYYMMDDHHMMSSZ, of the years 0 to 9999, without a fraction of a
 /// second (X.690 11.7; RFC 5280, 4.1.2.5.2).
 #[derive(Clone, Copy)]
-pub struct GeneralizedTimeForm;
+pub struct GeneralizedTimeFormat;
 
 /// A GeneralizedTime, as a date with a time of day.
-pub type GeneralizedTime = TimeOf<GeneralizedTimeForm>;
+pub type GeneralizedTime = TimeOf<GeneralizedTimeFormat>;
 
-impl FixedTag for GeneralizedTimeForm {
+impl FixedTag for GeneralizedTimeFormat {
     ghost tag_is = { GeneralizedTag };
 
     const TAG: Tag = Tag::GeneralizedTime;
@@ -28,8 +28,8 @@ impl FixedTag for GeneralizedTimeForm {
     }
 }
 
-impl TimeForm for GeneralizedTimeForm {
-    ghost form = { generalized_form };
+impl TimeFormat for GeneralizedTimeFormat {
+    ghost grammar = { generalized_form };
 
     ghost holds = { is_date_time };
 

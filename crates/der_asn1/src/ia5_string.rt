@@ -4,16 +4,16 @@ ghost use Rattle.der.specs.Prelude.{Ia5String as Ia5Tag};
 ghost use Rattle.der_asn1.specs.Forms.{ia5_form};
 
 use crate::checked::Checked;
-use crate::form::Form;
+use crate::grammar::ContentsGrammar;
 use der::{FixedTag, Tag};
 
 /// Contents of an IA5String: octets below `0x80` (X.690 8.23, X.680 41).
-pub struct Ia5StringForm;
+pub struct Ia5StringGrammar;
 
 /// An IA5String borrowed from the input.
-pub type Ia5StringRef<'a> = Checked<'a, Ia5StringForm>;
+pub type Ia5StringRef<'a> = Checked<'a, Ia5StringGrammar>;
 
-impl FixedTag for Ia5StringForm {
+impl FixedTag for Ia5StringGrammar {
     ghost tag_is = { Ia5Tag };
 
     const TAG: Tag = Tag::Ia5String;
@@ -23,10 +23,10 @@ impl FixedTag for Ia5StringForm {
     }
 }
 
-impl Form for Ia5StringForm {
-    ghost form = { ia5_form };
+impl ContentsGrammar for Ia5StringGrammar {
+    ghost grammar = { ia5_form };
 
-    fn has_form(octets: &[u8]) -> bool {
+    fn matches_grammar(octets: &[u8]) -> bool {
         for octet in octets {
             if *octet >= 0x80 {
                 return false;

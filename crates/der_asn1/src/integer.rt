@@ -5,16 +5,16 @@ ghost use Rattle.der.specs.Prelude.{Integer as IntegerTag};
 ghost use Rattle.der_asn1.specs.Forms.{integer_form};
 
 use crate::checked::Checked;
-use crate::form::Form;
+use crate::grammar::ContentsGrammar;
 use der::{FixedTag, Tag};
 
 /// Contents of an INTEGER: a number in two's complement, in the fewest octets (X.690 8.3.2).
-pub struct IntegerForm;
+pub struct IntegerGrammar;
 
 /// An INTEGER borrowed from the input.
-pub type IntRef<'a> = Checked<'a, IntegerForm>;
+pub type IntRef<'a> = Checked<'a, IntegerGrammar>;
 
-impl FixedTag for IntegerForm {
+impl FixedTag for IntegerGrammar {
     ghost tag_is = { IntegerTag };
 
     const TAG: Tag = Tag::Integer;
@@ -25,11 +25,11 @@ impl FixedTag for IntegerForm {
     }
 }
 
-impl Form for IntegerForm {
-    ghost form = { integer_form };
+impl ContentsGrammar for IntegerGrammar {
+    ghost grammar = { integer_form };
 
     #[inline(always)]
-    fn has_form(octets: &[u8]) -> bool {
+    fn matches_grammar(octets: &[u8]) -> bool {
         match octets {
             [] => false,
             [_] => true,

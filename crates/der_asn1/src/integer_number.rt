@@ -6,32 +6,32 @@ ghost use Rattle.std.specs.Int.Digits.{number_from_digits, AllBelowBase};
 ghost use Rattle.der_asn1.specs.Integer.{integer_octets, signed_octets, is_negative, magnitude};
 ghost use Rattle.der_asn1.specs.Integer.{signed_form, unsigned_form, turned};
 
-use crate::form::Form;
-use crate::integer::IntegerForm;
+use crate::grammar::ContentsGrammar;
+use crate::integer::IntegerGrammar;
 use crate::integer_octets::{IntegerOctets, turned_octet};
 
 /// Numbers that are encoded as an INTEGER (X.690 8.3).
 ///
-/// Ghost members: `form` says which contents are those of a number of this type; `contents_of`
+/// Ghost members: `grammar` says which contents are those of a number of this type; `contents_of`
 /// gives the contents of each number.
 pub trait IntegerNumber: Copy {
-    ghost form: { List ℕ → Bool };
+    ghost grammar: { List ℕ → Bool };
 
     ghost contents_of: { Self → List ℕ };
 
     /// The number with these contents; `None` if there is none of this type.
     fn from_contents(octets: &[u8]) -> Option<Self>
-        ensures some { IsSome result ↔ (form octets.now ≡ true) }
+        ensures some { IsSome result ↔ (grammar octets.now ≡ true) }
         ensures same { IfSome result (λ v. contents_of v ≡ octets.now) };
 
     /// The contents of the number.
     fn to_contents(self) -> IntegerOctets
         ensures octets { drop result.start result.octets ≡ contents_of self }
-        ensures formed { form (contents_of self) ≡ true };
+        ensures formed { grammar (contents_of self) ≡ true };
 }
 
 impl IntegerNumber for u8 {
-    ghost form = { unsigned_form (2 ^ 8) };
+    ghost grammar = { unsigned_form (2 ^ 8) };
 
     ghost contents_of = { integer_octets false };
 
@@ -48,7 +48,7 @@ impl IntegerNumber for u8 {
 }
 
 impl IntegerNumber for u32 {
-    ghost form = { unsigned_form (2 ^ 32) };
+    ghost grammar = { unsigned_form (2 ^ 32) };
 
     ghost contents_of = { integer_octets false };
 
@@ -65,7 +65,7 @@ impl IntegerNumber for u32 {
 }
 
 impl IntegerNumber for u64 {
-    ghost form = { unsigned_form (2 ^ 64) };
+    ghost grammar = { unsigned_form (2 ^ 64) };
 
     ghost contents_of = { integer_octets false };
 
@@ -82,7 +82,7 @@ impl IntegerNumber for u64 {
 }
 
 impl IntegerNumber for i64 {
-    ghost form = { signed_form (2 ^ 63) };
+    ghost grammar = { signed_form (2 ^ 63) };
 
     ghost contents_of = { signed_octets };
 
@@ -111,7 +111,7 @@ fn read_number(octets: &[u8], most: u64) -> Option<(bool, u64)>
         × (p.1 ≡ magnitude octets.now)) }
     ensures same { IfSome result (λ p. integer_octets p.0 p.1 ≡ octets.now) }
 {
-    if !IntegerForm::has_form(octets) {
+    if !IntegerGrammar::matches_grammar(octets) {
         return None;
     }
     let negative = is_below_zero(octets);

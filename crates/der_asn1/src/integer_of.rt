@@ -2,8 +2,8 @@
 ghost use Rattle.std.specs.Prelude.{◌≡◌, ◌<◌, ◌↔◌, true, false, IsSome, IfSome};
 ghost use Rattle.std.proofs.Common.{arith, subst, sym};
 ghost use Rattle.der.specs.Prelude.{Integer as IntegerTag};
-ghost use Rattle.der_asn1.specs.Checked.{HasForm, TakesForm, FormRead, form_size};
-ghost use Rattle.der_asn1.specs.Checked.{FormWritten, form_lawful};
+ghost use Rattle.der_asn1.specs.Checked.{HasCheckedContents, AcceptsCheckedContents, CheckedContentsRead, contents_size};
+ghost use Rattle.der_asn1.specs.Checked.{ContentsWritten, checked_contents_lawful};
 ghost use Rattle.der_asn1.specs.Meaning.{of_form};
 
 use crate::described::Described;
@@ -26,7 +26,7 @@ pub struct IntegerOf<N: IntegerNumber> {
 impl<'a> IntRef<'a> {
     /// The number; `None` if it does not fit in this type.
     pub fn to_number<N: IntegerNumber>(&self) -> Option<N>
-        ensures some { IsSome result ↔ (N.form self.now.octets.now ≡ true) }
+        ensures some { IsSome result ↔ (N.grammar self.now.octets.now ≡ true) }
         ensures same { IfSome result (λ v. N.contents_of v ≡ self.now.octets.now) }
     {
         N::from_contents(self.octets())
@@ -46,16 +46,16 @@ impl<N: IntegerNumber> FixedTag for IntegerOf<N> {
 }
 
 impl<N: IntegerNumber> ReadValue for IntegerOf<N> {
-    ghost valid = { HasForm N.form (λ v. N.contents_of v.number) };
+    ghost valid = { HasCheckedContents N.grammar (λ v. N.contents_of v.number) };
 
-    ghost takes = { TakesForm N.form (λ v. N.contents_of v.number) };
+    ghost takes = { AcceptsCheckedContents N.grammar (λ v. N.contents_of v.number) };
 
     ghost value_levels = { λ _. 0 };
 
     ghost allocates = { false };
 
     ghost takes_valid = { λ v rules h octets taken.
-        subst (λ x. N.form x ≡ true) (sym taken.1) taken.0 };
+        subst (λ x. N.grammar x ≡ true) (sym taken.1) taken.0 };
 }
 
 /// Accepts only the shortest contents, also under BER (X.690 8.3.2).
@@ -65,10 +65,10 @@ impl<N: IntegerNumber> ReadValue for IntegerOf<N> {
 /// - Those of the contents, as by [`Reader::read_slice`].
 /// - `Value` of an INTEGER, at the position after contents that are not the shortest or whose
 ///   number is not in the range of the type; the reader has failed then.
-impl<'a, N: IntegerNumber, R: Reader<Lent = &'a [u8]>> DecodeValue<R> for IntegerOf<N> {
+impl<'a, N: IntegerNumber, R: Reader<Borrowed = &'a [u8]>> DecodeValue<R> for IntegerOf<N> {
     type Error = Error;
 
-    ghost decode_value_answers = { FormRead N.form IntegerTag (λ v. N.contents_of v.number) };
+    ghost decode_value_answers = { CheckedContentsRead N.grammar IntegerTag (λ v. N.contents_of v.number) };
 
     fn decode_value(_alloc: Global, reader: &mut R, header: Header) -> Result<Self, Error> {
         let octets = reader.read_slice(header.length())?;
@@ -86,16 +86,16 @@ impl<'a, N: IntegerNumber, R: Reader<Lent = &'a [u8]>> DecodeValue<R> for Intege
 impl<N: IntegerNumber> WrittenValue for IntegerOf<N> {
     ghost contents = { λ v. N.contents_of v.number };
 
-    ghost writable = { HasForm N.form (λ v. N.contents_of v.number) };
+    ghost writable = { HasCheckedContents N.grammar (λ v. N.contents_of v.number) };
 }
 
 /// # Errors
 ///
 /// `value_len` never fails. `encode_value` returns the errors of [`Writer::write`].
 impl<N: IntegerNumber> EncodeValue for IntegerOf<N> {
-    ghost value_size = { λ v. form_size (N.contents_of v.number) };
+    ghost value_size = { λ v. contents_size (N.contents_of v.number) };
 
-    ghost encode_value_answers = { λ v. FormWritten (N.contents_of v.number) };
+    ghost encode_value_answers = { λ v. ContentsWritten (N.contents_of v.number) };
 
     fn value_len(&self) -> Result<Length, Error> {
         Length::new_usize(self.number.to_contents().as_slice().len())
@@ -107,7 +107,7 @@ impl<N: IntegerNumber> EncodeValue for IntegerOf<N> {
 }
 
 impl<N: IntegerNumber> Lawful for IntegerOf<N> {
-    ghost lawful = { form_lawful IntegerTag N.form (λ v. N.contents_of v.number)
+    ghost lawful = { checked_contents_lawful IntegerTag N.grammar (λ v. N.contents_of v.number)
         (Prim.omega arith) };
 }
 
@@ -116,5 +116,5 @@ impl<N: IntegerNumber> Nestable for IntegerOf<N> {
 }
 
 impl<N: IntegerNumber> Described for IntegerOf<N> {
-    ghost element = { of_form IntegerTag N.form (λ v. N.contents_of v.number) };
+    ghost element = { of_form IntegerTag N.grammar (λ v. N.contents_of v.number) };
 }

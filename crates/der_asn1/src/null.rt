@@ -4,16 +4,16 @@ ghost use Rattle.der.specs.Prelude.{Null as NullTag};
 ghost use Rattle.der_asn1.specs.Forms.{null_form};
 
 use crate::checked::Checked;
-use crate::form::Form;
+use crate::grammar::ContentsGrammar;
 use der::{FixedTag, Tag};
 
 /// Contents of NULL: no octets (X.690 8.8.2).
-pub struct NullForm;
+pub struct NullGrammar;
 
 /// NULL, borrowed from the input.
-pub type Null<'a> = Checked<'a, NullForm>;
+pub type Null<'a> = Checked<'a, NullGrammar>;
 
-impl FixedTag for NullForm {
+impl FixedTag for NullGrammar {
     ghost tag_is = { NullTag };
 
     const TAG: Tag = Tag::Null;
@@ -23,10 +23,10 @@ impl FixedTag for NullForm {
     }
 }
 
-impl Form for NullForm {
-    ghost form = { null_form };
+impl ContentsGrammar for NullGrammar {
+    ghost grammar = { null_form };
 
-    fn has_form(octets: &[u8]) -> bool {
+    fn matches_grammar(octets: &[u8]) -> bool {
         octets.is_empty()
     }
 

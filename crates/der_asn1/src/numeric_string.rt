@@ -4,16 +4,16 @@ ghost use Rattle.der.specs.Prelude.{NumericString as NumericTag};
 ghost use Rattle.der_asn1.specs.Alphabets.{numeric_form};
 
 use crate::checked::Checked;
-use crate::form::Form;
+use crate::grammar::ContentsGrammar;
 use der::{FixedTag, Tag};
 
 /// Contents of a NumericString: digits and space (X.680 41.2).
-pub struct NumericStringForm;
+pub struct NumericStringGrammar;
 
 /// A NumericString borrowed from the input.
-pub type NumericStringRef<'a> = Checked<'a, NumericStringForm>;
+pub type NumericStringRef<'a> = Checked<'a, NumericStringGrammar>;
 
-impl FixedTag for NumericStringForm {
+impl FixedTag for NumericStringGrammar {
     ghost tag_is = { NumericTag };
 
     const TAG: Tag = Tag::NumericString;
@@ -23,10 +23,10 @@ impl FixedTag for NumericStringForm {
     }
 }
 
-impl Form for NumericStringForm {
-    ghost form = { numeric_form };
+impl ContentsGrammar for NumericStringGrammar {
+    ghost grammar = { numeric_form };
 
-    fn has_form(octets: &[u8]) -> bool {
+    fn matches_grammar(octets: &[u8]) -> bool {
         for octet in octets {
             match *octet {
                 b'0'..=b'9' | b' ' => {}

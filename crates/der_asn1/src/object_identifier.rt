@@ -5,17 +5,17 @@ ghost use Rattle.der.specs.Prelude.{ObjectIdentifier as OidTag};
 ghost use Rattle.der_asn1.specs.Forms.{oid_form};
 
 use crate::checked::Checked;
-use crate::form::Form;
+use crate::grammar::ContentsGrammar;
 use der::{FixedTag, Tag};
 
 /// Contents of an OBJECT IDENTIFIER: one or more subidentifiers, none of which begins with octet
 /// `0x80` (X.690 8.19.2, 8.19.3).
-pub struct ObjectIdentifierForm;
+pub struct ObjectIdentifierGrammar;
 
 /// An OBJECT IDENTIFIER borrowed from the input.
-pub type ObjectIdentifierRef<'a> = Checked<'a, ObjectIdentifierForm>;
+pub type ObjectIdentifierRef<'a> = Checked<'a, ObjectIdentifierGrammar>;
 
-impl FixedTag for ObjectIdentifierForm {
+impl FixedTag for ObjectIdentifierGrammar {
     ghost tag_is = { OidTag };
 
     const TAG: Tag = Tag::ObjectIdentifier;
@@ -26,11 +26,11 @@ impl FixedTag for ObjectIdentifierForm {
     }
 }
 
-impl Form for ObjectIdentifierForm {
-    ghost form = { oid_form };
+impl ContentsGrammar for ObjectIdentifierGrammar {
+    ghost grammar = { oid_form };
 
     #[inline(always)]
-    fn has_form(octets: &[u8]) -> bool {
+    fn matches_grammar(octets: &[u8]) -> bool {
         let mut starts = true;
         for octet in octets {
             if starts && *octet == 0x80 {

@@ -4,16 +4,16 @@ ghost use Rattle.der.specs.Prelude.{OctetString as OctetTag};
 ghost use Rattle.der_asn1.specs.Forms.{octets_form};
 
 use crate::checked::Checked;
-use crate::form::Form;
+use crate::grammar::ContentsGrammar;
 use der::{FixedTag, Tag};
 
 /// Contents of an OCTET STRING: any octets (X.690 8.7).
-pub struct OctetStringForm;
+pub struct OctetStringGrammar;
 
 /// An OCTET STRING borrowed from the input.
-pub type OctetStringRef<'a> = Checked<'a, OctetStringForm>;
+pub type OctetStringRef<'a> = Checked<'a, OctetStringGrammar>;
 
-impl FixedTag for OctetStringForm {
+impl FixedTag for OctetStringGrammar {
     ghost tag_is = { OctetTag };
 
     const TAG: Tag = Tag::OctetString;
@@ -24,11 +24,11 @@ impl FixedTag for OctetStringForm {
     }
 }
 
-impl Form for OctetStringForm {
-    ghost form = { octets_form };
+impl ContentsGrammar for OctetStringGrammar {
+    ghost grammar = { octets_form };
 
     #[inline(always)]
-    fn has_form(_octets: &[u8]) -> bool {
+    fn matches_grammar(_octets: &[u8]) -> bool {
         true
     }
 

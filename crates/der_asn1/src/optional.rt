@@ -1,7 +1,7 @@
 //! OPTIONAL fields.
 ghost use Rattle.std.specs.Prelude.{false};
 ghost use Rattle.der.specs.Prelude.{map_ok};
-ghost use Rattle.der_asn1.specs.Optional.{OptionAhead, OptionRead, IsOptional, option_encoding};
+ghost use Rattle.der_asn1.specs.Optional.{OptionNext, OptionRead, IsOptional, option_encoding};
 ghost use Rattle.der_asn1.specs.Optional.{option_size, OptionWritten};
 
 use crate::choice::Choice;
@@ -20,7 +20,7 @@ pub struct Optional<T>(pub Option<T>);
 impl<R: Reader, T: Choice<R>> Decode<R> for Optional<T> {
     type Error = <T as Decode<R>>::Error;
 
-    ghost stands_ahead = { λ v. OptionAhead T.chooses T.stands_ahead v.0 };
+    ghost is_next = { λ v. OptionNext T.chooses T.is_next v.0 };
 
     ghost decode_levels = { T.decode_levels };
 

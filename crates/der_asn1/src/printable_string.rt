@@ -5,16 +5,16 @@ ghost use Rattle.der.specs.Prelude.{PrintableString as PrintableTag};
 ghost use Rattle.der_asn1.specs.Forms.{printable_form, is_printable};
 
 use crate::checked::Checked;
-use crate::form::Form;
+use crate::grammar::ContentsGrammar;
 use der::{FixedTag, Tag};
 
 /// Contents of a PrintableString: letters, digits, space, and `'()+,-./:=?` (X.680 41.4).
-pub struct PrintableStringForm;
+pub struct PrintableStringGrammar;
 
 /// A PrintableString borrowed from the input.
-pub type PrintableStringRef<'a> = Checked<'a, PrintableStringForm>;
+pub type PrintableStringRef<'a> = Checked<'a, PrintableStringGrammar>;
 
-impl FixedTag for PrintableStringForm {
+impl FixedTag for PrintableStringGrammar {
     ghost tag_is = { PrintableTag };
 
     const TAG: Tag = Tag::PrintableString;
@@ -24,10 +24,10 @@ impl FixedTag for PrintableStringForm {
     }
 }
 
-impl Form for PrintableStringForm {
-    ghost form = { printable_form };
+impl ContentsGrammar for PrintableStringGrammar {
+    ghost grammar = { printable_form };
 
-    fn has_form(octets: &[u8]) -> bool {
+    fn matches_grammar(octets: &[u8]) -> bool {
         for octet in octets {
             if !is_printable_octet(*octet) {
                 return false;

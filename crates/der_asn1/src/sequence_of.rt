@@ -5,13 +5,13 @@ ghost use Rattle.std.proofs.Common.{arith};
 ghost use Rattle.der.specs.Prelude.{Sequence, element_octets, rest_of, Reads, slice_state, error_of_kind};
 ghost use Rattle.der.specs.ErrorKinds.{Overflow};
 ghost use Rattle.der.specs.Decode.{SucceedsOrLacks};
-ghost use Rattle.der_asn1.specs.Checked.{form_size, FormWritten};
+ghost use Rattle.der_asn1.specs.Checked.{contents_size, ContentsWritten};
 ghost use Rattle.der_asn1.specs.SequenceOf.{AreElements, IsAtItem};
-ghost use Rattle.der_asn1.specs.Lent.{TakesLent, IsLent, lent_lawful, lent_holds};
+ghost use Rattle.der_asn1.specs.OctetsWith.{AcceptsOctetsWith, HasOctetsWith, octets_with_lawful, octets_with_accepts_valid};
 ghost use Rattle.der_asn1.specs.ListAnswers.{ItemAnswer, ListWalked, ListRead};
 ghost use Rattle.der.specs.Prelude.{map_ok};
 ghost use Rattle.der.specs.Element.{ElementRead};
-ghost use Rattle.der_asn1.specs.Meaning.{lent};
+ghost use Rattle.der_asn1.specs.Meaning.{octets_with};
 
 use crate::described::Described;
 use crate::explicit::Nestable;
@@ -108,15 +108,15 @@ impl<'a, T: Lawful> FixedTag for SequenceOf<'a, T> {
 }
 
 impl<'a, T: Lawful> ReadValue for SequenceOf<'a, T> {
-    ghost valid = { IsLent (AreElements T.tag_is T.valid T.contents) (λ v. v.octets.now) };
+    ghost valid = { HasOctetsWith (AreElements T.tag_is T.valid T.contents) (λ v. v.octets.now) };
 
-    ghost takes = { TakesLent (AreElements T.tag_is T.valid T.contents) (λ v. v.octets.now) };
+    ghost takes = { AcceptsOctetsWith (AreElements T.tag_is T.valid T.contents) (λ v. v.octets.now) };
 
     ghost value_levels = { λ _. 0 };
 
     ghost allocates = { T.allocates };
 
-    ghost takes_valid = { lent_holds (AreElements T.tag_is T.valid T.contents)
+    ghost takes_valid = { octets_with_accepts_valid (AreElements T.tag_is T.valid T.contents)
         (λ v. v.octets.now) };
 }
 
@@ -128,7 +128,7 @@ impl<'a, T: Lawful> ReadValue for SequenceOf<'a, T> {
 /// - Those of the first element that cannot be decoded, as by [`SequenceOf::new`], with positions
 ///   counted from the beginning of the contents; the reader is after the contents and has not
 ///   failed.
-impl<'a, T: Lawful + DecodeValue<SliceReader<'a>>, R: Reader<Lent = &'a [u8]>> DecodeValue<R>
+impl<'a, T: Lawful + DecodeValue<SliceReader<'a>>, R: Reader<Borrowed = &'a [u8]>> DecodeValue<R>
     for SequenceOf<'a, T> {
     type Error = <T as DecodeValue<SliceReader<'a>>>::Error;
 
@@ -156,7 +156,7 @@ impl<'a, T: Lawful + DecodeValue<SliceReader<'a>>, R: Reader<Lent = &'a [u8]>> D
 impl<'a, T: Lawful> WrittenValue for SequenceOf<'a, T> {
     ghost contents = { λ v. v.octets.now };
 
-    ghost writable = { IsLent (AreElements T.tag_is T.valid T.contents) (λ v. v.octets.now) };
+    ghost writable = { HasOctetsWith (AreElements T.tag_is T.valid T.contents) (λ v. v.octets.now) };
 }
 
 /// # Errors
@@ -164,9 +164,9 @@ impl<'a, T: Lawful> WrittenValue for SequenceOf<'a, T> {
 /// - `Overflow` without a position, if there are more than 4294967295 octets.
 /// - The writer's errors, as by [`Writer::write`].
 impl<'a, T: Lawful> EncodeValue for SequenceOf<'a, T> {
-    ghost value_size = { λ v. form_size v.octets.now };
+    ghost value_size = { λ v. contents_size v.octets.now };
 
-    ghost encode_value_answers = { λ v. FormWritten v.octets.now };
+    ghost encode_value_answers = { λ v. ContentsWritten v.octets.now };
 
     #[inline(always)]
     fn value_len(&self) -> Result<Length, Error> {
@@ -180,7 +180,7 @@ impl<'a, T: Lawful> EncodeValue for SequenceOf<'a, T> {
 }
 
 impl<'a, T: Lawful> Lawful for SequenceOf<'a, T> {
-    ghost lawful = { lent_lawful Sequence (AreElements T.tag_is T.valid T.contents)
+    ghost lawful = { octets_with_lawful Sequence (AreElements T.tag_is T.valid T.contents)
         (λ v. v.octets.now) (Prim.omega arith) };
 }
 
@@ -292,5 +292,5 @@ impl<'a, T: Lawful + DecodeValue<SliceReader<'a>>> Items<'a, T> {
 }
 
 impl<'a, T: Lawful> Described for SequenceOf<'a, T> {
-    ghost element = { lent Sequence (AreElements T.tag_is T.valid T.contents) (λ v. v.octets.now) };
+    ghost element = { octets_with Sequence (AreElements T.tag_is T.valid T.contents) (λ v. v.octets.now) };
 }

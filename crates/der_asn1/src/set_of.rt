@@ -5,14 +5,14 @@ ghost use Rattle.std.proofs.Common.{arith};
 ghost use Rattle.der.specs.Prelude.{Set as SetTag, rest_of, Reads, slice_state, IsBefore, error_of_kind};
 ghost use Rattle.der.specs.ErrorKinds.{Overflow};
 ghost use Rattle.der.specs.Decode.{SucceedsOrLacks};
-ghost use Rattle.der_asn1.specs.Checked.{form_size, FormWritten};
+ghost use Rattle.der_asn1.specs.Checked.{contents_size, ContentsWritten};
 ghost use Rattle.der_asn1.specs.SequenceOf.{AreElements, IsAtItem};
-ghost use Rattle.der_asn1.specs.SetOf.{AreAscending, IsElement};
-ghost use Rattle.der_asn1.specs.Lent.{TakesLent, IsLent, lent_lawful, lent_holds};
+ghost use Rattle.der_asn1.specs.SetOf.{AreAscending, IsEncodedElement};
+ghost use Rattle.der_asn1.specs.OctetsWith.{AcceptsOctetsWith, HasOctetsWith, octets_with_lawful, octets_with_accepts_valid};
 ghost use Rattle.der_asn1.specs.ListAnswers.{NextAnswer, SetWalked, ListRead};
 ghost use Rattle.der.specs.Prelude.{map_ok};
 ghost use Rattle.der.specs.Element.{ElementRead};
-ghost use Rattle.der_asn1.specs.Meaning.{lent};
+ghost use Rattle.der_asn1.specs.Meaning.{octets_with};
 
 use crate::described::Described;
 use crate::explicit::Nestable;
@@ -54,7 +54,7 @@ fn next_element<'a, T: Lawful + DecodeValue<SliceReader<'a>>>(
     reader: &mut SliceReader<'a>,
 ) -> Result<&'a [u8], <T as DecodeValue<SliceReader<'a>>>::Error>
     requires { IsAtItem (slice_state reader.old) }
-    ensures ok { IfOk result (λ o. IsElement T.tag_is T.valid T.contents o.now
+    ensures ok { IfOk result (λ o. IsEncodedElement T.tag_is T.valid T.contents o.now
         × Reads (slice_state reader.old) (slice_state reader.new) o.now) }
     ensures complete { AreElements T.tag_is T.valid T.contents (rest_of (slice_state reader.old))
         → (rest_of (slice_state reader.old) ≡ [] → ⊥)
@@ -63,10 +63,10 @@ fn next_element<'a, T: Lawful + DecodeValue<SliceReader<'a>>>(
         (ElementRead T.tag_is T.Error.from_gives T.decode_value_answers) (slice_state reader.old)
         result (slice_state reader.new) }
 {
-    let ahead = octets_left(reader);
+    let next = octets_left(reader);
     let _item = next_item::<T>(alloc, reader)?;
-    let behind = octets_left(reader);
-    Ok(&ahead[..ahead.len() - behind.len()])
+    let following = octets_left(reader);
+    Ok(&next[..next.len() - following.len()])
 }
 
 // Checks that octets are encodings of values, in sequence and in ascending order.
@@ -85,14 +85,14 @@ fn check_set<'a, T: Lawful + DecodeValue<SliceReader<'a>>>(
         (ElementRead T.tag_is T.Error.from_gives T.decode_value_answers) result octets.now }
 {
     let mut reader = SliceReader::new(octets)?;
-    let mut ahead: &'a [u8] = &[];
+    let mut next: &'a [u8] = &[];
     'elements: while !reader.is_finished() {
         let start = reader.position();
         let element = next_element::<T>(alloc, &mut reader)?;
-        if comes_before(element, ahead) {
+        if comes_before(element, next) {
             return Err(ErrorKind::SetOrdering.at(start).into());
         }
-        ahead = element;
+        next = element;
     }
     Ok(())
 }
@@ -132,17 +132,17 @@ impl<'a, T: Lawful> FixedTag for SetOf<'a, T> {
 }
 
 impl<'a, T: Lawful> ReadValue for SetOf<'a, T> {
-    ghost valid = { IsLent (AreAscending T.tag_is T.valid T.contents)
+    ghost valid = { HasOctetsWith (AreAscending T.tag_is T.valid T.contents)
         (λ v. v.elements.octets.now) };
 
-    ghost takes = { TakesLent (AreAscending T.tag_is T.valid T.contents)
+    ghost takes = { AcceptsOctetsWith (AreAscending T.tag_is T.valid T.contents)
         (λ v. v.elements.octets.now) };
 
     ghost value_levels = { λ _. 0 };
 
     ghost allocates = { T.allocates };
 
-    ghost takes_valid = { lent_holds (AreAscending T.tag_is T.valid T.contents)
+    ghost takes_valid = { octets_with_accepts_valid (AreAscending T.tag_is T.valid T.contents)
         (λ v. v.elements.octets.now) };
 }
 
@@ -155,7 +155,7 @@ impl<'a, T: Lawful> ReadValue for SetOf<'a, T> {
 /// - Those of the first element that cannot be decoded, as by [`SetOf::new`], with positions
 ///   counted from the beginning of the contents; the reader is after the contents and has not
 ///   failed.
-impl<'a, T: Lawful + DecodeValue<SliceReader<'a>>, R: Reader<Lent = &'a [u8]>> DecodeValue<R>
+impl<'a, T: Lawful + DecodeValue<SliceReader<'a>>, R: Reader<Borrowed = &'a [u8]>> DecodeValue<R>
     for SetOf<'a, T> {
     type Error = <T as DecodeValue<SliceReader<'a>>>::Error;
 
@@ -183,7 +183,7 @@ impl<'a, T: Lawful + DecodeValue<SliceReader<'a>>, R: Reader<Lent = &'a [u8]>> D
 impl<'a, T: Lawful> WrittenValue for SetOf<'a, T> {
     ghost contents = { λ v. v.elements.octets.now };
 
-    ghost writable = { IsLent (AreAscending T.tag_is T.valid T.contents)
+    ghost writable = { HasOctetsWith (AreAscending T.tag_is T.valid T.contents)
         (λ v. v.elements.octets.now) };
 }
 
@@ -192,9 +192,9 @@ impl<'a, T: Lawful> WrittenValue for SetOf<'a, T> {
 /// - `Overflow` without a position, if there are more than 4294967295 octets.
 /// - The writer's errors, as by [`Writer::write`].
 impl<'a, T: Lawful> EncodeValue for SetOf<'a, T> {
-    ghost value_size = { λ v. form_size v.elements.octets.now };
+    ghost value_size = { λ v. contents_size v.elements.octets.now };
 
-    ghost encode_value_answers = { λ v. FormWritten v.elements.octets.now };
+    ghost encode_value_answers = { λ v. ContentsWritten v.elements.octets.now };
 
     #[inline(always)]
     fn value_len(&self) -> Result<Length, Error> {
@@ -208,7 +208,7 @@ impl<'a, T: Lawful> EncodeValue for SetOf<'a, T> {
 }
 
 impl<'a, T: Lawful> Lawful for SetOf<'a, T> {
-    ghost lawful = { lent_lawful SetTag (AreAscending T.tag_is T.valid T.contents)
+    ghost lawful = { octets_with_lawful SetTag (AreAscending T.tag_is T.valid T.contents)
         (λ v. v.elements.octets.now) (Prim.omega arith) };
 }
 
@@ -270,6 +270,6 @@ impl<'a, T: Lawful> SetOf<'a, T> {
 }
 
 impl<'a, T: Lawful> Described for SetOf<'a, T> {
-    ghost element = { lent SetTag (AreAscending T.tag_is T.valid T.contents)
+    ghost element = { octets_with SetTag (AreAscending T.tag_is T.valid T.contents)
         (λ v. v.elements.octets.now) };
 }

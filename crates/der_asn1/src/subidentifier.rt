@@ -1,16 +1,16 @@
 //! Subidentifiers of an OBJECT IDENTIFIER, and the arcs that they encode.
 ghost use Rattle.std.specs.Prelude.{◌≡◌, ◌<◌, ◌+◌, ◌-◌, ◌*◌, ℕ, true, length};
 ghost use Rattle.der_asn1.specs.Forms.{ends_subidentifiers};
-ghost use Rattle.der_asn1.specs.Arcs.{subidentifiers, first_arc, told_arc, told_number};
+ghost use Rattle.der_asn1.specs.Arcs.{subidentifiers, first_arc, arc_in_32_bits, subidentifier_value};
 ghost use Rattle.der_asn1.specs.Arcs.{IsFirstNumber};
 
 // The value of the first subidentifier (`None` from 2^63 on), and the octets after it.
 pub(crate) fn first_subidentifier(octets: &[u8]) -> (Option<u64>, &[u8])
     requires some { 0 < length octets.now }
-    requires form { ends_subidentifiers true octets.now ≡ true }
+    requires grammar { ends_subidentifiers true octets.now ≡ true }
     ensures number { IsFirstNumber (subidentifiers 0 octets.now) result.0
         (subidentifiers 0 result.1.now) }
-    ensures form { ends_subidentifiers true result.1.now ≡ true }
+    ensures grammar { ends_subidentifiers true result.1.now ≡ true }
 {
     let mut number = Some(0);
     let mut at = 0;
@@ -28,7 +28,7 @@ pub(crate) fn first_subidentifier(octets: &[u8]) -> (Option<u64>, &[u8])
 // Appends a digit in base 128; `None` from 2^63 on.
 fn with_digit(number: Option<u64>, digit: u8) -> Option<u64>
     requires { digit < 128 }
-    ensures { (n : ℕ) → number ≡ told_number n → result ≡ told_number (n * 128 + digit) }
+    ensures { (n : ℕ) → number ≡ subidentifier_value n → result ≡ subidentifier_value (n * 128 + digit) }
 {
     match number {
         Some(number) if number < 0x100_0000_0000_0000 => Some(number * 128 + digit as u64),
@@ -38,7 +38,7 @@ fn with_digit(number: Option<u64>, digit: u8) -> Option<u64>
 
 // The first arc, from the value of the first subidentifier.
 pub(crate) fn first_arc_of(number: Option<u64>) -> u32
-    ensures { (n : ℕ) → number ≡ told_number n → result ≡ first_arc n }
+    ensures { (n : ℕ) → number ≡ subidentifier_value n → result ≡ first_arc n }
 {
     match number {
         Some(number) if number < 40 => 0,
@@ -49,7 +49,7 @@ pub(crate) fn first_arc_of(number: Option<u64>) -> u32
 
 // The second arc, from the value of the first subidentifier.
 pub(crate) fn second_arc_of(number: Option<u64>) -> Option<u32>
-    ensures { (n : ℕ) → number ≡ told_number n → result ≡ told_arc (n - 40 * first_arc n) }
+    ensures { (n : ℕ) → number ≡ subidentifier_value n → result ≡ arc_in_32_bits (n - 40 * first_arc n) }
 {
     match number {
         Some(number) if number < 40 => narrow(Some(number)),
@@ -61,7 +61,7 @@ pub(crate) fn second_arc_of(number: Option<u64>) -> Option<u32>
 
 // The number, if it fits in 32 bits.
 pub(crate) fn narrow(number: Option<u64>) -> Option<u32>
-    ensures { (n : ℕ) → number ≡ told_number n → result ≡ told_arc n }
+    ensures { (n : ℕ) → number ≡ subidentifier_value n → result ≡ arc_in_32_bits n }
 {
     match number {
         Some(number) if number < 0x1_0000_0000 => Some(number as u32),

@@ -4,17 +4,17 @@ ghost use Rattle.der.specs.Prelude.{TeletexString as TeletexTag};
 ghost use Rattle.der_asn1.specs.Forms.{octets_form};
 
 use crate::checked::Checked;
-use crate::form::Form;
+use crate::grammar::ContentsGrammar;
 use der::{FixedTag, Tag};
 
 /// Contents of a TeletexString: any octets, because the set of registered character sets is open
 /// (X.690 8.23.5).
-pub struct TeletexStringForm;
+pub struct TeletexStringGrammar;
 
 /// A TeletexString borrowed from the input.
-pub type TeletexStringRef<'a> = Checked<'a, TeletexStringForm>;
+pub type TeletexStringRef<'a> = Checked<'a, TeletexStringGrammar>;
 
-impl FixedTag for TeletexStringForm {
+impl FixedTag for TeletexStringGrammar {
     ghost tag_is = { TeletexTag };
 
     const TAG: Tag = Tag::TeletexString;
@@ -24,10 +24,10 @@ impl FixedTag for TeletexStringForm {
     }
 }
 
-impl Form for TeletexStringForm {
-    ghost form = { octets_form };
+impl ContentsGrammar for TeletexStringGrammar {
+    ghost grammar = { octets_form };
 
-    fn has_form(_octets: &[u8]) -> bool {
+    fn matches_grammar(_octets: &[u8]) -> bool {
         true
     }
 

@@ -1,14 +1,14 @@
 //! Times in one of the formats.
 ghost use Rattle.std.specs.Prelude.{◌≡◌, ◌<◌, ◌↔◌, ⊤, true, false, IsSome, IfSome};
 ghost use Rattle.std.proofs.Common.{arith, subst, sym};
-ghost use Rattle.der_asn1.specs.Checked.{HasForm, TakesForm, FormRead, form_size};
-ghost use Rattle.der_asn1.specs.Checked.{FormWritten, form_lawful};
+ghost use Rattle.der_asn1.specs.Checked.{HasCheckedContents, AcceptsCheckedContents, CheckedContentsRead, contents_size};
+ghost use Rattle.der_asn1.specs.Checked.{ContentsWritten, checked_contents_lawful};
 ghost use Rattle.der_asn1.specs.Meaning.{of_form};
 
 use crate::date_time::DateTime;
 use crate::described::Described;
 use crate::explicit::Nestable;
-use crate::time_form::TimeForm;
+use crate::time_form::TimeFormat;
 use der::{
     DecodeValue, EncodeValue, Error, FixedTag, Header, Lawful, Length, ReadValue, Reader, Tag,
     Writer, WrittenValue,
@@ -17,14 +17,14 @@ use std::alloc::{AllocError, Global};
 use std::marker::PhantomData;
 
 /// A time that can be written in the format `F`.
-pub struct TimeOf<F: TimeForm> {
+pub struct TimeOf<F: TimeFormat> {
     time: DateTime,
-    form: PhantomData<F>,
+    grammar: PhantomData<F>,
     ghost held: { F.holds time ≡ true },
 }
 
 /// A clone is the same time; cloning does not allocate.
-impl<F: TimeForm> Clone for TimeOf<F> {
+impl<F: TimeFormat> Clone for TimeOf<F> {
     ghost is_clone = { λ p q. q ≡ p };
 
     ghost is_infallible = { λ _. ⊤ };
@@ -34,9 +34,9 @@ impl<F: TimeForm> Clone for TimeOf<F> {
     }
 }
 
-impl<F: TimeForm> Copy for TimeOf<F> {}
+impl<F: TimeFormat> Copy for TimeOf<F> {}
 
-impl<F: TimeForm> TimeOf<F> {
+impl<F: TimeFormat> TimeOf<F> {
     /// Wraps the time; `None` if it cannot be written in this format.
     pub fn new(time: DateTime) -> Option<Self>
         ensures some { IsSome result ↔ (F.holds time ≡ true) }
@@ -45,7 +45,7 @@ impl<F: TimeForm> TimeOf<F> {
         if F::can_hold(&time) {
             Some(TimeOf {
                 time,
-                form: PhantomData,
+                grammar: PhantomData,
             })
         } else {
             None
@@ -61,7 +61,7 @@ impl<F: TimeForm> TimeOf<F> {
     }
 }
 
-impl<F: TimeForm> FixedTag for TimeOf<F> {
+impl<F: TimeFormat> FixedTag for TimeOf<F> {
     ghost tag_is = { F.tag_is };
 
     const TAG: Tag = F::TAG;
@@ -74,17 +74,17 @@ impl<F: TimeForm> FixedTag for TimeOf<F> {
     }
 }
 
-impl<F: TimeForm> ReadValue for TimeOf<F> {
-    ghost valid = { HasForm F.form (λ v. F.contents_of v.time) };
+impl<F: TimeFormat> ReadValue for TimeOf<F> {
+    ghost valid = { HasCheckedContents F.grammar (λ v. F.contents_of v.time) };
 
-    ghost takes = { TakesForm F.form (λ v. F.contents_of v.time) };
+    ghost takes = { AcceptsCheckedContents F.grammar (λ v. F.contents_of v.time) };
 
     ghost value_levels = { λ _. 0 };
 
     ghost allocates = { false };
 
     ghost takes_valid = { λ v rules h octets taken.
-        subst (λ x. F.form x ≡ true) (sym taken.1) taken.0 };
+        subst (λ x. F.grammar x ≡ true) (sym taken.1) taken.0 };
 }
 
 /// Accepts only the contents that DER allows, also under BER (X.690 11.7, 11.8).
@@ -94,10 +94,10 @@ impl<F: TimeForm> ReadValue for TimeOf<F> {
 /// - Those of the contents, as by [`Reader::read_slice`].
 /// - `Value` with the tag, at the position after contents that are no time; the reader has failed
 ///   then.
-impl<'a, F: TimeForm, R: Reader<Lent = &'a [u8]>> DecodeValue<R> for TimeOf<F> {
+impl<'a, F: TimeFormat, R: Reader<Borrowed = &'a [u8]>> DecodeValue<R> for TimeOf<F> {
     type Error = Error;
 
-    ghost decode_value_answers = { FormRead F.form F.tag_is (λ v. F.contents_of v.time) };
+    ghost decode_value_answers = { CheckedContentsRead F.grammar F.tag_is (λ v. F.contents_of v.time) };
 
     #[inline(always)]
     fn decode_value(_alloc: Global, reader: &mut R, header: Header) -> Result<Self, Error> {
@@ -105,7 +105,7 @@ impl<'a, F: TimeForm, R: Reader<Lent = &'a [u8]>> DecodeValue<R> for TimeOf<F> {
         match F::from_contents(octets) {
             Some(time) => Ok(TimeOf {
                 time,
-                form: PhantomData,
+                grammar: PhantomData,
             }),
             None => Err(reader.error(F::fixed_tag().value_error())),
         }
@@ -116,19 +116,19 @@ impl<'a, F: TimeForm, R: Reader<Lent = &'a [u8]>> DecodeValue<R> for TimeOf<F> {
     }
 }
 
-impl<F: TimeForm> WrittenValue for TimeOf<F> {
+impl<F: TimeFormat> WrittenValue for TimeOf<F> {
     ghost contents = { λ v. F.contents_of v.time };
 
-    ghost writable = { HasForm F.form (λ v. F.contents_of v.time) };
+    ghost writable = { HasCheckedContents F.grammar (λ v. F.contents_of v.time) };
 }
 
 /// # Errors
 ///
 /// `value_len` never fails. `encode_value` returns the errors of [`Writer::write`].
-impl<F: TimeForm> EncodeValue for TimeOf<F> {
-    ghost value_size = { λ v. form_size (F.contents_of v.time) };
+impl<F: TimeFormat> EncodeValue for TimeOf<F> {
+    ghost value_size = { λ v. contents_size (F.contents_of v.time) };
 
-    ghost encode_value_answers = { λ v. FormWritten (F.contents_of v.time) };
+    ghost encode_value_answers = { λ v. ContentsWritten (F.contents_of v.time) };
 
     #[inline(always)]
     fn value_len(&self) -> Result<Length, Error> {
@@ -141,14 +141,14 @@ impl<F: TimeForm> EncodeValue for TimeOf<F> {
     }
 }
 
-impl<F: TimeForm> Lawful for TimeOf<F> {
-    ghost lawful = { form_lawful F.tag_is F.form (λ v. F.contents_of v.time) F.numbered };
+impl<F: TimeFormat> Lawful for TimeOf<F> {
+    ghost lawful = { checked_contents_lawful F.tag_is F.grammar (λ v. F.contents_of v.time) F.numbered };
 }
 
-impl<F: TimeForm> Nestable for TimeOf<F> {
+impl<F: TimeFormat> Nestable for TimeOf<F> {
     ghost nestable = { Prim.omega arith };
 }
 
-impl<F: TimeForm> Described for TimeOf<F> {
-    ghost element = { of_form F.tag_is F.form (λ v. F.contents_of v.time) };
+impl<F: TimeFormat> Described for TimeOf<F> {
+    ghost element = { of_form F.tag_is F.grammar (λ v. F.contents_of v.time) };
 }

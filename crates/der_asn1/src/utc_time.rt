@@ -4,7 +4,7 @@ ghost use Rattle.der.specs.Prelude.{UtcTime as UtcTag};
 ghost use Rattle.der_asn1.specs.Times.{utc_octets, utc_form, is_utc_time};
 
 use crate::date_time::DateTime;
-use crate::time_form::TimeForm;
+use crate::time_form::TimeFormat;
 use crate::time_octets::{TimeOctets, utc_from};
 use crate::time_of::TimeOf;
 use der::{FixedTag, Tag};
@@ -12,12 +12,12 @@ use der::{FixedTag, Tag};
 /// Contents of a UTCTime: YYMMDDHHMMSSZ, of the years 1950 to 2049 (X.690 11.8; RFC 5280,
 /// 4.1.2.5.1).
 #[derive(Clone, Copy)]
-pub struct UtcTimeForm;
+pub struct UtcTimeFormat;
 
 /// A UTCTime, as a date with a time of day.
-pub type UtcTime = TimeOf<UtcTimeForm>;
+pub type UtcTime = TimeOf<UtcTimeFormat>;
 
-impl FixedTag for UtcTimeForm {
+impl FixedTag for UtcTimeFormat {
     ghost tag_is = { UtcTag };
 
     const TAG: Tag = Tag::UtcTime;
@@ -28,8 +28,8 @@ impl FixedTag for UtcTimeForm {
     }
 }
 
-impl TimeForm for UtcTimeForm {
-    ghost form = { utc_form };
+impl TimeFormat for UtcTimeFormat {
+    ghost grammar = { utc_form };
 
     ghost holds = { is_utc_time };
 

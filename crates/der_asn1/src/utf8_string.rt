@@ -5,17 +5,17 @@ ghost use Rattle.std.specs.Str.{is_utf8};
 ghost use Rattle.der.specs.Prelude.{Utf8String as Utf8Tag};
 
 use crate::checked::Checked;
-use crate::form::Form;
+use crate::grammar::ContentsGrammar;
 use der::{FixedTag, Tag};
 
 /// Contents of a UTF8String: characters of ISO/IEC 10646 in UTF-8, each in the fewest octets (X.690
 /// 8.23.10).
-pub struct Utf8StringForm;
+pub struct Utf8StringGrammar;
 
 /// A UTF8String borrowed from the input.
-pub type Utf8StringRef<'a> = Checked<'a, Utf8StringForm>;
+pub type Utf8StringRef<'a> = Checked<'a, Utf8StringGrammar>;
 
-impl FixedTag for Utf8StringForm {
+impl FixedTag for Utf8StringGrammar {
     ghost tag_is = { Utf8Tag };
 
     const TAG: Tag = Tag::Utf8String;
@@ -25,10 +25,10 @@ impl FixedTag for Utf8StringForm {
     }
 }
 
-impl Form for Utf8StringForm {
-    ghost form = { is_utf8 };
+impl ContentsGrammar for Utf8StringGrammar {
+    ghost grammar = { is_utf8 };
 
-    fn has_form(octets: &[u8]) -> bool {
+    fn matches_grammar(octets: &[u8]) -> bool {
         match std::str::from_utf8(octets) {
             Ok(_) => true,
             Err(_) => false,
@@ -38,7 +38,7 @@ impl Form for Utf8StringForm {
     ghost numbered = { Prim.omega arith };
 }
 
-impl<'a> Checked<'a, Utf8StringForm> {
+impl<'a> Checked<'a, Utf8StringGrammar> {
     /// The contents as text.
     pub fn as_str(&self) -> &'a str
         ensures { result.now ≡ self.now.octets.now }

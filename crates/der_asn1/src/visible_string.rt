@@ -4,16 +4,16 @@ ghost use Rattle.der.specs.Prelude.{VisibleString as VisibleTag};
 ghost use Rattle.der_asn1.specs.Alphabets.{visible_form};
 
 use crate::checked::Checked;
-use crate::form::Form;
+use crate::grammar::ContentsGrammar;
 use der::{FixedTag, Tag};
 
 /// Contents of a VisibleString: printing characters of ISO/IEC 646, and space (X.680 41).
-pub struct VisibleStringForm;
+pub struct VisibleStringGrammar;
 
 /// A VisibleString borrowed from the input.
-pub type VisibleStringRef<'a> = Checked<'a, VisibleStringForm>;
+pub type VisibleStringRef<'a> = Checked<'a, VisibleStringGrammar>;
 
-impl FixedTag for VisibleStringForm {
+impl FixedTag for VisibleStringGrammar {
     ghost tag_is = { VisibleTag };
 
     const TAG: Tag = Tag::VisibleString;
@@ -23,10 +23,10 @@ impl FixedTag for VisibleStringForm {
     }
 }
 
-impl Form for VisibleStringForm {
-    ghost form = { visible_form };
+impl ContentsGrammar for VisibleStringGrammar {
+    ghost grammar = { visible_form };
 
-    fn has_form(octets: &[u8]) -> bool {
+    fn matches_grammar(octets: &[u8]) -> bool {
         for octet in octets {
             if *octet < 0x20 || 0x7F <= *octet {
                 return false;

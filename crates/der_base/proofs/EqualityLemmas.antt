@@ -24,83 +24,83 @@ use Rattle.der_base.specs.declared.length.Length.{Length}
 use Rattle.der_base.specs.declared.tag.Tag.{Tag}
 
 -- values that a test finds equal are the same
-abbrev Tells : {A : Type 0} → (A → A → Bool) → Type 0
-Tells {A} test = (x y : A) → test x y ≡ true → x ≡ y
+abbrev EqualMeansSame : {A : Type 0} → (A → A → Bool) → Type 0
+EqualMeansSame {A} test = (x y : A) → test x y ≡ true → x ≡ y
 
 -- with the laws of `Eq`, such a test holds exactly for one and the same value
-exact : {A : Type 0} (test : A → A → Bool) → IsEquivalence test → Tells test → (x y : A) → IsTrue (test x y) ↔ (x ≡ y)
-exact test laws told x y = (told x y, λ e. sym (ap (test x) e) ∙ laws.refl x)
+exact : {A : Type 0} (test : A → A → Bool) → IsEquivalence test → EqualMeansSame test → (x y : A) → IsTrue (test x y) ↔ (x ≡ y)
+exact test laws reported x y = (reported x y, λ e. sym (ap (test x) e) ∙ laws.refl x)
 
 -- fields that the tests of each variant find equal are the same
-abbrev EachTells : (parts : List (List Field)) → Each Bool parts → Type 0
-EachTells [] each = Unit {0}
-EachTells (part ∷ parts) each = Tells {A = Values part} each.0 × EachTells parts each.1
+abbrev EachEqualMeansSame : (parts : List (List Field)) → Each Bool parts → Type 0
+EachEqualMeansSame [] each = Unit {0}
+EachEqualMeansSame (part ∷ parts) each = EqualMeansSame {A = Values part} each.0 × EachEqualMeansSame parts each.1
 
-choice-told : (parts : List (List Field)) (each : Each Bool parts) → EachTells parts each → Tells {A = Choice parts} (by false false parts each)
-choice-told [] each all c d e = absurd c
-choice-told (part ∷ parts) each all (inl x) (inl y) e = ap inl (all.0 x y e)
-choice-told (part ∷ parts) each all (inl x) (inr d) e = absurd (true≢false (sym e))
-choice-told (part ∷ parts) each all (inr c) (inl y) e = absurd (true≢false (sym e))
-choice-told (part ∷ parts) each all (inr c) (inr d) e = ap inr (choice-told parts each.1 all.1 c d e)
+choice-reported : (parts : List (List Field)) (each : Each Bool parts) → EachEqualMeansSame parts each → EqualMeansSame {A = Choice parts} (by false false parts each)
+choice-reported [] each all c d e = absurd c
+choice-reported (part ∷ parts) each all (inl x) (inl y) e = ap inl (all.0 x y e)
+choice-reported (part ∷ parts) each all (inl x) (inr d) e = absurd (true≢false (sym e))
+choice-reported (part ∷ parts) each all (inr c) (inl y) e = absurd (true≢false (sym e))
+choice-reported (part ∷ parts) each all (inr c) (inr d) e = ap inr (choice-reported parts each.1 all.1 c d e)
 
-tag-told : Tells tag_eq.ghosts.eq
-tag-told s t e = values_one tag.enum s t (choice-told tag.enum.parts _ (search rules) (tag.enum.as_values s) (tag.enum.as_values t) e)
+tag-reported : EqualMeansSame tag_eq.ghosts.eq
+tag-reported s t e = values_one tag.enum s t (choice-reported tag.enum.parts _ (search rules) (tag.enum.as_values s) (tag.enum.as_values t) e)
 
-length-told : Tells length_eq.ghosts.eq
-length-told l m e = search rules
+length-reported : EqualMeansSame length_eq.ghosts.eq
+length-reported l m e = search rules
 
-option-told : {A : Type 0} {test : A → A → Bool} → Tells test → Tells (option_eq test)
-option-told told None None e = refl
-option-told told None (Some y) e = absurd (true≢false (sym e))
-option-told told (Some x) None e = absurd (true≢false (sym e))
-option-told told (Some x) (Some y) e = ap Some (told x y e)
+option-reported : {A : Type 0} {test : A → A → Bool} → EqualMeansSame test → EqualMeansSame (option_eq test)
+option-reported reported None None e = refl
+option-reported reported None (Some y) e = absurd (true≢false (sym e))
+option-reported reported (Some x) None e = absurd (true≢false (sym e))
+option-reported reported (Some x) (Some y) e = ap Some (reported x y e)
 
 -- ---- the fields of a variant
 
-no_field-told : Tells {A = Unit {0}} (λ x y. true)
-no_field-told x y e = refl
+no_field-reported : EqualMeansSame {A = Unit {0}} (λ x y. true)
+no_field-reported x y e = refl
 
-field-told : {A : Type 0} {test : A → A → Bool} → Tells test → Tells {A = A × Unit {0}} (λ x y. test x.0 y.0)
-field-told told x y e = λ i. (told x.0 y.0 e i, tt)
+field-reported : {A : Type 0} {test : A → A → Bool} → EqualMeansSame test → EqualMeansSame {A = A × Unit {0}} (λ x y. test x.0 y.0)
+field-reported reported x y e = λ i. (reported x.0 y.0 e i, tt)
 
-fields-told : {A B : Type 0} {first : A → A → Bool} {second : B → B → Bool} → Tells first → Tells second
-    → Tells {A = A × (B × Unit {0})} (λ x y. first x.0 y.0 && second x.1.0 y.1.0)
-fields-told {first} {second} told told' x y e =
-    let parts = and_parts (first x.0 y.0) (second x.1.0 y.1.0) e in λ i. (told x.0 y.0 parts.0 i, (told' x.1.0 y.1.0 parts.1 i, tt))
+fields-reported : {A B : Type 0} {first : A → A → Bool} {second : B → B → Bool} → EqualMeansSame first → EqualMeansSame second
+    → EqualMeansSame {A = A × (B × Unit {0})} (λ x y. first x.0 y.0 && second x.1.0 y.1.0)
+fields-reported {first} {second} reported reported' x y e =
+    let parts = and_parts (first x.0 y.0) (second x.1.0 y.1.0) e in λ i. (reported x.0 y.0 parts.0 i, (reported' x.1.0 y.1.0 parts.1 i, tt))
 
-lengths-told : Tells {A = Length × (Length × Unit {0})} (λ x y. length_eq.ghosts.eq x.0 y.0 && length_eq.ghosts.eq x.1.0 y.1.0)
-lengths-told = fields-told length-told length-told
+lengths-reported : EqualMeansSame {A = Length × (Length × Unit {0})} (λ x y. length_eq.ghosts.eq x.0 y.0 && length_eq.ghosts.eq x.1.0 y.1.0)
+lengths-reported = fields-reported length-reported length-reported
 
-a_tag-told : Tells {A = Tag × Unit {0}} (λ x y. tag_eq.ghosts.eq x.0 y.0)
-a_tag-told = field-told tag-told
+a_tag-reported : EqualMeansSame {A = Tag × Unit {0}} (λ x y. tag_eq.ghosts.eq x.0 y.0)
+a_tag-reported = field-reported tag-reported
 
-tags-told : Tells {A = Option Tag × (Tag × Unit {0})} (λ x y. option_eq tag_eq.ghosts.eq x.0 y.0 && tag_eq.ghosts.eq x.1.0 y.1.0)
-tags-told = fields-told (option-told tag-told) tag-told
+tags-reported : EqualMeansSame {A = Option Tag × (Tag × Unit {0})} (λ x y. option_eq tag_eq.ghosts.eq x.0 y.0 && tag_eq.ghosts.eq x.1.0 y.1.0)
+tags-reported = fields-reported (option-reported tag-reported) tag-reported
 
-octet-told : Tells {A = ℕ × Unit {0}} (λ x y. nat_eq x.0 y.0)
-octet-told = field-told eqb-true
+octet-reported : EqualMeansSame {A = ℕ × Unit {0}} (λ x y. nat_eq x.0 y.0)
+octet-reported = field-reported eqb-true
 
-utf8-told : Tells {A = Utf8Error × Unit {0}} (λ x y. utf8_eq.ghosts.eq x.0 y.0)
-utf8-told x y e = search rules
+utf8-reported : EqualMeansSame {A = Utf8Error × Unit {0}} (λ x y. utf8_eq.ghosts.eq x.0 y.0)
+utf8-reported x y e = search rules
 
-kind-told : Tells kind_eq.ghosts.eq
-kind-told j k e =
-    values_one kind.enum j k (choice-told kind.enum.parts _
-    (search (no_field-told, lengths-told, a_tag-told, tags-told, octet-told, utf8-told) depth 40)
+kind-reported : EqualMeansSame kind_eq.ghosts.eq
+kind-reported j k e =
+    values_one kind.enum j k (choice-reported kind.enum.parts _
+    (search (no_field-reported, lengths-reported, a_tag-reported, tags-reported, octet-reported, utf8-reported) depth 40)
     (kind.enum.as_values j) (kind.enum.as_values k) e)
 
-error-told : Tells error_eq.ghosts.eq
-error-told e f told =
-    let parts = and_parts (kind_eq.ghosts.eq e.kind f.kind) (option_eq length_eq.ghosts.eq e.position f.position) told in
-    λ i. record { kind = kind-told e.kind f.kind parts.0 i; position = option-told length-told e.position f.position parts.1 i }
+error-reported : EqualMeansSame error_eq.ghosts.eq
+error-reported e f reported =
+    let parts = and_parts (kind_eq.ghosts.eq e.kind f.kind) (option_eq length_eq.ghosts.eq e.position f.position) reported in
+    λ i. record { kind = kind-reported e.kind f.kind parts.0 i; position = option-reported length-reported e.position f.position parts.1 i }
 
 -- ---- the meaning of `==`
 
 pub tag_equality : (s t : Tag) → IsTrue (tag_eq.ghosts.eq s t) ↔ (s ≡ t)
-tag_equality = exact tag_eq.ghosts.eq tag_laws.laws-law tag-told
+tag_equality = exact tag_eq.ghosts.eq tag_laws.laws-law tag-reported
 
 pub kind_equality : (j k : ErrorKind) → IsTrue (kind_eq.ghosts.eq j k) ↔ (j ≡ k)
-kind_equality = exact kind_eq.ghosts.eq kind_laws.laws-law kind-told
+kind_equality = exact kind_eq.ghosts.eq kind_laws.laws-law kind-reported
 
 pub error_equality : (e f : Error) → IsTrue (error_eq.ghosts.eq e f) ↔ (e ≡ f)
-error_equality = exact error_eq.ghosts.eq error_laws.laws-law error-told
+error_equality = exact error_eq.ghosts.eq error_laws.laws-law error-reported

@@ -26,8 +26,8 @@ openings_append zero x y = refl
 openings_append (suc n) x y = ap (λ l. 48 ∷ 128 ∷ l) (openings_append n x y)
 
 -- one more end-of-contents
-marks_append : (n : ℕ) (x : List ℕ) → (x ++ replicate (2 * n) 0) ++ 0 ∷ 0 ∷ [] ≡ x ++ replicate (2 * suc n) 0
-marks_append n x =
+eocs_append : (n : ℕ) (x : List ℕ) → (x ++ replicate (2 * n) 0) ++ 0 ∷ 0 ∷ [] ≡ x ++ replicate (2 * suc n) 0
+eocs_append n x =
     let count : 2 * n + 2 ≡ 2 * suc n = omega arith in
     append_assoc x (replicate (2 * n) 0) (0 ∷ 0 ∷ []) ∙ ap (λ l. x ++ l) (replicate-append-replicate (2 * n) 2 0 ∙ ap (λ k. replicate k 0) count)
 
@@ -40,7 +40,7 @@ nested (suc n) {level} {parts} {body} some few h =
     let deep : level + suc n ≡ suc level + n = omega arith in
     let inner = nested n {level = suc level} (omega arith) (omega arith) (subst (λ k. Body k parts body) deep h) in
     body_at (omega arith)
-    (ap (λ l. 48 ∷ 128 ∷ l) (openings_append n (body ++ replicate (2 * n) 0) (0 ∷ 0 ∷ []) ∙ ap (nested_openings n) (marks_append n body)))
+    (ap (λ l. 48 ∷ 128 ∷ l) (openings_append n (body ++ replicate (2 * n) 0) (0 ∷ 0 ∷ []) ∙ ap (nested_openings n) (eocs_append n body)))
     (more (indefinite (omega arith, omega arith) sequence_identifier inner) (ends (omega arith, omega arith)))
 
 -- n openings alone are the beginning of a body

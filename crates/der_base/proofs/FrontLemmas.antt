@@ -120,14 +120,14 @@ module _ (F : ℕ → List ℕ → Refusal → Type 0) (wrong : ErrorKind) (rule
       (λ long. ⊎_elim
       (λ opening. opens rest (ap (λ x. x ∷ rest) opening))
       (λ other. ⊎_elim
-      (λ near. behind (omega arith) near)
+      (λ near. following (omega arith) near)
       (λ beyond. faulty (far o rest beyond))
       (cases_lt o 133))
       (cases_eq o 128))
       (cases_lt o 128)
     where
-      behind : 128 < o → o < 133 → LengthFront F wrong rules at (o ∷ rest)
-      behind low high =
+      following : 128 < o → o < 133 → LengthFront F wrong rules at (o ∷ rest)
+      following low high =
           ⊎_elim
           (λ cut. faulty (octet_cut at o rest (omega arith) high cut))
           (λ enough. subst (λ l. LengthFront F wrong rules at (o ∷ l)) (take-append-drop (o - 128) rest) (digits_front o (take (o - 128) rest) (drop (o - 128) rest) low high (length-take-le (o - 128) rest enough)))

@@ -6,7 +6,7 @@ use Rattle.std.specs.Int.Digits.{digits_of, number_from_digits, AllBelowBase}
 use Rattle.der_base.specs.Length.{definite_length, digits, length_octets}
 use Rattle.der_base.specs.Error.{Refusal, refusal, end_refusal}
 use Rattle.der_base.specs.Body.{Body}
-use Rattle.der_base.specs.HeaderGrammar.{LengthAhead, definite, LengthFault, nothing, few, far, longer, indefinite_form, no_body}
+use Rattle.der_base.specs.HeaderGrammar.{LengthNext, definite, LengthFault, nothing, few, far, longer, indefinite_form, no_body}
 use Rattle.der_base.specs.Laws.{IsBodyFault}
 use Rattle.der_base.specs.declared.error.ErrorKind.{ErrorKind}
 use Rattle.der_base.specs.declared.encoding_rules.EncodingRules.{EncodingRules}
@@ -82,9 +82,9 @@ abbrev pub least_of : ℕ → ℕ
 least_of k = max 128 (256 ^ (k - 1))
 
 -- one octet below 128 is a length
-pub found_short : {rules : EncodingRules} (o : ℕ) (rest : List ℕ) → o < 128 → LengthAhead (definite_length o) rules (o ∷ rest) 1
+pub found_short : {rules : EncodingRules} (o : ℕ) (rest : List ℕ) → o < 128 → LengthNext (definite_length o) rules (o ∷ rest) 1
 found_short {rules} o rest h =
-    subst (λ l. LengthAhead (definite_length o) rules (l ++ rest) (length l)) (length_small o h) (definite o rest (omega arith))
+    subst (λ l. LengthNext (definite_length o) rules (l ++ rest) (length l)) (length_small o h) (definite o rest (omega arith))
 
 -- k octets with a value that requires k octets are its shortest encoding
 pub shortest : (k : ℕ) (ds : List ℕ) → 1 ≤ k → length ds ≡ k → AllBelowBase 256 ds → least_of k ≤ number_from_digits 256 ds → length_octets (number_from_digits 256 ds) ≡ (128 + k) ∷ ds
@@ -99,11 +99,11 @@ shortest k (d ∷ ds) pos n all large =
 
 -- an octet from 129 to 132 followed by the announced octets, whose value requires them all, is a
 -- length
-pub found_long : {rules : EncodingRules} (k : ℕ) (ds rest : List ℕ) → 1 ≤ k → k ≤ 4 → length ds ≡ k → AllBelowBase 256 ds → least_of k ≤ number_from_digits 256 ds → LengthAhead (definite_length (number_from_digits 256 ds)) rules ((128 + k) ∷ (ds ++ rest)) (1 + k)
+pub found_long : {rules : EncodingRules} (k : ℕ) (ds rest : List ℕ) → 1 ≤ k → k ≤ 4 → length ds ≡ k → AllBelowBase 256 ds → least_of k ≤ number_from_digits 256 ds → LengthNext (definite_length (number_from_digits 256 ds)) rules ((128 + k) ∷ (ds ++ rest)) (1 + k)
 found_long {rules} k ds rest pos four n all large =
     let size : length ((128 + k) ∷ ds) ≡ 1 + k = omega arith in
-    subst (λ m. LengthAhead (definite_length (number_from_digits 256 ds)) rules ((128 + k) ∷ (ds ++ rest)) m) size
-    (subst (λ l. LengthAhead (definite_length (number_from_digits 256 ds)) rules (l ++ rest) (length l)) (shortest k ds pos n all large)
+    subst (λ m. LengthNext (definite_length (number_from_digits 256 ds)) rules ((128 + k) ∷ (ds ++ rest)) m) size
+    (subst (λ l. LengthNext (definite_length (number_from_digits 256 ds)) rules (l ++ rest) (length l)) (shortest k ds pos n all large)
     (definite (number_from_digits 256 ds) rest (number_small ds (omega arith) all)))
 
 at_least_power : (k : ℕ) (ds : List ℕ) → 1 ≤ k → length ds ≡ k → get_or ds 0 0 ≢ 0 → 256 ^ (k - 1) ≤ number_from_digits 256 ds
@@ -134,9 +134,9 @@ count_back : (o : ℕ) → 128 ≤ o → 128 + (o - 128) ≡ o
 count_back o h = omega arith
 
 -- a length is found by its first octet o, which announces the number of octets that follow
-pub octet_found : {rules : EncodingRules} (o : ℕ) (ds rest : List ℕ) → 128 < o → o < 133 → length ds ≡ o - 128 → AllBelowBase 256 ds → least_of (o - 128) ≤ number_from_digits 256 ds → LengthAhead (definite_length (number_from_digits 256 ds)) rules (o ∷ (ds ++ rest)) (1 + (o - 128))
+pub octet_found : {rules : EncodingRules} (o : ℕ) (ds rest : List ℕ) → 128 < o → o < 133 → length ds ≡ o - 128 → AllBelowBase 256 ds → least_of (o - 128) ≤ number_from_digits 256 ds → LengthNext (definite_length (number_from_digits 256 ds)) rules (o ∷ (ds ++ rest)) (1 + (o - 128))
 octet_found {rules} o ds rest low high n all large =
-    subst (λ x. LengthAhead (definite_length (number_from_digits 256 ds)) rules (x ∷ (ds ++ rest)) (1 + (o - 128))) (count_back o (omega arith))
+    subst (λ x. LengthNext (definite_length (number_from_digits 256 ds)) rules (x ∷ (ds ++ rest)) (1 + (o - 128))) (count_back o (omega arith))
     (found_long (o - 128) ds rest (omega arith) (omega arith) n all large)
 
 -- the octets of a length, given the first octet

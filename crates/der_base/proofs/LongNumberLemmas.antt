@@ -13,28 +13,28 @@ use Rattle.der_base.proofs.TagLemmas.{label_small, label_large, octet_parts, oct
 use Rattle.der_base.proofs.IdentifierLemmas.{BeginsNoIdentifier, none_with, IdentifierView, tagged, segmented, identifier_view, identifier_at, long_identifier}
 
 -- digits that are followed by more digits
-abbrev pub going_on : List ℕ → List ℕ
-going_on = map (λ d. 128 + d)
+abbrev pub continued_digits : List ℕ → List ℕ
+continued_digits = map (λ d. 128 + d)
 
 -- the last digit, after digits that continue
-pub continued_push : (ds : List ℕ) (d : ℕ) → continuation_octets (ds ++ d ∷ []) ≡ going_on ds ++ d ∷ []
+pub continued_push : (ds : List ℕ) (d : ℕ) → continuation_octets (ds ++ d ∷ []) ≡ continued_digits ds ++ d ∷ []
 continued_push [] d = refl
 continued_push (c ∷ []) d = refl
 continued_push (c ∷ b ∷ ds) d = ap (λ l. (128 + c) ∷ l) (continued_push (b ∷ ds) d)
 
 -- one more digit that continues
-pub going_on_push : (ds : List ℕ) (d : ℕ) → going_on (ds ++ d ∷ []) ≡ going_on ds ++ (128 + d) ∷ []
-going_on_push [] d = refl
-going_on_push (c ∷ ds) d = ap (λ l. (128 + c) ∷ l) (going_on_push ds d)
+pub continued_digits_push : (ds : List ℕ) (d : ℕ) → continued_digits (ds ++ d ∷ []) ≡ continued_digits ds ++ (128 + d) ∷ []
+continued_digits_push [] d = refl
+continued_digits_push (c ∷ ds) d = ap (λ l. (128 + c) ∷ l) (continued_digits_push ds d)
 
 -- octets that begin with digits that continue consist of these and more
-continued_begins : (es ds more : List ℕ) → 0 < length es → AllBelowBase 128 es → continuation_octets es ≡ going_on ds ++ more → (r : List ℕ) × (es ≡ ds ++ r) × (0 < length r) × AllBelowBase 128 r × (continuation_octets r ≡ more)
+continued_begins : (es ds more : List ℕ) → 0 < length es → AllBelowBase 128 es → continuation_octets es ≡ continued_digits ds ++ more → (r : List ℕ) × (es ≡ ds ++ r) × (0 < length r) × AllBelowBase 128 r × (continuation_octets r ≡ more)
 continued_begins [] ds more pos all e = absurd (omega arith)
 continued_begins (d ∷ es) [] more pos all e = (d ∷ es, refl, pos, all, e)
 continued_begins (d ∷ []) (c ∷ ds) more pos all e = let f : d ≡ 128 + c = cc in absurd (omega (arith, all.0))
 continued_begins (d ∷ b ∷ es) (c ∷ ds) more pos all e =
     let f : 128 + d ≡ 128 + c = cc in
-    let g : continuation_octets (b ∷ es) ≡ going_on ds ++ more = cc in
+    let g : continuation_octets (b ∷ es) ≡ continued_digits ds ++ more = cc in
     let same : d ≡ c = omega arith in
     let r = continued_begins (b ∷ es) ds more (omega arith) all.1 g in
     (r.0, ap (λ l. d ∷ l) r.1 ∙ ap (λ x. x ∷ (ds ++ r.0)) same, r.2, r.3, r.4)
@@ -50,7 +50,7 @@ last_octet (d ∷ c ∷ r) o more pos all e =
 
 -- the octets so far are those of a number below 2 ^ 25 that continues
 pub record SoFar (s : List ℕ) (v : ℕ) : Type 0 where
-  pub octets : s ≡ going_on (digits_of 128 v)
+  pub octets : s ≡ continued_digits (digits_of 128 v)
   pub small : v < 2 ^ 25
 
 -- no octets so far
@@ -62,7 +62,7 @@ pub so_far_more : (s : List ℕ) (v p : ℕ) → SoFar s v → 128 ≤ p → p <
 so_far_more s v p h low high pos small =
     let octet : 128 + p % 128 ≡ p = omega arith in
     record {
-      octets = ap (λ l. l ++ p ∷ []) h.octets ∙ ap (λ x. going_on (digits_of 128 v) ++ x ∷ []) (sym octet) ∙ sym (going_on_push (digits_of 128 v) (p % 128)) ∙ ap going_on (sym (digits_of_push 128 v (p % 128) (omega arith) (omega arith) pos));
+      octets = ap (λ l. l ++ p ∷ []) h.octets ∙ ap (λ x. continued_digits (digits_of 128 v) ++ x ∷ []) (sym octet) ∙ sym (continued_digits_push (digits_of 128 v) (p % 128)) ∙ ap continued_digits (sym (digits_of_push 128 v (p % 128) (omega arith) (omega arith) pos));
       small = small;
     }
 
@@ -106,8 +106,8 @@ so_far_cut s v h =
 
 -- a number that continues with this octet
 module _ (s : List ℕ) (v p : ℕ) (h : SoFar s v) where
-  goes_on : (n : ℕ) (more : List ℕ) → 31 ≤ n → continuation_octets (digits 128 n) ≡ (s ++ p ∷ []) ++ more → (r : List ℕ) × (digits_of 128 n ≡ digits_of 128 v ++ r) × (0 < length r) × AllBelowBase 128 r × (continuation_octets r ≡ p ∷ more)
-  goes_on n more large e =
+  continues : (n : ℕ) (more : List ℕ) → 31 ≤ n → continuation_octets (digits 128 n) ≡ (s ++ p ∷ []) ++ more → (r : List ℕ) × (digits_of 128 n ≡ digits_of 128 v ++ r) × (0 < length r) × AllBelowBase 128 r × (continuation_octets r ≡ p ∷ more)
+  continues n more large e =
       continued_begins (digits_of 128 n) (digits_of 128 v) (p ∷ more) (length_digits_positive 128 n (omega arith) (omega arith)) (all_below_base_digits_of 128 n (omega arith))
       (ap continuation_octets (sym (digits_positive 128 n (omega arith))) ∙ e ∙ append_assoc s (p ∷ []) more ∙ ap (λ l. l ++ p ∷ more) h.octets)
 
@@ -115,7 +115,7 @@ module _ (s : List ℕ) (v p : ℕ) (h : SoFar s v) where
   none_from_zero : v ≡ 0 → p % 128 ≡ 0 → BeginsNoNumber (s ++ p ∷ [])
   unfolding BeginsNoNumber
   none_from_zero z q n more large small e =
-      let g = goes_on n more large e in
+      let g = continues n more large e in
       let same : digits_of 128 n ≡ g.0 = g.1 ∙ ap (λ x. digits_of 128 x ++ g.0) z in
       let pos = first_digits_of 128 n (omega arith) (omega arith) in
       ⊎_elim
@@ -131,7 +131,7 @@ module _ (s : List ℕ) (v p : ℕ) (h : SoFar s v) where
   none_from_few : p < 128 → v * 128 + p % 128 < 31 → BeginsNoNumber (s ++ p ∷ [])
   unfolding BeginsNoNumber
   none_from_few low few n more large small e =
-      let g = goes_on n more large e in
+      let g = continues n more large e in
       ⊎_elim
       (λ a. let value : n ≡ v * 128 + p = sym (number_digits_of 128 n (omega arith)) ∙ ap (number_from_digits 128) (g.1 ∙ ap (λ l. digits_of 128 v ++ l) a.1) ∙ number_push 128 (digits_of 128 v) p ∙ ap (λ x. x * 128 + p) (number_digits_of 128 v (omega arith)) in omega arith)
       (λ a. omega (arith, a.0))
@@ -141,7 +141,7 @@ module _ (s : List ℕ) (v p : ℕ) (h : SoFar s v) where
   none_from_many : 128 ≤ p → p < 256 → 2 ^ 25 ≤ v * 128 + p % 128 → BeginsNoNumber (s ++ p ∷ [])
   unfolding BeginsNoNumber
   none_from_many low high many n more large small e =
-      let g = goes_on n more large e in
+      let g = continues n more large e in
       ⊎_elim
       (λ a. omega (arith, a.0))
       (λ a.
@@ -154,14 +154,14 @@ module _ (s : List ℕ) (v p : ℕ) (h : SoFar s v) where
 
 -- a first octet that is followed by a number
 module _ (rules : EncodingRules) (o : ℕ) (above : 64 ≤ o) (high : o < 256) (set : o % 32 ≡ 31) where
-  cut_behind : (s : List ℕ) → IsCutNumber s → IsCutIdentifier rules (o ∷ s)
+  truncated_after_first : (s : List ℕ) → IsCutNumber s → IsCutIdentifier rules (o ∷ s)
   unfolding IsCutNumber
-  cut_behind s (n, d, more, large, small, e) =
+  truncated_after_first s (n, d, more, large, small, e) =
       (d, more, other_tag o n, is_constructed o, identifier_at (ap (λ l. o ∷ l) e) refl (long_identifier o n above high set large small))
 
-  none_behind : (s : List ℕ) → BeginsNoNumber s → BeginsNoIdentifier rules (o ∷ s)
+  none_after_first : (s : List ℕ) → BeginsNoNumber s → BeginsNoIdentifier rules (o ∷ s)
   unfolding BeginsNoNumber
-  none_behind s none more t b h = go (identifier_view h)
+  none_after_first s none more t b h = go (identifier_view h)
     where
       go : IdentifierView rules (o ∷ (s ++ more)) t b → ⊥
       go (segmented k e f g) = let m : o ≡ 36 = cc in omega arith
@@ -180,11 +180,11 @@ module _ (rules : EncodingRules) (o : ℕ) (above : 64 ≤ o) (high : o < 256) (
           (cases_lt (label t).number 31)
 
   number_refused : (at : ℕ) (s : List ℕ) (v p : ℕ) (rest : List ℕ) → SoFar s v → BeginsNoNumber (s ++ p ∷ []) → IdentifierFault rules at (o ∷ (s ++ p ∷ rest)) (refusal TagNumberInvalid (at + length (o ∷ s) + 1))
-  number_refused at s v p rest h none = refused (o ∷ s) p rest (cut_behind s (so_far_cut s v h)) (none_behind (s ++ p ∷ []) none)
+  number_refused at s v p rest h none = refused (o ∷ s) p rest (truncated_after_first s (so_far_cut s v h)) (none_after_first (s ++ p ∷ []) none)
 
 -- a number that continues, and no octet after it
 pub number_cut : {rules : EncodingRules} (at o v : ℕ) (s : List ℕ) → 64 ≤ o → o < 256 → o % 32 ≡ 31 → SoFar s v → IdentifierFault rules at (o ∷ s) (end_refusal (at + length (o ∷ s)))
-number_cut {rules} at o v s above high set h = cut (o ∷ s) (cut_behind rules o above high set s (so_far_cut s v h))
+number_cut {rules} at o v s above high set h = cut (o ∷ s) (truncated_after_first rules o above high set s (so_far_cut s v h))
 
 -- a number that begins with a zero digit is an error
 pub number_refused_first : {rules : EncodingRules} (at o v p : ℕ) (s rest : List ℕ) → 64 ≤ o → o < 256 → o % 32 ≡ 31 → SoFar s v → v ≡ 0 → p % 128 ≡ 0 → IdentifierFault rules at (o ∷ (s ++ p ∷ rest)) (refusal TagNumberInvalid (at + length (o ∷ s) + 1))
@@ -200,4 +200,4 @@ number_refused_many {rules} at o v p s rest above high set h low small many = nu
 
 -- a number from 256 on among its octets is an error
 pub number_refused_above : {rules : EncodingRules} (at o v p : ℕ) (s rest : List ℕ) → 64 ≤ o → o < 256 → o % 32 ≡ 31 → SoFar s v → 256 ≤ p → IdentifierFault rules at (o ∷ (s ++ p ∷ rest)) (refusal TagNumberInvalid (at + length (o ∷ s) + 1))
-number_refused_above {rules} at o v p s rest above high set h big = refused (o ∷ s) p rest (cut_behind rules o above high set s (so_far_cut s v h)) (none_with (o ∷ s) p big)
+number_refused_above {rules} at o v p s rest above high set h big = refused (o ∷ s) p rest (truncated_after_first rules o above high set s (so_far_cut s v h)) (none_with (o ∷ s) p big)

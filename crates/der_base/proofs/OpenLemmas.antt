@@ -22,8 +22,8 @@ body_in : {level parts : ℕ} {body octets : List ℕ} (rest : List ℕ) → Bod
 body_in {parts = n} {body = b} rest is e = record { parts = n; body = b; rest = rest; is = is; split = e }
 
 -- no identifier begins with a zero octet
-pub no_marks : {id : List ℕ} {t : Tag} {c : Bool} (x y : List ℕ) → IsIdentifier Ber id t c → id ++ x ≡ 0 ∷ y → ⊥
-no_marks x y d e = let h = identifier_begins d in h.3 (let f : h.0 ∷ (h.1 ++ x) ≡ 0 ∷ y = ap (λ l. l ++ x) (sym h.2) ∙ e in cc)
+pub identifier_not_zero : {id : List ℕ} {t : Tag} {c : Bool} (x y : List ℕ) → IsIdentifier Ber id t c → id ++ x ≡ 0 ∷ y → ⊥
+identifier_not_zero x y d e = let h = identifier_begins d in h.3 (let f : h.0 ∷ (h.1 ++ x) ≡ 0 ∷ y = ap (λ l. l ++ x) (sym h.2) ∙ e in cc)
 
 -- after an item a body continues
 past_item : {k m n l : ℕ} {i b : List ℕ} (q rest : List ℕ) → Item l m i → Body k n b → i ++ q ≡ b ++ rest → BodyIn k q
@@ -38,7 +38,7 @@ past_items q rest (then_item {items = s} {item = i} h g) t e =
 
 -- after an identifier and octet `0x80` there is a body of the next level
 past_opening : {k n : ℕ} {id b : List ℕ} {t : Tag} {c : Bool} (q rest : List ℕ) → IsIdentifier Ber id t c → Body k n b → id ++ 128 ∷ q ≡ b ++ rest → BodyIn (suc k) q
-past_opening q rest d (ends at) e = absurd (no_marks (128 ∷ q) (0 ∷ rest) d e)
+past_opening q rest d (ends at) e = absurd (identifier_not_zero (128 ∷ q) (0 ∷ rest) d e)
 past_opening {id = id} q rest d (more {body = b} (definite {id = a} at g contents l) t) e =
     let r = identifier_front d g (128 ∷ q) (length_octets (length contents) ++ (contents ++ (b ++ rest))) (e ∙ simp append_assoc) in
     absurd (length_definite (length contents) (contents ++ (b ++ rest)) q (sym r.3))
@@ -58,7 +58,7 @@ past_open q rest (deeper {p = p} {id = id} {items = s} o d h) t e =
 -- a step from one level to another: the end-of-contents octets, an item with a definite length, or
 -- an opening
 pub data Step : ℕ → ℕ → List ℕ → Type 0 where
-  marks : {k : ℕ} → Step (suc k) k (0 ∷ 0 ∷ [])
+  eocs : {k : ℕ} → Step (suc k) k (0 ∷ 0 ∷ [])
   counted : {k : ℕ} {t : Tag} {c : Bool} {id : List ℕ} → IsIdentifier Ber id t c → (contents : List ℕ) → length contents < 2 ^ 32 → Step k k (id ++ (length_octets (length contents) ++ contents))
   opened : {k : ℕ} {t : Tag} {id : List ℕ} → IsIdentifier Ber id t true → k < 64 → Step k (suc k) (id ++ 128 ∷ [])
 
@@ -69,11 +69,11 @@ pub data Path : ℕ → ℕ → List ℕ → Type 0 where
 
 -- there is at most one next step
 one_step : {k l m : ℕ} {x y : List ℕ} → Step k l x → Step k m y → (s t : List ℕ) → x ++ s ≡ y ++ t → (l ≡ m) × (x ≡ y) × (s ≡ t)
-one_step marks marks s t e = (refl, refl, cc)
-one_step marks (counted {id = b} g d _) s t e = absurd (no_marks ((length_octets (length d) ++ d) ++ t) (0 ∷ s) g (sym (append_assoc b (length_octets (length d) ++ d) t) ∙ sym e))
-one_step marks (opened {id = b} g _) s t e = absurd (no_marks (128 ∷ t) (0 ∷ s) g (sym (append_assoc b (128 ∷ []) t) ∙ sym e))
-one_step (counted {id = a} h c _) marks s t e = absurd (no_marks ((length_octets (length c) ++ c) ++ s) (0 ∷ t) h (sym (append_assoc a (length_octets (length c) ++ c) s) ∙ e))
-one_step (opened {id = a} h _) marks s t e = absurd (no_marks (128 ∷ s) (0 ∷ t) h (sym (append_assoc a (128 ∷ []) s) ∙ e))
+one_step eocs eocs s t e = (refl, refl, cc)
+one_step eocs (counted {id = b} g d _) s t e = absurd (identifier_not_zero ((length_octets (length d) ++ d) ++ t) (0 ∷ s) g (sym (append_assoc b (length_octets (length d) ++ d) t) ∙ sym e))
+one_step eocs (opened {id = b} g _) s t e = absurd (identifier_not_zero (128 ∷ t) (0 ∷ s) g (sym (append_assoc b (128 ∷ []) t) ∙ sym e))
+one_step (counted {id = a} h c _) eocs s t e = absurd (identifier_not_zero ((length_octets (length c) ++ c) ++ s) (0 ∷ t) h (sym (append_assoc a (length_octets (length c) ++ c) s) ∙ e))
+one_step (opened {id = a} h _) eocs s t e = absurd (identifier_not_zero (128 ∷ s) (0 ∷ t) h (sym (append_assoc a (128 ∷ []) s) ∙ e))
 one_step (counted h c _) (counted g d _) s t e = let r = definite_front h g c d s t e in (refl, r.0, r.1)
 one_step (counted h c _) (opened g _) s t e = absurd (mixed_front h g c [] s t e)
 one_step (opened h _) (counted g d _) s t e = absurd (mixed_front g h d [] t s (sym e))
@@ -92,7 +92,7 @@ mutual
       path_at (omega arith) (append_assoc p (id ++ 128 ∷ []) b ∙ ap (λ x. p ++ x) (append_assoc id (128 ∷ []) b)) (path_body t (suc n) (p ++ (id ++ 128 ∷ [])) (go h (opened d (omega (arith, deep.1)))) _ refl)
 
   path_body : {k m : ℕ} {b : List ℕ} → Body k m b → (n : ℕ) (p : List ℕ) → Path n k p → (j : ℕ) → k ≡ suc j → Path (n + m) j (p ++ b)
-  path_body (ends at) n p h j e = path_at (omega arith) refl (go (subst (λ l. Path n l p) e h) marks)
+  path_body (ends at) n p h j e = path_at (omega arith) refl (go (subst (λ l. Path n l p) e h) eocs)
   path_body (more {m = m} {item = i} {body = b} g t) n p h j e = path_at (omega arith) (append_assoc p i b) (path_body t (n + m) (p ++ i) (path_item g n p h) j e)
 
 path_items : {k m : ℕ} {q : List ℕ} → Items k m q → (n : ℕ) (p : List ℕ) → Path n k p → Path (n + m) k (p ++ q)

@@ -40,9 +40,9 @@ first_less : (o p : ℕ) (a b : List ℕ) → o < p → byte_order (o ∷ a) (p 
 first_less o p a b h = ap (λ x. ordering_then x (byte_order a b)) (less o p h)
 
 -- after a common prefix the rest decides
-pub order_behind : (front a b : List ℕ) → byte_order (front ++ a) (front ++ b) ≡ byte_order a b
-order_behind [] a b = refl
-order_behind (o ∷ front) a b = ap (λ x. ordering_then x (byte_order (front ++ a) (front ++ b))) (level o o refl) ∙ order_behind front a b
+pub order_after_prefix : (front a b : List ℕ) → byte_order (front ++ a) (front ++ b) ≡ byte_order a b
+order_after_prefix [] a b = refl
+order_after_prefix (o ∷ front) a b = ap (λ x. ordering_then x (byte_order (front ++ a) (front ++ b))) (level o o refl) ∙ order_after_prefix front a b
 
 -- a list that compares less is a proper prefix of the other, or has the smaller octet at the first
 -- difference
@@ -56,19 +56,19 @@ before_from_less (p ∷ a) (q ∷ b) h =
     (λ l. ⊎_elim
     (λ g. let wrong : Greater ≡ Less = ap (λ x. ordering_then x (byte_order a b)) (sym (greater p q g)) ∙ h in cc)
     (λ g. let same : p ≡ q = omega arith in
-    behind p a b q same (before_from_less a b (ap (λ x. ordering_then x (byte_order a b)) (sym (level p q same)) ∙ h)))
+    following p a b q same (before_from_less a b (ap (λ x. ordering_then x (byte_order a b)) (sym (level p q same)) ∙ h)))
     (cases_lt q p))
     (cases_lt p q)
   where
-    behind : (p : ℕ) (a b : List ℕ) (q : ℕ) → p ≡ q → IsBefore a b → IsBefore (p ∷ a) (q ∷ b)
-    behind p a b q e (begins o more f) = begins o more (ap (λ x. x ∷ b) (sym e) ∙ ap (λ l. p ∷ l) f)
-    behind p a b q e (differs same x y m n l f g) = differs (p ∷ same) x y m n l (ap (λ k. p ∷ k) f) (ap (λ x. x ∷ b) (sym e) ∙ ap (λ k. p ∷ k) g)
+    following : (p : ℕ) (a b : List ℕ) (q : ℕ) → p ≡ q → IsBefore a b → IsBefore (p ∷ a) (q ∷ b)
+    following p a b q e (begins o more f) = begins o more (ap (λ x. x ∷ b) (sym e) ∙ ap (λ l. p ∷ l) f)
+    following p a b q e (differs same x y m n l f g) = differs (p ∷ same) x y m n l (ap (λ k. p ∷ k) f) (ap (λ x. x ∷ b) (sym e) ∙ ap (λ k. p ∷ k) g)
 
 pub less_from_before : (a b : List ℕ) → IsBefore a b → byte_order a b ≡ Less
 less_from_before a b (begins o more e) =
-    ap (byte_order a) e ∙ ap (λ l. byte_order l (a ++ o ∷ more)) (sym (append-nil a)) ∙ order_behind a [] (o ∷ more)
+    ap (byte_order a) e ∙ ap (λ l. byte_order l (a ++ o ∷ more)) (sym (append-nil a)) ∙ order_after_prefix a [] (o ∷ more)
 less_from_before a b (differs same x y m n l e f) =
-    ap (byte_order a) f ∙ ap (λ k. byte_order k (same ++ n ∷ y)) e ∙ order_behind same (m ∷ x) (n ∷ y) ∙ first_less m n x y l
+    ap (byte_order a) f ∙ ap (λ k. byte_order k (same ++ n ∷ y)) e ∙ order_after_prefix same (m ∷ x) (n ∷ y) ∙ first_less m n x y l
 
 parts_step : (o s t r : Ordering) → (o ≡ Equal → s ≡ ordering_then t r) → ordering_then o s ≡ ordering_then (ordering_then o t) r
 parts_step Less s t r h = refl

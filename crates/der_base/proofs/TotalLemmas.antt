@@ -7,14 +7,14 @@ use Rattle.der_base.specs.Tag.{IsIdentifier, IdentifierFault, cut, refused}
 use Rattle.der_base.specs.Body.{Body, Open, definite, first, none}
 use Rattle.der_base.specs.Error.{Refusal}
 use Rattle.der_base.specs.Laws.{BodiesOrFaults}
-use Rattle.der_base.specs.ScanGrammar.{PartsAhead, NoBodyFault, ScanFault, nothing, half_mark, no_mark, refused_identifier, cut_identifier, primitive, too_deep, no_length, short, BodyFault}
+use Rattle.der_base.specs.ScanGrammar.{TokensNext, NoBodyFault, ScanFault, nothing, half_eoc, no_eoc, refused_identifier, cut_identifier, primitive, too_deep, no_length, short, BodyFault}
 use Rattle.der_base.specs.declared.tag.Tag.{Tag}
 use Rattle.der_base.specs.declared.error.ErrorKind.TheVariants.{Length as IncorrectLength}
 use Rattle.der_base.specs.declared.encoding_rules.EncodingRules.TheVariants.{Ber}
 use Rattle.der_base.proofs.IdentifierLemmas.{identifier_some}
 use Rattle.der_base.proofs.FrontLemmas.{IdentifierFront, found, missing, identifier_or_fault, LengthFront, opens, counts, faulty, length_or_fault}
 use Rattle.der_base.proofs.BodyLemmas.{open_level}
-use Rattle.der_base.proofs.OpenLemmas.{Step, marks, counted, opened}
+use Rattle.der_base.proofs.OpenLemmas.{Step, eocs, counted, opened}
 use Rattle.der_base.proofs.GrowthLemmas.{open_item, open_deeper, open_ends, body_from_open}
 
 -- with `level` bodies open, octets continue by a step, or have a fault
@@ -35,7 +35,7 @@ module _ (level at : ℕ) (few : level ≤ 64) {id : List ℕ} {t : Tag} where
   opening_front false d rest = stops (primitive rest d)
   opening_front true d rest =
       ⊎_elim
-      (λ room. steps rest (opened d room) (sym (append_assoc id (128 ∷ []) rest)))
+      (λ space. steps rest (opened d space) (sym (append_assoc id (128 ∷ []) rest)))
       (λ full. stops (too_deep rest (omega arith) d))
       (cases_lt level 64)
 
@@ -50,8 +50,8 @@ module _ (level at : ℕ) (few : level ≤ 64) {id : List ℕ} {t : Tag} where
       steps (drop n rest) (counted d (take n rest) (omega arith)) whole)
       (cases_lt (length rest) n)
 
-  behind_front : {b : Bool} → IsIdentifier Ber id t b → (more : List ℕ) → PartFront level at (id ++ more)
-  behind_front {b} d more = go (length_or_fault NoBodyFault (IncorrectLength t) Ber (at + length id) more)
+  after_identifier_or_fault : {b : Bool} → IsIdentifier Ber id t b → (more : List ℕ) → PartFront level at (id ++ more)
+  after_identifier_or_fault {b} d more = go (length_or_fault NoBodyFault (IncorrectLength t) Ber (at + length id) more)
     where
       go : LengthFront NoBodyFault (IncorrectLength t) Ber (at + length id) more → PartFront level at (id ++ more)
       go (opens rest e) = subst (λ l. PartFront level at (id ++ l)) (sym e) (opening_front b d rest)
@@ -63,44 +63,44 @@ item_front : (level at o : ℕ) (rest : List ℕ) → level ≤ 64 → o ≢ 0 �
 item_front level at o rest few ne = go (identifier_or_fault Ber at (o ∷ rest))
   where
     go : IdentifierFront Ber at (o ∷ rest) → PartFront level at (o ∷ rest)
-    go (found more d e) = subst (λ l. PartFront level at l) (sym e) (behind_front level at few d more)
+    go (found more d e) = subst (λ l. PartFront level at l) (sym e) (after_identifier_or_fault level at few d more)
     go (missing f) = identifier_stops ne refl f
 
 -- octets that begin with 0
-mark_front : (level at : ℕ) (rest : List ℕ) → 1 ≤ level → PartFront level at (0 ∷ rest)
-mark_front zero at rest some = absurd (omega arith)
-mark_front (suc level) at [] some = stops half_mark
-mark_front (suc level) at (o ∷ rest) some =
+eoc_or_fault : (level at : ℕ) (rest : List ℕ) → 1 ≤ level → PartFront level at (0 ∷ rest)
+eoc_or_fault zero at rest some = absurd (omega arith)
+eoc_or_fault (suc level) at [] some = stops half_eoc
+eoc_or_fault (suc level) at (o ∷ rest) some =
     ⊎_elim
-    (λ zero. steps rest marks (ap (λ x. 0 ∷ x ∷ rest) zero))
-    (λ other. stops (no_mark o rest other))
+    (λ zero. steps rest eocs (ap (λ x. 0 ∷ x ∷ rest) zero))
+    (λ other. stops (no_eoc o rest other))
     (cases_eq o 0)
 
 part_front : (level at : ℕ) (octets : List ℕ) → 1 ≤ level → level ≤ 64 → PartFront level at octets
 part_front level at [] some few = stops nothing
 part_front level at (o ∷ rest) some few =
     ⊎_elim
-    (λ zero. subst (λ x. PartFront level at (x ∷ rest)) (sym zero) (mark_front level at rest some))
+    (λ zero. subst (λ x. PartFront level at (x ∷ rest)) (sym zero) (eoc_or_fault level at rest some))
     (item_front level at o rest few)
     (cases_eq o 0)
 
 -- a step has at least one octet
 step_some : {k l : ℕ} {x : List ℕ} → Step k l x → 1 ≤ length x
-step_some marks = omega arith
+step_some eocs = omega arith
 step_some (counted {id = id} d contents small) = omega (arith, identifier_some d, length-append id (length_octets (length contents) ++ contents))
-step_some (opened {id = id} d room) = omega (arith, identifier_some d, length-append id (128 ∷ []))
+step_some (opened {id = id} d space) = omega (arith, identifier_some d, length-append id (128 ∷ []))
 
 -- a step makes the beginning of a body into a whole one, or into a longer beginning
 grown : {k l m : ℕ} {p x : List ℕ} → Open k m p → Step k l x → Body 1 (m + 1) (p ++ x) ⊎ Open l (m + 1) (p ++ x)
-grown o (marks {k = zero}) = inl (body_from_open o)
-grown o (marks {k = suc k}) = inr (open_ends o)
+grown o (eocs {k = zero}) = inl (body_from_open o)
+grown o (eocs {k = suc k}) = inr (open_ends o)
 grown o (counted d contents small) = inr (open_item o (definite (open_level o) d contents small))
-grown o (opened d room) = inr (open_deeper o d room)
+grown o (opened d space) = inr (open_deeper o d space)
 
 -- the beginning of a body continues to the whole body or to a fault
 module _ (at : ℕ) (octets : List ℕ) where
   abbrev BodyOrFault : Type 0
-  BodyOrFault = ((parts : ℕ) × PartsAhead parts octets) ⊎ ((r : Refusal) × BodyFault at octets r)
+  BodyOrFault = ((parts : ℕ) × TokensNext parts octets) ⊎ ((r : Refusal) × BodyFault at octets r)
 
   -- for fewer than `most` remaining octets
   abbrev GoesOn : ℕ → Type 0
@@ -117,12 +117,12 @@ module _ (at : ℕ) (octets : List ℕ) where
       (λ longer. further next (parts + 1) (passed ++ part) rest longer whole (omega (arith, step_some s, ap length f, length-append part rest)))
       (grown o s)
 
-  goes_on : (most : ℕ) → GoesOn most
-  goes_on zero level parts passed left o e small = absurd (omega arith)
-  goes_on (suc most) level parts passed left o e small =
+  continues : (most : ℕ) → GoesOn most
+  continues zero level parts passed left o e small = absurd (omega arith)
+  continues (suc most) level parts passed left o e small =
       let l = open_level o in
-      goes_by most level parts passed left (goes_on most) o e (omega arith) (part_front level (at + length passed) left l.0 l.1)
+      goes_by most level parts passed left (continues most) o e (omega arith) (part_front level (at + length passed) left l.0 l.1)
 
 pub bodies_or_faults : BodiesOrFaults
 bodies_or_faults at octets =
-    goes_on at octets (suc (length octets)) 1 0 [] octets (first (none (omega arith, omega arith))) refl (omega arith)
+    continues at octets (suc (length octets)) 1 0 [] octets (first (none (omega arith, omega arith))) refl (omega arith)

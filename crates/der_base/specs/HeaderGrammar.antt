@@ -1,5 +1,5 @@
 -- Tags, lengths and headers at the start of octets, and why octets do not begin with one (X.690
--- 8.1.2, 8.1.3, 10.1): `IdentifierAhead`, `TagAhead`, `LengthAhead` and `HeadAhead`, whose first
+-- 8.1.2, 8.1.3, 10.1): `IdentifierNext`, `TagNext`, `LengthNext` and `HeadNext`, whose first
 -- argument is the value, `LengthFault` and `HeaderFault`. `Head` is the content of a header.
 use Rattle.std.specs.Prelude.{◌≡◌, ◌≢◌, ℕ, ◌+◌, ◌^◌, ◌<◌, ◌≤◌, Bool, true, false, List, [], ◌∷◌, ◌++◌, length}
 use Rattle.der_base.specs.FixedOctets.{indefinite_octet, long_form}
@@ -19,21 +19,21 @@ abbrev pub header_octets : Tag → ℕ → List ℕ
 header_octets t n = tag_octets t ++ length_octets n
 
 -- the first m octets of a list are the identifier of a tag with a constructed bit
-pub data IdentifierAhead (x : Tag × Bool) (rules : EncodingRules) : List ℕ → ℕ → Type 0 where
+pub data IdentifierNext (x : Tag × Bool) (rules : EncodingRules) : List ℕ → ℕ → Type 0 where
   identifier : {id : List ℕ} (rest : List ℕ) → IsIdentifier rules id x.0 x.1
-      → IdentifierAhead x rules (id ++ rest) (length id)
+      → IdentifierNext x rules (id ++ rest) (length id)
 
 -- the first m octets of a list are an identifier of this tag, with either constructed bit
-abbrev pub TagAhead : Tag → EncodingRules → List ℕ → ℕ → Type 0
-TagAhead t rules octets m = (b : Bool) × IdentifierAhead (t, b) rules octets m
+abbrev pub TagNext : Tag → EncodingRules → List ℕ → ℕ → Type 0
+TagNext t rules octets m = (b : Bool) × IdentifierNext (t, b) rules octets m
 
 -- the first m octets of a list are a length: a definite one, or under BER octet `0x80` followed by
 -- a body, whose octets it counts (8.1.3.6)
-pub data LengthAhead : Length → EncodingRules → List ℕ → ℕ → Type 0 where
+pub data LengthNext : Length → EncodingRules → List ℕ → ℕ → Type 0 where
   definite : {rules : EncodingRules} (n : ℕ) (rest : List ℕ) → n < 2 ^ 32
-      → LengthAhead (definite_length n) rules (length_octets n ++ rest) (length (length_octets n))
+      → LengthNext (definite_length n) rules (length_octets n ++ rest) (length (length_octets n))
   indefinite : {parts : ℕ} {body : List ℕ} (rest : List ℕ) → Body 1 parts body
-      → LengthAhead (indefinite_length (length body)) Ber (indefinite_octet ∷ (body ++ rest)) 1
+      → LengthNext (indefinite_length (length body)) Ber (indefinite_octet ∷ (body ++ rest)) 1
 
 -- the content of a header: a tag, a length, and the constructed bit of the identifier
 pub record Head : Type 0 where
@@ -46,11 +46,11 @@ head t l b = record { tag = t; length = l; constructed = b }
 
 -- the first m octets of a list are a header: an identifier and a length, which is indefinite only
 -- if the identifier is constructed (8.1.3.2)
-pub data HeadAhead (h : Head) (rules : EncodingRules) : List ℕ → ℕ → Type 0 where
+pub data HeadNext (h : Head) (rules : EncodingRules) : List ℕ → ℕ → Type 0 where
   header : {id more : List ℕ} {m : ℕ} → IsIdentifier rules id h.tag h.constructed
-      → LengthAhead h.length rules more m
+      → LengthNext h.length rules more m
       → (is_indefinite h.length ≡ true → h.constructed ≡ true)
-      → HeadAhead h rules (id ++ more) (length id + m)
+      → HeadNext h rules (id ++ more) (length id + m)
 
 -- why octets at a position do not begin with a length; an encoding that is not the shortest, or has
 -- more than four octets after the first, has kind `wrong` (the first of these only after all its
@@ -84,5 +84,5 @@ pub data HeaderFault (BodyFault : ℕ → List ℕ → Refusal → Type 0) (rule
       → LengthFault BodyFault (IncorrectLength t) rules (at + length id) more r
       → HeaderFault BodyFault rules at (id ++ more) r
   primitive : {id more : List ℕ} {t : Tag} {l : Length} {m : ℕ} → IsIdentifier rules id t false
-      → LengthAhead l rules more m → is_indefinite l ≡ true
+      → LengthNext l rules more m → is_indefinite l ≡ true
       → HeaderFault BodyFault rules at (id ++ more) (refusal IndefiniteLength (at + length id + m))

@@ -6,7 +6,7 @@ use Rattle.der_base.specs.Length.{length_octets}
 use Rattle.der_base.specs.Tag.{label, tag_octets, IsIdentifier}
 use Rattle.der_base.specs.HeaderGrammar.{header_octets}
 use Rattle.der_base.specs.Body.{Item, Body, Items, Open}
-use Rattle.der_base.specs.ScanGrammar.{PartsAhead, BodyFault}
+use Rattle.der_base.specs.ScanGrammar.{TokensNext, BodyFault}
 use Rattle.der_base.specs.Error.{Refusal, refusal}
 use Rattle.der_base.specs.declared.tag.Tag.{Tag}
 use Rattle.der_base.specs.declared.error.ErrorKind.TheVariants.{NestingDepth}
@@ -49,14 +49,14 @@ NoBodyBeginsAnother =
 
 -- octets begin with at most one value of a grammar, and with none if they have a fault; and they
 -- have at most one fault
-pub record IsGrammar {A : Type 0} (Ahead : A → EncodingRules → List ℕ → ℕ → Type 0)
+pub record IsGrammar {A : Type 0} (Next : A → EncodingRules → List ℕ → ℕ → Type 0)
     (Fault : EncodingRules → ℕ → List ℕ → Refusal → Type 0) : Type 0 where
   pub one : (rules : EncodingRules) (octets : List ℕ) (v w : A) (m n : ℕ)
-      → Ahead v rules octets m → Ahead w rules octets n → (v ≡ w) × (m ≡ n)
+      → Next v rules octets m → Next w rules octets n → (v ≡ w) × (m ≡ n)
   pub one_fault : (rules : EncodingRules) (at : ℕ) (octets : List ℕ) (r q : Refusal)
       → Fault rules at octets r → Fault rules at octets q → r ≡ q
   pub never_both : (rules : EncodingRules) (at : ℕ) (octets : List ℕ) (v : A) (m : ℕ) (r : Refusal)
-      → Ahead v rules octets m → Fault rules at octets r → ⊥
+      → Next v rules octets m → Fault rules at octets r → ⊥
 
 -- what the laws of lengths and headers require of the fault of a body: octets have at most one, and
 -- none if they begin with a body
@@ -71,7 +71,7 @@ pub record IsBodyFault (BodyFault : ℕ → List ℕ → Refusal → Type 0) : T
 abbrev pub BodiesOrFaults : Type 0
 BodiesOrFaults =
     (at : ℕ) (octets : List ℕ)
-    → ((parts : ℕ) × PartsAhead parts octets) ⊎ ((r : Refusal) × BodyFault at octets r)
+    → ((parts : ℕ) × TokensNext parts octets) ⊎ ((r : Refusal) × BodyFault at octets r)
 
 -- bodies, their items and their beginnings exist only at levels 1 to 64
 abbrev pub NoBodyOutsideLevels : Type 0
@@ -105,10 +105,10 @@ PartsHaveTwoOctets =
     (level parts : ℕ) (body : List ℕ) → Body level parts body
     → (1 ≤ parts) × (2 * parts ≤ length body)
 
--- n nested openings of a SEQUENCE in the indefinite form, followed by `behind`
+-- n nested openings of a SEQUENCE in the indefinite form, followed by `following`
 abbrev pub nested_openings : ℕ → List ℕ → List ℕ
-nested_openings zero behind = behind
-nested_openings (suc n) behind = 48 ∷ indefinite_octet ∷ nested_openings n behind
+nested_openings zero following = following
+nested_openings (suc n) following = 48 ∷ indefinite_octet ∷ nested_openings n following
 
 -- identifiers and end-of-contents counted by hand: 4 for an OCTET STRING with one segment, whose
 -- two zero contents octets are no end-of-contents; 128 for NULL within 63 openings, the deepest

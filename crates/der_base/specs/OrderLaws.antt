@@ -26,19 +26,19 @@ FrontsDecide =
     → byte_order (a ++ x) (b ++ y) ≡ ordering_then (byte_order a b) (byte_order x y)
 
 -- the byte order of encoded lengths is the order of their numbers (X.690 8.1.3)
-abbrev pub LengthsStandAsNumbers : Type 0
-LengthsStandAsNumbers =
+abbrev pub LengthOrderIsNumeric : Type 0
+LengthOrderIsNumeric =
     (m n : ℕ) → byte_order (length_octets m) (length_octets n) ≡ nat_cmp m n
 
 -- the byte order of headers is that of their tags, then that of their lengths
-abbrev pub HeadersStandByTags : Type 0
-HeadersStandByTags =
+abbrev pub HeaderOrderIsByTag : Type 0
+HeaderOrderIsByTag =
     (t u : Tag) (m n : ℕ) → byte_order (header_octets t m) (header_octets u n)
     ≡ ordering_then (byte_order (tag_octets t) (tag_octets u)) (nat_cmp m n)
 
 -- the byte order of encoded tags is not the order of their numbers: 16383, `9F FF 7F`, comes after
 -- 16384, `9F 81 80 00`
-abbrev pub TagsDoNotStandAsNumbers : Type 0
-TagsDoNotStandAsNumbers =
+abbrev pub TagOrderIsNotNumeric : Type 0
+TagOrderIsNotNumeric =
     byte_order (tag_octets (ContextSpecific false (tag_number 16383)))
     (tag_octets (ContextSpecific false (tag_number 16384))) ≡ Greater

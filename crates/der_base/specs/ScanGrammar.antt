@@ -1,5 +1,5 @@
--- Results of a scan (X.690 8.1.3.6, 8.1.5): the body of an indefinite length (`BodyAhead`,
--- `PartsAhead`), or why there is none (`BodyFault`, by one of the nine cases of `ScanFault`).
+-- Results of a scan (X.690 8.1.3.6, 8.1.5): the body of an indefinite length (`BodyNext`,
+-- `TokensNext`), or why there is none (`BodyFault`, by one of the nine cases of `ScanFault`).
 use Rattle.std.specs.Prelude.{◌≡◌, ◌≢◌, ℕ, ◌+◌, ◌-◌, ◌*◌, ◌/◌, ◌^◌, ◌<◌, min, Bool, true, false, List, [], ◌∷◌, ◌++◌, length}
 use Rattle.der_base.specs.FixedOctets.{indefinite_octet}
 use Rattle.der_base.specs.Length.{indefinite_length, length_octets}
@@ -14,16 +14,16 @@ use Rattle.der_base.specs.declared.encoding_rules.EncodingRules.{EncodingRules}
 use Rattle.der_base.specs.declared.encoding_rules.EncodingRules.TheVariants.{Ber}
 
 -- octets begin with a body that contains `parts` identifiers and end-of-contents
-abbrev pub PartsAhead : ℕ → List ℕ → Type 0
-PartsAhead parts octets = (body behind : List ℕ) × Body 1 parts body × (octets ≡ body ++ behind)
+abbrev pub TokensNext : ℕ → List ℕ → Type 0
+TokensNext parts octets = (body following : List ℕ) × Body 1 parts body × (octets ≡ body ++ following)
 
 -- the first m octets of a list are a body, and the indefinite length l counts them
-pub record BodyAhead (l : Length) (rules : EncodingRules) (octets : List ℕ) (m : ℕ) : Type 0 where
+pub record BodyNext (l : Length) (rules : EncodingRules) (octets : List ℕ) (m : ℕ) : Type 0 where
   pub parts : ℕ
   pub body : List ℕ
-  pub behind : List ℕ
+  pub following : List ℕ
   pub is_body : Body 1 parts body
-  pub split : octets ≡ body ++ behind
+  pub split : octets ≡ body ++ following
   pub sized : m ≡ length body
   pub counts : l ≡ indefinite_length m
 
@@ -48,8 +48,8 @@ short_refusal n left at =
 -- all levels open; an identifier and no length; or a length of more octets than are left
 pub data ScanFault (level at : ℕ) : List ℕ → Refusal → Type 0 where
   nothing : ScanFault level at [] (end_refusal at)
-  half_mark : ScanFault level at (0 ∷ []) (end_refusal (at + 1))
-  no_mark : (o : ℕ) (rest : List ℕ) → o ≢ 0
+  half_eoc : ScanFault level at (0 ∷ []) (end_refusal (at + 1))
+  no_eoc : (o : ℕ) (rest : List ℕ) → o ≢ 0
       → ScanFault level at (0 ∷ o ∷ rest) (refusal IndefiniteLength (at + 2))
   refused_identifier : (s : List ℕ) (o : ℕ) (rest : List ℕ) → s ++ o ∷ [] ≢ 0 ∷ []
       → IsCutIdentifier Ber s

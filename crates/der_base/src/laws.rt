@@ -1,10 +1,10 @@
 //! Laws of the octets of tags, lengths, headers and indefinite-length bodies. Each function does
 //! nothing; its contract is the law, which `specs/Laws.antt` or `specs/OrderLaws.antt` states.
 //! Nothing else uses these functions.
-ghost use Rattle.der_base.specs.ScanGrammar.{BodyAhead, BodyFault};
-ghost use Rattle.der_base.specs.HeaderGrammar.{IdentifierAhead, TagAhead, LengthAhead, LengthFault, HeadAhead, HeaderFault};
+ghost use Rattle.der_base.specs.ScanGrammar.{BodyNext, BodyFault};
+ghost use Rattle.der_base.specs.HeaderGrammar.{IdentifierNext, TagNext, LengthNext, LengthFault, HeadNext, HeaderFault};
 ghost use Rattle.der_base.specs.Order.{byte_order};
-ghost use Rattle.der_base.specs.OrderLaws.{IsByteOrder, FrontsDecide, LengthsStandAsNumbers, HeadersStandByTags, TagsDoNotStandAsNumbers};
+ghost use Rattle.der_base.specs.OrderLaws.{IsByteOrder, FrontsDecide, LengthOrderIsNumeric, HeaderOrderIsByTag, TagOrderIsNotNumeric};
 ghost use Rattle.der_base.specs.Laws.{OneTagOfALabel, NoTagBeginsAnother, NoIdentifierBeginsAnother, NoLengthBeginsAnother, NoHeaderBeginsAnother, NoBodyBeginsAnother, BodiesOrFaults, NoBodyOutsideLevels, NoItemOutsideLevels, NoItemsOutsideLevels, NothingOpenOutsideLevels, BodiesAtEachLevel, PartsHaveTwoOctets, ExamplesOfParts, IsGrammar, IsBodyFault};
 ghost use Rattle.der_base.specs.Tag.{IdentifierFault};
 ghost use Rattle.der_base.specs.declared.error.ErrorKind.{ErrorKind};
@@ -34,23 +34,23 @@ fn no_body_begins_another()
 {}
 
 fn identifiers_are_a_grammar()
-    ensures { IsGrammar IdentifierAhead IdentifierFault }
+    ensures { IsGrammar IdentifierNext IdentifierFault }
 {}
 
 fn tags_are_a_grammar()
-    ensures { IsGrammar TagAhead IdentifierFault }
+    ensures { IsGrammar TagNext IdentifierFault }
 {}
 
 fn lengths_are_a_grammar()
-    ensures { (wrong : ErrorKind) → IsGrammar LengthAhead (LengthFault BodyFault wrong) }
+    ensures { (wrong : ErrorKind) → IsGrammar LengthNext (LengthFault BodyFault wrong) }
 {}
 
 fn headers_are_a_grammar()
-    ensures { IsGrammar HeadAhead (HeaderFault BodyFault) }
+    ensures { IsGrammar HeadNext (HeaderFault BodyFault) }
 {}
 
 fn bodies_are_a_grammar()
-    ensures { IsGrammar BodyAhead (λ rules. BodyFault) }
+    ensures { IsGrammar BodyNext (λ rules. BodyFault) }
 {}
 
 fn body_faults_are_single()
@@ -97,14 +97,14 @@ fn fronts_decide()
     ensures { FrontsDecide }
 {}
 
-fn lengths_stand_as_numbers()
-    ensures { LengthsStandAsNumbers }
+fn length_order_is_numeric()
+    ensures { LengthOrderIsNumeric }
 {}
 
-fn headers_stand_by_tags()
-    ensures { HeadersStandByTags }
+fn header_order_is_by_tag()
+    ensures { HeaderOrderIsByTag }
 {}
 
-fn tags_do_not_stand_as_numbers()
-    ensures { TagsDoNotStandAsNumbers }
+fn tag_order_is_not_numeric()
+    ensures { TagOrderIsNotNumeric }
 {}

@@ -4,8 +4,8 @@ use crate::writing::last_of;
 use der::example::MyByteMonth;
 use der::{Encode, SliceWriter};
 use der_uses::algorithm_identifier::AlgorithmIdentifier;
+use der_uses::borrowed::Borrowed;
 use der_uses::key_info::KeyInfo;
-use der_uses::lent::Lent;
 use std::alloc::Global;
 
 /// A key to write, whose fields borrow the first octets of a common slice.
@@ -20,25 +20,25 @@ pub struct WantedKey {
 }
 
 #[inline(always)]
-fn key_of<'a>(wanted: &WantedKey, lent: &'a [u8]) -> Option<KeyInfo<'a>> {
-    let algorithm = lent.get(..wanted.algorithm as usize)?;
-    let key = lent.get(..wanted.key as usize)?;
+fn key_of<'a>(wanted: &WantedKey, borrowed: &'a [u8]) -> Option<KeyInfo<'a>> {
+    let algorithm = borrowed.get(..wanted.algorithm as usize)?;
+    let key = borrowed.get(..wanted.key as usize)?;
     let month = MyByteMonth::new(wanted.month)?;
     Some(KeyInfo {
         algorithm: AlgorithmIdentifier {
-            algorithm: Lent { octets: algorithm },
+            algorithm: Borrowed { octets: algorithm },
             month,
         },
-        key: Lent { octets: key },
+        key: Borrowed { octets: key },
     })
 }
 
 /// Computes the lengths of the encodings of keys until all are done or there is an error.
 #[unsafe(no_mangle)]
-pub extern "C" fn der_bench_count_keys(wanted: &[WantedKey], lent: &[u8]) -> Totals {
+pub extern "C" fn der_bench_count_keys(wanted: &[WantedKey], borrowed: &[u8]) -> Totals {
     let mut totals = Totals::none();
     for one in wanted {
-        let Some(key) = key_of(one, lent) else {
+        let Some(key) = key_of(one, borrowed) else {
             return totals;
         };
         let Ok(len) = key.encoded_len() else {
@@ -52,11 +52,15 @@ pub extern "C" fn der_bench_count_keys(wanted: &[WantedKey], lent: &[u8]) -> Tot
 /// Writes keys in sequence until all are written or there is an error. Returns their number and the
 /// number of their octets.
 #[unsafe(no_mangle)]
-pub extern "C" fn der_bench_put_keys(wanted: &[WantedKey], lent: &[u8], out: &mut [u8]) -> Totals {
+pub extern "C" fn der_bench_put_keys(
+    wanted: &[WantedKey],
+    borrowed: &[u8],
+    out: &mut [u8],
+) -> Totals {
     let mut totals = Totals::none();
     let mut writer = SliceWriter::new(out);
     for one in wanted {
-        let Some(key) = key_of(one, lent) else {
+        let Some(key) = key_of(one, borrowed) else {
             return totals;
         };
         if key.encode(&mut writer).is_err() {
@@ -70,11 +74,11 @@ pub extern "C" fn der_bench_put_keys(wanted: &[WantedKey], lent: &[u8], out: &mu
 /// Writes each key to the start of the same octets. `first_octets` is the sum of the last octets of
 /// the keys.
 #[unsafe(no_mangle)]
-pub extern "C" fn der_bench_keys_to_slice(wanted: &[WantedKey], lent: &[u8]) -> Totals {
+pub extern "C" fn der_bench_keys_to_slice(wanted: &[WantedKey], borrowed: &[u8]) -> Totals {
     let mut totals = Totals::none();
     let mut buf = [0u8; 1024];
     for one in wanted {
-        let Some(key) = key_of(one, lent) else {
+        let Some(key) = key_of(one, borrowed) else {
             return totals;
         };
         let Ok(octets) = key.encode_to_slice(&mut buf) else {
@@ -90,11 +94,11 @@ pub extern "C" fn der_bench_keys_to_slice(wanted: &[WantedKey], lent: &[u8]) -> 
 pub extern "C" fn der_bench_keys_to_der(
     alloc: Global,
     wanted: &[WantedKey],
-    lent: &[u8],
+    borrowed: &[u8],
 ) -> Totals {
     let mut totals = Totals::none();
     for one in wanted {
-        let Some(key) = key_of(one, lent) else {
+        let Some(key) = key_of(one, borrowed) else {
             return totals;
         };
         let Ok(octets) = key.to_der(alloc) else {

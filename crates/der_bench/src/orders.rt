@@ -13,7 +13,7 @@ pub extern "C" fn der_bench_orders(alloc: Global, bytes: &[u8]) -> Totals {
     let Ok(mut reader) = SliceReader::new(bytes) else {
         return totals;
     };
-    let Ok(mut ahead) = reader.decode::<BorrowedOctets<'_>>(alloc) else {
+    let Ok(mut next) = reader.decode::<BorrowedOctets<'_>>(alloc) else {
         return totals;
     };
     // Each value has at least one octet.
@@ -24,12 +24,12 @@ pub extern "C" fn der_bench_orders(alloc: Global, bytes: &[u8]) -> Totals {
         let Ok(value) = reader.decode::<BorrowedOctets<'_>>(alloc) else {
             return totals;
         };
-        let Ok(ordering) = value.der_cmp(&ahead) else {
+        let Ok(ordering) = value.der_cmp(&next) else {
             return totals;
         };
         let less = (ordering == Ordering::Less) as u64;
         totals.pass(value.octets.as_slice().len(), less);
-        ahead = value;
+        next = value;
     }
     totals
 }

@@ -26,12 +26,12 @@ pub extern "C" fn der_bench_scan_by_octets(bytes: &[u8]) -> Totals {
         let Some(len) = body_len::<Brand>(body, Blank::new(1)) else {
             return totals;
         };
-        let Some(behind) = body.get(len..) else {
+        let Some(following) = body.get(len..) else {
             return totals;
         };
         let first = body.first().copied().unwrap_or(0);
         totals.pass(len, first as u64);
-        rest = behind;
+        rest = following;
     }
     totals
 }

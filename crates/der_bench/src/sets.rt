@@ -11,11 +11,11 @@ use std::alloc::Global;
 pub extern "C" fn der_bench_sorted(alloc: Global, bytes: &[u8]) -> Totals {
     let mut elements = Vec::new(alloc);
     if push_elements(alloc, bytes, &mut elements).is_none() {
-        return told(0, &[]);
+        return reported(0, &[]);
     }
     match set_of_der(alloc, elements.as_mut_slice()) {
-        Ok(octets) => told(elements.len() as u64, octets.as_slice()),
-        Err(_) => told(0, &[]),
+        Ok(octets) => reported(elements.len() as u64, octets.as_slice()),
+        Err(_) => reported(0, &[]),
     }
 }
 
@@ -23,8 +23,8 @@ pub extern "C" fn der_bench_sorted(alloc: Global, bytes: &[u8]) -> Totals {
 #[unsafe(no_mangle)]
 pub extern "C" fn der_bench_set(alloc: Global, bytes: &[u8]) -> Totals {
     match set_of_contents(alloc, bytes) {
-        Ok(contents) => told(1, contents),
-        Err(_) => told(0, &[]),
+        Ok(contents) => reported(1, contents),
+        Err(_) => reported(0, &[]),
     }
 }
 
@@ -45,7 +45,7 @@ fn push_elements<'a>(
     Some(())
 }
 
-fn told(elements: u64, octets: &[u8]) -> Totals {
+fn reported(elements: u64, octets: &[u8]) -> Totals {
     Totals {
         elements,
         contents: octets.len() as u64,

@@ -14,8 +14,8 @@ use Rattle.der_core.specs.ReaderState.{ReaderState, rest_of, advanced_state}
 use Rattle.der_core.specs.Outcome.{Gives}
 use Rattle.der_core.specs.Reader.{read_slice_outcome}
 use Rattle.der_c.specs.Around.{Moved}
-use Rattle.der_c.specs.Error.{no_error, error_code, kind_code, placed_code}
-use Rattle.der_c.specs.Element.{ReadsElement, no_header, behind, ReadsContents, there, missing}
+use Rattle.der_c.specs.ErrorCode.{no_error, error_code, kind_code, placed_code}
+use Rattle.der_c.specs.ElementCalls.{ReadsElement, no_header, following, ReadsContents, there, missing}
 use Rattle.der_c.specs.declared.error.DerError.{DerError}
 use Rattle.der_c.specs.declared.element.DerElement.{DerElement}
 
@@ -53,19 +53,19 @@ pub code_some : (e : Error) → (error_code e).kind ≢ 0
 code_some e h = kind_some (kind_of e) (sym (placed_kind (position_of e) (kind_code (kind_of e))) ∙ h)
 
 refused_some : {r : DerError} {A : Type 0} (e : Error) → r ≡ error_code e → r.kind ≡ 0 → A
-refused_some e told none = absurd (code_some e (sym (ap (λ (c : DerError). c.kind) told) ∙ none))
+refused_some e reported none = absurd (code_some e (sym (ap (λ (c : DerError). c.kind) reported) ∙ none))
 
-contents_told : {h : Head} {from : ℕ} {s t : ReaderState} {r : DerError} {e : DerElement} → ReadsContents h from s r e t → r.kind ≡ 0 → r ≡ no_error
-contents_told (there octets given told element) none = told
-contents_told (missing error given told) none = refused_some error told none
+contents_kind_zero : {h : Head} {from : ℕ} {s t : ReaderState} {r : DerError} {e : DerElement} → ReadsContents h from s r e t → r.kind ≡ 0 → r ≡ no_error
+contents_kind_zero (there octets given reported element) none = reported
+contents_kind_zero (missing error given reported) none = refused_some error reported none
 
 -- a result of kind 0 is no error
-pub told_none : {s t : ReaderState} {r : DerError} {e : DerElement} → ReadsElement s r e t → r.kind ≡ 0 → r ≡ no_error
-told_none (no_header error refused told) none = refused_some error told none
-told_none (behind h u passed contents) none = contents_told contents none
+pub element_kind_zero : {s t : ReaderState} {r : DerError} {e : DerElement} → ReadsElement s r e t → r.kind ≡ 0 → r ≡ no_error
+element_kind_zero (no_header error refused reported) none = refused_some error reported none
+element_kind_zero (following h u passed contents) none = contents_kind_zero contents none
 
 -- a successful read leaves the reader after the contents, and otherwise unchanged
-pub record IsBehind (s : ReaderState) (e : DerElement) (t : ReaderState) : Type 0 where
+pub record IsAfterElement (s : ReaderState) (e : DerElement) (t : ReaderState) : Type 0 where
   pub moved : Moved s t
   pub end : t.end ≡ s.end
   pub lies : e.contents_start + length e.contents.now ≤ t.position
@@ -76,8 +76,8 @@ slice_given n s t octets g =
     let l = g.leaves in
     (grind (rules, nat_tests), grind (rules, nat_tests))
 
-contents_behind : (h : Head) (from : ℕ) (s u t : ReaderState) (e : DerElement) → Moved s u → u.end ≡ s.end → ReadsContents h from u no_error e t → IsBehind s e t
-contents_behind h from s u t e moved end (there octets given told element) =
+contents_after : (h : Head) (from : ℕ) (s u t : ReaderState) (e : DerElement) → Moved s u → u.end ≡ s.end → ReadsContents h from u no_error e t → IsAfterElement s e t
+contents_after h from s u t e moved end (there octets given reported element) =
     let slice = slice_given (number h.length) u t octets given in
     let n = number h.length in
     let size : length e.contents.now ≤ n =
@@ -88,9 +88,9 @@ contents_behind h from s u t e moved end (there octets given told element) =
       end = ap (λ (x : ReaderState). x.end) slice.0 ∙ end;
       lies = omega (arith, size, at, element.contents_start);
     }
-contents_behind h from s u t e moved end (missing error given told) = refused_some error told refl
+contents_after h from s u t e moved end (missing error given reported) = refused_some error reported refl
 
-pub read_behind : {s t : ReaderState} {e : DerElement} → ReadsElement s no_error e t → IsBehind s e t
-read_behind (no_header error refused told) = refused_some error told refl
-read_behind {s} {t} {e} (behind h u passed contents) =
-    contents_behind _ _ s u t e (let l = passed.leaves in cc) (ap (λ (x : ReaderState). x.end) passed.leaves) contents
+pub element_leaves_after : {s t : ReaderState} {e : DerElement} → ReadsElement s no_error e t → IsAfterElement s e t
+element_leaves_after (no_header error refused reported) = refused_some error reported refl
+element_leaves_after {s} {t} {e} (following h u passed contents) =
+    contents_after _ _ s u t e (let l = passed.leaves in cc) (ap (λ (x : ReaderState). x.end) passed.leaves) contents

@@ -11,8 +11,8 @@ use Rattle.der_base.proofs.IdentifierLemmas.{tagged, segmented, identifier_view}
 use Rattle.der_base.proofs.LengthLemmas.{length_small}
 use Rattle.der_core.specs.ReaderState.{ReaderState, initial_state}
 use Rattle.der_core.specs.AfterFirstOctet.{IsAlone, identifier_tag}
-use Rattle.der_core.specs.Writer.{WriterState, Writes, write_outcome, HasRoom}
-use Rattle.der_core.proofs.EncodeLemmas.{header_at_once, has_room}
+use Rattle.der_core.specs.Writer.{WriterState, Writes, write_outcome, HasSpace}
+use Rattle.der_core.proofs.EncodeLemmas.{header_at_once, has_space}
 use Rattle.der_core.proofs.StateLemmas.{position_on}
 use Rattle.der_core.proofs.TagReadLemmas.{found_alone}
 use Rattle.der_c.specs.TagWord.{IsTagWord}
@@ -20,12 +20,12 @@ use Rattle.der_c.specs.WriterCalls.{WritesShort}
 use Rattle.der_c.proofs.WordLemmas.{tag_short}
 
 -- an octet that is a whole identifier is that of its tag, and the word of the tag
-record ToldByOctet (o : ℕ) (t : Tag) : Type 0 where
+record IsTagOfOctet (o : ℕ) (t : Tag) : Type 0 where
   word : IsTagWord o t
   octets : tag_octets t ≡ o ∷ []
 
-told_by_octet : (o : ℕ) → IsAlone o → o % 32 < 31 → ToldByOctet o (identifier_tag o (o % 32))
-told_by_octet o alone small =
+octet_is_tag : (o : ℕ) → IsAlone o → o % 32 < 31 → IsTagOfOctet o (identifier_tag o (o % 32))
+octet_is_tag o alone small =
     let t = identifier_tag o (o % 32) in
     let s : ReaderState = initial_state Der [] in
     let found = found_alone s o alone in
@@ -39,16 +39,16 @@ told_by_octet o alone small =
     nothing [] e = refl
     nothing (x ∷ l) e = absurd (omega (arith, e))
 
-pub short_written : (o n : ℕ) (s t : WriterState) → IsAlone o → o % 32 < 31 → n < 128 → HasRoom s 2 → Writes (write_outcome (o ∷ n ∷ []) s) (Ok tt) t → WritesShort o n s t
-short_written o n s t alone small few room wrote =
-    let told = told_by_octet o alone small in
+pub short_written : (o n : ℕ) (s t : WriterState) → IsAlone o → o % 32 < 31 → n < 128 → HasSpace s 2 → Writes (write_outcome (o ∷ n ∷ []) s) (Ok tt) t → WritesShort o n s t
+short_written o n s t alone small few space wrote =
+    let reported = octet_is_tag o alone small in
     let tag = identifier_tag o (o % 32) in
-    let octets : o ∷ n ∷ [] ≡ header_octets tag n = sym (ap (λ l. l ++ length_octets n) told.octets ∙ ap (λ l. o ∷ l) (length_small n few)) in
-    record { tag = tag; is = told.word; few = omega (arith, few); writes = header_at_once tag n (o ∷ n ∷ []) s t (Ok tt) octets room wrote }
+    let octets : o ∷ n ∷ [] ≡ header_octets tag n = sym (ap (λ l. l ++ length_octets n) reported.octets ∙ ap (λ l. o ∷ l) (length_small n few)) in
+    record { tag = tag; is = reported.word; few = omega (arith, few); writes = header_at_once tag n (o ∷ n ∷ []) s t (Ok tt) octets space wrote }
 
 -- octets that there is space for are written without an error
-pub not_refused : (octets : List ℕ) (s t : WriterState) (e : Error) → HasRoom s (length octets) → Writes (write_outcome octets s) (Err e) t → ⊥
-not_refused octets s t e room wrote =
-    let facts = has_room (length octets) s room in
+pub not_refused : (octets : List ℕ) (s t : WriterState) (e : Error) → HasSpace s (length octets) → Writes (write_outcome octets s) (Err e) t → ⊥
+not_refused octets s t e space wrote =
+    let facts = has_space (length octets) s space in
     let a = wrote.answered in
     grind (rules, arith, nat_tests)

@@ -5,7 +5,7 @@ use Rattle.std.proofs.lemmas.Bool.{cases_lt}
 use lib.Seq.{paste, length-paste, take-paste, drop-paste, take_at}
 use Rattle.std.specs.List.{FoldsTo, concat}
 use Rattle.std.specs.Fmt.{WritesInCalls, WritesText}
-use Rattle.der_c.specs.Text.{AppendsText, IsCut}
+use Rattle.der_c.specs.ErrorText.{AppendsText, IsCut}
 use Rattle.der_c.specs.declared.text.cut.Text.{Text}
 
 -- truncating before and after appending equals truncating once
@@ -26,23 +26,23 @@ appended_none t =
       size = refl;
       count = omega (arith, t.within);
       text = sym (ap (take (length t.octets.now)) (append-nil (take t.count t.octets.now)) ∙ take_all (length t.octets.now) (take t.count t.octets.now) (omega (arith, length-take t.count t.octets.now)));
-      behind = refl;
+      following = refl;
     }
 
 appended_on : (t u v : Text) (a b : List ℕ) → AppendsText t a u → AppendsText u b v → AppendsText t (a ++ b) v
 appended_on t u v a b p q =
-    let room = length t.octets.now in
+    let space = length t.octets.now in
     let here = take t.count t.octets.now in
     record {
       reference = q.reference ∙ p.reference;
       size = q.size ∙ p.size;
       count = omega (arith, q.count, p.count, p.size, length-append a b);
-      text = q.text ∙ ap (λ n. take n (take u.count u.octets.now ++ b)) p.size ∙ ap (λ l. take room (l ++ b)) p.text ∙ cut_twice room here a b;
-      behind =
+      text = q.text ∙ ap (λ n. take n (take u.count u.octets.now ++ b)) p.size ∙ ap (λ l. take space (l ++ b)) p.text ∙ cut_twice space here a b;
+      following =
           let more : v.count ≡ u.count + (v.count - u.count) = omega (arith, q.count, u.within) in
           let over = ap (λ n. drop n u.octets.now) more ∙ sym (drop-drop (v.count - u.count) u.count u.octets.now) in
           let under = drop-drop (v.count - u.count) u.count t.octets.now ∙ ap (λ n. drop n t.octets.now) (sym more) in
-          q.behind ∙ over ∙ ap (drop (v.count - u.count)) p.behind ∙ under;
+          q.following ∙ over ∙ ap (drop (v.count - u.count)) p.following ∙ under;
     }
 
 appended_all : (parts : List (List ℕ)) (t u : Text) → FoldsTo AppendsText t parts u → AppendsText t (concat parts) u
@@ -58,20 +58,20 @@ cut_whole t u text none h =
     record {
       counted = omega (arith, h.count, none);
       begins = h.text ∙ ap (λ n. take (length t.octets.now) (take n t.octets.now ++ text)) none;
-      behind = h.behind;
+      following = h.following;
     }
 
 -- one piece is appended, as far as there is space
 pub text_put : (t u : Text) (text put : List ℕ) (taken : ℕ) → u.octets.ghost_name ≡ t.octets.ghost_name → taken ≡ min (length text) (length t.octets.now - t.count)
     → put ≡ take taken text → u.octets.now ≡ paste t.octets.now t.count put taken → u.count ≡ t.count + taken → AppendsText t text u
-text_put t u text put taken same count is pasted behind =
+text_put t u text put taken same count is pasted following =
     let old = t.octets.now in
     let here = take t.count old in
     let within = t.within in
     let few : taken ≤ length text = omega (arith, count) in
     let size : length put ≡ taken = ap length is ∙ length-take-le taken text few in
     let front : take u.count u.octets.now ≡ here ++ take taken text =
-    ap (λ n. take n u.octets.now) behind ∙ ap (take (t.count + taken)) pasted ∙ take-paste old t.count put taken within (omega (arith, size))
+    ap (λ n. take n u.octets.now) following ∙ ap (take (t.count + taken)) pasted ∙ take-paste old t.count put taken within (omega (arith, size))
     ∙ ap (λ l. here ++ l) (take_all taken put (omega (arith, size)) ∙ is) in
     let at : length here ≡ t.count = length-take-le t.count old within in
     let split : here ++ text ≡ (here ++ take taken text) ++ drop taken text = ap (λ l. here ++ l) (sym (take-append-drop taken text)) ∙ sym (append_assoc here (take taken text) (drop taken text)) in
@@ -79,20 +79,20 @@ text_put t u text put taken same count is pasted behind =
     record {
       reference = same;
       size = ap length pasted ∙ length-paste old t.count put taken (omega (arith, count, within)) (omega (arith, size));
-      count = omega (arith, behind, count, within);
+      count = omega (arith, following, count, within);
       text = front ∙ ⊎_elim
           (λ fits. (
           let all : taken ≡ length text = omega (arith, count, fits) in
           ap (λ l. here ++ l) (take_all taken text (omega (arith, all))) ∙ sym (take_all (length old) (here ++ text) (omega (arith, length-append here text, at, fits)))))
           (λ over. sym (ap (take (length old)) split ∙ take_at (here ++ take taken text) (drop taken text) (length old) (omega (arith, long, count, within, over))))
           (cases_lt (t.count + length text) (length old));
-      behind = ap (λ n. drop n u.octets.now) behind ∙ ap (drop (t.count + taken)) pasted ∙ drop-paste old t.count put taken within (omega (arith, size)) ∙ ap (λ n. drop n old) (sym behind);
+      following = ap (λ n. drop n u.octets.now) following ∙ ap (drop (t.count + taken)) pasted ∙ drop-paste old t.count put taken within (omega (arith, size)) ∙ ap (λ n. drop n old) (sym following);
     }
 
 -- a text that was written through a reference is what the octets hold when the reference ends
-pub told_text : (o : Option (List ℕ)) (t u : Text) (last : List ℕ) → t.count ≡ 0 → WritesText AppendsText t o u → (u.octets.ghost_name ≡ t.octets.ghost_name → last ≡ u.octets.now)
+pub written_text_is_truncated : (o : Option (List ℕ)) (t u : Text) (last : List ℕ) → t.count ≡ 0 → WritesText AppendsText t o u → (u.octets.ghost_name ≡ t.octets.ghost_name → last ≡ u.octets.now)
     → IfSome o (λ text. IsCut text t.octets.now u.count last)
-told_text None t u last none h ends = tt
-told_text (Some text) t u last none h ends =
+written_text_is_truncated None t u last none h ends = tt
+written_text_is_truncated (Some text) t u last none h ends =
     let all = appended_calls t u text h in
     subst (IsCut text t.octets.now u.count) (sym (ends all.reference)) (cut_whole t u text none all)

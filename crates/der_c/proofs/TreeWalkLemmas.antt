@@ -3,40 +3,40 @@ use Rattle.std.proofs.Common.{◌≡◌, ◌≢◌, inr, ℕ, suc, ◌+◌, ◌<
 use Rattle.std.proofs.lemmas.List.{get_or-set_same, get_or-set_other, drop-drop}
 use Rattle.std.proofs.lemmas.Bool.{cases_eq, eq-eqb, ne_eqb}
 use Rattle.der_core.specs.ReaderState.{ReaderState}
-use Rattle.der_c.specs.Error.{no_error}
-use Rattle.der_c.specs.Element.{ReadsElement}
-use Rattle.der_c.specs.Tree.{Stop, finished, full, refused, stop_code, Nodes, at_end, no_room, no_element, ReadsNext, IsLookedInto, inside_state, node_of, TellsTree}
-use Rattle.der_c.specs.Around.{AreAround, NodesFrom, NodesAround, behind_part, Moved, Tells, outer_end}
+use Rattle.der_c.specs.ErrorCode.{no_error}
+use Rattle.der_c.specs.ElementCalls.{ReadsElement}
+use Rattle.der_c.specs.Tree.{Stop, finished, full, refused, stop_code, Nodes, at_end, no_space, no_element, ReadsNext, IsLookedInto, inside_state, node_of, ReadsTree}
+use Rattle.der_c.specs.Around.{AreAround, NodesFrom, NodesAround, following_part, Moved, WalksNodes, outermost_end}
 use Rattle.der_c.specs.declared.error.DerError.{DerError}
 use Rattle.der_c.specs.declared.element.DerElement.{DerElement}
 use Rattle.der_c.specs.declared.tree.DerNode.{DerNode}
 use Rattle.der_c.specs.declared.tree.around.Around.{Around}
-use Rattle.der_c.proofs.ReadLemmas.{read_behind}
+use Rattle.der_c.proofs.ReadLemmas.{element_leaves_after}
 use Rattle.der_c.proofs.TreeLemmas.{stops_from, closed_from, entered_from}
 
 moved_on : (s t u : ReaderState) → Moved s t → Moved t u → Moved s u
 moved_on s t u m n = n ∙ ap (λ (x : ReaderState). record x { position = u.position; end = u.end }) m
 
-pub told_on : {a b c : Around} {s t u : ReaderState} {x y : List DerNode} → Tells a s x b t → Tells b t y c u → Tells a s (x ++ y) c u
-told_on {a} {b} {c} {s} {t} {u} {x} {y} p q =
+pub walks_compose : {a b c : Around} {s t u : ReaderState} {x y : List DerNode} → WalksNodes a s x b t → WalksNodes b t y c u → WalksNodes a s (x ++ y) c u
+walks_compose {a} {b} {c} {s} {t} {u} {x} {y} p q =
     record {
       moved = moved_on s t u p.moved q.moved;
       around = q.around;
       outermost = q.outermost ∙ p.outermost;
-      tells = λ more stop h. subst (λ l. NodesAround a s l stop) (sym (append_assoc x y more)) (p.tells (y ++ more) stop (q.tells more stop h));
+      walks = λ more stop h. subst (λ l. NodesAround a s l stop) (sym (append_assoc x y more)) (p.walks (y ++ more) stop (q.walks more stop h));
     }
 
-pub told_here : {a : Around} {s : ReaderState} → AreAround a s → Tells a s [] a s
-told_here parts = record { moved = refl; around = parts; outermost = refl; tells = λ more stop h. h }
+pub walks_nothing : {a : Around} {s : ReaderState} → AreAround a s → WalksNodes a s [] a s
+walks_nothing parts = record { moved = refl; around = parts; outermost = refl; walks = λ more stop h. h }
 
-outer_inside : (a : Around) (s : ReaderState) → 0 < a.level → outer_end a s ≡ get_or a.ends 0 0
+outer_inside : (a : Around) (s : ReaderState) → 0 < a.level → outermost_end a s ≡ get_or a.ends 0 0
 outer_inside a s inside = rw (ne_eqb a.level 0 (λ e. omega (arith, e, inside))) refl
 
-outer_none : (a : Around) (s : ReaderState) → a.level ≡ 0 → outer_end a s ≡ s.end
+outer_none : (a : Around) (s : ReaderState) → a.level ≡ 0 → outermost_end a s ≡ s.end
 outer_none a s none = rw (eq-eqb a.level 0 none) refl
 
 -- a part is left
-module _ (a b : Around) (s t : ReaderState) (inside : 0 < a.level) (here : s.position ≡ s.end) (parts : AreAround a s) (ends : b.ends ≡ a.ends) (behind : b.behind ≡ a.behind) (level : b.level + 1 ≡ a.level) (left : t ≡ behind_part a.ends a.behind b.level s) where
+module _ (a b : Around) (s t : ReaderState) (inside : 0 < a.level) (here : s.position ≡ s.end) (parts : AreAround a s) (ends : b.ends ≡ a.ends) (following : b.following ≡ a.following) (level : b.level + 1 ≡ a.level) (left : t ≡ following_part a.ends a.following b.level s) where
   left_moved : Moved s t
   left_moved = subst (Moved s) (sym left) refl
 
@@ -44,29 +44,29 @@ module _ (a b : Around) (s t : ReaderState) (inside : 0 < a.level) (here : s.pos
   left_around k below =
       let p = parts k (omega (arith, below, level)) in
       let e = ap (λ l. get_or l k 0) ends in
-      let f = ap (λ l. get_or l k 0) behind in
+      let f = ap (λ l. get_or l k 0) following in
       let g : t.input ≡ s.input = ap (λ (x : ReaderState). x.input) left in
       (omega (arith, p.0, e, f), omega (arith, p.1, e, ap length g))
 
-  left_outermost : outer_end b t ≡ outer_end a s
+  left_outermost : outermost_end b t ≡ outermost_end a s
   left_outermost =
       ⊎_elim
       (λ none. outer_none b t none ∙ ap (λ (x : ReaderState). x.end) left ∙ ap (λ k. get_or a.ends k 0) none ∙ sym (outer_inside a s inside))
       (λ some. outer_inside b t (omega (arith, some)) ∙ ap (λ l. get_or l 0 0) ends ∙ sym (outer_inside a s inside))
       (cases_eq b.level 0)
 
-  left_tells : (more : List DerNode) (stop : Stop) → NodesAround b t more stop → NodesAround a s more stop
-  left_tells more stop h =
+  leaving_keeps_nodes : (more : List DerNode) (stop : Stop) → NodesAround b t more stop → NodesAround a s more stop
+  leaving_keeps_nodes more stop h =
       let deep : suc b.level ≡ a.level = omega (arith, level) in
-      let same : NodesFrom a.ends b.behind b.level t more stop = subst (λ l. NodesFrom l b.behind b.level t more stop) ends h in
-      let alike : NodesFrom a.ends a.behind b.level t more stop = subst (λ l. NodesFrom a.ends l b.level t more stop) behind same in
-      let outer : NodesFrom a.ends a.behind b.level (behind_part a.ends a.behind b.level s) more stop = subst (λ x. NodesFrom a.ends a.behind b.level x more stop) left alike in
-      subst (λ k. NodesFrom a.ends a.behind k s more stop) deep (inr ([], more, refl, at_end here, outer))
+      let same : NodesFrom a.ends b.following b.level t more stop = subst (λ l. NodesFrom l b.following b.level t more stop) ends h in
+      let alike : NodesFrom a.ends a.following b.level t more stop = subst (λ l. NodesFrom a.ends l b.level t more stop) following same in
+      let outer : NodesFrom a.ends a.following b.level (following_part a.ends a.following b.level s) more stop = subst (λ x. NodesFrom a.ends a.following b.level x more stop) left alike in
+      subst (λ k. NodesFrom a.ends a.following k s more stop) deep (inr ([], more, refl, at_end here, outer))
 
-  pub told_left : Tells a s [] b t
-  told_left = record { moved = left_moved; around = left_around; outermost = left_outermost; tells = left_tells }
+  pub leaving_walks_nothing : WalksNodes a s [] b t
+  leaving_walks_nothing = record { moved = left_moved; around = left_around; outermost = left_outermost; walks = leaving_keeps_nodes }
 
-same_outer : (a : Around) (s t : ReaderState) → t.end ≡ s.end → outer_end a t ≡ outer_end a s
+same_outer : (a : Around) (s t : ReaderState) → t.end ≡ s.end → outermost_end a t ≡ outermost_end a s
 same_outer a s t e =
     ⊎_elim
     (λ none. outer_none a t none ∙ e ∙ sym (outer_none a s none))
@@ -74,30 +74,30 @@ same_outer a s t e =
     (cases_eq a.level 0)
 
 -- an element is consumed, and not entered
-pub told_closed : (a : Around) (s t : ReaderState) (e : DerElement) → ReadsNext s e t → AreAround a t → (IsLookedInto a.level e → ⊥) → Tells a s (node_of a.level e ∷ []) a t
-told_closed a s t e next parts not =
-    let read = read_behind next.reads in
+pub skipped_element_walks_node : (a : Around) (s t : ReaderState) (e : DerElement) → ReadsNext s e t → AreAround a t → (IsLookedInto a.level e → ⊥) → WalksNodes a s (node_of a.level e ∷ []) a t
+skipped_element_walks_node a s t e next parts not =
+    let read = element_leaves_after next.reads in
     record {
       moved = read.moved;
       around = parts;
       outermost = same_outer a s t read.end;
-      tells = λ more stop h. closed_from a.ends a.behind a.level s t e more stop next read.moved not h;
+      walks = λ more stop h. closed_from a.ends a.following a.level s t e more stop next read.moved not h;
     }
 
 -- an element is entered
 module _ (a b : Around) (s t u : ReaderState) (e : DerElement) (next : ReadsNext s e t) (parts : AreAround a t) (into : IsLookedInto a.level e) (ordered : t.position ≤ t.end) (within : t.end ≤ length t.input)
-    (many : length a.ends ≡ 32) (more_of : length a.behind ≡ 32) (ends : b.ends ≡ set a.ends a.level t.end) (behind : b.behind ≡ set a.behind a.level t.position) (level : b.level ≡ a.level + 1) (inside : u ≡ inside_state e t) where
+    (many : length a.ends ≡ 32) (more_of : length a.following ≡ 32) (ends : b.ends ≡ set a.ends a.level t.end) (following : b.following ≡ set a.following a.level t.position) (level : b.level ≡ a.level + 1) (inside : u ≡ inside_state e t) where
   end_here : get_or b.ends a.level 0 ≡ t.end
   end_here = ap (λ l. get_or l a.level 0) ends ∙ get_or-set_same a.ends a.level t.end 0 (omega (arith, many, into.1))
 
-  behind_here : get_or b.behind a.level 0 ≡ t.position
-  behind_here = ap (λ l. get_or l a.level 0) behind ∙ get_or-set_same a.behind a.level t.position 0 (omega (arith, more_of, into.1))
+  after_at_level : get_or b.following a.level 0 ≡ t.position
+  after_at_level = ap (λ l. get_or l a.level 0) following ∙ get_or-set_same a.following a.level t.position 0 (omega (arith, more_of, into.1))
 
   end_other : (k : ℕ) → k < a.level → get_or b.ends k 0 ≡ get_or a.ends k 0
   end_other k below = ap (λ l. get_or l k 0) ends ∙ get_or-set_other a.ends a.level k t.end 0 (λ same. omega (arith, same, below))
 
-  behind_other : (k : ℕ) → k < a.level → get_or b.behind k 0 ≡ get_or a.behind k 0
-  behind_other k below = ap (λ l. get_or l k 0) behind ∙ get_or-set_other a.behind a.level k t.position 0 (λ same. omega (arith, same, below))
+  after_below_level : (k : ℕ) → k < a.level → get_or b.following k 0 ≡ get_or a.following k 0
+  after_below_level k below = ap (λ l. get_or l k 0) following ∙ get_or-set_other a.following a.level k t.position 0 (λ same. omega (arith, same, below))
 
   input_same : length u.input ≡ length t.input
   input_same = ap (λ (x : ReaderState). length x.input) inside
@@ -106,49 +106,49 @@ module _ (a b : Around) (s t u : ReaderState) (e : DerElement) (next : ReadsNext
   entered_around k below =
       ⊎_elim
       (λ last. (
-        omega (arith, ap (λ j. get_or b.ends j 0) last, ap (λ j. get_or b.behind j 0) last, end_here, behind_here, ordered),
+        omega (arith, ap (λ j. get_or b.ends j 0) last, ap (λ j. get_or b.following j 0) last, end_here, after_at_level, ordered),
         omega (arith, ap (λ j. get_or b.ends j 0) last, end_here, within, input_same),
       ))
       (λ other. (
       let lower : k < a.level = omega (arith, below, level, other) in
       let p = parts k lower in
-      (omega (arith, p.0, end_other k lower, behind_other k lower), omega (arith, p.1, end_other k lower, input_same))))
+      (omega (arith, p.0, end_other k lower, after_below_level k lower), omega (arith, p.1, end_other k lower, input_same))))
       (cases_eq k a.level)
 
-  entered_outermost : outer_end b u ≡ outer_end a s
+  entered_outermost : outermost_end b u ≡ outermost_end a s
   entered_outermost =
       ⊎_elim
-      (λ none. outer_inside b u (omega (arith, level)) ∙ ap (λ j. get_or b.ends j 0) (sym none) ∙ end_here ∙ (read_behind next.reads).end ∙ sym (outer_none a s none))
+      (λ none. outer_inside b u (omega (arith, level)) ∙ ap (λ j. get_or b.ends j 0) (sym none) ∙ end_here ∙ (element_leaves_after next.reads).end ∙ sym (outer_none a s none))
       (λ some. outer_inside b u (omega (arith, level)) ∙ end_other 0 (omega (arith, some)) ∙ sym (outer_inside a s (omega (arith, some))))
       (cases_eq a.level 0)
 
-  entered_tells : (more : List DerNode) (stop : Stop) → NodesAround b u more stop → NodesAround a s (node_of a.level e ∷ more) stop
-  entered_tells more stop h =
+  entering_adds_node : (more : List DerNode) (stop : Stop) → NodesAround b u more stop → NodesAround a s (node_of a.level e ∷ more) stop
+  entering_adds_node more stop h =
       let deep : b.level ≡ suc a.level = omega (arith, level) in
-      let from : NodesFrom b.ends b.behind (suc a.level) u more stop = subst (λ k. NodesFrom b.ends b.behind k u more stop) deep h in
-      let at_contents : NodesFrom b.ends b.behind (suc a.level) (inside_state e t) more stop = subst (λ x. NodesFrom b.ends b.behind (suc a.level) x more stop) inside from in
-      entered_from b.ends a.ends b.behind a.behind a.level s t e more stop next (read_behind next.reads).moved into end_other behind_other end_here behind_here at_contents
+      let from : NodesFrom b.ends b.following (suc a.level) u more stop = subst (λ k. NodesFrom b.ends b.following k u more stop) deep h in
+      let at_contents : NodesFrom b.ends b.following (suc a.level) (inside_state e t) more stop = subst (λ x. NodesFrom b.ends b.following (suc a.level) x more stop) inside from in
+      entered_from b.ends a.ends b.following a.following a.level s t e more stop next (element_leaves_after next.reads).moved into end_other after_below_level end_here after_at_level at_contents
 
-  pub told_entered : Tells a s (node_of a.level e ∷ []) b u
-  told_entered =
+  pub entered_element_walks_node : WalksNodes a s (node_of a.level e ∷ []) b u
+  entered_element_walks_node =
       record {
-        moved = moved_on s t u (read_behind next.reads).moved (subst (Moved t) (sym inside) refl);
+        moved = moved_on s t u (element_leaves_after next.reads).moved (subst (Moved t) (sym inside) refl);
         around = entered_around;
         outermost = entered_outermost;
-        tells = entered_tells;
+        walks = entering_adds_node;
       }
 
 -- i nodes of the tree are written, and the others are unchanged
 pub record Walked (s : ReaderState) (old : List DerNode) (i : ℕ) (nodes : List DerNode) (a : Around) (t : ReaderState) : Type 0 where
   pub moved : Moved s t
   pub around : AreAround a t
-  pub outermost : outer_end a t ≡ s.end
+  pub outermost : outermost_end a t ≡ s.end
   pub within : i ≤ length old
   pub others : drop i nodes ≡ drop i old
-  pub tells : (more : List DerNode) (stop : Stop) → NodesAround a t more stop → Nodes 0 s (take i nodes ++ more) stop
+  pub walks : (more : List DerNode) (stop : Stop) → NodesAround a t more stop → Nodes 0 s (take i nodes ++ more) stop
 
 -- parts are left
-pub walked_on : {s : ReaderState} {old nodes : List DerNode} {i : ℕ} {a b : Around} {t u : ReaderState} → Walked s old i nodes a t → Tells a t [] b u → Walked s old i nodes b u
+pub walked_on : {s : ReaderState} {old nodes : List DerNode} {i : ℕ} {a b : Around} {t u : ReaderState} → Walked s old i nodes a t → WalksNodes a t [] b u → Walked s old i nodes b u
 walked_on {s} {t = t} {u = u} w q =
     record {
       moved = moved_on s t u w.moved q.moved;
@@ -156,22 +156,22 @@ walked_on {s} {t = t} {u = u} w q =
       outermost = q.outermost ∙ w.outermost;
       within = w.within;
       others = w.others;
-      tells = λ more stop h. w.tells more stop (q.tells more stop h);
+      walks = λ more stop h. w.walks more stop (q.walks more stop h);
     }
 
 -- one more node is written
-pub walked_node : {s : ReaderState} {old nodes : List DerNode} {i : ℕ} {a b : Around} {t u : ReaderState} (n : DerNode) → Walked s old i nodes a t → Tells a t (n ∷ []) b u → i < length nodes → i < length old
+pub walked_node : {s : ReaderState} {old nodes : List DerNode} {i : ℕ} {a b : Around} {t u : ReaderState} (n : DerNode) → Walked s old i nodes a t → WalksNodes a t (n ∷ []) b u → i < length nodes → i < length old
     → Walked s old (i + 1) (set nodes i n) b u
 walked_node {s} {old} {nodes} {i} {t = t} {u = u} n w q below within =
     let one : i + 1 ≡ suc i = omega arith in
-    let told : take (i + 1) (set nodes i n) ≡ take i nodes ++ n ∷ [] = ap (λ k. take k (set nodes i n)) one ∙ take-suc-set nodes i n below in
+    let reported : take (i + 1) (set nodes i n) ≡ take i nodes ++ n ∷ [] = ap (λ k. take k (set nodes i n)) one ∙ take-suc-set nodes i n below in
     record {
       moved = moved_on s t u w.moved q.moved;
       around = q.around;
       outermost = q.outermost ∙ w.outermost;
       within = omega (arith, within);
       others = drop-set-lt (i + 1) nodes i n (omega arith) ∙ sym (drop-drop 1 i nodes) ∙ ap (drop 1) w.others ∙ drop-drop 1 i old;
-      tells = λ more stop h. subst (λ l. Nodes 0 s l stop) (sym (ap (λ l. l ++ more) told ∙ append_assoc (take i nodes) (n ∷ []) more)) (w.tells (n ∷ more) stop (q.tells more stop h));
+      walks = λ more stop h. subst (λ l. Nodes 0 s l stop) (sym (ap (λ l. l ++ more) reported ∙ append_assoc (take i nodes) (n ∷ []) more)) (w.walks (n ∷ more) stop (q.walks more stop h));
     }
 
 -- the array is full
@@ -179,18 +179,18 @@ pub all_walked : {s : ReaderState} {old nodes : List DerNode} {i : ℕ} {a : Aro
 all_walked {s} {old} {nodes} {i} {a} {t} w all = subst (λ k. Walked s old k nodes a t) (omega (arith, w.within, all)) w
 
 nothing_more : {s : ReaderState} {old nodes : List DerNode} {i : ℕ} {a : Around} {t : ReaderState} → Walked s old i nodes a t → (stop : Stop) → NodesAround a t [] stop → Nodes 0 s (take i nodes) stop
-nothing_more {s} {nodes = nodes} {i = i} w stop h = subst (λ l. Nodes 0 s l stop) (append-nil (take i nodes)) (w.tells [] stop h)
+nothing_more {s} {nodes = nodes} {i = i} w stop h = subst (λ l. Nodes 0 s l stop) (append-nil (take i nodes)) (w.walks [] stop h)
 
 -- all nodes are written
-pub told_finished : {s : ReaderState} {old nodes : List DerNode} {i : ℕ} {a : Around} {t : ReaderState} → Walked s old i nodes a t → t.position ≡ t.end → a.level ≡ 0 → TellsTree s old no_error i nodes t
-told_finished {s} {a = a} {t = t} w here none =
+pub finished_walk_reads_tree : {s : ReaderState} {old nodes : List DerNode} {i : ℕ} {a : Around} {t : ReaderState} → Walked s old i nodes a t → t.position ≡ t.end → a.level ≡ 0 → ReadsTree s old no_error i nodes t
+finished_walk_reads_tree {s} {a = a} {t = t} w here none =
     let ends : t.end ≡ s.end = sym (outer_none a t none) ∙ w.outermost in
     let at : t.position ≡ s.end = here ∙ ends in
     record {
       stop = finished;
-      nodes = nothing_more w finished (subst (λ k. NodesFrom a.ends a.behind k t [] finished) (sym none) (at_end here));
-      told = refl;
-      room = w.within;
+      nodes = nothing_more w finished (subst (λ k. NodesFrom a.ends a.following k t [] finished) (sym none) (at_end here));
+      reported = refl;
+      space = w.within;
       others = w.others;
       fills = λ e. absurd (let no : finished ≡ full = e in cc);
       passes = λ _. w.moved ∙ ap (λ k. record s { position = k; end = t.end }) at ∙ ap (λ k. record s { position = s.end; end = k }) ends;
@@ -198,15 +198,15 @@ told_finished {s} {a = a} {t = t} w here none =
     }
 
 -- reading an element is an error
-pub told_refused : {s : ReaderState} {old nodes : List DerNode} {i : ℕ} {a : Around} {t u : ReaderState} (v : ReaderState) (r : DerError) (e : DerElement) → Walked s old i nodes a t → t.position ≢ t.end → ReadsElement t r e u → r.kind ≢ 0
-    → v.input ≡ t.input → v.failed ≡ true → TellsTree s old r i nodes v
-told_refused {s} {a = a} {t = t} {u = u} v r e w left reads some input failed =
+pub failed_walk_reads_tree : {s : ReaderState} {old nodes : List DerNode} {i : ℕ} {a : Around} {t u : ReaderState} (v : ReaderState) (r : DerError) (e : DerElement) → Walked s old i nodes a t → t.position ≢ t.end → ReadsElement t r e u → r.kind ≢ 0
+    → v.input ≡ t.input → v.failed ≡ true → ReadsTree s old r i nodes v
+failed_walk_reads_tree {s} {a = a} {t = t} {u = u} v r e w left reads some input failed =
     let unfinished : refused r ≢ finished = λ q. (let no : refused r ≡ finished = q in cc) in
     record {
       stop = refused r;
-      nodes = nothing_more w (refused r) (stops_from a.ends a.behind a.level unfinished (no_element u e r left reads (λ q. some (ap (λ (c : DerError). c.kind) q))));
-      told = refl;
-      room = w.within;
+      nodes = nothing_more w (refused r) (stops_from a.ends a.following a.level unfinished (no_element u e r left reads (λ q. some (ap (λ (c : DerError). c.kind) q))));
+      reported = refl;
+      space = w.within;
       others = w.others;
       fills = λ q. absurd (let no : refused r ≡ full = q in cc);
       passes = λ q. absurd (unfinished q);
@@ -214,15 +214,15 @@ told_refused {s} {a = a} {t = t} {u = u} v r e w left reads some input failed =
     }
 
 -- there is no space for another node
-pub told_full : {s : ReaderState} {old nodes : List DerNode} {i : ℕ} {a : Around} {t : ReaderState} (v : ReaderState) (r : DerError) → Walked s old i nodes a t → t.position ≢ t.end → i ≡ length old → r ≡ stop_code full
-    → v.input ≡ t.input → v.failed ≡ true → TellsTree s old r i nodes v
-told_full {s} {a = a} {t = t} v r w left all told input failed =
+pub full_walk_reads_tree : {s : ReaderState} {old nodes : List DerNode} {i : ℕ} {a : Around} {t : ReaderState} (v : ReaderState) (r : DerError) → Walked s old i nodes a t → t.position ≢ t.end → i ≡ length old → r ≡ stop_code full
+    → v.input ≡ t.input → v.failed ≡ true → ReadsTree s old r i nodes v
+full_walk_reads_tree {s} {a = a} {t = t} v r w left all reported input failed =
     let unfinished : full ≢ finished = λ q. (let no : full ≡ finished = q in cc) in
     record {
       stop = full;
-      nodes = nothing_more w full (stops_from a.ends a.behind a.level unfinished (no_room left));
-      told = told;
-      room = w.within;
+      nodes = nothing_more w full (stops_from a.ends a.following a.level unfinished (no_space left));
+      reported = reported;
+      space = w.within;
       others = w.others;
       fills = λ _. all;
       passes = λ q. absurd (unfinished q);

@@ -3,7 +3,7 @@ use Rattle.std.proofs.Common.{◌≡◌, ◌≢◌, ℕ, ◌+◌, ◌*◌, ◌%�
 use Rattle.std.proofs.lemmas.Bool.{cases_lt, lt-ltb}
 use Rattle.der_base.specs.Length.{digits}
 use Rattle.der_base.specs.Tag.{label, leading_octet, tag_octets, continuation_octets, IsIdentifier}
-use Rattle.der_base.specs.HeaderGrammar.{Head, HeadAhead}
+use Rattle.der_base.specs.HeaderGrammar.{Head, HeadNext}
 use Rattle.der_base.specs.declared.encoding_rules.EncodingRules.{EncodingRules}
 use Rattle.der_base.specs.declared.tag.Tag.{Tag}
 use Rattle.der_base.proofs.TagLemmas.{label_small, label_large, tag_begins, constructed_bit}
@@ -12,7 +12,7 @@ use Rattle.der_base.proofs.HeaderLemmas.{header_view_of, header_view}
 use Rattle.der_core.specs.ReaderState.{ReaderState, rest_of}
 use Rattle.der_core.specs.Decode.{Passes}
 use Rattle.der_c.specs.TagWord.{tag_word}
-use Rattle.der_c.specs.Element.{IsFirstAhead, TellsTag}
+use Rattle.der_c.specs.ElementCalls.{IsNextOctet, DeterminesTag}
 
 -- an octet whose five low bits are not all set does not announce the long form
 short_octet : (b : Bool) (k o : ℕ) → 64 * k + constructed_bit b + 31 ≡ o → o % 32 < 31 → ⊥
@@ -47,9 +47,9 @@ identifier_some rules id t b h =
     ]
 
 -- the first octet of a header determines its tag
-pub header_told : (h : Head) (s t : ReaderState) (o : ℕ) → Passes (HeadAhead h) s t → IsFirstAhead s o → TellsTag o h.tag
-header_told h s t o passed first small other =
-    elim (header_view passed.ahead) [
+pub first_octet_determines_tag : (h : Head) (s t : ReaderState) (o : ℕ) → Passes (HeadNext h) s t → IsNextOctet s o → DeterminesTag o h.tag
+first_octet_determines_tag h s t o passed first small other =
+    elim (header_view passed.next) [
       | header_view_of id more d l ok e c ↦
           (let p = identifier_some s.rules id h.tag h.constructed d in
           let whole : rest_of s ≡ p.0 ∷ (p.1 ++ more) = e ∙ ap (λ x. x ++ more) p.2 in

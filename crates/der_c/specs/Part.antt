@@ -7,9 +7,9 @@ use Rattle.der_base.specs.Length.{length_octets}
 use Rattle.der_base.specs.declared.tag.Tag.{Tag}
 use Rattle.der_base.specs.declared.error.Error.{Error}
 use Rattle.der_base.specs.declared.error.ErrorKind.TheVariants.{Failed, Overlength, TagNumberInvalid}
-use Rattle.der_core.specs.Writer.{WriterState, Writes, writer_position, room_outcome}
+use Rattle.der_core.specs.Writer.{WriterState, Writes, writer_position, space_outcome}
 use Rattle.der_core.specs.Encode.{header_outcome}
-use Rattle.der_c.specs.Error.{no_error, error_code}
+use Rattle.der_c.specs.ErrorCode.{no_error, error_code}
 use Rattle.der_c.specs.TagWord.{IsTagWord, NoTagWord}
 use Rattle.der_c.specs.WriterCalls.{RefusesBy}
 use Rattle.der_c.specs.declared.error.DerError.{DerError}
@@ -47,7 +47,7 @@ abbrev pub put_state : ℕ → List ℕ → WriterState → WriterState
 put_state start octets s =
     record s {
       octets = take (start - 1) s.octets ++ (octets ++ drop start s.octets);
-      behind = drop (length octets - 1) s.behind;
+      following = drop (length octets - 1) s.following;
     }
 
 -- the writer with the length of the contents in place of the octet before them
@@ -62,9 +62,9 @@ pub data EndsElement (start : ℕ) (s : WriterState) (result : DerError) (t : Wr
       → EndsElement start s result t
   not_begun : s.failed ≡ false → (start ≡ 0) ⊎ (length s.octets < start)
       → RefusesBy Overlength s result t → EndsElement start s result t
-  no_room : (e : Error) → s.failed ≡ false → IsBegun start s
-      → Writes (room_outcome (more_octets start s) s s) (Err e) t → result ≡ error_code e
+  no_space : (e : Error) → s.failed ≡ false → IsBegun start s
+      → Writes (space_outcome (more_octets start s) s s) (Err e) t → result ≡ error_code e
       → EndsElement start s result t
   ended : s.failed ≡ false → IsBegun start s
-      → Writes (room_outcome (more_octets start s) s (ended_state start s)) (Ok tt) t
+      → Writes (space_outcome (more_octets start s) s (ended_state start s)) (Ok tt) t
       → result ≡ no_error → EndsElement start s result t

@@ -8,7 +8,7 @@ use Rattle.der_core.specs.Outcome.{Gives}
 use Rattle.der_core.specs.Reader.{read_slice_outcome}
 use Rattle.der_core.specs.Nested.{CanNest}
 use Rattle.der_core.specs.Decode.{Passes}
-use Rattle.der_core.specs.Header.{head_of, HeaderAhead}
+use Rattle.der_core.specs.Header.{head_of, HeaderNext}
 use Rattle.der_core.specs.declared.header.Header.{Header}
 use Rattle.der_c.specs.TagWord.{tag_word}
 use Rattle.der_c.specs.declared.element.DerElement.{DerElement}
@@ -16,7 +16,7 @@ use Rattle.der_c.specs.declared.element.DerElement.{DerElement}
 -- the next header is the two octets `o` and `n`, of which `n` is the length, and it is consumed
 pub record PassesShort (o n : ℕ) (s u : ReaderState) : Type 0 where
   pub header : Header
-  pub passed : Passes (HeaderAhead header) s u
+  pub passed : Passes (HeaderNext header) s u
   pub word : tag_word (head_of header).tag ≡ o
   pub length : (head_of header).length ≡ definite_length n
   pub constructed : (head_of header).constructed ≡ is_constructed o

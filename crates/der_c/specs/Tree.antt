@@ -1,11 +1,11 @@
--- The result of reading a tree in C (`TellsTree`): elements in order, each before those inside it
+-- The result of reading a tree in C (`ReadsTree`): elements in order, each before those inside it
 -- (`Nodes`), and how they end (`Stop`).
 use Rattle.std.specs.Prelude.{◌≡◌, ◌≢◌, ℕ, suc, ◌+◌, ◌<◌, ◌≤◌, true, List, [], ◌∷◌, ◌++◌, length, take, drop}
 use Rattle.der_base.specs.Error.{error_of_kind}
 use Rattle.der_base.specs.declared.error.ErrorKind.TheVariants.{Overlength}
 use Rattle.der_core.specs.ReaderState.{ReaderState}
-use Rattle.der_c.specs.Error.{no_error, error_code}
-use Rattle.der_c.specs.Element.{ReadsElement}
+use Rattle.der_c.specs.ErrorCode.{no_error, error_code}
+use Rattle.der_c.specs.ElementCalls.{ReadsElement}
 use Rattle.der_c.specs.declared.error.DerError.{DerError}
 use Rattle.der_c.specs.declared.element.DerElement.{DerElement}
 use Rattle.der_c.specs.declared.tree.DerNode.{DerNode}
@@ -53,7 +53,7 @@ stop_code (refused e) = e
 -- not entered, after one with all the nodes inside it, or inside one
 pub data Nodes : ℕ → ReaderState → List DerNode → Stop → Type 0 where
   at_end : {level : ℕ} {s : ReaderState} → s.position ≡ s.end → Nodes level s [] finished
-  no_room : {level : ℕ} {s : ReaderState} → s.position ≢ s.end → Nodes level s [] full
+  no_space : {level : ℕ} {s : ReaderState} → s.position ≢ s.end → Nodes level s [] full
   no_element : {level : ℕ} {s : ReaderState} (t : ReaderState) (e : DerElement) (error : DerError)
       → s.position ≢ s.end → ReadsElement s error e t → error ≢ no_error
       → Nodes level s [] (refused error)
@@ -71,12 +71,12 @@ pub data Nodes : ℕ → ReaderState → List DerNode → Stop → Type 0 where
 
 -- the nodes of all that is left are written, and the other nodes are unchanged; either all are
 -- written and consumed, or there is no space for another or an error, and the reader has failed
-pub record TellsTree (s : ReaderState) (old : List DerNode) (result : DerError) (count : ℕ)
+pub record ReadsTree (s : ReaderState) (old : List DerNode) (result : DerError) (count : ℕ)
     (new : List DerNode) (t : ReaderState) : Type 0 where
   pub stop : Stop
   pub nodes : Nodes 0 s (take count new) stop
-  pub told : result ≡ stop_code stop
-  pub room : count ≤ length old
+  pub reported : result ≡ stop_code stop
+  pub space : count ≤ length old
   pub others : drop count new ≡ drop count old
   pub fills : stop ≡ full → count ≡ length old
   pub passes : stop ≡ finished → t ≡ record s { position = s.end }

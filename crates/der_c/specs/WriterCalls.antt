@@ -10,15 +10,15 @@ use Rattle.der_base.specs.declared.error.ErrorKind.{ErrorKind}
 use Rattle.der_base.specs.declared.error.ErrorKind.TheVariants.{Overflow, TagNumberInvalid}
 use Rattle.der_core.specs.Writer.{WriterState, Writes, failed_state, write_outcome}
 use Rattle.der_core.specs.Encode.{ElementWritten, header_outcome}
-use Rattle.der_c.specs.Error.{no_error, error_code}
-use Rattle.der_c.specs.Reader.{answer_code}
+use Rattle.der_c.specs.ErrorCode.{no_error, error_code}
+use Rattle.der_c.specs.CReader.{answer_code}
 use Rattle.der_c.specs.TagWord.{IsTagWord, NoTagWord}
 use Rattle.der_c.specs.declared.error.DerError.{DerError}
 
 -- the error is this kind without a position, and the writer has failed
 pub record RefusesBy (kind : ErrorKind) (s : WriterState) (result : DerError) (t : WriterState)
     : Type 0 where
-  pub told : result ≡ error_code (error_of_kind kind)
+  pub reported : result ≡ error_code (error_of_kind kind)
   pub leaves : t ≡ failed_state s
 
 -- octets are written, or there is an error
@@ -26,7 +26,7 @@ pub record WritesOctets (octets : List ℕ) (s : WriterState) (result : DerError
     : Type 0 where
   pub answer : Result (Unit {0}) Error
   pub writes : Writes (write_outcome octets s) answer t
-  pub told : result ≡ answer_code answer
+  pub reported : result ≡ answer_code answer
 
 -- the header of the tag of this word and of n octets is written
 pub record WritesShort (word n : ℕ) (s t : WriterState) : Type 0 where

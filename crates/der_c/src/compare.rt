@@ -1,8 +1,8 @@
 //! The order of elements, in C.
 ghost use Rattle.std.specs.Prelude.{IfOk, IfErr};
-ghost use Rattle.der_c.specs.Compare.{IsOneElement, RefusesWhole, RefusesEither, Compares};
+ghost use Rattle.der_c.specs.CompareCall.{IsOneElement, RefusesWhole, RefusesEither, Compares};
 
-use crate::error::{DerError, told};
+use crate::error::{DerError, reported};
 use der_base::Error;
 use der_core::{Reader, SliceReader, decode_header};
 use std::cmp::Ordering;
@@ -26,7 +26,7 @@ pub extern "C" fn der_compare(first: &[u8], second: &[u8], order: &mut i32) -> D
             };
             DerError::NONE
         }
-        Err(error) => told(error),
+        Err(error) => reported(error),
     }
 }
 

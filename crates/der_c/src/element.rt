@@ -2,10 +2,10 @@
 ghost use Rattle.std.specs.Prelude.{◌≡◌};
 ghost use Rattle.der_core.specs.ReaderState.{Same};
 ghost use Rattle.der_core.specs.Header.{head_of};
-ghost use Rattle.der_c.specs.Element.{ReadsContents, ReadsElement, ExpectsElement, EntersElement, EntersContents, OpensElement, SkipsElement, unexpected_code};
-ghost use Rattle.der_c.specs.Reader.{reader_state};
+ghost use Rattle.der_c.specs.ElementCalls.{ReadsContents, ReadsElement, ExpectsElement, EntersElement, EntersContents, OpensElement, SkipsElement, unexpected_code};
+ghost use Rattle.der_c.specs.CReader.{reader_state};
 
-use crate::error::{DerError, told};
+use crate::error::{DerError, reported};
 use crate::reader::DerReader;
 use crate::short::{enter_short, pass_short, read_short};
 use crate::tag::word_of;
@@ -44,7 +44,7 @@ impl DerElement<'_> {
 
 // Reads the contents after a header that begins at `start`.
 #[inline(always)]
-fn read_contents<'a>(
+fn read_element_contents<'a>(
     reader: &mut DerReader<'a>,
     start: u32,
     header: Header,
@@ -68,7 +68,7 @@ fn read_contents<'a>(
             };
             DerError::NONE
         }
-        Err(error) => told(error),
+        Err(error) => reported(error),
     }
 }
 
@@ -134,8 +134,8 @@ fn read_slowly<'a>(reader: &mut DerReader<'a>, element: &mut DerElement<'a>) -> 
 {
     let start = reader.position as u32;
     match decode_header(reader) {
-        Ok(header) => read_contents(reader, start, header, element),
-        Err(error) => told(error),
+        Ok(header) => read_element_contents(reader, start, header, element),
+        Err(error) => reported(error),
     }
 }
 
@@ -200,9 +200,9 @@ fn expect_slowly<'a>(reader: &mut DerReader<'a>, tag: u64, element: &mut DerElem
                 reader.position = start;
                 return unexpected(tag, met);
             }
-            read_contents(reader, start as u32, header, element)
+            read_element_contents(reader, start as u32, header, element)
         }
-        Err(error) => told(error),
+        Err(error) => reported(error),
     }
 }
 
@@ -250,7 +250,7 @@ fn enter_slowly<'a>(reader: &mut DerReader<'a>, tag: u64, inside: &mut DerReader
             }
             enter(reader, header, inside)
         }
-        Err(error) => told(error),
+        Err(error) => reported(error),
     }
 }
 
@@ -277,7 +277,7 @@ fn enter<'a>(reader: &mut DerReader<'a>, header: Header, inside: &mut DerReader<
             reader.leave_nested(outer);
             DerError::NONE
         }
-        Err(error) => told(error),
+        Err(error) => reported(error),
     }
 }
 
@@ -298,18 +298,18 @@ pub extern "C" fn der_open<'a>(
 {
     let start = element.contents_start;
     let length = element.contents.len();
-    let room = reader.octets.len();
-    if start as usize > room {
-        return told(ErrorKind::Reader.to_error());
+    let space = reader.octets.len();
+    if start as usize > space {
+        return reported(ErrorKind::Reader.to_error());
     }
-    if length > room - start as usize {
-        return told(ErrorKind::Reader.to_error());
+    if length > space - start as usize {
+        return reported(ErrorKind::Reader.to_error());
     }
     if reader.failed {
-        return told(ErrorKind::Failed.to_error());
+        return reported(ErrorKind::Failed.to_error());
     }
     if reader.depth >= 64 {
-        return told(ErrorKind::NestingDepth.at(Length::new(start)));
+        return reported(ErrorKind::NestingDepth.at(Length::new(start)));
     }
     *inside = DerReader {
         octets: reader.octets,

@@ -1,8 +1,8 @@
 //! Errors as C sees them.
 ghost use Rattle.std.specs.Prelude.{◌≡◌};
-ghost use Rattle.der_c.specs.Error.{error_code, kind_code, tag_code, coded as coded_error};
+ghost use Rattle.der_c.specs.ErrorCode.{error_code, kind_code, tag_code, coded as coded_error};
 
-use crate::tag::{first_octet, number_behind};
+use crate::tag::{first_octet, number_in_long_form};
 use der_base::{Error, ErrorKind, Tag};
 
 /// An error in 16 octets, which fit in two registers. Kind 0 is no error.
@@ -59,7 +59,7 @@ fn coded(kind: u8, expected: u8, actual: u8, first: u32, second: u32) -> DerErro
 fn coded_tag(kind: u8, tag: Tag) -> DerError
     ensures { result ≡ tag_code kind tag }
 {
-    coded(kind, 0, first_octet(tag), 0, number_behind(tag))
+    coded(kind, 0, first_octet(tag), 0, number_in_long_form(tag))
 }
 
 // The C form of a kind.
@@ -106,8 +106,8 @@ fn coded_tags(expected: Option<Tag>, actual: Tag) -> DerError
             17,
             first_octet(tag),
             first_octet(actual),
-            number_behind(tag),
-            number_behind(actual),
+            number_in_long_form(tag),
+            number_in_long_form(actual),
         ),
         None => coded_tag(17, actual),
     }
@@ -116,7 +116,7 @@ fn coded_tags(expected: Option<Tag>, actual: Tag) -> DerError
 /// The C form of an error.
 #[cold]
 #[inline(never)]
-pub(crate) fn told(error: Error) -> DerError
+pub(crate) fn reported(error: Error) -> DerError
     ensures { result ≡ error_code error }
 {
     let code = coded_kind(error.kind());

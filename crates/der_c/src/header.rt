@@ -2,10 +2,10 @@
 ghost use Rattle.std.specs.Prelude.{◌≡◌};
 ghost use Rattle.der_core.specs.ReaderState.{Same};
 ghost use Rattle.der_core.specs.Header.{head_of};
-ghost use Rattle.der_c.specs.Header.{ReadsHeader, header_record};
-ghost use Rattle.der_c.specs.Reader.{reader_state};
+ghost use Rattle.der_c.specs.HeaderCall.{ReadsHeader, header_record};
+ghost use Rattle.der_c.specs.CReader.{reader_state};
 
-use crate::error::{DerError, told};
+use crate::error::{DerError, reported};
 use crate::reader::DerReader;
 use crate::tag::word_of;
 use der_core::{Header, decode_header};
@@ -27,7 +27,7 @@ pub struct DerHeader {
 
 // The C form of a header.
 #[inline(always)]
-fn told_header(header: Header) -> DerHeader
+fn c_header(header: Header) -> DerHeader
     ensures { result ≡ header_record (head_of header) }
 {
     let length = header.length();
@@ -51,9 +51,9 @@ pub extern "C" fn der_read_header(reader: &mut DerReader<'_>, header: &mut DerHe
 {
     match decode_header(reader) {
         Ok(read) => {
-            *header = told_header(read);
+            *header = c_header(read);
             DerError::NONE
         }
-        Err(error) => told(error),
+        Err(error) => reported(error),
     }
 }

@@ -38,7 +38,7 @@ impl<'a> DerReader<'a> {
     ghost use Rattle.der_base.specs.declared.error.ErrorKind.TheVariants.{Failed};
     ghost use Rattle.der_core.specs.ReaderState.{reader_position, state_after, nested_state, resumed_state};
     ghost use Rattle.der_core.specs.Reader.{short_outcome};
-    ghost use Rattle.der_c.specs.Reader.{reader_state};
+    ghost use Rattle.der_c.specs.CReader.{reader_state};
 
     // the position of the reader
     #[inline(always)]
@@ -59,7 +59,7 @@ impl<'a> DerReader<'a> {
     // fails because `count` octets are not all there
     #[inline(always)]
     fn incomplete(&mut self, count: u32) -> Error
-        ensures told { result ≡ (missing_refusal (self.old.position + count)
+        ensures reported { result ≡ (missing_refusal (self.old.position + count)
             self.old.end self.old.position).error }
         ensures leaves { reader_state self.new ≡ state_after (reader_state self.old)
             (missing_refusal (self.old.position + count) self.old.end self.old.position) }
@@ -76,12 +76,12 @@ fn missing_octets(position: usize, count: u32, end: u32) -> Error
     requires { position < 2 ^ 32 }
     ensures { result ≡ (missing_refusal (position + count) end position).error }
 {
-    let behind = position + count as usize;
-    if behind > u32::MAX as usize {
+    let following = position + count as usize;
+    if following > u32::MAX as usize {
         return ErrorKind::Overflow.to_error();
     }
     let kind = ErrorKind::Incomplete {
-        expected_len: Length::new(behind as u32),
+        expected_len: Length::new(following as u32),
         actual_len: Length::new(end),
     };
     kind.at(Length::new(position as u32))
@@ -91,19 +91,19 @@ fn missing_octets(position: usize, count: u32, end: u32) -> Error
 /// state, and returns slices of its input.
 impl<'a> Reader for DerReader<'a> {
     ghost use Rattle.std.proofs.Common.{rules};
-    ghost use Rattle.der_c.specs.Reader.{reader_state};
+    ghost use Rattle.der_c.specs.CReader.{reader_state};
 
-    type Lent = &'a [u8];
+    type Borrowed = &'a [u8];
 
     ghost state = { reader_state };
 
     ghost reliable = { true };
 
-    ghost lends = { true };
+    ghost reads_slices = { true };
 
     const CAN_READ_SLICE: bool = true;
 
-    fn can_lend() -> bool
+    fn can_read_slice() -> bool
         ensures { result ≡ true }
     {
         Self::CAN_READ_SLICE
@@ -140,12 +140,12 @@ impl<'a> Reader for DerReader<'a> {
         }
         let count = u32::from(len);
         let start = self.position;
-        let behind = start + count as usize;
-        if behind > self.end as usize {
+        let following = start + count as usize;
+        if following > self.end as usize {
             return Err(self.incomplete(count));
         }
-        self.position = behind;
-        Ok(&self.octets[start..behind])
+        self.position = following;
+        Ok(&self.octets[start..following])
     }
 
     #[inline(always)]
@@ -257,8 +257,8 @@ impl<'a> Reader for DerReader<'a> {
       in_input = s.in_input;
       addressable = s.addressable;
       shallow = s.shallow;
-      marked = λ failed. Prim.search rules;
+      failure_kept = λ failed. Prim.search rules;
     } };
 
-    ghost lending = { λ h. h };
+    ghost reading_slices = { λ h. h };
 }

@@ -2,10 +2,10 @@
 ghost use Rattle.std.specs.Prelude.{◌≡◌, true};
 ghost use Rattle.der_base.specs.declared.encoding_rules.EncodingRules.TheVariants.{Ber};
 ghost use Rattle.der_core.specs.Scan.{Scans};
-ghost use Rattle.der_c.specs.Reader.{reader_state};
-ghost use Rattle.der_c.specs.Scan.{ScansBody};
+ghost use Rattle.der_c.specs.CReader.{reader_state};
+ghost use Rattle.der_c.specs.ScanCall.{ScansBody};
 
-use crate::error::{DerError, told};
+use crate::error::{DerError, reported};
 use crate::reader::DerReader;
 use der_base::{Error, ErrorKind, Length};
 use der_core::{Turns, decode_indefinite_length};
@@ -25,14 +25,14 @@ pub extern "C" fn der_scan(reader: &mut DerReader<'_>, count: &mut u32) -> DerEr
         (reader_state reader.new) }
 {
     if !reader.ber {
-        return told(ErrorKind::EncodingRules.to_error());
+        return reported(ErrorKind::EncodingRules.to_error());
     }
     match scan_counted::<Brand>(reader, Blank::new(1)) {
         Ok(length) => {
             *count = u32::from(length);
             DerError::NONE
         }
-        Err(error) => told(error),
+        Err(error) => reported(error),
     }
 }
 

@@ -2,8 +2,8 @@
 //! accept is read again by the general functions.
 ghost use Rattle.std.specs.Prelude.{◌≡◌, true, false, IfSome};
 ghost use Rattle.der_core.specs.ReaderState.{Same};
-ghost use Rattle.der_core.specs.AfterFirstOctet.{AreAhead, IsAlone};
-ghost use Rattle.der_c.specs.Reader.{reader_state};
+ghost use Rattle.der_core.specs.AfterFirstOctet.{AreNext, IsAlone};
+ghost use Rattle.der_c.specs.CReader.{reader_state};
 ghost use Rattle.der_c.specs.Short.{PassesShort, ReadsShort, EntersShort};
 
 use crate::element::DerElement;
@@ -15,15 +15,15 @@ use der_core::Reader;
 // The next two octets, if they are an identifier and a length of one octet each.
 #[inline(always)]
 fn short_header(reader: &DerReader<'_>) -> Option<(u8, u8)>
-    ensures { AreAhead (reader_state reader.now) result }
+    ensures { AreNext (reader_state reader.now) result }
 {
-    let Ok(ahead) = reader.remaining() else {
+    let Ok(next) = reader.remaining() else {
         return None;
     };
-    if ahead.len() < 2 {
+    if next.len() < 2 {
         return None;
     }
-    let (first, count) = (ahead[0], ahead[1]);
+    let (first, count) = (next[0], next[1]);
     if count < 128 && is_identifier(first) {
         Some((first, count))
     } else {

@@ -102,7 +102,7 @@ pub(crate) fn first_octet(tag: Tag) -> u8
 
 /// The number of a tag if it needs the long form (31 or more), else 0.
 #[inline(always)]
-pub(crate) fn number_behind(tag: Tag) -> u32
+pub(crate) fn number_in_long_form(tag: Tag) -> u32
     ensures { result ≡ long_number tag }
 {
     let number = tag.number().0;
@@ -114,5 +114,5 @@ pub(crate) fn number_behind(tag: Tag) -> u32
 pub(crate) fn word_of(tag: Tag) -> u64
     ensures { result ≡ tag_word tag }
 {
-    first_octet(tag) as u64 + 256 * number_behind(tag) as u64
+    first_octet(tag) as u64 + 256 * number_in_long_form(tag) as u64
 }

@@ -1,11 +1,11 @@
 //! Texts of errors, in C.
 ghost use Rattle.std.specs.Prelude.{◌≡◌, true, IfSome};
-ghost use Rattle.der_c.specs.Error.{error_code};
-ghost use Rattle.der_c.specs.Text.{AppendsText, IsSeenAs, TellsText};
+ghost use Rattle.der_c.specs.ErrorCode.{error_code};
+ghost use Rattle.der_c.specs.ErrorText.{AppendsText, IsSeenAs, WritesErrorText};
 
 mod cut;
 
-use crate::error::{DerError, told};
+use crate::error::{DerError, reported};
 use crate::tag::tag_of;
 use crate::text::cut::Text;
 use der_base::{Error, ErrorKind, Length};
@@ -17,11 +17,11 @@ impl fmt::Write for Text<'_> {
 
     fn write_str(&mut self, s: &str) -> fmt::Result {
         let bytes = s.as_bytes();
-        let room = self.octets.len() - self.count;
-        let taken = bytes.len().min(room);
-        let behind = self.count + taken;
-        self.octets[self.count..behind].copy_from_slice(&bytes[..taken]);
-        self.count = behind;
+        let space = self.octets.len() - self.count;
+        let taken = bytes.len().min(space);
+        let following = self.count + taken;
+        self.octets[self.count..following].copy_from_slice(&bytes[..taken]);
+        self.count = following;
         Ok(())
     }
 }
@@ -30,7 +30,7 @@ impl fmt::Write for Text<'_> {
 /// and returns how many octets were written.
 #[unsafe(no_mangle)]
 pub extern "C" fn der_error_text(error: DerError, text: &mut [u8]) -> usize
-    ensures { TellsText error text.old result text.new }
+    ensures { WritesErrorText error text.old result text.new }
 {
     let mut out = Text {
         octets: text,
@@ -67,7 +67,7 @@ fn known_error(code: DerError) -> Option<Error>
     ensures { IfSome result (λ e. error_code e ≡ code) }
 {
     let error = error_of(code)?;
-    if is_same(told(error), code) {
+    if is_same(reported(error), code) {
         Some(error)
     } else {
         None

@@ -1,13 +1,13 @@
 //! All elements of a part in one call, in C.
 ghost use Rattle.std.specs.Prelude.{◌≡◌, ◌+◌, ◌^◌, ◌<◌, ◌≤◌, length};
-ghost use Rattle.der_c.specs.Reader.{reader_state};
-ghost use Rattle.der_c.specs.Tree.{TellsTree, node_of};
+ghost use Rattle.der_c.specs.CReader.{reader_state};
+ghost use Rattle.der_c.specs.Tree.{ReadsTree, node_of};
 
 mod around;
 mod walk;
 
 use crate::element::{DerElement, read_element};
-use crate::error::{DerError, told};
+use crate::error::{DerError, reported};
 use crate::reader::DerReader;
 use crate::tree::around::Around;
 use crate::tree::walk::{climb, look_into};
@@ -46,13 +46,13 @@ pub extern "C" fn der_read_tree(
     nodes: &mut [DerNode],
     count: &mut usize,
 ) -> DerError
-    ensures { TellsTree (reader_state reader.old) nodes.old result count.new nodes.new
+    ensures { ReadsTree (reader_state reader.old) nodes.old result count.new nodes.new
         (reader_state reader.new) }
 {
     let mut walk = reader.fork();
     let mut around = Around::NONE;
-    let room = nodes.len();
-    for i in 0..room {
+    let space = nodes.len();
+    for i in 0..space {
         climb(&mut walk, &mut around);
         if walk.position == walk.end as usize {
             *reader = walk;
@@ -71,14 +71,14 @@ pub extern "C" fn der_read_tree(
         look_into(&mut walk, &mut around, &element);
     }
     climb(&mut walk, &mut around);
-    *count = room;
+    *count = space;
     if walk.position == walk.end as usize {
         *reader = walk;
         return DerError::NONE;
     }
     walk.failed = true;
     *reader = walk;
-    told(ErrorKind::Overlength.to_error())
+    reported(ErrorKind::Overlength.to_error())
 }
 
 // The node of an element that is inside `level` others.

@@ -30,8 +30,8 @@ bit_same a b e = search rules
 same_bit : (a : Bool) → bool.ghosts.eq a a ≡ true
 same_bit a = search rules
 
-all_told : (x y z : Bool) → x ≡ true → y ≡ true → z ≡ true → (x && (y && z)) ≡ true
-all_told x y z p q r = rw (p, q, r) refl
+fields_equal : (x y z : Bool) → x ≡ true → y ≡ true → z ≡ true → (x && (y && z)) ≡ true
+fields_equal x y z p q r = rw (p, q, r) refl
 
 header_same : (a b : Header) → header.ghosts.eq a b ≡ true → head_of a ≡ head_of b
 header_same a b e =
@@ -44,11 +44,11 @@ header_same a b e =
 
 same_header : (a b : Header) → head_of a ≡ head_of b → header.ghosts.eq a b ≡ true
 same_header a b e =
-    all_told (tag.ghosts.eq a.tag b.tag) (length.ghosts.eq a.length b.length) (bool.ghosts.eq a.constructed b.constructed)
+    fields_equal (tag.ghosts.eq a.tag b.tag) (length.ghosts.eq a.length b.length) (bool.ghosts.eq a.constructed b.constructed)
     (subst (λ u. tag.ghosts.eq a.tag u ≡ true) (ap (λ (h : Head). h.tag) e) (same_tag a.tag))
     (subst (λ u. length.ghosts.eq a.length u ≡ true) (ap (λ (h : Head). h.length) e) (same_length a.length))
     (subst (λ u. bool.ghosts.eq a.constructed u ≡ true) (ap (λ (h : Head). h.constructed) e) (same_bit a.constructed))
 
 -- two headers compare equal exactly if their contents are equal
-pub headers_told : (a b : Header) (told : Bool) → told ≡ header.ghosts.eq a b → IsTrue told ↔ (head_of a ≡ head_of b)
-headers_told a b told e = (λ is. header_same a b (sym e ∙ is), λ same. e ∙ same_header a b same)
+pub headers_equal : (a b : Header) (reported : Bool) → reported ≡ header.ghosts.eq a b → IsTrue reported ↔ (head_of a ≡ head_of b)
+headers_equal a b reported e = (λ is. header_same a b (sym e ∙ is), λ same. e ∙ same_header a b same)

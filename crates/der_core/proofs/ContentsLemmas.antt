@@ -6,8 +6,8 @@ use Rattle.der_base.specs.declared.length.Length.{Length}
 use Rattle.der_base.specs.declared.error.Error.{Error}
 use Rattle.der_core.specs.ReaderState.{ReaderState, rest_of, advanced_state, nested_state, resumed_state, Same}
 use Rattle.der_core.specs.Outcome.{Gives}
-use Rattle.der_core.specs.Reader.{end_mark_outcome, read_eoc_outcome}
-use Rattle.der_core.specs.Nested.{CanNest, Closes, handed_on, left_over, whole, ClosesValue, part_refused, without_mark, with_mark, mark_refused, ValueAnswer, not_opened, opened}
+use Rattle.der_core.specs.Reader.{eoc_outcome, read_eoc_outcome}
+use Rattle.der_core.specs.Nested.{CanNest, Closes, forwarded, left_over, whole, ClosesValue, part_refused, without_eoc, with_eoc, eoc_failed, ValueAnswer, not_opened, opened}
 use Rattle.der_core.proofs.StateLemmas.{rest_after}
 
 -- the remaining octets after n octets were consumed
@@ -23,46 +23,46 @@ rest_inside s n h =
     let l : n ≤ s.end - s.position = omega arith in
     ap (λ k. take k (drop s.position s.input)) e ∙ sym (take-take n (s.end - s.position) (drop s.position s.input) l)
 
-same_state : (a b : ReaderState) → a.input ≡ b.input → a.rules ≡ b.rules → a.end ≡ b.end → a.position ≡ b.position → a.depth ≡ b.depth → a.failed ≡ b.failed → a.marks ≡ b.marks → a ≡ b
+same_state : (a b : ReaderState) → a.input ≡ b.input → a.rules ≡ b.rules → a.end ≡ b.end → a.position ≡ b.position → a.depth ≡ b.depth → a.failed ≡ b.failed → a.keeps_failure ≡ b.keeps_failure → a ≡ b
 same_state a b i r e p d f m =
     ap (λ x. record a { input = x }) i ∙ ap (λ x. record a { input = b.input; rules = x }) r ∙ ap (λ x. record a { input = b.input; rules = b.rules; end = x }) e
     ∙ ap (λ x. record a { input = b.input; rules = b.rules; end = b.end; position = x }) p
     ∙ ap (λ x. record a { input = b.input; rules = b.rules; end = b.end; position = b.position; depth = x }) d
-    ∙ ap (λ x. record b { failed = x; marks = a.marks }) f
-    ∙ ap (λ x. record b { marks = x }) m
+    ∙ ap (λ x. record b { failed = x; keeps_failure = a.keeps_failure }) f
+    ∙ ap (λ x. record b { keeps_failure = x }) m
 
 -- a nested part that was read to its end is consumed
 pub part_passed : (s q : ReaderState) (n : ℕ) → Same (nested_state s n) q → q.position ≡ q.end → q.failed ≡ s.failed → resumed_state q s.end s.depth ≡ advanced_state s n
-part_passed s q n same at_end failed = same_state (resumed_state q s.end s.depth) (advanced_state s n) same.input same.rules refl (at_end ∙ same.end) refl failed same.marks
+part_passed s q n same at_end failed = same_state (resumed_state q s.end s.depth) (advanced_state s n) same.input same.rules refl (at_end ∙ same.end) refl failed same.keeps_failure
 
 -- the end-of-contents octets, if they were read
-eoc_front_of : (s t : ReaderState) (q : List ℕ) → Gives (λ x. end_mark_outcome x q) s (Ok tt) t → (more : List ℕ) × (q ≡ 0 ∷ 0 ∷ more) × (t ≡ advanced_state s 2)
+eoc_front_of : (s t : ReaderState) (q : List ℕ) → Gives (λ x. eoc_outcome x q) s (Ok tt) t → (more : List ℕ) × (q ≡ 0 ∷ 0 ∷ more) × (t ≡ advanced_state s 2)
 eoc_front_of s t [] h = absurd (let a = h.answered in grind arith)
 eoc_front_of s t (zero ∷ []) h = absurd (let a = h.answered in grind arith)
 eoc_front_of s t (zero ∷ zero ∷ more) h = (more, refl, h.leaves)
 eoc_front_of s t (zero ∷ suc o ∷ more) h = absurd (let a = h.answered in cc)
 eoc_front_of s t (suc o ∷ more) h = absurd (let a = h.answered in cc)
 
-pub record EndMarkRead (s t : ReaderState) : Type 0 where
+pub record EocRead (s t : ReaderState) : Type 0 where
   pub working : s.failed ≡ false
-  pub behind : List ℕ
-  pub front : rest_of s ≡ 0 ∷ 0 ∷ behind
+  pub following : List ℕ
+  pub front : rest_of s ≡ 0 ∷ 0 ∷ following
   pub leaves : t ≡ advanced_state s 2
 
-pub end_mark_read : (s t : ReaderState) → Gives read_eoc_outcome s (Ok tt) t → EndMarkRead s t
-end_mark_read s t h = go s.failed refl
+pub eoc_was_read : (s t : ReaderState) → Gives read_eoc_outcome s (Ok tt) t → EocRead s t
+eoc_was_read s t h = go s.failed refl
   where
-    go : (f : Bool) → s.failed ≡ f → EndMarkRead s t
+    go : (f : Bool) → s.failed ≡ f → EocRead s t
     go true f = absurd (let a = h.answered in grind arith)
     go false f =
-        let table : read_eoc_outcome s ≡ end_mark_outcome s (rest_of s) = rw f refl in
+        let table : read_eoc_outcome s ≡ eoc_outcome s (rest_of s) = rw f refl in
         let r = eoc_front_of s t (rest_of s) (record { answered = h.answered ∙ ap (λ o. o.answer) table; leaves = h.leaves ∙ ap (λ o. o.after) table }) in
-        record { working = f; behind = r.0; front = r.1; leaves = r.2 }
+        record { working = f; following = r.0; front = r.1; leaves = r.2 }
 
 -- a closure that ran to the end of the contents, and the end-of-contents octets after them
-pub data Behind (marked : Bool) (s t : ReaderState) : Type 0 where
-  unmarked : marked ≡ false → t ≡ s → Behind marked s t
-  behind_mark : marked ≡ true → EndMarkRead s t → Behind marked s t
+pub data After (has_eoc : Bool) (s t : ReaderState) : Type 0 where
+  definite : has_eoc ≡ false → t ≡ s → After has_eoc s t
+  after_eoc : has_eoc ≡ true → EocRead s t → After has_eoc s t
 
 pub record Ran {P Q T E : Type 0} (post : P → Result T E → Q → Type 0) (before : P → ReaderState) (after : Q → ReaderState) (l : Length) (s : ReaderState) (v : T) (t : ReaderState) : Type 0 where
   pub part : P
@@ -71,35 +71,35 @@ pub record Ran {P Q T E : Type 0} (post : P → Result T E → Q → Type 0) (be
   pub there : before part ≡ nested_state s (number l)
   pub ran : post part (Ok v) last
   pub at_end : (after last).position ≡ (after last).end
-  pub behind : Behind (is_indefinite l) (resumed_state (after last) s.end s.depth) t
+  pub following : After (is_indefinite l) (resumed_state (after last) s.end s.depth) t
 
 pub closes_ok : {T E : Type 0} {converts : Error → E → Type 0} {answer : Result T E} {s t : ReaderState} {end depth : ℕ} {v : T} → Closes converts answer s end depth (Ok v) t
     → (answer ≡ Ok v) × (s.position ≡ s.end) × (t ≡ resumed_state s end depth)
-closes_ok (handed_on e a r l) = absurd (cc)
+closes_ok (forwarded e a r l) = absurd (cc)
 closes_ok (left_over w e a less c r l) = absurd (cc)
 closes_ok {answer = answer} {v = v} (whole w a at r l) = (let same : answer ≡ Ok v = a ∙ sym r in (same, at, l))
 
 -- contents that were closed
-pub record Closed {T E : Type 0} (answer : Result T E) (q : ReaderState) (end depth : ℕ) (marked : Bool) (v : T) (t : ReaderState) : Type 0 where
+pub record Closed {T E : Type 0} (answer : Result T E) (q : ReaderState) (end depth : ℕ) (has_eoc : Bool) (v : T) (t : ReaderState) : Type 0 where
   pub answered : answer ≡ Ok v
   pub at_end : q.position ≡ q.end
-  pub behind : Behind marked (resumed_state q end depth) t
+  pub following : After has_eoc (resumed_state q end depth) t
 
-pub value_closed : {T E : Type 0} {converts : Error → E → Type 0} {answer : Result T E} {q : ReaderState} {end depth : ℕ} {marked : Bool} {v : T} {t : ReaderState} → ClosesValue converts answer q end depth marked (Ok v) t
-    → Closed answer q end depth marked v t
-value_closed {T = T} {E = E} {converts = converts} {answer = answer} {q = q} {end = end} {depth = depth} {marked = marked} {v = v} {t = t} closes = go closes refl
+pub value_closed : {T E : Type 0} {converts : Error → E → Type 0} {answer : Result T E} {q : ReaderState} {end depth : ℕ} {has_eoc : Bool} {v : T} {t : ReaderState} → ClosesValue converts answer q end depth has_eoc (Ok v) t
+    → Closed answer q end depth has_eoc v t
+value_closed {T = T} {E = E} {converts = converts} {answer = answer} {q = q} {end = end} {depth = depth} {has_eoc = has_eoc} {v = v} {t = t} closes = go closes refl
   where
-    made : (w : T) (u : ReaderState) → Closes converts answer q end depth (Ok w) u → v ≡ w → Behind marked (resumed_state q end depth) t → Closed answer q end depth marked v t
-    made w u c same behind = let k = closes_ok c in record { answered = k.0 ∙ ap Ok (sym same); at_end = k.1; behind = behind }
+    made : (w : T) (u : ReaderState) → Closes converts answer q end depth (Ok w) u → v ≡ w → After has_eoc (resumed_state q end depth) t → Closed answer q end depth has_eoc v t
+    made w u c same following = let k = closes_ok c in record { answered = k.0 ∙ ap Ok (sym same); at_end = k.1; following = following }
 
-    go : {r : Result T E} → ClosesValue converts answer q end depth marked r t → r ≡ Ok v → Closed answer q end depth marked v t
+    go : {r : Result T E} → ClosesValue converts answer q end depth has_eoc r t → r ≡ Ok v → Closed answer q end depth has_eoc v t
     go (part_refused e c r) same = absurd (cc)
-    go (without_mark w c m r) same = made w t c (cc) (unmarked m (closes_ok c).2)
-    go (with_mark w u c m g r) same = made w u c (cc) (behind_mark m (end_mark_read _ t (subst (λ x. Gives read_eoc_outcome x (Ok tt) t) (closes_ok c).2 g)))
-    go (mark_refused w u e f c m g told r) same = absurd (cc)
+    go (without_eoc w c m r) same = made w t c (cc) (definite m (closes_ok c).2)
+    go (with_eoc w u c m g r) same = made w u c (cc) (after_eoc m (eoc_was_read _ t (subst (λ x. Gives read_eoc_outcome x (Ok tt) t) (closes_ok c).2 g)))
+    go (eoc_failed w u e f c m g reported r) same = absurd (cc)
 
 pub value_ran : {P Q T E : Type 0} {converts : Error → E → Type 0} {post : P → Result T E → Q → Type 0} {before : P → ReaderState} {after : Q → ReaderState} {l : Length} {s t : ReaderState} {v : T}
     → ValueAnswer converts post before after l s (Ok v) t → Ran post before after l s v t
 value_ran (not_opened e f h c r) = absurd (cc)
 value_ran {post = post} (opened p answer q can there ran closes) =
-    let k = value_closed closes in record { part = p; last = q; can = can; there = there; ran = subst (λ a. post p a q) k.answered ran; at_end = k.at_end; behind = k.behind }
+    let k = value_closed closes in record { part = p; last = q; can = can; there = there; ran = subst (λ a. post p a q) k.answered ran; at_end = k.at_end; following = k.following }

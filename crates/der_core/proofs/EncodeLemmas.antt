@@ -14,7 +14,7 @@ use Rattle.der_base.specs.declared.tag.Tag.{Tag}
 use Rattle.der_base.specs.declared.error.Error.{Error}
 use Rattle.der_base.proofs.TagLemmas.{label_small, label_large}
 use Rattle.der_base.specs.HeaderGrammar.{header_octets}
-use Rattle.der_core.specs.Writer.{WriterState, WriterOutcome, Writes, write_outcome, write_pieces, chained_write, success_outcome, appended_state, room_outcome, written_count, HasRoom}
+use Rattle.der_core.specs.Writer.{WriterState, WriterOutcome, Writes, write_outcome, write_pieces, chained_write, success_outcome, appended_state, space_outcome, written_count, HasSpace}
 use Rattle.der_core.specs.Encode.{single_octets, high_digits, first_and_others, length_outcome, header_outcome}
 
 -- the k lowest digits in base 256
@@ -136,12 +136,12 @@ one_octet x n e one =
 pub appended_both : (s : WriterState) (xs ys : List ℕ) → appended_state (appended_state s xs) ys ≡ appended_state s (xs ++ ys)
 appended_both s xs ys =
     let octets : (s.octets ++ xs) ++ ys ≡ s.octets ++ (xs ++ ys) = append_assoc s.octets xs ys in
-    let behind : drop (length ys) (drop (length xs) s.behind) ≡ drop (length (xs ++ ys)) s.behind = drop-drop (length ys) (length xs) s.behind ∙ ap (λ k. drop k s.behind) (sym (length-append xs ys)) in
+    let following : drop (length ys) (drop (length xs) s.following) ≡ drop (length (xs ++ ys)) s.following = drop-drop (length ys) (length xs) s.following ∙ ap (λ k. drop k s.following) (sym (length-append xs ys)) in
     cc
 
 -- appending nothing
 appended_none : (s : WriterState) → appended_state s [] ≡ s
-appended_none s = ap (λ l. record s { octets = l; behind = s.behind }) (append-nil s.octets)
+appended_none s = ap (λ l. record s { octets = l; following = s.following }) (append-nil s.octets)
 
 -- a length is appended by two writes
 pub length_appended : (k n : ℕ) (q : List ℕ) (s t u : WriterState) (r : Result (Unit {0}) Error) → 1 ≤ k → k ≤ 4 → length (length_octets n) ≡ k + 1 → q ≡ drop (4 - k) (to_be_bytes w32 n)
@@ -186,11 +186,11 @@ appended_twice xs ys s t u (Err e) first next = next
 appended_twice xs ys s t u (Ok x) first next = next ∙ ap (λ v. appended_state v ys) first ∙ appended_both s xs ys
 
 -- space for more, after the first octets were appended
-pub room_then : (xs : List ℕ) (k : ℕ) (s t : WriterState) → t ≡ appended_state s xs → s.failed ≡ false → length s.octets + (length xs + k) ≤ s.stop → (t.failed ≡ false) × (length t.octets + k ≤ t.stop)
-room_then xs k s t first alive room =
+pub space_after : (xs : List ℕ) (k : ℕ) (s t : WriterState) → t ≡ appended_state s xs → s.failed ≡ false → length s.octets + (length xs + k) ≤ s.stop → (t.failed ≡ false) × (length t.octets + k ≤ t.stop)
+space_after xs k s t first alive space =
     let size : length t.octets ≡ length s.octets + length xs = ap (λ (v : WriterState). length v.octets) first ∙ length-append s.octets xs in
     let stop : t.stop ≡ s.stop = ap (λ (v : WriterState). v.stop) first in
-    (ap (λ (v : WriterState). v.failed) first ∙ alive, omega (arith, size, stop, room))
+    (ap (λ (v : WriterState). v.failed) first ∙ alive, omega (arith, size, stop, space))
 
 -- the octets of a tag with a long number, from its first octet and the number
 pub tag_spelled : (t : Tag) (x n : ℕ) → x ≡ leading_octet (label t) 31 → n ≡ (label t).number → 31 ≤ n → tag_octets t ≡ x ∷ (high_digits (n / 128) ++ n % 128 ∷ [])
@@ -199,59 +199,59 @@ tag_spelled t x n e f large =
 
 -- if there is space for n octets, the writer has not failed and neither its limit nor 32 bits are
 -- exceeded
-pub has_room : (n : ℕ) (s : WriterState) → HasRoom s n → (s.failed ≡ false) × (length s.octets + n ≤ s.stop) × (written_count s + n < 2 ^ 32)
-has_room n s a = (grind (rules, nat_tests), grind (arith, nat_tests), grind (arith, nat_tests))
+pub has_space : (n : ℕ) (s : WriterState) → HasSpace s n → (s.failed ≡ false) × (length s.octets + n ≤ s.stop) × (written_count s + n < 2 ^ 32)
+has_space n s a = (grind (rules, nat_tests), grind (arith, nat_tests), grind (arith, nat_tests))
 
 -- n octets for which there is space succeed, whatever the state after it
-in_room : (n : ℕ) (s g : WriterState) → s.failed ≡ false → length s.octets + n ≤ s.stop → written_count s + n < 2 ^ 32 → room_outcome n s g ≡ success_outcome g
-in_room n s g alive room few = rw (alive, lt-ltb (written_count s + n) (2 ^ 32) few, le-ltb s.stop (length s.octets + n) room)
+space_suffices : (n : ℕ) (s g : WriterState) → s.failed ≡ false → length s.octets + n ≤ s.stop → written_count s + n < 2 ^ 32 → space_outcome n s g ≡ success_outcome g
+space_suffices n s g alive space few = rw (alive, lt-ltb (written_count s + n) (2 ^ 32) few, le-ltb s.stop (length s.octets + n) space)
 
 -- a piece for which there is space, and what follows it
-piece_in_room : (p : List ℕ) (s : WriterState) (next : WriterState → WriterOutcome) → s.failed ≡ false → length s.octets + length p ≤ s.stop → written_count s + length p < 2 ^ 32
+piece_with_space : (p : List ℕ) (s : WriterState) (next : WriterState → WriterOutcome) → s.failed ≡ false → length s.octets + length p ≤ s.stop → written_count s + length p < 2 ^ 32
     → chained_write (write_outcome p s).answer (write_outcome p s).after next ≡ next (appended_state s p)
-piece_in_room p s next alive room few = ap (λ (o : WriterOutcome). chained_write o.answer o.after next) (in_room (length p) s (appended_state s p) alive room few)
+piece_with_space p s next alive space few = ap (λ (o : WriterOutcome). chained_write o.answer o.after next) (space_suffices (length p) s (appended_state s p) alive space few)
 
 -- octets that are written one by one if there is space for all
-singles_in_room : (l : List ℕ) (s : WriterState) → s.failed ≡ false → length s.octets + length l ≤ s.stop → written_count s + length l < 2 ^ 32 → write_pieces (single_octets l) s ≡ success_outcome (appended_state s l)
-singles_in_room [] s alive room few = ap success_outcome (sym (appended_none s))
-singles_in_room (o ∷ l) s alive room few =
+singles_with_space : (l : List ℕ) (s : WriterState) → s.failed ≡ false → length s.octets + length l ≤ s.stop → written_count s + length l < 2 ^ 32 → write_pieces (single_octets l) s ≡ success_outcome (appended_state s l)
+singles_with_space [] s alive space few = ap success_outcome (sym (appended_none s))
+singles_with_space (o ∷ l) s alive space few =
     let more : length (s.octets ++ o ∷ []) ≡ length s.octets + 1 = length-append s.octets (o ∷ []) in
-    piece_in_room (o ∷ []) s (write_pieces (single_octets l)) alive (omega (arith, room)) (omega (arith, few))
-    ∙ singles_in_room l (appended_state s (o ∷ [])) alive (omega (arith, more, room)) (omega (arith, more, few)) ∙ ap success_outcome (appended_both s (o ∷ []) l)
+    piece_with_space (o ∷ []) s (write_pieces (single_octets l)) alive (omega (arith, space)) (omega (arith, few))
+    ∙ singles_with_space l (appended_state s (o ∷ [])) alive (omega (arith, more, space)) (omega (arith, more, few)) ∙ ap success_outcome (appended_both s (o ∷ []) l)
 
 -- octets of which the first is written alone if there is space for all
-others_in_room : (l : List ℕ) (s : WriterState) → s.failed ≡ false → length s.octets + length l ≤ s.stop → written_count s + length l < 2 ^ 32 → write_pieces (first_and_others l) s ≡ success_outcome (appended_state s l)
-others_in_room [] s alive room few = ap success_outcome (sym (appended_none s))
-others_in_room (o ∷ []) s alive room few = piece_in_room (o ∷ []) s success_outcome alive room few
-others_in_room (o ∷ p ∷ l) s alive room few =
+others_with_space : (l : List ℕ) (s : WriterState) → s.failed ≡ false → length s.octets + length l ≤ s.stop → written_count s + length l < 2 ^ 32 → write_pieces (first_and_others l) s ≡ success_outcome (appended_state s l)
+others_with_space [] s alive space few = ap success_outcome (sym (appended_none s))
+others_with_space (o ∷ []) s alive space few = piece_with_space (o ∷ []) s success_outcome alive space few
+others_with_space (o ∷ p ∷ l) s alive space few =
     let more : length (s.octets ++ o ∷ []) ≡ length s.octets + 1 = length-append s.octets (o ∷ []) in
-    piece_in_room (o ∷ []) s (write_pieces ((p ∷ l) ∷ [])) alive (omega (arith, room)) (omega (arith, few))
-    ∙ piece_in_room (p ∷ l) (appended_state s (o ∷ [])) success_outcome alive (omega (arith, more, room)) (omega (arith, more, few)) ∙ ap success_outcome (appended_both s (o ∷ []) (p ∷ l))
+    piece_with_space (o ∷ []) s (write_pieces ((p ∷ l) ∷ [])) alive (omega (arith, space)) (omega (arith, few))
+    ∙ piece_with_space (p ∷ l) (appended_state s (o ∷ [])) success_outcome alive (omega (arith, more, space)) (omega (arith, more, few)) ∙ ap success_outcome (appended_both s (o ∷ []) (p ∷ l))
 
 -- a header for which there is space is written as if by one write
-header_in_room : (t : Tag) (n : ℕ) (s : WriterState) → HasRoom s (length (header_octets t n)) → header_outcome t n s ≡ success_outcome (appended_state s (header_octets t n))
-header_in_room t n s has =
-    let facts = has_room (length (header_octets t n)) s has in
+header_with_space : (t : Tag) (n : ℕ) (s : WriterState) → HasSpace s (length (header_octets t n)) → header_outcome t n s ≡ success_outcome (appended_state s (header_octets t n))
+header_with_space t n s has =
+    let facts = has_space (length (header_octets t n)) s has in
     let sum : length (header_octets t n) ≡ length (tag_octets t) + length (length_octets n) = length-append (tag_octets t) (length_octets n) in
     let more : length (s.octets ++ tag_octets t) ≡ length s.octets + length (tag_octets t) = length-append s.octets (tag_octets t) in
-    ap (λ (o : WriterOutcome). chained_write o.answer o.after (length_outcome n)) (singles_in_room (tag_octets t) s facts.0 (omega (arith, facts.1, sum)) (omega (arith, facts.2, sum)))
-    ∙ others_in_room (length_octets n) (appended_state s (tag_octets t)) facts.0 (omega (arith, facts.1, sum, more)) (omega (arith, facts.2, sum, more)) ∙ ap success_outcome (appended_both s (tag_octets t) (length_octets n))
+    ap (λ (o : WriterOutcome). chained_write o.answer o.after (length_outcome n)) (singles_with_space (tag_octets t) s facts.0 (omega (arith, facts.1, sum)) (omega (arith, facts.2, sum)))
+    ∙ others_with_space (length_octets n) (appended_state s (tag_octets t)) facts.0 (omega (arith, facts.1, sum, more)) (omega (arith, facts.2, sum, more)) ∙ ap success_outcome (appended_both s (tag_octets t) (length_octets n))
 
 -- one write of the octets of a header equals writing the header, if there is space
-pub header_at_once : (t : Tag) (n : ℕ) (octets : List ℕ) (s u : WriterState) (r : Result (Unit {0}) Error) → octets ≡ header_octets t n → HasRoom s (length octets)
+pub header_at_once : (t : Tag) (n : ℕ) (octets : List ℕ) (s u : WriterState) (r : Result (Unit {0}) Error) → octets ≡ header_octets t n → HasSpace s (length octets)
     → Writes (write_outcome octets s) r u → Writes (header_outcome t n s) r u
 header_at_once t n octets s u r same has wrote =
-    let facts = has_room (length octets) s has in
+    let facts = has_space (length octets) s has in
     let outcome : write_outcome octets s ≡ header_outcome t n s =
-    in_room (length octets) s (appended_state s octets) facts.0 facts.1 facts.2 ∙ ap (λ l. success_outcome (appended_state s l)) same ∙ sym (header_in_room t n s (subst (λ l. HasRoom s (length l)) same has)) in
+    space_suffices (length octets) s (appended_state s octets) facts.0 facts.1 facts.2 ∙ ap (λ l. success_outcome (appended_state s l)) same ∙ sym (header_with_space t n s (subst (λ l. HasSpace s (length l)) same has)) in
     subst (λ (o : WriterOutcome). Writes o r u) outcome wrote
 
 -- and whatever that write returns, writing the header succeeds
-pub header_written : (t : Tag) (n : ℕ) (octets : List ℕ) (s u : WriterState) (r : Result (Unit {0}) Error) → octets ≡ header_octets t n → HasRoom s (length octets)
+pub header_written : (t : Tag) (n : ℕ) (octets : List ℕ) (s u : WriterState) (r : Result (Unit {0}) Error) → octets ≡ header_octets t n → HasSpace s (length octets)
     → Writes (write_outcome octets s) r u → Writes (header_outcome t n s) (Ok tt) u
 header_written t n octets s u r same has wrote =
-    let facts = has_room (length octets) s has in
-    let granted : write_outcome octets s ≡ success_outcome (appended_state s octets) = in_room (length octets) s (appended_state s octets) facts.0 facts.1 facts.2 in
+    let facts = has_space (length octets) s has in
+    let granted : write_outcome octets s ≡ success_outcome (appended_state s octets) = space_suffices (length octets) s (appended_state s octets) facts.0 facts.1 facts.2 in
     header_at_once t n octets s u (Ok tt) same has (record { answered = sym (ap (λ (o : WriterOutcome). o.answer) granted); leaves = wrote.leaves })
 
 -- the octets of a header with a tag of one octet and a length of one to three

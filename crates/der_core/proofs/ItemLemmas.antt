@@ -171,18 +171,18 @@ module _ {A B : Type 0} (v : A → B) where
     sorted_octets xs ys o p is js (Err r) d f g e h w = tt
 
 -- the guarantees for the whole comparison
-abbrev pub Told : {S T A B : Type 0} → (A → B) → Comparison B → (S → Option A → S → Type 0) → (T → Option A → T → Type 0) → S → T → Compared → Type 0
-Told v k steps others s t answer = record {
+abbrev pub Guarantees : {S T A B : Type 0} → (A → B) → Comparison B → (S → Option A → S → Type 0) → (T → Option A → T → Type 0) → S → T → Compared → Type 0
+Guarantees v k steps others s t answer = record {
   ran : ComparesItems steps others s t (λ x y. k.order (v x) (v y)) answer;
   ok : k.delimits → OfItems steps others v s t (SortsJoined k.by_octets k.octets answer);
   complete : k.delimits → OfItems steps others v s t (ComparesJoined (λ x y. k.by_octets x y × k.has_header x × k.has_header y) k.octets answer);
   exact : OfItems steps others v s t (λ xs ys. answer ≡ lists_order k.order xs ys);
 }
 
-pub told : {S T A B : Type 0} {v : A → B} {k : Comparison B} {steps : S → Option A → S → Type 0} {others : T → Option A → T → Type 0} {s : S} {t : T} {u : S} {w : T}
+pub reported : {S T A B : Type 0} {v : A → B} {k : Comparison B} {steps : S → Option A → S → Type 0} {others : T → Option A → T → Type 0} {s : S} {t : T} {u : S} {w : T}
     → (k.delimits → AreDelimited k.octets) → (m : Matched v k steps others s t u w) (o p : Option A) (u' : S) (w' : T) (answer : Compared)
-    → steps u o u' → others w p w' → LastAnswered v k o p answer → Told v k steps others s t answer
-told {v = v} {k = k} {steps = steps} {others = others} {s = s} {t = t} {u = u} {w = w} law m o p u' w' answer a b h = record {
+    → steps u o u' → others w p w' → LastAnswered v k o p answer → Guarantees v k steps others s t answer
+reported {v = v} {k = k} {steps = steps} {others = others} {s = s} {t = t} {u = u} {w = w} law m o p u' w' answer a b h = record {
   ran = record {
     these = m.these;
     those = m.those;
@@ -202,15 +202,15 @@ told {v = v} {k = k} {steps = steps} {others = others} {s = s} {t = t} {u = u} {
 }
 
 -- what holds for any two items holds for each pair
-pub each_place : {A : Type 0} (stands : A → A → Type 0) → ((x y : A) → stands x y) → (xs ys : List A) → EachPlace stands xs ys
-each_place stands h [] ys = tt
-each_place stands h (x ∷ xs) [] = tt
-each_place stands h (x ∷ xs) (y ∷ ys) = (h x y, each_place stands h xs ys)
+pub each_place : {A : Type 0} (is_next : A → A → Type 0) → ((x y : A) → is_next x y) → (xs ys : List A) → EachPlace is_next xs ys
+each_place is_next h [] ys = tt
+each_place is_next h (x ∷ xs) [] = tt
+each_place is_next h (x ∷ xs) (y ∷ ys) = (h x y, each_place is_next h xs ys)
 
 -- what holds for any two items holds for each pair, together with what holds for all items of both
 -- lists
-pub each_place_all : {A : Type 0} (stands : A → A → Type 0) (holds : A → Type 0) → ((x y : A) → stands x y) → (xs ys : List A) → AllByRecursion holds xs → AllByRecursion holds ys
-    → EachPlace (λ x y. stands x y × holds x × holds y) xs ys
-each_place_all stands holds h [] ys p q = tt
-each_place_all stands holds h (x ∷ xs) [] p q = tt
-each_place_all stands holds h (x ∷ xs) (y ∷ ys) p q = ((h x y, p.0, q.0), each_place_all stands holds h xs ys p.1 q.1)
+pub each_place_all : {A : Type 0} (is_next : A → A → Type 0) (holds : A → Type 0) → ((x y : A) → is_next x y) → (xs ys : List A) → AllByRecursion holds xs → AllByRecursion holds ys
+    → EachPlace (λ x y. is_next x y × holds x × holds y) xs ys
+each_place_all is_next holds h [] ys p q = tt
+each_place_all is_next holds h (x ∷ xs) [] p q = tt
+each_place_all is_next holds h (x ∷ xs) (y ∷ ys) p q = ((h x y, p.0, q.0), each_place_all is_next holds h xs ys p.1 q.1)

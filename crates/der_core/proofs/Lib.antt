@@ -11,7 +11,7 @@ pub mod DecodeLemmas
 pub mod WholeLemmas
 pub mod NestedLemmas
 pub mod PeekLemmas
-pub mod EndMarkLemmas
+pub mod EocLemmas
 pub mod CompareLemmas
 pub mod ContentsLemmas
 pub mod TagAssertedLemmas

@@ -45,8 +45,8 @@ can_leave {s} {t} {u} {n} {end = e} {depth = d} h sound same =
     }
 
 -- the reader after a nested part is the same
-pub same_behind : {s t u : ReaderState} {n end depth : ℕ} → Entered s n end depth t → Same t u → Same s (resumed_state u end depth)
-same_behind {s} {t} {u} {n} {end = e} {depth = d} h same =
+pub same_after_part : {s t u : ReaderState} {n end depth : ℕ} → Entered s n end depth t → Same t u → Same s (resumed_state u end depth)
+same_after_part {s} {t} {u} {n} {end = e} {depth = d} h same =
     let state = h.state in
     let limit : t.end ≡ s.position + n = ap (λ (x : ReaderState). x.end) h.state in
     record {
@@ -54,7 +54,7 @@ same_behind {s} {t} {u} {n} {end = e} {depth = d} h same =
       rules = same.rules ∙ ap (λ (x : ReaderState). x.rules) h.state;
       end = h.outer_end;
       depth = h.outer_depth;
-      marks = same.marks ∙ ap (λ (x : ReaderState). x.marks) h.state;
+      keeps_failure = same.keeps_failure ∙ ap (λ (x : ReaderState). x.keeps_failure) h.state;
       forward = omega (arith, same.forward, ap (λ (x : ReaderState). x.position) h.state);
       within = omega (arith, same.within, same.end, h.can.0, h.outer_end, limit);
       failed = λ f. same.failed (subst IsTrue (sym (ap (λ (x : ReaderState). x.failed) h.state)) f);
@@ -62,18 +62,18 @@ same_behind {s} {t} {u} {n} {end = e} {depth = d} h same =
 
 -- closing a nested part leaves the same reader
 pub same_closed : {s t u v : ReaderState} {n end depth : ℕ} → Entered s n end depth t → Same t u → Same (resumed_state u end depth) v → Same s v
-same_closed way same closed = same_trans (same_behind way same) closed
+same_closed way same closed = same_trans (same_after_part way same) closed
 
 -- the error for octets that were left unread, as the code constructs it
 module _ {T E : Type 0} {converts : Error → E → Type 0} {answer result : Result T E} (s u : ReaderState) {end depth : ℕ} (zero : Bool) (left : Length) (v : T) where
   pub close_left_over : (t : ReaderState) (e : E) (x : Error) (position : Length) → answer ≡ Ok v → u ≡ resumed_state s end depth → left ≡ definite_length (s.end - s.position)
       → (number left ≡ 0 → IsTrue zero) → zero ≡ false → position ≡ reader_position u → x ≡ error_at (TrailingData position left) (reader_position u) → t ≡ stopped_state u u.position → converts x e
       → result ≡ Err e → Closes converts answer s end depth result t
-  close_left_over t e x position is leaves l f z p told stopped_at converted q =
+  close_left_over t e x position is leaves l f z p reported stopped_at converted q =
       let here_is : reader_position u ≡ reader_position s = ap reader_position leaves in
       let some : s.end - s.position ≢ 0 = λ none. (let w : false ≡ true = sym z ∙ f (ap number l ∙ none) in cc) in
       let same : x ≡ error_at (TrailingData (reader_position s) (definite_length (s.end - s.position))) (reader_position s) =
-      told ∙ ap (λ k. error_at (TrailingData k left) (reader_position u)) (p ∙ here_is) ∙ ap (λ k. error_at (TrailingData (reader_position s) k) (reader_position u)) l
+      reported ∙ ap (λ k. error_at (TrailingData k left) (reader_position u)) (p ∙ here_is) ∙ ap (λ k. error_at (TrailingData (reader_position s) k) (reader_position u)) l
       ∙ ap (λ k. error_at (TrailingData (reader_position s) (definite_length (s.end - s.position))) k) here_is in
       left_over v e is (omega arith) (subst (λ y. converts y e) same converted) q (stopped_at ∙ ap (λ x. stopped_state x x.position) leaves)
 
@@ -104,7 +104,7 @@ value_opened {converts = converts} {after = after} s {depth = depth} {t = t} of 
 
 pub value_not_opened : {P Q T E : Type 0} {converts : Error → E → Type 0} {post : P → Result T E → Q → Type 0} {before : P → ReaderState} {after : Q → ReaderState} (s t : ReaderState) (of l : Length) (e : Error)
     (f : E) → l ≡ of → Gives (enter_nested_outcome (number l)) s (Err e) t → converts e f → ValueAnswer converts post before after of s (Err f) t
-value_not_opened s t of l e f same h told = not_opened e f (subst (λ x. Gives (enter_nested_outcome (number x)) s (Err e) t) same h) told refl
+value_not_opened s t of l e f same h reported = not_opened e f (subst (λ x. Gives (enter_nested_outcome (number x)) s (Err e) t) same h) reported refl
 
 -- transport along an equal length
 pub value_at : {P Q T E : Type 0} {converts : Error → E → Type 0} {post : P → Result T E → Q → Type 0} {before : P → ReaderState} {after : Q → ReaderState} {s t : ReaderState} {of l : Length}

@@ -11,28 +11,28 @@ use Rattle.der_core.specs.ReaderState.{ReaderState, rest_of}
 use Rattle.der_base.specs.Arithmetic.{checked_length}
 use Rattle.der_core.specs.Outcome.{Outcome, Gives, Meets, IsBinding, map_ok}
 use Rattle.der_core.specs.Reader.{read_slice_outcome, tlv_outcome}
-use Rattle.der_core.specs.Header.{head_of, HeaderAhead}
+use Rattle.der_core.specs.Header.{head_of, HeaderNext}
 use Rattle.der_core.specs.Decode.{Passes, Decodes, Peeks, TlvAnswer, with_header}
 use Rattle.der_core.specs.declared.header.Header.{Header}
 use Rattle.der_core.proofs.DecodeLemmas.{decodes_bound}
 
 -- the result of decoding on a fork
-pub peeks : {A : Type 0} {Ahead : A → EncodingRules → List ℕ → ℕ → Type 0} {Fault : EncodingRules → ℕ → List ℕ → Refusal → Type 0} {reliable : Bool} {s f t : ReaderState} {answer : Result A Error}
-    → f ≡ s → Decodes Ahead Fault reliable f answer t → Peeks Ahead Fault reliable s answer
-peeks {Ahead = Ahead} {Fault} {reliable} {t = t} {answer} same h = (t, subst (λ x. Decodes Ahead Fault reliable x answer t) same h)
+pub peeks : {A : Type 0} {Next : A → EncodingRules → List ℕ → ℕ → Type 0} {Fault : EncodingRules → ℕ → List ℕ → Refusal → Type 0} {reliable : Bool} {s f t : ReaderState} {answer : Result A Error}
+    → f ≡ s → Decodes Next Fault reliable f answer t → Peeks Next Fault reliable s answer
+peeks {Next = Next} {Fault} {reliable} {t = t} {answer} same h = (t, subst (λ x. Decodes Next Fault reliable x answer t) same h)
 
 -- a binding result of a peek satisfies what a reliable reader guarantees
-pub peeks_reliably : {A : Type 0} {Ahead : A → EncodingRules → List ℕ → ℕ → Type 0} {Fault : EncodingRules → ℕ → List ℕ → Refusal → Type 0} {reliable : Bool} {s : ReaderState} (answer : Result A Error)
-    → IsBinding reliable answer → Peeks Ahead Fault reliable s answer → Peeks Ahead Fault true s answer
+pub peeks_reliably : {A : Type 0} {Next : A → EncodingRules → List ℕ → ℕ → Type 0} {Fault : EncodingRules → ℕ → List ℕ → Refusal → Type 0} {reliable : Bool} {s : ReaderState} (answer : Result A Error)
+    → IsBinding reliable answer → Peeks Next Fault reliable s answer → Peeks Next Fault true s answer
 peeks_reliably {reliable = reliable} answer owed h = (h.0, decodes_bound reliable answer owed h.1)
 
 -- whole elements
 tlv_near : (n : ℕ) (s : ReaderState) → n < 2 ^ 32 → tlv_outcome n s ≡ read_slice_outcome n s
 tlv_near n s l = rw (lt-ltb n (2 ^ 32) l) refl
 
-module _ (s f t : ReaderState) (h : Header) (same : f ≡ s) (p : Passes (HeaderAhead h) f t) where
-  here : HeaderAhead h s.rules (rest_of s) p.octets
-  here = subst (λ x. HeaderAhead h x.rules (rest_of x) p.octets) same p.ahead
+module _ (s f t : ReaderState) (h : Header) (same : f ≡ s) (p : Passes (HeaderNext h) f t) where
+  here : HeaderNext h s.rules (rest_of s) p.octets
+  here = subst (λ x. HeaderNext h x.rules (rest_of x) p.octets) same p.next
 
   working : s.failed ≡ false
   working = ap (λ (x : ReaderState). x.failed) (sym same) ∙ p.working
@@ -48,9 +48,9 @@ module _ (s f t : ReaderState) (h : Header) (same : f ≡ s) (p : Passes (Header
       (record { answered = g.answered ∙ ap (λ x. x.answer) near; leaves = g.leaves ∙ ap (λ x. x.after) near })
 
   pub tlv_far : (n : ℕ) (e : Error) → n ≡ p.octets + number (head_of h).length → 2 ^ 32 ≤ n → e ≡ error_of_kind Overflow → TlvAnswer s (Err e) s
-  tlv_far n e sum far told =
+  tlv_far n e sum far reported =
       let over : tlv_outcome (p.octets + number (head_of h).length) s ≡ record { answer = Err (error_of_kind Overflow); after = s } = ap (λ k. tlv_outcome k s) (sym sum) ∙ rw (le-ltb n (2 ^ 32) far) refl in
-      with_header h p.octets here working (record { answered = ap Err told ∙ sym (ap (λ x. x.answer) over); leaves = sym (ap (λ x. x.after) over) })
+      with_header h p.octets here working (record { answered = ap Err reported ∙ sym (ap (λ x. x.answer) over); leaves = sym (ap (λ x. x.after) over) })
 
 -- a binding result has the outcome of its table
 pub owed_gives : {A B : Type 0} (reliable : Bool) (f : A → B) (table : ReaderState → Outcome B) (s t : ReaderState) (r : Result A Error) → IsBinding reliable r → Meets reliable table s (map_ok f r) t → Gives table s (map_ok f r) t

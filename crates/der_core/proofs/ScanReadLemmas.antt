@@ -2,7 +2,7 @@
 use Rattle.std.proofs.Common.{◌≡◌, ℕ, zero, suc, ◌+◌, ◌-◌, ◌/◌, ◌<◌, ◌≤◌, ◌⊎◌, inl, inr, ⊎_elim, true, false, List, [], ◌∷◌, ◌++◌, length, refl, sym, ap, ◌∙◌, subst, length-append, arith}
 use Rattle.der_base.specs.Length.{indefinite_length}
 use Rattle.der_base.specs.Body.{Body, Open, first, none}
-use Rattle.der_base.specs.ScanGrammar.{PartsAhead, BodyAhead, ScanFault, BodyFault}
+use Rattle.der_base.specs.ScanGrammar.{TokensNext, BodyNext, ScanFault, BodyFault}
 use Rattle.der_base.specs.declared.error.Error.{Error}
 use Rattle.der_base.specs.declared.length.Length.{Length}
 use Rattle.der_base.proofs.IdentifierLemmas.{identifier_some}
@@ -32,12 +32,12 @@ module _ {a b : ReaderState} {level parts : ℕ} (h : Reached a b level parts) w
   reached_working w = sym (failed_on h.reads) ∙ w
 
   pub reached_refused : {t : ReaderState} {e : Error} → RefusesPart level b e t → IsRefusedBy (λ rules. BodyFault) a e t
-  reached_refused {t} {e} (has_failed f told leaves) =
-      ⊎_elim (λ start. subst (λ s. IsRefusedBy (λ rules. BodyFault) s e t) start (has_failed f told leaves)) (λ w. absurd (let no : true ≡ false = sym f ∙ failed_on h.reads ∙ w in cc)) h.working
-  reached_refused {t} {e} (at_fault r w fault told leaves) =
+  reached_refused {t} {e} (has_failed f reported leaves) =
+      ⊎_elim (λ start. subst (λ s. IsRefusedBy (λ rules. BodyFault) s e t) start (has_failed f reported leaves)) (λ w. absurd (let no : true ≡ false = sym f ∙ failed_on h.reads ∙ w in cc)) h.working
+  reached_refused {t} {e} (at_fault r w fault reported leaves) =
       let there : ScanFault level (a.position + length h.passed) (rest_of b) r = subst (λ n. ScanFault level n (rest_of b) r) (position_on h.reads) fault in
-      let stops : Stops b r e t = record { told = told; leaves = leaves } in
-      at_fault r (reached_working w) (record { level = level; parts = parts; passed = h.passed; left = rest_of b; split = h.reads.split; reached = h.is_open; stops = there }) told (stops_on h.reads stops).leaves
+      let stops : Stops b r e t = record { reported = reported; leaves = leaves } in
+      at_fault r (reached_working w) (record { level = level; parts = parts; passed = h.passed; left = rest_of b; split = h.reads.split; reached = h.is_open; stops = there }) reported (stops_on h.reads stops).leaves
 
   pub reached_turns : parts ≤ length (rest_of a) / 2
   reached_turns = omega (arith, open_parts h.is_open, ap length h.reads.split, length-append h.passed (rest_of b))
@@ -60,17 +60,17 @@ module _ {a b c : ReaderState} {level parts : ℕ} (h : Reached a b level parts)
       (h.passed ++ 0 ∷ 0 ∷ [], body_from_open (subst (λ k. Open k parts h.passed) one h.is_open), subst (λ x. Reads a c (h.passed ++ x)) g.is_part (reads_on h.reads g.reads))
 
   -- the last end-of-contents octets close the body
-  pub reached_parts : level ≡ 1 → PartRead level Ends b c → PartsAhead (parts + 1) (rest_of a)
+  pub reached_parts : level ≡ 1 → PartRead level Ends b c → TokensNext (parts + 1) (rest_of a)
   reached_parts one g = let (body, is, reads) = body_read one g in (body, rest_of c, is, reads.split)
 
-  pub reached_last : level ≡ 1 → PartRead level Ends b c → (l : Length) → l ≡ indefinite_length (c.position - a.position) → Passes (BodyAhead l) a c
+  pub reached_last : level ≡ 1 → PartRead level Ends b c → (l : Length) → l ≡ indefinite_length (c.position - a.position) → Passes (BodyNext l) a c
   reached_last one g l counts =
       let (body, is, reads) = body_read one g in
       let size : c.position - a.position ≡ length body = omega (arith, position_on reads) in
       record {
         octets = length body;
         working = reached_working h g.working;
-        ahead = record { parts = parts + 1; body = body; behind = rest_of c; is_body = is; split = reads.split; sized = refl; counts = counts ∙ ap indefinite_length size };
+        next = record { parts = parts + 1; body = body; following = rest_of c; is_body = is; split = reads.split; sized = refl; counts = counts ∙ ap indefinite_length size };
         there = omega (arith, ap length reads.split, length-append body (rest_of c));
         leaves = reads.state;
       }

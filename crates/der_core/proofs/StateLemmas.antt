@@ -34,14 +34,14 @@ pub left_on : {a b : ReaderState} {x : List ℕ} → Reads a b x → (r : Refusa
 left_on h r = ap (λ s. state_after s r) h.state
 
 pub stops_on : {a b t : ReaderState} {x : List ℕ} {r : Refusal} {e : Error} → Reads a b x → Stops b r e t → Stops a r e t
-stops_on {r = r} h g = record { told = g.told; leaves = g.leaves ∙ left_on h r }
+stops_on {r = r} h g = record { reported = g.reported; leaves = g.leaves ∙ left_on h r }
 
 -- the outcome of `error`
 pub error_stops : (s t : ReaderState) (k : ErrorKind) (e : Error) → e ≡ error_at k (reader_position s) → t ≡ stopped_state s s.position → Stops s (refusal k s.position) e t
-error_stops s t k e told leaves = record { told = told; leaves = leaves }
+error_stops s t k e reported leaves = record { reported = reported; leaves = leaves }
 
-true_at : {b c : Bool} → c ≡ b → IsTrue b → IsTrue c
-true_at e h = subst IsTrue (sym e) h
+true_transport : {b c : Bool} → c ≡ b → IsTrue b → IsTrue c
+true_transport e h = subst IsTrue (sym e) h
 
 pub same_trans : {a b c : ReaderState} → Same a b → Same b c → Same a c
 same_trans p q =
@@ -50,14 +50,14 @@ same_trans p q =
       rules = q.rules ∙ p.rules;
       end = q.end ∙ p.end;
       depth = q.depth ∙ p.depth;
-      marks = q.marks ∙ p.marks;
+      keeps_failure = q.keeps_failure ∙ p.keeps_failure;
       forward = omega (arith, p.forward, q.forward);
       within = q.within;
       failed = λ f. q.failed (p.failed f);
     }
 
 pub same_here : (s : ReaderState) → IsSound s → Same s s
-same_here s sound = record { input = refl; rules = refl; end = refl; depth = refl; marks = refl; forward = omega arith; within = sound.ordered; failed = λ f. f }
+same_here s sound = record { input = refl; rules = refl; end = refl; depth = refl; keeps_failure = refl; forward = omega arith; within = sound.ordered; failed = λ f. f }
 
 pub length-rest : (s : ReaderState) → IsSound s → length (rest_of s) ≡ s.end - s.position
 length-rest s h = length-take-le (s.end - s.position) (drop s.position s.input) (omega (arith, length-drop s.position s.input, h.in_input))
@@ -112,8 +112,8 @@ cut_here : (s t : ReaderState) (e : Error) → IsSound s → rest_of s ≡ [] �
 cut_here s t e sound none h =
     let end : s.end ≡ s.position = omega (arith, length-rest s sound, ap length none, sound.ordered) in
     let same : missing_refusal (s.position + 1) s.end s.position ≡ end_refusal s.position = ap (λ n. missing_refusal (s.position + 1) n s.position) end in
-    let told : e ≡ (missing_refusal (s.position + 1) s.end s.position).error = (let a = h.answered in cc) in
-    record { told = told ∙ ap (λ (r : Refusal). r.error) same; leaves = h.leaves ∙ ap (state_after s) same }
+    let reported : e ≡ (missing_refusal (s.position + 1) s.end s.position).error = (let a = h.answered in cc) in
+    record { reported = reported ∙ ap (λ (r : Refusal). r.error) same; leaves = h.leaves ∙ ap (state_after s) same }
 
 refused_as : (s t : ReaderState) (e : Error) (failed : Bool) → s.failed ≡ failed → IsSound s → Gives read_byte_outcome s (Err e) t → ByteRefused s e t
 refused_as s t e true f sound h = byte_failed f (let a = h.answered in grind arith) (let l = h.leaves in grind arith)
@@ -126,5 +126,5 @@ pub byte_refused : {s t : ReaderState} {e : Error} → IsSound s → Gives read_
 byte_refused {s} {t} {e} sound h = refused_as s t e s.failed refl sound h
 
 pub cut_refused : {s t : ReaderState} {e : Error} → s.failed ≡ false → ByteRefused s e t → (rest_of s ≡ []) × Stops s (end_refusal s.position) e t
-cut_refused w (byte_failed f told leaves) = absurd (let no : false ≡ true = sym w ∙ f in cc)
+cut_refused w (byte_failed f reported leaves) = absurd (let no : false ≡ true = sym w ∙ f in cc)
 cut_refused w (byte_cut f none stops) = (none, stops)

@@ -32,5 +32,5 @@ tag_asserted t u w r ok other = ⊎_elim (λ same. same) (λ not. absurd (let no
 pub another_tag : (t u : Tag) (e : Error) (r : Result Tag Error) → r ≡ Err e → (t ≡ u → r ≡ Ok t) → t ≢ u
 another_tag t u e r refused same is = (let no : Err e ≡ Ok t = sym refused ∙ same is in cc)
 
-pub told_another_tag : (t u : Tag) (e : Error) (r : Result Tag Error) → r ≡ Err e → t ≢ u → (t ≢ u → r ≡ Err (unexpected_tag u t)) → e ≡ unexpected_tag u t
-told_another_tag t u e r refused not other = (let same : Err e ≡ Err (unexpected_tag u t) = sym refused ∙ other not in cc)
+pub other_tag_reported : (t u : Tag) (e : Error) (r : Result Tag Error) → r ≡ Err e → t ≢ u → (t ≢ u → r ≡ Err (unexpected_tag u t)) → e ≡ unexpected_tag u t
+other_tag_reported t u e r refused not other = (let same : Err e ≡ Err (unexpected_tag u t) = sym refused ∙ other not in cc)

@@ -8,7 +8,7 @@ use Rattle.der_base.specs.Length.{definite_length, length_octets}
 use Rattle.der_base.specs.Tag.{IsIdentifier, IdentifierFault, cut, refused}
 use Rattle.der_base.specs.Body.{IsLevel, Item, definite}
 use Rattle.der_base.specs.HeaderGrammar.{LengthFault, nothing as no_octet}
-use Rattle.der_base.specs.ScanGrammar.{NoBodyFault, short_refusal, ScanFault, nothing, half_mark, no_mark, refused_identifier, cut_identifier, primitive, too_deep, no_length, short}
+use Rattle.der_base.specs.ScanGrammar.{NoBodyFault, short_refusal, ScanFault, nothing, half_eoc, no_eoc, refused_identifier, cut_identifier, primitive, too_deep, no_length, short}
 use Rattle.der_base.specs.declared.length.Length.{Length}
 use Rattle.der_base.specs.declared.tag.Tag.{Tag}
 use Rattle.der_base.specs.declared.error.Error.{Error}
@@ -21,7 +21,7 @@ use Rattle.der_core.specs.Decode.{at_fault, has_failed}
 use Rattle.der_core.specs.AfterFirstOctet.{RefusesIdentifier, RefusesLongLength, Stops}
 use Rattle.der_core.specs.Turn.{PartRead, RefusesPart}
 use Rattle.der_core.specs.declared.length.indefinite.Part.TheVariants.{Ends, Passes, Opens}
-use Rattle.der_core.proofs.EndMarkLemmas.{ZeroOctet, zero_read, zero_cut, other_read}
+use Rattle.der_core.proofs.EocLemmas.{ZeroOctet, zero_read, zero_cut, other_read}
 use Rattle.der_core.proofs.StateLemmas.{reads_on, reads_front, position_on, failed_on, rules_on, stops_on, error_stops, length-rest, ByteRefused, byte_failed, byte_cut, cut_refused}
 
 -- too few octets for a slice
@@ -65,8 +65,8 @@ module _ (s : ReaderState) (n : ℕ) (sound : IsSound s) (working : s.failed ≡
   drain_refused {t} {e} h =
       ⊎_elim (λ none. absurd (let a = h.answered ∙ ap (λ o. o.answer) (drain_none s n none) in cc)) (λ some. ⊎_elim
       (λ few. let table = drain_short s n sound working some few in
-      let told : Err e ≡ Err (short_refusal n (length (rest_of s)) s.position).error = h.answered ∙ ap (λ o. o.answer) table in
-      (omega (arith, length-rest s sound), record { told = cc; leaves = h.leaves ∙ ap (λ o. o.after) table }))
+      let reported : Err e ≡ Err (short_refusal n (length (rest_of s)) s.position).error = h.answered ∙ ap (λ o. o.answer) table in
+      (omega (arith, length-rest s sound), record { reported = cc; leaves = h.leaves ∙ ap (λ o. o.after) table }))
       (λ enough. absurd (let a = h.answered ∙ ap (λ o. o.answer) (drain_enough s n working some enough) in cc))
       (cases_lt s.end (s.position + n))) (cases_eq n 0)
 
@@ -113,7 +113,7 @@ length_passed {a} {k = k} {id = id} i j sized g few = record { working = i.worki
 module _ (level : ℕ) {a : ReaderState} where
   -- a fault that is returned
   stops_at : {t : ReaderState} {e : Error} {q : List ℕ} {r : Refusal} → a.failed ≡ false → rest_of a ≡ q → ScanFault level a.position q r → Stops a r e t → RefusesPart level a e t
-  stops_at {r = r} working octets fault stops = at_fault r working (subst (λ l. ScanFault level a.position l r) (sym octets) fault) stops.told stops.leaves
+  stops_at {r = r} working octets fault stops = at_fault r working (subst (λ l. ScanFault level a.position l r) (sym octets) fault) stops.reported stops.leaves
 
   -- a fault that is returned at the position of a reader after some of the octets
   stops_there : {b t : ReaderState} {x : List ℕ} {e : Error} {q : List ℕ} {n : ℕ} (f : ℕ → Refusal) → a.failed ≡ false → Reads a b x → n ≡ b.position → rest_of a ≡ q
@@ -122,21 +122,21 @@ module _ (level : ℕ) {a : ReaderState} where
 
   -- nothing follows
   pub part_nothing : {t : ReaderState} {e : Error} → ByteRefused a e t → RefusesPart level a e t
-  part_nothing (byte_failed f told leaves) = has_failed f told leaves
+  part_nothing (byte_failed f reported leaves) = has_failed f reported leaves
   part_nothing (byte_cut working none stops) = stops_at working none nothing stops
 
   -- a zero octet
   module _ {b : ReaderState} {o : ℕ} (working : a.failed ≡ false) (h : Reads a b (o ∷ [])) where
-    pub part_mark : {t : ReaderState} {v : Unit {0}} → o ≡ 0 → ZeroOctet b (Ok v) t → PartRead level Ends a t
-    part_mark {t} is (zero_read w g) = record { octets = o ∷ 0 ∷ []; working = working; is_part = ap (λ x. x ∷ 0 ∷ []) is; reads = reads_on h g }
+    pub token_eoc : {t : ReaderState} {v : Unit {0}} → o ≡ 0 → ZeroOctet b (Ok v) t → PartRead level Ends a t
+    token_eoc {t} is (zero_read w g) = record { octets = o ∷ 0 ∷ []; working = working; is_part = ap (λ x. x ∷ 0 ∷ []) is; reads = reads_on h g }
 
-    pub part_no_mark : {t : ReaderState} {e : Error} → o ≡ 0 → ZeroOctet b (Err e) t → RefusesPart level a e t
-    part_no_mark is (zero_cut cannot) =
+    pub token_invalid_eoc : {t : ReaderState} {e : Error} → o ≡ 0 → ZeroOctet b (Err e) t → RefusesPart level a e t
+    token_invalid_eoc is (zero_cut cannot) =
         let r = cut_refused (failed_on h ∙ working) cannot in
-        stops_there end_refusal working h (sym (position_on h)) (h.split ∙ ap (λ l. o ∷ l) r.0 ∙ ap (λ x. x ∷ []) is) half_mark r.1
-    part_no_mark is (other_read {c = c} second w g other stops) =
+        stops_there end_refusal working h (sym (position_on h)) (h.split ∙ ap (λ l. o ∷ l) r.0 ∙ ap (λ x. x ∷ []) is) half_eoc r.1
+    token_invalid_eoc is (other_read {c = c} second w g other stops) =
         let both = reads_on h g in
-        stops_there (refusal IndefiniteLength) working both (sym (position_on both)) (both.split ∙ ap (λ x. x ∷ second ∷ rest_of c) is) (no_mark second (rest_of c) other) stops
+        stops_there (refusal IndefiniteLength) working both (sym (position_on both)) (both.split ∙ ap (λ x. x ∷ second ∷ rest_of c) is) (no_eoc second (rest_of c) other) stops
 
     -- a nonzero octet that begins no identifier
     pub part_refused : {t : ReaderState} {e : Error} → a.rules ≡ Ber → o ≢ 0 → RefusesIdentifier o b e t → RefusesPart level a e t
@@ -155,14 +155,14 @@ module _ (level : ℕ) {a : ReaderState} where
     -- after an identifier and octet `0x80`
     module _ {f : ReaderState} {octet : ℕ} (j : Reads c f (octet ∷ [])) (opens : octet ≡ 128) where
       pub part_primitive : {t : ReaderState} {e : Error} → bit ≡ false → e ≡ error_at IndefiniteLength (reader_position f) → t ≡ stopped_state f f.position → RefusesPart level a e t
-      part_primitive {t} {e} plain told leaves =
+      part_primitive {t} {e} plain reported leaves =
           stops_there (refusal IndefiniteLength) i.working (reads_on i.read j) (omega (arith, position_on i.read, position_on j)) (i.read.split ∙ ap (λ q. id ++ q) (j.split ∙ ap (λ p. p ∷ rest_of f) opens))
-          (primitive (rest_of f) (subst (IsIdentifier Ber id x) plain i.is)) (error_stops f t IndefiniteLength e told leaves)
+          (primitive (rest_of f) (subst (IsIdentifier Ber id x) plain i.is)) (error_stops f t IndefiniteLength e reported leaves)
 
       pub part_too_deep : {t : ReaderState} {e : Error} → bit ≡ true → level ≡ 64 → e ≡ error_at NestingDepth (reader_position f) → t ≡ stopped_state f f.position → RefusesPart level a e t
-      part_too_deep {t} {e} constructed deep told leaves =
+      part_too_deep {t} {e} constructed deep reported leaves =
           stops_there (refusal NestingDepth) i.working (reads_on i.read j) (omega (arith, position_on i.read, position_on j)) (i.read.split ∙ ap (λ q. id ++ q) (j.split ∙ ap (λ p. p ∷ rest_of f) opens))
-          (too_deep (rest_of f) deep (subst (IsIdentifier Ber id x) constructed i.is)) (error_stops f t NestingDepth e told leaves)
+          (too_deep (rest_of f) deep (subst (IsIdentifier Ber id x) constructed i.is)) (error_stops f t NestingDepth e reported leaves)
 
       pub part_opens : bit ≡ true → level < 64 → PartRead level Opens a f
       part_opens constructed few =

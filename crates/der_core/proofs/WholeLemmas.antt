@@ -25,16 +25,16 @@ finishes t f l = rw f (rw (le-ltb t.position t.end l) refl)
 
 -- all of the octets
 module _ (rules : EncodingRules) (octets : List ℕ) (s t : ReaderState) (begun : s ≡ initial_state rules octets) where
-  pub wholly : {A : Type 0} (Ahead : A → EncodingRules → List ℕ → ℕ → Type 0) (v : A) → (s.failed ≡ false → t.failed ≡ false → Passes (Ahead v) s t) → finish_answer t ≡ Ok tt
-      → Whole (Ahead v) rules octets
-  wholly {A} Ahead v ok finished =
+  pub wholly : {A : Type 0} (Next : A → EncodingRules → List ℕ → ℕ → Type 0) (v : A) → (s.failed ≡ false → t.failed ≡ false → Passes (Next v) s t) → finish_answer t ≡ Ok tt
+      → Whole (Next v) rules octets
+  wholly {A} Next v ok finished =
       let f = finish_ok t finished in
       let passed = ok (ap (λ (x : ReaderState). x.failed) begun) f.0 in
       let left : rest_of s ≡ octets = ap rest_of begun ∙ rest-beginning rules octets in
-      let here : Ahead v rules octets passed.octets = subst (λ l. Ahead v rules l passed.octets) left (subst (λ r. Ahead v r (rest_of s) passed.octets) (ap (λ (x : ReaderState). x.rules) begun) passed.ahead) in
+      let here : Next v rules octets passed.octets = subst (λ l. Next v rules l passed.octets) left (subst (λ r. Next v r (rest_of s) passed.octets) (ap (λ (x : ReaderState). x.rules) begun) passed.next) in
       let all : passed.octets ≡ length octets =
       omega (arith, f.1, passed.there, ap length left, ap (λ (x : ReaderState). x.position) passed.leaves, ap (λ (x : ReaderState). x.end) passed.leaves, ap (λ (x : ReaderState). x.position) begun, ap (λ (x : ReaderState). x.end) begun) in
-      subst (Ahead v rules octets) all here
+      subst (Next v rules octets) all here
 
   pub whole_finishes : t ≡ advanced_state s (length octets) → finish_answer t ≡ Ok tt
   whole_finishes there =
@@ -50,7 +50,7 @@ module _ (rules : EncodingRules) (octets : List ℕ) (s t : ReaderState) (begun 
     whole_err e small h = decoded (Err e) t small (from_beginning h) refl
 
     pub whole_left : (v : A) (e : Error) (f : E) → length octets < 2 ^ 32 → answers s (Ok v) t → Err e ≡ finish_answer t → converts e f → WholeAnswer rules answers converts octets (Err f)
-    whole_left v e f small h left told = decoded (Ok v) t small (from_beginning h) (inr (e, sym left, told))
+    whole_left v e f small h left reported = decoded (Ok v) t small (from_beginning h) (inr (e, sym left, reported))
 
     pub whole_ok : (v : A) → length octets < 2 ^ 32 → answers s (Ok v) t → finish_answer t ≡ Ok tt → WholeAnswer rules answers converts octets (Ok v)
     whole_ok v small h finished = decoded (Ok v) t small (from_beginning h) (inl (finished, refl))

@@ -1,14 +1,14 @@
--- Outcomes after a first octet, which was at a position and is already read: `IdentifierBehind`,
--- `DefiniteBehind` and `IsIndefiniteForm` for success; `RefusesNumber`, `RefusesIdentifier`,
--- `RefusesLongLength` and `RefusesIndefinite` for errors. `IsGuess`, `IsAlone`, `AreAhead` and
--- `ToldHeadAhead` are about headers that are read at once.
+-- Outcomes after a first octet, which was at a position and is already read: `IdentifierAfter`,
+-- `DefiniteAfter` and `IsIndefiniteForm` for success; `RefusesNumber`, `RefusesIdentifier`,
+-- `RefusesLongLength` and `RefusesIndefinite` for errors. `IsGuess`, `IsAlone`, `AreNext` and
+-- `RawHeadNext` are about headers that are read at once.
 use Rattle.std.specs.Prelude.{◌≡◌, ◌≢◌, ◌⊎◌, ℕ, ◌+◌, ◌%◌, ◌^◌, ◌<◌, ◌≤◌, Bool, false, Option, Some, None, List, ◌∷◌, nat_lt, if◌then◌else◌}
 use Rattle.der_base.specs.FixedOctets.{high_number, indefinite_octet}
 use Rattle.der_base.specs.Error.{Refusal}
 use Rattle.der_base.specs.Tag.{IsIdentifier, IdentifierFault, universal_tag, other_tag, is_constructed}
 use Rattle.der_base.specs.Length.{length_octets}
-use Rattle.der_base.specs.ScanGrammar.{NoBodyFault, BodyAhead, BodyFault}
-use Rattle.der_base.specs.HeaderGrammar.{LengthFault, HeadAhead, head}
+use Rattle.der_base.specs.ScanGrammar.{NoBodyFault, BodyNext, BodyFault}
+use Rattle.der_base.specs.HeaderGrammar.{LengthFault, HeadNext, head}
 use Rattle.der_base.specs.declared.error.Error.{Error}
 use Rattle.der_base.specs.declared.error.ErrorKind.{ErrorKind}
 use Rattle.der_base.specs.declared.error.ErrorKind.TheVariants.{Overlength, Length as IncorrectLength}
@@ -21,12 +21,12 @@ use Rattle.der_core.specs.ReaderState.{ReaderState, rest_of, state_after, Reads,
 
 -- the call returns the error of this failure and leaves the reader as it says
 pub record Stops (s : ReaderState) (r : Refusal) (e : Error) (t : ReaderState) : Type 0 where
-  pub told : e ≡ r.error
+  pub reported : e ≡ r.error
   pub leaves : t ≡ state_after s r
 
 -- the error is one that `refuses` allows for some state of the same reader
-abbrev pub IsToldBy : (ReaderState → Error → ReaderState → Type 0) → ReaderState → Error → Type 0
-IsToldBy refuses s e = (t : ReaderState) × Same s t × refuses s e t
+abbrev pub IsErrorOf : (ReaderState → Error → ReaderState → Type 0) → ReaderState → Error → Type 0
+IsErrorOf refuses s e = (t : ReaderState) × Same s t × refuses s e t
 
 -- the tag, or OCTET STRING (octet `0x24`) if there is none
 abbrev pub tag_or_segments : Option Tag → Tag
@@ -48,16 +48,16 @@ abbrev pub IsAlone : ℕ → Type 0
 IsAlone o = (universal_tag o ≢ None) ⊎ ((64 ≤ o) × (o < 256) × (o % 32 < high_number))
 
 -- the next two octets are a complete identifier and a length of one octet; `None` states nothing
-abbrev pub AreAhead : ReaderState → Option (ℕ × ℕ) → Type 0
-AreAhead s None = Unit {0}
-AreAhead s (Some x) =
+abbrev pub AreNext : ReaderState → Option (ℕ × ℕ) → Type 0
+AreNext s None = Unit {0}
+AreNext s (Some x) =
     (s.failed ≡ false) × IsAlone x.0 × (x.1 < 128)
     × ((more : List ℕ) × (rest_of s ≡ x.0 ∷ x.1 ∷ more))
 
 -- a header whose identifier is given by its first octet and number
-abbrev pub ToldHeadAhead : ℕ × ℕ × Length → EncodingRules → List ℕ → ℕ → Type 0
-ToldHeadAhead x =
-    HeadAhead (head (identifier_tag x.0 x.1) x.2 (is_constructed x.0))
+abbrev pub RawHeadNext : ℕ × ℕ × Length → EncodingRules → List ℕ → ℕ → Type 0
+RawHeadNext x =
+    HeadNext (head (identifier_tag x.0 x.1) x.2 (is_constructed x.0))
 
 -- an error in a long tag number, after any first octet that one follows
 abbrev pub RefusesNumber : ReaderState → Error → ReaderState → Type 0
@@ -67,8 +67,8 @@ RefusesNumber s e t =
     → (r : Refusal) × IdentifierFault s.rules at (first ∷ rest_of s) r × Stops s r e t
 
 -- an identifier with this tag and constructed bit, after this first octet
-abbrev pub IdentifierBehind : ℕ → Tag → Bool → ReaderState → ReaderState → Type 0
-IdentifierBehind first t b s u =
+abbrev pub IdentifierAfter : ℕ → Tag → Bool → ReaderState → ReaderState → Type 0
+IdentifierAfter first t b s u =
     (l : List ℕ) × IsIdentifier s.rules (first ∷ l) t b × Reads s u l
 
 -- an error in an identifier, after this first octet
@@ -78,9 +78,9 @@ RefusesIdentifier first s e t =
     → (r : Refusal) × IdentifierFault s.rules at (first ∷ rest_of s) r × Stops s r e t
 
 -- the tag of an identifier that is given by its first octet and number, if it is
-abbrev pub told_tag : Option (ℕ × ℕ) → Option Tag
-told_tag None = None
-told_tag (Some x) = Some (identifier_tag x.0 x.1)
+abbrev pub identifier_tag_if_known : Option (ℕ × ℕ) → Option Tag
+identifier_tag_if_known None = None
+identifier_tag_if_known (Some x) = Some (identifier_tag x.0 x.1)
 
 -- the kind of error for a length that is not encoded as required: with the tag before it, if there
 -- is one
@@ -89,8 +89,8 @@ wrong_length_kind None = Overlength
 wrong_length_kind (Some t) = IncorrectLength t
 
 -- a definite length, after this first octet
-abbrev pub DefiniteBehind : ℕ → ℕ → ReaderState → ReaderState → Type 0
-DefiniteBehind first n s t =
+abbrev pub DefiniteAfter : ℕ → ℕ → ReaderState → ReaderState → Type 0
+DefiniteAfter first n s t =
     (l : List ℕ) × (length_octets n ≡ first ∷ l) × Reads s t l × (n < 2 ^ 32)
 
 -- an error in a definite length, after this first octet; one that is not encoded as required has
@@ -104,7 +104,7 @@ RefusesLongLength wrong first s e t =
 pub record IsIndefiniteForm (l : Length) (s t : ReaderState) : Type 0 where
   pub octets : ℕ
   pub under_ber : s.rules ≡ Ber
-  pub ahead : BodyAhead l s.rules (rest_of s) octets
+  pub next : BodyNext l s.rules (rest_of s) octets
   pub leaves : t ≡ s
 
 -- an error in the indefinite form, after its octet

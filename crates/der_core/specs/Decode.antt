@@ -6,7 +6,7 @@ use Rattle.der_base.specs.Error.{error_at, error_of_kind, Refusal}
 use Rattle.der_base.specs.Length.{number, definite_length}
 use Rattle.der_base.specs.Tag.{label, IdentifierFault}
 use Rattle.der_base.specs.ScanGrammar.{BodyFault}
-use Rattle.der_base.specs.HeaderGrammar.{TagAhead, HeaderFault}
+use Rattle.der_base.specs.HeaderGrammar.{TagNext, HeaderFault}
 use Rattle.der_base.specs.declared.tag.Tag.{Tag}
 use Rattle.der_base.specs.declared.error.Error.{Error}
 use Rattle.der_base.specs.declared.error.ErrorKind.{ErrorKind}
@@ -15,7 +15,7 @@ use Rattle.der_base.specs.declared.encoding_rules.EncodingRules.{EncodingRules}
 use Rattle.der_core.specs.ReaderState.{ReaderState, initial_state, rest_of, reader_position, advanced_state, stopped_state, state_after, Same}
 use Rattle.der_core.specs.Outcome.{Gives}
 use Rattle.der_core.specs.Reader.{finish_answer, tlv_outcome}
-use Rattle.der_core.specs.Header.{head_of, HeaderAhead}
+use Rattle.der_core.specs.Header.{head_of, HeaderNext}
 use Rattle.der_core.specs.declared.header.Header.{Header}
 
 -- whether a kind reports a failed allocation
@@ -23,11 +23,11 @@ abbrev pub is_out_of_memory_kind : ErrorKind → Bool
 is_out_of_memory_kind OutOfMemory = true
 is_out_of_memory_kind _ = false
 
--- the next octets satisfy `Ahead`, and the reader has consumed them
-pub record Passes (Ahead : EncodingRules → List ℕ → ℕ → Type 0) (s t : ReaderState) : Type 0 where
+-- the next octets satisfy `Next`, and the reader has consumed them
+pub record Passes (Next : EncodingRules → List ℕ → ℕ → Type 0) (s t : ReaderState) : Type 0 where
   pub octets : ℕ
   pub working : s.failed ≡ false
-  pub ahead : Ahead s.rules (rest_of s) octets
+  pub next : Next s.rules (rest_of s) octets
   pub there : octets ≤ length (rest_of s)
   pub leaves : t ≡ record s { position = s.position + octets }
 
@@ -40,28 +40,28 @@ pub data IsRefusedBy (Fault : EncodingRules → ℕ → List ℕ → Refusal →
   at_fault : (r : Refusal) → s.failed ≡ false → Fault s.rules s.position (rest_of s) r → e ≡ r.error
       → t ≡ state_after s r → IsRefusedBy Fault s e t
 
--- the outcome of a decoder of a grammar, by its values (`Ahead`) and its faults: it leaves the same
+-- the outcome of a decoder of a grammar, by its values (`Next`) and its faults: it leaves the same
 -- reader; a value that it returns was next and is consumed; an error of a reliable reader is a
 -- fault of the next octets
-pub record Decodes {A : Type 0} (Ahead : A → EncodingRules → List ℕ → ℕ → Type 0)
+pub record Decodes {A : Type 0} (Next : A → EncodingRules → List ℕ → ℕ → Type 0)
     (Fault : EncodingRules → ℕ → List ℕ → Refusal → Type 0) (reliable : Bool) (s : ReaderState)
     (answer : Result A Error) (t : ReaderState) : Type 0 where
   pub same : Same s t
-  pub ok : IfOk answer (λ v. Passes (Ahead v) s t)
+  pub ok : IfOk answer (λ v. Passes (Next v) s t)
   pub refused : reliable ≡ true → IfErr answer (λ e. IsRefusedBy Fault s e t)
 
 -- a peek returns what decoding would; the reader does not move
 abbrev pub Peeks : {A : Type 0} → (A → EncodingRules → List ℕ → ℕ → Type 0)
     → (EncodingRules → ℕ → List ℕ → Refusal → Type 0) → Bool → ReaderState → Result A Error → Type 0
-Peeks Ahead Fault reliable s answer = (t : ReaderState) × Decodes Ahead Fault reliable s answer t
+Peeks Next Fault reliable s answer = (t : ReaderState) × Decodes Next Fault reliable s answer t
 
 -- on a reliable reader that has not failed, a decoder returns the next value
 abbrev pub Accepts : {A : Type 0} → (A → EncodingRules → List ℕ → ℕ → Type 0)
     → (EncodingRules → ℕ → List ℕ → Refusal → Type 0) → Type 0
-Accepts {A} Ahead Fault =
+Accepts {A} Next Fault =
     (s t : ReaderState) (answer : Result A Error) (v : A) (m : ℕ)
-    → Decodes Ahead Fault true s answer t → s.failed ≡ false
-    → Ahead v s.rules (rest_of s) m → (answer ≡ Ok v) × (t ≡ advanced_state s m)
+    → Decodes Next Fault true s answer t → s.failed ≡ false
+    → Next v s.rules (rest_of s) m → (answer ≡ Ok v) × (t ≡ advanced_state s m)
 
 -- the number of nesting levels that tags, lengths and headers require: none, since a body is
 -- scanned without entering it
@@ -122,19 +122,19 @@ abbrev pub WholeAnswer : {A E : Type 0} → EncodingRules
     → (Error → E → Type 0) → List ℕ → Result A E → Type 0
 WholeAnswer rules answers converts = BytesAnswer rules answers converts (WholeThen converts)
 
--- all of the octets satisfy `Ahead`
+-- all of the octets satisfy `Next`
 abbrev pub Whole : (EncodingRules → List ℕ → ℕ → Type 0) → EncodingRules → List ℕ → Type 0
-Whole Ahead rules octets = Ahead rules octets (length octets)
+Whole Next rules octets = Next rules octets (length octets)
 
 -- the cases of `tlv_bytes`, the octets of a whole element: its header is peeked at first, which
 -- leaves the reader unchanged; then header and contents are returned together, or are too many for
 -- a length
 pub data TlvAnswer (s : ReaderState) (answer : Result (List ℕ) Error) (t : ReaderState)
     : Type 0 where
-  no_header : (e : Error) → Peeks HeaderAhead (HeaderFault BodyFault) true s (Err e)
+  no_header : (e : Error) → Peeks HeaderNext (HeaderFault BodyFault) true s (Err e)
       → answer ≡ Err e → t ≡ s
       → TlvAnswer s answer t
-  with_header : (h : Header) (m : ℕ) → HeaderAhead h s.rules (rest_of s) m → s.failed ≡ false
+  with_header : (h : Header) (m : ℕ) → HeaderNext h s.rules (rest_of s) m → s.failed ≡ false
       → Gives (tlv_outcome (m + number (head_of h).length)) s answer t → TlvAnswer s answer t
 
 -- the cases of a reader's `decode`: a failed reader returns an error, and every error leaves the
@@ -157,9 +157,9 @@ pub data ReaderDecodes {A E : Type 0} (reliable : Bool)
 pub data MatchAnswer (class number : ℕ) (s : ReaderState) (answer : Result Bool Error)
     : Type 0 where
   finished : s.position ≡ s.end → answer ≡ Ok false → MatchAnswer class number s answer
-  tag_ahead_is : (t : Tag) (matches : Bool) → Peeks TagAhead IdentifierFault true s (Ok t)
+  next_tag_is : (t : Tag) (matches : Bool) → Peeks TagNext IdentifierFault true s (Ok t)
       → answer ≡ Ok matches
       → (IsTrue matches ↔ (((label t).class ≡ class) × ((label t).number ≡ number)))
       → MatchAnswer class number s answer
-  no_tag : (e : Error) → s.position < s.end → Peeks TagAhead IdentifierFault true s (Err e)
+  no_tag : (e : Error) → s.position < s.end → Peeks TagNext IdentifierFault true s (Err e)
       → answer ≡ Err e → MatchAnswer class number s answer

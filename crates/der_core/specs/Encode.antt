@@ -35,7 +35,7 @@ FitsCounted s octets result = length octets < 2 ^ 32 → Fits s octets result
 
 -- if a length can represent their number, octets are accepted by a buffer that is long enough
 abbrev pub FitsInto : {A E : Type 0} → List ℕ → ℕ → Result A E → Type 0
-FitsInto octets room result = length octets < 2 ^ 32 → length octets ≤ room → IsOk result
+FitsInto octets space result = length octets < 2 ^ 32 → length octets ≤ space → IsOk result
 
 -- if a length can represent their number, octets are appended to a vector of `before` octets,
 -- unless the new length exceeds a `usize` or an allocation fails

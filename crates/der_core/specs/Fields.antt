@@ -1,4 +1,4 @@
--- Fields: elements in sequence, such as the contents of a SEQUENCE (X.690 8.9). `FieldsAhead` is a
+-- Fields: elements in sequence, such as the contents of a SEQUENCE (X.690 8.9). `FieldsNext` is a
 -- pair of them, `FieldsRead` and `FieldsWritten` have the cases of reading and writing one, and
 -- `TakesWhole` uses it as contents.
 use Rattle.std.specs.Prelude.{◌≡◌, ℕ, ◌+◌, List, drop, max, Result, Ok, Err}
@@ -15,13 +15,13 @@ use Rattle.der_core.specs.Writer.{WriterState}
 
 -- the first m octets of a list are one value followed by another; three fields are one value and a
 -- pair
-pub record FieldsAhead {A B : Type 0} (First : A → EncodingRules → List ℕ → ℕ → Type 0)
+pub record FieldsNext {A B : Type 0} (First : A → EncodingRules → List ℕ → ℕ → Type 0)
     (Second : B → EncodingRules → List ℕ → ℕ → Type 0) (v : A × B) (rules : EncodingRules)
     (octets : List ℕ) (m : ℕ) : Type 0 where
   pub first : ℕ
   pub second : ℕ
-  pub ahead : First v.0 rules octets first
-  pub behind : Second v.1 rules (drop first octets) second
+  pub next : First v.0 rules octets first
+  pub following : Second v.1 rules (drop first octets) second
   pub whole : m ≡ first + second
 
 -- the number of nesting levels that both require
@@ -42,7 +42,7 @@ pub data FieldsRead {A B E : Type 0} (first : ReaderState → Result A E → Rea
 -- contents that are entirely one value are accepted as it, whatever their header
 abbrev pub TakesWhole : {A : Type 0} → (A → EncodingRules → List ℕ → ℕ → Type 0)
     → A → EncodingRules → Head → List ℕ → Type 0
-TakesWhole Ahead v rules h octets = Whole (Ahead v) rules octets
+TakesWhole Next v rules h octets = Whole (Next v) rules octets
 
 -- the number of octets of both, or the first error
 abbrev pub fields_size : Result Length Error → Result Length Error → Result Length Error
@@ -55,5 +55,5 @@ pub data FieldsWritten (first second : WriterAnswer) (s : WriterState)
     (result : Result (Unit {0}) Error) (t : WriterState) : Type 0 where
   refused : (e : Error) → first s (Err e) t → result ≡ Err e
       → FieldsWritten first second s result t
-  goes_on : (u : WriterState) → first s (Ok tt) u → second u result t
+  continues : (u : WriterState) → first s (Ok tt) u → second u result t
       → FieldsWritten first second s result t

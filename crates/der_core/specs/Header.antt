@@ -1,7 +1,7 @@
--- The content of a header (`head_of`), and octets that begin with one (`HeaderAhead`).
+-- The content of a header (`head_of`), and octets that begin with one (`HeaderNext`).
 use Rattle.der_base.specs.Arithmetic.{sans_eoc}
 use Rattle.std.specs.Prelude.{ℕ, List}
-use Rattle.der_base.specs.HeaderGrammar.{Head, HeadAhead}
+use Rattle.der_base.specs.HeaderGrammar.{Head, HeadNext}
 use Rattle.der_base.specs.declared.encoding_rules.EncodingRules.{EncodingRules}
 use Rattle.der_core.specs.declared.header.Header.{Header}
 
@@ -10,8 +10,8 @@ abbrev pub head_of : Header → Head
 head_of h = record { tag = h.tag; length = h.length; constructed = h.constructed }
 
 -- the first m octets of a list are this header
-abbrev pub HeaderAhead : Header → EncodingRules → List ℕ → ℕ → Type 0
-HeaderAhead h = HeadAhead (head_of h)
+abbrev pub HeaderNext : Header → EncodingRules → List ℕ → ℕ → Type 0
+HeaderNext h = HeadNext (head_of h)
 
 -- the header with the length of the contents alone, without the end-of-contents octets
 abbrev pub header_sans_eoc : Header → Header

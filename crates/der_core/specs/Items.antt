@@ -58,20 +58,20 @@ joined_elements tag_of contents = flat_map (λ v. element_octets (tag_of v) (con
 
 -- the relation holds for each pair of items at the same index
 abbrev pub EachPlace : {A : Type 0} → (A → A → Type 0) → List A → List A → Type 0
-EachPlace stands [] ys = Unit {0}
-EachPlace stands (x ∷ xs) [] = Unit {0}
-EachPlace stands (x ∷ xs) (y ∷ ys) = stands x y × EachPlace stands xs ys
+EachPlace is_next [] ys = Unit {0}
+EachPlace is_next (x ∷ xs) [] = Unit {0}
+EachPlace is_next (x ∷ xs) (y ∷ ys) = is_next x y × EachPlace is_next xs ys
 
 -- if the relation holds for each pair, there is a result: the byte order of the concatenated octets
 abbrev pub ComparesJoined : {A : Type 0} → (A → A → Type 0) → (A → List ℕ) → Compared
     → List A → List A → Type 0
-ComparesJoined stands octets answer xs ys =
-    EachPlace stands xs ys → answer ≡ Ok (byte_order (flat_map octets xs) (flat_map octets ys))
+ComparesJoined is_next octets answer xs ys =
+    EachPlace is_next xs ys → answer ≡ Ok (byte_order (flat_map octets xs) (flat_map octets ys))
 
 -- if the relation holds for each pair, a result, if there is one, is the byte order of the
 -- concatenated octets
 abbrev pub SortsJoined : {A : Type 0} → (A → A → Type 0) → (A → List ℕ) → Compared
     → List A → List A → Type 0
-SortsJoined stands octets answer xs ys =
-    EachPlace stands xs ys
+SortsJoined is_next octets answer xs ys =
+    EachPlace is_next xs ys
     → IfOk answer (λ o. o ≡ byte_order (flat_map octets xs) (flat_map octets ys))

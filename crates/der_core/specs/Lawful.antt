@@ -10,7 +10,7 @@ use Rattle.der_base.specs.declared.tag.Tag.{Tag}
 use Rattle.der_base.specs.declared.encoding_rules.EncodingRules.{EncodingRules}
 use Rattle.der_base.specs.declared.encoding_rules.EncodingRules.TheVariants.{Der}
 use Rattle.der_core.specs.Decode.{Passes, Whole}
-use Rattle.der_core.specs.Element.{ElementAhead}
+use Rattle.der_core.specs.Element.{ElementNext}
 use Rattle.der_core.specs.Encode.{element_octets}
 use Rattle.der_core.specs.Header.{head_of}
 use Rattle.der_core.specs.ReaderState.{ReaderState, Reads}
@@ -42,65 +42,65 @@ pub record IsLawful {A : Type 0} (tag : Tag) (takes : A → EncodingRules → He
   pub numbered : (label tag).number < 2 ^ 32
 
 -- the first m octets of a list are the encoding of a valid value
-pub record EncodingAhead {A : Type 0} (valid : A → Type 0) (encoding : A → List ℕ) (v : A)
+pub record EncodingNext {A : Type 0} (valid : A → Type 0) (encoding : A → List ℕ) (v : A)
     (octets : List ℕ) (m : ℕ) : Type 0 where
   pub is_valid : valid v
-  pub behind : List ℕ
-  pub split : octets ≡ encoding v ++ behind
+  pub following : List ℕ
+  pub split : octets ≡ encoding v ++ following
   pub whole : m ≡ length (encoding v)
 
 -- under DER octets begin with a value only if they begin with its encoding, and, if a length can
 -- represent their number, whenever they begin with it
-pub record ReadsEncodings {A : Type 0} (Ahead : A → EncodingRules → List ℕ → ℕ → Type 0)
+pub record ReadsEncodings {A : Type 0} (Next : A → EncodingRules → List ℕ → ℕ → Type 0)
     (valid : A → Type 0) (encoding : A → List ℕ) : Type 0 where
-  pub only : (octets : List ℕ) (v : A) (m : ℕ) → Ahead v Der octets m
-      → EncodingAhead valid encoding v octets m
+  pub only : (octets : List ℕ) (v : A) (m : ℕ) → Next v Der octets m
+      → EncodingNext valid encoding v octets m
   pub every : (octets : List ℕ) (v : A) (m : ℕ) → length octets < 2 ^ 32
-      → EncodingAhead valid encoding v octets m → Ahead v Der octets m
+      → EncodingNext valid encoding v octets m → Next v Der octets m
 
 -- under DER octets are entirely a value only if they are its encoding, and, if a length can
 -- represent their number, whenever they are
-pub record ReadsWholeEncodings {A : Type 0} (Ahead : A → EncodingRules → List ℕ → ℕ → Type 0)
+pub record ReadsWholeEncodings {A : Type 0} (Next : A → EncodingRules → List ℕ → ℕ → Type 0)
     (valid : A → Type 0) (encoding : A → List ℕ) : Type 0 where
-  pub only : (octets : List ℕ) (v : A) → Whole (Ahead v) Der octets
+  pub only : (octets : List ℕ) (v : A) → Whole (Next v) Der octets
       → valid v × (octets ≡ encoding v)
   pub every : (octets : List ℕ) (v : A) → length octets < 2 ^ 32 → valid v
-      → octets ≡ encoding v → Whole (Ahead v) Der octets
+      → octets ≡ encoding v → Whole (Next v) Der octets
 
 -- a DER reader that has consumed a value has consumed its encoding, and nothing else
 abbrev pub PassesEncodings : {A : Type 0} → (A → EncodingRules → List ℕ → ℕ → Type 0)
     → (A → Type 0) → (A → List ℕ) → Type 0
-PassesEncodings {A} Ahead valid encoding =
-    (s t : ReaderState) (v : A) → s.rules ≡ Der → Passes (Ahead v) s t
+PassesEncodings {A} Next valid encoding =
+    (s t : ReaderState) (v : A) → s.rules ≡ Der → Passes (Next v) s t
     → valid v × Reads s t (encoding v)
 
 -- under DER an encoding is read back, whatever follows: octets that begin with it begin with its
 -- value and with no other
-pub record ReadsBack {A : Type 0} (Ahead : A → EncodingRules → List ℕ → ℕ → Type 0)
+pub record ReadsBack {A : Type 0} (Next : A → EncodingRules → List ℕ → ℕ → Type 0)
     (valid : A → Type 0) (encoding : A → List ℕ) : Type 0 where
-  pub ahead : (v : A) (more : List ℕ) → valid v → length (encoding v ++ more) < 2 ^ 32
-      → Ahead v Der (encoding v ++ more) (length (encoding v))
-  pub alone : (v w : A) (more : List ℕ) (m : ℕ) → valid v → Ahead w Der (encoding v ++ more) m
+  pub next : (v : A) (more : List ℕ) → valid v → length (encoding v ++ more) < 2 ^ 32
+      → Next v Der (encoding v ++ more) (length (encoding v))
+  pub alone : (v w : A) (more : List ℕ) (m : ℕ) → valid v → Next w Der (encoding v ++ more) m
       → (w ≡ v) × (m ≡ length (encoding v))
 
 -- under DER values are read from exactly their encodings: from the start of octets, from all of
 -- them, by a reader, and from what was written
-pub record ReadsExactly {A : Type 0} (Ahead : A → EncodingRules → List ℕ → ℕ → Type 0)
+pub record ReadsExactly {A : Type 0} (Next : A → EncodingRules → List ℕ → ℕ → Type 0)
     (valid : A → Type 0) (encoding : A → List ℕ) : Type 0 where
-  pub front : ReadsEncodings Ahead valid encoding
-  pub whole : ReadsWholeEncodings Ahead valid encoding
-  pub passed : PassesEncodings Ahead valid encoding
-  pub written : ReadsBack Ahead valid encoding
+  pub front : ReadsEncodings Next valid encoding
+  pub whole : ReadsWholeEncodings Next valid encoding
+  pub passed : PassesEncodings Next valid encoding
+  pub written : ReadsBack Next valid encoding
 
 -- under DER an encoded element is read back, whatever follows: octets that begin with it begin with
 -- its value, and every value with which they begin has the same contents
 pub record ReadsWritten {A : Type 0} (tag : Tag)
     (takes : A → EncodingRules → Head → List ℕ → Type 0) (valid : A → Type 0)
     (contents : A → List ℕ) : Type 0 where
-  pub ahead : (v : A) (more : List ℕ) → valid v
+  pub next : (v : A) (more : List ℕ) → valid v
       → length (element_octets tag (contents v) ++ more) < 2 ^ 32
-      → ElementAhead tag takes v Der (element_octets tag (contents v) ++ more)
+      → ElementNext tag takes v Der (element_octets tag (contents v) ++ more)
       (length (element_octets tag (contents v)))
   pub alone : (v w : A) (more : List ℕ) (m : ℕ)
-      → ElementAhead tag takes w Der (element_octets tag (contents v) ++ more) m
+      → ElementNext tag takes w Der (element_octets tag (contents v) ++ more) m
       → (contents w ≡ contents v) × (m ≡ length (element_octets tag (contents v)))

@@ -1,5 +1,5 @@
 -- Reading a nested part by a closure: when one may be entered and left (`CanNest`, `CanLeave`), the
--- condition on the closure (`HandsBack`), and the cases of `close_nested` (`Closes`), `close_value`
+-- condition on the closure (`RestoresReader`), and the cases of `close_nested` (`Closes`), `close_value`
 -- (`ClosesValue`), `read_nested` (`NestedAnswer`) and `read_value` (`ValueAnswer`).
 use Rattle.std.specs.Prelude.{◌≡◌, ℕ, ◌+◌, ◌-◌, ◌<◌, ◌≤◌, Bool, true, false, length, Result, Ok, Err}
 use Rattle.der_base.specs.Error.{error_at}
@@ -19,7 +19,7 @@ CanNest s n = (s.position + n ≤ s.end) × (s.depth < 64)
 pub data Closes {T E : Type 0} (converts : Error → E → Type 0) (answer : Result T E)
     (s : ReaderState)
     (end depth : ℕ) (result : Result T E) (t : ReaderState) : Type 0 where
-  handed_on : (e : E) → answer ≡ Err e → result ≡ Err e → t ≡ resumed_state s end depth
+  forwarded : (e : E) → answer ≡ Err e → result ≡ Err e → t ≡ resumed_state s end depth
       → Closes converts answer s end depth result t
   left_over : (v : T) (e : E) → answer ≡ Ok v → s.position < s.end
       → converts (error_at (TrailingData (reader_position s) (definite_length (s.end - s.position)))
@@ -38,7 +38,7 @@ pub record CanLeave (s : ReaderState) (end depth : ℕ) : Type 0 where
 
 -- the condition on a closure that reads a nested part of n octets: it may be called inside the
 -- part, and leaves the same reader
-pub record HandsBack {P Q A : Type 0} (pre : P → Type 0) (post : P → A → Q → Type 0)
+pub record RestoresReader {P Q A : Type 0} (pre : P → Type 0) (post : P → A → Q → Type 0)
     (before : P → ReaderState) (after : Q → ReaderState) (s : ReaderState) (n : ℕ) : Type 0 where
   pub callable : (p : P) → CanNest s n → before p ≡ nested_state s n → pre p
   pub same : (p : P) (a : A) (q : Q) → CanNest s n → before p ≡ nested_state s n → post p a q
@@ -58,20 +58,20 @@ pub data NestedAnswer {P Q T E : Type 0} (converts : Error → E → Type 0)
 -- a nested part and the end-of-contents octets after it, if its length was read in the indefinite
 -- form
 pub data ClosesValue {T E : Type 0} (converts : Error → E → Type 0) (answer : Result T E)
-    (s : ReaderState) (end depth : ℕ) (marked : Bool) (result : Result T E) (t : ReaderState)
+    (s : ReaderState) (end depth : ℕ) (has_eoc : Bool) (result : Result T E) (t : ReaderState)
     : Type 0 where
   part_refused : (e : E) → Closes converts answer s end depth (Err e) t → result ≡ Err e
-      → ClosesValue converts answer s end depth marked result t
-  without_mark : (v : T) → Closes converts answer s end depth (Ok v) t → marked ≡ false
-      → result ≡ Ok v → ClosesValue converts answer s end depth marked result t
-  with_mark : (v : T) (u : ReaderState) → Closes converts answer s end depth (Ok v) u
-      → marked ≡ true
+      → ClosesValue converts answer s end depth has_eoc result t
+  without_eoc : (v : T) → Closes converts answer s end depth (Ok v) t → has_eoc ≡ false
+      → result ≡ Ok v → ClosesValue converts answer s end depth has_eoc result t
+  with_eoc : (v : T) (u : ReaderState) → Closes converts answer s end depth (Ok v) u
+      → has_eoc ≡ true
       → Gives read_eoc_outcome u (Ok tt) t → result ≡ Ok v
-      → ClosesValue converts answer s end depth marked result t
-  mark_refused : (v : T) (u : ReaderState) (e : Error) (f : E)
-      → Closes converts answer s end depth (Ok v) u → marked ≡ true
+      → ClosesValue converts answer s end depth has_eoc result t
+  eoc_failed : (v : T) (u : ReaderState) (e : Error) (f : E)
+      → Closes converts answer s end depth (Ok v) u → has_eoc ≡ true
       → Gives read_eoc_outcome u (Err e) t → converts e f → result ≡ Err f
-      → ClosesValue converts answer s end depth marked result t
+      → ClosesValue converts answer s end depth has_eoc result t
 
 -- the closure ran inside contents of this length, and its result determines this one
 pub data ValueAnswer {P Q T E : Type 0} (converts : Error → E → Type 0)

@@ -92,16 +92,16 @@ abbrev pub kind_outcome : (A : Type 0) → ErrorKind → ReaderState → Outcome
 kind_outcome A k s = outcome_of (Err (error_at k (reader_position s))) (stopped_state s s.position)
 
 -- the end-of-contents octets of an indefinite length are two zero octets (X.690 8.1.5)
-abbrev pub end_mark_outcome : ReaderState → List ℕ → Outcome (Unit {0})
-end_mark_outcome s [] = short_outcome (Unit {0}) s 1
-end_mark_outcome s (zero ∷ []) = short_outcome (Unit {0}) (advanced_state s 1) 1
-end_mark_outcome s (zero ∷ zero ∷ more) = outcome_of (Ok tt) (advanced_state s 2)
-end_mark_outcome s (zero ∷ suc o ∷ more) = kind_outcome (Unit {0}) IndefiniteLength
+abbrev pub eoc_outcome : ReaderState → List ℕ → Outcome (Unit {0})
+eoc_outcome s [] = short_outcome (Unit {0}) s 1
+eoc_outcome s (zero ∷ []) = short_outcome (Unit {0}) (advanced_state s 1) 1
+eoc_outcome s (zero ∷ zero ∷ more) = outcome_of (Ok tt) (advanced_state s 2)
+eoc_outcome s (zero ∷ suc o ∷ more) = kind_outcome (Unit {0}) IndefiniteLength
     (advanced_state s 2)
-end_mark_outcome s (suc o ∷ more) = kind_outcome (Unit {0}) IndefiniteLength (advanced_state s 1)
+eoc_outcome s (suc o ∷ more) = kind_outcome (Unit {0}) IndefiniteLength (advanced_state s 1)
 
 abbrev pub read_eoc_outcome : ReaderState → Outcome (Unit {0})
-read_eoc_outcome s = outcome_unless_failed s (end_mark_outcome s (rest_of s))
+read_eoc_outcome s = outcome_unless_failed s (eoc_outcome s (rest_of s))
 
 -- one octet of the end-of-contents octets, already read
 abbrev pub zero_octet_outcome : ℕ → ReaderState → Outcome (Unit {0})

@@ -17,7 +17,7 @@ pub record ReaderState : Type 0 where
   pub depth : ℕ
   pub failed : Bool
   -- whether the reader keeps a failed state
-  pub marks : Bool
+  pub keeps_failure : Bool
 
 -- a reader at the start of a whole input
 abbrev pub initial_state : EncodingRules → List ℕ → ReaderState
@@ -29,7 +29,7 @@ initial_state rules input =
       position = 0;
       depth = 0;
       failed = false;
-      marks = true;
+      keeps_failure = true;
     }
 
 -- the remaining octets, up to the present end
@@ -53,12 +53,12 @@ resumed_state s end depth = record s { end = end; depth = depth }
 
 -- at a position, and failed if the reader keeps a failed state
 abbrev pub stopped_state : ReaderState → ℕ → ReaderState
-stopped_state s at = record s { position = at; failed = s.marks }
+stopped_state s at = record s { position = at; failed = s.keeps_failure }
 
 -- the state after this failure
 abbrev pub state_after : ReaderState → Refusal → ReaderState
 state_after s r =
-    record s { position = r.position; failed = if r.fails then s.marks else s.failed }
+    record s { position = r.position; failed = if r.fails then s.keeps_failure else s.failed }
 
 -- the laws of every reader
 pub record IsSound (s : ReaderState) : Type 0 where
@@ -66,7 +66,7 @@ pub record IsSound (s : ReaderState) : Type 0 where
   pub in_input : s.end ≤ length s.input
   pub addressable : length s.input < 2 ^ 32
   pub shallow : s.depth ≤ 64
-  pub marked : IsTrue s.failed → IsTrue s.marks
+  pub failure_kept : IsTrue s.failed → IsTrue s.keeps_failure
 
 -- the same reader: not at an earlier position, within its end, and still failed if it had failed
 pub record Same (s t : ReaderState) : Type 0 where
@@ -74,7 +74,7 @@ pub record Same (s t : ReaderState) : Type 0 where
   pub rules : t.rules ≡ s.rules
   pub end : t.end ≡ s.end
   pub depth : t.depth ≡ s.depth
-  pub marks : t.marks ≡ s.marks
+  pub keeps_failure : t.keeps_failure ≡ s.keeps_failure
   pub forward : s.position ≤ t.position
   pub within : t.position ≤ t.end
   pub failed : IsTrue s.failed → IsTrue t.failed

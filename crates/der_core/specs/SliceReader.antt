@@ -12,5 +12,5 @@ slice_state r =
       position = r.place.position;
       depth = r.place.depth;
       failed = r.failed;
-      marks = true;
+      keeps_failure = true;
     }

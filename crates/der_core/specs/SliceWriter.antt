@@ -7,7 +7,7 @@ abbrev pub slice_writer_state : SliceWriter → WriterState
 slice_writer_state w =
     record {
       octets = take (w.start + w.position) w.bytes.now;
-      behind = drop (w.start + w.position) w.bytes.now;
+      following = drop (w.start + w.position) w.bytes.now;
       start = w.start;
       stop = w.stop;
       capacity = length w.bytes.now;

@@ -14,7 +14,7 @@ walked_state octets start index =
       position = start + index;
       depth = 0;
       failed = false;
-      marks = true;
+      keeps_failure = true;
     }
 
 -- the meaning of a walk

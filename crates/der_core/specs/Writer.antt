@@ -1,4 +1,4 @@
--- The meaning of a writer (`WriterState`), the outcome of a write (`room_outcome` is the one table
+-- The meaning of a writer (`WriterState`), the outcome of a write (`space_outcome` is the one table
 -- of its errors), and how a call may change the writer (`Keeps`, `Appends`, `Fits`).
 use Rattle.std.specs.Prelude.{◌≡◌, ℕ, ◌+◌, ◌-◌, ◌^◌, Bool, true, false, List, [], ◌∷◌, ◌++◌, length, take, drop, Result, Ok, Err, OnOk, IsOk, ◌≤◌, min, nat_lt, if◌then◌else◌}
 use Rattle.der_base.specs.Length.{definite_length}
@@ -14,7 +14,7 @@ pub record WriterState : Type 0 where
   -- all octets written since the start of the buffer
   pub octets : List ℕ
   -- the octets of the buffer after them
-  pub behind : List ℕ
+  pub following : List ℕ
   -- the start and the end of the part of the buffer that may be written
   pub start : ℕ
   pub stop : ℕ
@@ -29,7 +29,7 @@ abbrev pub fresh_state : List ℕ → ℕ → WriterState
 fresh_state buffer reference =
     record {
       octets = [];
-      behind = buffer;
+      following = buffer;
       start = 0;
       stop = min (length buffer) (2 ^ 32 - 1);
       capacity = length buffer;
@@ -47,7 +47,7 @@ writer_position s = definite_length (written_count s)
 
 abbrev pub appended_state : WriterState → List ℕ → WriterState
 appended_state s octets =
-    record s { octets = s.octets ++ octets; behind = drop (length octets) s.behind }
+    record s { octets = s.octets ++ octets; following = drop (length octets) s.following }
 
 abbrev pub failed_state : WriterState → WriterState
 failed_state s = record s { failed = true }
@@ -60,7 +60,7 @@ pub record Keeps (s t : WriterState) : Type 0 where
   pub capacity : t.capacity ≡ s.capacity
   pub reference : t.reference ≡ s.reference
   pub before : take (length s.octets) t.octets ≡ s.octets
-  pub behind : t.behind ≡ drop (length t.octets - length s.octets) s.behind
+  pub following : t.following ≡ drop (length t.octets - length s.octets) s.following
   pub fails : s.failed ≡ true → t.failed ≡ true
 
 -- a call that succeeds appends the octets
@@ -89,8 +89,8 @@ abbrev pub refusal_outcome : Error → WriterState → WriterOutcome
 refusal_outcome e t = record { answer = Err e; after = t }
 
 -- n more octets, for which there must be space; each error leaves the writer failed
-abbrev pub room_outcome : ℕ → WriterState → WriterState → WriterOutcome
-room_outcome n s granted =
+abbrev pub space_outcome : ℕ → WriterState → WriterState → WriterOutcome
+space_outcome n s granted =
     if s.failed then refusal_outcome (error_at Failed (writer_position s)) s
     else if nat_lt (written_count s + n) (2 ^ 32) then (
     if nat_lt s.stop (length s.octets + n)
@@ -99,19 +99,19 @@ room_outcome n s granted =
     else success_outcome granted)
     else refusal_outcome (error_at Overflow (writer_position s)) (failed_state s)
 
--- a write of n octets succeeds; `has_room` states this when it returns true
-abbrev pub HasRoom : WriterState → ℕ → Type 0
-HasRoom s n = (room_outcome n s s).answer ≡ Ok tt
+-- a write of n octets succeeds; `has_space` states this when it returns true
+abbrev pub HasSpace : WriterState → ℕ → Type 0
+HasSpace s n = (space_outcome n s s).answer ≡ Ok tt
 
 -- the error for n octets at a position, by whether the writer has failed
-abbrev pub room_error : Bool → ℕ → ℕ → Error
-room_error failed position n =
+abbrev pub space_error : Bool → ℕ → ℕ → Error
+space_error failed position n =
     if failed then error_at Failed (definite_length position)
     else if nat_lt (position + n) (2 ^ 32) then error_at Overlength (definite_length (position + n))
     else error_at Overflow (definite_length position)
 
 abbrev pub write_outcome : List ℕ → WriterState → WriterOutcome
-write_outcome octets s = room_outcome (length octets) s (appended_state s octets)
+write_outcome octets s = space_outcome (length octets) s (appended_state s octets)
 
 -- a call, and another one if it succeeds
 abbrev pub chained_write : Result (Unit {0}) Error → WriterState

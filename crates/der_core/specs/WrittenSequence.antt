@@ -1,5 +1,5 @@
 -- A SEQUENCE (X.690 8.9) that is written by a closure: its header, and a part of the buffer that is
--- reserved for its contents. `HandsBackPart` is the condition on the closure, and `SequenceAnswer`
+-- reserved for its contents. `RestoresWriter` is the condition on the closure, and `SequenceAnswer`
 -- has the cases of the call.
 use Rattle.std.specs.Prelude.{◌≡◌, ℕ, ◌+◌, ◌<◌, ◌≤◌, true, false, length, take, ◌++◌, Result, Ok, Err, OnOk}
 use Rattle.std.specs.Borrow.{MutBor}
@@ -9,7 +9,7 @@ use Rattle.der_base.specs.Error.{error_at}
 use Rattle.der_base.specs.declared.tag.Tag.TheVariants.{Sequence}
 use Rattle.der_base.specs.declared.error.Error.{Error}
 use Rattle.der_base.specs.declared.error.ErrorKind.TheVariants.{Failed, Length as IncorrectLength}
-use Rattle.der_core.specs.Writer.{WriterState, Keeps, Writes, appended_state, written_count, writer_position, room_outcome}
+use Rattle.der_core.specs.Writer.{WriterState, Keeps, Writes, appended_state, written_count, writer_position, space_outcome}
 use Rattle.der_core.specs.Encode.{header_outcome}
 use Rattle.der_core.specs.SliceWriter.{slice_writer_state}
 use Rattle.der_core.specs.declared.writer.slice.SliceWriter.{SliceWriter}
@@ -36,7 +36,7 @@ headed_state s n = appended_state s (header_octets Sequence n)
 
 -- the condition on a closure that writes a reserved part of n octets: it may be called with a
 -- writer over the part, and leaves the same writer
-pub record HandsBackPart (pre : Condition) (run : Run) (s : WriterState) (n : ℕ) : Type 0 where
+pub record RestoresWriter (pre : Condition) (run : Run) (s : WriterState) (n : ℕ) : Type 0 where
   pub callable : (p : MutBor SliceWriter) → slice_writer_state p.now ≡ part_state s n → pre p
   pub same : (p : MutBor SliceWriter) (r : Result (Unit {0}) Error) (q : MutBor SliceWriter)
       → slice_writer_state p.now ≡ part_state s n → run p r q
@@ -50,19 +50,19 @@ pub record Abandons (s : WriterState) (n : ℕ) (q t : WriterState) : Type 0 whe
   pub reference : t.reference ≡ s.reference
   pub failed : t.failed ≡ true
   pub passed : length t.octets ≡ length s.octets + n
-  pub buffer : t.octets ++ t.behind ≡ q.octets ++ q.behind
+  pub buffer : t.octets ++ t.following ≡ q.octets ++ q.following
 
 -- what follows a closure that got the reserved part, returned r and left the writer q
 pub data ClosesPart (s : WriterState) (n : ℕ) (q t : WriterState)
     : Result (Unit {0}) Error → Result (Unit {0}) Error → Type 0 where
-  handed_on : (e : Error) → Abandons s n q t → ClosesPart s n q t (Err e) (Err e)
+  forwarded : (e : Error) → Abandons s n q t → ClosesPart s n q t (Err e) (Err e)
   failed : q.failed ≡ true → Abandons s n q t → ClosesPart s n q t (Ok tt)
       (Err (error_at Failed (writer_position q)))
   unfilled : q.failed ≡ false → length q.octets < length s.octets + n → Abandons s n q t
       → ClosesPart s n q t (Ok tt)
       (Err (error_at (IncorrectLength Sequence) (definite_length (written_count s + n))))
   filled : q.failed ≡ false → length q.octets ≡ length s.octets + n
-      → t ≡ record s { octets = q.octets; behind = q.behind } → ClosesPart s n q t (Ok tt) (Ok tt)
+      → t ≡ record s { octets = q.octets; following = q.following } → ClosesPart s n q t (Ok tt) (Ok tt)
 
 -- the closure ran over the reserved part, and its result determines this one
 pub record Runs (run : Run) (s : WriterState) (n : ℕ) (result : Result (Unit {0}) Error)
@@ -84,7 +84,7 @@ pub record IsFilledBy (run : Run) (s : WriterState) (n : ℕ) (t : WriterState) 
   pub full : length (slice_writer_state after.now).octets ≡ length s.octets + n
   pub leaves : t ≡ record s {
     octets = (slice_writer_state after.now).octets;
-    behind = (slice_writer_state after.now).behind;
+    following = (slice_writer_state after.now).following;
   }
 
 -- a call that succeeds filled the reserved part
@@ -92,16 +92,16 @@ abbrev pub Fills : Run → WriterState → ℕ → Result (Unit {0}) Error → W
 Fills run s n result t = OnOk result (IsFilledBy run s n t)
 
 -- if there is space, the closure ran
-abbrev pub RunsInRoom : Run → WriterState → ℕ → Result (Unit {0}) Error → WriterState → Type 0
-RunsInRoom run s n result t = s.failed ≡ false → length s.octets + n ≤ s.stop
+abbrev pub RunsIfSpace : Run → WriterState → ℕ → Result (Unit {0}) Error → WriterState → Type 0
+RunsIfSpace run s n result t = s.failed ≡ false → length s.octets + n ≤ s.stop
     → Runs run s n result t
 
 -- n octets are reserved and filled: no space, or the closure ran
 pub data PartAnswer (run : Run) (s : WriterState) (n : ℕ) (result : Result (Unit {0}) Error)
     (t : WriterState) : Type 0 where
-  no_room : (e : Error) → (room_outcome n s s).answer ≡ Err e
-      → Writes (room_outcome n s s) result t → PartAnswer run s n result t
-  ran : (room_outcome n s s).answer ≡ Ok tt → Runs run s n result t → PartAnswer run s n result t
+  no_space : (e : Error) → (space_outcome n s s).answer ≡ Err e
+      → Writes (space_outcome n s s) result t → PartAnswer run s n result t
+  ran : (space_outcome n s s).answer ≡ Ok tt → Runs run s n result t → PartAnswer run s n result t
 
 -- the cases of `sequence`: no space for the header; otherwise the reserved part after it
 pub data SequenceAnswer (run : Run) (s : WriterState) (n : ℕ) (result : Result (Unit {0}) Error)

@@ -54,7 +54,7 @@ impl DecodeError for Error {
 ///
 /// Ghost members:
 ///
-/// - `stands_ahead` says which values octets begin with, and how many octets each takes; it is a
+/// - `is_next` says which values octets begin with, and how many octets each takes; it is a
 ///   relation over all remaining octets, since an indefinite length depends on what follows.
 /// - `decode_levels` is the number of nesting levels that decoding requires under these rules.
 /// - `allocates` says whether decoding allocates.
@@ -64,7 +64,7 @@ pub trait Decode<R: Reader>: Sized + Drop {
     /// The error type of decoding.
     type Error: DecodeError;
 
-    ghost stands_ahead: { Self → Rules → List ℕ → ℕ → Type 0 };
+    ghost is_next: { Self → Rules → List ℕ → ℕ → Type 0 };
 
     ghost decode_levels: { Rules → ℕ };
 
@@ -86,10 +86,10 @@ pub trait Decode<R: Reader>: Sized + Drop {
         ensures same { Same (R.state reader.old) (R.state reader.new) }
         ensures ok { IfOk result (λ v. (R.state reader.old).failed ≡ false
             → (R.state reader.new).failed ≡ false
-            → Passes (stands_ahead v) (R.state reader.old) (R.state reader.new)) }
+            → Passes (is_next v) (R.state reader.old) (R.state reader.new)) }
         ensures complete { (v : Self) (m : ℕ) → R.reliable ≡ true
             → (R.state reader.old).failed ≡ false
-            → stands_ahead v (R.state reader.old).rules (rest_of (R.state reader.old)) m
+            → is_next v (R.state reader.old).rules (rest_of (R.state reader.old)) m
             → (R.state reader.old).depth + decode_levels (R.state reader.old).rules ≤ 64
             → ReadsOrLacks Self.Error.out_of_memory allocates (R.state reader.old) m result
             (R.state reader.new) }
@@ -112,9 +112,9 @@ pub trait DecodeBytes<'a>: Decode<SliceReader<'a>> {
         alloc: Global,
         bytes: &'a [u8],
     ) -> Result<Self, <Self as Decode<SliceReader<'a>>>::Error>
-        ensures ok { IfOk result (λ v. Whole (Self.stands_ahead v) Der bytes.now) }
+        ensures ok { IfOk result (λ v. Whole (Self.is_next v) Der bytes.now) }
         ensures complete { (v : Self) → length bytes.now < 2 ^ 32
-            → Whole (Self.stands_ahead v) Der bytes.now → Self.decode_levels Der ≤ 64
+            → Whole (Self.is_next v) Der bytes.now → Self.decode_levels Der ≤ 64
             → SucceedsOrLacks Self.Error.out_of_memory Self.allocates result }
         ensures exact { WholeAnswer Der Self.decode_answers Self.Error.from_gives bytes.now result }
     {
@@ -134,9 +134,9 @@ pub trait DecodeBytes<'a>: Decode<SliceReader<'a>> {
         alloc: Global,
         bytes: &'a [u8],
     ) -> Result<Self, <Self as Decode<SliceReader<'a>>>::Error>
-        ensures ok { IfOk result (λ v. Whole (Self.stands_ahead v) Ber bytes.now) }
+        ensures ok { IfOk result (λ v. Whole (Self.is_next v) Ber bytes.now) }
         ensures complete { (v : Self) → length bytes.now < 2 ^ 32
-            → Whole (Self.stands_ahead v) Ber bytes.now → Self.decode_levels Ber ≤ 64
+            → Whole (Self.is_next v) Ber bytes.now → Self.decode_levels Ber ≤ 64
             → SucceedsOrLacks Self.Error.out_of_memory Self.allocates result }
         ensures exact { WholeAnswer Ber Self.decode_answers Self.Error.from_gives bytes.now result }
     {
@@ -156,10 +156,10 @@ pub trait DecodeBytes<'a>: Decode<SliceReader<'a>> {
         alloc: Global,
         bytes: &'a [u8],
     ) -> Result<(Self, &'a [u8]), <Self as Decode<SliceReader<'a>>>::Error>
-        ensures ok { IfOk result (λ p. (m : ℕ) × Self.stands_ahead p.0 Der bytes.now m
+        ensures ok { IfOk result (λ p. (m : ℕ) × Self.is_next p.0 Der bytes.now m
             × (m ≤ length bytes.now) × (p.1.now ≡ drop m bytes.now)) }
         ensures complete { (v : Self) (m : ℕ) → length bytes.now < 2 ^ 32
-            → Self.stands_ahead v Der bytes.now m → Self.decode_levels Der ≤ 64
+            → Self.is_next v Der bytes.now m → Self.decode_levels Der ≤ 64
             → SucceedsOrLacks Self.Error.out_of_memory Self.allocates result }
         ensures exact { PartialAnswer Der Self.decode_answers Self.Error.from_gives bytes.now
             (map_ok (λ p. (p.0, p.1.now)) result) }
@@ -179,9 +179,9 @@ fn decode_whole<'a, T: Decode<SliceReader<'a>>>(
     bytes: &'a [u8],
     encoding_rules: EncodingRules,
 ) -> Result<T, <T as Decode<SliceReader<'a>>>::Error>
-    ensures ok { IfOk result (λ v. Whole (T.stands_ahead v) encoding_rules bytes.now) }
+    ensures ok { IfOk result (λ v. Whole (T.is_next v) encoding_rules bytes.now) }
     ensures complete { (v : T) → length bytes.now < 2 ^ 32
-        → Whole (T.stands_ahead v) encoding_rules bytes.now → T.decode_levels encoding_rules ≤ 64
+        → Whole (T.is_next v) encoding_rules bytes.now → T.decode_levels encoding_rules ≤ 64
         → SucceedsOrLacks T.Error.out_of_memory T.allocates result }
     ensures exact { WholeAnswer encoding_rules T.decode_answers T.Error.from_gives bytes.now
         result }

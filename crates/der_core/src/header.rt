@@ -4,17 +4,17 @@ ghost use Rattle.der_base.specs.ScanGrammar.{BodyFault};
 ghost use Rattle.der_base.specs.HeaderGrammar.{HeaderFault, head, header_octets};
 ghost use Rattle.der_base.specs.Length.{number, is_indefinite, definite_length};
 ghost use Rattle.der_base.specs.Tag.{label, is_constructed};
-ghost use Rattle.der_core.specs.AfterFirstOctet.{IsGuess, AreAhead, ToldHeadAhead, identifier_tag};
+ghost use Rattle.der_core.specs.AfterFirstOctet.{IsGuess, AreNext, RawHeadNext, identifier_tag};
 ghost use Rattle.der_core.specs.Decode.{Decodes, Peeks, grammar_levels};
 ghost use Rattle.der_core.specs.Encode.{FitsCounted, header_outcome};
-ghost use Rattle.der_core.specs.Header.{head_of, HeaderAhead};
+ghost use Rattle.der_core.specs.Header.{head_of, HeaderNext};
 ghost use Rattle.der_core.specs.Writer.{Keeps, Appends, Writes};
 ghost use Rattle.der_base.specs.Order.{byte_order};
 ghost use Rattle.der_base.proofs.DelimitedLemmas.{headers_delimited};
 
 use crate::decode::Decode;
 use crate::encode::Encode;
-use crate::length::{INDEFINITE, decode_length_behind};
+use crate::length::{INDEFINITE, decode_length_after};
 use crate::ord::DerOrd;
 use crate::reader::{Octets, Reader, ReaderExt};
 use crate::tag::{
@@ -99,11 +99,11 @@ impl Header {
 /// The same as for [`Header::decode`].
 #[inline(always)]
 pub fn decode_header<R: Reader>(reader: &mut R) -> Result<Header, Error>
-    ensures { Decodes HeaderAhead (HeaderFault BodyFault) R.reliable (R.state reader.old) result
+    ensures { Decodes HeaderNext (HeaderFault BodyFault) R.reliable (R.state reader.old) result
         (R.state reader.new) }
 {
     let (first, number, length) = decode_parts(reader)?;
-    Ok(told_header(first, number, length, None))
+    Ok(header_from_identifier(first, number, length, None))
 }
 
 // Decodes a header with a guess at its tag, always octet by octet: this keeps a value decoder that
@@ -114,16 +114,21 @@ pub(crate) fn decode_guessed_header<R: Reader>(
     guess: Option<(u8, Tag)>,
 ) -> Result<Header, Error>
     requires { IsGuess guess }
-    ensures { Decodes HeaderAhead (HeaderFault BodyFault) R.reliable (R.state reader.old) result
+    ensures { Decodes HeaderNext (HeaderFault BodyFault) R.reliable (R.state reader.old) result
         (R.state reader.new) }
 {
     let (first, number, length) = decode_in_pieces(reader)?;
-    Ok(told_header(first, number, length, guess))
+    Ok(header_from_identifier(first, number, length, guess))
 }
 
 // The header with an identifier of this first octet and number, and with a guess at its tag.
 #[inline(always)]
-fn told_header(first: u8, number: u32, length: Length, guess: Option<(u8, Tag)>) -> Header
+fn header_from_identifier(
+    first: u8,
+    number: u32,
+    length: Length,
+    guess: Option<(u8, Tag)>,
+) -> Header
     requires { IsGuess guess }
     ensures { head_of result ≡ head (identifier_tag first number) length (is_constructed first) }
 {
@@ -140,7 +145,7 @@ fn told_header(first: u8, number: u32, length: Length, guess: Option<(u8, Tag)>)
 // octet each are read at once.
 #[inline(always)]
 fn decode_parts<R: Reader>(reader: &mut R) -> Result<(u8, u32, Length), Error>
-    ensures { Decodes ToldHeadAhead (HeaderFault BodyFault) R.reliable (R.state reader.old)
+    ensures { Decodes RawHeadNext (HeaderFault BodyFault) R.reliable (R.state reader.old)
         result (R.state reader.new) }
 {
     if let Some((first, count)) = short_header(reader) {
@@ -153,11 +158,11 @@ fn decode_parts<R: Reader>(reader: &mut R) -> Result<(u8, u32, Length), Error>
 // Decodes a header octet by octet, with the same results.
 #[inline(always)]
 fn decode_in_pieces<R: Reader>(reader: &mut R) -> Result<(u8, u32, Length), Error>
-    ensures { Decodes ToldHeadAhead (HeaderFault BodyFault) R.reliable (R.state reader.old)
+    ensures { Decodes RawHeadNext (HeaderFault BodyFault) R.reliable (R.state reader.old)
         result (R.state reader.new) }
 {
     let (first, number) = decode_identifier(reader)?;
-    let length = decode_length_behind(reader, Some((first, number)))?;
+    let length = decode_length_after(reader, Some((first, number)))?;
     if length.is_indefinite() && !has_constructed_bit(first) {
         return Err(reader.error(ErrorKind::IndefiniteLength));
     }
@@ -167,12 +172,12 @@ fn decode_in_pieces<R: Reader>(reader: &mut R) -> Result<(u8, u32, Length), Erro
 // The next identifier and length, if each has one octet and the reader returns slices.
 #[inline(always)]
 fn short_header<R: Reader>(reader: &R) -> Option<(u8, u8)>
-    ensures { AreAhead (R.state reader.now) result }
+    ensures { AreNext (R.state reader.now) result }
 {
-    let Ok(lent) = reader.remaining() else {
+    let Ok(borrowed) = reader.remaining() else {
         return None;
     };
-    let octets = lent.as_slice();
+    let octets = borrowed.as_slice();
     if octets.len() < 2 {
         return None;
     }
@@ -187,13 +192,13 @@ fn short_header<R: Reader>(reader: &R) -> Option<(u8, u8)>
 impl<R: Reader> Decode<R> for Header {
     type Error = Error;
 
-    ghost stands_ahead = { HeaderAhead };
+    ghost is_next = { HeaderNext };
 
     ghost decode_levels = { grammar_levels };
 
     ghost allocates = { false };
 
-    ghost decode_answers = { Decodes HeaderAhead (HeaderFault BodyFault) true };
+    ghost decode_answers = { Decodes HeaderNext (HeaderFault BodyFault) true };
 
     /// Decodes a header (X.690 8.1.2, 8.1.3, 10.1). Under the Basic Encoding Rules octet `0x24` is
     /// also an identifier, and octet `0x80` is a length after a constructed identifier: the result
@@ -222,7 +227,7 @@ impl<R: Reader> Decode<R> for Header {
     ///   of them if it announces more than four.
     #[inline(always)]
     fn decode(_alloc: Global, reader: &mut R) -> Result<Header, Error>
-        ensures { Decodes HeaderAhead (HeaderFault BodyFault) R.reliable (R.state reader.old)
+        ensures { Decodes HeaderNext (HeaderFault BodyFault) R.reliable (R.state reader.old)
             result (R.state reader.new) }
     {
         decode_header(reader)
@@ -236,7 +241,7 @@ impl Header {
     ///
     /// The same as for [`Header::decode`], with the same positions; the reader is unchanged.
     pub fn peek<R: Reader>(reader: &R) -> Result<Self, Error>
-        ensures { Peeks HeaderAhead (HeaderFault BodyFault) R.reliable (R.state reader.now)
+        ensures { Peeks HeaderNext (HeaderFault BodyFault) R.reliable (R.state reader.now)
             result }
     {
         reader.peek_header()
@@ -278,7 +283,7 @@ pub(crate) fn encode_header<W: Writer>(tag: Tag, len: Length, writer: &mut W) ->
     let count = u32::from(len);
     if low < 31 && count < 0x80 {
         let first = first_octet_of(tag, low as u8);
-        if writer.has_room(2) {
+        if writer.has_space(2) {
             // this is known to succeed
             let _ = writer.write(&[first, count as u8]);
             return Ok(());
@@ -333,13 +338,13 @@ impl Encode for Header {
             let length = u32::from(self.length);
             let (high, low) = ((length / 256 % 256) as u8, (length % 256) as u8);
             let count = self.length.octet_count();
-            if count == 1 && writer.has_room(2) {
+            if count == 1 && writer.has_space(2) {
                 return writer.write(&[first, low]);
             }
-            if count == 2 && writer.has_room(3) {
+            if count == 2 && writer.has_space(3) {
                 return writer.write(&[first, 0x81, low]);
             }
-            if count == 3 && writer.has_room(4) {
+            if count == 3 && writer.has_space(4) {
                 return writer.write(&[first, 0x82, high, low]);
             }
         }

@@ -2,15 +2,15 @@
 //! nothing else uses these functions.
 ghost use Rattle.std.specs.Prelude.{◌^◌, ◌<◌, ◌≡◌, []};
 ghost use Rattle.der_base.specs.ScanGrammar.{BodyFault};
-ghost use Rattle.der_base.specs.HeaderGrammar.{header_octets, IdentifierAhead, TagAhead, LengthAhead, LengthFault, HeaderFault};
+ghost use Rattle.der_base.specs.HeaderGrammar.{header_octets, IdentifierNext, TagNext, LengthNext, LengthFault, HeaderFault};
 ghost use Rattle.der_base.specs.Length.{length_octets, number};
 ghost use Rattle.der_base.specs.Tag.{label, tag_octets, IdentifierFault};
 ghost use Rattle.der_base.specs.declared.error.ErrorKind.{ErrorKind};
 ghost use Rattle.der_core.specs.Decode.{Accepts};
-ghost use Rattle.der_core.specs.Element.{ElementAhead};
+ghost use Rattle.der_core.specs.Element.{ElementNext};
 ghost use Rattle.der_core.specs.DerOrd.{NoElementBeginsAnother, PaddingNeverDecides};
 ghost use Rattle.der_core.specs.Encode.{element_octets};
-ghost use Rattle.der_core.specs.Header.{head_of, HeaderAhead};
+ghost use Rattle.der_core.specs.Header.{head_of, HeaderNext};
 ghost use Rattle.der_core.specs.Lawful.{IsDefinite, IsDefiniteHeader, PassesEncodings, ReadsEncodings, ReadsExactly, ReadsWholeEncodings, ReadsWritten};
 
 use crate::decode::Lawful;
@@ -18,11 +18,11 @@ use std::marker::PhantomData;
 
 /// A reliable reader that has not failed decodes the next identifier, tag, length or header.
 
-fn what_stands_ahead_is_read()
-    ensures identifiers { Accepts IdentifierAhead IdentifierFault }
-    ensures tags { Accepts TagAhead IdentifierFault }
-    ensures lengths { (wrong : ErrorKind) → Accepts LengthAhead (LengthFault BodyFault wrong) }
-    ensures headers { Accepts HeaderAhead (HeaderFault BodyFault) }
+fn next_values_are_decoded()
+    ensures identifiers { Accepts IdentifierNext IdentifierFault }
+    ensures tags { Accepts TagNext IdentifierFault }
+    ensures lengths { (wrong : ErrorKind) → Accepts LengthNext (LengthFault BodyFault wrong) }
+    ensures headers { Accepts HeaderNext (HeaderFault BodyFault) }
 {}
 
 /// Under DER, tags, lengths, headers and `PhantomData` (whose encoding is empty) are read from
@@ -31,9 +31,9 @@ fn what_stands_ahead_is_read()
 /// and an encoding is read back as the same value, whatever follows. Tag numbers and lengths have
 /// 32 bits.
 fn grammars_read_encodings<T>()
-    ensures tags { ReadsExactly TagAhead (λ t. (label t).number < 2 ^ 32) tag_octets }
-    ensures lengths { ReadsExactly LengthAhead IsDefinite (λ l. length_octets (number l)) }
-    ensures headers { ReadsExactly HeaderAhead IsDefiniteHeader
+    ensures tags { ReadsExactly TagNext (λ t. (label t).number < 2 ^ 32) tag_octets }
+    ensures lengths { ReadsExactly LengthNext IsDefinite (λ l. length_octets (number l)) }
+    ensures headers { ReadsExactly HeaderNext IsDefiniteHeader
         (λ h. header_octets (head_of h).tag (number (head_of h).length)) }
     ensures nothing { ReadsExactly (λ (v : PhantomData T) _ _ m. m ≡ 0) (λ _. Unit {0})
         (λ _. []) }
@@ -43,11 +43,11 @@ fn grammars_read_encodings<T>()
 /// of a valid value; octets are entirely such an element exactly if they are the encoding; a reader
 /// that has decoded one has consumed the encoding; and an encoding is read back, whatever follows.
 fn lawful_types_read_encodings<T: Lawful>()
-    ensures front { ReadsEncodings (ElementAhead T.tag_is T.takes) T.valid
+    ensures front { ReadsEncodings (ElementNext T.tag_is T.takes) T.valid
         (λ v. element_octets T.tag_is (T.contents v)) }
-    ensures whole { ReadsWholeEncodings (ElementAhead T.tag_is T.takes) T.valid
+    ensures whole { ReadsWholeEncodings (ElementNext T.tag_is T.takes) T.valid
         (λ v. element_octets T.tag_is (T.contents v)) }
-    ensures passed { PassesEncodings (ElementAhead T.tag_is T.takes) T.valid
+    ensures passed { PassesEncodings (ElementNext T.tag_is T.takes) T.valid
         (λ v. element_octets T.tag_is (T.contents v)) }
     ensures written { ReadsWritten T.tag_is T.takes T.valid T.contents }
 {}

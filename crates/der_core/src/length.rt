@@ -2,9 +2,9 @@
 ghost use Rattle.std.specs.Prelude.{◌≡◌, ◌+◌, ◌-◌, ◌^◌, ◌<◌, ◌≤◌, true, false, length, max, Ok, IfOk, IfErr};
 ghost use Rattle.der_base.specs.ScanGrammar.{BodyFault};
 ghost use Rattle.der_base.specs.Length.{number, definite_length, length_octets};
-ghost use Rattle.der_base.specs.HeaderGrammar.{LengthAhead, LengthFault};
+ghost use Rattle.der_base.specs.HeaderGrammar.{LengthNext, LengthFault};
 ghost use Rattle.der_base.specs.declared.error.ErrorKind.TheVariants.{Overlength};
-ghost use Rattle.der_core.specs.AfterFirstOctet.{DefiniteBehind, IsIndefiniteForm, RefusesIndefinite, RefusesLongLength, told_tag, wrong_length_kind};
+ghost use Rattle.der_core.specs.AfterFirstOctet.{DefiniteAfter, IsIndefiniteForm, RefusesIndefinite, RefusesLongLength, identifier_tag_if_known, wrong_length_kind};
 ghost use Rattle.der_core.specs.Decode.{Decodes, grammar_levels};
 ghost use Rattle.der_core.specs.Encode.{length_outcome};
 ghost use Rattle.der_core.specs.ReaderState.{Same};
@@ -36,20 +36,20 @@ pub(crate) const INDEFINITE: u8 = 0x80;
 /// The same as for [`Length::decode`].
 #[inline(always)]
 pub fn decode_length<R: Reader>(reader: &mut R) -> Result<Length, Error>
-    ensures { Decodes LengthAhead (LengthFault BodyFault Overlength) R.reliable
+    ensures { Decodes LengthNext (LengthFault BodyFault Overlength) R.reliable
         (R.state reader.old) result (R.state reader.new) }
 {
-    decode_length_behind(reader, None)
+    decode_length_after(reader, None)
 }
 
 // Decodes a length. If it follows an identifier, given by its first octet and number, then a length
 // that is not encoded as required is reported with the tag of that identifier.
 #[inline(always)]
-pub(crate) fn decode_length_behind<R: Reader>(
+pub(crate) fn decode_length_after<R: Reader>(
     reader: &mut R,
     identifier: Option<(u8, u32)>,
 ) -> Result<Length, Error>
-    ensures { Decodes LengthAhead (LengthFault BodyFault (wrong_length_kind (told_tag identifier)))
+    ensures { Decodes LengthNext (LengthFault BodyFault (wrong_length_kind (identifier_tag_if_known identifier)))
         R.reliable (R.state reader.old) result (R.state reader.new) }
 {
     let first = reader.read_byte()?;
@@ -92,10 +92,10 @@ pub(crate) fn decode_long_length<R: Reader>(
 ) -> Result<u32, Error>
     requires { 128 < first }
     ensures same { Same (R.state reader.old) (R.state reader.new) }
-    ensures ok { IfOk result (λ n. DefiniteBehind first n (R.state reader.old)
+    ensures ok { IfOk result (λ n. DefiniteAfter first n (R.state reader.old)
         (R.state reader.new)) }
     ensures exact { R.reliable ≡ true
-        → IfErr result (λ e. RefusesLongLength (wrong_length_kind (told_tag identifier)) first
+        → IfErr result (λ e. RefusesLongLength (wrong_length_kind (identifier_tag_if_known identifier)) first
         (R.state reader.old) e (R.state reader.new)) }
 {
     if first > 0x84 {
@@ -116,7 +116,7 @@ pub(crate) fn decode_long_length<R: Reader>(
 // The error kind for a length that is not encoded as required.
 #[cold]
 fn wrong_length(identifier: Option<(u8, u32)>) -> ErrorKind
-    ensures { result ≡ wrong_length_kind (told_tag identifier) }
+    ensures { result ≡ wrong_length_kind (identifier_tag_if_known identifier) }
 {
     match identifier {
         Some((first, number)) => tag_of_identifier(first, number).length_error(),
@@ -140,13 +140,13 @@ fn least_of(count: u8) -> u32
 impl<R: Reader> Decode<R> for Length {
     type Error = Error;
 
-    ghost stands_ahead = { LengthAhead };
+    ghost is_next = { LengthNext };
 
     ghost decode_levels = { grammar_levels };
 
     ghost allocates = { false };
 
-    ghost decode_answers = { Decodes LengthAhead (LengthFault BodyFault Overlength) true };
+    ghost decode_answers = { Decodes LengthNext (LengthFault BodyFault Overlength) true };
 
     /// Decodes a length (X.690 8.1.3, 10.1). Under the Basic Encoding Rules octet `0x80` is also a
     /// length: the result counts the octets of the body that follows, including its end-of-contents
@@ -170,7 +170,7 @@ impl<R: Reader> Decode<R> for Length {
     ///   it announces more than four.
     #[inline(always)]
     fn decode(_alloc: Global, reader: &mut R) -> Result<Length, Error>
-        ensures { Decodes LengthAhead (LengthFault BodyFault Overlength) R.reliable
+        ensures { Decodes LengthNext (LengthFault BodyFault Overlength) R.reliable
             (R.state reader.old) result (R.state reader.new) }
     {
         decode_length(reader)

@@ -53,27 +53,27 @@ impl<'a> Octets for &'a [u8] {
 /// - `state` is the meaning of the reader: input, rules, end, position, depth, failed, and whether
 ///   it keeps a failed state; see `specs/ReaderState.antt`.
 /// - `reliable` says whether its errors are also those of the specified outcomes.
-/// - `lends` says whether it can return slices.
+/// - `reads_slices` says whether it can return slices.
 /// - `sound_state` is the law of every state: the position is within the end, and the end within
 ///   the input of at most 4294967295 octets; the depth is at most 64; and only a reader that keeps
 ///   a failed state fails.
-/// - `lending` is the law that a reliable reader returns slices.
+/// - `reading_slices` is the law that a reliable reader returns slices.
 pub trait Reader: Sized + Drop {
     /// The octets that [`Reader::read_slice`] returns; for a [`SliceReader`] a slice of its input.
-    type Lent: Octets;
+    type Borrowed: Octets;
 
     ghost state: { Self → ReaderState };
 
     ghost reliable: { Bool };
 
-    ghost lends: { Bool };
+    ghost reads_slices: { Bool };
 
     /// Whether the reader can return slices.
     const CAN_READ_SLICE: bool;
 
     /// Whether the reader can return slices, as a function for generic code.
-    fn can_lend() -> bool
-        ensures { result ≡ lends };
+    fn can_read_slice() -> bool
+        ensures { result ≡ reads_slices };
 
     /// The encoding rules by which tags, lengths and values are read.
     fn encoding_rules(&self) -> EncodingRules
@@ -100,14 +100,14 @@ pub trait Reader: Sized + Drop {
     /// - `Overflow` without a position, if fewer octets are left and the sum of position and length
     ///   exceeds 4294967295; the reader is unchanged.
     /// - `Incomplete` at the position, if fewer octets are left; the reader is then failed.
-    fn read_slice(&mut self, len: Length) -> Result<Self::Lent, Error>
+    fn read_slice(&mut self, len: Length) -> Result<Self::Borrowed, Error>
         ensures same { Same (state self.old) (state self.new) }
         ensures exact { Meets reliable (read_slice_outcome (number len)) (state self.old)
-            (map_ok Self.Lent.octets result) (state self.new) }
-        ensures unlent { lends ≡ false
-            → map_ok Self.Lent.octets result ≡ Err
+            (map_ok Self.Borrowed.octets result) (state self.new) }
+        ensures not_borrowed { reads_slices ≡ false
+            → map_ok Self.Borrowed.octets result ≡ Err
             (error_at CannotRead (reader_position (state self.old))) }
-        ensures unmoved { lends ≡ false → state self.new ≡ state self.old };
+        ensures unmoved { reads_slices ≡ false → state self.new ≡ state self.old };
 
     /// Fills the buffer with the next octets.
     ///
@@ -141,13 +141,13 @@ pub trait Reader: Sized + Drop {
     ///
     /// - `Reader` at the position, if the reader cannot return slices.
     /// - `Failed` at the position, if the reader had already failed.
-    fn remaining(&self) -> Result<Self::Lent, Error>
-        ensures ok { IfOk result (λ r. Ok (Self.Lent.octets r) ≡ remaining_answer
+    fn remaining(&self) -> Result<Self::Borrowed, Error>
+        ensures ok { IfOk result (λ r. Ok (Self.Borrowed.octets r) ≡ remaining_answer
             (state self.now)) }
         ensures exact { reliable ≡ true
-            → map_ok Self.Lent.octets result ≡ remaining_answer (state self.now) }
-        ensures unlent { lends ≡ false
-            → map_ok Self.Lent.octets result ≡ Err
+            → map_ok Self.Borrowed.octets result ≡ remaining_answer (state self.now) }
+        ensures not_borrowed { reads_slices ≡ false
+            → map_ok Self.Borrowed.octets result ≡ Err
             (error_at CannotRead (reader_position (state self.now))) };
 
     /// An equal reader; reading from it leaves this one unchanged. Allocates nothing.
@@ -237,5 +237,5 @@ pub trait Reader: Sized + Drop {
     ghost sound_state: { (s : Self) → IsSound (state s) };
 
     // a reliable reader returns slices
-    ghost lending: { reliable ≡ true → lends ≡ true };
+    ghost reading_slices: { reliable ≡ true → reads_slices ≡ true };
 }

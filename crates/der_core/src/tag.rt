@@ -2,8 +2,8 @@
 ghost use Rattle.std.specs.Prelude.{◌≡◌, ◌≢◌, ◌^◌, ◌<◌, ◌≤◌, ◌⊎◌, ◌↔◌, true, false, IsTrue, None, [], length, Ok, IfOk, IfErr};
 ghost use Rattle.der_base.specs.Length.{definite_length, digits};
 ghost use Rattle.der_base.specs.Tag.{label, leading_octet, tag_octets, continuation_octets, universal_tag, other_tag, is_constructed, IdentifierFault, identifier_kind};
-ghost use Rattle.der_base.specs.HeaderGrammar.{IdentifierAhead, TagAhead};
-ghost use Rattle.der_core.specs.AfterFirstOctet.{IdentifierBehind, IsAlone, IsGuess, RefusesIdentifier, RefusesNumber, identifier_tag};
+ghost use Rattle.der_base.specs.HeaderGrammar.{IdentifierNext, TagNext};
+ghost use Rattle.der_core.specs.AfterFirstOctet.{IdentifierAfter, IsAlone, IsGuess, RefusesIdentifier, RefusesNumber, identifier_tag};
 ghost use Rattle.der_core.specs.Decode.{Decodes, grammar_levels};
 ghost use Rattle.der_core.specs.Encode.{single_octets, high_digits, tag_outcome};
 ghost use Rattle.der_core.specs.ReaderState.{Same, Reads};
@@ -174,7 +174,7 @@ pub(crate) fn guess(tag: Tag) -> Option<(u8, Tag)>
 // Decodes a tag (X.690 8.1.2) and returns it with the constructed bit of its identifier.
 #[inline(always)]
 pub(crate) fn decode_with_constructed_bit<R: Reader>(reader: &mut R) -> Result<(Tag, bool), Error>
-    ensures { Decodes IdentifierAhead IdentifierFault R.reliable (R.state reader.old) result
+    ensures { Decodes IdentifierNext IdentifierFault R.reliable (R.state reader.old) result
         (R.state reader.new) }
 {
     let (first, number) = decode_identifier(reader)?;
@@ -185,20 +185,20 @@ pub(crate) fn decode_with_constructed_bit<R: Reader>(reader: &mut R) -> Result<(
 // more.
 #[inline(always)]
 pub(crate) fn decode_identifier<R: Reader>(reader: &mut R) -> Result<(u8, u32), Error>
-    ensures { Decodes (λ x. IdentifierAhead (identifier_tag x.0 x.1, is_constructed x.0))
+    ensures { Decodes (λ x. IdentifierNext (identifier_tag x.0 x.1, is_constructed x.0))
         IdentifierFault R.reliable (R.state reader.old) result (R.state reader.new) }
 {
     let first = reader.read_byte()?;
-    let number = decode_number_behind(reader, first)?;
+    let number = decode_number_after(reader, first)?;
     Ok((first, number))
 }
 
 // The rest of an identifier after its first octet; returns the number if that octet is `0x40` or
 // more.
 #[inline(always)]
-pub(crate) fn decode_number_behind<R: Reader>(reader: &mut R, first: u8) -> Result<u32, Error>
+pub(crate) fn decode_number_after<R: Reader>(reader: &mut R, first: u8) -> Result<u32, Error>
     ensures same { Same (R.state reader.old) (R.state reader.new) }
-    ensures ok { IfOk result (λ n. IdentifierBehind first (identifier_tag first n)
+    ensures ok { IfOk result (λ n. IdentifierAfter first (identifier_tag first n)
         (is_constructed first) (R.state reader.old) (R.state reader.new)) }
     ensures exact { R.reliable ≡ true → IfErr result
         (λ e. RefusesIdentifier first (R.state reader.old) e (R.state reader.new)) }
@@ -264,7 +264,7 @@ fn decode_long_number<R: Reader>(reader: &mut R) -> Result<u32, Error>
 // Decodes a tag (X.690 8.1.2), as `Tag::decode` does, without an allocator.
 #[inline(always)]
 pub(crate) fn decode_tag<R: Reader>(reader: &mut R) -> Result<Tag, Error>
-    ensures { Decodes TagAhead IdentifierFault R.reliable (R.state reader.old) result
+    ensures { Decodes TagNext IdentifierFault R.reliable (R.state reader.old) result
         (R.state reader.new) }
 {
     let (tag, _) = decode_with_constructed_bit(reader)?;
@@ -274,13 +274,13 @@ pub(crate) fn decode_tag<R: Reader>(reader: &mut R) -> Result<Tag, Error>
 impl<R: Reader> Decode<R> for Tag {
     type Error = Error;
 
-    ghost stands_ahead = { TagAhead };
+    ghost is_next = { TagNext };
 
     ghost decode_levels = { grammar_levels };
 
     ghost allocates = { false };
 
-    ghost decode_answers = { Decodes TagAhead IdentifierFault true };
+    ghost decode_answers = { Decodes TagNext IdentifierFault true };
 
     /// Decodes a tag (X.690 8.1.2). Under the Basic Encoding Rules octet `0x24` is also read as the
     /// tag OCTET STRING (X.690 8.7.1).
@@ -298,7 +298,7 @@ impl<R: Reader> Decode<R> for Tag {
     ///   tag number continues (X.690 8.1.2.4).
     #[inline(always)]
     fn decode(_alloc: Global, reader: &mut R) -> Result<Tag, Error>
-        ensures { Decodes TagAhead IdentifierFault R.reliable (R.state reader.old) result
+        ensures { Decodes TagNext IdentifierFault R.reliable (R.state reader.old) result
             (R.state reader.new) }
     {
         decode_tag(reader)

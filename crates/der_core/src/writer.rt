@@ -1,6 +1,6 @@
 //! Writers of octets.
 ghost use Rattle.std.specs.Prelude.{◌≡◌, Bool, true, false, [], ◌∷◌};
-ghost use Rattle.der_core.specs.Writer.{WriterState, Keeps, Appends, Fits, Writes, HasRoom, write_outcome};
+ghost use Rattle.der_core.specs.Writer.{WriterState, Keeps, Appends, Fits, Writes, HasSpace, write_outcome};
 
 pub mod slice;
 
@@ -9,7 +9,7 @@ pub use slice::SliceWriter;
 
 /// A writer of octets: what was written, what the buffer holds after it, how much space there is,
 /// and whether the writer has failed. A writer without a buffer starts with `start` 0, chooses its
-/// own `stop`, has nothing `behind`, and any `capacity` and `reference`, as long as these do not
+/// own `stop`, has nothing `following`, and any `capacity` and `reference`, as long as these do not
 /// change.
 ///
 /// A writer that has not failed accepts every write that fits into its space. A reliable writer
@@ -18,7 +18,7 @@ pub use slice::SliceWriter;
 ///
 /// Ghost members:
 ///
-/// - `state` is the meaning of the writer: the octets written, `behind`, `start`, `stop`,
+/// - `state` is the meaning of the writer: the octets written, `following`, `start`, `stop`,
 ///   `capacity`, failed, and `reference`; see `specs/Writer.antt`.
 /// - `reliable` says whether its errors are also those of the specified outcomes.
 pub trait Writer {
@@ -44,8 +44,8 @@ pub trait Writer {
 
     /// Whether a write of this many octets is known to succeed. If true, a header is written at
     /// once, otherwise piece by piece. The default returns `false`, which promises nothing.
-    fn has_room(&self, _count: usize) -> bool
-        ensures { result ≡ true → HasRoom (state self.now) _count }
+    fn has_space(&self, _count: usize) -> bool
+        ensures { result ≡ true → HasSpace (state self.now) _count }
     {
         false
     }

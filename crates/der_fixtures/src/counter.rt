@@ -17,7 +17,7 @@ impl Writer for Counter {
     // a write may fail for memory at any time, so the state is that of a failed writer
     ghost state = { λ w. record {
       octets = w.octets.items;
-      behind = [];
+      following = [];
       start = 0;
       stop = 0;
       capacity = 0;

@@ -4,7 +4,7 @@ ghost use Rattle.std.specs.Prelude.{◌≡◌, false};
 ghost use Rattle.std.proofs.Common.{arith};
 ghost use Rattle.der.specs.Prelude.{OctetString};
 ghost use Rattle.der.specs.BytesCow.{cow_octets};
-ghost use Rattle.der.specs.Octets.{IsCounted, TakesOctets, LentOctetsRead, octets_lawful, octets_size, OctetsWritten};
+ghost use Rattle.der.specs.Octets.{IsCounted, TakesOctets, BorrowedOctetsRead, octets_lawful, octets_size, OctetsWritten};
 
 use der::{
     BytesCow, DecodeValue, EncodeValue, Error, FixedTag, Header, Lawful, Length, ReadValue, Reader,
@@ -43,10 +43,10 @@ impl<'a> ReadValue for CowOctets<'a> {
     ghost takes_valid = { λ v rules h octets taken. taken.0 };
 }
 
-impl<'a, R: Reader<Lent = &'a [u8]>> DecodeValue<R> for CowOctets<'a> {
+impl<'a, R: Reader<Borrowed = &'a [u8]>> DecodeValue<R> for CowOctets<'a> {
     type Error = Error;
 
-    ghost decode_value_answers = { LentOctetsRead (λ v. cow_octets v.octets) };
+    ghost decode_value_answers = { BorrowedOctetsRead (λ v. cow_octets v.octets) };
 
     fn decode_value(alloc: Global, reader: &mut R, header: Header) -> Result<Self, Error> {
         let octets = BytesCow::decode_value(alloc, reader, header)?;

@@ -16,27 +16,27 @@ use std::io;
 
 pub fn calls(rt: &impl Print, alloc: Global) -> io::Result<()> {
     let header = Header::new(Tag::Sequence, Length::new(256));
-    tell(rt, "to_der", header.to_der(alloc))?;
-    tell(rt, "encode_to_vec", append(alloc))?;
-    tell(rt, "read_vec", copy(alloc))?;
-    tell(rt, "box", boxed_month(alloc))?;
-    tell(rt, "slice_to_owned", slice_to_owned(alloc, &OCTETS))?;
-    tell(rt, "from_slice", from_slice(alloc))?;
-    tell(rt, "from_ref", from_ref(alloc))?;
-    tell(rt, "ref_to_owned", ref_to_owned(alloc))?;
-    tell(rt, "clone_in", clone_in(alloc))?;
-    tell(rt, "from_bytes", from_bytes(alloc))?;
-    tell(rt, "text_to_owned", text_to_owned(alloc))?;
-    tell(rt, "clone_text", clone_text(alloc))?;
-    tell(rt, "owned_octets", owned_octets(alloc))?;
-    tell(rt, "owned_cow", owned_cow(alloc))?;
-    tell(rt, "owned_text", owned_text(alloc))?;
-    tell(rt, "segments_at_once", segments_at_once(alloc))?;
-    tell(rt, "segment_by_segment", segment_by_segment(alloc))?;
-    tell(rt, "segment_in_segment", segment_in_segment(alloc))?;
-    tell(rt, "joined_octets", joined_octets(alloc))?;
-    tell(rt, "decode_value_parts", octets_in_one(alloc))?;
-    tell(rt, "set_of_der", sorted_set(alloc))
+    print_value(rt, "to_der", header.to_der(alloc))?;
+    print_value(rt, "encode_to_vec", append(alloc))?;
+    print_value(rt, "read_vec", copy(alloc))?;
+    print_value(rt, "box", boxed_month(alloc))?;
+    print_value(rt, "slice_to_owned", slice_to_owned(alloc, &OCTETS))?;
+    print_value(rt, "from_slice", from_slice(alloc))?;
+    print_value(rt, "from_ref", from_ref(alloc))?;
+    print_value(rt, "ref_to_owned", ref_to_owned(alloc))?;
+    print_value(rt, "clone_in", clone_in(alloc))?;
+    print_value(rt, "from_bytes", from_bytes(alloc))?;
+    print_value(rt, "text_to_owned", text_to_owned(alloc))?;
+    print_value(rt, "clone_text", clone_text(alloc))?;
+    print_value(rt, "owned_octets", owned_octets(alloc))?;
+    print_value(rt, "owned_cow", owned_cow(alloc))?;
+    print_value(rt, "owned_text", owned_text(alloc))?;
+    print_value(rt, "segments_at_once", segments_at_once(alloc))?;
+    print_value(rt, "segment_by_segment", segment_by_segment(alloc))?;
+    print_value(rt, "segment_in_segment", segment_in_segment(alloc))?;
+    print_value(rt, "joined_octets", joined_octets(alloc))?;
+    print_value(rt, "decode_value_parts", octets_in_one(alloc))?;
+    print_value(rt, "set_of_der", sorted_set(alloc))
 }
 
 const OCTETS: [u8; 3] = [0x61, 0x62, 0x63];
@@ -184,7 +184,11 @@ fn sorted_set(alloc: Global) -> Result<Vec<u8>, Error> {
     set_of_der(alloc, &mut elements)
 }
 
-fn tell<T: Debug + Drop>(rt: &impl Print, call: &str, answer: Result<T, Error>) -> io::Result<()> {
+fn print_value<T: Debug + Drop>(
+    rt: &impl Print,
+    call: &str,
+    answer: Result<T, Error>,
+) -> io::Result<()> {
     match answer {
         Ok(value) => println!(rt; "{call}: {value:?}"),
         Err(error) if error == ErrorKind::OutOfMemory.to_error() => {

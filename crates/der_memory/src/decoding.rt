@@ -1,5 +1,5 @@
 //! Values that are decoded from slices without allocating.
-use crate::tell::tell_result;
+use crate::print::print_result;
 use der::example::{BorrowedOctets, MyByteMonth};
 use der::{
     BytesRef, Decode, DecodeBytes, DecodeValue, Error, Header, Length, ReaderExt, SliceReader,
@@ -13,22 +13,22 @@ use std::marker::PhantomData;
 const MONTH: [u8; 3] = [0x04, 0x01, 0x09];
 
 pub fn headers(rt: &impl Print, alloc: Global) -> io::Result<()> {
-    tell_result(
+    print_result(
         rt,
         "tag from_der",
         Tag::from_der(alloc, &[0x5F, 0x81, 0x80, 0x01]),
     )?;
-    tell_result(rt, "tag from_ber", Tag::from_ber(alloc, &[0x24]))?;
-    tell_result(
+    print_result(rt, "tag from_ber", Tag::from_ber(alloc, &[0x24]))?;
+    print_result(
         rt,
         "length from_der",
         Length::from_der(alloc, &[0x82, 0x01, 0x00]),
     )?;
-    tell_result(rt, "length from_ber", Length::from_ber(alloc, &[0x7F]))?;
-    tell_result(rt, "header from_der", header(alloc))?;
-    tell_result(rt, "header from_ber", header_by_ber(alloc))?;
-    tell_result(rt, "decode_header", header_of(&MONTH))?;
-    tell_result(rt, "decode_length", length_of(&[0x05]))
+    print_result(rt, "length from_ber", Length::from_ber(alloc, &[0x7F]))?;
+    print_result(rt, "header from_der", header(alloc))?;
+    print_result(rt, "header from_ber", header_by_ber(alloc))?;
+    print_result(rt, "decode_header", header_of(&MONTH))?;
+    print_result(rt, "decode_length", length_of(&[0x05]))
 }
 
 fn header(alloc: Global) -> Result<Length, Error> {
@@ -48,13 +48,13 @@ fn length_of(octets: &[u8]) -> Result<Length, Error> {
 }
 
 pub fn elements(rt: &impl Print, alloc: Global) -> io::Result<()> {
-    tell_result(rt, "month from_der", month(alloc))?;
-    tell_result(rt, "month from_ber", month_by_ber(alloc))?;
-    tell_result(rt, "borrowed from_der", octets(alloc))?;
-    tell_result(rt, "borrowed from_ber", octets_by_ber(alloc))?;
-    tell_result(rt, "nothing from_der", nothing(alloc))?;
-    tell_result(rt, "pair from_der", pair(alloc))?;
-    tell_result(rt, "set_of_contents", set_in_order(alloc))
+    print_result(rt, "month from_der", month(alloc))?;
+    print_result(rt, "month from_ber", month_by_ber(alloc))?;
+    print_result(rt, "borrowed from_der", octets(alloc))?;
+    print_result(rt, "borrowed from_ber", octets_by_ber(alloc))?;
+    print_result(rt, "nothing from_der", nothing(alloc))?;
+    print_result(rt, "pair from_der", pair(alloc))?;
+    print_result(rt, "set_of_contents", set_in_order(alloc))
 }
 
 fn month(alloc: Global) -> Result<u8, Error> {
@@ -91,15 +91,15 @@ fn set_in_order(alloc: Global) -> Result<usize, Error> {
 }
 
 pub fn fronts(rt: &impl Print, alloc: Global) -> io::Result<()> {
-    tell_result(rt, "tag from_der_partial", behind_tag(alloc))?;
-    tell_result(rt, "month from_der_partial", behind_month(alloc))
+    print_result(rt, "tag from_der_partial", after_tag(alloc))?;
+    print_result(rt, "month from_der_partial", after_month(alloc))
 }
 
-fn behind_tag(alloc: Global) -> Result<usize, Error> {
+fn after_tag(alloc: Global) -> Result<usize, Error> {
     Ok(Tag::from_der_partial(alloc, &MONTH)?.1.len())
 }
 
-fn behind_month(alloc: Global) -> Result<usize, Error> {
+fn after_month(alloc: Global) -> Result<usize, Error> {
     Ok(
         MyByteMonth::from_der_partial(alloc, &[0x04, 0x01, 0x09, 0x05, 0x00])?
             .1
@@ -108,10 +108,10 @@ fn behind_month(alloc: Global) -> Result<usize, Error> {
 }
 
 pub fn by_a_reader(rt: &impl Print, alloc: Global) -> io::Result<()> {
-    tell_result(rt, "decode month", decoded_month(alloc))?;
-    tell_result(rt, "decode tag", decoded_tag(alloc))?;
-    tell_result(rt, "octets decode_value", octets_value(alloc))?;
-    tell_result(rt, "text decode_value", text_value(alloc))
+    print_result(rt, "decode month", decoded_month(alloc))?;
+    print_result(rt, "decode tag", decoded_tag(alloc))?;
+    print_result(rt, "octets decode_value", octets_value(alloc))?;
+    print_result(rt, "text decode_value", text_value(alloc))
 }
 
 fn decoded_month(alloc: Global) -> Result<u8, Error> {

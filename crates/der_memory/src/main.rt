@@ -6,10 +6,10 @@
 mod allocating;
 mod decoding;
 mod orders;
+mod print;
 mod readers;
 mod refusals;
 mod strings;
-mod tell;
 mod values;
 mod writers;
 mod zeros;

@@ -1,5 +1,5 @@
 //! Orders of values, and of lists of them.
-use crate::tell::tell_result;
+use crate::print::print_result;
 use der::example::BorrowedOctets;
 use der::{BytesRef, DerOrd, Error, Header, Length, Tag, ValueOrd, iter_cmp, iter_cmp_owned};
 use std::cmp::Ordering;
@@ -11,12 +11,12 @@ fn borrowed(octets: &[u8]) -> Result<BorrowedOctets<'_>, Error> {
 }
 
 pub fn values(rt: &impl Print) -> io::Result<()> {
-    tell_result(rt, "der_cmp", elements())?;
-    tell_result(rt, "value_cmp", contents())?;
-    tell_result(rt, "Tag::der_cmp", Tag::Sequence.der_cmp(&Tag::Ia5String))?;
-    tell_result(rt, "Length::der_cmp", Length::ONE.der_cmp(&Length::MAX))?;
-    tell_result(rt, "Header::der_cmp", header(1).der_cmp(&header(1)))?;
-    tell_result(rt, "BytesRef::der_cmp", octets())
+    print_result(rt, "der_cmp", elements())?;
+    print_result(rt, "value_cmp", contents())?;
+    print_result(rt, "Tag::der_cmp", Tag::Sequence.der_cmp(&Tag::Ia5String))?;
+    print_result(rt, "Length::der_cmp", Length::ONE.der_cmp(&Length::MAX))?;
+    print_result(rt, "Header::der_cmp", header(1).der_cmp(&header(1)))?;
+    print_result(rt, "BytesRef::der_cmp", octets())
 }
 
 fn header(number: u32) -> Header {
@@ -36,8 +36,8 @@ fn octets() -> Result<Ordering, Error> {
 }
 
 pub fn lists(rt: &impl Print) -> io::Result<()> {
-    tell_result(rt, "iter_cmp", references())?;
-    tell_result(rt, "iter_cmp_owned", copies())
+    print_result(rt, "iter_cmp", references())?;
+    print_result(rt, "iter_cmp_owned", copies())
 }
 
 fn references() -> Result<Ordering, Error> {

@@ -2,7 +2,7 @@
 ghost use Rattle.std.specs.Prelude.{◌≡◌, IfOk};
 ghost use Rattle.der.specs.Prelude.{Ber, slice_state};
 
-use crate::tell::{tell, tell_result, tell_text};
+use crate::print::{print_result, print_text, print_value};
 use der::{
     Class, EncodingRules, Error, ErrorKind, Header, Length, Position, Reader, ReaderExt,
     SliceReader, Tag, TagNumber, TagPeek, Turns, decode_indefinite_length, read_eoc, read_value,
@@ -30,37 +30,37 @@ pub fn plain_calls(rt: &impl Print) -> io::Result<()> {
     let Ok(mut reader) = new(&OCTETS) else {
         return Ok(());
     };
-    tell_text(rt, "input_len", reader.input_len())?;
-    tell_result(rt, "read_byte", reader.read_byte())?;
-    tell_result(rt, "read_slice", reader.read_slice(Length::ONE))?;
-    tell_result(rt, "drain", reader.drain(Length::ONE))?;
+    print_text(rt, "input_len", reader.input_len())?;
+    print_result(rt, "read_byte", reader.read_byte())?;
+    print_result(rt, "read_slice", reader.read_slice(Length::ONE))?;
+    print_result(rt, "drain", reader.drain(Length::ONE))?;
     let mut octet = [0];
-    tell_result(rt, "read_into", reader.read_into(&mut octet))?;
-    tell_text(rt, "reader position", reader.position())?;
-    tell_text(rt, "offset", reader.offset())?;
-    tell_text(rt, "remaining_len", reader.remaining_len())?;
-    tell_result(rt, "remaining", reader.remaining())?;
-    tell(rt, "is_finished", reader.fork().is_finished())?;
-    tell_text(rt, "reader error", reader.error(ErrorKind::DateTime))?;
-    tell(rt, "is_failed", reader.is_failed())?;
-    tell_result(rt, "finish", reader.finish())
+    print_result(rt, "read_into", reader.read_into(&mut octet))?;
+    print_text(rt, "reader position", reader.position())?;
+    print_text(rt, "offset", reader.offset())?;
+    print_text(rt, "remaining_len", reader.remaining_len())?;
+    print_result(rt, "remaining", reader.remaining())?;
+    print_value(rt, "is_finished", reader.fork().is_finished())?;
+    print_text(rt, "reader error", reader.error(ErrorKind::DateTime))?;
+    print_value(rt, "is_failed", reader.is_failed())?;
+    print_result(rt, "finish", reader.finish())
 }
 
 pub fn peeks(rt: &impl Print) -> io::Result<()> {
     let Ok(mut reader) = new(&OCTETS) else {
         return Ok(());
     };
-    tell(rt, "peek_byte", reader.peek_byte())?;
-    tell_result(rt, "peek_into", reader.peek_into(&mut [0, 0]))?;
-    tell_result(rt, "peek_header", length_of(reader.peek_header()))?;
-    tell_result(rt, "peek_tag", reader.peek_tag())?;
-    tell_result(rt, "Header::peek", length_of(Header::peek(&reader)))?;
-    tell_result(rt, "Tag::peek", Tag::peek(&reader))?;
+    print_value(rt, "peek_byte", reader.peek_byte())?;
+    print_result(rt, "peek_into", reader.peek_into(&mut [0, 0]))?;
+    print_result(rt, "peek_header", length_of(reader.peek_header()))?;
+    print_result(rt, "peek_tag", reader.peek_tag())?;
+    print_result(rt, "Header::peek", length_of(Header::peek(&reader)))?;
+    print_result(rt, "Tag::peek", Tag::peek(&reader))?;
     let universal = Class::Universal;
     let is_sequence = Tag::peek_matches(&mut reader, universal, TagNumber::new(16));
-    tell_result(rt, "peek_matches", is_sequence)?;
+    print_result(rt, "peek_matches", is_sequence)?;
     let tag = Tag::decode_with_constructed_bit(&mut reader);
-    tell_result(rt, "decode_with_constructed_bit", tag)
+    print_result(rt, "decode_with_constructed_bit", tag)
 }
 
 fn length_of(header: Result<Header, Error>) -> Result<Length, Error> {
@@ -68,12 +68,12 @@ fn length_of(header: Result<Header, Error>) -> Result<Length, Error> {
 }
 
 pub fn parts(rt: &impl Print) -> io::Result<()> {
-    tell_result(rt, "read_nested", nested())?;
-    tell_result(rt, "sequence", in_sequence())?;
-    tell_result(rt, "read_value", value())?;
-    tell_result(rt, "read_eoc", end_mark())?;
-    tell_result(rt, "enter_nested", halves())?;
-    tell_result(rt, "tlv_bytes", element())
+    print_result(rt, "read_nested", nested())?;
+    print_result(rt, "sequence", in_sequence())?;
+    print_result(rt, "read_value", value())?;
+    print_result(rt, "read_eoc", end_of_contents())?;
+    print_result(rt, "enter_nested", halves())?;
+    print_result(rt, "tlv_bytes", element())
 }
 
 fn nested() -> Result<u8, Error> {
@@ -90,7 +90,7 @@ fn value() -> Result<u8, Error> {
     read_value(&mut reader, header, |reader, _| reader.read_byte())
 }
 
-fn end_mark() -> Result<(), Error> {
+fn end_of_contents() -> Result<(), Error> {
     read_eoc(&mut ber(&[0x00, 0x00])?)
 }
 
@@ -106,25 +106,25 @@ fn element() -> Result<usize, Error> {
 }
 
 pub fn scans(rt: &impl Print) -> io::Result<()> {
-    tell_result(rt, "scan_indefinite", scanned(true))?;
-    tell_result(rt, "decode_indefinite_length", scanned(false))
+    print_result(rt, "scan_indefinite", scanned(true))?;
+    print_result(rt, "decode_indefinite_length", scanned(false))
 }
 
 // The number of octets of indefinite-length contents, by a scan that consumes nothing or by one
 // that does.
-fn scanned(ahead: bool) -> Result<u32, Error> {
-    counted::<Brand>(ahead, Blank::new(1))
+fn scanned(next: bool) -> Result<u32, Error> {
+    counted::<Brand>(next, Blank::new(1))
 }
 
 // The same, counted with a ledger that the caller names.
-fn counted<L: Ledger>(ahead: bool, blank: Blank) -> Result<u32, Error>
+fn counted<L: Ledger>(next: bool, blank: Blank) -> Result<u32, Error>
     requires name { blank.name ≡ L.name }
     requires parts { blank.parts ≡ L.parts }
     requires whole { blank.parts ≡ 1 }
 {
     let mut turns = Turns::<L>::new(blank);
     let mut reader = ber(&BODY[2..])?;
-    let length = if ahead {
+    let length = if next {
         reader.scan_indefinite(&mut turns)?
     } else {
         decode_indefinite_length(&mut reader, &mut turns)?
@@ -134,12 +134,12 @@ fn counted<L: Ledger>(ahead: bool, blank: Blank) -> Result<u32, Error>
 
 pub fn positions(rt: &impl Print) -> io::Result<()> {
     let mut position = Position::new(Length::new(42));
-    tell_text(rt, "current", position.current())?;
-    tell_result(rt, "advance", position.advance(Length::ONE))?;
-    tell_text(rt, "position left", position.remaining_len())?;
-    tell_text(rt, "position error", position.error(ErrorKind::DateTime))?;
-    tell_result(rt, "split_nested", split(&mut position))?;
-    tell(rt, "depth", position.depth())
+    print_text(rt, "current", position.current())?;
+    print_result(rt, "advance", position.advance(Length::ONE))?;
+    print_text(rt, "position left", position.remaining_len())?;
+    print_text(rt, "position error", position.error(ErrorKind::DateTime))?;
+    print_result(rt, "split_nested", split(&mut position))?;
+    print_value(rt, "depth", position.depth())
 }
 
 fn split(position: &mut Position) -> Result<Length, Error> {

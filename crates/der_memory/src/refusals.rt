@@ -1,5 +1,5 @@
 //! Errors of calls that may allocate, but that allocate nothing before these errors.
-use crate::tell::tell_result;
+use crate::print::print_result;
 use crate::zeros::Zeros;
 use der::example::OwnedText;
 use der::{
@@ -10,9 +10,9 @@ use std::alloc::Global;
 use std::io;
 
 pub fn of_reading(rt: &impl Print, alloc: Global) -> io::Result<()> {
-    tell_result(rt, "read_vec past the end", past_the_end(alloc))?;
-    tell_result(rt, "octets past the end", octets_past_the_end(alloc))?;
-    tell_result(rt, "a segment past the end", segment_past_the_end(alloc))
+    print_result(rt, "read_vec past the end", past_the_end(alloc))?;
+    print_result(rt, "octets past the end", octets_past_the_end(alloc))?;
+    print_result(rt, "a segment past the end", segment_past_the_end(alloc))
 }
 
 fn past_the_end(alloc: Global) -> Result<usize, Error> {
@@ -37,12 +37,12 @@ fn segment_past_the_end(alloc: Global) -> Result<usize, Error> {
 }
 
 pub fn of_strings(rt: &impl Print, alloc: Global) -> io::Result<()> {
-    tell_result(
+    print_result(
         rt,
         "no text",
         is_refused(StringOwned::from_bytes(alloc, &[0xFF])),
     )?;
-    tell_result(
+    print_result(
         rt,
         "no text decoded",
         is_refused(OwnedText::from_der(alloc, &[12, 1, 255])),
@@ -55,7 +55,7 @@ fn is_refused<T: Drop>(answer: Result<T, Error>) -> Result<bool, Error> {
 }
 
 pub fn of_writing(rt: &impl Print, alloc: Global) -> io::Result<()> {
-    tell_result(rt, "to_der past 32 bits", to_der(alloc))
+    print_result(rt, "to_der past 32 bits", to_der(alloc))
 }
 
 // An element whose header and contents together exceed 32 bits.

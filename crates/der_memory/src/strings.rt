@@ -1,15 +1,15 @@
 //! Byte strings and texts, borrowed, and in memory that was allocated before.
-use crate::tell::{tell, tell_result, tell_text};
+use crate::print::{print_result, print_text, print_value};
 use der::{BytesOwned, BytesRef, Encode, Error, Length, StringOwned, StringRef, box_to_ref};
 use std::alloc::Global;
 use std::io;
 
 pub fn borrowed(rt: &impl Print) -> io::Result<()> {
-    tell_result(rt, "prefix", prefix())?;
-    tell(rt, "EMPTY", BytesRef::EMPTY.is_empty())?;
-    tell_result(rt, "StringRef::new", text_len())?;
-    tell_result(rt, "StringRef::from_bytes", text_of_octets())?;
-    tell_result(rt, "as_str", text_views())
+    print_result(rt, "prefix", prefix())?;
+    print_value(rt, "EMPTY", BytesRef::EMPTY.is_empty())?;
+    print_result(rt, "StringRef::new", text_len())?;
+    print_result(rt, "StringRef::from_bytes", text_of_octets())?;
+    print_result(rt, "as_str", text_views())
 }
 
 fn prefix() -> Result<usize, Error> {
@@ -48,9 +48,9 @@ pub fn owned(rt: &impl Print, alloc: Global) -> io::Result<()> {
         return Ok(());
     };
     println!(rt; "prepared")?;
-    tell_result(rt, "from_vec", from_vec(octets))?;
-    tell_result(rt, "StringOwned::new", text_of(text))?;
-    tell(rt, "empty", BytesOwned::empty(alloc).is_empty())
+    print_result(rt, "from_vec", from_vec(octets))?;
+    print_result(rt, "StringOwned::new", text_of(text))?;
+    print_value(rt, "empty", BytesOwned::empty(alloc).is_empty())
 }
 
 // The octets of a vector are moved in, boxed, and moved in again.

@@ -2,12 +2,12 @@
 //! line, or the field that failed; and for anything else one line per element.
 #![tactic(auto)]
 
-use der_views::run_arguments;
+use der_show_lib::run_show;
 use std::env;
 use std::process::ExitCode;
 
 // No clause can name the arguments that the system passes; the recorded run checks that they reach
 // the program.
 fn main(rt: HostRuntime) -> ExitCode {
-    ExitCode::from(run_arguments(&rt, env::args(&rt), &mut rt.stdout()))
+    ExitCode::from(run_show(&rt, env::args(&rt), &mut rt.stdout()))
 }

@@ -11,7 +11,7 @@ mod order_cases;
 mod tlv_cases;
 mod writers;
 
-use der_answers::run;
+use der_tool_lib::run;
 use std::alloc::{AllocError, Global};
 use std::process::Abort;
 use std::test::Fail;
@@ -39,7 +39,7 @@ fn replay(rt: &(impl Abort + AllocGlobal), rows: &[(&str, u8, &str)]) -> Result<
 }
 
 #[test]
-fn tells_a_header(rt: HostRuntime) -> Result<(), Fail> {
+fn prints_a_header(rt: HostRuntime) -> Result<(), Fail> {
     let rows = [
         (
             "head 02012A00",
@@ -99,7 +99,7 @@ fn refuses_what_begins_with_no_header(rt: HostRuntime) -> Result<(), Fail> {
 }
 
 #[test]
-fn tells_an_element(rt: HostRuntime) -> Result<(), Fail> {
+fn prints_an_element(rt: HostRuntime) -> Result<(), Fail> {
     let rows = [
         ("tlv 30020500FF", 0, "30020500\n"),
         ("tlv 02012A00", 0, "02012a\n"),
@@ -133,7 +133,7 @@ fn refuses_what_begins_with_no_element(rt: HostRuntime) -> Result<(), Fail> {
 
 // Only ASCII digits count, in pairs.
 #[test]
-fn tells_the_usage_of_other_words(rt: HostRuntime) -> Result<(), Fail> {
+fn prints_the_usage_of_other_words(rt: HostRuntime) -> Result<(), Fail> {
     let lines = [
         "",
         "head",

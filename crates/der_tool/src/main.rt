@@ -2,12 +2,12 @@
 //! order of two elements, or the joined segments of an OCTET STRING.
 #![tactic(auto)]
 
-use der_answers::run_arguments;
+use der_tool_lib::run_tool;
 use std::env;
 use std::process::ExitCode;
 
 // No clause can name the arguments that the system passes; the recorded run checks that they reach
 // the program.
 fn main(rt: HostRuntime) -> ExitCode {
-    ExitCode::from(run_arguments(rt.alloc(), env::args(&rt), &mut rt.stdout()))
+    ExitCode::from(run_tool(rt.alloc(), env::args(&rt), &mut rt.stdout()))
 }

@@ -12,7 +12,7 @@ use Rattle.der.specs.ErrorKinds.{Overflow}
 use Rattle.der.proofs.OrderLemmas.{less_from_before}
 use Rattle.der.specs.BorrowedOctets.{borrowed_octets}
 use Rattle.der.specs.declared.example.borrowed_octets.BorrowedOctets.{BorrowedOctets}
-use Rattle.der_uses.specs.SetOf.{string_octets, octets_of, joined_strings, Ascend}
+use Rattle.der_uses.specs.AscendingStrings.{string_octets, octets_of, joined_strings, StringsAscend}
 
 -- the encoding of an OCTET STRING has a header and its octets
 pub string_count : (octets : List ℕ) → element_count OctetString (length octets) ≡ length (string_octets octets)
@@ -52,7 +52,7 @@ abbrev pub is_before : BorrowedOctets → BorrowedOctets → Bool
 is_before a b = is_lt (byte_order (string_octets (borrowed_octets a)) (string_octets (borrowed_octets b)))
 
 -- sorted elements ascend
-pub ascends : (xs : List BorrowedOctets) → IsSortedBy is_before xs → Ascend (octets_of xs)
+pub ascends : (xs : List BorrowedOctets) → IsSortedBy is_before xs → StringsAscend (octets_of xs)
 ascends [] up = tt
 ascends (x ∷ []) up = tt
 ascends (x ∷ y ∷ more) up = (

@@ -1,4 +1,4 @@
-pub mod Lent
+pub mod MyOctets
 pub mod AlgorithmIdentifier
 pub mod KeyInfo
 pub mod SetOf

@@ -3,7 +3,7 @@ ghost use Rattle.std.specs.Prelude.{◌≡◌, false};
 ghost use Rattle.der.specs.Prelude.{Sequence};
 ghost use Rattle.der_uses.specs.AlgorithmIdentifier.{IsAlgorithm, TakesAlgorithm, AlgorithmRead, algorithm_contents, algorithm_levels, algorithm_size, AlgorithmWritten, algorithm_lawful};
 
-use crate::lent::Lent;
+use crate::my_octets::MyOctets;
 use der::example::MyByteMonth;
 use der::{
     DecodeValue, Encode, EncodeRef, EncodeValue, Error, FixedTag, Header, Lawful, Length,
@@ -15,7 +15,7 @@ use std::alloc::Global;
 #[derive(Clone, Copy)]
 pub struct AlgorithmIdentifier<'a> {
     /// The algorithm, borrowed from the input.
-    pub algorithm: Lent<'a>,
+    pub algorithm: MyOctets<'a>,
     /// Its parameter.
     pub month: MyByteMonth,
 }
@@ -41,16 +41,16 @@ impl<'a> ReadValue for AlgorithmIdentifier<'a> {
 
     ghost allocates = { false };
 
-    ghost takes_valid = { λ v rules h octets taken. (tt, taken.behind.taken.0) };
+    ghost takes_valid = { λ v rules h octets taken. (tt, taken.following.taken.0) };
 }
 
-impl<'a, R: Reader<Lent = &'a [u8]>> DecodeValue<R> for AlgorithmIdentifier<'a> {
+impl<'a, R: Reader<Borrowed = &'a [u8]>> DecodeValue<R> for AlgorithmIdentifier<'a> {
     type Error = Error;
 
     ghost decode_value_answers = { AlgorithmRead };
 
     fn decode_value(alloc: Global, reader: &mut R, header: Header) -> Result<Self, Error> {
-        let (algorithm, month) = decode_contents::<R, (Lent<'a>, MyByteMonth)>(
+        let (algorithm, month) = decode_contents::<R, (MyOctets<'a>, MyByteMonth)>(
             alloc, reader, header,
         )?;
         Ok(AlgorithmIdentifier { algorithm, month })

@@ -9,7 +9,7 @@ use der::{BytesRef, DecodeBytes, Error, StringOwned};
 use std::alloc::Global;
 
 /// The octets of an OCTET STRING, which borrow from the input.
-pub fn lent_octets(alloc: Global, octets: &[u8]) -> Result<BytesRef<'_>, Error>
+pub fn borrowed_octets_of(alloc: Global, octets: &[u8]) -> Result<BytesRef<'_>, Error>
     ensures { IfOk result (λ b. octets.now ≡ element_octets OctetString (reference_octets b)) }
 {
     let field = BorrowedOctets::from_der(alloc, octets)?;

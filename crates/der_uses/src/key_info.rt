@@ -4,7 +4,7 @@ ghost use Rattle.der.specs.Prelude.{Sequence, element_octets};
 ghost use Rattle.der_uses.specs.KeyInfo.{IsKeyInfo, TakesKeyInfo, KeyInfoRead, key_info_contents, key_info_levels, key_info_size, KeyInfoWritten, key_info_lawful};
 
 use crate::algorithm_identifier::AlgorithmIdentifier;
-use crate::lent::Lent;
+use crate::my_octets::MyOctets;
 use der::{
     DecodeBytes, DecodeValue, Encode, EncodeRef, EncodeValue, Error, FixedTag, Header, Lawful,
     Length, ReadValue, Reader, Tag, Writer, WrittenValue, decode_contents,
@@ -17,7 +17,7 @@ pub struct KeyInfo<'a> {
     /// What it is for.
     pub algorithm: AlgorithmIdentifier<'a>,
     /// The key, borrowed from the input.
-    pub key: Lent<'a>,
+    pub key: MyOctets<'a>,
 }
 
 impl<'a> FixedTag for KeyInfo<'a> {
@@ -42,16 +42,16 @@ impl<'a> ReadValue for KeyInfo<'a> {
     ghost allocates = { false };
 
     ghost takes_valid = { λ v rules h octets taken.
-        ((tt, taken.ahead.taken.behind.taken.0), tt) };
+        ((tt, taken.next.taken.following.taken.0), tt) };
 }
 
-impl<'a, R: Reader<Lent = &'a [u8]>> DecodeValue<R> for KeyInfo<'a> {
+impl<'a, R: Reader<Borrowed = &'a [u8]>> DecodeValue<R> for KeyInfo<'a> {
     type Error = Error;
 
     ghost decode_value_answers = { KeyInfoRead };
 
     fn decode_value(alloc: Global, reader: &mut R, header: Header) -> Result<Self, Error> {
-        let (algorithm, key) = decode_contents::<R, (AlgorithmIdentifier<'a>, Lent<'a>)>(
+        let (algorithm, key) = decode_contents::<R, (AlgorithmIdentifier<'a>, MyOctets<'a>)>(
             alloc, reader, header,
         )?;
         Ok(KeyInfo { algorithm, key })

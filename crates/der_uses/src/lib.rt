@@ -6,8 +6,8 @@ pub mod contents;
 pub mod fields;
 pub mod front;
 pub mod key_info;
-pub mod lent;
 pub mod message;
+pub mod my_octets;
 pub mod nested;
 pub mod public_key;
 #[cfg(test)]

@@ -1,6 +1,6 @@
 //! A message under the Basic Encoding Rules.
 ghost use Rattle.std.specs.Prelude.{◌≡◌, ℕ, ◌+◌, ◌/◌, ◌≤◌, length, take, drop, IfOk};
-ghost use Rattle.der.specs.Prelude.{HeadAhead, number, Ber, head_of};
+ghost use Rattle.der.specs.Prelude.{HeadNext, number, Ber, head_of};
 
 use der::{
     EncodingRules, Error, Header, Length, Reader, ReaderExt, SliceReader, Turns, decode_header,
@@ -10,7 +10,7 @@ use std::sync::ledger::Ledger;
 /// The header at the front of a message, and the contents that follow it. Contents of an indefinite
 /// length include their end-of-contents octets.
 pub fn first_message(octets: &[u8]) -> Result<(Header, &[u8]), Error>
-    ensures { IfOk result (λ p. (m : ℕ) × HeadAhead (head_of p.0) Ber octets.now m
+    ensures { IfOk result (λ p. (m : ℕ) × HeadNext (head_of p.0) Ber octets.now m
         × (p.1.now ≡ take (number (head_of p.0).length) (drop m octets.now))) }
 {
     let mut reader = SliceReader::new_with_encoding_rules(octets, EncodingRules::Ber)?;

@@ -28,7 +28,7 @@ fn read_fields<'a>(reader: &mut SliceReader<'a>) -> Result<PublicKey<'a>, Error>
     ensures { Same (slice_state reader.old) (slice_state reader.new) }
 {
     let (algorithm, parameters) = reader.sequence(read_algorithm)?;
-    let bits = read_contents(reader, Tag::BitString)?;
+    let bits = read_tagged_contents(reader, Tag::BitString)?;
     // The first octet is the number of unused bits in the last octet (X.690 8.6.2); a key has none.
     match bits.split_first() {
         Some((0, key)) => Ok(PublicKey {
@@ -44,7 +44,7 @@ fn read_fields<'a>(reader: &mut SliceReader<'a>) -> Result<PublicKey<'a>, Error>
 fn read_algorithm<'a>(reader: &mut SliceReader<'a>) -> Result<(&'a [u8], Option<&'a [u8]>), Error>
     ensures { Same (slice_state reader.old) (slice_state reader.new) }
 {
-    let algorithm = read_contents(reader, Tag::ObjectIdentifier)?;
+    let algorithm = read_tagged_contents(reader, Tag::ObjectIdentifier)?;
     if reader.is_finished() {
         return Ok((algorithm, None));
     }
@@ -53,7 +53,7 @@ fn read_algorithm<'a>(reader: &mut SliceReader<'a>) -> Result<(&'a [u8], Option<
 }
 
 // The contents of the next element, which must have this tag.
-fn read_contents<'a>(reader: &mut SliceReader<'a>, tag: Tag) -> Result<&'a [u8], Error>
+fn read_tagged_contents<'a>(reader: &mut SliceReader<'a>, tag: Tag) -> Result<&'a [u8], Error>
     ensures { Same (slice_state reader.old) (slice_state reader.new) }
 {
     let header = decode_header(reader)?;

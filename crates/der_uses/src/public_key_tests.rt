@@ -10,7 +10,7 @@ static KEY: [u8; 44] = [
 ];
 
 #[test]
-fn a_public_key_is_lent_by_its_octets(rt: HostRuntime) {
+fn a_public_key_is_borrowed_by_its_octets(rt: HostRuntime) {
     let key = PublicKey {
         algorithm: &[0x2B, 0x65, 0x70],
         parameters: None,

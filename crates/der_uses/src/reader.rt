@@ -57,7 +57,7 @@ impl<'a> CopyingReader<'a> {
 impl<'a> Reader for CopyingReader<'a> {
     ghost use Rattle.std.proofs.Common.{rules};
 
-    type Lent = &'a [u8];
+    type Borrowed = &'a [u8];
 
     // its state is that of the inner reader
     ghost state = { λ r. slice_state r.inner };
@@ -65,11 +65,11 @@ impl<'a> Reader for CopyingReader<'a> {
     // it promises nothing beyond its clauses, so it may fail where no spec says so
     ghost reliable = { false };
 
-    ghost lends = { false };
+    ghost reads_slices = { false };
 
     const CAN_READ_SLICE: bool = false;
 
-    fn can_lend() -> bool
+    fn can_read_slice() -> bool
         ensures { result ≡ false }
     {
         Self::CAN_READ_SLICE
@@ -157,8 +157,8 @@ impl<'a> Reader for CopyingReader<'a> {
       in_input = r.inner.in_input;
       addressable = r.inner.addressable;
       shallow = r.inner.shallow;
-      marked = λ failed. Prim.search rules;
+      failure_kept = λ failed. Prim.search rules;
     } };
 
-    ghost lending = { λ reliable. Prim.search rules };
+    ghost reading_slices = { λ reliable. Prim.search rules };
 }

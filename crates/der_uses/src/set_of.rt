@@ -3,7 +3,7 @@ ghost use Rattle.std.specs.Prelude.{◌≡◌, ◌+◌, ◌++◌, ◌^◌, ◌<�
 ghost use Rattle.der.specs.Prelude.{checked_length, error_at, error_of_kind, header_octets, number, IsBefore, byte_order, Set, map_ok, Reads, Same, reader_position, rest_of, slice_state};
 ghost use Rattle.der.specs.ErrorKinds.{Overflow, OutOfMemory, SetOrdering};
 ghost use Rattle.der.specs.BorrowedOctets.{borrowed_octets};
-ghost use Rattle.der_uses.specs.SetOf.{string_octets, octets_of, joined_strings, set_octets, Ascend, IsReady, MayFollow, OrderAnswer, PassesStrings, ReadsAscending};
+ghost use Rattle.der_uses.specs.AscendingStrings.{string_octets, octets_of, joined_strings, set_octets, StringsAscend, IsReady, MayFollow, OrderAnswer, PassesStrings, ReadsAscending};
 
 use der::example::BorrowedOctets;
 use der::{
@@ -21,7 +21,7 @@ use std::cmp::Ordering;
 /// - `OutOfMemory` without a position if an allocation fails.
 pub fn set_of_der(alloc: Global, elements: &mut [BorrowedOctets<'_>]) -> Result<Vec<u8>, Error>
     ensures same { IsPermutation elements.old elements.new }
-    ensures sorted { Ascend (octets_of elements.new) }
+    ensures sorted { StringsAscend (octets_of elements.new) }
     ensures ok { IfOk result (λ v. v.items ≡ set_octets (octets_of elements.new)) }
     ensures succeeds { length (joined_strings (octets_of elements.old)) < 2 ^ 32
         → IsOk result ⊎ IsErrAnd result (λ e. e ≡ error_of_kind OutOfMemory) }
@@ -98,7 +98,7 @@ fn write_all(elements: &[BorrowedOctets<'_>], out: &mut Vec<u8>) -> Result<(), E
 ///   (X.690 11.6); equal ones may follow each other.
 /// - `TrailingData` at the position after the SET if octets are left.
 pub fn set_of_contents(alloc: Global, octets: &[u8]) -> Result<&[u8], Error>
-    ensures ok { IfOk result (λ r. (strings : List (List ℕ)) × Ascend strings
+    ensures ok { IfOk result (λ r. (strings : List (List ℕ)) × StringsAscend strings
         × (octets.now ≡ set_octets strings) × (r.now ≡ joined_strings strings)) }
     ensures exact { (strings : List (List ℕ)) → length octets.now < 2 ^ 32
         → octets.now ≡ set_octets strings
@@ -153,34 +153,34 @@ fn pass_elements(alloc: Global, reader: &mut SliceReader<'_>) -> Result<(), Erro
     if reader.is_finished() {
         return Ok(());
     }
-    let mut ahead = next_element(alloc, reader)?;
+    let mut next = next_element(alloc, reader)?;
     while !reader.is_finished() {
-        ahead = next_behind(alloc, reader, &ahead)?;
+        next = next_ascending(alloc, reader, &next)?;
     }
     Ok(())
 }
 
 // The next element, which must not come before the preceding one.
 #[inline(always)]
-fn next_behind<'a>(
+fn next_ascending<'a>(
     alloc: Global,
     reader: &mut SliceReader<'a>,
-    ahead: &BorrowedOctets<'a>,
+    next: &BorrowedOctets<'a>,
 ) -> Result<BorrowedOctets<'a>, Error>
     requires { IsReady 1 (slice_state reader.old) }
     ensures same { Same (slice_state reader.old) (slice_state reader.new) }
     ensures ok { IfOk result (λ v. Reads (slice_state reader.old) (slice_state reader.new)
         (string_octets (borrowed_octets v))
-        × MayFollow (borrowed_octets ahead.now) (borrowed_octets v)) }
+        × MayFollow (borrowed_octets next.now) (borrowed_octets v)) }
     ensures exact { (x more : List ℕ)
         → rest_of (slice_state reader.old) ≡ string_octets x ++ more
         → IsOk result
-        ⊎ (IsBefore (string_octets x) (string_octets (borrowed_octets ahead.now))
+        ⊎ (IsBefore (string_octets x) (string_octets (borrowed_octets next.now))
         × (result ≡ Err (error_at SetOrdering (reader_position (slice_state reader.old))))) }
 {
     let begins = reader.position();
     let element = next_element(alloc, reader)?;
-    match encoding_order(&element, ahead) {
+    match encoding_order(&element, next) {
         Ordering::Less => Err(ErrorKind::SetOrdering.at(begins)),
         _ => Ok(element),
     }

@@ -1,7 +1,7 @@
 //! A user-defined type with just three values: a version, as an INTEGER of one octet.
 ghost use Rattle.std.specs.Prelude.{◌≡◌, false};
 ghost use Rattle.der.specs.Prelude.{Integer};
-ghost use Rattle.der_uses.specs.Version.{IsVersion, TakesVersion, VersionRead, VersionWritten, version_contents, version_lawful, version_number, version_size};
+ghost use Rattle.der_uses.specs.VersionOctet.{IsVersion, TakesVersion, VersionRead, VersionWritten, version_contents, version_lawful, octet_of_version, version_size};
 
 use der::{
     DecodeValue, EncodeValue, Error, FixedTag, Header, Lawful, Length, ReadValue, Reader,
@@ -23,7 +23,7 @@ pub enum Version {
 impl Version {
     /// The number that is written.
     pub fn number(self) -> u8
-        ensures { result ≡ version_number self }
+        ensures { result ≡ octet_of_version self }
     {
         match self {
             Version::V1 => 0,

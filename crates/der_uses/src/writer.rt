@@ -16,7 +16,7 @@ impl Writer for Collected {
     // counts as failed, which promises nothing about what fits.
     ghost state = { λ w. record {
       octets = w.octets.items;
-      behind = [];
+      following = [];
       start = 0;
       stop = 0;
       capacity = 0;

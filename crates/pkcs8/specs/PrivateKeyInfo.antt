@@ -3,10 +3,10 @@ use Rattle.std.specs.Prelude.{◌≡◌, ℕ, List, [], ◌∷◌, IsSome}
 use Rattle.pkcs8.specs.declared.private_key_info.PrivateKeyInfo.{PrivateKeyInfo}
 
 -- 0 for version 1, 1 for version 2
-abbrev pub version_number : List ℕ → ℕ
-version_number [] = 0
-version_number (o ∷ os) = o
+abbrev pub private_key_version_number : List ℕ → ℕ
+private_key_version_number [] = 0
+private_key_version_number (o ∷ os) = o
 
 -- a public key is present only in version 2
-abbrev pub HasFieldsOfVersion : PrivateKeyInfo → Type 0
-HasFieldsOfVersion v = IsSome v.public_key.0 → version_number v.version.octets.now ≡ 1
+abbrev pub MatchesPrivateKeyVersion : PrivateKeyInfo → Type 0
+MatchesPrivateKeyVersion v = IsSome v.public_key.0 → private_key_version_number v.version.octets.now ≡ 1

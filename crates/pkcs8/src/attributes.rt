@@ -5,15 +5,15 @@ ghost use Rattle.der.specs.Prelude.{Set};
 ghost use Rattle.der_asn1.specs.Forms.{octets_form};
 
 use der::{FixedTag, Tag};
-use der_asn1::{Checked, Form};
+use der_asn1::{Checked, ContentsGrammar};
 
 /// Contents of the attributes: any octets.
-pub struct AttributesForm;
+pub struct PrivateKeyAttributesGrammar;
 
 /// The attributes of a private key, borrowed from the input as octets that are not checked.
-pub type Attributes<'a> = Checked<'a, AttributesForm>;
+pub type PrivateKeyAttributes<'a> = Checked<'a, PrivateKeyAttributesGrammar>;
 
-impl FixedTag for AttributesForm {
+impl FixedTag for PrivateKeyAttributesGrammar {
     ghost tag_is = { Set };
 
     const TAG: Tag = Tag::Set;
@@ -25,10 +25,10 @@ impl FixedTag for AttributesForm {
     }
 }
 
-impl Form for AttributesForm {
-    ghost form = { octets_form };
+impl ContentsGrammar for PrivateKeyAttributesGrammar {
+    ghost grammar = { octets_form };
 
-    fn has_form(_octets: &[u8]) -> bool {
+    fn matches_grammar(_octets: &[u8]) -> bool {
         true
     }
 

@@ -1,6 +1,6 @@
 //! Checks of a private key that decoding does not make.
 ghost use Rattle.std.specs.Prelude.{◌≡◌, ◌↔◌, true};
-ghost use Rattle.pkcs8.specs.PrivateKeyInfo.{HasFieldsOfVersion};
+ghost use Rattle.pkcs8.specs.PrivateKeyInfo.{MatchesPrivateKeyVersion};
 
 use crate::private_key_info::PrivateKeyInfo;
 
@@ -8,7 +8,7 @@ impl PrivateKeyInfo<'_> {
     /// Whether a public key is present only in version 2 (RFC 5958, 2). Decoding does not check
     /// this.
     pub fn has_fields_of_version(&self) -> bool
-        ensures { (result ≡ true) ↔ HasFieldsOfVersion self.now }
+        ensures { (result ≡ true) ↔ MatchesPrivateKeyVersion self.now }
     {
         match self.version.octets() {
             [1, ..] => true,

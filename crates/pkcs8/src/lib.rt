@@ -7,6 +7,6 @@ mod checks;
 mod private_key_info;
 mod version;
 
-pub use attributes::{Attributes, AttributesForm};
+pub use attributes::{PrivateKeyAttributes, PrivateKeyAttributesGrammar};
 pub use private_key_info::{PrivateKeyInfo, PrivateKeyInfoFields};
-pub use version::{Version, VersionForm};
+pub use version::{PrivateKeyVersionGrammar, Version};

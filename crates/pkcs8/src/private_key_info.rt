@@ -4,7 +4,7 @@ ghost use Rattle.std.proofs.Common.{refl};
 ghost use Rattle.der.specs.Prelude.{Sequence, map_ok};
 ghost use Rattle.der_asn1.specs.Meaning.{alternative, field, optional, sequence, two_fields};
 
-use crate::attributes::Attributes;
+use crate::attributes::PrivateKeyAttributes;
 use crate::version::Version;
 use der::{
     Decode, DecodeValue, Encode, EncodeRef, EncodeValue, Error, FixedTag, Header, Lawful, Length,
@@ -24,7 +24,7 @@ pub struct PrivateKeyInfo<'a> {
     /// The key, in a format given by its algorithm; its octets are not checked.
     pub private_key: OctetStringRef<'a>,
     /// Further information about the key.
-    pub attributes: Optional<Implicit<Attributes<'a>, 0>>,
+    pub attributes: Optional<Implicit<PrivateKeyAttributes<'a>, 0>>,
     /// The public key, in version 2.
     pub public_key: Optional<Implicit<BitStringRef<'a>, 1>>,
 }
@@ -33,7 +33,10 @@ pub struct PrivateKeyInfo<'a> {
 pub type PrivateKeyInfoFields<'a> = (
     (Version<'a>, AlgorithmIdentifierRef<'a>),
     (
-        (OctetStringRef<'a>, Optional<Implicit<Attributes<'a>, 0>>),
+        (
+            OctetStringRef<'a>,
+            Optional<Implicit<PrivateKeyAttributes<'a>, 0>>,
+        ),
         Optional<Implicit<BitStringRef<'a>, 1>>,
     ),
 );
@@ -43,7 +46,7 @@ impl<'a> Described for PrivateKeyInfo<'a> {
         ⟦<Version<'a> as Described>⟧.element))
         (field (alternative ⟦<AlgorithmIdentifierRef<'a> as Described>⟧.element)))
         (two_fields (two_fields (field (alternative ⟦<OctetStringRef<'a> as Described>⟧.element))
-        (optional (alternative ⟦<Implicit<Attributes<'a>, 0> as Described>⟧.element)))
+        (optional (alternative ⟦<Implicit<PrivateKeyAttributes<'a>, 0> as Described>⟧.element)))
         (optional (alternative ⟦<Implicit<BitStringRef<'a>, 1> as Described>⟧.element))))
         (λ v. ((v.version, v.private_key_algorithm), ((v.private_key, v.attributes), v.public_key))) };
 }
@@ -75,7 +78,7 @@ impl<'a> ReadValue for PrivateKeyInfo<'a> {
 /// # Errors
 ///
 /// Those of the fields, in sequence.
-impl<'a, R: Reader<Lent = &'a [u8]>> DecodeValue<R> for PrivateKeyInfo<'a> {
+impl<'a, R: Reader<Borrowed = &'a [u8]>> DecodeValue<R> for PrivateKeyInfo<'a> {
     type Error = Error;
 
     ghost decode_value_answers = { λ h s result t.
@@ -105,7 +108,7 @@ impl<'a, R: Reader<Lent = &'a [u8]>> DecodeValue<R> for PrivateKeyInfo<'a> {
         <AlgorithmIdentifierRef<'a> as DecodeValue<R>>::is_value(&self.private_key_algorithm);
         <OctetStringRef<'a> as DecodeValue<R>>::is_value(&self.private_key);
         if let Some(value) = &self.attributes.0 {
-            <Implicit<Attributes<'a>, 0> as DecodeValue<R>>::is_value(value);
+            <Implicit<PrivateKeyAttributes<'a>, 0> as DecodeValue<R>>::is_value(value);
         }
         if let Some(value) = &self.public_key.0 {
             <Implicit<BitStringRef<'a>, 1> as DecodeValue<R>>::is_value(value);

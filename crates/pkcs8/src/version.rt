@@ -2,18 +2,18 @@
 ghost use Rattle.std.specs.Prelude.{◌≡◌};
 ghost use Rattle.std.proofs.Common.{arith};
 ghost use Rattle.der.specs.Prelude.{Integer};
-ghost use Rattle.pkcs8.specs.Version.{version_form};
+ghost use Rattle.pkcs8.specs.PrivateKeyVersion.{is_private_key_version};
 
 use der::{FixedTag, Tag};
-use der_asn1::{Checked, Form};
+use der_asn1::{Checked, ContentsGrammar};
 
 /// Contents of a version: 0 for version 1, 1 for version 2.
-pub struct VersionForm;
+pub struct PrivateKeyVersionGrammar;
 
 /// The version of a private key, borrowed from the input.
-pub type Version<'a> = Checked<'a, VersionForm>;
+pub type Version<'a> = Checked<'a, PrivateKeyVersionGrammar>;
 
-impl FixedTag for VersionForm {
+impl FixedTag for PrivateKeyVersionGrammar {
     ghost tag_is = { Integer };
 
     const TAG: Tag = Tag::Integer;
@@ -25,10 +25,10 @@ impl FixedTag for VersionForm {
     }
 }
 
-impl Form for VersionForm {
-    ghost form = { version_form };
+impl ContentsGrammar for PrivateKeyVersionGrammar {
+    ghost grammar = { is_private_key_version };
 
-    fn has_form(octets: &[u8]) -> bool {
+    fn matches_grammar(octets: &[u8]) -> bool {
         match octets {
             [octet] => *octet < 2,
             _ => false,

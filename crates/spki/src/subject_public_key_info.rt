@@ -58,7 +58,7 @@ impl<'a> ReadValue for SubjectPublicKeyInfoRef<'a> {
 /// # Errors
 ///
 /// Those of the fields, in sequence.
-impl<'a, R: Reader<Lent = &'a [u8]>> DecodeValue<R> for SubjectPublicKeyInfoRef<'a> {
+impl<'a, R: Reader<Borrowed = &'a [u8]>> DecodeValue<R> for SubjectPublicKeyInfoRef<'a> {
     type Error = Error;
 
     ghost decode_value_answers = { λ h s result t.

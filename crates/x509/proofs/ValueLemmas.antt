@@ -8,18 +8,18 @@ use Rattle.der.specs.LawfulLemmas.{passed_encodings}
 use Rattle.der.proofs.DecodeLemmas.{lacks_only, read_on, rest-beginning}
 use Rattle.der.proofs.DelimitedLemmas.{element_front, elements_delimited}
 use Rattle.der.proofs.StateLemmas.{length-rest}
-use Rattle.der_asn1.specs.AnyElement.{AnyElementAhead}
+use Rattle.der_asn1.specs.AnyElement.{AnyElementNext}
 use Rattle.der_asn1.specs.AnyElementLemmas.{choices_are_encodings}
 use Rattle.der_asn1.specs.AnyRef.{IsAny, TakesAny, any_contents, any_lawful}
 use Rattle.der_asn1.specs.SequenceOf.{AllValid, IsAtItem, IsListOf, joined_encodings}
-use Rattle.der_asn1.specs.SetOf.{Ascend, IsSetBehind}
+use Rattle.der_asn1.specs.SetOf.{EncodingsAscendAfter, IsSetAfter}
 use Rattle.der_asn1.specs.declared.any.AnyRef.{AnyRef}
 use Rattle.der_asn1.proofs.OptionalReadLemmas.{rest_at_end}
 use Rattle.der_asn1.proofs.SequenceOfLemmas.{IsCons, still_at_item, uncons}
 use Rattle.x509.specs.AttributeValues.{AreValues, IsValue, value_octets}
 
 -- an element that was read
-pub value_passed : (s t : ReaderState) (v : AnyRef) → IsAtItem s → Passes (AnyElementAhead TakesAny v) s t → IsAny v × Reads s t (value_octets v)
+pub value_passed : (s t : ReaderState) (v : AnyRef) → IsAtItem s → Passes (AnyElementNext TakesAny v) s t → IsAny v × Reads s t (value_octets v)
 value_passed s t v at passed = passed_encodings (choices_are_encodings any_lawful) s t v at.der passed
 
 module _ (s : ReaderState) (sound : IsSound s) (at : IsAtItem s) (l : IsListOf IsAny value_octets (rest_of s)) (some : rest_of s ≡ [] → ⊥) where
@@ -27,23 +27,23 @@ module _ (s : ReaderState) (sound : IsSound s) (at : IsAtItem s) (l : IsListOf I
   first = uncons l some
 
   -- the first element of the list is next
-  value_ahead : AnyElementAhead TakesAny first.first s.rules (rest_of s) (length (value_octets first.first))
-  value_ahead =
-      subst (λ r. AnyElementAhead TakesAny first.first r (rest_of s) (length (value_octets first.first))) (sym at.der)
-      ((choices_are_encodings any_lawful).every (rest_of s) first.first (length (value_octets first.first)) (omega (arith, length-rest s sound, sound.in_input, sound.addressable)) (record { is_valid = first.is_valid; behind = first.others; split = first.split; whole = refl }))
+  value_next : AnyElementNext TakesAny first.first s.rules (rest_of s) (length (value_octets first.first))
+  value_next =
+      subst (λ r. AnyElementNext TakesAny first.first r (rest_of s) (length (value_octets first.first))) (sym at.der)
+      ((choices_are_encodings any_lawful).every (rest_of s) first.first (length (value_octets first.first)) (omega (arith, length-rest s sound, sound.in_input, sound.addressable)) (record { is_valid = first.is_valid; following = first.others; split = first.split; whole = refl }))
 
   deep_enough : s.depth + element_levels (λ _. 0) s.rules ≤ 64
   deep_enough = omega (arith, at.outside, ap (element_levels (λ _. 0)) at.der)
 
   -- so reading it does not fail, nor does the reader
-  pub value_not_refused : (oom : Error → Bool) (t : ReaderState) (e : Error) → ((v : AnyRef) (m : ℕ) → s.failed ≡ false → AnyElementAhead TakesAny v s.rules (rest_of s) m → s.depth + element_levels (λ _. 0) s.rules ≤ 64 → ReadsOrLacks {A = AnyRef} oom false s m (Err e) t) → ⊥
+  pub value_not_refused : (oom : Error → Bool) (t : ReaderState) (e : Error) → ((v : AnyRef) (m : ℕ) → s.failed ≡ false → AnyElementNext TakesAny v s.rules (rest_of s) m → s.depth + element_levels (λ _. 0) s.rules ≤ 64 → ReadsOrLacks {A = AnyRef} oom false s m (Err e) t) → ⊥
   value_not_refused oom t e owed =
-      let lacks = lacks_only AnyRef oom s t (length (value_octets first.first)) (owed first.first (length (value_octets first.first)) at.working value_ahead deep_enough) in
+      let lacks = lacks_only AnyRef oom s t (length (value_octets first.first)) (owed first.first (length (value_octets first.first)) at.working value_next deep_enough) in
       (let no : false ≡ true = lacks.0 in cc)
 
-  pub value_working : (oom : Error → Bool) (t : ReaderState) (a : AnyRef) → ((v : AnyRef) (m : ℕ) → s.failed ≡ false → AnyElementAhead TakesAny v s.rules (rest_of s) m → s.depth + element_levels (λ _. 0) s.rules ≤ 64 → ReadsOrLacks oom false s m (Ok a) t) → t.failed ≡ false
+  pub value_working : (oom : Error → Bool) (t : ReaderState) (a : AnyRef) → ((v : AnyRef) (m : ℕ) → s.failed ≡ false → AnyElementNext TakesAny v s.rules (rest_of s) m → s.depth + element_levels (λ _. 0) s.rules ≤ 64 → ReadsOrLacks oom false s m (Ok a) t) → t.failed ≡ false
   value_working oom t a owed =
-      let there : t ≡ advanced_state s (length (value_octets first.first)) = read_on Error oom s (length (value_octets first.first)) a (owed first.first (length (value_octets first.first)) at.working value_ahead deep_enough) in
+      let there : t ≡ advanced_state s (length (value_octets first.first)) = read_on Error oom s (length (value_octets first.first)) a (owed first.first (length (value_octets first.first)) at.working value_next deep_enough) in
       ap (λ (x : ReaderState). x.failed) there ∙ at.working
 
 no_front : (a b : List ℕ) → a ++ b ≡ [] → a ≡ []
@@ -51,56 +51,56 @@ no_front [] b e = refl
 no_front (o ∷ a) b e = absurd (let size : length (o ∷ (a ++ b)) ≡ 0 = ap length e in omega arith)
 
 -- the first element of a set, and the rest
-pub record IsStep (ahead element behind : List ℕ) : Type 0 where
-  pub in_order : IsBefore element ahead → ⊥
-  pub behind_it : IsSetBehind IsAny value_octets element behind
+pub record IsStep (next element following : List ℕ) : Type 0 where
+  pub in_order : IsBefore element next → ⊥
+  pub after_it : IsSetAfter IsAny value_octets element following
 
-set_step : (ahead octets element behind : List ℕ) → IsSetBehind IsAny value_octets ahead octets → IsValue element → octets ≡ element ++ behind → IsStep ahead element behind
-set_step ahead octets element behind s is split = go s.list.items s.list.are_valid s.list.joined s.ascend
+set_step : (next octets element following : List ℕ) → IsSetAfter IsAny value_octets next octets → IsValue element → octets ≡ element ++ following → IsStep next element following
+set_step next octets element following s is split = go s.list.items s.list.are_valid s.list.joined s.ascend
   where
-    go : (items : List AnyRef) → AllValid IsAny items → octets ≡ joined_encodings value_octets items → Ascend value_octets ahead items → IsStep ahead element behind
-    go [] are e up = absurd ((elements_delimited (λ (v : AnyRef). v.tag) any_contents).some is.value (no_front (value_octets is.value) behind (ap (λ x. x ++ behind) (sym is.whole) ∙ sym split ∙ e)))
+    go : (items : List AnyRef) → AllValid IsAny items → octets ≡ joined_encodings value_octets items → EncodingsAscendAfter value_octets next items → IsStep next element following
+    go [] are e up = absurd ((elements_delimited (λ (v : AnyRef). v.tag) any_contents).some is.value (no_front (value_octets is.value) following (ap (λ x. x ++ following) (sym is.whole) ∙ sym split ∙ e)))
     go (w ∷ ws) are e up =
-        let front = element_front is.value.tag w.tag (any_contents is.value) (any_contents w) behind (joined_encodings value_octets ws) (ap (λ x. x ++ behind) (sym is.whole) ∙ sym split ∙ e) in
+        let front = element_front is.value.tag w.tag (any_contents is.value) (any_contents w) following (joined_encodings value_octets ws) (ap (λ x. x ++ following) (sym is.whole) ∙ sym split ∙ e) in
         let same : value_octets w ≡ element = ap (λ t. element_octets t (any_contents w)) (sym front.0) ∙ ap (element_octets is.value.tag) (sym front.1) ∙ sym is.whole in
         record {
-          in_order = subst (λ x. IsBefore x ahead → ⊥) same up.0;
-          behind_it = record { list = record { items = ws; are_valid = are.1; joined = front.2 }; ascend = subst (λ x. Ascend value_octets x ws) same up.1 };
+          in_order = subst (λ x. IsBefore x next → ⊥) same up.0;
+          after_it = record { list = record { items = ws; are_valid = are.1; joined = front.2 }; ascend = subst (λ x. EncodingsAscendAfter value_octets x ws) same up.1 };
         }
 
-set_cons : (ahead octets element behind : List ℕ) → IsValue element → octets ≡ element ++ behind → (IsBefore element ahead → ⊥) → IsSetBehind IsAny value_octets element behind → IsSetBehind IsAny value_octets ahead octets
-set_cons ahead octets element behind is split order s =
+set_cons : (next octets element following : List ℕ) → IsValue element → octets ≡ element ++ following → (IsBefore element next → ⊥) → IsSetAfter IsAny value_octets element following → IsSetAfter IsAny value_octets next octets
+set_cons next octets element following is split order s =
     record {
-      list = record { items = is.value ∷ s.list.items; are_valid = (is.is_valid, s.list.are_valid); joined = split ∙ ap (λ x. x ++ behind) is.whole ∙ ap (λ x. value_octets is.value ++ x) s.list.joined };
-      ascend = (subst (λ x. IsBefore x ahead → ⊥) is.whole order, subst (λ x. Ascend value_octets x s.list.items) is.whole s.ascend);
+      list = record { items = is.value ∷ s.list.items; are_valid = (is.is_valid, s.list.are_valid); joined = split ∙ ap (λ x. x ++ following) is.whole ∙ ap (λ x. value_octets is.value ++ x) s.list.joined };
+      ascend = (subst (λ x. IsBefore x next → ⊥) is.whole order, subst (λ x. EncodingsAscendAfter value_octets x s.list.items) is.whole s.ascend);
     }
 
 -- the state of an iteration over a set, after an element
-pub record IsValueWalk (octets ahead : List ℕ) (s : ReaderState) : Type 0 where
+pub record IsValueWalk (octets next : List ℕ) (s : ReaderState) : Type 0 where
   pub at : IsAtItem s
-  pub back : IsSetBehind IsAny value_octets ahead (rest_of s) → AreValues octets
-  pub on : AreValues octets → IsSetBehind IsAny value_octets ahead (rest_of s)
+  pub back : IsSetAfter IsAny value_octets next (rest_of s) → AreValues octets
+  pub on : AreValues octets → IsSetAfter IsAny value_octets next (rest_of s)
 
 pub value_walk_begins : (octets : List ℕ) (s : ReaderState) → s ≡ initial_state Der octets → IsValueWalk octets [] s
 value_walk_begins octets s e =
     let left : rest_of s ≡ octets = ap rest_of e ∙ rest-beginning Der octets in
     record {
       at = record { der = ap (λ (x : ReaderState). x.rules) e; working = ap (λ (x : ReaderState). x.failed) e; outside = ap (λ (x : ReaderState). x.depth) e };
-      back = subst (IsSetBehind IsAny value_octets []) left;
-      on = subst (IsSetBehind IsAny value_octets []) (sym left);
+      back = subst (IsSetAfter IsAny value_octets []) left;
+      on = subst (IsSetAfter IsAny value_octets []) (sym left);
     }
 
-pub value_walk_on : (octets ahead element : List ℕ) (s t : ReaderState) → IsValueWalk octets ahead s → IsValue element → Reads s t element → (IsBefore element ahead → ⊥) → IsValueWalk octets element t
-value_walk_on octets ahead element s t w is r order =
+pub value_walk_on : (octets next element : List ℕ) (s t : ReaderState) → IsValueWalk octets next s → IsValue element → Reads s t element → (IsBefore element next → ⊥) → IsValueWalk octets element t
+value_walk_on octets next element s t w is r order =
     record {
       at = still_at_item w.at r;
-      back = λ b. w.back (set_cons ahead (rest_of s) element (rest_of t) is r.split order b);
-      on = λ a. (set_step ahead (rest_of s) element (rest_of t) (w.on a) is r.split).behind_it;
+      back = λ b. w.back (set_cons next (rest_of s) element (rest_of t) is r.split order b);
+      on = λ a. (set_step next (rest_of s) element (rest_of t) (w.on a) is r.split).after_it;
     }
 
-pub value_walk_ends : (octets ahead : List ℕ) (s : ReaderState) → IsValueWalk octets ahead s → s.end ≡ s.position → AreValues octets
-value_walk_ends octets ahead s w e = w.back (record { list = record { items = []; are_valid = tt; joined = rest_at_end s e }; ascend = tt })
+pub value_walk_ends : (octets next : List ℕ) (s : ReaderState) → IsValueWalk octets next s → s.end ≡ s.position → AreValues octets
+value_walk_ends octets next s w e = w.back (record { list = record { items = []; are_valid = tt; joined = rest_at_end s e }; ascend = tt })
 
 -- an element that is smaller than the one before it does not occur in a set
-pub value_walk_stops : (octets ahead element : List ℕ) (s t : ReaderState) → IsValueWalk octets ahead s → IsValue element → Reads s t element → IsBefore element ahead → AreValues octets → ⊥
-value_walk_stops octets ahead element s t w is r before a = (set_step ahead (rest_of s) element (rest_of t) (w.on a) is r.split).in_order before
+pub value_walk_stops : (octets next element : List ℕ) (s t : ReaderState) → IsValueWalk octets next s → IsValue element → Reads s t element → IsBefore element next → AreValues octets → ⊥
+value_walk_stops octets next element s t w is r before a = (set_step next (rest_of s) element (rest_of t) (w.on a) is r.split).in_order before

@@ -5,7 +5,7 @@ use Rattle.der.specs.Prelude.{Error, ReaderState, element_octets}
 use Rattle.der_asn1.specs.AnyElement.{AnyElementRead}
 use Rattle.der_asn1.specs.AnyRef.{AnyRead, IsAny, any_contents}
 use Rattle.der_asn1.specs.ListAnswers.{SetWalked}
-use Rattle.der_asn1.specs.SetOf.{IsSetBehind}
+use Rattle.der_asn1.specs.SetOf.{IsSetAfter}
 use Rattle.der_asn1.specs.declared.any.AnyRef.{AnyRef}
 
 abbrev pub value_octets : AnyRef → List ℕ
@@ -13,7 +13,7 @@ value_octets v = element_octets v.tag (any_contents v)
 
 -- octets are elements, in ascending order
 abbrev pub AreValues : List ℕ → Type 0
-AreValues octets = IsSetBehind IsAny value_octets [] octets
+AreValues octets = IsSetAfter IsAny value_octets [] octets
 
 -- octets are one element
 pub record IsValue (octets : List ℕ) : Type 0 where
@@ -22,12 +22,12 @@ pub record IsValue (octets : List ℕ) : Type 0 where
   pub whole : octets ≡ value_octets value
 
 -- an error is returned unchanged
-abbrev pub HandsOn : Error → Error → Type 0
-HandsOn e f = f ≡ e
+abbrev pub PassesErrorOn : Error → Error → Type 0
+PassesErrorOn e f = f ≡ e
 
 abbrev pub ValueRead : ReaderState → Result AnyRef Error → ReaderState → Type 0
-ValueRead = AnyElementRead HandsOn AnyRead
+ValueRead = AnyElementRead PassesErrorOn AnyRead
 
 -- the possible results of reading all values of the contents
 abbrev pub ValuesWalked : Result (Unit {0}) Error → List ℕ → Type 0
-ValuesWalked = SetWalked HandsOn ValueRead
+ValuesWalked = SetWalked PassesErrorOn ValueRead

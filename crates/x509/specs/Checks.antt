@@ -8,20 +8,20 @@ use Rattle.x509.specs.declared.certificate.Certificate.{Certificate}
 use Rattle.x509.specs.declared.tbs_certificate.TbsCertificate.{TbsCertificate}
 
 -- 0, 1 or 2, for version 1, 2 or 3 (4.1.2.1)
-abbrev pub version_number : List ℕ → ℕ
-version_number [] = 0
-version_number (o ∷ os) = o
+abbrev pub certificate_version_number : List ℕ → ℕ
+certificate_version_number [] = 0
+certificate_version_number (o ∷ os) = o
 
-abbrev pub version_of : TbsCertificate → ℕ
-version_of v = version_number v.version.0.0.octets.now
+abbrev pub certificate_version : TbsCertificate → ℕ
+certificate_version v = certificate_version_number v.version.0.0.octets.now
 
 -- unique identifiers are present only in version 2 or 3 (4.1.2.8), and extensions only in version 3
 -- (4.1.2.9)
-abbrev pub HasFieldsOfVersion : TbsCertificate → Type 0
-HasFieldsOfVersion v =
-    (IsSome v.issuer_unique_id.0 → 1 ≤ version_of v)
-    × (IsSome v.subject_unique_id.0 → 1 ≤ version_of v)
-    × (IsSome v.extensions.0 → version_of v ≡ 2)
+abbrev pub MatchesCertificateVersion : TbsCertificate → Type 0
+MatchesCertificateVersion v =
+    (IsSome v.issuer_unique_id.0 → 1 ≤ certificate_version v)
+    × (IsSome v.subject_unique_id.0 → 1 ≤ certificate_version v)
+    × (IsSome v.extensions.0 → certificate_version v ≡ 2)
 
 -- the parameters of an algorithm: none, or the tag and contents of an element
 abbrev pub parameters_of : Option AnyRef → Option (Tag × List ℕ)

@@ -1,36 +1,42 @@
-//! AttributeTypeAndValue of RFC 5280, 4.1.2.4.
+//! Attribute of RFC 2986, 4.1.
 ghost use Rattle.std.specs.Prelude.{◌≡◌, false};
 ghost use Rattle.std.proofs.Common.{refl};
 ghost use Rattle.der.specs.Prelude.{Sequence, map_ok};
-ghost use Rattle.der_asn1.specs.Meaning.{alternative, any_element, field, sequence, two_fields};
+ghost use Rattle.der_asn1.specs.Meaning.{alternative, field, sequence, two_fields};
+
+mod values;
 
 use der::{
     Decode, DecodeValue, Encode, EncodeRef, EncodeValue, Error, FixedTag, Header, Lawful, Length,
     ReadValue, Reader, SliceReader, Tag, Writer, WrittenValue, decode_contents,
 };
-use der_asn1::{AnyRef, Described, ObjectIdentifierRef};
+use der_asn1::{Described, ObjectIdentifierRef, SetOf};
 use std::alloc::Global;
+pub use values::AttributeValues;
 
-/// An attribute of a name, borrowed from the input.
+/// An attribute of a request, borrowed from the input.
 #[derive(Drop)]
-pub struct AttributeTypeAndValue<'a> {
+pub struct Attribute<'a> {
     /// The type of the attribute.
     pub oid: ObjectIdentifierRef<'a>,
-    /// The value of the attribute, of any type.
-    pub value: AnyRef<'a>,
+    /// The values of the attribute, of any type.
+    pub values: AttributeValues<'a>,
 }
 
-/// The fields, in sequence.
-pub type AttributeTypeAndValueFields<'a> = (ObjectIdentifierRef<'a>, AnyRef<'a>);
+/// The attributes of a request, in ascending order of their encodings.
+pub type Attributes<'a> = SetOf<'a, Attribute<'a>>;
 
-impl<'a> Described for AttributeTypeAndValue<'a> {
+/// The fields of an attribute, in sequence.
+pub type AttributeFields<'a> = (ObjectIdentifierRef<'a>, AttributeValues<'a>);
+
+impl<'a> Described for Attribute<'a> {
     ghost element = { sequence (two_fields (field (alternative
         ⟦<ObjectIdentifierRef<'a> as Described>⟧.element))
-        (field any_element))
-        (λ v. (v.oid, v.value)) };
+        (field (alternative ⟦<AttributeValues<'a> as Described>⟧.element)))
+        (λ v. (v.oid, v.values)) };
 }
 
-impl<'a> FixedTag for AttributeTypeAndValue<'a> {
+impl<'a> FixedTag for Attribute<'a> {
     ghost tag_is = { Sequence };
 
     const TAG: Tag = Tag::Sequence;
@@ -42,64 +48,64 @@ impl<'a> FixedTag for AttributeTypeAndValue<'a> {
     }
 }
 
-impl<'a> ReadValue for AttributeTypeAndValue<'a> {
-    ghost valid = { ⟦<AttributeTypeAndValue<'a> as Described>⟧.element.valid };
+impl<'a> ReadValue for Attribute<'a> {
+    ghost valid = { ⟦<Attribute<'a> as Described>⟧.element.valid };
 
-    ghost takes = { ⟦<AttributeTypeAndValue<'a> as Described>⟧.element.takes };
+    ghost takes = { ⟦<Attribute<'a> as Described>⟧.element.takes };
 
-    ghost value_levels = { ⟦<AttributeTypeAndValue<'a> as Described>⟧.element.levels };
+    ghost value_levels = { ⟦<Attribute<'a> as Described>⟧.element.levels };
 
     ghost allocates = { false };
 
-    ghost takes_valid = { ⟦<AttributeTypeAndValue<'a> as Described>⟧.element.holds refl };
+    ghost takes_valid = { ⟦<Attribute<'a> as Described>⟧.element.holds refl };
 }
 
 /// # Errors
 ///
 /// Those of the fields, in sequence.
-impl<'a, R: Reader<Lent = &'a [u8]>> DecodeValue<R> for AttributeTypeAndValue<'a> {
+impl<'a, R: Reader<Borrowed = &'a [u8]>> DecodeValue<R> for Attribute<'a> {
     type Error = Error;
 
     ghost decode_value_answers = { λ h s result t.
-        ⟦<AttributeTypeAndValueFields<'a> as Decode<SliceReader<'a>>>⟧.decode_answers s
-        (map_ok (λ v. (v.oid, v.value)) result) t };
+        ⟦<AttributeFields<'a> as Decode<SliceReader<'a>>>⟧.decode_answers s
+        (map_ok (λ v. (v.oid, v.values)) result) t };
 
     fn decode_value(alloc: Global, reader: &mut R, header: Header) -> Result<Self, Error> {
-        let fields = decode_contents::<R, AttributeTypeAndValueFields<'a>>(alloc, reader, header)?;
-        let (oid, value) = fields;
-        Ok(AttributeTypeAndValue { oid, value })
+        let fields = decode_contents::<R, AttributeFields<'a>>(alloc, reader, header)?;
+        let (oid, values) = fields;
+        Ok(Attribute { oid, values })
     }
 
     fn is_value(&self) {
         <ObjectIdentifierRef<'a> as DecodeValue<R>>::is_value(&self.oid);
-        <AnyRef<'a> as DecodeValue<R>>::is_value(&self.value);
+        <AttributeValues<'a> as DecodeValue<R>>::is_value(&self.values);
     }
 }
 
-impl<'a> WrittenValue for AttributeTypeAndValue<'a> {
-    ghost contents = { ⟦<AttributeTypeAndValue<'a> as Described>⟧.element.contents };
+impl<'a> WrittenValue for Attribute<'a> {
+    ghost contents = { ⟦<Attribute<'a> as Described>⟧.element.contents };
 
-    ghost writable = { ⟦<AttributeTypeAndValue<'a> as Described>⟧.element.valid };
+    ghost writable = { ⟦<Attribute<'a> as Described>⟧.element.valid };
 }
 
 /// # Errors
 ///
 /// Those of the fields, in sequence, and `Overflow` without a position.
-impl<'a> EncodeValue for AttributeTypeAndValue<'a> {
-    ghost value_size = { λ v. ⟦<AttributeTypeAndValueFields<'a> as Encode>⟧.size (v.oid, v.value) };
+impl<'a> EncodeValue for Attribute<'a> {
+    ghost value_size = { λ v. ⟦<AttributeFields<'a> as Encode>⟧.size (v.oid, v.values) };
 
-    ghost encode_value_answers = { λ v. ⟦<AttributeTypeAndValueFields<'a> as Encode>⟧.encode_answers
-        (v.oid, v.value) };
+    ghost encode_value_answers = { λ v. ⟦<AttributeFields<'a> as Encode>⟧.encode_answers
+        (v.oid, v.values) };
 
     fn value_len(&self) -> Result<Length, Error> {
-        (EncodeRef(&self.oid), EncodeRef(&self.value)).encoded_len()
+        (EncodeRef(&self.oid), EncodeRef(&self.values)).encoded_len()
     }
 
     fn encode_value<W: Writer>(&self, writer: &mut W) -> Result<(), Error> {
-        (EncodeRef(&self.oid), EncodeRef(&self.value)).encode(writer)
+        (EncodeRef(&self.oid), EncodeRef(&self.values)).encode(writer)
     }
 }
 
-impl<'a> Lawful for AttributeTypeAndValue<'a> {
-    ghost lawful = { ⟦<AttributeTypeAndValue<'a> as Described>⟧.element.lawful refl };
+impl<'a> Lawful for Attribute<'a> {
+    ghost lawful = { ⟦<Attribute<'a> as Described>⟧.element.lawful refl };
 }

@@ -65,7 +65,7 @@ impl<'a> ReadValue for Certificate<'a> {
 /// # Errors
 ///
 /// Those of the fields, in sequence.
-impl<'a, R: Reader<Lent = &'a [u8]>> DecodeValue<R> for Certificate<'a> {
+impl<'a, R: Reader<Borrowed = &'a [u8]>> DecodeValue<R> for Certificate<'a> {
     type Error = Error;
 
     ghost decode_value_answers = { λ h s result t.

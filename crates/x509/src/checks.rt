@@ -1,7 +1,7 @@
 //! Checks of a certificate that decoding does not make.
 ghost use Rattle.std.specs.Prelude.{◌≡◌, ◌↔◌, true, Some};
-ghost use Rattle.x509.specs.Checks.{HasFieldsOfVersion, HasSameAlgorithms, IsSameAlgorithm};
-ghost use Rattle.x509.specs.Checks.{parameters_of, version_number};
+ghost use Rattle.x509.specs.Checks.{MatchesCertificateVersion, HasSameAlgorithms, IsSameAlgorithm};
+ghost use Rattle.x509.specs.Checks.{parameters_of, certificate_version_number};
 
 use crate::certificate::Certificate;
 use crate::tbs_certificate::TbsCertificate;
@@ -11,7 +11,7 @@ use spki::AlgorithmIdentifierRef;
 
 // The number of a version: 0, 1 or 2.
 fn number_of(octets: &[u8]) -> u8
-    ensures { result ≡ version_number octets.now }
+    ensures { result ≡ certificate_version_number octets.now }
 {
     match octets {
         [octet, ..] => *octet,
@@ -23,7 +23,7 @@ impl TbsCertificate<'_> {
     /// Whether unique identifiers are present only in version 2 or 3, and extensions only in
     /// version 3 (RFC 5280, 4.1.2.1, 4.1.2.8, 4.1.2.9). Decoding does not check this.
     pub fn has_fields_of_version(&self) -> bool
-        ensures { (result ≡ true) ↔ HasFieldsOfVersion self.now }
+        ensures { (result ≡ true) ↔ MatchesCertificateVersion self.now }
     {
         let number = number_of(self.version.0.0.octets());
         if self.extensions.0.is_some() && number != 2 {

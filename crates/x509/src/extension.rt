@@ -66,7 +66,7 @@ impl<'a> ReadValue for Extension<'a> {
 /// # Errors
 ///
 /// Those of the fields, in sequence.
-impl<'a, R: Reader<Lent = &'a [u8]>> DecodeValue<R> for Extension<'a> {
+impl<'a, R: Reader<Borrowed = &'a [u8]>> DecodeValue<R> for Extension<'a> {
     type Error = Error;
 
     ghost decode_value_answers = { λ h s result t.

@@ -50,7 +50,7 @@ impl<'a> ReadValue for Extensions<'a> {
 /// # Errors
 ///
 /// Those of the list.
-impl<'a, R: Reader<Lent = &'a [u8]>> DecodeValue<R> for Extensions<'a> {
+impl<'a, R: Reader<Borrowed = &'a [u8]>> DecodeValue<R> for Extensions<'a> {
     type Error = Error;
 
     ghost decode_value_answers = { λ h s result t.

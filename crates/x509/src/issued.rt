@@ -26,10 +26,10 @@ pub(crate) type IssuedFields<'a> = (
     ((AlgorithmIdentifierRef<'a>, Name<'a>), Validity),
 );
 
-impl<'a, R: Reader<Lent = &'a [u8]>> Decode<R> for Issued<'a> {
+impl<'a, R: Reader<Borrowed = &'a [u8]>> Decode<R> for Issued<'a> {
     type Error = Error;
 
-    ghost stands_ahead = { λ v. ⟦<IssuedFields<'a> as Decode<SliceReader<'a>>>⟧.stands_ahead
+    ghost is_next = { λ v. ⟦<IssuedFields<'a> as Decode<SliceReader<'a>>>⟧.is_next
         ((v.version, v.serial_number), ((v.signature, v.issuer), v.validity)) };
 
     ghost decode_levels = { ⟦<IssuedFields<'a> as Decode<SliceReader<'a>>>⟧.decode_levels };

@@ -3,8 +3,8 @@
 //! Nothing is allocated.
 #![tactic(auto)]
 
-mod attr;
 mod attribute;
+mod attribute_type_and_value;
 mod certificate;
 mod checks;
 mod extension;
@@ -19,17 +19,17 @@ mod time;
 mod validity;
 mod version;
 
-pub use attr::{Attribute, AttributeFields, AttributeValues, Attributes};
-pub use attribute::{AttributeTypeAndValue, AttributeTypeAndValueFields};
+pub use attribute::{Attribute, AttributeFields, AttributeValues, Attributes};
+pub use attribute_type_and_value::{AttributeTypeAndValue, AttributeTypeAndValueFields};
 pub use certificate::{Certificate, CertificateFields};
 pub use extension::{Extension, ExtensionFields};
 pub use extensions::Extensions;
 pub use name::Name;
 pub use relative_distinguished_name::RelativeDistinguishedName;
 pub use request::{
-    CertReq, CertReqFields, CertReqInfo, CertReqInfoFields, CertReqVersion, CertReqVersionForm,
+    CertReq, CertReqFields, CertReqInfo, CertReqInfoFields, CertReqVersion, CertReqVersionGrammar,
 };
 pub use tbs_certificate::{TbsCertificate, TbsCertificateFields};
 pub use time::Time;
 pub use validity::{Validity, ValidityFields};
-pub use version::{Version, VersionForm};
+pub use version::{CertificateVersionGrammar, Version};

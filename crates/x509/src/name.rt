@@ -51,7 +51,7 @@ impl<'a> ReadValue for Name<'a> {
 /// # Errors
 ///
 /// Those of the list.
-impl<'a, R: Reader<Lent = &'a [u8]>> DecodeValue<R> for Name<'a> {
+impl<'a, R: Reader<Borrowed = &'a [u8]>> DecodeValue<R> for Name<'a> {
     type Error = Error;
 
     ghost decode_value_answers = { λ h s result t.

@@ -1,5 +1,5 @@
 //! RelativeDistinguishedName of RFC 5280, 4.1.2.4.
-use crate::attribute::AttributeTypeAndValue;
+use crate::attribute_type_and_value::AttributeTypeAndValue;
 use der_asn1::SetOf;
 
 /// The attributes of one level of a name, in ascending order of their encodings.

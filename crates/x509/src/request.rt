@@ -15,7 +15,7 @@ use der_asn1::{BitStringRef, Described};
 pub use info::{CertReqInfo, CertReqInfoFields};
 use spki::AlgorithmIdentifierRef;
 use std::alloc::Global;
-pub use version::{CertReqVersion, CertReqVersionForm};
+pub use version::{CertReqVersion, CertReqVersionGrammar};
 
 /// A certification request, borrowed from the input.
 #[derive(Drop)]
@@ -69,7 +69,7 @@ impl<'a> ReadValue for CertReq<'a> {
 /// # Errors
 ///
 /// Those of the fields, in sequence.
-impl<'a, R: Reader<Lent = &'a [u8]>> DecodeValue<R> for CertReq<'a> {
+impl<'a, R: Reader<Borrowed = &'a [u8]>> DecodeValue<R> for CertReq<'a> {
     type Error = Error;
 
     ghost decode_value_answers = { λ h s result t.

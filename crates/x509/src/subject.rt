@@ -31,10 +31,10 @@ pub(crate) type SubjectFields<'a> = (
     ),
 );
 
-impl<'a, R: Reader<Lent = &'a [u8]>> Decode<R> for Subject<'a> {
+impl<'a, R: Reader<Borrowed = &'a [u8]>> Decode<R> for Subject<'a> {
     type Error = Error;
 
-    ghost stands_ahead = { λ v. ⟦<SubjectFields<'a> as Decode<SliceReader<'a>>>⟧.stands_ahead (
+    ghost is_next = { λ v. ⟦<SubjectFields<'a> as Decode<SliceReader<'a>>>⟧.is_next (
       (v.subject, v.subject_public_key_info),
       (
         (v.issuer_unique_id, v.subject_unique_id),

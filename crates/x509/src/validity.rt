@@ -59,7 +59,7 @@ impl ReadValue for Validity {
 /// # Errors
 ///
 /// Those of the fields, in sequence.
-impl<'a, R: Reader<Lent = &'a [u8]>> DecodeValue<R> for Validity {
+impl<'a, R: Reader<Borrowed = &'a [u8]>> DecodeValue<R> for Validity {
     type Error = Error;
 
     ghost decode_value_answers = { λ h s result t.

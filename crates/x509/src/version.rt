@@ -2,18 +2,18 @@
 ghost use Rattle.std.specs.Prelude.{◌≡◌};
 ghost use Rattle.std.proofs.Common.{arith};
 ghost use Rattle.der.specs.Prelude.{Integer};
-ghost use Rattle.x509.specs.Version.{is_version_1, version_form};
+ghost use Rattle.x509.specs.CertificateVersion.{is_version_1, is_certificate_version};
 
 use der::{FixedTag, Tag};
-use der_asn1::{Checked, DefaultForm, Form};
+use der_asn1::{Checked, ContentsGrammar, DefaultContents};
 
 /// Contents of a version: 0, 1 or 2, for version 1, 2 or 3.
-pub struct VersionForm;
+pub struct CertificateVersionGrammar;
 
 /// The version of a certificate, borrowed from the input; version 1 is the default.
-pub type Version<'a> = Checked<'a, VersionForm>;
+pub type Version<'a> = Checked<'a, CertificateVersionGrammar>;
 
-impl FixedTag for VersionForm {
+impl FixedTag for CertificateVersionGrammar {
     ghost tag_is = { Integer };
 
     const TAG: Tag = Tag::Integer;
@@ -25,10 +25,10 @@ impl FixedTag for VersionForm {
     }
 }
 
-impl Form for VersionForm {
-    ghost form = { version_form };
+impl ContentsGrammar for CertificateVersionGrammar {
+    ghost grammar = { is_certificate_version };
 
-    fn has_form(octets: &[u8]) -> bool {
+    fn matches_grammar(octets: &[u8]) -> bool {
         match octets {
             [octet] => *octet < 3,
             _ => false,
@@ -38,7 +38,7 @@ impl Form for VersionForm {
     ghost numbered = { Prim.omega arith };
 }
 
-impl DefaultForm for VersionForm {
+impl DefaultContents for CertificateVersionGrammar {
     ghost default_form = { is_version_1 };
 
     fn default_octets() -> &'static [u8] {

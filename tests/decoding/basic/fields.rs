@@ -3,7 +3,7 @@ use super::*;
 use crate::checks::{same, same_at, same_octets};
 use der::Encode;
 use der_uses::algorithm_identifier::AlgorithmIdentifier;
-use der_uses::lent::Lent;
+use der_uses::borrowed::MyOctets;
 
 fn identifier_of(alloc: Global, octets: &[u8]) -> Result<AlgorithmIdentifier<'_>, Error> {
     AlgorithmIdentifier::from_ber(alloc, octets)
@@ -46,7 +46,7 @@ fn an_identifier_is_decoded_among_other_elements(rt: HostRuntime) -> Result<(), 
 
 // The segments of a string are borrowed unchanged, without the end-of-contents octets after them.
 #[test]
-fn segments_are_lent_as_they_stand_without_the_end_mark(rt: HostRuntime) -> Result<(), Fail> {
+fn segments_are_borrowed_unchanged_without_the_eoc(rt: HostRuntime) -> Result<(), Fail> {
     let rows: [(&[u8], &[u8]); 2] = [
         (
             &[0x24, 0x80, 0x04, 0x02, 0xAA, 0xBB, 0x04, 0x00, 0x00, 0x00],
@@ -55,8 +55,8 @@ fn segments_are_lent_as_they_stand_without_the_end_mark(rt: HostRuntime) -> Resu
         (&[0x24, 0x80, 0x00, 0x00], &[]),
     ];
     for (octets, segments) in rows {
-        let lent = Lent::from_ber(rt.alloc(), octets)?;
-        same_octets(&rt, lent.octets, segments);
+        let borrowed = MyOctets::from_ber(rt.alloc(), octets)?;
+        same_octets(&rt, borrowed.octets, segments);
     }
     Ok(())
 }
@@ -119,12 +119,12 @@ fn der_refuses_the_spellings_of_ber(rt: HostRuntime) {
 }
 
 #[test]
-fn without_lending_octets_are_refused_and_a_month_is_read(rt: HostRuntime) -> Result<(), Fail> {
-    let mut reader = ber_unlent(&[0x24, 0x80, 0x04, 0x00, 0x00, 0x00])?;
-    let refused = Lent::decode(rt.alloc(), &mut reader).err();
+fn without_slices_octets_are_rejected_and_a_month_is_read(rt: HostRuntime) -> Result<(), Fail> {
+    let mut reader = ber_not_borrowed(&[0x24, 0x80, 0x04, 0x00, 0x00, 0x00])?;
+    let refused = MyOctets::decode(rt.alloc(), &mut reader).err();
     same(&rt, refused, Some(ErrorKind::Reader.at(Length::new(2))));
     same(&rt, reader.place(), (2, 6, false));
-    let mut reader = ber_unlent(&[0x24, 0x01, 0x09])?;
+    let mut reader = ber_not_borrowed(&[0x24, 0x01, 0x09])?;
     let month = MyByteMonth::decode(rt.alloc(), &mut reader)?;
     same(&rt, month.month(), 9);
     same(&rt, reader.place(), (3, 3, false));

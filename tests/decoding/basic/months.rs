@@ -78,7 +78,7 @@ fn a_month_with_another_tag_is_refused(rt: HostRuntime) {
 }
 
 #[test]
-fn another_tag_leaves_the_reader_behind_its_header(rt: HostRuntime) -> Result<(), Fail> {
+fn another_tag_leaves_the_reader_after_its_header(rt: HostRuntime) -> Result<(), Fail> {
     let mut reader = ber_reader(&[0x30, 0x80, 0x00, 0x00])?;
     let refused = MyByteMonth::decode(rt.alloc(), &mut reader);
     same(

@@ -2,7 +2,7 @@
 use super::*;
 use crate::checks::{same, same_octets};
 use der::{EncodeValue, Tagged};
-use der_uses::lent::Lent;
+use der_uses::borrowed::MyOctets;
 
 // Reads the octets as exactly one month.
 fn boxed_month(alloc: Global, octets: &[u8]) -> Result<Box<MyByteMonth>, Error> {
@@ -53,7 +53,7 @@ fn a_boxed_month_is_refused_as_a_month_is(rt: HostRuntime) {
 #[test]
 fn boxed_contents_are_read_and_written(rt: HostRuntime) -> Result<(), Fail> {
     let octets = [0x04, 0x02, 0x2A, 0x2B];
-    let boxed: Box<Lent> = value_of(rt.alloc(), &octets)?;
+    let boxed: Box<MyOctets> = value_of(rt.alloc(), &octets)?;
     same_octets(&rt, boxed.octets, &[0x2A, 0x2B]);
     same_octets(&rt, der_of(rt.alloc(), &boxed)?.as_slice(), &octets);
     Ok(())

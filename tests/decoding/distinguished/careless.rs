@@ -6,7 +6,7 @@ use der_fixtures::hasty::Hasty;
 use der_fixtures::unread::Unread;
 
 #[test]
-fn a_refusal_that_a_type_ignores_is_told_as_failed(rt: HostRuntime) -> Result<(), Fail> {
+fn an_error_that_a_type_ignores_is_reported_as_failed(rt: HostRuntime) -> Result<(), Fail> {
     let octets = [0x04, 0x01, 0x09];
     let failed = ErrorKind::Failed.at(Length::new(3));
     same(
@@ -27,7 +27,7 @@ fn a_refusal_that_a_type_ignores_is_told_as_failed(rt: HostRuntime) -> Result<()
 }
 
 #[test]
-fn what_stands_behind_an_ignored_refusal_is_refused(rt: HostRuntime) {
+fn what_follows_an_ignored_error_is_rejected(rt: HostRuntime) {
     let octets = [0x04, 0x01, 0x09, 0x04, 0x01, 0x02];
     let failed = ErrorKind::Failed.at(Length::new(3));
     let refused = <(Hasty, MyByteMonth)>::from_der(rt.alloc(), &octets).err();

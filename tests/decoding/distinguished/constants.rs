@@ -8,13 +8,13 @@ use der_fixtures::hasty::Hasty;
 use der_fixtures::nest::Nest;
 use der_fixtures::octet::Octet;
 use der_fixtures::unread::Unread;
-use der_uses::lent::Lent;
+use der_uses::borrowed::MyOctets;
 
 #[test]
 fn constants_and_functions_tell_the_same_tags(rt: HostRuntime) {
     holds(&rt, tags_agree::<MyByteMonth>(Tag::OctetString, false));
     holds(&rt, tags_agree::<Box<MyByteMonth>>(Tag::OctetString, false));
-    holds(&rt, tags_agree::<Lent>(Tag::OctetString, false));
+    holds(&rt, tags_agree::<MyOctets>(Tag::OctetString, false));
     holds(&rt, tags_agree::<AlgorithmIdentifier>(Tag::Sequence, true));
     holds(&rt, tags_agree::<KeyInfo>(Tag::Sequence, true));
     holds(&rt, tags_agree::<Hasty>(Tag::OctetString, false));

@@ -52,7 +52,7 @@ fn pairs_and_boxes_refuse_by_an_error_of_their_type(rt: HostRuntime) {
 }
 
 #[test]
-fn an_error_of_a_type_tells_want_of_memory_from_overflow(rt: HostRuntime) {
+fn an_error_of_a_type_distinguishes_failed_allocation_from_overflow(rt: HostRuntime) {
     let error = ErrorKind::OutOfMemory.to_error();
     holds(&rt, OctetError { error }.is_out_of_memory());
     let error = ErrorKind::Overflow.to_error();

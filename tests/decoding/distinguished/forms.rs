@@ -1,19 +1,19 @@
 //! Contents whose lengths have each of the forms.
 use super::*;
 use crate::checks::same_at;
-use der_uses::lent::Lent;
+use der_uses::borrowed::MyOctets;
 use std::process::Abort;
 
 // Reads the octets as exactly one element, and returns its contents.
 fn contents_of(alloc: Global, octets: &[u8]) -> Result<&[u8], Error> {
-    let lent: Lent<'_> = value_of(alloc, octets)?;
-    Ok(lent.octets)
+    let borrowed: MyOctets<'_> = value_of(alloc, octets)?;
+    Ok(borrowed.octets)
 }
 
 // The contents at the front, and the octets after them.
 fn contents_at_front(alloc: Global, octets: &[u8]) -> Result<(&[u8], &[u8]), Error> {
-    let (lent, rest): (Lent<'_>, &[u8]) = front_of(alloc, octets)?;
-    Ok((lent.octets, rest))
+    let (borrowed, rest): (MyOctets<'_>, &[u8]) = front_of(alloc, octets)?;
+    Ok((borrowed.octets, rest))
 }
 
 // The first octets and then the second.
@@ -28,7 +28,7 @@ fn joined(alloc: Global, first: &[u8], second: &[u8]) -> Result<Vec<u8>, Fail> {
 fn both_ways(rt: &impl Abort, alloc: Global, header: &[u8], contents: &[u8]) -> Result<(), Fail> {
     let count = contents.len();
     let want = joined(alloc, header, contents)?;
-    let written = der_of(alloc, &Lent { octets: contents })?;
+    let written = der_of(alloc, &MyOctets { octets: contents })?;
     same_at(rt, count, written.as_slice(), want.as_slice());
     same_at(rt, count, contents_of(alloc, want.as_slice()), Ok(contents));
     let more = joined(alloc, written.as_slice(), &[0xFF])?;
@@ -39,7 +39,7 @@ fn both_ways(rt: &impl Abort, alloc: Global, header: &[u8], contents: &[u8]) -> 
 }
 
 #[test]
-fn contents_behind_each_form_of_length_are_read_and_written(rt: HostRuntime) -> Result<(), Fail> {
+fn contents_after_each_form_of_length_are_read_and_written(rt: HostRuntime) -> Result<(), Fail> {
     let rows: [(usize, &[u8]); 8] = [
         (0, &[0x04, 0x00]),
         (1, &[0x04, 0x01]),

@@ -32,7 +32,7 @@ fn an_identifier_is_read_and_written(rt: HostRuntime) -> Result<(), Fail> {
 }
 
 #[test]
-fn an_identifier_at_the_front_is_read_and_the_rest_is_told(rt: HostRuntime) -> Result<(), Fail> {
+fn an_identifier_at_the_front_is_read_and_the_rest_is_reported(rt: HostRuntime) -> Result<(), Fail> {
     let octets = [0x30, 0x05, 0x04, 0x00, 0x04, 0x01, 0x0B, 0x05, 0x00];
     let (algorithm, month, rest) = fields_at_front(rt.alloc(), &octets)?;
     same_octets(&rt, algorithm, &[]);
@@ -84,12 +84,12 @@ fn an_identifier_with_another_tag_is_refused(rt: HostRuntime) {
 }
 
 #[test]
-fn octets_left_in_or_behind_an_identifier_are_refused(rt: HostRuntime) {
+fn octets_left_in_or_after_an_identifier_are_rejected(rt: HostRuntime) {
     let alloc = rt.alloc();
     let inside = [0x30, 0x08, 0x04, 0x01, 0x2A, 0x04, 0x01, 0x09, 0x05, 0x00];
     same(&rt, refusal(alloc, &inside), Some(trailing(8, 2)));
-    let behind = [0x30, 0x06, 0x04, 0x01, 0x2A, 0x04, 0x01, 0x09, 0x00];
-    same(&rt, refusal(alloc, &behind), Some(trailing(8, 1)));
+    let following = [0x30, 0x06, 0x04, 0x01, 0x2A, 0x04, 0x01, 0x09, 0x00];
+    same(&rt, refusal(alloc, &following), Some(trailing(8, 1)));
     let in_month = [0x30, 0x07, 0x04, 0x01, 0x2A, 0x04, 0x02, 0x09, 0x00];
     same(&rt, refusal(alloc, &in_month), Some(trailing(8, 1)));
 }

@@ -14,7 +14,7 @@ fn month(alloc: Global, bytes: &[u8]) -> Result<u8, Error> {
 }
 
 #[test]
-fn a_month_at_the_front_is_read_and_the_rest_is_told(rt: HostRuntime) -> Result<(), Fail> {
+fn a_month_at_the_front_is_read_and_the_rest_is_reported(rt: HostRuntime) -> Result<(), Fail> {
     let octets = [0x04, 0x01, 0x09, 0x05, 0x00];
     let (month, rest): (MyByteMonth, &[u8]) = front_of(rt.alloc(), &octets)?;
     same(&rt, month_number(&month), 9);
@@ -32,7 +32,7 @@ fn cut_months_are_refused(rt: HostRuntime) {
 }
 
 #[test]
-fn octets_left_in_or_behind_a_month_are_refused(rt: HostRuntime) {
+fn octets_left_in_or_after_a_month_are_rejected(rt: HostRuntime) {
     let alloc = rt.alloc();
     same(
         &rt,
@@ -106,7 +106,7 @@ fn all_months_are_read_and_written(rt: HostRuntime) -> Result<(), Fail> {
 }
 
 #[test]
-fn a_month_is_appended_behind_other_octets(rt: HostRuntime) -> Result<(), Fail> {
+fn a_month_is_appended_after_other_octets(rt: HostRuntime) -> Result<(), Fail> {
     let month = month_of(rt.alloc(), &[0x04, 0x01, 0x09])?;
     let mut out = Vec::from_slice(rt.alloc(), &[0xAAu8])?;
     same(&rt, month.encode_to_vec(&mut out), Ok(Length::new(3)));
@@ -119,13 +119,13 @@ fn buffered<'b>(month: &MyByteMonth, buf: &'b mut [u8]) -> Result<&'b [u8], Erro
 }
 
 #[test]
-fn a_month_is_written_only_to_a_buffer_that_has_room(rt: HostRuntime) -> Result<(), Fail> {
+fn a_month_is_written_only_to_a_buffer_that_has_space(rt: HostRuntime) -> Result<(), Fail> {
     let month = month_of(rt.alloc(), &[0x04, 0x01, 0x09])?;
     let mut buf = [0; 16];
     let written = buffered(&month, &mut buf)?;
     same_octets(&rt, written, &[0x04, 0x01, 0x09]);
     let mut short = [0; 2];
-    let no_room = ErrorKind::Overlength.at(Length::new(3));
-    same(&rt, buffered(&month, &mut short).err(), Some(no_room));
+    let no_space = ErrorKind::Overlength.at(Length::new(3));
+    same(&rt, buffered(&month, &mut short).err(), Some(no_space));
     Ok(())
 }

@@ -6,7 +6,7 @@ use crate::fixtures::errors::too_deep;
 use der_fixtures::nest::Nest;
 
 #[test]
-fn parts_in_contents_stand_63_levels_deep_and_no_deeper(rt: HostRuntime) {
+fn parts_in_contents_are_63_levels_deep_and_no_deeper(rt: HostRuntime) {
     let octets = [0x04, 0x00];
     holds(&rt, Nest::<63>::from_der(rt.alloc(), &octets).is_ok());
     let refused = Nest::<64>::from_der(rt.alloc(), &octets).err();

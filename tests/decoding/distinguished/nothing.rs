@@ -14,7 +14,7 @@ fn nothing_is_read_from_no_octets(rt: HostRuntime) {
 }
 
 #[test]
-fn octets_behind_nothing_are_left_or_refused(rt: HostRuntime) -> Result<(), Fail> {
+fn octets_after_nothing_are_left_or_rejected(rt: HostRuntime) -> Result<(), Fail> {
     let refused = nothing_of(rt.alloc(), &[0x00]).err();
     same(&rt, refused, Some(trailing(0, 1)));
     let (_, rest): (PhantomData<u8>, &[u8]) = front_of(rt.alloc(), &[0x00])?;

@@ -25,7 +25,7 @@ fn a_pair_of_a_tag_and_a_length_is_read_and_written(rt: HostRuntime) -> Result<(
 }
 
 #[test]
-fn a_pair_with_nothing_is_read_and_octets_behind_it_refused(rt: HostRuntime) -> Result<(), Fail> {
+fn a_pair_with_nothing_is_read_and_octets_after_it_rejected(rt: HostRuntime) -> Result<(), Fail> {
     let (header, _): (Header, PhantomData<u8>) = value_of(rt.alloc(), &[0x04, 0x05])?;
     same(&rt, header, Header::new(Tag::OctetString, Length::new(5)));
     let octets = [0x04, 0x05, 0x00];
@@ -53,7 +53,7 @@ fn three_months(alloc: Global, bytes: &[u8]) -> Result<((u8, u8, u8), &[u8]), Er
 }
 
 #[test]
-fn three_months_at_the_front_are_read_and_the_rest_is_told(rt: HostRuntime) -> Result<(), Fail> {
+fn three_months_at_the_front_are_read_and_the_rest_is_reported(rt: HostRuntime) -> Result<(), Fail> {
     let octets = [0x04, 0x01, 0x09, 0x04, 0x01, 0x02, 0x04, 0x01, 0x00, 0x05];
     let (months, rest) = three_months(rt.alloc(), &octets)?;
     same(&rt, months, (9, 2, 0));
@@ -92,7 +92,7 @@ fn a_pair_with_wrong_missing_or_spare_octets_is_refused(rt: HostRuntime) {
 }
 
 #[test]
-fn a_refused_second_month_leaves_the_reader_behind_its_header(rt: HostRuntime) -> Result<(), Fail> {
+fn a_rejected_second_month_leaves_the_reader_after_its_header(rt: HostRuntime) -> Result<(), Fail> {
     let octets = [0x04, 0x01, 0x09, 0x05, 0x00];
     let mut reader = der_reader(&octets)?;
     let months = decoded_months(rt.alloc(), &mut reader);

@@ -33,7 +33,7 @@ fn field_month(alloc: Global, reader: &mut SliceReader<'_>, header: Header) -> R
 }
 
 #[test]
-fn a_type_leaves_the_reader_behind_another_tag(rt: HostRuntime) -> Result<(), Fail> {
+fn a_type_leaves_the_reader_after_another_tag(rt: HostRuntime) -> Result<(), Fail> {
     let octets = [0x30, 0x01, 0x09];
     let mut reader = der_reader(&octets)?;
     let refused = unexpected(Tag::OctetString, Tag::Sequence);
@@ -44,7 +44,7 @@ fn a_type_leaves_the_reader_behind_another_tag(rt: HostRuntime) -> Result<(), Fa
 }
 
 #[test]
-fn a_reader_fails_behind_another_tag(rt: HostRuntime) -> Result<(), Fail> {
+fn a_reader_fails_after_another_tag(rt: HostRuntime) -> Result<(), Fail> {
     let octets = [0x30, 0x01, 0x09];
     let mut reader = der_reader(&octets)?;
     let month = next_month(rt.alloc(), &mut reader);
@@ -57,7 +57,7 @@ fn a_reader_fails_behind_another_tag(rt: HostRuntime) -> Result<(), Fail> {
 }
 
 #[test]
-fn a_reader_has_failed_behind_a_number_of_no_month(rt: HostRuntime) -> Result<(), Fail> {
+fn a_reader_has_failed_after_a_number_of_no_month(rt: HostRuntime) -> Result<(), Fail> {
     let octets = [0x04, 0x01, 0x0C, 0x05];
     let mut reader = der_reader(&octets)?;
     let no_month = ErrorKind::DateTime.at(Length::new(3));

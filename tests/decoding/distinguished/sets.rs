@@ -100,7 +100,7 @@ fn more_contents_than_a_length_counts_overflow(rt: HostRuntime) -> Result<(), Fa
 }
 
 #[test]
-fn equal_elements_may_stand_in_a_set_of(rt: HostRuntime) -> Result<(), Fail> {
+fn equal_elements_may_occur_in_a_set_of(rt: HostRuntime) -> Result<(), Fail> {
     let octets = [0x31, 0x06, 0x04, 0x01, 0xFF, 0x04, 0x01, 0xFF];
     let contents = contents_of(rt.alloc(), &octets)?;
     same_octets(&rt, contents, &octets[2..]);

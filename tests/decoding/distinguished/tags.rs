@@ -38,7 +38,7 @@ fn unknown_and_cut_tags_are_refused(rt: HostRuntime) {
 }
 
 #[test]
-fn octets_behind_a_tag_are_refused(rt: HostRuntime) {
+fn octets_after_a_tag_are_rejected(rt: HostRuntime) {
     same(
         &rt,
         tag_of(rt.alloc(), &[0x7F, 0x21, 0x00]),

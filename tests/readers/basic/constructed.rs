@@ -20,15 +20,15 @@ fn octet_24_is_read_as_a_constructed_octet_string(rt: HostRuntime) -> Result<(),
     same(&rt, header.is_constructed(), true);
     same(&rt, header.length(), Length::ONE);
     same(&rt, reader.place(), (2, 3, false));
-    let mut unlent = ber_unlent(&[0x24, 0x01, 0x09])?;
-    same(&rt, decode_header(&mut unlent), Ok(header));
-    same(&rt, unlent.place(), (2, 3, false));
+    let mut not_borrowed = ber_not_borrowed(&[0x24, 0x01, 0x09])?;
+    same(&rt, decode_header(&mut not_borrowed), Ok(header));
+    same(&rt, not_borrowed.place(), (2, 3, false));
     Ok(())
 }
 
 // The constructed bit distinguishes two headers that are otherwise equal.
 #[test]
-fn the_constructed_bit_tells_two_headers_apart(rt: HostRuntime) -> Result<(), Fail> {
+fn the_constructed_bit_distinguishes_two_headers(rt: HostRuntime) -> Result<(), Fail> {
     let primitive = header_of(rt.alloc(), &[0x04, 0x00])?;
     same(&rt, primitive, Header::new(Tag::OctetString, Length::ZERO));
     let constructed = header_of(rt.alloc(), &[0x24, 0x00])?;

@@ -6,7 +6,7 @@ use der::TagNumber;
 use crate::fixtures::bodies::ENCRYPTED_CONTENT_INFO;
 
 #[test]
-fn an_element_of_indefinite_length_is_lent_with_its_end_mark(rt: HostRuntime) -> Result<(), Fail> {
+fn an_element_of_indefinite_length_is_borrowed_with_its_eoc(rt: HostRuntime) -> Result<(), Fail> {
     let octets = [0x30, 0x80, 0x05, 0x00, 0x00, 0x00, 0x02, 0x01, 0x2A];
     let mut reader = ber_reader(&octets)?;
     let null = [0x30, 0x80, 0x05, 0x00, 0x00, 0x00];
@@ -20,7 +20,7 @@ fn an_element_of_indefinite_length_is_lent_with_its_end_mark(rt: HostRuntime) ->
 // An element ends where the octets that were read for it end, even if its number would take more
 // octets in the definite form than the one octet `0x80`.
 #[test]
-fn an_element_is_lent_whole_whatever_the_number_of_its_octets(rt: HostRuntime) -> Result<(), Fail> {
+fn an_element_is_borrowed_whole_whatever_the_number_of_its_octets(rt: HostRuntime) -> Result<(), Fail> {
     for count in [0u8, 1, 122, 123, 124, 125, 126, 127] {
         let element = around_contents(rt.alloc(), count)?;
         let octets = element.as_slice();
@@ -33,8 +33,8 @@ fn an_element_is_lent_whole_whatever_the_number_of_its_octets(rt: HostRuntime) -
 }
 
 #[test]
-fn a_reader_that_cannot_lend_refuses_an_element_and_stays(rt: HostRuntime) -> Result<(), Fail> {
-    let mut reader = ber_unlent(&[0x30, 0x80, 0x00, 0x00])?;
+fn a_reader_that_cannot_read_slices_rejects_an_element_and_stays(rt: HostRuntime) -> Result<(), Fail> {
+    let mut reader = ber_not_borrowed(&[0x30, 0x80, 0x00, 0x00])?;
     let refused = ErrorKind::Reader.at(Length::ZERO);
     same(&rt, reader.tlv_bytes().err(), Some(refused));
     same(&rt, reader.place(), (0, 4, false));

@@ -130,7 +130,7 @@ fn definite_headers_are_read_alike_under_both_rules(rt: HostRuntime) {
 }
 
 #[test]
-fn under_ber_a_definite_element_is_lent_and_a_cut_one_refused(rt: HostRuntime) -> Result<(), Fail> {
+fn under_ber_a_definite_element_is_borrowed_and_a_truncated_one_rejected(rt: HostRuntime) -> Result<(), Fail> {
     let octets = [0x30, 0x02, 0x05, 0x00, 0xFF];
     let mut reader = ber_reader(&octets)?;
     let element = [0x30, 0x02, 0x05, 0x00];

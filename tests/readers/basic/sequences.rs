@@ -43,7 +43,7 @@ fn read_octets<'a>(
     Ok((header, reader.read_slice(header.length())?))
 }
 
-fn contents_behind<'a>(
+fn contents_after<'a>(
     reader: &mut SliceReader<'a>,
     header: Header,
 ) -> Result<(Header, &'a [u8]), Error> {
@@ -55,14 +55,14 @@ fn null() -> Header {
 }
 
 #[test]
-fn a_sequence_is_read_with_its_end_mark(rt: HostRuntime) -> Result<(), Fail> {
+fn a_sequence_is_read_with_its_eoc(rt: HostRuntime) -> Result<(), Fail> {
     let octets = [0x30, 0x80, 0x05, 0x00, 0x00, 0x00, 0x02];
     let mut reader = ber_reader(&octets)?;
     same(&rt, header_within(&mut reader), Ok(null()));
     same(&rt, reader.place(), (6, 7, false));
-    let mut unlent = ber_unlent(&octets)?;
-    same(&rt, unlent.sequence(read_header), Ok(null()));
-    same(&rt, unlent.place(), (6, 7, false));
+    let mut not_borrowed = ber_not_borrowed(&octets)?;
+    same(&rt, not_borrowed.sequence(read_header), Ok(null()));
+    same(&rt, not_borrowed.place(), (6, 7, false));
     Ok(())
 }
 
@@ -79,7 +79,7 @@ fn an_empty_sequence_is_read_as_nothing_and_not_as_a_header(rt: HostRuntime) -> 
 }
 
 #[test]
-fn no_end_mark_is_read_behind_a_definite_sequence(rt: HostRuntime) -> Result<(), Fail> {
+fn no_eoc_is_read_after_a_definite_sequence(rt: HostRuntime) -> Result<(), Fail> {
     let mut reader = ber_reader(&[0x30, 0x02, 0x05, 0x00, 0x00, 0x00])?;
     same(&rt, header_within(&mut reader), Ok(null()));
     same(&rt, reader.place(), (4, 6, false));
@@ -132,14 +132,14 @@ fn octets_left_in_a_sequence_are_refused_as_trailing(rt: HostRuntime) -> Result<
     let mut reader = ber_reader(&octets)?;
     same(&rt, header_within(&mut reader), Err(trailing(4, 3)));
     same(&rt, reader.place(), (4, 9, true));
-    let mut unlent = ber_unlent(&octets)?;
-    same(&rt, unlent.sequence(read_none), Err(trailing(2, 5)));
-    same(&rt, unlent.place(), (2, 9, true));
+    let mut not_borrowed = ber_not_borrowed(&octets)?;
+    same(&rt, not_borrowed.sequence(read_none), Err(trailing(2, 5)));
+    same(&rt, not_borrowed.place(), (2, 9, true));
     Ok(())
 }
 
 #[test]
-fn what_is_no_sequence_is_refused_behind_its_header(rt: HostRuntime) -> Result<(), Fail> {
+fn what_is_no_sequence_is_rejected_after_its_header(rt: HostRuntime) -> Result<(), Fail> {
     let rows: [(&[u8], Error, bool); 3] = [
         (
             &[0x31, 0x80, 0x00, 0x00],
@@ -166,7 +166,7 @@ fn contents_get_a_flagged_header_with_their_own_length(rt: HostRuntime) -> Resul
     let header = next_header(&mut reader)?;
     let string = Header::new(Tag::OctetString, Length::new_indefinite(5));
     same(&rt, header, string);
-    let (inner, contents) = contents_behind(&mut reader, header)?;
+    let (inner, contents) = contents_after(&mut reader, header)?;
     same(&rt, inner, string.with_length(Length::new_indefinite(3)));
     same_octets(&rt, contents, &[0x04, 0x01, 0x09]);
     same(&rt, reader.place(), (7, 8, false));
@@ -178,7 +178,7 @@ fn contents_of_definite_length_get_their_header_unchanged(rt: HostRuntime) -> Re
     let octets = [0x24, 0x02, 0x04, 0x00, 0x00, 0x00];
     let mut reader = ber_reader(&octets)?;
     let header = next_header(&mut reader)?;
-    let (inner, contents) = contents_behind(&mut reader, header)?;
+    let (inner, contents) = contents_after(&mut reader, header)?;
     same(&rt, inner, header);
     same_octets(&rt, contents, &[0x04, 0x00]);
     same(&rt, reader.place(), (4, 6, false));
@@ -188,21 +188,21 @@ fn contents_of_definite_length_get_their_header_unchanged(rt: HostRuntime) -> Re
 // A header that the caller makes may give more octets than a scan would: then there are no
 // end-of-contents octets at its end.
 #[test]
-fn contents_without_their_end_mark_are_refused(rt: HostRuntime) -> Result<(), Fail> {
+fn contents_without_their_eoc_are_rejected(rt: HostRuntime) -> Result<(), Fail> {
     let mut reader = ber_reader(&[0x05, 0x00, 0x00, 0x01])?;
     let header = Header::new(Tag::OctetString, Length::new_indefinite(4));
-    let refused = contents_behind(&mut reader, header).err();
+    let refused = contents_after(&mut reader, header).err();
     same(&rt, refused, Some(indefinite(4)));
     same(&rt, reader.place(), (4, 4, true));
     let mut reader = ber_reader(&[0x05, 0x00, 0x00])?;
-    let refused = contents_behind(&mut reader, header).err();
+    let refused = contents_after(&mut reader, header).err();
     same(&rt, refused, Some(incomplete(4, 3, 3)));
     same(&rt, reader.place(), (3, 3, true));
     Ok(())
 }
 
 #[test]
-fn closed_contents_pass_their_end_mark(rt: HostRuntime) -> Result<(), Fail> {
+fn closed_contents_pass_their_eoc(rt: HostRuntime) -> Result<(), Fail> {
     let mut reader = ber_reader(&[0x30, 0x80, 0x05, 0x00, 0x00, 0x00])?;
     let header = decode_header(&mut reader)?;
     let length = header.length().sans_eoc();

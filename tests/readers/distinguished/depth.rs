@@ -21,7 +21,7 @@ fn nest(reader: &mut SliceReader<'_>, levels: u8) -> Result<(), Error>
 }
 
 #[test]
-fn parts_stand_64_levels_deep_and_no_deeper(rt: HostRuntime) -> Result<(), Fail> {
+fn parts_are_64_levels_deep_and_no_deeper(rt: HostRuntime) -> Result<(), Fail> {
     let rows = [(64, Ok(()), false), (65, Err(too_deep(0)), true)];
     for (levels, answer, failed) in rows {
         let mut reader = der_reader(&[])?;
@@ -51,7 +51,7 @@ fn a_part_in_a_part_is_read(rt: HostRuntime) -> Result<(), Fail> {
 }
 
 // Reads two of three octets, and then fails.
-fn refuse_behind_two(reader: &mut SliceReader<'_>) -> Result<(), Error>
+fn refuse_after_two(reader: &mut SliceReader<'_>) -> Result<(), Error>
 {
     reader.drain(Length::new(2))?;
     Err(ErrorKind::DateTime.at(Length::new(3)))
@@ -60,7 +60,7 @@ fn refuse_behind_two(reader: &mut SliceReader<'_>) -> Result<(), Error>
 fn refused_within(reader: &mut SliceReader<'_>) -> Result<(), Error>
 {
     reader.drain(Length::ONE)?;
-    reader.read_nested(Length::new(3), refuse_behind_two)
+    reader.read_nested(Length::new(3), refuse_after_two)
 }
 
 // Both parts are left, so the same number may be entered as before.
@@ -77,7 +77,7 @@ fn a_refusal_in_a_part_leaves_all_parts(rt: HostRuntime) -> Result<(), Fail> {
 }
 
 #[test]
-fn a_closed_part_hands_on_its_answer_and_is_left(rt: HostRuntime) -> Result<(), Fail> {
+fn a_closed_part_forwards_its_result_and_is_left(rt: HostRuntime) -> Result<(), Fail> {
     let mut reader = der_reader(&[0x01, 0x02])?;
     let outer = reader.enter_nested(Length::ONE)?;
     same(&rt, reader.place(), (0, 1, false));
@@ -99,14 +99,14 @@ fn a_reader_that_left_a_part_ends_where_it_did_before(rt: HostRuntime) -> Result
 }
 
 #[test]
-fn a_resumption_tells_its_length_and_depth(rt: HostRuntime) {
+fn a_resumption_returns_its_length_and_depth(rt: HostRuntime) {
     let outer = Resumption::new(Length::new(42), 3);
     same(&rt, outer.input_len(), Length::new(42));
     same(&rt, outer.depth(), 3);
 }
 
 #[test]
-fn closed_contents_pass_their_end_mark(rt: HostRuntime) -> Result<(), Fail> {
+fn closed_contents_pass_their_eoc(rt: HostRuntime) -> Result<(), Fail> {
     let mut reader = der_reader(&[0x07, 0x00, 0x00])?;
     let outer = reader.enter_nested(Length::ONE)?;
     let answer = reader.read_byte();

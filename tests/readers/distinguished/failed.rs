@@ -11,7 +11,7 @@ fn read_none<R: Reader>(reader: &mut R) -> Result<(), Error>
     Ok(())
 }
 
-fn lends_nothing<R: Reader>(rt: &impl Abort, alloc: Global, reader: &mut R, failed: Error) {
+fn reads_no_slices<R: Reader>(rt: &impl Abort, alloc: Global, reader: &mut R, failed: Error) {
     same(rt, reader.read_slice(Length::ZERO).err(), Some(failed));
     same(rt, reader.read_byte(), Err(failed));
     same(rt, reader.read_vec(alloc, Length::ZERO).err(), Some(failed));
@@ -37,7 +37,7 @@ fn decodes_nothing<R: Reader>(rt: &impl Abort, alloc: Global, reader: &mut R, fa
 // After all of these calls the reader is where it failed.
 fn answers_nothing<R: Reader>(rt: &impl Abort, alloc: Global, mut reader: R) {
     let failed = ErrorKind::Failed.at(Length::ZERO);
-    lends_nothing(rt, alloc, &mut reader, failed);
+    reads_no_slices(rt, alloc, &mut reader, failed);
     passes_nothing(rt, &mut reader, failed);
     decodes_nothing(rt, alloc, &mut reader, failed);
     same(rt, place_of(&reader), (0, 2, true));

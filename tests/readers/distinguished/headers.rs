@@ -31,7 +31,7 @@ fn headers_at_the_front_are_read(rt: HostRuntime) {
 }
 
 #[test]
-fn a_header_tells_its_tag_length_and_bit(rt: HostRuntime) {
+fn a_header_returns_its_tag_length_and_bit(rt: HostRuntime) {
     let sequence = Header::new(Tag::Sequence, Length::new(3));
     same(&rt, sequence.tag(), Tag::Sequence);
     same(&rt, sequence.length(), Length::new(3));

@@ -17,7 +17,7 @@ fn lengths_of_each_form_are_read(rt: HostRuntime) {
 }
 
 #[test]
-fn octets_behind_a_length_are_left(rt: HostRuntime) {
+fn octets_after_a_length_are_left(rt: HostRuntime) {
     same(
         &rt,
         length(rt.alloc(), &[0x81, 0x80, 0x05, 0x00]),

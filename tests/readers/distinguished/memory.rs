@@ -28,15 +28,15 @@ fn copy_sixty<R: Reader>(rt: &impl Abort, heap: &LocalHeap, mut reader: R, size:
 #[test]
 fn a_copy_without_memory_leaves_the_reader_where_it_is(rt: HostRuntime) -> Result<(), Fail> {
     let octets = [0x07u8; 60];
-    let (mut lent, mut filled) = ([false, false], [false, false]);
+    let (mut borrowed, mut filled) = ([false, false], [false, false]);
     for size in SIZES {
         let heap = LocalHeap::new(rt.alloc(), size)?;
-        lent[copy_sixty(&rt, &heap, der_reader(&octets)?, size) as usize] = true;
-        filled[copy_sixty(&rt, &heap, der_unlent(&octets)?, size) as usize] = true;
+        borrowed[copy_sixty(&rt, &heap, der_reader(&octets)?, size) as usize] = true;
+        filled[copy_sixty(&rt, &heap, der_not_borrowed(&octets)?, size) as usize] = true;
         same_at(&rt, size, heap.used(), 0);
     }
     // each failed once and copied once
-    same(&rt, lent, [true, true]);
+    same(&rt, borrowed, [true, true]);
     same(&rt, filled, [true, true]);
     Ok(())
 }

@@ -139,7 +139,7 @@ fn a_position_refuses_a_part_past_its_end_and_stays(rt: HostRuntime) -> Result<(
 }
 
 #[test]
-fn a_value_is_read_with_the_end_mark_of_a_flagged_length(rt: HostRuntime) -> Result<(), Fail> {
+fn a_value_is_read_with_the_eoc_of_a_flagged_length(rt: HostRuntime) -> Result<(), Fail> {
     let rows = [
         (Length::new_indefinite(3), Length::new_indefinite(1), 3),
         (Length::ONE, Length::ONE, 1),
@@ -155,7 +155,7 @@ fn a_value_is_read_with_the_end_mark_of_a_flagged_length(rt: HostRuntime) -> Res
 }
 
 #[test]
-fn an_end_mark_is_read_and_another_octet_is_refused(rt: HostRuntime) -> Result<(), Fail> {
+fn an_eoc_is_read_and_another_octet_is_rejected(rt: HostRuntime) -> Result<(), Fail> {
     let octets = [0x00, 0x00, 0x05];
     let mut reader = der_reader(&octets)?;
     same(&rt, read_eoc(&mut reader), Ok(()));

@@ -8,7 +8,7 @@ fn octets_of<'a>(reader: &mut SliceReader<'a>, length: Length) -> Result<&'a [u8
 }
 
 #[test]
-fn a_new_reader_stands_at_the_front_under_der(rt: HostRuntime) -> Result<(), Fail> {
+fn a_new_reader_is_at_the_front_under_der(rt: HostRuntime) -> Result<(), Fail> {
     let reader = der_reader(&[0x01, 0x02])?;
     holds(&rt, reader.encoding_rules().is_der());
     same(&rt, reader.place(), (0, 2, false));
@@ -16,20 +16,20 @@ fn a_new_reader_stands_at_the_front_under_der(rt: HostRuntime) -> Result<(), Fai
 }
 
 #[test]
-fn octets_are_lent_in_turn(rt: HostRuntime) -> Result<(), Fail> {
+fn octets_are_borrowed_in_turn(rt: HostRuntime) -> Result<(), Fail> {
     let octets = [0x01, 0x02, 0x03, 0x04];
     let mut reader = der_reader(&octets)?;
     same(&rt, octet(&mut reader), Ok(0x01));
-    let lent = octets_of(&mut reader, Length::new(2))?;
-    same(&rt, lent, [0x02, 0x03].as_slice());
-    same(&rt, lent.as_slice().len(), 2);
+    let borrowed = octets_of(&mut reader, Length::new(2))?;
+    same(&rt, borrowed, [0x02, 0x03].as_slice());
+    same(&rt, borrowed.as_slice().len(), 2);
     same(&rt, reader.remaining()?, [0x04].as_slice());
     same(&rt, reader.place(), (3, 4, false));
     Ok(())
 }
 
 #[test]
-fn contents_behind_a_header_are_lent(rt: HostRuntime) -> Result<(), Fail> {
+fn contents_after_a_header_are_borrowed(rt: HostRuntime) -> Result<(), Fail> {
     let octets = [0x04, 0x02, 0x31, 0x32];
     let mut reader = der_reader(&octets)?;
     let header: Result<Header, Error> = reader.decode(rt.alloc());
@@ -95,7 +95,7 @@ fn an_error_of_the_caller_is_placed_and_fails_the_reader(rt: HostRuntime) -> Res
 }
 
 #[test]
-fn want_of_memory_is_told_apart_from_overflow(rt: HostRuntime) {
+fn failed_allocation_is_distinguished_from_overflow(rt: HostRuntime) {
     holds(&rt, ErrorKind::OutOfMemory.to_error().is_out_of_memory());
     holds(&rt, !ErrorKind::Overflow.to_error().is_out_of_memory());
 }

@@ -16,7 +16,7 @@ fn tags_are_read(rt: HostRuntime) {
 }
 
 #[test]
-fn octets_behind_a_tag_are_left(rt: HostRuntime) {
+fn octets_after_a_tag_are_left(rt: HostRuntime) {
     let read = Ok((Tag::OctetString, 1));
     same(&rt, tag(rt.alloc(), &[0x04, 0x02]), read);
 }

@@ -8,7 +8,7 @@ use std::process::Abort;
 // in the header; reading an element leaves it unchanged.
 fn cut(rt: &impl Abort, octets: &[u8], error: Error) -> Result<(), Error> {
     cut_header(rt, ber_reader(octets)?, error);
-    cut_header(rt, ber_unlent(octets)?, error);
+    cut_header(rt, ber_not_borrowed(octets)?, error);
     let mut reader = ber_reader(octets)?;
     let end = u32::from(reader.input_len());
     same_at(rt, end, next_element(&mut reader).err(), Some(error));

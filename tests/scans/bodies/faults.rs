@@ -1,7 +1,7 @@
 //! Readers that fail at one read, for each read in turn until none fails: every other result is the
 //! same as without the failure.
 
-use super::scans::{body_ahead, pass_body};
+use super::scans::{next_body, pass_body};
 use super::*;
 use crate::checks::same_at;
 use std::process::Abort;
@@ -59,7 +59,7 @@ fn a_scan_is_refused_at_whichever_read_fails(rt: HostRuntime) -> Result<(), Fail
     ];
     for (read, answer, place) in rows {
         let mut reader = ber_failing(&SEGMENT_OF_ZEROS[2..], read)?;
-        same_at(&rt, read, body_ahead(&reader), answer);
+        same_at(&rt, read, next_body(&reader), answer);
         same_at(&rt, read, place_of(&reader), (0, 10, false));
         same_at(&rt, read, pass_body(&mut reader), answer);
         same_at(&rt, read, place_of(&reader), (place, 10, false));
@@ -84,7 +84,7 @@ fn a_wrong_body_is_never_taken_whichever_read_fails(rt: HostRuntime) -> Result<(
 
 // The header is read by a peek; then a slice of the element is requested, which fails.
 #[test]
-fn an_element_is_never_lent_whichever_read_fails(rt: HostRuntime) -> Result<(), Fail> {
+fn an_element_is_never_borrowed_whichever_read_fails(rt: HostRuntime) -> Result<(), Fail> {
     for (read, begins) in READS {
         element_refused(&rt, read, begins)?;
     }

@@ -26,7 +26,7 @@ fn reads<R: Reader>(rt: &impl Abort, mut reader: R, count: u32) {
 
 fn reads_on_both(rt: &impl Abort, octets: &[u8], count: u32) -> Result<(), Error> {
     reads(rt, ber_reader(octets)?, count);
-    reads(rt, ber_unlent(octets)?, count);
+    reads(rt, ber_not_borrowed(octets)?, count);
     Ok(())
 }
 
@@ -43,7 +43,7 @@ fn the_header_of_a_body_in_a_body_counts_its_octets(rt: HostRuntime) -> Result<(
 }
 
 #[test]
-fn bodies_of_each_kind_are_counted_with_their_end_marks(rt: HostRuntime) -> Result<(), Fail> {
+fn bodies_of_each_kind_are_counted_with_their_eocs(rt: HostRuntime) -> Result<(), Fail> {
     let rows: [(&[u8], u32); 6] = [
         (&[0x30, 0x80, 0x00, 0x00], 2),
         (&[0x30, 0x80, 0x00, 0x00, 0x05, 0x00], 2),
@@ -94,8 +94,8 @@ fn a_primitive_identifier_is_refused_once_its_body_is_scanned(rt: HostRuntime) -
         &[0x80, 0x80, 0x00, 0x00, 0x05],
     ];
     for octets in rows {
-        refused_behind(&rt, ber_reader(octets)?, indefinite(2), true);
-        refused_behind(&rt, ber_unlent(octets)?, indefinite(2), true);
+        rejected_after(&rt, ber_reader(octets)?, indefinite(2), true);
+        rejected_after(&rt, ber_not_borrowed(octets)?, indefinite(2), true);
     }
     let rows: [(&[u8], Error); 3] = [
         (&[0x04, 0x80], incomplete(3, 2, 2)),
@@ -103,14 +103,14 @@ fn a_primitive_identifier_is_refused_once_its_body_is_scanned(rt: HostRuntime) -
         (&[0x04, 0x80, 0x04, 0x80], indefinite(4)),
     ];
     for (octets, error) in rows {
-        refused_behind(&rt, ber_reader(octets)?, error, false);
-        refused_behind(&rt, ber_unlent(octets)?, error, false);
+        rejected_after(&rt, ber_reader(octets)?, error, false);
+        rejected_after(&rt, ber_not_borrowed(octets)?, error, false);
     }
     Ok(())
 }
 
 // Reading the header fails, and leaves the reader after two octets.
-fn refused_behind<R: Reader>(rt: &impl Abort, mut reader: R, error: Error, failed: bool) {
+fn rejected_after<R: Reader>(rt: &impl Abort, mut reader: R, error: Error, failed: bool) {
     let end = u32::from(reader.input_len());
     same_at(rt, error, Header::peek(&reader), Err(error));
     same_at(rt, error, decode_header(&mut reader), Err(error));
@@ -158,7 +158,7 @@ fn a_length_is_refused_by_the_error_of_its_body(rt: HostRuntime) -> Result<(), F
 }
 
 #[test]
-fn a_header_is_read_behind_a_refused_one(rt: HostRuntime) -> Result<(), Fail> {
+fn a_header_is_read_after_a_rejected_one(rt: HostRuntime) -> Result<(), Fail> {
     let mut reader = ber_reader(&[0x30, 0x80, 0x05, 0x00])?;
     same(&rt, next_header(&mut reader), Err(incomplete(5, 4, 4)));
     let null = Header::new(Tag::Null, Length::ZERO);

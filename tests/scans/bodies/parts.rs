@@ -22,7 +22,7 @@ fn cut_by_a_part<R: Reader>(rt: &impl Abort, mut reader: R) {
 fn a_body_that_its_part_cuts_is_refused(rt: HostRuntime) -> Result<(), Fail> {
     let octets = [0x30, 0x80, 0x04, 0x00, 0x00, 0x00];
     cut_by_a_part(&rt, ber_reader(&octets)?);
-    cut_by_a_part(&rt, ber_unlent(&octets)?);
+    cut_by_a_part(&rt, ber_not_borrowed(&octets)?);
     Ok(())
 }
 
@@ -53,7 +53,7 @@ fn a_body_is_scanned_up_to_the_end_of_its_part(rt: HostRuntime) -> Result<(), Fa
 }
 
 #[test]
-fn an_element_is_refused_where_a_part_cuts_it_and_then_lent(rt: HostRuntime) -> Result<(), Fail> {
+fn an_element_is_rejected_where_a_part_truncates_it_and_then_borrowed(rt: HostRuntime) -> Result<(), Fail> {
     let mut reader = ber_reader(&[0x30, 0x80, 0x00, 0x00])?;
     let outer = reader.enter_nested(Length::new(3))?;
     same(&rt, reader.tlv_bytes().err(), Some(incomplete(4, 3, 3)));
@@ -118,7 +118,7 @@ fn reads_innermost<R: Reader>(rt: &impl Abort, mut reader: R) {
 fn bodies_are_entered_64_levels_deep(rt: HostRuntime) -> Result<(), Fail> {
     let octets = around_null(rt.alloc(), 64)?;
     reads_innermost(&rt, ber_reader(octets.as_slice())?);
-    reads_innermost(&rt, ber_unlent(octets.as_slice())?);
+    reads_innermost(&rt, ber_not_borrowed(octets.as_slice())?);
     Ok(())
 }
 

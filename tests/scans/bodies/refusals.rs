@@ -1,7 +1,7 @@
 //! The errors of indefinite-length contents: of a header with them, of a scan that consumes them,
 //! and of a scan that peeks.
 
-use super::scans::{body_ahead, pass_body};
+use super::scans::{next_body, pass_body};
 use super::*;
 use crate::checks::same_at;
 use crate::scans::readers::next_element;
@@ -11,10 +11,10 @@ use std::process::Abort;
 // readers.
 fn refused(rt: &impl Abort, octets: &[u8], error: Error) -> Result<(), Error> {
     header_refused(rt, ber_reader(octets)?, error);
-    header_refused(rt, ber_unlent(octets)?, error);
+    header_refused(rt, ber_not_borrowed(octets)?, error);
     element_refused(rt, ber_reader(octets)?, error);
     body_refused(rt, ruled_reader(octets)?, error)?;
-    body_refused(rt, ber_unlent(octets)?, error)
+    body_refused(rt, ber_not_borrowed(octets)?, error)
 }
 
 // Reading each of these contents gives its error.
@@ -46,7 +46,7 @@ fn body_refused<R: Reader>(rt: &impl Abort, mut reader: R, error: Error) -> Resu
 {
     let end = u32::from(reader.input_len());
     reader.drain(Length::new(2))?;
-    same_at(rt, error, body_ahead(&reader), Err(error));
+    same_at(rt, error, next_body(&reader), Err(error));
     same_at(rt, error, place_of(&reader), (2, end, false));
     same_at(rt, error, pass_body(&mut reader), Err(error));
     same_at(rt, error, Some(reader.position()), error.position());
@@ -55,7 +55,7 @@ fn body_refused<R: Reader>(rt: &impl Abort, mut reader: R, error: Error) -> Resu
 }
 
 #[test]
-fn a_body_without_an_end_mark_is_refused(rt: HostRuntime) -> Result<(), Fail> {
+fn a_body_without_an_eoc_is_rejected(rt: HostRuntime) -> Result<(), Fail> {
     let rows: [(&[u8], Error); 5] = [
         (&[0x30, 0x80], incomplete(3, 2, 2)),
         (&[0x30, 0x80, 0x05, 0x00], incomplete(5, 4, 4)),
@@ -70,7 +70,7 @@ fn a_body_without_an_end_mark_is_refused(rt: HostRuntime) -> Result<(), Fail> {
 }
 
 #[test]
-fn half_an_end_mark_is_refused(rt: HostRuntime) -> Result<(), Fail> {
+fn half_an_eoc_is_rejected(rt: HostRuntime) -> Result<(), Fail> {
     let rows: [(&[u8], Error); 3] = [
         (&[0x30, 0x80, 0x00], incomplete(4, 3, 3)),
         (&[0x30, 0x80, 0x05, 0x00, 0x00], incomplete(6, 5, 5)),
@@ -83,7 +83,7 @@ fn half_an_end_mark_is_refused(rt: HostRuntime) -> Result<(), Fail> {
 }
 
 #[test]
-fn half_an_end_mark_before_another_octet_is_refused(rt: HostRuntime) -> Result<(), Fail> {
+fn half_an_eoc_before_another_octet_is_rejected(rt: HostRuntime) -> Result<(), Fail> {
     let rows: [(&[u8], Error); 4] = [
         (&[0x30, 0x80, 0x00, 0x01], indefinite(4)),
         (&[0x30, 0x80, 0x00, 0x80, 0x00, 0x00], indefinite(4)),
@@ -116,7 +116,7 @@ fn wrong_identifiers_in_a_body_are_refused(rt: HostRuntime) -> Result<(), Fail> 
 
 // What fails early is not a truncated identifier.
 #[test]
-fn a_wrong_identifier_at_the_end_is_not_told_as_cut(rt: HostRuntime) -> Result<(), Fail> {
+fn a_malformed_identifier_at_the_end_is_not_reported_as_truncated(rt: HostRuntime) -> Result<(), Fail> {
     refused(&rt, &[0x30, 0x80, 0x5F, 0x80], invalid_number(4))?;
     let too_large = [0x30, 0x80, 0x5F, 0x90, 0x80, 0x80, 0x80];
     refused(&rt, &too_large, invalid_number(7))?;

@@ -2,7 +2,7 @@
 
 use super::*;
 use crate::checks::{same, same_at};
-use crate::scans::readers::{next_header, ruled_behind};
+use crate::scans::readers::{next_header, ruled_after};
 use der::{Turns, decode_indefinite_length};
 use std::marker::Brand;
 use std::process::Abort;
@@ -21,12 +21,12 @@ fn pass_counted<R: Reader, L: Ledger>(reader: &mut R, blank: Blank) -> Result<Le
 }
 
 // Scans indefinite-length contents without consuming them and without counting turns.
-pub(super) fn body_ahead<R: Reader>(reader: &R) -> Result<Length, Error>
+pub(super) fn next_body<R: Reader>(reader: &R) -> Result<Length, Error>
 {
-    ahead_counted::<R, Brand>(reader, Blank::new(1))
+    peeked_count::<R, Brand>(reader, Blank::new(1))
 }
 
-fn ahead_counted<R: Reader, L: Ledger>(reader: &R, blank: Blank) -> Result<Length, Error>
+fn peeked_count<R: Reader, L: Ledger>(reader: &R, blank: Blank) -> Result<Length, Error>
 {
     let mut turns = Turns::<L>::new(blank);
     reader.scan_indefinite(&mut turns)
@@ -39,7 +39,7 @@ fn scans<R: Reader>(rt: &impl Abort, mut reader: R, count: u32)
     let start = u32::from(reader.position());
     let end = u32::from(reader.input_len());
     let length = Length::new_indefinite(count);
-    same_at(rt, count, body_ahead(&reader), Ok(length));
+    same_at(rt, count, next_body(&reader), Ok(length));
     same_at(rt, count, place_of(&reader), (start, end, false));
     same_at(rt, count, pass_body(&mut reader), Ok(length));
     let passed = u32::from(reader.position().saturating_sub(Length::new(start)));
@@ -49,7 +49,7 @@ fn scans<R: Reader>(rt: &impl Abort, mut reader: R, count: u32)
 
 fn scans_on_both(rt: &impl Abort, octets: &[u8], count: u32) -> Result<(), Error> {
     scans(rt, ruled_reader(octets)?, count);
-    scans(rt, ber_unlent(octets)?, count);
+    scans(rt, ber_not_borrowed(octets)?, count);
     Ok(())
 }
 
@@ -65,9 +65,9 @@ fn bodies_at_the_front_are_counted_and_passed(rt: HostRuntime) -> Result<(), Fai
 }
 
 #[test]
-fn a_body_behind_a_header_is_counted_and_passed(rt: HostRuntime) -> Result<(), Fail> {
+fn a_body_after_a_header_is_counted_and_consumed(rt: HostRuntime) -> Result<(), Fail> {
     for (start, count) in [(2, 10), (4, 6)] {
-        scans(&rt, ruled_behind(&SEGMENT_OF_ZEROS, start)?, count);
+        scans(&rt, ruled_after(&SEGMENT_OF_ZEROS, start)?, count);
     }
     Ok(())
 }
@@ -75,7 +75,7 @@ fn a_body_behind_a_header_is_counted_and_passed(rt: HostRuntime) -> Result<(), F
 #[test]
 fn a_scan_passes_64_open_bodies_and_refuses_65(rt: HostRuntime) -> Result<(), Fail> {
     let octets = around_null(rt.alloc(), 64)?;
-    scans(&rt, ruled_behind(octets.as_slice(), 2)?, 256);
+    scans(&rt, ruled_after(octets.as_slice(), 2)?, 256);
     let mut whole = ruled_reader(octets.as_slice())?;
     same(&rt, pass_body(&mut whole), Err(too_deep(128)));
     same(&rt, whole.place(), (128, 258, true));
@@ -84,10 +84,10 @@ fn a_scan_passes_64_open_bodies_and_refuses_65(rt: HostRuntime) -> Result<(), Fa
 
 #[test]
 fn a_failed_reader_scans_nothing(rt: HostRuntime) -> Result<(), Fail> {
-    let mut reader = ruled_behind(&[0x05, 0x00, 0x00, 0x00], 2)?;
+    let mut reader = ruled_after(&[0x05, 0x00, 0x00, 0x00], 2)?;
     let _ = reader.error(ErrorKind::DateTime);
     let failed = ErrorKind::Failed.at(Length::new(2));
-    same(&rt, body_ahead(&reader), Err(failed));
+    same(&rt, next_body(&reader), Err(failed));
     same(&rt, pass_body(&mut reader), Err(failed));
     same(&rt, next_header(&mut reader), Err(failed));
     same(&rt, reader.place(), (2, 4, true));
@@ -100,7 +100,7 @@ fn a_scan_stays_inside_its_part(rt: HostRuntime) -> Result<(), Fail> {
     let octets = [0x04, 0x01, 0x2A, 0x00, 0x00];
     let mut reader = ruled_reader(&octets)?;
     let outer = reader.enter_nested(Length::new(4))?;
-    same(&rt, body_ahead(&reader), Err(incomplete(5, 4, 4)));
+    same(&rt, next_body(&reader), Err(incomplete(5, 4, 4)));
     same(&rt, pass_body(&mut reader), Err(incomplete(5, 4, 4)));
     same(&rt, reader.place(), (4, 4, true));
     reader.leave_nested(outer);

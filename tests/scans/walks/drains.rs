@@ -10,9 +10,9 @@ fn drain_both<R: Reader, S: Reader>(rt: &impl Abort, mut reader: R, mut steps: S
 }
 
 // Both readers drain equally after the first octets are read, and after both have failed.
-fn drain_behind(rt: &impl Abort, octets: &[u8], passed: u32, amount: Length) -> Result<(), Error> {
+fn drain_after(rt: &impl Abort, octets: &[u8], passed: u32, amount: Length) -> Result<(), Error> {
     let mut reader = ber_reader(octets)?;
-    let mut steps = ber_unlent(octets)?;
+    let mut steps = ber_not_borrowed(octets)?;
     let _ = reader.read_slice(Length::new(passed))?;
     steps.drain(Length::new(passed))?;
     drain_both(rt, reader.fork(), steps.fork(), amount);
@@ -25,8 +25,8 @@ fn drain_behind(rt: &impl Abort, octets: &[u8], passed: u32, amount: Length) -> 
 // Up to forty octets, with definite and indefinite lengths.
 fn drain_each(rt: &impl Abort, octets: &[u8], passed: u32) -> Result<(), Error> {
     for amount in 0..=40u32 {
-        drain_behind(rt, octets, passed, Length::new(amount))?;
-        drain_behind(rt, octets, passed, Length::new_indefinite(amount))?;
+        drain_after(rt, octets, passed, Length::new(amount))?;
+        drain_after(rt, octets, passed, Length::new_indefinite(amount))?;
     }
     Ok(())
 }

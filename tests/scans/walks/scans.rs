@@ -2,7 +2,7 @@
 
 use super::*;
 use crate::checks::same_at;
-use crate::scans::readers::ruled_behind;
+use crate::scans::readers::ruled_after;
 use der::decode_indefinite_length;
 use std::marker::Brand;
 use std::process::Abort;
@@ -20,9 +20,9 @@ pub(super) fn scans<R: Reader>(reader: &R) -> (Answer, Answer)
 fn scans_counted<R: Reader, L: Ledger>(reader: &R, blank: Blank) -> (Answer, Answer)
 {
     let mut turns = Turns::<L>::new(blank);
-    let ahead = reader.scan_indefinite(&mut turns);
+    let peeks = reader.scan_indefinite(&mut turns);
     let mut fork = reader.fork();
-    (ahead, decode_indefinite_length(&mut fork, &mut turns))
+    (peeks, decode_indefinite_length(&mut fork, &mut turns))
 }
 
 // The results of both scans inside a part, whose octets are consumed.
@@ -42,13 +42,13 @@ pub(super) fn answer_between(
     position: u32,
     end: u32,
 ) -> Result<Answer, Error> {
-    let plain = ruled_behind(first_octets(octets, end as usize), position)?;
-    let (ahead, passed) = scans(&plain);
-    same_at(rt, end, ahead, passed);
-    let mut around = ruled_behind(octets, position)?;
+    let plain = ruled_after(first_octets(octets, end as usize), position)?;
+    let (peeks, passed) = scans(&plain);
+    same_at(rt, end, peeks, passed);
+    let mut around = ruled_after(octets, position)?;
     let part = Length::new(end.saturating_sub(position));
-    let (ahead_in_part, passed_in_part) = around.read_nested(part, scans_of_part)?;
-    same_at(rt, end, ahead_in_part, passed_in_part);
-    same_at(rt, end, ahead_in_part, ahead);
-    Ok(ahead)
+    let (next_in_part, passed_in_part) = around.read_nested(part, scans_of_part)?;
+    same_at(rt, end, next_in_part, passed_in_part);
+    same_at(rt, end, next_in_part, peeks);
+    Ok(peeks)
 }

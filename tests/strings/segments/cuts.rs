@@ -25,7 +25,7 @@ fn missing(passed: &[Passed], cut: u32) -> Error {
 fn refused(rt: &impl Abort, cut: usize, read: &Result<JoinedOctets, Error>, error: Error) {
     match read {
         Ok(_) => same_at(rt, cut, None, Some(error)),
-        Err(told) => same_at(rt, cut, Some(*told), Some(error)),
+        Err(reported) => same_at(rt, cut, Some(*reported), Some(error)),
     }
 }
 

@@ -37,7 +37,7 @@ fn under_ber(
     place: (u32, bool),
 ) -> Result<(), Error> {
     decoding(rt, alloc, ber_reader(octets)?, answer, place);
-    decoding(rt, alloc, ber_unlent(octets)?, answer, place);
+    decoding(rt, alloc, ber_not_borrowed(octets)?, answer, place);
     wholly_under_ber(rt, alloc, octets, answer);
     Ok(())
 }
@@ -57,7 +57,7 @@ fn under_der(
     place: (u32, bool),
 ) -> Result<(), Error> {
     decoding(rt, alloc, der_reader(octets)?, answer, place);
-    decoding(rt, alloc, der_unlent(octets)?, answer, place);
+    decoding(rt, alloc, der_not_borrowed(octets)?, answer, place);
     wholly_under_der(rt, alloc, octets, answer);
     Ok(())
 }
@@ -69,7 +69,7 @@ fn wholly_under_der(rt: &impl Abort, alloc: Global, octets: &[u8], answer: Resul
 }
 
 #[test]
-fn primitive_octets_are_taken_as_they_stand(rt: HostRuntime) -> Result<(), Fail> {
+fn primitive_octets_are_accepted_unchanged(rt: HostRuntime) -> Result<(), Fail> {
     let rows: [(&[u8], &[u8], u32); 3] = [
         (&[0x04, 0x00], &[], 2u32),
         (&[0x04, 0x02, 0xAA, 0xBB], &[0xAA, 0xBB], 4),

@@ -4,7 +4,7 @@ use crate::checks::{same, same_at};
 use std::process::Abort;
 
 // Two segments after an indefinite length, whatever its number.
-fn behind_indefinite<R: Joins>(rt: &impl Abort, alloc: Global, mut reader: R, number: u32) {
+fn after_indefinite<R: Joins>(rt: &impl Abort, alloc: Global, mut reader: R, number: u32) {
     let length = Length::new_indefinite(number);
     let joined = reader.join(alloc, length, Tag::OctetString);
     same_at(rt, number, view(&joined), Ok([0xAA, 0xBB].as_slice()));
@@ -12,17 +12,17 @@ fn behind_indefinite<R: Joins>(rt: &impl Abort, alloc: Global, mut reader: R, nu
 }
 
 #[test]
-fn segments_are_joined_behind_any_indefinite_length(rt: HostRuntime) -> Result<(), Fail> {
+fn segments_are_joined_after_any_indefinite_length(rt: HostRuntime) -> Result<(), Fail> {
     let octets = [0x04, 0x01, 0xAA, 0x04, 0x01, 0xBB];
     for number in [0, 1, 2, 3, 6, 8, 4096] {
-        behind_indefinite(&rt, rt.alloc(), ber_reader(&octets)?, number);
-        behind_indefinite(&rt, rt.alloc(), der_unlent(&octets)?, number);
+        after_indefinite(&rt, rt.alloc(), ber_reader(&octets)?, number);
+        after_indefinite(&rt, rt.alloc(), der_not_borrowed(&octets)?, number);
     }
     Ok(())
 }
 
 // A definite length fails at once, under the Distinguished Encoding Rules.
-fn refused_behind_definite<R: Joins>(rt: &impl Abort, alloc: Global, mut reader: R, number: u32) {
+fn rejected_after_definite<R: Joins>(rt: &impl Abort, alloc: Global, mut reader: R, number: u32) {
     let (position, end, _) = reader.place();
     let length = Length::new(number);
     let joined = reader.join(alloc, length, Tag::OctetString);
@@ -31,21 +31,21 @@ fn refused_behind_definite<R: Joins>(rt: &impl Abort, alloc: Global, mut reader:
 }
 
 #[test]
-fn der_refuses_segments_behind_a_definite_length(rt: HostRuntime) -> Result<(), Fail> {
+fn der_rejects_segments_after_a_definite_length(rt: HostRuntime) -> Result<(), Fail> {
     let octets = [0x04, 0x05, 0xAA];
     for number in [0, 1, 3, 4294967295] {
-        refused_behind_definite(&rt, rt.alloc(), der_reader(&octets)?, number);
-        refused_behind_definite(&rt, rt.alloc(), der_unlent(&octets)?, number);
+        rejected_after_definite(&rt, rt.alloc(), der_reader(&octets)?, number);
+        rejected_after_definite(&rt, rt.alloc(), der_not_borrowed(&octets)?, number);
     }
     let mut reader = der_reader(&octets)?;
     reader.drain(Length::new(2))?;
-    refused_behind_definite(&rt, rt.alloc(), reader, 1);
-    refused_behind_definite(&rt, rt.alloc(), der_reader(&[])?, 0);
+    rejected_after_definite(&rt, rt.alloc(), reader, 1);
+    rejected_after_definite(&rt, rt.alloc(), der_reader(&[])?, 0);
     Ok(())
 }
 
 // Under the Basic Encoding Rules segments after it are joined.
-fn behind_definite<R: Joins>(
+fn after_definite<R: Joins>(
     rt: &impl Abort,
     alloc: Global,
     mut reader: R,
@@ -61,7 +61,7 @@ fn behind_definite<R: Joins>(
 }
 
 #[test]
-fn ber_joins_segments_behind_any_definite_length(rt: HostRuntime) -> Result<(), Fail> {
+fn ber_joins_segments_after_any_definite_length(rt: HostRuntime) -> Result<(), Fail> {
     let rows: [(&[u8], Result<&[u8], Error>, (u32, bool)); 4] = [
         (&[], Ok(&[]), (0, false)),
         (
@@ -78,8 +78,8 @@ fn ber_joins_segments_behind_any_definite_length(rt: HostRuntime) -> Result<(), 
     ];
     for (octets, answer, place) in rows {
         for number in [0, 1, 3, 4096] {
-            behind_definite(&rt, rt.alloc(), ber_reader(octets)?, number, answer, place);
-            behind_definite(&rt, rt.alloc(), ber_unlent(octets)?, number, answer, place);
+            after_definite(&rt, rt.alloc(), ber_reader(octets)?, number, answer, place);
+            after_definite(&rt, rt.alloc(), ber_not_borrowed(octets)?, number, answer, place);
         }
     }
     Ok(())
@@ -111,7 +111,7 @@ fn segments_are_joined_that_have_the_tag_asked_for(rt: HostRuntime) -> Result<()
     ];
     for (octets, answer) in rows {
         tagged(&rt, alloc, der_reader(octets)?, primitive, answer);
-        tagged(&rt, alloc, der_unlent(octets)?, primitive, answer);
+        tagged(&rt, alloc, der_not_borrowed(octets)?, primitive, answer);
     }
     Ok(())
 }
@@ -124,7 +124,7 @@ fn der_refuses_segments_with_a_constructed_tag(rt: HostRuntime) -> Result<(), Fa
     let refused = Err(constructed.non_canonical_error().at(Length::ONE));
     let octets = [0xA0, 0x01, 0x2A];
     tagged(&rt, alloc, der_reader(&octets)?, constructed, refused);
-    tagged(&rt, alloc, der_unlent(&octets)?, constructed, refused);
+    tagged(&rt, alloc, der_not_borrowed(&octets)?, constructed, refused);
     Ok(())
 }
 
@@ -157,7 +157,7 @@ fn ber_cuts_segments_with_a_constructed_tag_again(rt: HostRuntime) -> Result<(),
     ];
     for (octets, answer, place) in rows {
         cut_again(&rt, rt.alloc(), ber_reader(octets)?, answer, place);
-        cut_again(&rt, rt.alloc(), ber_unlent(octets)?, answer, place);
+        cut_again(&rt, rt.alloc(), ber_not_borrowed(octets)?, answer, place);
     }
     Ok(())
 }
@@ -187,7 +187,7 @@ fn segments_end_where_their_part_does(rt: HostRuntime) -> Result<(), Fail> {
     let rows: [(u32, Result<&[u8], Error>); 2] = [(3, Ok(&[0x2A])), (2, Err(incomplete(3, 2, 2)))];
     for (end, answer) in rows {
         part(&rt, rt.alloc(), ber_reader(&octets)?, end, answer)?;
-        part(&rt, rt.alloc(), der_unlent(&octets)?, end, answer)?;
+        part(&rt, rt.alloc(), der_not_borrowed(&octets)?, end, answer)?;
     }
     Ok(())
 }

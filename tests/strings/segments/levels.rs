@@ -116,7 +116,7 @@ fn the_65th_level_of_either_form_is_refused_on_entering_it(rt: HostRuntime) -> R
 
 // Each scan sees 64 levels, but the reader is already inside a part.
 #[test]
-fn a_definite_level_has_room_for_63_indefinite_ones_inside(rt: HostRuntime) -> Result<(), Fail> {
+fn a_definite_level_has_space_for_63_indefinite_ones_inside(rt: HostRuntime) -> Result<(), Fail> {
     let alloc = rt.alloc();
     let inside = nested(alloc, Forms::Indefinite, 63, &[])?;
     let octets = around(alloc, inside.as_slice(), false)?;
@@ -172,7 +172,7 @@ fn a_reader_inside_parts_joins_the_levels_that_are_left(rt: HostRuntime) -> Resu
         inside_parts(
             &rt,
             alloc,
-            ber_unlent(octets)?,
+            ber_not_borrowed(octets)?,
             parts as u32,
             read,
             (end, false),
@@ -192,7 +192,7 @@ fn a_reader_inside_parts_joins_the_levels_that_are_left(rt: HostRuntime) -> Resu
         inside_parts(
             &rt,
             alloc,
-            ber_unlent(octets)?,
+            ber_not_borrowed(octets)?,
             parts as u32,
             refused,
             (headers, true),

@@ -6,17 +6,17 @@ use std::process::Abort;
 
 // What follows the end-of-contents octets that close indefinite-length contents (X.690 8.1.3.6).
 // The only identifiers are 01, 02, 04 and 80, which are primitive, and 24.
-fn behind_body(octets: &[u8], levels: u32) -> Option<&[u8]> {
+fn after_body(octets: &[u8], levels: u32) -> Option<&[u8]> {
     if levels == 0 {
         return None;
     }
     let mut left = octets;
     for _ in 0..octets.len() {
         left = match left {
-            [0x00, 0x00, behind @ ..] => return Some(behind),
-            [0x24, 0x80, inner @ ..] => behind_body(inner, levels - 1)?,
+            [0x00, 0x00, following @ ..] => return Some(following),
+            [0x24, 0x80, inner @ ..] => after_body(inner, levels - 1)?,
             [0x00, ..] | [_, 0x80, ..] => return None,
-            [_, count, behind @ ..] => behind.get(*count as usize..)?,
+            [_, count, following @ ..] => following.get(*count as usize..)?,
             _ => return None,
         };
     }
@@ -27,9 +27,9 @@ fn behind_body(octets: &[u8], levels: u32) -> Option<&[u8]> {
 fn first_segment(octets: &[u8]) -> Option<(bool, &[u8], &[u8])> {
     match octets {
         [0x24, 0x80, inner @ ..] => {
-            let behind = behind_body(inner, 64)?;
-            let count = inner.len().saturating_sub(behind.len()).saturating_sub(2);
-            Some((true, inner.get(..count)?, behind))
+            let following = after_body(inner, 64)?;
+            let count = inner.len().saturating_sub(following.len()).saturating_sub(2);
+            Some((true, inner.get(..count)?, following))
         }
         [identifier, count, inner @ ..]
             if (*identifier == 0x04 || *identifier == 0x24) && *count < 0x80 => {
@@ -49,7 +49,7 @@ fn first_segment(octets: &[u8]) -> Option<(bool, &[u8], &[u8])> {
 fn join_plainly(octets: &[u8], levels: u32, out: &mut Vec<u8>) -> Result<bool, AllocError> {
     let mut left = octets;
     for _ in 0..octets.len() {
-        let Some((constructed, contents, behind)) = first_segment(left) else {
+        let Some((constructed, contents, following)) = first_segment(left) else {
             break;
         };
         if !constructed {
@@ -57,7 +57,7 @@ fn join_plainly(octets: &[u8], levels: u32, out: &mut Vec<u8>) -> Result<bool, A
         } else if levels == 0 || !join_plainly(contents, levels - 1, out)? {
             return Ok(false);
         }
-        left = behind;
+        left = following;
     }
     Ok(left.is_empty())
 }

@@ -55,7 +55,7 @@ fn under_ber(
     place: (u32, bool),
 ) -> Result<(), Error> {
     decoding(rt, alloc, ber_reader(octets)?, header, answer, place);
-    decoding(rt, alloc, ber_unlent(octets)?, header, answer, place);
+    decoding(rt, alloc, ber_not_borrowed(octets)?, header, answer, place);
     Ok(())
 }
 
@@ -70,14 +70,14 @@ fn under_der(
     place: (u32, bool),
 ) -> Result<(), Error> {
     decoding(rt, alloc, der_reader(octets)?, header, answer, place);
-    decoding(rt, alloc, der_unlent(octets)?, header, answer, place);
+    decoding(rt, alloc, der_not_borrowed(octets)?, header, answer, place);
     Ok(())
 }
 
 const SEGMENT: [u8; 3] = [0x04, 0x01, 0x2A];
 
 #[test]
-fn contents_behind_a_primitive_header_are_taken_as_they_stand(rt: HostRuntime) -> Result<(), Fail> {
+fn contents_after_a_primitive_header_are_accepted_unchanged(rt: HostRuntime) -> Result<(), Fail> {
     let rows: [(u32, Result<&[u8], Error>, (u32, bool)); 4] = [
         (0, Ok(&[]), (0, false)),
         (2, Ok(&[0x04, 0x01]), (2, false)),
@@ -93,7 +93,7 @@ fn contents_behind_a_primitive_header_are_taken_as_they_stand(rt: HostRuntime) -
 }
 
 // The tag of the header is used only in errors.
-fn segments_behind(rt: &impl Abort, alloc: Global, tag: Tag, length: Length) -> Result<(), Error> {
+fn segments_after(rt: &impl Abort, alloc: Global, tag: Tag, length: Length) -> Result<(), Error> {
     let header = Header::new(tag, length);
     let joined = Ok([0x2A].as_slice());
     under_ber(rt, alloc, &SEGMENT, header, joined, (3, false))?;
@@ -105,10 +105,10 @@ fn segments_behind(rt: &impl Abort, alloc: Global, tag: Tag, length: Length) -> 
 fn contents_of_constructed_headers_are_joined_under_ber_alone(rt: HostRuntime) -> Result<(), Fail> {
     let indefinite = Length::new_indefinite(3);
     for tag in [Tag::OctetString, context_specific(true), Tag::Sequence] {
-        segments_behind(&rt, rt.alloc(), tag, indefinite)?;
+        segments_after(&rt, rt.alloc(), tag, indefinite)?;
     }
     for tag in [context_specific(true), Tag::Sequence] {
-        segments_behind(&rt, rt.alloc(), tag, Length::new(3))?;
+        segments_after(&rt, rt.alloc(), tag, Length::new(3))?;
     }
     Ok(())
 }
@@ -137,7 +137,7 @@ fn encrypted(rt: &impl Abort, alloc: Global, octets: &[u8]) -> Result<(), Error>
 }
 
 #[test]
-fn contents_behind_an_implicit_tag_are_joined(rt: HostRuntime) -> Result<(), Fail> {
+fn contents_after_an_implicit_tag_are_joined(rt: HostRuntime) -> Result<(), Fail> {
     let rows: [&[u8]; 3] = [
         &[
             0xA0, 0x80, 0x04, 0x10, 0xCC, 0x74, 0xAD, 0xF6, 0x5D, 0x97, 0x3C, 0x8B, 0x72, 0xCD,
@@ -160,7 +160,7 @@ fn contents_behind_an_implicit_tag_are_joined(rt: HostRuntime) -> Result<(), Fai
 }
 
 // An error at the front is reported there, and any other at the octet before.
-fn refused_behind<R: Reader + Parts>(
+fn rejected_after<R: Reader + Parts>(
     rt: &impl Abort,
     alloc: Global,
     mut reader: R,
@@ -177,8 +177,8 @@ fn refused_behind<R: Reader + Parts>(
 #[test]
 fn der_refuses_a_constructed_header_at_the_octet_before(rt: HostRuntime) -> Result<(), Fail> {
     for (before, at) in [(0, 0), (1, 0), (2, 1), (3, 2)] {
-        refused_behind(&rt, rt.alloc(), der_reader(&SEGMENT)?, before, at)?;
-        refused_behind(&rt, rt.alloc(), der_unlent(&SEGMENT)?, before, at)?;
+        rejected_after(&rt, rt.alloc(), der_reader(&SEGMENT)?, before, at)?;
+        rejected_after(&rt, rt.alloc(), der_not_borrowed(&SEGMENT)?, before, at)?;
     }
     Ok(())
 }

@@ -28,7 +28,7 @@ fn joining_each(
     place: (u32, bool),
 ) -> Result<(), Error> {
     joining(rt, alloc, ber_reader(octets)?, answer, place);
-    joining(rt, alloc, ber_unlent(octets)?, answer, place);
+    joining(rt, alloc, ber_not_borrowed(octets)?, answer, place);
     Ok(())
 }
 
@@ -42,7 +42,7 @@ fn joining_primitive(
 ) -> Result<(), Error> {
     joining_each(rt, alloc, octets, answer, place)?;
     joining(rt, alloc, der_reader(octets)?, answer, place);
-    joining(rt, alloc, der_unlent(octets)?, answer, place);
+    joining(rt, alloc, der_not_borrowed(octets)?, answer, place);
     Ok(())
 }
 
@@ -223,7 +223,7 @@ fn segments_of_segments_are_refused_under_der(rt: HostRuntime) -> Result<(), Fai
     ];
     for (octets, error, place) in rows {
         joining(&rt, rt.alloc(), der_reader(octets)?, Err(error), place);
-        joining(&rt, rt.alloc(), der_unlent(octets)?, Err(error), place);
+        joining(&rt, rt.alloc(), der_not_borrowed(octets)?, Err(error), place);
     }
     Ok(())
 }

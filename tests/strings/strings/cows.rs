@@ -23,7 +23,7 @@ fn text_of_contents<'a>(
 }
 
 #[test]
-fn octets_are_borrowed_from_a_reader_that_lends(rt: HostRuntime) -> Result<(), Fail> {
+fn octets_are_borrowed_from_a_reader_that_reads_slices(rt: HostRuntime) -> Result<(), Fail> {
     let octets = [0x01, 0x02, 0x03];
     let mut reader = der_reader(&octets)?;
     let bytes = BytesCow::decode_value(rt.alloc(), &mut reader, header_of(3))?;
@@ -34,9 +34,9 @@ fn octets_are_borrowed_from_a_reader_that_lends(rt: HostRuntime) -> Result<(), F
 }
 
 #[test]
-fn octets_are_copied_from_a_reader_that_does_not_lend(rt: HostRuntime) -> Result<(), Fail> {
+fn octets_are_copied_from_a_reader_that_does_not_read_slices(rt: HostRuntime) -> Result<(), Fail> {
     let octets = [0x01, 0x02, 0x03];
-    let mut reader = der_unlent(&octets)?;
+    let mut reader = der_not_borrowed(&octets)?;
     let bytes = octets_of_contents(rt.alloc(), &mut reader, header_of(3))?;
     holds(&rt, matches!(bytes, BytesCow::Owned(_)));
     same(&rt, bytes.as_bytes_ref().as_slice(), octets.as_slice());
@@ -46,7 +46,7 @@ fn octets_are_copied_from_a_reader_that_does_not_lend(rt: HostRuntime) -> Result
 
 #[test]
 fn octets_that_are_missing_are_refused_and_the_reader_fails(rt: HostRuntime) -> Result<(), Fail> {
-    let mut reader = der_unlent(&[0x01, 0x02, 0x03])?;
+    let mut reader = der_not_borrowed(&[0x01, 0x02, 0x03])?;
     let refused = octets_of_contents(rt.alloc(), &mut reader, header_of(4)).err();
     same(&rt, refused, Some(incomplete(4, 3, 0)));
     same(&rt, reader.place(), (0, 3, true));
@@ -54,7 +54,7 @@ fn octets_that_are_missing_are_refused_and_the_reader_fails(rt: HostRuntime) -> 
 }
 
 #[test]
-fn texts_are_borrowed_from_a_reader_that_lends(rt: HostRuntime) -> Result<(), Fail> {
+fn texts_are_borrowed_from_a_reader_that_reads_slices(rt: HostRuntime) -> Result<(), Fail> {
     let mut reader = der_reader(&[0xC3, 0xBC])?;
     let text = text_of_contents(rt.alloc(), &mut reader, header_of(2))?;
     holds(&rt, matches!(text, StringCow::Borrowed(_)));
@@ -64,8 +64,8 @@ fn texts_are_borrowed_from_a_reader_that_lends(rt: HostRuntime) -> Result<(), Fa
 }
 
 #[test]
-fn texts_are_refused_by_a_reader_that_does_not_lend(rt: HostRuntime) -> Result<(), Fail> {
-    let mut reader = der_unlent(&[0xC3, 0xBC])?;
+fn texts_are_rejected_by_a_reader_that_does_not_read_slices(rt: HostRuntime) -> Result<(), Fail> {
+    let mut reader = der_not_borrowed(&[0xC3, 0xBC])?;
     let refused = StringCow::decode_value(rt.alloc(), &mut reader, header_of(2)).err();
     same(&rt, refused, Some(unsupported(0)));
     same(&rt, reader.place(), (0, 2, false));
@@ -73,7 +73,7 @@ fn texts_are_refused_by_a_reader_that_does_not_lend(rt: HostRuntime) -> Result<(
 }
 
 #[test]
-fn octets_that_are_no_text_are_refused_behind_them(rt: HostRuntime) -> Result<(), Fail> {
+fn octets_that_are_no_text_are_rejected_after_them(rt: HostRuntime) -> Result<(), Fail> {
     let mut reader = der_reader(&[0xC3])?;
     let refused = text_of_contents(rt.alloc(), &mut reader, header_of(1));
     holds(&rt, is_no_text(refused.err()));

@@ -38,7 +38,7 @@ fn elements_that_are_no_octet_strings_are_refused(rt: HostRuntime) {
 
 // Under the Basic Encoding Rules the contents are accepted unchanged, segments too.
 #[test]
-fn under_ber_octets_are_taken_as_they_stand_and_segments_too(rt: HostRuntime) -> Result<(), Fail> {
+fn under_ber_octets_are_accepted_unchanged_and_segments_too(rt: HostRuntime) -> Result<(), Fail> {
     let alloc = rt.alloc();
     let constructed = BorrowedOctets::from_ber(alloc, &[0x24, 0x01, 0x09])?;
     same(&rt, constructed.octets.as_slice(), [0x09].as_slice());
@@ -81,12 +81,12 @@ fn elements_that_are_no_texts_are_refused(rt: HostRuntime) -> Result<(), Fail> {
 }
 
 // A reader that returns no slices stays after the header of a value that needs one.
-fn unlent<T: Decode<CopyingReader<'static>, Error = Error> + Drop>(
+fn not_borrowed<T: Decode<CopyingReader<'static>, Error = Error> + Drop>(
     rt: &impl Abort,
     alloc: Global,
     octets: &'static [u8; 3],
 ) -> Result<(), Error> {
-    let mut reader = der_unlent(octets)?;
+    let mut reader = der_not_borrowed(octets)?;
     same(
         rt,
         T::decode(alloc, &mut reader).err(),
@@ -97,15 +97,15 @@ fn unlent<T: Decode<CopyingReader<'static>, Error = Error> + Drop>(
 }
 
 #[test]
-fn elements_that_want_lending_are_refused_behind_their_header(rt: HostRuntime) -> Result<(), Fail> {
-    unlent::<BorrowedOctets<'static>>(&rt, rt.alloc(), &[0x04, 0x01, 0xFF])?;
-    unlent::<OwnedText>(&rt, rt.alloc(), &[0x0C, 0x01, 0x68])?;
+fn elements_that_need_slices_are_rejected_after_their_header(rt: HostRuntime) -> Result<(), Fail> {
+    not_borrowed::<BorrowedOctets<'static>>(&rt, rt.alloc(), &[0x04, 0x01, 0xFF])?;
+    not_borrowed::<OwnedText>(&rt, rt.alloc(), &[0x0C, 0x01, 0x68])?;
     Ok(())
 }
 
 #[test]
-fn octets_are_copied_from_a_reader_that_does_not_lend(rt: HostRuntime) -> Result<(), Fail> {
-    let mut reader = der_unlent(&[0x01, 0x02])?;
+fn octets_are_copied_from_a_reader_that_does_not_read_slices(rt: HostRuntime) -> Result<(), Fail> {
+    let mut reader = der_not_borrowed(&[0x01, 0x02])?;
     let bytes = BytesOwned::decode_value(rt.alloc(), &mut reader, header_of(2))?;
     same(&rt, bytes.as_slice(), [0x01, 0x02].as_slice());
     same(&rt, reader.place(), (2, 2, false));
@@ -113,9 +113,9 @@ fn octets_are_copied_from_a_reader_that_does_not_lend(rt: HostRuntime) -> Result
 }
 
 #[test]
-fn contents_that_want_lending_are_refused_where_they_begin(rt: HostRuntime) -> Result<(), Fail> {
+fn contents_that_need_slices_are_rejected_where_they_begin(rt: HostRuntime) -> Result<(), Fail> {
     let alloc = rt.alloc();
-    let mut reader = der_unlent(&[0x61])?;
+    let mut reader = der_not_borrowed(&[0x61])?;
     let refused = StringRef::decode_value(alloc, &mut reader, header_of(1)).err();
     same(&rt, refused, Some(unsupported(0)));
     let refused = StringOwned::decode_value(alloc, &mut reader, header_of(1)).err();

@@ -11,7 +11,7 @@ fn is_text(rt: &impl Abort, alloc: Global, octets: &[u8]) -> Result<(), Error> {
     same_at(rt, text.len(), copy.as_bytes(), octets);
     let mut reader = der_reader(octets)?;
     let header = Header::new(Tag::Utf8String, text.len());
-    let read = lent_text(alloc, &mut reader, header)?;
+    let read = borrowed_text(alloc, &mut reader, header)?;
     same_at(rt, text.len(), read, text);
     Ok(())
 }
@@ -41,7 +41,7 @@ fn is_refused(rt: &impl Abort, alloc: Global, octets: &[u8]) -> Result<(), Error
     let end = u32::from(reader.input_len());
     holds_at(rt, end, is_no_text(text_from(octets).err()));
     holds_at(rt, end, is_no_text(owned_text(alloc, octets).err()));
-    let refused = lent_text(alloc, &mut reader, header_of(end));
+    let refused = borrowed_text(alloc, &mut reader, header_of(end));
     holds_at(rt, end, is_no_text(refused.err()));
     same_at(rt, end, reader.place(), (end, end, false));
     let mut reader = der_reader(octets)?;

@@ -11,7 +11,7 @@ fn constants_and_functions_tell_the_same_tag(rt: HostRuntime) {
 }
 
 #[test]
-fn days_stand_by_their_own_order(rt: HostRuntime) {
+fn days_are_by_their_own_order(rt: HostRuntime) {
     let (first, last) = (Day { number: 1 }, Day { number: 31 });
     same(&rt, compare_days(first, last), Ok(Ordering::Less));
     same(&rt, compare_days(last, first), Ok(Ordering::Greater));

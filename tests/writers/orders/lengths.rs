@@ -22,7 +22,7 @@ fn lengths_ascend(rt: HostRuntime) {
 }
 
 #[test]
-fn length_one_stands_between_zero_and_the_longest(rt: HostRuntime) {
+fn length_one_is_between_zero_and_the_longest(rt: HostRuntime) {
     let rows = [
         (Length::MAX, Ordering::Less),
         (Length::new(1), Ordering::Equal),

@@ -4,7 +4,7 @@ use super::*;
 use crate::checks::same;
 use der_fixtures::ranked::Ranked;
 
-fn telling(tag: Tag, answer: Result<Ordering, Error>) -> Ranked {
+fn reporting(tag: Tag, answer: Result<Ordering, Error>) -> Ranked {
     Ranked {
         tag,
         size: Ok(()),
@@ -32,7 +32,7 @@ fn order_of_lists(these: &[Ranked], those: &[Ranked]) -> Result<Ordering, Error>
 #[test]
 fn the_first_header_is_refused_first(rt: HostRuntime) {
     let (first, second) = (refused(Tag::Null, 1), refused(Tag::Integer, 2));
-    let fine = telling(Tag::Set, Ok(Ordering::Equal));
+    let fine = reporting(Tag::Set, Ok(Ordering::Equal));
     let overflow = |position| Err(ErrorKind::Overflow.at(Length::new(position)));
     same(&rt, order(&first, &second), overflow(1));
     same(&rt, order(&second, &first), overflow(2));
@@ -41,13 +41,13 @@ fn the_first_header_is_refused_first(rt: HostRuntime) {
 }
 
 #[test]
-fn contents_are_compared_behind_equal_headers(rt: HostRuntime) {
+fn contents_are_compared_after_equal_headers(rt: HostRuntime) {
     let wrong = Err(Tag::Null.value_error().to_error());
-    let (null, set) = (telling(Tag::Null, wrong), telling(Tag::Set, wrong));
+    let (null, set) = (reporting(Tag::Null, wrong), reporting(Tag::Set, wrong));
     same(&rt, order(&null, &set), Ok(Ordering::Less));
     same(&rt, order(&set, &null), Ok(Ordering::Greater));
     same(&rt, order(&null, &null), wrong);
-    let greater = telling(Tag::Null, Ok(Ordering::Greater));
+    let greater = reporting(Tag::Null, Ok(Ordering::Greater));
     same(&rt, order(&greater, &null), Ok(Ordering::Greater));
 }
 
@@ -55,10 +55,10 @@ fn contents_are_compared_behind_equal_headers(rt: HostRuntime) {
 fn the_first_refused_item_decides(rt: HostRuntime) {
     let wrong = Err(Tag::Null.value_error().to_error());
     let (fails, equal) = (
-        telling(Tag::Null, wrong),
-        telling(Tag::Null, Ok(Ordering::Equal)),
+        reporting(Tag::Null, wrong),
+        reporting(Tag::Null, Ok(Ordering::Equal)),
     );
-    let less = telling(Tag::Null, Ok(Ordering::Less));
+    let less = reporting(Tag::Null, Ok(Ordering::Less));
     let fine = [equal, equal, equal];
     same(&rt, order_of_lists(&[equal, fails, less], &fine), wrong);
     let answer = order_of_lists(&[equal, less, fails], &fine);

@@ -29,7 +29,7 @@ fn tags_ascend(rt: HostRuntime) {
 }
 
 #[test]
-fn tags_do_not_stand_as_numbers(rt: HostRuntime) {
+fn tag_order_is_not_numeric(rt: HostRuntime) {
     let (less, more) = (context(false, 16383), context(false, 16384));
     same(&rt, order(less, more), Ok(Ordering::Greater));
     same(&rt, less.cmp(&more), Ordering::Less);

@@ -31,8 +31,8 @@ fn a_header_is_refused_where_the_buffer_is_too_short(rt: HostRuntime) {
     let header = Header::new(Tag::Sequence, Length::new(256));
     let mut buf = [0; 3];
     let refused = header.encode_to_slice(&mut buf);
-    let no_room = ErrorKind::Overlength.at(Length::new(4));
-    holds(&rt, matches!(refused, Err(error) if error == no_room));
+    let no_space = ErrorKind::Overlength.at(Length::new(4));
+    holds(&rt, matches!(refused, Err(error) if error == no_space));
 }
 
 #[test]

@@ -42,10 +42,10 @@ fn references_have_the_contents_of_their_values(rt: HostRuntime) -> Result<(), F
 }
 
 #[test]
-fn contents_are_refused_where_there_is_no_room(rt: HostRuntime) -> Result<(), Fail> {
+fn contents_are_rejected_where_there_is_no_space(rt: HostRuntime) -> Result<(), Fail> {
     let month = september()?;
     let refused = encode_value_to_slice(&mut [], &month);
-    let no_room = ErrorKind::Overlength.at(Length::ONE);
-    holds(&rt, matches!(refused, Err(error) if error == no_room));
+    let no_space = ErrorKind::Overlength.at(Length::ONE);
+    holds(&rt, matches!(refused, Err(error) if error == no_space));
     Ok(())
 }

@@ -138,7 +138,7 @@ fn a_refusal_in_a_sequence_in_a_sequence_fails_the_writer(rt: HostRuntime) {
 }
 
 #[test]
-fn an_ignored_refusal_in_a_sequence_is_told_as_failed(rt: HostRuntime) {
+fn an_ignored_error_in_a_sequence_is_reported_as_failed(rt: HostRuntime) {
     let mut buf = [0; 8];
     let mut writer = SliceWriter::new(&mut buf);
     let refused = writer.sequence(Length::new(4), ignored_within);
@@ -157,7 +157,7 @@ fn sequence_of_nothing(writer: &mut SliceWriter<'_>, len: Length) -> Result<(), 
 }
 
 #[test]
-fn a_sequence_is_refused_where_there_is_no_room(rt: HostRuntime) {
+fn a_sequence_is_rejected_where_there_is_no_space(rt: HostRuntime) {
     let rows = [
         (10, Length::MAX, ErrorKind::Overflow.at(Length::new(6))),
         (
@@ -167,9 +167,9 @@ fn a_sequence_is_refused_where_there_is_no_room(rt: HostRuntime) {
         ),
         (1, Length::ZERO, ErrorKind::Overlength.at(Length::new(2))),
     ];
-    for (room, len, want) in rows {
+    for (space, len, want) in rows {
         let mut buf = [0; 10];
-        let mut writer = SliceWriter::new(&mut buf[..room]);
+        let mut writer = SliceWriter::new(&mut buf[..space]);
         same_at(&rt, len, sequence_of_nothing(&mut writer, len), Err(want));
         holds(&rt, writer.is_failed());
     }

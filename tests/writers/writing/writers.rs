@@ -5,7 +5,7 @@ use crate::checks::{holds, same};
 use der::{Encode, SliceWriter, Writer, encode_value_to_slice};
 
 #[test]
-fn octets_are_written_to_the_end_of_the_room(rt: HostRuntime) -> Result<(), Fail> {
+fn octets_are_written_to_the_end_of_the_space(rt: HostRuntime) -> Result<(), Fail> {
     let mut buf = [0; 3];
     let mut writer = SliceWriter::new(&mut buf);
     same(&rt, writer.write(&[0x01, 0x02]), Ok(()));
@@ -17,7 +17,7 @@ fn octets_are_written_to_the_end_of_the_room(rt: HostRuntime) -> Result<(), Fail
 }
 
 #[test]
-fn a_write_past_the_room_is_refused(rt: HostRuntime) {
+fn a_write_past_the_space_is_rejected(rt: HostRuntime) {
     let mut buf = [0; 3];
     let mut writer = SliceWriter::new(&mut buf);
     same(&rt, writer.write_byte(0x01), Ok(()));
@@ -47,7 +47,7 @@ fn an_error_leaves_the_writer_failed(rt: HostRuntime) {
 }
 
 #[test]
-fn a_length_is_refused_where_there_is_no_room(rt: HostRuntime) {
+fn a_length_is_rejected_where_there_is_no_space(rt: HostRuntime) {
     let mut writer = SliceWriter::new(&mut []);
     same(
         &rt,
@@ -66,7 +66,7 @@ fn a_length_is_refused_where_there_is_no_room(rt: HostRuntime) {
 }
 
 #[test]
-fn a_header_is_refused_where_there_is_no_room(rt: HostRuntime) {
+fn a_header_is_rejected_where_there_is_no_space(rt: HostRuntime) {
     let mut buf = [0; 3];
     let mut writer = SliceWriter::new(&mut buf);
     let empty = Header::new(Tag::Sequence, Length::ZERO);
@@ -100,7 +100,7 @@ fn a_header_is_refused_where_there_is_no_room(rt: HostRuntime) {
 }
 
 #[test]
-fn what_stands_behind_in_the_buffer_is_left(rt: HostRuntime) -> Result<(), Fail> {
+fn what_follows_in_the_buffer_is_left(rt: HostRuntime) -> Result<(), Fail> {
     let mut buf = [0xEE; 7];
     let mut writer = SliceWriter::new(&mut buf);
     same(&rt, writer.write(&[0x01]), Ok(()));

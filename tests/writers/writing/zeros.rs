@@ -64,7 +64,7 @@ fn an_element_that_is_too_long_leaves_the_vector(rt: HostRuntime) -> Result<(), 
 }
 
 #[test]
-fn an_element_is_refused_where_there_is_no_room(rt: HostRuntime) {
+fn an_element_is_rejected_where_there_is_no_space(rt: HostRuntime) {
     let mut buf = [0; 4];
     let refused = Zeros { count: 3 }.encode_to_slice(&mut buf).err();
     same(&rt, refused, Some(ErrorKind::Overlength.at(Length::new(5))));

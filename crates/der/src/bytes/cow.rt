@@ -3,7 +3,7 @@ ghost use Rattle.std.specs.Prelude.{◌≡◌, ◌↔◌, false, true, IfOk, IsO
 ghost use Rattle.der_core.specs.DecodeValue.{TakesContents};
 ghost use Rattle.der_core.specs.Header.{head_of};
 ghost use Rattle.der_core.specs.ReaderState.{Same};
-ghost use Rattle.der.specs.Octets.{IsCounted, TakesOctets, EndsTaken, LentOctetsRead, octets_size, OctetsWritten};
+ghost use Rattle.der.specs.Octets.{IsCounted, TakesOctets, EndsTaken, BorrowedOctetsRead, octets_size, OctetsWritten};
 ghost use Rattle.der.specs.BytesCow.{cow_octets, IsBorrowedOctets};
 
 use crate::bytes::{BytesOwned, BytesRef};
@@ -52,10 +52,10 @@ impl<'a> ReadValue for BytesCow<'a> {
 ///
 /// `Failed`, `Overflow` and `Incomplete`, as by [`Reader::read_slice`]; from a reader that cannot
 /// return slices, the errors of [`Reader::read_vec`].
-impl<'a, R: Reader<Lent = &'a [u8]>> DecodeValue<R> for BytesCow<'a> {
+impl<'a, R: Reader<Borrowed = &'a [u8]>> DecodeValue<R> for BytesCow<'a> {
     type Error = Error;
 
-    ghost decode_value_answers = { LentOctetsRead cow_octets };
+    ghost decode_value_answers = { BorrowedOctetsRead cow_octets };
 
     fn decode_value(alloc: Global, reader: &mut R, header: Header) -> Result<Self, Error>
         ensures same { Same (R.state reader.old) (R.state reader.new) }
@@ -63,13 +63,13 @@ impl<'a, R: Reader<Lent = &'a [u8]>> DecodeValue<R> for BytesCow<'a> {
             (R.state reader.old) result (R.state reader.new) }
         ensures complete { EndsTaken IsCounted cow_octets R.reliable (head_of header)
             (R.state reader.old) result (R.state reader.new) }
-        ensures exact { R.reliable ≡ true → LentOctetsRead cow_octets (head_of header)
+        ensures exact { R.reliable ≡ true → BorrowedOctetsRead cow_octets (head_of header)
             (R.state reader.old) result (R.state reader.new) }
-        ensures ok { IsOk result → LentOctetsRead cow_octets (head_of header) (R.state reader.old)
+        ensures ok { IsOk result → BorrowedOctetsRead cow_octets (head_of header) (R.state reader.old)
             result (R.state reader.new) }
-        ensures borrowed { IfOk result (λ b. IsBorrowedOctets b ↔ (R.lends ≡ true)) }
+        ensures borrowed { IfOk result (λ b. IsBorrowedOctets b ↔ (R.reads_slices ≡ true)) }
     {
-        if R::can_lend() {
+        if R::can_read_slice() {
             Ok(BytesCow::Borrowed(BytesRef::decode_value(alloc, reader, header)?))
         } else {
             Ok(BytesCow::Owned(BytesOwned::decode_value(alloc, reader, header)?))

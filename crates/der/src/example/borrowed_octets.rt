@@ -3,7 +3,7 @@ ghost use Rattle.std.specs.Prelude.{◌≡◌, false};
 ghost use Rattle.der_base.specs.declared.tag.Tag.TheVariants.{OctetString};
 ghost use Rattle.std.proofs.Common.{refl};
 ghost use Rattle.der.specs.OctetsOrder.{octets_order};
-ghost use Rattle.der.specs.Octets.{IsCounted, TakesOctets, LentOctetsRead, octets_size, OctetsWritten};
+ghost use Rattle.der.specs.Octets.{IsCounted, TakesOctets, BorrowedOctetsRead, octets_size, OctetsWritten};
 ghost use Rattle.der.specs.BorrowedOctets.{borrowed_octets, borrowed_lawful};
 
 use crate::bytes::BytesRef;
@@ -51,10 +51,10 @@ impl<'a> ReadValue for BorrowedOctets<'a> {
 /// # Errors
 ///
 /// Those of [`BytesRef`].
-impl<'a, R: Reader<Lent = &'a [u8]>> DecodeValue<R> for BorrowedOctets<'a> {
+impl<'a, R: Reader<Borrowed = &'a [u8]>> DecodeValue<R> for BorrowedOctets<'a> {
     type Error = Error;
 
-    ghost decode_value_answers = { LentOctetsRead borrowed_octets };
+    ghost decode_value_answers = { BorrowedOctetsRead borrowed_octets };
 
     fn decode_value(alloc: Global, reader: &mut R, header: Header) -> Result<Self, Error> {
         let octets = BytesRef::decode_value(alloc, reader, header)?;

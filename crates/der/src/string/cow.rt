@@ -4,7 +4,7 @@ ghost use Rattle.der_core.specs.DecodeValue.{TakesContents};
 ghost use Rattle.der_core.specs.Header.{head_of};
 ghost use Rattle.der_core.specs.Outcome.{Gives, map_ok};
 ghost use Rattle.der_core.specs.ReaderState.{Same};
-ghost use Rattle.der.specs.Octets.{IsText, TakesOctets, EndsTaken, LentTextRead, octets_size, OctetsWritten, unlent_outcome};
+ghost use Rattle.der.specs.Octets.{IsText, TakesOctets, EndsTaken, BorrowedTextRead, octets_size, OctetsWritten, not_borrowed_outcome};
 ghost use Rattle.der.specs.StringCow.{cow_text, IsBorrowedText};
 
 use crate::string::{StringOwned, StringRef};
@@ -55,10 +55,10 @@ impl<'a> ReadValue for StringCow<'a> {
 ///   cannot return slices.
 /// - `Utf8` without a position, if the contents are not UTF-8; the reader is after them and has not
 ///   failed.
-impl<'a, R: Reader<Lent = &'a [u8]>> DecodeValue<R> for StringCow<'a> {
+impl<'a, R: Reader<Borrowed = &'a [u8]>> DecodeValue<R> for StringCow<'a> {
     type Error = Error;
 
-    ghost decode_value_answers = { LentTextRead cow_text };
+    ghost decode_value_answers = { BorrowedTextRead cow_text };
 
     fn decode_value(alloc: Global, reader: &mut R, header: Header) -> Result<Self, Error>
         ensures same { Same (R.state reader.old) (R.state reader.new) }
@@ -66,15 +66,15 @@ impl<'a, R: Reader<Lent = &'a [u8]>> DecodeValue<R> for StringCow<'a> {
             (R.state reader.old) result (R.state reader.new) }
         ensures complete { EndsTaken IsText cow_text R.reliable (head_of header)
             (R.state reader.old) result (R.state reader.new) }
-        ensures exact { R.reliable ≡ true → LentTextRead cow_text (head_of header)
+        ensures exact { R.reliable ≡ true → BorrowedTextRead cow_text (head_of header)
             (R.state reader.old) result (R.state reader.new) }
-        ensures ok { IsOk result → LentTextRead cow_text (head_of header) (R.state reader.old)
+        ensures ok { IsOk result → BorrowedTextRead cow_text (head_of header) (R.state reader.old)
             result (R.state reader.new) }
-        ensures unlent { R.lends ≡ false → Gives unlent_outcome (R.state reader.old)
+        ensures not_borrowed { R.reads_slices ≡ false → Gives not_borrowed_outcome (R.state reader.old)
             (map_ok cow_text result) (R.state reader.new) }
-        ensures borrowed { IfOk result (λ t. IsBorrowedText t ↔ (R.lends ≡ true)) }
+        ensures borrowed { IfOk result (λ t. IsBorrowedText t ↔ (R.reads_slices ≡ true)) }
     {
-        if R::can_lend() {
+        if R::can_read_slice() {
             Ok(StringCow::Borrowed(StringRef::decode_value(alloc, reader, header)?))
         } else {
             Ok(StringCow::Owned(StringOwned::decode_value(alloc, reader, header)?))

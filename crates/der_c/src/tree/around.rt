@@ -8,7 +8,7 @@ pub(crate) const LEVELS: usize = 32;
 #[derive(Drop)]
 pub(crate) struct Around {
     pub(crate) ends: [u32; 32],
-    pub(crate) behind: [u32; 32],
+    pub(crate) following: [u32; 32],
     // the number of parts around the reader
     pub(crate) level: usize,
     ghost shallow: { level ≤ 32 },
@@ -18,7 +18,7 @@ impl Around {
     // no parts
     pub(crate) const NONE: Around = Around {
         ends: [0; 32],
-        behind: [0; 32],
+        following: [0; 32],
         level: 0,
     };
 }

@@ -1,9 +1,9 @@
 //! A reader that enters and leaves parts.
 ghost use Rattle.std.specs.Prelude.{◌≡◌, ◌+◌, ◌<◌, ◌≤◌, List, [], ◌∷◌, length};
 ghost use Rattle.der_core.specs.ReaderState.{ReaderState};
-ghost use Rattle.der_c.specs.Reader.{reader_state};
+ghost use Rattle.der_c.specs.CReader.{reader_state};
 ghost use Rattle.der_c.specs.Tree.{ReadsNext, node_of};
-ghost use Rattle.der_c.specs.Around.{AreAround, Tells};
+ghost use Rattle.der_c.specs.Around.{AreAround, WalksNodes};
 
 use crate::element::DerElement;
 use crate::reader::DerReader;
@@ -13,7 +13,7 @@ use crate::tree::around::{Around, LEVELS};
 #[inline(always)]
 pub(crate) fn climb(reader: &mut DerReader<'_>, around: &mut Around)
     requires parts { AreAround around.old (reader_state reader.old) }
-    ensures tells { Tells around.old (reader_state reader.old) [] around.new
+    ensures walks { WalksNodes around.old (reader_state reader.old) [] around.new
         (reader_state reader.new) }
     ensures climbed { reader.new.position ≡ reader.new.end → around.new.level ≡ 0 }
 {
@@ -28,13 +28,13 @@ fn leave(reader: &mut DerReader<'_>, around: &mut Around)
     requires inside { 0 < around.old.level }
     requires at_end { reader.old.position ≡ reader.old.end }
     requires parts { AreAround around.old (reader_state reader.old) }
-    ensures tells { Tells around.old (reader_state reader.old) [] around.new
+    ensures walks { WalksNodes around.old (reader_state reader.old) [] around.new
         (reader_state reader.new) }
     ensures below { around.new.level + 1 ≡ around.old.level }
 {
     let level = around.level - 1;
     around.level = level;
-    reader.position = around.behind[level] as usize;
+    reader.position = around.following[level] as usize;
     reader.end = around.ends[level];
 }
 
@@ -44,8 +44,8 @@ pub(crate) fn look_into(reader: &mut DerReader<'_>, around: &mut Around, element
     requires parts { AreAround around.old (reader_state reader.old) }
     requires lies { element.now.contents_start + length element.now.contents.now
         ≤ reader.old.position }
-    ensures tells { (s : ReaderState) → ReadsNext s element.now (reader_state reader.old)
-        → Tells around.old s (node_of around.old.level element.now ∷ []) around.new
+    ensures walks { (s : ReaderState) → ReadsNext s element.now (reader_state reader.old)
+        → WalksNodes around.old s (node_of around.old.level element.now ∷ []) around.new
         (reader_state reader.new) }
 {
     let level = around.level;
@@ -56,7 +56,7 @@ pub(crate) fn look_into(reader: &mut DerReader<'_>, around: &mut Around, element
         return;
     }
     around.ends[level] = reader.end;
-    around.behind[level] = reader.position as u32;
+    around.following[level] = reader.position as u32;
     around.level = level + 1;
     reader.position = element.contents_start as usize;
     reader.end = element.contents_start + element.contents.len() as u32;

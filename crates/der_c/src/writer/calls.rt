@@ -2,11 +2,11 @@
 ghost use Rattle.std.specs.Prelude.{◌≡◌, length};
 ghost use Rattle.der_core.specs.Writer.{fresh_state};
 ghost use Rattle.der_core.specs.Encode.{finished_answer};
-ghost use Rattle.der_c.specs.Reader.{answer_code};
-ghost use Rattle.der_c.specs.Writer.{writer_state};
+ghost use Rattle.der_c.specs.CReader.{answer_code};
+ghost use Rattle.der_c.specs.CWriter.{writer_state};
 ghost use Rattle.der_c.specs.WriterCalls.{RefusesBy, WritesOctets, WritesHeader, WritesElement, Measures};
 
-use crate::error::{DerError, told};
+use crate::error::{DerError, reported};
 use crate::tag::tag_of_word;
 use crate::writer::DerWriter;
 use crate::writer::short::write_short;
@@ -42,7 +42,7 @@ pub extern "C" fn der_writer_finish(writer: &DerWriter<'_>) -> DerError
     ensures { result ≡ answer_code (finished_answer (writer_state writer.now)) }
 {
     if writer.failed {
-        return told(ErrorKind::Failed.at(Length::new(writer.position as u32)));
+        return reported(ErrorKind::Failed.at(Length::new(writer.position as u32)));
     }
     DerError::NONE
 }
@@ -118,7 +118,7 @@ fn element_slowly(writer: &mut DerWriter<'_>, tag: u64, contents: &[u8]) -> DerE
     let header = Header::new(tag, Length::new(contents.len() as u32));
     match header.encode(writer) {
         Ok(()) => code(writer.write(contents)),
-        Err(error) => told(error),
+        Err(error) => reported(error),
     }
 }
 
@@ -132,14 +132,14 @@ pub extern "C" fn der_element_length(tag: u64, length: u32, count: &mut u32) -> 
     ensures { Measures tag length result count.old count.new }
 {
     let Some(tag) = tag_of_word(tag) else {
-        return told(ErrorKind::TagNumberInvalid.to_error());
+        return reported(ErrorKind::TagNumberInvalid.to_error());
     };
     match Length::new(length).for_tlv(tag) {
         Ok(whole) => {
             *count = u32::from(whole);
             DerError::NONE
         }
-        Err(error) => told(error),
+        Err(error) => reported(error),
     }
 }
 
@@ -150,7 +150,7 @@ fn code(answer: Result<(), Error>) -> DerError
 {
     match answer {
         Ok(()) => DerError::NONE,
-        Err(error) => told(error),
+        Err(error) => reported(error),
     }
 }
 
@@ -161,5 +161,5 @@ pub(crate) fn refuse(writer: &mut DerWriter<'_>, kind: ErrorKind) -> DerError
     ensures { RefusesBy kind (writer_state writer.old) result (writer_state writer.new) }
 {
     writer.failed = true;
-    told(kind.to_error())
+    reported(kind.to_error())
 }

@@ -1,9 +1,9 @@
 //! Elements that are written with a begin and an end, in C.
 ghost use Rattle.std.specs.Prelude.{◌≡◌, ◌+◌, ◌^◌, ◌<◌, ◌≤◌, length};
-ghost use Rattle.der_c.specs.Writer.{writer_state};
+ghost use Rattle.der_c.specs.CWriter.{writer_state};
 ghost use Rattle.der_c.specs.Part.{BeginsElement, EndsElement, IsMoved, put_state};
 
-use crate::error::{DerError, told};
+use crate::error::{DerError, reported};
 use crate::tag::tag_of_word;
 use crate::writer::calls::refuse;
 use crate::writer::short::write_short;
@@ -43,7 +43,7 @@ fn begin_slowly(writer: &mut DerWriter<'_>, tag: u64, start: &mut usize) -> DerE
             *start = writer.position;
             DerError::NONE
         }
-        Err(error) => told(error),
+        Err(error) => reported(error),
     }
 }
 
@@ -58,21 +58,21 @@ pub extern "C" fn der_end(writer: &mut DerWriter<'_>, start: usize) -> DerError
     ensures { EndsElement start (writer_state writer.old) result (writer_state writer.new) }
 {
     if writer.failed {
-        return told(refusal(true, writer.position as u32, 0));
+        return reported(refusal(true, writer.position as u32, 0));
     }
     if start == 0 || start > writer.position {
         return refuse(writer, ErrorKind::Overlength);
     }
     let count = (writer.position - start) as u32;
-    let mut room = [0u8; 5];
-    let Ok(length) = Length::new(count).encode_to_slice(&mut room) else {
+    let mut space = [0u8; 5];
+    let Ok(length) = Length::new(count).encode_to_slice(&mut space) else {
         return refuse(writer, ErrorKind::Overlength);
     };
     let more = length.len() - 1;
     let stop = writer.octets.len().min(u32::MAX as usize);
     if more > stop - writer.position {
         writer.failed = true;
-        return told(refusal(false, writer.position as u32, more));
+        return reported(refusal(false, writer.position as u32, more));
     }
     put_length(writer, start, length);
     DerError::NONE
@@ -84,22 +84,22 @@ fn put_length(writer: &mut DerWriter<'_>, start: usize, octets: &[u8])
     requires begun { 1 ≤ start }
     requires written { start ≤ writer.old.position }
     requires some { 1 ≤ length octets.now }
-    requires room { writer.old.position + length octets.now ≤ length writer.old.octets.now + 1 }
+    requires space { writer.old.position + length octets.now ≤ length writer.old.octets.now + 1 }
     requires countable { writer.old.position + length octets.now < 2 ^ 32 + 1 }
     ensures { writer_state writer.new ≡ put_state start octets.now (writer_state writer.old) }
 {
     let more = octets.len() - 1;
-    make_room(writer.octets, start, writer.position, more);
+    move_contents(writer.octets, start, writer.position, more);
     writer.octets[start - 1..start + more].copy_from_slice(octets);
     writer.position += more;
 }
 
 // Moves the contents, which end at `position`, by `more` octets.
 #[inline(always)]
-fn make_room(octets: &mut [u8], start: usize, position: usize, more: usize)
+fn move_contents(octets: &mut [u8], start: usize, position: usize, more: usize)
     requires begun { 1 ≤ start }
     requires written { start ≤ position }
-    requires room { position + more ≤ length octets.old }
+    requires space { position + more ≤ length octets.old }
     ensures len { length octets.new ≡ length octets.old }
     ensures moved { IsMoved start position more octets.old octets.new }
 {

@@ -1,6 +1,6 @@
 //! Headers of two octets, which are written with one call.
 ghost use Rattle.std.specs.Prelude.{◌≡◌, true, false};
-ghost use Rattle.der_c.specs.Writer.{writer_state};
+ghost use Rattle.der_c.specs.CWriter.{writer_state};
 ghost use Rattle.der_c.specs.WriterCalls.{WritesShort};
 
 use crate::short::is_identifier;
@@ -28,7 +28,7 @@ pub(crate) fn write_short(writer: &mut DerWriter<'_>, tag: u64, length: usize) -
     if !is_identifier(first) {
         return false;
     }
-    if !writer.has_room(2) {
+    if !writer.has_space(2) {
         return false;
     }
     match writer.write(&[first, length as u8]) {

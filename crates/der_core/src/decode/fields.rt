@@ -2,8 +2,8 @@
 ghost use Rattle.std.specs.Prelude.{◌≡◌, ◌||◌, ℕ, ◌+◌, ◌≤◌, ◌⊎◌, true, false, IfOk, IsOk, IsErrAnd};
 ghost use Rattle.der_core.specs.ReaderState.{Same, rest_of};
 ghost use Rattle.der_core.specs.Decode.{Passes, ReadsOrLacks};
-ghost use Rattle.der_core.specs.DecodeValue.{ContentsAhead, EndsOrLacks, TakesContents};
-ghost use Rattle.der_core.specs.Fields.{FieldsAhead, FieldsRead, TakesWhole, fields_levels};
+ghost use Rattle.der_core.specs.DecodeValue.{ContentsNext, EndsOrLacks, TakesContents};
+ghost use Rattle.der_core.specs.Fields.{FieldsNext, FieldsRead, TakesWhole, fields_levels};
 ghost use Rattle.der_core.specs.Header.{head_of};
 
 use crate::decode::Decode;
@@ -20,7 +20,7 @@ use std::alloc::Global;
 impl<R: Reader, A: Decode<R>, B: Decode<R, Error = <A as Decode<R>>::Error>> Decode<R> for (A, B) {
     type Error = <A as Decode<R>>::Error;
 
-    ghost stands_ahead = { FieldsAhead A.stands_ahead B.stands_ahead };
+    ghost is_next = { FieldsNext A.is_next B.is_next };
 
     ghost decode_levels = { fields_levels A.decode_levels B.decode_levels };
 
@@ -51,10 +51,10 @@ pub fn decode_contents<R: Reader, T: Decode<R>>(
     header: Header,
 ) -> Result<T, <T as Decode<R>>::Error>
     ensures same { Same (R.state reader.old) (R.state reader.new) }
-    ensures sound { TakesContents (TakesWhole T.stands_ahead) (head_of header) (R.state reader.old)
+    ensures sound { TakesContents (TakesWhole T.is_next) (head_of header) (R.state reader.old)
         result (R.state reader.new) }
     ensures complete { (v : T) → R.reliable ≡ true
-        → ContentsAhead (TakesWhole T.stands_ahead v) (head_of header) (R.state reader.old)
+        → ContentsNext (TakesWhole T.is_next v) (head_of header) (R.state reader.old)
         → (R.state reader.old).depth + T.decode_levels (R.state reader.old).rules ≤ 64
         → EndsOrLacks T.Error.out_of_memory T.allocates result (R.state reader.new) }
     ensures exact { R.reliable ≡ true → T.decode_answers (R.state reader.old) result

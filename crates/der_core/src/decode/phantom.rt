@@ -11,7 +11,7 @@ use std::marker::PhantomData;
 impl<R: Reader, T> Decode<R> for PhantomData<T> {
     type Error = Error;
 
-    ghost stands_ahead = { λ _ _ _ m. m ≡ 0 };
+    ghost is_next = { λ _ _ _ m. m ≡ 0 };
 
     ghost decode_levels = { λ _. 0 };
 

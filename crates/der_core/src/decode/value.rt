@@ -4,8 +4,8 @@ ghost use Rattle.der_base.specs.HeaderGrammar.{Head};
 ghost use Rattle.der_base.specs.declared.encoding_rules.EncodingRules.{EncodingRules as Rules};
 ghost use Rattle.der_core.specs.ReaderState.{ReaderState, rest_of, Same};
 ghost use Rattle.der_core.specs.Decode.{Passes, ReadsOrLacks};
-ghost use Rattle.der_core.specs.DecodeValue.{ContentsAhead, EndsOrLacks, TakesContents};
-ghost use Rattle.der_core.specs.Element.{ElementAhead, ElementRead, element_levels};
+ghost use Rattle.der_core.specs.DecodeValue.{ContentsNext, EndsOrLacks, TakesContents};
+ghost use Rattle.der_core.specs.Element.{ElementNext, ElementRead, element_levels};
 ghost use Rattle.der_core.specs.Header.{head_of};
 
 use crate::decode::{Decode, DecodeError};
@@ -72,7 +72,7 @@ pub trait DecodeValue<R: Reader>: ReadValue + Drop {
         ensures sound { TakesContents Self.takes (head_of header) (R.state reader.old) result
             (R.state reader.new) }
         ensures complete { (v : Self) → R.reliable ≡ true
-            → ContentsAhead (Self.takes v) (head_of header) (R.state reader.old)
+            → ContentsNext (Self.takes v) (head_of header) (R.state reader.old)
             → (R.state reader.old).depth + Self.value_levels (R.state reader.old).rules ≤ 64
             → EndsOrLacks Self.Error.out_of_memory Self.allocates result (R.state reader.new) }
         ensures exact { R.reliable ≡ true → decode_value_answers (head_of header)
@@ -104,10 +104,10 @@ pub fn decode_tlv<R: Reader, T: DecodeValue<R> + FixedTag>(
 ) -> Result<T, <T as DecodeValue<R>>::Error>
     ensures same { Same (R.state reader.old) (R.state reader.new) }
     ensures ok { IfOk result (λ v. (R.state reader.new).failed ≡ false
-        → Passes (ElementAhead T.tag_is T.takes v) (R.state reader.old) (R.state reader.new)) }
+        → Passes (ElementNext T.tag_is T.takes v) (R.state reader.old) (R.state reader.new)) }
     ensures complete { (v : T) (m : ℕ) → R.reliable ≡ true
         → (R.state reader.old).failed ≡ false
-        → ElementAhead T.tag_is T.takes v (R.state reader.old).rules
+        → ElementNext T.tag_is T.takes v (R.state reader.old).rules
         (rest_of (R.state reader.old)) m
         → (R.state reader.old).depth + element_levels T.value_levels (R.state reader.old).rules ≤ 64
         → ReadsOrLacks T.Error.out_of_memory T.allocates (R.state reader.old) m result
@@ -127,7 +127,7 @@ pub fn decode_tlv<R: Reader, T: DecodeValue<R> + FixedTag>(
             ensures sound { TakesContents T.takes (head_of header) (R.state reader.old) result
                 (R.state reader.new) }
             ensures complete { (v : T) → R.reliable ≡ true
-                → ContentsAhead (T.takes v) (head_of header) (R.state reader.old)
+                → ContentsNext (T.takes v) (head_of header) (R.state reader.old)
                 → (R.state reader.old).depth + T.value_levels (R.state reader.old).rules ≤ 64
                 → EndsOrLacks T.Error.out_of_memory T.allocates result (R.state reader.new) }
             ensures exact { R.reliable ≡ true → T.decode_value_answers (head_of header)
@@ -139,7 +139,7 @@ pub fn decode_tlv<R: Reader, T: DecodeValue<R> + FixedTag>(
 impl<R: Reader, T: DecodeValue<R> + FixedTag> Decode<R> for T {
     type Error = <T as DecodeValue<R>>::Error;
 
-    ghost stands_ahead = { ElementAhead T.tag_is T.takes };
+    ghost is_next = { ElementNext T.tag_is T.takes };
 
     ghost decode_levels = { element_levels T.value_levels };
 

@@ -34,7 +34,7 @@ pub trait WrittenValue {
 ///
 /// A month as an `OCTET STRING` of one octet:
 ///
-/// ```
+/// ````
 /// ghost use Rattle.std.specs.Prelude.{◌≡◌, [], ◌∷◌, Ok, IfOk};
 /// ghost use Rattle.der_base.specs.Length.{definite_length};
 /// ghost use Rattle.der_base.specs.declared.tag.Tag.TheVariants.{OctetString};
@@ -85,7 +85,7 @@ pub trait WrittenValue {
 /// {
 ///     month.encode_to_slice(buf)
 /// }
-/// ```
+/// ````
 pub trait EncodeValue: WrittenValue {
     ghost value_size: { Self → AResult ALength AnError };
 

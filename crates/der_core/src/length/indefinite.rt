@@ -2,9 +2,9 @@
 ghost use Rattle.std.specs.Prelude.{◌≡◌, ◌≢◌, ◌≤◌, true, IfOk, IfErr};
 ghost use Rattle.der_base.specs.declared.encoding_rules.EncodingRules.TheVariants.{Ber};
 ghost use Rattle.der_base.specs.declared.error.ErrorKind.TheVariants.{Length as IncorrectLength};
-ghost use Rattle.der_core.specs.AfterFirstOctet.{DefiniteBehind, RefusesLongLength, identifier_tag};
+ghost use Rattle.der_core.specs.AfterFirstOctet.{DefiniteAfter, RefusesLongLength, identifier_tag};
 ghost use Rattle.der_core.specs.ReaderState.{rest_of, Same};
-ghost use Rattle.der_core.specs.Scan.{Scans, ScansAhead, IsTurned};
+ghost use Rattle.der_core.specs.Scan.{Scans, ScansNext, IsTurned};
 ghost use Rattle.der_core.specs.Turn.{PartRead, RefusesPart};
 
 mod walk;
@@ -14,7 +14,7 @@ use crate::length::turns::Turns;
 use crate::length::{INDEFINITE, decode_long_length};
 use crate::reader::value::read_zero_octet;
 use crate::reader::{Octets, Reader, ReaderExt};
-use crate::tag::{decode_number_behind, has_constructed_bit};
+use crate::tag::{decode_number_after, has_constructed_bit};
 use der_base::{Error, ErrorKind, Length};
 use std::marker::Brand;
 use std::sync::ledger::{Blank, Ledger};
@@ -96,7 +96,7 @@ fn next_part<R: Reader>(reader: &mut R, level: u8) -> Result<Part, Error>
         read_zero_octet(reader)?;
         return Ok(Part::Ends);
     }
-    let number = decode_number_behind(reader, first)?;
+    let number = decode_number_after(reader, first)?;
     let octet = reader.read_byte()?;
     if octet == INDEFINITE {
         if !has_constructed_bit(first) {
@@ -122,7 +122,7 @@ fn decode_definite<R: Reader>(
 ) -> Result<u32, Error>
     requires { first ≢ 128 }
     ensures same { Same (R.state reader.old) (R.state reader.new) }
-    ensures ok { IfOk result (λ n. DefiniteBehind first n (R.state reader.old)
+    ensures ok { IfOk result (λ n. DefiniteAfter first n (R.state reader.old)
         (R.state reader.new)) }
     ensures exact { R.reliable ≡ true
         → IfErr result
@@ -138,16 +138,16 @@ fn decode_definite<R: Reader>(
 // Scans the next body of a reader, which does not move: by an index if the reader returns slices,
 // otherwise by a fork.
 #[inline(always)]
-pub(crate) fn scan_ahead<R: Reader, L: Ledger>(
+pub(crate) fn scan_next_body<R: Reader, L: Ledger>(
     reader: &R,
     turns: &mut Turns<L>,
 ) -> Result<Length, Error>
     requires ber { (R.state reader.now).rules ≡ Ber }
-    ensures scans { ScansAhead R.reliable (R.state reader.now) result }
+    ensures scans { ScansNext R.reliable (R.state reader.now) result }
     ensures turned { IsTurned (rest_of (R.state reader.now)) result turns.old turns.new }
 {
     match reader.remaining() {
-        Ok(lent) => Walk::scan(lent.as_slice(), reader.position(), turns),
+        Ok(borrowed) => Walk::scan(borrowed.as_slice(), reader.position(), turns),
         Err(_) => scan_fork(reader.fork(), turns),
     }
 }
@@ -157,7 +157,7 @@ pub(crate) fn scan_ahead<R: Reader, L: Ledger>(
 #[cold]
 fn scan_fork<R: Reader, L: Ledger>(fork: R, turns: &mut Turns<L>) -> Result<Length, Error>
     requires ber { (R.state fork).rules ≡ Ber }
-    ensures scans { ScansAhead R.reliable (R.state fork) result }
+    ensures scans { ScansNext R.reliable (R.state fork) result }
     ensures turned { IsTurned (rest_of (R.state fork)) result turns.old turns.new }
 {
     let mut fork = fork;
@@ -168,7 +168,7 @@ fn scan_fork<R: Reader, L: Ledger>(fork: R, turns: &mut Turns<L>) -> Result<Leng
 #[inline(always)]
 pub(crate) fn scan_uncounted<R: Reader>(reader: &R) -> Result<Length, Error>
     requires ber { (R.state reader.now).rules ≡ Ber }
-    ensures { ScansAhead R.reliable (R.state reader.now) result }
+    ensures { ScansNext R.reliable (R.state reader.now) result }
 {
     scan_counted::<R, Brand>(reader, Blank::new(1))
 }
@@ -179,8 +179,8 @@ fn scan_counted<R: Reader, L: Ledger>(reader: &R, blank: Blank) -> Result<Length
     requires name { blank.name ≡ L.name }
     requires parts { blank.parts ≡ L.parts }
     requires whole { blank.parts ≡ 1 }
-    ensures { ScansAhead R.reliable (R.state reader.now) result }
+    ensures { ScansNext R.reliable (R.state reader.now) result }
 {
     let mut turns = Turns::<L>::new(blank);
-    scan_ahead(reader, &mut turns)
+    scan_next_body(reader, &mut turns)
 }

@@ -1,7 +1,7 @@
 //! Functions that every reader has.
 ghost use Rattle.std.specs.Prelude.{◌≡◌, ◌↔◌, ℕ, ◌+◌, ◌-◌, ◌≤◌, true, false, IsTrue, length, IfOk, OnErr};
 ghost use Rattle.der_base.specs.ScanGrammar.{BodyFault};
-ghost use Rattle.der_base.specs.HeaderGrammar.{TagAhead, HeaderFault};
+ghost use Rattle.der_base.specs.HeaderGrammar.{TagNext, HeaderFault};
 ghost use Rattle.der_base.specs.Tag.{IdentifierFault};
 ghost use Rattle.der_base.specs.Length.{number, definite_length};
 ghost use Rattle.der_core.specs.ReaderState.{ReaderState, rest_of, Same, resumed_state};
@@ -9,18 +9,18 @@ ghost use Rattle.der_core.specs.Outcome.{Meets, AnswersAs, PeeksAs, IsBinding, m
 ghost use Rattle.der_core.specs.Reader.{read_byte_outcome, read_into_outcome};
 ghost use Rattle.der_core.specs.Resumption.{outer_end, outer_depth};
 ghost use Rattle.der_core.specs.Decode.{Passes, Peeks, TlvAnswer, ReaderDecodes, ReadsOrLacks};
-ghost use Rattle.der_core.specs.Header.{head_of, HeaderAhead};
+ghost use Rattle.der_core.specs.Header.{head_of, HeaderNext};
 ghost use Rattle.der_core.specs.declared.header.Header.{Header as AHeader};
 ghost use Rattle.der_base.specs.Arithmetic.{sans_eoc};
 ghost use Rattle.der_base.specs.declared.tag.Tag.TheVariants.{Sequence};
 ghost use Rattle.der_base.specs.declared.encoding_rules.EncodingRules.TheVariants.{Ber};
-ghost use Rattle.der_core.specs.Scan.{ScansAhead, IsTurned};
-ghost use Rattle.der_core.specs.Nested.{CanLeave, Closes, HandsBack, NestedAnswer};
+ghost use Rattle.der_core.specs.Scan.{ScansNext, IsTurned};
+ghost use Rattle.der_core.specs.Nested.{CanLeave, Closes, RestoresReader, NestedAnswer};
 ghost use Rattle.der_core.specs.Element.{ElementReadBy};
 
 use crate::decode::Decode;
 use crate::header::{Header, decode_guessed_header, decode_header};
-use crate::length::indefinite::scan_ahead;
+use crate::length::indefinite::scan_next_body;
 use crate::length::turns::Turns;
 use crate::reader::value::read_contents;
 use crate::reader::{Reader, Resumption};
@@ -140,7 +140,7 @@ pub trait ReaderExt: Reader {
         len: Length,
         f: F,
     ) -> Result<T, E>
-        requires { HandsBack (F.pre f) (F.post f) (λ p. Self.state p.now) (λ q. Self.state q.now)
+        requires { RestoresReader (F.pre f) (F.post f) (λ p. Self.state p.now) (λ q. Self.state q.now)
             (Self.state self.old) (number len) }
         ensures same { Same (Self.state self.old) (Self.state self.new) }
         ensures exact { IsBinding Self.reliable result
@@ -182,7 +182,7 @@ pub trait ReaderExt: Reader {
     ///
     /// The same as for [`Header::decode`], with the same positions; the reader is unchanged.
     final fn peek_header(&self) -> Result<Header, Error>
-        ensures { Peeks HeaderAhead (HeaderFault BodyFault) Self.reliable (Self.state self.now)
+        ensures { Peeks HeaderNext (HeaderFault BodyFault) Self.reliable (Self.state self.now)
             result }
     {
         let mut fork = self.fork();
@@ -196,7 +196,7 @@ pub trait ReaderExt: Reader {
     /// The same as for [`Tag::decode`], with the same positions; the reader is unchanged.
     #[inline(always)]
     final fn peek_tag(&self) -> Result<Tag, Error>
-        ensures { Peeks TagAhead IdentifierFault Self.reliable (Self.state self.now) result }
+        ensures { Peeks TagNext IdentifierFault Self.reliable (Self.state self.now) result }
     {
         let mut fork = self.fork();
         decode_tag(&mut fork)
@@ -216,10 +216,10 @@ pub trait ReaderExt: Reader {
     /// positions; the reader is unchanged.
     final fn scan_indefinite<L: Ledger>(&self, turns: &mut Turns<L>) -> Result<Length, Error>
         requires ber { (Self.state self.now).rules ≡ Ber }
-        ensures scans { ScansAhead Self.reliable (Self.state self.now) result }
+        ensures scans { ScansNext Self.reliable (Self.state self.now) result }
         ensures turned { IsTurned (rest_of (Self.state self.now)) result turns.old turns.new }
     {
-        scan_ahead(self, turns)
+        scan_next_body(self, turns)
     }
 
     /// Returns the octets of the next whole element, header and contents, without copying them.
@@ -232,10 +232,10 @@ pub trait ReaderExt: Reader {
     ///   reader is unchanged.
     /// - `Incomplete` at the position before the header, if the contents are not all available; the
     ///   reader is then failed.
-    final fn tlv_bytes(&mut self) -> Result<Self::Lent, Error>
+    final fn tlv_bytes(&mut self) -> Result<Self::Borrowed, Error>
         ensures same { Same (Self.state self.old) (Self.state self.new) }
         ensures exact { IsBinding Self.reliable result
-            → TlvAnswer (Self.state self.old) (map_ok Self.Lent.octets result)
+            → TlvAnswer (Self.state self.old) (map_ok Self.Borrowed.octets result)
             (Self.state self.new) }
     {
         let mut fork = self.fork();
@@ -259,10 +259,10 @@ pub trait ReaderExt: Reader {
     ) -> Result<T, <T as Decode<Self>>::Error>
         ensures same { Same (Self.state self.old) (Self.state self.new) }
         ensures ok { IfOk result (λ v. (Self.state self.new).failed ≡ false
-            → Passes (T.stands_ahead v) (Self.state self.old) (Self.state self.new)) }
+            → Passes (T.is_next v) (Self.state self.old) (Self.state self.new)) }
         ensures complete { (v : T) (m : ℕ) → Self.reliable ≡ true
             → (Self.state self.old).failed ≡ false
-            → T.stands_ahead v (Self.state self.old).rules (rest_of (Self.state self.old)) m
+            → T.is_next v (Self.state self.old).rules (rest_of (Self.state self.old)) m
             → (Self.state self.old).depth + T.decode_levels (Self.state self.old).rules ≤ 64
             → ReadsOrLacks T.Error.out_of_memory T.allocates (Self.state self.old) m result
             (Self.state self.new) }
@@ -304,9 +304,9 @@ pub trait ReaderExt: Reader {
         f: F,
     ) -> Result<T, E>
         requires { (h : AHeader) (s : ReaderState)
-            → Passes (HeaderAhead h) (Self.state self.old) s
+            → Passes (HeaderNext h) (Self.state self.old) s
             → (head_of h).tag ≡ Sequence
-            → HandsBack (F.pre f) (F.post f) (λ p. Self.state p.now) (λ q. Self.state q.now) s
+            → RestoresReader (F.pre f) (F.post f) (λ p. Self.state p.now) (λ q. Self.state q.now) s
             (number (sans_eoc (head_of h).length)) }
         ensures same { Same (Self.state self.old) (Self.state self.new) }
         ensures exact { IsBinding Self.reliable result

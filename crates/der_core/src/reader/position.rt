@@ -104,11 +104,11 @@ impl Position {
             (position_place self.new) }
     {
         let count = u32::from(amount);
-        let behind = self.position + count as usize;
-        if behind > self.end as usize {
+        let following = self.position + count as usize;
+        if following > self.end as usize {
             return Err(self.missing(count));
         }
-        self.position = behind;
+        self.position = following;
         Ok(self.current())
     }
 
@@ -200,12 +200,12 @@ pub(crate) fn missing_octets(position: usize, count: u32, end: u32) -> Error
     requires { position < 2 ^ 32 }
     ensures { result ≡ (missing_refusal (position + count) end position).error }
 {
-    let behind = position + count as usize;
-    if behind > u32::MAX as usize {
+    let following = position + count as usize;
+    if following > u32::MAX as usize {
         return ErrorKind::Overflow.to_error();
     }
     let kind = ErrorKind::Incomplete {
-        expected_len: Length::new(behind as u32),
+        expected_len: Length::new(following as u32),
         actual_len: Length::new(end),
     };
     kind.at(Length::new(position as u32))

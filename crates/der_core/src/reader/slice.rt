@@ -87,7 +87,7 @@ impl<'a> SliceReader<'a> {
     // the error if this many octets are not available
     #[inline(always)]
     fn incomplete(&mut self, count: u32) -> Error
-        ensures told { result ≡ (missing_refusal (self.old.place.position + count)
+        ensures reported { result ≡ (missing_refusal (self.old.place.position + count)
             self.old.place.end self.old.place.position).error }
         ensures leaves { slice_state self.new ≡ state_after (slice_state self.old)
             (missing_refusal (self.old.place.position + count) self.old.place.end
@@ -104,17 +104,17 @@ impl<'a> Reader for SliceReader<'a> {
     ghost use Rattle.std.proofs.Common.{rules};
     ghost use Rattle.der_core.specs.SliceReader.{slice_state};
 
-    type Lent = &'a [u8];
+    type Borrowed = &'a [u8];
 
     ghost state = { slice_state };
 
     ghost reliable = { true };
 
-    ghost lends = { true };
+    ghost reads_slices = { true };
 
     const CAN_READ_SLICE: bool = true;
 
-    fn can_lend() -> bool
+    fn can_read_slice() -> bool
         ensures { result ≡ true }
     {
         Self::CAN_READ_SLICE
@@ -148,12 +148,12 @@ impl<'a> Reader for SliceReader<'a> {
         let count = u32::from(len);
         let start = self.place.position;
         // one sum of two `usize` is compared, ends the slice and is the new position
-        let behind = start + count as usize;
-        if behind > self.place.end as usize {
+        let following = start + count as usize;
+        if following > self.place.end as usize {
             return Err(self.incomplete(count));
         }
-        self.place.position = behind;
-        Ok(&self.bytes[start..behind])
+        self.place.position = following;
+        Ok(&self.bytes[start..following])
     }
 
     #[inline(always)]
@@ -257,8 +257,8 @@ impl<'a> Reader for SliceReader<'a> {
       in_input = s.in_input;
       addressable = s.addressable;
       shallow = s.shallow;
-      marked = λ failed. Prim.search rules;
+      failure_kept = λ failed. Prim.search rules;
     } };
 
-    ghost lending = { λ h. h };
+    ghost reading_slices = { λ h. h };
 }

@@ -7,7 +7,7 @@ ghost use Rattle.der_core.specs.Outcome.{Meets, IsBinding};
 ghost use Rattle.der_core.specs.Reader.{read_eoc_outcome, read_zero_octet_outcome};
 ghost use Rattle.der_core.specs.Resumption.{outer_end, outer_depth};
 ghost use Rattle.der_core.specs.Header.{head_of, header_sans_eoc};
-ghost use Rattle.der_core.specs.Nested.{CanLeave, ClosesValue, HandsBack, ValueAnswer};
+ghost use Rattle.der_core.specs.Nested.{CanLeave, ClosesValue, RestoresReader, ValueAnswer};
 
 use crate::header::Header;
 use crate::reader::{Reader, ReaderExt, Resumption};
@@ -111,7 +111,7 @@ pub fn read_value<
     E: From<Error> + Drop,
     F: FnOnce(&mut R, Header) -> Result<T, E>,
 >(reader: &mut R, header: Header, f: F) -> Result<T, E>
-    requires { HandsBack (λ p. F.pre f p (header_sans_eoc header)) (λ p a q. (h : _)
+    requires { RestoresReader (λ p. F.pre f p (header_sans_eoc header)) (λ p a q. (h : _)
         × (h ≡ header_sans_eoc header)
         × F.post f p h a q) (λ p. R.state p.now) (λ q. R.state q.now) (R.state reader.old)
         (number (sans_eoc (head_of header).length)) }
@@ -136,7 +136,7 @@ pub(crate) fn read_contents<
     E: From<Error> + Drop,
     F: FnOnce(&mut R) -> Result<T, E>,
 >(reader: &mut R, length: Length, f: F) -> Result<T, E>
-    requires { HandsBack (F.pre f) (F.post f) (λ p. R.state p.now) (λ q. R.state q.now)
+    requires { RestoresReader (F.pre f) (F.post f) (λ p. R.state p.now) (λ q. R.state q.now)
         (R.state reader.old) (number length) }
     ensures same { Same (R.state reader.old) (R.state reader.new) }
     ensures exact { IsBinding R.reliable result

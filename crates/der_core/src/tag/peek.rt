@@ -1,7 +1,7 @@
 //! Peeking at the next tag of a reader.
 ghost use Rattle.std.specs.Prelude.{◌≡◌, ◌↔◌, true, IsTrue};
 ghost use Rattle.der_base.specs.Class.{class_number};
-ghost use Rattle.der_base.specs.HeaderGrammar.{IdentifierAhead, TagAhead};
+ghost use Rattle.der_base.specs.HeaderGrammar.{IdentifierNext, TagNext};
 ghost use Rattle.der_base.specs.Tag.{label, IdentifierFault};
 ghost use Rattle.der_core.specs.Decode.{Decodes, Peeks, MatchAnswer};
 ghost use Rattle.der_core.specs.Outcome.{IsBinding};
@@ -43,7 +43,7 @@ pub trait TagPeek: Sized {
 
 impl TagPeek for Tag {
     fn peek<R: Reader>(reader: &R) -> Result<Self, Error>
-        ensures { Peeks TagAhead IdentifierFault R.reliable (R.state reader.now) result }
+        ensures { Peeks TagNext IdentifierFault R.reliable (R.state reader.now) result }
     {
         reader.peek_tag()
     }
@@ -66,7 +66,7 @@ impl TagPeek for Tag {
     }
 
     fn decode_with_constructed_bit<R: Reader>(reader: &mut R) -> Result<(Self, bool), Error>
-        ensures { Decodes IdentifierAhead IdentifierFault R.reliable (R.state reader.old) result
+        ensures { Decodes IdentifierNext IdentifierFault R.reliable (R.state reader.old) result
             (R.state reader.new) }
     {
         decode_with_constructed_bit(reader)

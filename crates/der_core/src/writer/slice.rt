@@ -5,7 +5,7 @@ ghost use Rattle.der_base.specs.Length.{definite_length};
 ghost use Rattle.der_base.specs.declared.error.ErrorKind.TheVariants.{Failed, Length as IncorrectLength};
 ghost use Rattle.der_base.specs.declared.tag.Tag.TheVariants.{Sequence};
 ghost use Rattle.der_core.specs.Encode.{placed_error};
-ghost use Rattle.der_core.specs.Writer.{room_error};
+ghost use Rattle.der_core.specs.Writer.{space_error};
 
 use crate::encode::Encode;
 use crate::header::Header;
@@ -33,10 +33,10 @@ pub struct SliceWriter<'a> {
 impl<'a> SliceWriter<'a> {
     ghost use Rattle.der_base.specs.Length.{number};
     ghost use Rattle.der_core.specs.Outcome.{map_ok};
-    ghost use Rattle.der_core.specs.Writer.{Keeps, Appends, Writes, fresh_state, writer_position, failed_state, room_outcome};
+    ghost use Rattle.der_core.specs.Writer.{Keeps, Appends, Writes, fresh_state, writer_position, failed_state, space_outcome};
     ghost use Rattle.der_core.specs.Encode.{FitsCounted, RefusesFailed, PlacesErrors, finished_answer};
     ghost use Rattle.der_core.specs.SliceWriter.{slice_writer_state};
-    ghost use Rattle.der_core.specs.WrittenSequence.{HandsBackPart, ClosesPart, Fills, RunsInRoom, PartAnswer, SequenceAnswer, headed_state, part_state, outer_state};
+    ghost use Rattle.der_core.specs.WrittenSequence.{RestoresWriter, ClosesPart, Fills, RunsIfSpace, PartAnswer, SequenceAnswer, headed_state, part_state, outer_state};
 
     /// A writer at the start of these octets.
     pub fn new(bytes: &'a mut [u8]) -> Self
@@ -154,13 +154,13 @@ impl<'a> SliceWriter<'a> {
         len: Length,
         f: F,
     ) -> Result<(), Error>
-        requires { HandsBackPart (F.pre f) (F.post f)
+        requires { RestoresWriter (F.pre f) (F.post f)
             (headed_state (slice_writer_state self.old) (number len)) (number len) }
         ensures kept { Keeps (slice_writer_state self.old) (slice_writer_state self.new) }
         ensures ok { Fills (F.post f)
             (headed_state (slice_writer_state self.old) (number len)) (number len) result
             (slice_writer_state self.new) }
-        ensures runs { RunsInRoom (F.post f)
+        ensures runs { RunsIfSpace (F.post f)
             (headed_state (slice_writer_state self.old) (number len)) (number len) result
             (slice_writer_state self.new) }
         ensures exact { SequenceAnswer (F.post f) (slice_writer_state self.old)
@@ -177,12 +177,12 @@ impl<'a> SliceWriter<'a> {
         len: Length,
         f: F,
     ) -> Result<(), Error>
-        requires { HandsBackPart (F.pre f) (F.post f) (slice_writer_state self.old)
+        requires { RestoresWriter (F.pre f) (F.post f) (slice_writer_state self.old)
             (number len) }
         ensures kept { Keeps (slice_writer_state self.old) (slice_writer_state self.new) }
         ensures ok { Fills (F.post f) (slice_writer_state self.old) (number len) result
             (slice_writer_state self.new) }
-        ensures runs { RunsInRoom (F.post f) (slice_writer_state self.old) (number len) result
+        ensures runs { RunsIfSpace (F.post f) (slice_writer_state self.old) (number len) result
             (slice_writer_state self.new) }
         ensures exact { PartAnswer (F.post f) (slice_writer_state self.old) (number len) result
             (slice_writer_state self.new) }
@@ -198,7 +198,7 @@ impl<'a> SliceWriter<'a> {
     fn set_apart(&mut self, len: Length) -> Result<(), Error>
         ensures refused { OnErr result
             (Keeps (slice_writer_state self.old) (slice_writer_state self.new)) }
-        ensures exact { Writes (room_outcome (number len) (slice_writer_state self.old)
+        ensures exact { Writes (space_outcome (number len) (slice_writer_state self.old)
             (part_state (slice_writer_state self.old) (number len))) result
             (slice_writer_state self.new) }
     {
@@ -223,7 +223,7 @@ impl<'a> SliceWriter<'a> {
         answer: Result<(), Error>,
     ) -> Result<(), Error>
         requires before { start ≤ self.old.start }
-        requires behind { self.old.stop ≤ stop }
+        requires following { self.old.stop ≤ stop }
         requires within { stop ≤ length self.old.bytes.now }
         requires countable { stop < start + 2 ^ 32 }
         ensures { ClosesPart (outer_state (slice_writer_state self.old) start stop)
@@ -255,7 +255,7 @@ impl<'a> SliceWriter<'a> {
     // The error for this many octets; the writer is then failed.
     #[inline(always)]
     fn refuse(&mut self, count: usize) -> Error
-        ensures told { result ≡ room_error self.old.failed self.old.position count }
+        ensures reported { result ≡ space_error self.old.failed self.old.position count }
         ensures failed { slice_writer_state self.new ≡ failed_state (slice_writer_state self.old) }
     {
         let failed = self.failed;
@@ -284,7 +284,7 @@ impl<'a> Writer for SliceWriter<'a> {
     }
 
     #[inline(always)]
-    fn has_room(&self, count: usize) -> bool {
+    fn has_space(&self, count: usize) -> bool {
         !self.failed && count <= self.stop - (self.start + self.position as usize)
     }
 }
@@ -294,7 +294,7 @@ impl<'a> Writer for SliceWriter<'a> {
 #[cold]
 #[inline(never)]
 fn refusal(failed: bool, position: u32, count: usize) -> Error
-    ensures { result ≡ room_error failed position count }
+    ensures { result ≡ space_error failed position count }
 {
     if failed {
         return failed_at(position);

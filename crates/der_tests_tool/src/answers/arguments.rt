@@ -1,7 +1,7 @@
 //! Arguments as the system passes them.
 use super::USAGE;
 use super::writers::Tally;
-use der_answers::run_arguments;
+use der_tool_lib::run_tool;
 use std::env::FillError;
 use std::rt::Env;
 use std::{env, io};
@@ -52,7 +52,7 @@ fn takes_arguments_as_words(rt: HostRuntime) {
     ];
     for (arguments, status, text) in rows {
         let mut out = Vec::new(rt.alloc());
-        let got = run_arguments(
+        let got = run_tool(
             rt.alloc(),
             env::args(&(Fixed(arguments), rt.alloc())),
             &mut out,
@@ -66,13 +66,13 @@ fn takes_arguments_as_words(rt: HostRuntime) {
 fn arguments_for_which_no_memory_is_left_are_refused(rt: HostRuntime) {
     let mut out = Vec::new(rt.alloc());
     let given = Err(io::Error::from(io::ErrorKind::OutOfMemory));
-    assert_eq!(rt; run_arguments(rt.alloc(), given, &mut out), 1);
+    assert_eq!(rt; run_tool(rt.alloc(), given, &mut out), 1);
     assert!(rt; out.as_slice() == REFUSED.as_bytes());
 }
 
 // Every call prints something.
 #[test]
-fn an_output_that_never_fails_is_told(rt: HostRuntime) {
+fn an_output_that_never_fails_is_printed(rt: HostRuntime) {
     let rows: [(&[&[u8]], u8); 3] = [
         (&[b"der_tool", b"head", b"3000"], 0),
         (&[b"der_tool"], 2),
@@ -81,7 +81,7 @@ fn an_output_that_never_fails_is_told(rt: HostRuntime) {
     for (arguments, status) in rows {
         let mut out = Tally(0);
         let given = env::args(&(Fixed(arguments), rt.alloc()));
-        assert_eq!(rt; run_arguments(rt.alloc(), given, &mut out), status);
+        assert_eq!(rt; run_tool(rt.alloc(), given, &mut out), status);
         assert!(rt; out.0 > 0);
     }
 }

@@ -15,7 +15,7 @@ const CONTENTS: &str = "000102030405060708090a0b0c0d0e0f101112131415161718191a1b
     6c6d6e6f707172737475767778797a7b7c7d";
 
 #[test]
-fn tells_a_header_by_ber(rt: HostRuntime) -> Result<(), Fail> {
+fn prints_a_header_by_ber(rt: HostRuntime) -> Result<(), Fail> {
     let rows = [
         (
             "head --ber 308024800402000000000000",
@@ -37,7 +37,7 @@ fn tells_a_header_by_ber(rt: HostRuntime) -> Result<(), Fail> {
 }
 
 #[test]
-fn tells_the_header_of_a_message(rt: HostRuntime) -> Result<(), Fail> {
+fn prints_the_header_of_a_message(rt: HostRuntime) -> Result<(), Fail> {
     let words = format!(in rt.alloc(); "head --ber 3080{MESSAGE_BODY}")?;
     let lines = format!(in rt.alloc();
         "tag: SEQUENCE\nconstructed: yes\nlength: 66 indefinite\nrest: {MESSAGE_BODY}\n"
@@ -75,7 +75,7 @@ fn refuses_what_begins_with_no_header_by_ber(rt: HostRuntime) -> Result<(), Fail
 }
 
 #[test]
-fn tells_an_element_by_ber(rt: HostRuntime) -> Result<(), Fail> {
+fn prints_an_element_by_ber(rt: HostRuntime) -> Result<(), Fail> {
     let rows = [
         ("tlv --ber 308005000000FF", 0, "308005000000\n"),
         ("tlv --ber 24040402AABBCC", 0, "24040402aabb\n"),
@@ -88,7 +88,7 @@ fn tells_an_element_by_ber(rt: HostRuntime) -> Result<(), Fail> {
 
 // The option comes right after the command, and all words are checked before any octets are.
 #[test]
-fn tells_the_usage_of_options_elsewhere(rt: HostRuntime) -> Result<(), Fail> {
+fn prints_the_usage_of_options_elsewhere(rt: HostRuntime) -> Result<(), Fail> {
     let lines = [
         "head --ber",
         "--ber head 00",

@@ -3,7 +3,7 @@ use super::{USAGE, replay};
 use std::test::Fail;
 
 #[test]
-fn tells_what_segments_are_joined_to(rt: HostRuntime) -> Result<(), Fail> {
+fn prints_what_segments_are_joined_to(rt: HostRuntime) -> Result<(), Fail> {
     let rows = [
         ("join 24040402AABB", 0, "aabb\n"),
         ("join 0402AABB", 0, "aabb\n"),
@@ -111,7 +111,7 @@ fn joins_64_levels_and_refuses_the_65th(rt: HostRuntime) -> Result<(), Fail> {
 }
 
 #[test]
-fn tells_the_usage_of_other_joins(rt: HostRuntime) -> Result<(), Fail> {
+fn prints_the_usage_of_other_joins(rt: HostRuntime) -> Result<(), Fail> {
     let lines = [
         "join",
         "join 0",

@@ -4,7 +4,7 @@ use std::test::Fail;
 
 // Tags come before lengths, lengths before contents; octets decide, not the numbers of tags.
 #[test]
-fn tells_the_order_of_two_elements(rt: HostRuntime) -> Result<(), Fail> {
+fn prints_the_order_of_two_elements(rt: HostRuntime) -> Result<(), Fail> {
     let rows = [
         ("order 0400 0400", 0, "equal\n"),
         ("order 04012a 04012A", 0, "equal\n"),
@@ -47,7 +47,7 @@ fn refuses_what_is_not_wholly_an_element(rt: HostRuntime) -> Result<(), Fail> {
 }
 
 #[test]
-fn the_first_of_two_refused_elements_is_told(rt: HostRuntime) -> Result<(), Fail> {
+fn the_first_of_two_rejected_elements_is_printed(rt: HostRuntime) -> Result<(), Fail> {
     let rows = [
         (
             "order 3F 1F",
@@ -88,7 +88,7 @@ fn an_empty_word_is_no_element(rt: HostRuntime) -> Result<(), Fail> {
 
 // Both words are checked before either is decoded, and only DER is read.
 #[test]
-fn tells_the_usage_of_other_words_for_order(rt: HostRuntime) -> Result<(), Fail> {
+fn prints_the_usage_of_other_words_for_order(rt: HostRuntime) -> Result<(), Fail> {
     let lines = [
         "order 3000",
         "order 300 3F",

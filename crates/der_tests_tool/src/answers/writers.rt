@@ -2,7 +2,7 @@
 ghost use Rattle.std.specs.Prelude.{true, None};
 
 use super::{USAGE, words_of};
-use der_answers::{Output, run};
+use der_tool_lib::{Output, run};
 use std::io;
 use std::test::Fail;
 

@@ -4,7 +4,7 @@ ghost use Rattle.std.proofs.Common.{refl};
 ghost use Rattle.der.specs.Prelude.{Sequence, map_ok};
 ghost use Rattle.der_asn1.specs.Meaning.{alternative, field, sequence, two_fields};
 
-use crate::attr::Attributes;
+use crate::attribute::Attributes;
 use crate::name::Name;
 use crate::request::version::CertReqVersion;
 use der::{
@@ -70,7 +70,7 @@ impl<'a> ReadValue for CertReqInfo<'a> {
 /// # Errors
 ///
 /// Those of the fields, in sequence.
-impl<'a, R: Reader<Lent = &'a [u8]>> DecodeValue<R> for CertReqInfo<'a> {
+impl<'a, R: Reader<Borrowed = &'a [u8]>> DecodeValue<R> for CertReqInfo<'a> {
     type Error = Error;
 
     ghost decode_value_answers = { λ h s result t.

@@ -2,18 +2,18 @@
 ghost use Rattle.std.specs.Prelude.{◌≡◌};
 ghost use Rattle.std.proofs.Common.{arith};
 ghost use Rattle.der.specs.Prelude.{Integer};
-ghost use Rattle.x509.specs.Version.{request_version_form};
+ghost use Rattle.x509.specs.CertificateVersion.{is_request_version};
 
 use der::{FixedTag, Tag};
-use der_asn1::{Checked, Form};
+use der_asn1::{Checked, ContentsGrammar};
 
 /// Contents of a version: 0 for version 1.
-pub struct CertReqVersionForm;
+pub struct CertReqVersionGrammar;
 
 /// The version of a request, borrowed from the input.
-pub type CertReqVersion<'a> = Checked<'a, CertReqVersionForm>;
+pub type CertReqVersion<'a> = Checked<'a, CertReqVersionGrammar>;
 
-impl FixedTag for CertReqVersionForm {
+impl FixedTag for CertReqVersionGrammar {
     ghost tag_is = { Integer };
 
     const TAG: Tag = Tag::Integer;
@@ -25,10 +25,10 @@ impl FixedTag for CertReqVersionForm {
     }
 }
 
-impl Form for CertReqVersionForm {
-    ghost form = { request_version_form };
+impl ContentsGrammar for CertReqVersionGrammar {
+    ghost grammar = { is_request_version };
 
-    fn has_form(octets: &[u8]) -> bool {
+    fn matches_grammar(octets: &[u8]) -> bool {
         match octets {
             [octet] => *octet == 0,
             _ => false,

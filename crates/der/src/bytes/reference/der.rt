@@ -5,7 +5,7 @@ ghost use Rattle.der_core.specs.Header.{head_of};
 ghost use Rattle.der_core.specs.Outcome.{Gives, map_ok};
 ghost use Rattle.der_core.specs.ReaderState.{Same};
 ghost use Rattle.der.specs.OctetsOrder.{octets_order};
-ghost use Rattle.der.specs.Octets.{IsCounted, TakesOctets, EndsTaken, LentOctetsRead, octets_size, OctetsWritten, unlent_outcome};
+ghost use Rattle.der.specs.Octets.{IsCounted, TakesOctets, EndsTaken, BorrowedOctetsRead, octets_size, OctetsWritten, not_borrowed_outcome};
 ghost use Rattle.der.specs.BytesRef.{reference_octets};
 
 use crate::bytes::BytesRef;
@@ -32,10 +32,10 @@ impl<'a> ReadValue for BytesRef<'a> {
 ///
 /// `Failed`, `Overflow` and `Incomplete`, as by [`Reader::read_slice`]; `Reader` if the reader
 /// cannot return slices.
-impl<'a, R: Reader<Lent = &'a [u8]>> DecodeValue<R> for BytesRef<'a> {
+impl<'a, R: Reader<Borrowed = &'a [u8]>> DecodeValue<R> for BytesRef<'a> {
     type Error = Error;
 
-    ghost decode_value_answers = { LentOctetsRead reference_octets };
+    ghost decode_value_answers = { BorrowedOctetsRead reference_octets };
 
     fn decode_value(_alloc: Global, reader: &mut R, header: Header) -> Result<Self, Error>
         ensures same { Same (R.state reader.old) (R.state reader.new) }
@@ -43,11 +43,11 @@ impl<'a, R: Reader<Lent = &'a [u8]>> DecodeValue<R> for BytesRef<'a> {
             (R.state reader.old) result (R.state reader.new) }
         ensures complete { EndsTaken IsCounted reference_octets R.reliable (head_of header)
             (R.state reader.old) result (R.state reader.new) }
-        ensures exact { R.reliable ≡ true → LentOctetsRead reference_octets (head_of header)
+        ensures exact { R.reliable ≡ true → BorrowedOctetsRead reference_octets (head_of header)
             (R.state reader.old) result (R.state reader.new) }
-        ensures ok { IsOk result → LentOctetsRead reference_octets (head_of header)
+        ensures ok { IsOk result → BorrowedOctetsRead reference_octets (head_of header)
             (R.state reader.old) result (R.state reader.new) }
-        ensures unlent { R.lends ≡ false → Gives unlent_outcome (R.state reader.old)
+        ensures not_borrowed { R.reads_slices ≡ false → Gives not_borrowed_outcome (R.state reader.old)
             (map_ok reference_octets result) (R.state reader.new) }
     {
         BytesRef::new(reader.read_slice(header.length())?)

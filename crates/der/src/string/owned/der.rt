@@ -3,7 +3,7 @@ ghost use Rattle.std.specs.Prelude.{◌≡◌, false, true};
 ghost use Rattle.der_core.specs.Header.{head_of};
 ghost use Rattle.der_core.specs.Outcome.{Gives, IsBinding, map_ok};
 ghost use Rattle.der_core.specs.ReaderState.{Same};
-ghost use Rattle.der.specs.Octets.{IsText, TakesOctets, OwnedTextRead, octets_size, OctetsWritten, unlent_outcome};
+ghost use Rattle.der.specs.Octets.{IsText, TakesOctets, OwnedTextRead, octets_size, OctetsWritten, not_borrowed_outcome};
 ghost use Rattle.der.specs.StringOwned.{owned_text};
 
 use crate::string::StringOwned;
@@ -42,7 +42,7 @@ impl<R: Reader> DecodeValue<R> for StringOwned {
         ensures same { Same (R.state reader.old) (R.state reader.new) }
         ensures exact { IsBinding R.reliable result → OwnedTextRead owned_text (head_of header)
             (R.state reader.old) result (R.state reader.new) }
-        ensures unlent { R.lends ≡ false → Gives unlent_outcome (R.state reader.old)
+        ensures not_borrowed { R.reads_slices ≡ false → Gives not_borrowed_outcome (R.state reader.old)
             (map_ok owned_text result) (R.state reader.new) }
     {
         let bytes = reader.read_slice(header.length())?;

@@ -4,7 +4,7 @@ ghost use Rattle.der_core.specs.DecodeValue.{TakesContents};
 ghost use Rattle.der_core.specs.Header.{head_of};
 ghost use Rattle.der_core.specs.Outcome.{Gives, map_ok};
 ghost use Rattle.der_core.specs.ReaderState.{Same};
-ghost use Rattle.der.specs.Octets.{IsText, TakesOctets, EndsTaken, LentTextRead, octets_size, OctetsWritten, unlent_outcome};
+ghost use Rattle.der.specs.Octets.{IsText, TakesOctets, EndsTaken, BorrowedTextRead, octets_size, OctetsWritten, not_borrowed_outcome};
 ghost use Rattle.der.specs.StringRef.{reference_text};
 
 use crate::string::StringRef;
@@ -32,10 +32,10 @@ impl<'a> ReadValue for StringRef<'a> {
 ///   cannot return slices.
 /// - `Utf8` without a position, if the contents are not UTF-8; the reader is after them and has not
 ///   failed.
-impl<'a, R: Reader<Lent = &'a [u8]>> DecodeValue<R> for StringRef<'a> {
+impl<'a, R: Reader<Borrowed = &'a [u8]>> DecodeValue<R> for StringRef<'a> {
     type Error = Error;
 
-    ghost decode_value_answers = { LentTextRead reference_text };
+    ghost decode_value_answers = { BorrowedTextRead reference_text };
 
     fn decode_value(_alloc: Global, reader: &mut R, header: Header) -> Result<Self, Error>
         ensures same { Same (R.state reader.old) (R.state reader.new) }
@@ -43,11 +43,11 @@ impl<'a, R: Reader<Lent = &'a [u8]>> DecodeValue<R> for StringRef<'a> {
             (R.state reader.old) result (R.state reader.new) }
         ensures complete { EndsTaken IsText reference_text R.reliable (head_of header)
             (R.state reader.old) result (R.state reader.new) }
-        ensures exact { R.reliable ≡ true → LentTextRead reference_text (head_of header)
+        ensures exact { R.reliable ≡ true → BorrowedTextRead reference_text (head_of header)
             (R.state reader.old) result (R.state reader.new) }
-        ensures ok { IsOk result → LentTextRead reference_text (head_of header)
+        ensures ok { IsOk result → BorrowedTextRead reference_text (head_of header)
             (R.state reader.old) result (R.state reader.new) }
-        ensures unlent { R.lends ≡ false → Gives unlent_outcome (R.state reader.old)
+        ensures not_borrowed { R.reads_slices ≡ false → Gives not_borrowed_outcome (R.state reader.old)
             (map_ok reference_text result) (R.state reader.new) }
     {
         StringRef::from_bytes(reader.read_slice(header.length())?)

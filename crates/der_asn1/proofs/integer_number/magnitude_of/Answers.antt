@@ -1,11 +1,11 @@
 use Rattle.std.proofs.Common.{ap, ◌∙◌, ◌+◌, ◌*◌, arith, rules}
 use Rattle.der_asn1.specs.Integer.{turned}
-use Rattle.der_asn1.proofs.IntegerReadLemmas.{no_room, next_digit, next_below}
+use Rattle.der_asn1.proofs.IntegerReadLemmas.{no_space, next_digit, next_below}
 use Rattle.der_asn1.proofs.integer_number.magnitude_of.Goals as goal
 
 pub returns-then-number-ge72057594037927936-clause-value : goal.returns-then-number-ge72057594037927936-clause-value
 returns-then-number-ge72057594037927936-clause-value c =
-    no_room (turned c.args.negative) c.args.octets.now c.loop-octet.octet-index (omega (arith, c.loop-octet-test.true)) (omega (arith, c.loop-octet.invariant.0, c.if-number-ge72057594037927936.true))
+    no_space (turned c.args.negative) c.args.octets.now c.loop-octet.octet-index (omega (arith, c.loop-octet-test.true)) (omega (arith, c.loop-octet.invariant.0, c.if-number-ge72057594037927936.true))
 
 pub loop-octet-preserved : goal.loop-octet-preserved
 loop-octet-preserved c = (

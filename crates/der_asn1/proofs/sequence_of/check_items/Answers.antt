@@ -4,7 +4,7 @@ use Rattle.der.specs.Prelude.{Der, element_octets}
 use Rattle.der.specs.ReaderState.{initial_state}
 use Rattle.der.specs.SliceReader.{slice_state}
 use Rattle.der_asn1.specs.ListAnswers.{WalkAnswer}
-use Rattle.der_asn1.proofs.SequenceOfLemmas.{slice_sound, begins_walking, goes_on_walking}
+use Rattle.der_asn1.proofs.SequenceOfLemmas.{slice_sound, begins_walking, iterating_continues}
 use Rattle.der_asn1.proofs.ListAnswerLemmas.{whole_begins, whole_on}
 use Rattle.der_asn1.proofs.OptionalReadLemmas.{rest_before_end}
 use Rattle.der_asn1.proofs.sequence_of.check_items.Goals as goal
@@ -17,7 +17,7 @@ items-init g c = (
 
 pub items-preserved : goal.items-preserved
 items-preserved g c = (
-  goes_on_walking c.in_ok-_item._item c.items.invariant.0 c.in_ok-_item.ensures.ok.0 c.in_ok-_item.ensures.ok.1
+  iterating_continues c.in_ok-_item._item c.items.invariant.0 c.in_ok-_item.ensures.ok.0 c.in_ok-_item.ensures.ok.1
       (λ l. c.in_ok-_item.ensures.keeps l (rest_before_end (slice_state c.items.reader) (slice_sound c.items.reader) (λ e. (let yes = c.is_finished.ensures.1 e in let no = c.items-test.true in cc)))),
   whole_on (initial_state Der c.args.octets.now) (slice_state c.items.reader) (slice_state c.next_item.new.reader) c.in_ok-_item._item c.items.invariant.1
       (λ e. (let yes = c.is_finished.ensures.1 e in let no = c.items-test.true in cc)) c.in_ok-_item.ensures.exact,

@@ -7,9 +7,9 @@ use Rattle.der_asn1.proofs.time_octets.utc_from.Goals as goal
 pub returns-then-eq-clause-some : goal.returns-then-eq-clause-some
 returns-then-eq-clause-some c =
     let octets = c.args.octets.now in
-    let told : c.time_at-time.result ≡ utc_reading octets = c.time_at-time.ensures ∙ ap (λ y. time_from y 2 octets) (c.full_year.ensures ∙ ap utc_year c.two_digits.ensures) in (
+    let reported : c.time_at-time.result ≡ utc_reading octets = c.time_at-time.ensures ∙ ap (λ y. time_from y 2 octets) (c.full_year.ensures ∙ ap utc_year c.two_digits.ensures) in (
       λ _. all_hold (length octets) 13 _ _ c.if-octets-ne13.false
-          (ap is_date_time (sym told) ∙ sym c.is_valid.ensures ∙ c.if-is_valid.true)
-          (ap (λ t. bytes_eq (utc_octets t) octets) (sym told) ∙ ap (λ l. bytes_eq l octets) (sym c.utc.ensures ∙ sym c.as_slice.ensures) ∙ sym c.eq.ensures ∙ c.if-eq.true),
+          (ap is_date_time (sym reported) ∙ sym c.is_valid.ensures ∙ c.if-is_valid.true)
+          (ap (λ t. bytes_eq (utc_octets t) octets) (sym reported) ∙ ap (λ l. bytes_eq l octets) (sym c.utc.ensures ∙ sym c.as_slice.ensures) ∙ sym c.eq.ensures ∙ c.if-eq.true),
       λ _. refl,
     )

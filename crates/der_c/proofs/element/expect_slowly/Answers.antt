@@ -1,5 +1,5 @@
 use Rattle.std.proofs.Common.{refl, rules}
-use Rattle.der_c.specs.Element.{no_header, other_tag, behind}
+use Rattle.der_c.specs.ElementCalls.{no_header, other_tag, following}
 use Rattle.der_c.proofs.element.expect_slowly.Goals as goal
 
 pub returns-then-met-tag-clause-reads : goal.returns-then-met-tag-clause-reads
@@ -8,7 +8,7 @@ returns-then-met-tag-clause-reads c =
 
 pub returns-else-met-tag-clause-reads : goal.returns-else-met-tag-clause-reads
 returns-else-met-tag-clause-reads c =
-    behind c.in-Ok.header _ c.in-Ok.ensures.ok (search rules) c.read_contents.ensures.reads
+    following c.in-Ok.header _ c.in-Ok.ensures.ok (search rules) c.read_element_contents.ensures.reads
 
 pub returns-in-Err-clause-reads : goal.returns-in-Err-clause-reads
-returns-in-Err-clause-reads c = no_header c.in-Err.error (c.in-Err.ensures.refused refl) c.told.ensures
+returns-in-Err-clause-reads c = no_header c.in-Err.error (c.in-Err.ensures.refused refl) c.reported.ensures

@@ -1,4 +1,4 @@
-use Rattle.der_c.specs.Reader.{reader_state}
+use Rattle.der_c.specs.CReader.{reader_state}
 use Rattle.der_c.proofs.TreeWalkLemmas.{Walked}
 use Rattle.der_c.proofs.tree.der_read_tree.Given as goal
 

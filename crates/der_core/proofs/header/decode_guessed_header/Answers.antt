@@ -1,7 +1,7 @@
-use Rattle.der_core.proofs.HeaderReadLemmas.{told_passed}
+use Rattle.der_core.proofs.HeaderReadLemmas.{raw_header_consumed}
 use Rattle.der_core.proofs.DecodeLemmas.{decoded_ok}
 use Rattle.der_core.proofs.header.decode_guessed_header.Goals as goal
 
 pub returns : goal.returns
 returns g c =
-    decoded_ok c.in_ok-first.ensures.same (told_passed c.in_ok-first.first c.in_ok-first.number c.told_header.ensures c.in_ok-first.ensures.ok)
+    decoded_ok c.in_ok-first.ensures.same (raw_header_consumed c.in_ok-first.first c.in_ok-first.number c.header_from_identifier.ensures c.in_ok-first.ensures.ok)

@@ -29,5 +29,5 @@ returns g c =
     (passed_header c.in_ok-first.ensures.ok c.in_ok-length.ensures.ok
     (λ flagged. elim c.else-is_indefinite.branch [
       | else-is_indefinite-via-then-is_indefinite+else-not-has_constructed_bit w ↦ (let bit = w.has_constructed_bit.ensures in let is = w.if-not-has_constructed_bit.false in cc)
-      | else-is_indefinite-via-else-is_indefinite w ↦ absurd (let is = w.if-is_indefinite.false in let told = c.is_indefinite.ensures in let no : false ≡ true = sym is ∙ told ∙ flagged in cc)
+      | else-is_indefinite-via-else-is_indefinite w ↦ absurd (let is = w.if-is_indefinite.false in let reported = c.is_indefinite.ensures in let no : false ≡ true = sym is ∙ reported ∙ flagged in cc)
     ]))

@@ -6,7 +6,7 @@ use Rattle.der_core.proofs.length.decode_long_length.Goals as goal
 
 pub returns-then-first-gt132-clause-exact : goal.returns-then-first-gt132-clause-exact
 returns-then-first-gt132-clause-exact g c reliable =
-    refused_far (omega arith) (let told = c.error.ensures.at_position in let kind = c.wrong_length.ensures in cc) c.error.ensures.failed
+    refused_far (omega arith) (let reported = c.error.ensures.at_position in let kind = c.wrong_length.ensures in cc) c.error.ensures.failed
 
 pub returns-in_err-octet-clause-exact : goal.returns-in_err-octet-clause-exact
 returns-in_err-octet-clause-exact g c =
@@ -28,7 +28,7 @@ loop-i-preserved g c = digits_next c.loop-i.invariant (byte_read c.in_ok-octet.e
 pub returns-then-number-least_of-clause-exact : goal.returns-then-number-least_of-clause-exact
 returns-then-number-least_of-clause-exact g c reliable =
     refused_longer (digits_whole c.loop-i.i c.args.first (omega arith) c.loop-i.invariant) (omega (arith, c.requires)) (omega arith) c.least_of.ensures c.if-number-least_of.true
-    (let told = c.error-then-number-least_of.ensures.at_position in let kind = c.wrong_length-then-number-least_of.ensures in cc) c.error-then-number-least_of.ensures.failed
+    (let reported = c.error-then-number-least_of.ensures.at_position in let kind = c.wrong_length-then-number-least_of.ensures in cc) c.error-then-number-least_of.ensures.failed
 
 pub returns-clause-ok : goal.returns-clause-ok
 returns-clause-ok g c =

@@ -3,7 +3,7 @@ use Rattle.std.proofs.lemmas.Result.{err_from_is_err_and}
 use Rattle.std.proofs.lemmas.Int.Digits.{length-digits_of_step}
 use Rattle.der_core.specs.Writer.{appended_state, Writes, write_pieces}
 use Rattle.der_core.specs.Encode.{single_octets, high_digits}
-use Rattle.der_core.proofs.EncodeLemmas.{high_push, length_high_digits, appended_twice, singly_then, singly_stop, room_then}
+use Rattle.der_core.proofs.EncodeLemmas.{high_push, length_high_digits, appended_twice, singly_then, singly_stop, space_after}
 use Rattle.der_core.proofs.tag.+encode_high_digits.Goals as goal
 
 pub returns-clause-ok : goal.returns-clause-ok
@@ -13,10 +13,10 @@ returns-clause-ok g t c =
     (appended_twice (high_digits (n / 128)) ((128 + n % 128) ∷ []) _ _ _ _ c.in_ok-encode_high_digits.ensures.ok c.write_byte.ensures.ok)
 
 pub returns-clause-succeeds : goal.returns-clause-succeeds
-returns-clause-succeeds g t c alive room =
+returns-clause-succeeds g t c alive space =
     let n : ℕ = c.args.number in
     let step = length-digits_of_step 128 n (omega arith) (omega (arith, c.if-number-eq0.false)) in
-    let more = room_then (high_digits (n / 128)) 1 _ _ c.in_ok-encode_high_digits.ensures.ok alive (omega (arith, room, step, length_high_digits n, length_high_digits (n / 128))) in
+    let more = space_after (high_digits (n / 128)) 1 _ _ c.in_ok-encode_high_digits.ensures.ok alive (omega (arith, space, step, length_high_digits n, length_high_digits (n / 128))) in
     c.write_byte.ensures.succeeds more.0 more.1
 
 pub returns-clause-exact : goal.returns-clause-exact
@@ -26,11 +26,11 @@ returns-clause-exact g t c reliable =
     (singly_then (high_digits (n / 128)) (128 + n % 128) _ _ _ _ (c.in_ok-encode_high_digits.ensures.exact reliable) (c.write_byte.ensures.exact reliable))
 
 pub returns-in_err-encode_high_digits-clause-succeeds : goal.returns-in_err-encode_high_digits-clause-succeeds
-returns-in_err-encode_high_digits-clause-succeeds g t c alive room =
+returns-in_err-encode_high_digits-clause-succeeds g t c alive space =
     let n : ℕ = c.args.number in
     let step = length-digits_of_step 128 n (omega arith) (omega (arith, c.if-number-eq0.false)) in
     let p = err_from_is_err_and c.from_residual.result c.from_residual.ensures.1 in
-    rw (p.1) (c.in_err-encode_high_digits.ensures.succeeds alive (omega (arith, room, step, length_high_digits n, length_high_digits (n / 128))))
+    rw (p.1) (c.in_err-encode_high_digits.ensures.succeeds alive (omega (arith, space, step, length_high_digits n, length_high_digits (n / 128))))
 
 pub returns-in_err-encode_high_digits-clause-exact : goal.returns-in_err-encode_high_digits-clause-exact
 returns-in_err-encode_high_digits-clause-exact g t c reliable =

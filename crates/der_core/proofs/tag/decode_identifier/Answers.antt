@@ -1,6 +1,6 @@
 use Rattle.std.proofs.lemmas.Result.{err_from_is_err_and}
 use Rattle.der_core.proofs.StateLemmas.{byte_working, byte_read, byte_refused, same_trans}
-use Rattle.der_core.proofs.TagReadLemmas.{tag_ends, tag_found, behind_refused}
+use Rattle.der_core.proofs.TagReadLemmas.{tag_ends, tag_found, failed_after_first}
 use Rattle.der_core.proofs.DecodeLemmas.{decoded_ok, decoded_err}
 use Rattle.der_core.proofs.tag.decode_identifier.Goals as goal
 
@@ -14,7 +14,7 @@ pub returns-in_err-number : goal.returns-in_err-number
 returns-in_err-number g c =
     let p = err_from_is_err_and c.from_residual-in_err-number.result c.from_residual-in_err-number.ensures.1 in
     rw (p.1, p.2) (decoded_err (same_trans c.in_ok-first.ensures.same c.in_err-number.ensures.same)
-    (λ reliable. behind_refused (byte_working _ _ _ c.in_ok-first.ensures.exact) (byte_read c.in_ok-first.ensures.exact) (c.in_err-number.ensures.exact reliable)))
+    (λ reliable. failed_after_first (byte_working _ _ _ c.in_ok-first.ensures.exact) (byte_read c.in_ok-first.ensures.exact) (c.in_err-number.ensures.exact reliable)))
 
 pub returns : goal.returns
 returns g c =

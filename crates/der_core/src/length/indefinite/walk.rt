@@ -25,11 +25,11 @@ impl<'a> Walk<'a> {
     ghost use Rattle.der_base.specs.Length.{definite_length, digits, number};
     ghost use Rattle.der_base.specs.Tag.{continuation_octets, is_constructed};
     ghost use Rattle.der_base.specs.declared.error.ErrorKind.TheVariants.{Length as IncorrectLength};
-    ghost use Rattle.der_core.specs.AfterFirstOctet.{DefiniteBehind, IdentifierBehind, IsToldBy, RefusesIdentifier, RefusesLongLength, RefusesNumber, identifier_tag};
+    ghost use Rattle.der_core.specs.AfterFirstOctet.{DefiniteAfter, IdentifierAfter, IsErrorOf, RefusesIdentifier, RefusesLongLength, RefusesNumber, identifier_tag};
     ghost use Rattle.der_core.specs.Outcome.{Gives};
     ghost use Rattle.der_core.specs.Reader.{drain_outcome};
     ghost use Rattle.der_core.specs.ReaderState.{rest_of, reader_position, Reads};
-    ghost use Rattle.der_core.specs.Scan.{ScansAhead, IsTurned};
+    ghost use Rattle.der_core.specs.Scan.{ScansNext, IsTurned};
     ghost use Rattle.der_core.specs.Turn.{PartRead, RefusesPart};
     ghost use Rattle.der_core.specs.Walk.{walked_state, walk_state};
 
@@ -40,7 +40,7 @@ impl<'a> Walk<'a> {
         turns: &mut Turns<L>,
     ) -> Result<Length, Error>
         requires { number start + length octets.now < 2 ^ 32 }
-        ensures scans { ScansAhead true (walked_state octets.now (number start) 0) result }
+        ensures scans { ScansNext true (walked_state octets.now (number start) 0) result }
         ensures turned { IsTurned octets.now result turns.old turns.new }
     {
         let start = u32::from(start) as usize;
@@ -117,7 +117,7 @@ impl<'a> Walk<'a> {
         ensures ok { IfOk result (λ part. PartRead level part (walk_state self.old)
             (walk_state self.new)) }
         ensures exact { IfErr result
-            (λ e. IsToldBy (RefusesPart level) (walk_state self.old) e) }
+            (λ e. IsErrorOf (RefusesPart level) (walk_state self.old) e) }
     {
         let first = self.read_byte()?;
         if first == 0 {
@@ -147,10 +147,10 @@ impl<'a> Walk<'a> {
     // or more.
     #[inline(always)]
     fn read_identifier(&mut self, first: u8) -> Result<u32, Error>
-        ensures ok { IfOk result (λ n. IdentifierBehind first (identifier_tag first n)
+        ensures ok { IfOk result (λ n. IdentifierAfter first (identifier_tag first n)
             (is_constructed first) (walk_state self.old) (walk_state self.new)) }
         ensures exact { IfErr result
-            (λ e. IsToldBy (RefusesIdentifier first) (walk_state self.old) e) }
+            (λ e. IsErrorOf (RefusesIdentifier first) (walk_state self.old) e) }
     {
         if first < 0x40 {
             if !is_ber_identifier(first) {
@@ -171,7 +171,7 @@ impl<'a> Walk<'a> {
         ensures ok { IfOk result (λ n. Reads (walk_state self.old) (walk_state self.new)
             (continuation_octets (digits 128 n)) × (31 ≤ n) × (n < 2 ^ 32)) }
         ensures exact { IfErr result
-            (λ e. IsToldBy RefusesNumber (walk_state self.old) e) }
+            (λ e. IsErrorOf RefusesNumber (walk_state self.old) e) }
     {
         let mut number = 0u32;
         'octets: loop {
@@ -199,10 +199,10 @@ impl<'a> Walk<'a> {
     #[inline(always)]
     fn read_definite(&mut self, first: u8, leading: u8, number: u32) -> Result<u32, Error>
         requires { first ≢ 128 }
-        ensures ok { IfOk result (λ n. DefiniteBehind first n (walk_state self.old)
+        ensures ok { IfOk result (λ n. DefiniteAfter first n (walk_state self.old)
             (walk_state self.new)) }
         ensures exact { IfErr result
-            (λ e. IsToldBy
+            (λ e. IsErrorOf
             (RefusesLongLength (IncorrectLength (identifier_tag leading number)) first)
             (walk_state self.old) e) }
     {

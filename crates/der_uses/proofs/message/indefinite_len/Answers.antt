@@ -7,7 +7,7 @@ use Rattle.der_uses.proofs.message.indefinite_len.Goals as goal
 
 -- a turn consumes two octets
 bounded : (octets all : List ℕ) (r : Result Length Error) (before after : ℕ) → octets ≡ all → IsTurned octets r before after → after ≤ before + (length all / 2 + 1)
-bounded octets all (Ok l) before after e (parts, (body, behind, is, split), counted) = omega (arith, body_parts is, ap length split, ap length e, length-append body behind, counted)
+bounded octets all (Ok l) before after e (parts, (body, following, is, split), counted) = omega (arith, body_parts is, ap length split, ap length e, length-append body following, counted)
 bounded octets all (Err x) before after e h = omega (arith, h.1, ap length e)
 
 pub returns : goal.returns

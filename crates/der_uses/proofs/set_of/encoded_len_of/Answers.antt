@@ -3,7 +3,7 @@ use Rattle.std.proofs.lemmas.Result.{err_from_is_err_and}
 use Rattle.der.specs.Prelude.{checked_length, number}
 use Rattle.der.specs.BorrowedOctets.{borrowed_octets}
 use Rattle.der.proofs.PeekLemmas.{counted_ok, counted_err}
-use Rattle.der_uses.specs.SetOf.{octets_of, joined_strings, string_octets}
+use Rattle.der_uses.specs.AscendingStrings.{octets_of, joined_strings, string_octets}
 use Rattle.der_uses.proofs.SetOfLemmas.{string_count, uncounted, within_all, one_more}
 use Rattle.der_uses.proofs.set_of.encoded_len_of.Goals as goal
 

@@ -1,6 +1,6 @@
 use Rattle.std.proofs.Common.{◌≡◌, Ok, take, length}
 use Rattle.der.specs.Prelude.{checked_length}
-use Rattle.der_uses.specs.SetOf.{octets_of, joined_strings}
+use Rattle.der_uses.specs.AscendingStrings.{octets_of, joined_strings}
 use Rattle.der_uses.proofs.set_of.encoded_len_of.Given as goal
 
 abbrev pub invariant-loop-element : goal.invariant-loop-element

@@ -2,8 +2,8 @@ use Rattle.std.proofs.Common.{[], refl, sym, ◌∙◌, append-nil}
 use Rattle.std.proofs.lemmas.Result.{err_from_is_err_and}
 use Rattle.der.specs.Prelude.{number, slice_state}
 use Rattle.der.proofs.DecodeLemmas.{remaining_ok}
-use Rattle.der_uses.specs.SetOf.{joined_strings}
-use Rattle.der_uses.proofs.SetReadLemmas.{slice_sound, header_count, header_position, whole_set, set_finished, order_refused, order_lent}
+use Rattle.der_uses.specs.AscendingStrings.{joined_strings}
+use Rattle.der_uses.proofs.SetReadLemmas.{slice_sound, header_count, header_position, whole_set, set_finished, order_refused, order_result_moves}
 use Rattle.der_uses.proofs.set_of.set_of_contents.Goals as goal
 
 pub returns-in_err-pass_contents-clause-exact : goal.returns-in_err-pass_contents-clause-exact
@@ -40,5 +40,5 @@ returns-clause-exact c strings short e =
     let all = joined_strings strings in
     let counted = header_count c.args.octets.now s t n c.in_ok-reader.ensures.ok c.in_ok-len.ensures.ok strings e in
     let contents = c.in_ok-contents.contents.now in
-    order_lent _ strings all contents c.pass_contents.result _ c.in_ok-pass_contents.was ((remaining_ok t contents c.in_ok-contents.ensures.ok).1 ∙ counted.1)
+    order_result_moves _ strings all contents c.pass_contents.result _ c.in_ok-pass_contents.was ((remaining_ok t contents c.in_ok-contents.ensures.ok).1 ∙ counted.1)
     (c.pass_contents.ensures.exact strings [] (counted.1 ∙ sym (append-nil all)) counted.0)

@@ -3,7 +3,7 @@ use Rattle.std.proofs.lemmas.Cmp.{nat_list_cmp_total}
 use Rattle.std.proofs.lemmas.Fn.{always_returns_same}
 use Rattle.std.proofs.lemmas.List.Sorted.{ranks_by}
 use Rattle.der.specs.BorrowedOctets.{borrowed_octets}
-use Rattle.der_uses.specs.SetOf.{string_octets}
+use Rattle.der_uses.specs.AscendingStrings.{string_octets}
 use Rattle.der_uses.proofs.SetOfLemmas.{is_before, ascends, same_count}
 use Rattle.der_uses.proofs.set_of.set_of_der.Goals as goal
 

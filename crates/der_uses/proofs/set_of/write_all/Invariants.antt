@@ -1,5 +1,5 @@
 use Rattle.std.proofs.Common.{◌≡◌, ◌++◌, take}
-use Rattle.der_uses.specs.SetOf.{octets_of, joined_strings}
+use Rattle.der_uses.specs.AscendingStrings.{octets_of, joined_strings}
 use Rattle.der_uses.proofs.set_of.write_all.Given as goal
 
 abbrev pub invariant-loop-element : goal.invariant-loop-element

@@ -3,7 +3,7 @@ use Rattle.std.proofs.lemmas.Result.{err_from_is_err_and}
 use Rattle.der_core.proofs.NestedLemmas.{same_closed}
 use Rattle.der_core.proofs.StateLemmas.{same_trans, same_here}
 use Rattle.der.specs.Joining.{no_segment}
-use Rattle.der.proofs.JoiningLemmas.{appends_none, appends_behind, octets_appended, octets_refused, segments_refuse}
+use Rattle.der.proofs.JoiningLemmas.{appends_none, appends_after, octets_appended, octets_refused, segments_refuse}
 use Rattle.der.proofs.NestedSegmentLemmas.{enters_segment, not_entered_segment, nested_ok, nested_refused}
 use Rattle.der.proofs.length.indefinite.+append_segments.Goals as goal
 
@@ -37,7 +37,7 @@ segments-preserved-in-Continue-branch-3 g t c =
     let entered = enters_segment (g.met.R.Reader.sound_state c.segment_header.new.reader) c.in_ok-header.ensures.ok c.is_constructed.ensures c.if-is_constructed.true c.length.ensures c.sans_eoc-length.ensures c.in_ok-outer.ensures.exact in
     let read = nested_ok _ _ _ _ _ _ _ _ _ entered c.append_segments-answer.result c.in_ok-close_value.field-0 c.append_segments-answer.ensures.ok c.append_segments-answer.ensures.to_the_end (c.in_ok-close_value.ensures.exact tt) in
     let same = same_trans c.segment_header.ensures.same (same_closed entered.way c.append_segments-answer.ensures.same c.close_value.ensures.same) in
-    record { same = same_trans h.same same; so_far = appends_behind h.same h.so_far read.appends }
+    record { same = same_trans h.same same; so_far = appends_after h.same h.so_far read.appends }
 
 pub returns-in_err-close_value-clause-exact : goal.returns-in_err-close_value-clause-exact
 returns-in_err-close_value-clause-exact g t c =
@@ -60,7 +60,7 @@ segments-preserved g t c =
     let h = c.segments.invariant in
     let primitive = sym c.is_constructed.ensures ∙ c.if-is_constructed.false in
     let read = octets_appended _ _ _ _ c.in_ok-header.header c.length-else-is_constructed.result c.in_ok-header.ensures.ok primitive c.length-else-is_constructed.ensures _ (g.met.R.Reader.sound_state c.segment_header.new.reader) c.in_ok-append_octets.ensures.ok in
-    record { same = same_trans h.same (same_trans c.segment_header.ensures.same c.append_octets.ensures.same); so_far = appends_behind h.same h.so_far read.appends }
+    record { same = same_trans h.same (same_trans c.segment_header.ensures.same c.append_octets.ensures.same); so_far = appends_after h.same h.so_far read.appends }
 
 pub returns-in_err-append_octets-clause-exact : goal.returns-in_err-append_octets-clause-exact
 returns-in_err-append_octets-clause-exact g t c =

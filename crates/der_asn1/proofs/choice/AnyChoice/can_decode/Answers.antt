@@ -4,5 +4,5 @@ use Rattle.der_asn1.proofs.choice.AnyChoice.can_decode.Goals as goal
 
 pub returns : goal.returns
 returns g c =
-    let told = tag_equality c.args.tag c.fixed_tag.result in
-    (λ e. told.0 (sym c.eq.ensures ∙ e) ∙ c.fixed_tag.ensures, λ e. c.eq.ensures ∙ told.1 (e ∙ sym c.fixed_tag.ensures))
+    let reported = tag_equality c.args.tag c.fixed_tag.result in
+    (λ e. reported.0 (sym c.eq.ensures ∙ e) ∙ c.fixed_tag.ensures, λ e. c.eq.ensures ∙ reported.1 (e ∙ sym c.fixed_tag.ensures))

@@ -6,16 +6,16 @@ use Rattle.der.specs.Outcome.{Gives}
 use Rattle.der.specs.Reader.{read_slice_outcome}
 use Rattle.der_asn1.specs.SequenceOf.{IsListOf}
 use Rattle.der_asn1.specs.ListAnswers.{ListRead}
-use Rattle.der_asn1.proofs.ListAnswerLemmas.{lent_short}
-use Rattle.der_asn1.proofs.SequenceOfLemmas.{lacks_merely, lent_all}
+use Rattle.der_asn1.proofs.ListAnswerLemmas.{slice_fits_length}
+use Rattle.der_asn1.proofs.SequenceOfLemmas.{lacks_merely, slice_is_rest}
 use Rattle.der_asn1.proofs.sequence_of.SequenceOfDecodeValue.decode_value.Goals as goal
 
 pub returns-in_err-check_items-clause-complete : goal.returns-in_err-check_items-clause-complete
 returns-in_err-check_items-clause-complete g c v reliable there deep =
     let p = err_from_is_err_and c.from_residual-in_err-check_items.result c.from_residual-in_err-check_items.ensures.1 in
-    let lent = lent_all (number c.args.header.length) (g.R.Reader.state c.args.reader.now) (g.R.Reader.state c.read_slice.new.self) c.in_ok-octets.octets.now (subst (λ l. Gives (read_slice_outcome (number l)) (g.R.Reader.state c.args.reader.now) (Ok c.in_ok-octets.octets.now) (g.R.Reader.state c.read_slice.new.self)) c.length.ensures c.in_ok-octets.ensures.exact) there.stands.sized in
+    let octets_with = slice_is_rest (number c.args.header.length) (g.R.Reader.state c.args.reader.now) (g.R.Reader.state c.read_slice.new.self) c.in_ok-octets.octets.now (subst (λ l. Gives (read_slice_outcome (number l)) (g.R.Reader.state c.args.reader.now) (Ok c.in_ok-octets.octets.now) (g.R.Reader.state c.read_slice.new.self)) c.length.ensures c.in_ok-octets.ensures.exact) there.is_next.sized in
     rw (p.1, p.2) (inr (lacks_merely g.T.Error.DecodeError.out_of_memory g.T.ReadValue.allocates c.in_err-check_items.field-0.0 there.taken.0
-    (λ l. c.in_err-check_items.ensures.complete (subst (λ x. length x < 2 ^ 32) (sym lent) there.taken.1) (subst (IsListOf g.T.ReadValue.valid (λ w. element_octets g.T.FixedTag.tag_is (g.T.WrittenValue.contents w))) (sym lent) l))))
+    (λ l. c.in_err-check_items.ensures.complete (subst (λ x. length x < 2 ^ 32) (sym octets_with) there.taken.1) (subst (IsListOf g.T.ReadValue.valid (λ w. element_octets g.T.FixedTag.tag_is (g.T.WrittenValue.contents w))) (sym octets_with) l))))
 
 pub returns-in_err-octets-clause-exact : goal.returns-in_err-octets-clause-exact
 returns-in_err-octets-clause-exact g c reliable =
@@ -26,9 +26,9 @@ returns-in_err-octets-clause-exact g c reliable =
 pub returns-in_err-check_items-clause-exact : goal.returns-in_err-check_items-clause-exact
 returns-in_err-check_items-clause-exact g c reliable =
     let p = err_from_is_err_and c.from_residual-in_err-check_items.result c.from_residual-in_err-check_items.ensures.1 in
-    let lent = subst (λ l. Gives (read_slice_outcome (number l)) (g.R.Reader.state c.args.reader.now) (Ok c.in_ok-octets.octets.now) (g.R.Reader.state c.read_slice.new.self)) c.length.ensures c.in_ok-octets.ensures.exact in
-    rw (p.1, p.2) (ListRead.list_refused c.in_ok-octets.octets.now c.in_err-check_items.field-0.0 lent
-    (c.in_err-check_items.ensures.exact (lent_short (number c.length.result) (g.R.Reader.state c.args.reader.now) (g.R.Reader.state c.read_slice.new.self) c.in_ok-octets.octets.now (omega (arith, c.length.type_inv)) c.in_ok-octets.ensures.exact)) refl)
+    let octets_with = subst (λ l. Gives (read_slice_outcome (number l)) (g.R.Reader.state c.args.reader.now) (Ok c.in_ok-octets.octets.now) (g.R.Reader.state c.read_slice.new.self)) c.length.ensures c.in_ok-octets.ensures.exact in
+    rw (p.1, p.2) (ListRead.list_refused c.in_ok-octets.octets.now c.in_err-check_items.field-0.0 octets_with
+    (c.in_err-check_items.ensures.exact (slice_fits_length (number c.length.result) (g.R.Reader.state c.args.reader.now) (g.R.Reader.state c.read_slice.new.self) c.in_ok-octets.octets.now (omega (arith, c.length.type_inv)) c.in_ok-octets.ensures.exact)) refl)
 
 pub returns-clause-exact : goal.returns-clause-exact
 returns-clause-exact g c reliable =

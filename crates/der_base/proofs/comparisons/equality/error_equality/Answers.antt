@@ -3,4 +3,4 @@ use Rattle.der_base.proofs.EqualityLemmas.{error_equality}
 use Rattle.der_base.proofs.comparisons.equality.error_equality.Goals as goal
 
 pub returns : goal.returns
-returns c = let told = error_equality c.args.a c.args.b in (λ e. told.0 (sym c.eq.ensures ∙ e), λ e. c.eq.ensures ∙ told.1 e)
+returns c = let reported = error_equality c.args.a c.args.b in (λ e. reported.0 (sym c.eq.ensures ∙ e), λ e. c.eq.ensures ∙ reported.1 e)

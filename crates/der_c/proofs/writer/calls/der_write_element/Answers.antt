@@ -1,5 +1,5 @@
 use Rattle.std.proofs.Common.{length, refl}
-use Rattle.der_c.specs.Writer.{writer_state}
+use Rattle.der_c.specs.CWriter.{writer_state}
 use Rattle.der_c.specs.WriterCalls.{of_tag}
 use Rattle.der_c.proofs.WriterCallLemmas.{element_written}
 use Rattle.der_c.proofs.writer.calls.der_write_element.Goals as goal

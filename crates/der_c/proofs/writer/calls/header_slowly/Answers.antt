@@ -1,6 +1,6 @@
 use Rattle.std.proofs.Common.{refl, ap}
 use Rattle.der_base.specs.Length.{number}
-use Rattle.der_c.specs.Writer.{writer_state}
+use Rattle.der_c.specs.CWriter.{writer_state}
 use Rattle.der_c.specs.WriterCalls.{of_tag}
 use Rattle.der_c.proofs.WriterCallLemmas.{same_header_written}
 use Rattle.der_c.proofs.writer.calls.header_slowly.Goals as goal

@@ -2,7 +2,7 @@ use Rattle.std.proofs.Common.{◌≡◌, ◌-◌, ap, rules, arith}
 use Rattle.std.proofs.lemmas.Bool.Decides.{nat_tests}
 use Rattle.der_base.specs.Length.{number}
 use Rattle.der_base.proofs.LengthLemmas.{length_octets_few}
-use Rattle.der_c.specs.Part.{no_room}
+use Rattle.der_c.specs.Part.{no_space}
 use Rattle.der_c.proofs.writer.part.der_end.Goals as goal
 
 pub returns-in_default : goal.returns-in_default
@@ -14,4 +14,4 @@ returns-in_default c =
     absurd (search (rules, fits))
 
 pub returns-then-more-stop : goal.returns-then-more-stop
-returns-then-more-stop c = no_room c.refusal-then-more-stop.result (search rules) (search rules) (record { answered = grind (rules, nat_tests); leaves = grind (rules, nat_tests) }) c.told-then-more-stop.ensures
+returns-then-more-stop c = no_space c.refusal-then-more-stop.result (search rules) (search rules) (record { answered = grind (rules, nat_tests); leaves = grind (rules, nat_tests) }) c.reported-then-more-stop.ensures

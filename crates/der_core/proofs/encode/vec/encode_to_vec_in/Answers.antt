@@ -26,8 +26,8 @@ returns-in-Err-fill-clause-exact g c =
     let d : List ℕ = c.deref_mut.result.now in
     let len = c.deref_mut.ensures.len in
     let size = c.in-Ok.ensures.len in
-    let room : length (take (length d - c.len-before.result) (drop c.len-before.result d)) ≡ number c.in_ok-encoded_len.field-0 = ap length (take_rest d c.len-before.result) ∙ length-drop c.len-before.result d ∙ omega (arith, len, size, s.1, f) in
-    written c.in_ok-encoded_len.field-0 _ x.0 (Err c.in-Err-fill.error) x.1 (sym c.in_ok-encoded_len.ensures.exact) (omega (arith, s.0, f, b)) room x.2 refl
+    let space : length (take (length d - c.len-before.result) (drop c.len-before.result d)) ≡ number c.in_ok-encoded_len.field-0 = ap length (take_rest d c.len-before.result) ∙ length-drop c.len-before.result d ∙ omega (arith, len, size, s.1, f) in
+    written c.in_ok-encoded_len.field-0 _ x.0 (Err c.in-Err-fill.error) x.1 (sym c.in_ok-encoded_len.ensures.exact) (omega (arith, s.0, f, b)) space x.2 refl
 
 pub returns-in-Ok-fill-clause-exact : goal.returns-in-Ok-fill-clause-exact
 returns-in-Ok-fill-clause-exact g c =
@@ -38,6 +38,6 @@ returns-in-Ok-fill-clause-exact g c =
     let d : List ℕ = c.deref_mut.result.now in
     let len = c.deref_mut.ensures.len in
     let size = c.in-Ok.ensures.len in
-    let room : length (take (length d - c.len-before.result) (drop c.len-before.result d)) ≡ number c.in_ok-encoded_len.field-0 = ap length (take_rest d c.len-before.result) ∙ length-drop c.len-before.result d ∙ omega (arith, len, size, s.1, f) in
-    written c.in_ok-encoded_len.field-0 _ x.0 (Ok tt) x.1 (sym c.in_ok-encoded_len.ensures.exact) (omega (arith, s.0, f, b)) room x.2
+    let space : length (take (length d - c.len-before.result) (drop c.len-before.result d)) ≡ number c.in_ok-encoded_len.field-0 = ap length (take_rest d c.len-before.result) ∙ length-drop c.len-before.result d ∙ omega (arith, len, size, s.1, f) in
+    written c.in_ok-encoded_len.field-0 _ x.0 (Ok tt) x.1 (sym c.in_ok-encoded_len.ensures.exact) (omega (arith, s.0, f, b)) space x.2
     (ap Ok (c.new.ensures ∙ ap definite_length f))

@@ -1,8 +1,8 @@
 use Rattle.std.proofs.Common.{arith, sym, ◌∙◌}
 use Rattle.std.proofs.lemmas.Result.{err_from_is_err_and}
 use Rattle.der_core.proofs.StateLemmas.{byte_working, byte_read, byte_refused}
-use Rattle.der_core.proofs.EndMarkLemmas.{zero_octet}
-use Rattle.der_core.proofs.TurnLemmas.{identifier_passed, length_passed, part_nothing, part_mark, part_no_mark, part_refused, part_no_length, part_primitive, part_too_deep, part_opens, part_wrong_length, part_short, part_passes}
+use Rattle.der_core.proofs.EocLemmas.{zero_octet}
+use Rattle.der_core.proofs.TurnLemmas.{identifier_passed, length_passed, part_nothing, token_eoc, token_invalid_eoc, part_refused, part_no_length, part_primitive, part_too_deep, part_opens, part_wrong_length, part_short, part_passes}
 use Rattle.der_core.proofs.length.indefinite.next_part.Goals as goal
 
 pub returns-in_err-first-clause-exact : goal.returns-in_err-first-clause-exact
@@ -14,12 +14,12 @@ pub returns-in_err-read_zero_octet-clause-exact : goal.returns-in_err-read_zero_
 returns-in_err-read_zero_octet-clause-exact g c reliable =
     let p = err_from_is_err_and c.from_residual-in_err-read_zero_octet.result c.from_residual-in_err-read_zero_octet.ensures.1 in
     let first = c.in_ok-first.ensures.exact in
-    rw (p.1, p.2) (part_no_mark c.args.level (byte_working _ _ _ first) (byte_read first) c.if-first-eq0.true (zero_octet _ (g.met.R.Reader.sound_state c.read_byte.new.self) (c.in_err-read_zero_octet.ensures.exact reliable)))
+    rw (p.1, p.2) (token_invalid_eoc c.args.level (byte_working _ _ _ first) (byte_read first) c.if-first-eq0.true (zero_octet _ (g.met.R.Reader.sound_state c.read_byte.new.self) (c.in_err-read_zero_octet.ensures.exact reliable)))
 
 pub returns-then-first-eq0-clause-ok : goal.returns-then-first-eq0-clause-ok
 returns-then-first-eq0-clause-ok g c =
     let first = c.in_ok-first.ensures.exact in
-    part_mark c.args.level (byte_working _ _ _ first) (byte_read first) c.if-first-eq0.true (zero_octet _ (g.met.R.Reader.sound_state c.read_byte.new.self) c.in_ok-read_zero_octet.ensures.exact)
+    token_eoc c.args.level (byte_working _ _ _ first) (byte_read first) c.if-first-eq0.true (zero_octet _ (g.met.R.Reader.sound_state c.read_byte.new.self) c.in_ok-read_zero_octet.ensures.exact)
 
 pub returns-in_err-number-clause-exact : goal.returns-in_err-number-clause-exact
 returns-in_err-number-clause-exact g c reliable =
@@ -33,7 +33,7 @@ returns-in_err-octet-clause-exact g c reliable =
     let first = c.in_ok-first.ensures.exact in
     let found = c.in_ok-number.ensures.ok in
     let id = identifier_passed c.requires.ber (byte_working _ _ _ first) (byte_read first) found.1 found.2 in
-    rw (p.1, p.2) (part_no_length c.args.level id (byte_refused (g.met.R.Reader.sound_state c.decode_number_behind.new.reader) (c.in_err-octet.ensures.exact reliable)))
+    rw (p.1, p.2) (part_no_length c.args.level id (byte_refused (g.met.R.Reader.sound_state c.decode_number_after.new.reader) (c.in_err-octet.ensures.exact reliable)))
 
 pub returns-then-not-has_constructed_bit-clause-exact : goal.returns-then-not-has_constructed_bit-clause-exact
 returns-then-not-has_constructed_bit-clause-exact g c reliable =
@@ -73,8 +73,8 @@ returns-in_err-drain-clause-exact g c reliable =
     let found = c.in_ok-number.ensures.ok in
     let id = identifier_passed c.requires.ber (byte_working _ _ _ first) (byte_read first) found.1 found.2 in
     let count = c.in_ok-count.ensures.ok in
-    let behind = length_passed id (byte_read c.in_ok-octet.ensures.exact) count.1 count.2 count.3 in
-    rw (p.1, p.2) (part_short c.args.level behind c.new.ensures (g.met.R.Reader.sound_state c.decode_definite.new.reader) (c.in_err-drain.ensures.exact reliable))
+    let following = length_passed id (byte_read c.in_ok-octet.ensures.exact) count.1 count.2 count.3 in
+    rw (p.1, p.2) (part_short c.args.level following c.new.ensures (g.met.R.Reader.sound_state c.decode_definite.new.reader) (c.in_err-drain.ensures.exact reliable))
 
 pub returns-clause-ok : goal.returns-clause-ok
 returns-clause-ok g c =
@@ -82,5 +82,5 @@ returns-clause-ok g c =
     let found = c.in_ok-number.ensures.ok in
     let id = identifier_passed c.requires.ber (byte_working _ _ _ first) (byte_read first) found.1 found.2 in
     let count = c.in_ok-count.ensures.ok in
-    let behind = length_passed id (byte_read c.in_ok-octet.ensures.exact) count.1 count.2 count.3 in
-    part_passes c.args.level behind c.new.ensures c.requires.levels (g.met.R.Reader.sound_state c.decode_definite.new.reader) c.in_ok-drain.ensures.exact
+    let following = length_passed id (byte_read c.in_ok-octet.ensures.exact) count.1 count.2 count.3 in
+    part_passes c.args.level following c.new.ensures c.requires.levels (g.met.R.Reader.sound_state c.decode_definite.new.reader) c.in_ok-drain.ensures.exact

@@ -1,6 +1,6 @@
 use Rattle.std.proofs.Common.{Ok, Some, None, refl}
 use Rattle.std.specs.declared.cmp.Ordering.TheVariants.{Less, Equal, Greater}
-use Rattle.der_core.proofs.ItemLemmas.{matched_none, matched_more, told, answered_equal, answered_error}
+use Rattle.der_core.proofs.ItemLemmas.{matched_none, matched_more, reported, answered_equal, answered_error}
 use Rattle.der_core.proofs.ord.items.iter_cmp.Goals as goal
 
 pub loop-x-init : goal.loop-x-init
@@ -28,20 +28,20 @@ loop-x-preserved g c =
 pub returns-in_err-ordering-in-Some-next : goal.returns-in_err-ordering-in-Some-next
 returns-in_err-ordering-in-Some-next g c =
     let r = c.in_err-ordering-in-Some-next in
-    told g.T.DerOrd.delimited c.loop-x.invariant.matched (Some c.in-Some.x) (Some c.in-Some-next.y) c.next.new.self c.next-in-Some.new.self c.from_residual.result c.in-Some.ensures.steps c.in-Some-next.ensures.steps
+    reported g.T.DerOrd.delimited c.loop-x.invariant.matched (Some c.in-Some.x) (Some c.in-Some-next.y) c.next.new.self c.next-in-Some.new.self c.from_residual.result c.in-Some.ensures.steps c.in-Some-next.ensures.steps
     (answered_error r.field-0.0 c.from_residual.result c.from_residual.ensures.1 (record { ok = r.ensures.ok; complete = r.ensures.complete; exact = r.ensures.exact }))
 
 pub returns-in_default-2 : goal.returns-in_default-2
 returns-in_default-2 g c =
     let r = c.in_ok-ordering-in-Some-next in
-    told g.T.DerOrd.delimited c.loop-x.invariant.matched (Some c.in-Some.x) (Some c.in-Some-next.y) c.next.new.self c.next-in-Some.new.self (Ok r.ordering) c.in-Some.ensures.steps c.in-Some-next.ensures.steps
+    reported g.T.DerOrd.delimited c.loop-x.invariant.matched (Some c.in-Some.x) (Some c.in-Some-next.y) c.next.new.self c.next-in-Some.new.self (Ok r.ordering) c.in-Some.ensures.steps c.in-Some-next.ensures.steps
     (record { ok = r.ensures.ok; complete = r.ensures.complete; exact = r.ensures.exact }, λ e. c.in_default-2.not-Equal (cc))
 
 pub returns-in-None : goal.returns-in-None
-returns-in-None g c = told g.T.DerOrd.delimited c.loop-x.invariant.matched (Some c.in-Some.x) None c.next.new.self c.next-in-Some.new.self (Ok Greater) c.in-Some.ensures.steps c.in-None.ensures.steps refl
+returns-in-None g c = reported g.T.DerOrd.delimited c.loop-x.invariant.matched (Some c.in-Some.x) None c.next.new.self c.next-in-Some.new.self (Ok Greater) c.in-Some.ensures.steps c.in-None.ensures.steps refl
 
 pub returns-in-Some-next-2 : goal.returns-in-Some-next-2
-returns-in-Some-next-2 g c = told g.T.DerOrd.delimited c.loop-x.invariant.matched None (Some c.in-Some-next-2.field-0) c.next.new.self c.next-2.new.self (Ok Less) c.in_default.ensures.steps c.in-Some-next-2.ensures.steps refl
+returns-in-Some-next-2 g c = reported g.T.DerOrd.delimited c.loop-x.invariant.matched None (Some c.in-Some-next-2.field-0) c.next.new.self c.next-2.new.self (Ok Less) c.in_default.ensures.steps c.in-Some-next-2.ensures.steps refl
 
 pub returns : goal.returns
-returns g c = told g.T.DerOrd.delimited c.loop-x.invariant.matched None None c.next.new.self c.next-2.new.self (Ok Equal) c.in_default.ensures.steps c.in-None-next.ensures.steps refl
+returns g c = reported g.T.DerOrd.delimited c.loop-x.invariant.matched None None c.next.new.self c.next-2.new.self (Ok Equal) c.in_default.ensures.steps c.in-None-next.ensures.steps refl

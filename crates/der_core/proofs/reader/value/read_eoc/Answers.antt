@@ -1,5 +1,5 @@
 use Rattle.std.proofs.lemmas.Result.{err_from_is_err_and}
-use Rattle.der_core.proofs.EndMarkLemmas.{eoc_read, eoc_refused}
+use Rattle.der_core.proofs.EocLemmas.{eoc_read, eoc_refused}
 use Rattle.der_core.proofs.reader.value.read_eoc.Goals as goal
 
 pub returns-clause-exact : goal.returns-clause-exact

@@ -13,8 +13,8 @@ pub returns-then-eq : goal.returns-then-eq
 returns-then-eq c =
     let t = c.args.self.now in
     let u = c.args.other.now in
-    let told = tag_equality t u in
-    let same : t ≡ u = told.0 (sym c.eq.ensures ∙ c.if-eq.true) in
+    let reported = tag_equality t u in
+    let same : t ≡ u = reported.0 (sym c.eq.ensures ∙ c.if-eq.true) in
     let e = sym (equal_octets (tag_octets t) (tag_octets u) (ap tag_octets same)) in
     record { ok = λ _. e; complete = λ _ _ _. ap Ok e; exact = ap Ok e }
 

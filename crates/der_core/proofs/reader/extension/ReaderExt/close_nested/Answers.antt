@@ -1,10 +1,10 @@
 use Rattle.std.proofs.Common.{refl}
-use Rattle.der_core.specs.Nested.{handed_on}
+use Rattle.der_core.specs.Nested.{forwarded}
 use Rattle.der_core.proofs.NestedLemmas.{close_left_over, close_whole}
 use Rattle.der_core.proofs.reader.extension.ReaderExt.close_nested.Goals as goal
 
 pub returns-in-Err-clause-exact : goal.returns-in-Err-clause-exact
-returns-in-Err-clause-exact g c = handed_on _ c.in-Err.is refl c.leave_nested.ensures
+returns-in-Err-clause-exact g c = forwarded _ c.in-Err.is refl c.leave_nested.ensures
 
 pub returns-then-not-is_zero-clause-exact : goal.returns-then-not-is_zero-clause-exact
 returns-then-not-is_zero-clause-exact g c =

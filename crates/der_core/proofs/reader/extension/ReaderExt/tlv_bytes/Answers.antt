@@ -20,7 +20,7 @@ returns-clause-exact g c owed =
     tlv_read (g.Self.Reader.state c.args.self.now) (g.Self.Reader.state c.fork-fork.result) (g.Self.Reader.state c.decode_header.new.reader) c.in_ok-header.header c.fork-fork.ensures c.in_ok-header.ensures.ok
     (number c.in_ok-len.len) _ _
     (omega (arith, ap number sum.1, octets, ap number c.saturating_sub-header_len.ensures, ap number c.position.ensures, ap number c.position-2.ensures, ap number c.length.ensures))
-    (omega (arith, sum.0, ap number sum.1)) (owed_gives g.Self.Reader.reliable g.Self.Lent.Octets.octets (read_slice_outcome (number c.in_ok-len.len)) _ _ c.read_slice.result owed c.read_slice.ensures.exact)
+    (omega (arith, sum.0, ap number sum.1)) (owed_gives g.Self.Reader.reliable g.Self.Borrowed.Octets.octets (read_slice_outcome (number c.in_ok-len.len)) _ _ c.read_slice.result owed c.read_slice.ensures.exact)
 
 pub returns-in_err-len-clause-exact : goal.returns-in_err-len-clause-exact
 returns-in_err-len-clause-exact g c =

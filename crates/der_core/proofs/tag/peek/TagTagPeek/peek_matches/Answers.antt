@@ -1,11 +1,11 @@
 use Rattle.std.proofs.Common.{◌≡◌, ◌≢◌, true, false, refl, sym, ◌∙◌, arith}
 use Rattle.std.proofs.lemmas.Result.{err_from_is_err_and}
-use Rattle.der_core.specs.Decode.{tag_ahead_is, no_tag}
+use Rattle.der_core.specs.Decode.{next_tag_is, no_tag}
 use Rattle.der_core.proofs.PeekLemmas.{peeks_reliably}
 use Rattle.der_core.proofs.tag.peek.TagTagPeek.peek_matches.Goals as goal
 
 pub returns-clause-exact : goal.returns-clause-exact
-returns-clause-exact g c owed = tag_ahead_is c.in_ok-tag.tag c.has.result (peeks_reliably _ owed c.in_ok-tag.ensures) refl c.has.ensures
+returns-clause-exact g c owed = next_tag_is c.in_ok-tag.tag c.has.result (peeks_reliably _ owed c.in_ok-tag.ensures) refl c.has.ensures
 
 pub returns-in_err-tag-clause-exact : goal.returns-in_err-tag-clause-exact
 returns-in_err-tag-clause-exact g c =

@@ -3,7 +3,7 @@ use Rattle.std.proofs.lemmas.Result.{err_from_is_err_and}
 use Rattle.der_base.specs.Length.{number}
 use Rattle.der_core.specs.Writer.{WriterState}
 use Rattle.der_core.specs.SliceWriter.{slice_writer_state}
-use Rattle.der_core.specs.WrittenSequence.{part_state, no_room, ran}
+use Rattle.der_core.specs.WrittenSequence.{part_state, no_space, ran}
 use Rattle.der_core.proofs.WriterLemmas.{granted, refused_alike, ran_over, kept_round, fills}
 use Rattle.der_core.proofs.writer.slice.SliceWriter.fill_part.Goals as goal
 
@@ -15,7 +15,7 @@ returns-clause-kept g c =
     kept_round _ _ s _ n _ c.requires (ran_over _ _ s _ n _ _ _ _ c.requires apart.2 apart.1 c.f-answer.ensures c.close_part.ensures)
 
 pub returns-clause-runs : goal.returns-clause-runs
-returns-clause-runs g c alive room =
+returns-clause-runs g c alive space =
     let s : WriterState = slice_writer_state c.args.self.now in
     let n : ℕ = number c.args.len in
     let apart = granted n s (part_state s n) (slice_writer_state c.set_apart.new.self) c.in_ok-set_apart.ensures.exact in
@@ -41,4 +41,4 @@ returns-in_err-set_apart-clause-exact g c =
     let n : ℕ = number c.args.len in
     let e = refused_alike n s (part_state s n) (slice_writer_state c.set_apart.new.self) _ c.in_err-set_apart.ensures.exact in
     let p = err_from_is_err_and c.from_residual.result c.from_residual.ensures.1 in
-    rw (p.1, p.2) (no_room _ (sym e.answered) e)
+    rw (p.1, p.2) (no_space _ (sym e.answered) e)

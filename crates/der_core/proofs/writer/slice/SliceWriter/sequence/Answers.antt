@@ -6,13 +6,13 @@ use Rattle.der_core.specs.Writer.{WriterState, Writes, appended_state}
 use Rattle.der_core.specs.Encode.{header_outcome}
 use Rattle.der_core.specs.SliceWriter.{slice_writer_state}
 use Rattle.der_core.specs.WrittenSequence.{no_header}
-use Rattle.der_core.proofs.WriterLemmas.{behind_header}
+use Rattle.der_core.proofs.WriterLemmas.{following_header}
 use Rattle.der_core.proofs.writer.slice.SliceWriter.sequence.Goals as goal
 
 pub returns-clause-exact : goal.returns-clause-exact
 returns-clause-exact g c =
     let s : WriterState = slice_writer_state c.args.self.now in
-    behind_header _ s _ _ _ _ (c.in_ok-encode.ensures.ok ∙ ap (λ (h : Head). appended_state s (header_octets h.tag (number h.length))) c.new.ensures)
+    following_header _ s _ _ _ _ (c.in_ok-encode.ensures.ok ∙ ap (λ (h : Head). appended_state s (header_octets h.tag (number h.length))) c.new.ensures)
     (subst (λ (h : Head). Writes (header_outcome h.tag (number h.length) s) (Ok tt) (slice_writer_state c.encode.new.writer)) c.new.ensures (c.in_ok-encode.ensures.exact refl)) c.fill_part.ensures.exact
 
 pub returns-in_err-encode-clause-exact : goal.returns-in_err-encode-clause-exact

@@ -5,22 +5,22 @@ use Rattle.der_core.specs.AfterFirstOctet.{RefusesLongLength, identifier_tag}
 use Rattle.der_core.specs.Walk.{walk_state}
 use Rattle.der_core.proofs.StateLemmas.{ByteRefused, reads_none, cut_refused}
 use Rattle.der_core.proofs.LengthReadLemmas.{digits_next, digits_fit, digits_whole, refused_far, refused_cut, refused_longer, found_long}
-use Rattle.der_core.proofs.WalkLemmas.{cut_told, told_behind, told_there}
+use Rattle.der_core.proofs.WalkLemmas.{missing_octet_error, error_after_read, error_at_walk}
 use Rattle.der_core.proofs.length.indefinite.walk.Walk.read_definite.Goals as goal
 
 pub returns-then-first-gt132-clause-exact : goal.returns-then-first-gt132-clause-exact
 returns-then-first-gt132-clause-exact c =
-    let told = c.error.ensures in
+    let reported = c.error.ensures in
     let kind = c.length_error.ensures in
     let tag = c.tag_of_identifier.ensures in
-    told_there (RefusesLongLength (IncorrectLength (identifier_tag c.args.leading c.args.number)) c.args.first) c.args.self.now (reads_none (walk_state c.args.self.now)) (refused_far (omega arith) (cc) refl)
+    error_at_walk (RefusesLongLength (IncorrectLength (identifier_tag c.args.leading c.args.number)) c.args.first) c.args.self.now (reads_none (walk_state c.args.self.now)) (refused_far (omega arith) (cc) refl)
 
 pub returns-in_err-octet-clause-exact : goal.returns-in_err-octet-clause-exact
 returns-in_err-octet-clause-exact c =
     let p = err_from_is_err_and c.from_residual.result c.from_residual.ensures.1 in
     let so_far = c.loop-i.invariant in
-    let cut = cut_told c.loop-i.self c.in_err-octet.ensures.none c.in_err-octet.ensures.exact in
-    rw (p.1, p.2) (told_behind ByteRefused (RefusesLongLength (IncorrectLength (identifier_tag c.args.leading c.args.number)) c.args.first) c.loop-i.self so_far.reads cut
+    let cut = missing_octet_error c.loop-i.self c.in_err-octet.ensures.none c.in_err-octet.ensures.exact in
+    rw (p.1, p.2) (error_after_read ByteRefused (RefusesLongLength (IncorrectLength (identifier_tag c.args.leading c.args.number)) c.args.first) c.loop-i.self so_far.reads cut
     (λ t refused at here working. refused_cut so_far (omega arith) (omega arith) (omega arith) (cut_refused refl refused) at here))
 
 pub overflow_mul-value : goal.overflow_mul-value
@@ -34,11 +34,11 @@ loop-i-preserved c = digits_next c.loop-i.invariant c.in_ok-octet.ensures.ok (om
 
 pub returns-then-value-least_of-clause-exact : goal.returns-then-value-least_of-clause-exact
 returns-then-value-least_of-clause-exact c =
-    let told = c.error-then-value-least_of.ensures in
+    let reported = c.error-then-value-least_of.ensures in
     let kind = c.length_error-then-value-least_of.ensures in
     let tag = c.tag_of_identifier-then-value-least_of.ensures in
     let so_far = digits_whole c.loop-i.i c.args.first (omega arith) c.loop-i.invariant in
-    told_there (RefusesLongLength (IncorrectLength (identifier_tag c.args.leading c.args.number)) c.args.first) c.loop-i.self so_far.reads
+    error_at_walk (RefusesLongLength (IncorrectLength (identifier_tag c.args.leading c.args.number)) c.args.first) c.loop-i.self so_far.reads
     (refused_longer so_far (omega arith) (omega arith) c.least_of.ensures c.if-value-least_of.true (cc) refl)
 
 pub returns-clause-ok : goal.returns-clause-ok

@@ -3,14 +3,14 @@ use Rattle.der_core.specs.AfterFirstOctet.{RefusesIdentifier}
 use Rattle.der_core.specs.Walk.{walk_state}
 use Rattle.der_core.proofs.StateLemmas.{reads_none}
 use Rattle.der_core.proofs.TagReadLemmas.{found_low, found_high, found_longer, refused_low}
-use Rattle.der_core.proofs.WalkLemmas.{told_there}
+use Rattle.der_core.proofs.WalkLemmas.{error_at_walk}
 use Rattle.der_core.proofs.length.indefinite.walk.Walk.read_identifier.Goals as goal
 
 pub returns-then-not-is_ber_identifier-clause-exact : goal.returns-then-not-is_ber_identifier-clause-exact
 returns-then-not-is_ber_identifier-clause-exact c =
-    let told = c.error.ensures in
+    let reported = c.error.ensures in
     let kind = c.unknown.ensures in
-    told_there (RefusesIdentifier c.args.first) c.args.self.now (reads_none (walk_state c.args.self.now))
+    error_at_walk (RefusesIdentifier c.args.first) c.args.self.now (reads_none (walk_state c.args.self.now))
     (refused_low c.if-first-lt64.true (λ known. (let no : false ≡ true = sym c.if-not-is_ber_identifier.true ∙ c.is_ber_identifier.ensures.1 known in cc)) (cc) refl)
 
 pub returns-then-first-lt64-clause-ok : goal.returns-then-first-lt64-clause-ok

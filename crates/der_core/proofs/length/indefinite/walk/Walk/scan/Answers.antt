@@ -1,7 +1,7 @@
 use Rattle.std.proofs.Common.{◌+◌, ◌-◌, sym, ap, subst, length, add-zero, ◌≡◌, ◌∙◌, arith}
 use Rattle.std.proofs.lemmas.Result.{err_from_is_err_and}
 use Rattle.der_base.specs.Length.{number, indefinite_length}
-use Rattle.der_base.specs.ScanGrammar.{PartsAhead}
+use Rattle.der_base.specs.ScanGrammar.{TokensNext}
 use Rattle.der_core.specs.Walk.{walked_state, walk_state}
 use Rattle.der_core.proofs.ScanReadLemmas.{Reached, reached_none, reached_passes, reached_opens, reached_ends, reached_last, reached_parts, reached_refused, reached_turns, part_progress}
 use Rattle.der_core.proofs.StateLemmas.{same_trans}
@@ -54,7 +54,7 @@ returns-then-level-eq0-clause-turned g c =
     let v = c.turns.invariant in
     let last = rw c.in-Ends.is at c.in_ok-part.ensures.ok in
     let all = walked_rest c.args.octets.now (number c.args.start) 0 in
-    (v.parts + 1, subst (PartsAhead (v.parts + 1)) all (reached_parts v.reached (omega (arith, v.low, c.if-level-eq0.true)) last), omega (arith, v.counted, c.tick.ensures))
+    (v.parts + 1, subst (TokensNext (v.parts + 1)) all (reached_parts v.reached (omega (arith, v.low, c.if-level-eq0.true)) last), omega (arith, v.counted, c.tick.ensures))
 
 pub turns-preserved-else-level-eq0 : goal.turns-preserved-else-level-eq0
 turns-preserved-else-level-eq0 g c =

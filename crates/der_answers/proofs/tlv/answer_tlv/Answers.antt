@@ -1,8 +1,0 @@
-use Rattle.der_answers.proofs.TextLemmas.{element_told, element_refused}
-use Rattle.der_answers.proofs.tlv.answer_tlv.Goals as goal
-
-pub returns-in_ok-element_line-in-Ok : goal.returns-in_ok-element_line-in-Ok
-returns-in_ok-element_line-in-Ok g c = element_told c.args.rules c.args.octets.now _ c.in-Ok.element.now c.in-Ok.ensures.ok c.in_ok-element_line-in-Ok.ensures
-
-pub returns-in_ok-error_line-in-Err : goal.returns-in_ok-error_line-in-Err
-returns-in_ok-error_line-in-Err g c = element_refused c.args.rules c.args.octets.now _ c.in-Err.error c.in-Err.ensures.err c.in_ok-error_line-in-Err.ensures

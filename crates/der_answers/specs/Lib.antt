@@ -1,5 +1,0 @@
-pub mod Command
-pub mod Text
-pub mod Answer
-pub mod Arguments
-pub mod Element

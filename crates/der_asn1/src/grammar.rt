@@ -1,0 +1,20 @@
+//! Types given by a check of their contents.
+ghost use Rattle.std.specs.Prelude.{◌≡◌, ℕ, ◌^◌, ◌<◌, Bool, List};
+ghost use Rattle.der.specs.Tag.{label};
+
+use der::FixedTag;
+
+/// A check of contents octets, with a tag.
+///
+/// Ghost members: `grammar` says which octets are valid contents; `numbered` proves that the tag
+/// number fits in 32 bits.
+pub trait ContentsGrammar: FixedTag {
+    ghost grammar: { List ℕ → Bool };
+
+    /// Whether the octets are valid contents.
+    fn matches_grammar(octets: &[u8]) -> bool
+        ensures { result ≡ grammar octets.now };
+
+    // The tag number fits in 32 bits.
+    ghost numbered: { (label Self.tag_is).number < 2 ^ 32 };
+}

@@ -1,0 +1,33 @@
+//! What the program `der_show` prints for a file: the fields of a certificate, a request or a key,
+//! one per line, or the field that failed; and for any other DER or BER one line per element.
+#![tactic(auto)]
+
+mod certificate;
+mod contents;
+mod element;
+mod failure;
+mod fields;
+mod identifier;
+mod name;
+mod names;
+mod offsets;
+mod options;
+mod private_key;
+mod program;
+mod public_key;
+mod refused;
+mod refused_certificate;
+mod refused_fields;
+mod refused_private_key;
+mod refused_request;
+mod request;
+mod search;
+mod shape;
+mod time;
+mod tree;
+mod version;
+mod view;
+
+pub use options::Options;
+pub use program::run_show;
+pub use view::write_view;

@@ -1,0 +1,92 @@
+//! The program as a function of its arguments, files and an output.
+
+use crate::failure::Failure;
+use crate::options::{Options, ShowCommand};
+use crate::view::write_view;
+use der::Error;
+use std::alloc::{AllocError, Global};
+use std::env::Args;
+use std::io::{Read, Write};
+use std::rt::Files;
+use std::{fs, io};
+
+const USAGE: &str = "usage: der_show [--offsets] [--tree] [--ber] [FILE]\n";
+
+/// Prints the file that the arguments name, or standard input, and returns the status: 0 on
+/// success, 1 if the octets are not accepted or cannot be read, an allocation fails or the output
+/// fails, and 2 if the words are not a command. The first argument is the name of the program.
+pub fn run_show<R: Files + Input + AllocGlobal, W: Write>(
+    rt: &R,
+    given: io::Result<Args>,
+    out: &mut W,
+) -> u8 {
+    let Ok(mut arguments) = given else {
+        return say(USAGE, 2, out);
+    };
+    let _name = arguments.next();
+    let words: Result<Vec<String>, AllocError> = arguments.collect(rt.alloc());
+    match words {
+        Ok(words) => match ShowCommand::parse(&words) {
+            Some(command) => run(rt, command, out),
+            None => say(USAGE, 2, out),
+        },
+        Err(_) => say("error: out of memory\n", 1, out),
+    }
+}
+
+fn run<R: Files + Input + AllocGlobal, W: Write>(
+    rt: &R,
+    command: ShowCommand<'_>,
+    out: &mut W,
+) -> u8 {
+    match read_octets(rt, command.file) {
+        Ok(octets) => match view(rt.alloc(), &octets, command.options) {
+            Ok((text, status)) => say(&text, status, out),
+            Err(_) => say("error: out of memory\n", 1, out),
+        },
+        Err(_) => say("error: the file is not read\n", 1, out),
+    }
+}
+
+/// Reads the file, or standard input.
+fn read_octets<R: Files + Input + AllocGlobal>(rt: &R, file: Option<&str>) -> io::Result<Vec<u8>> {
+    match file {
+        Some(path) => fs::read(rt, path),
+        None => {
+            let mut octets = Vec::new(rt.alloc());
+            let _count = rt.reader().read_to_end(&mut octets)?;
+            Ok(octets)
+        }
+    }
+}
+
+/// The text and the status for these octets. On an error of the octets, the text ends with an error
+/// line.
+fn view(alloc: Global, octets: &[u8], options: Options) -> Result<(String, u8), AllocError> {
+    let mut text = String::new(alloc);
+    match write_view(alloc, &mut text, octets, options) {
+        Ok(()) => Ok((text, 0)),
+        Err(Failure::Refused(error)) => {
+            text.push_str(&error_line(alloc, error)?)?;
+            Ok((text, 1))
+        }
+        Err(Failure::OutOfMemory) => Err(AllocError),
+    }
+}
+
+fn error_line(alloc: Global, error: Error) -> Result<String, AllocError> {
+    format!(in alloc; "error: {error}\n")
+}
+
+/// Prints the text, and returns the status, or 1 if the output fails.
+fn say<W: Write>(text: &str, status: u8, out: &mut W) -> u8 {
+    match put(text, out) {
+        Ok(()) => status,
+        Err(_) => 1,
+    }
+}
+
+fn put<W: Write>(text: &str, out: &mut W) -> io::Result<()> {
+    out.write_all(text.as_bytes())?;
+    out.flush()
+}

@@ -1,0 +1,111 @@
+//! A search for the field that makes a value fail.
+
+use der::{Decode, Error, Reader, ReaderExt, SliceReader, Tag, decode_header};
+use std::alloc::Global;
+use std::fmt::Write;
+
+/// A walk over the fields of a value that fails to decode, down to the innermost field that fails.
+/// Each field is decoded as its own type.
+#[derive(Drop)]
+pub struct Search<'a> {
+    alloc: Global,
+    // At the next field.
+    reader: SliceReader<'a>,
+    /// The error of the innermost failing field found so far, with positions in the whole input.
+    pub error: Error,
+    /// The names of the fields around that field, and its own, separated by dots; items of lists
+    /// have their index, from 0 on.
+    pub path: String,
+    /// The offset of that field.
+    pub start: u32,
+    /// Whether an allocation failed, so that the path is not complete.
+    pub lacks_memory: bool,
+}
+
+impl<'a> Search<'a> {
+    /// A walk from the start of octets that fail to decode with this error.
+    pub fn new(alloc: Global, octets: &'a [u8], error: Error) -> Result<Self, Error> {
+        let reader = SliceReader::new(octets)?;
+        Ok(Search {
+            alloc,
+            reader,
+            error,
+            path: String::new(alloc),
+            start: 0,
+            lacks_memory: false,
+        })
+    }
+
+    /// Whether the next field, which has this name, fails to decode. The walk skips a field that
+    /// does not, and stays at one that does.
+    pub fn is_refused<T: Decode<SliceReader<'a>, Error = Error>>(&mut self, name: &str) -> bool {
+        if self.passes::<T>() {
+            return false;
+        }
+        let point = if self.path.is_empty() { "" } else { "." };
+        if write!(self.path, "{point}{name}").is_err() {
+            self.lacks_memory = true;
+        }
+        true
+    }
+
+    /// Whether an item of a list fails to decode. The walk must be at the start of the contents of
+    /// the list, and stays at the first item that fails.
+    pub fn is_item_refused<T: Decode<SliceReader<'a>, Error = Error>>(&mut self) -> bool {
+        for at in 0..u32::from(self.reader.remaining_len()) {
+            if self.reader.is_finished() {
+                return false;
+            }
+            if !self.passes::<T>() {
+                self.lacks_memory = self.lacks_memory || write!(self.path, "[{at}]").is_err();
+                return true;
+            }
+        }
+        false
+    }
+
+    /// The same for a SET. If no member fails, the SET fails for the order of its members; the
+    /// position of that error is counted from the start of the contents, and is corrected here.
+    pub fn is_member_refused<T: Decode<SliceReader<'a>, Error = Error>>(&mut self) -> bool {
+        let order = self.error_from_here();
+        if self.is_item_refused::<T>() {
+            return true;
+        }
+        self.error = order;
+        false
+    }
+
+    /// Enters the next element. Returns false if it has another tag or its header or contents are
+    /// not valid and complete.
+    pub fn enter(&mut self, tag: Tag) -> bool {
+        match decode_header(&mut self.reader) {
+            Ok(header) => header.tag() == tag && self.reader.enter_nested(header.length()).is_ok(),
+            Err(_) => false,
+        }
+    }
+
+    /// The error with its position counted from the position of the walk.
+    fn error_from_here(&self) -> Error {
+        let Some(position) = self.error.position() else {
+            return self.error;
+        };
+        match self.reader.position() + position {
+            Ok(moved) => self.error.kind().at(moved),
+            Err(_) => self.error,
+        }
+    }
+
+    /// Skips the next field; or stays at it, and keeps its error, if it fails to decode.
+    fn passes<T: Decode<SliceReader<'a>, Error = Error>>(&mut self) -> bool {
+        let next = self.reader.fork();
+        match self.reader.decode::<T>(self.alloc) {
+            Ok(_) => true,
+            Err(error) => {
+                self.error = error;
+                self.start = u32::from(next.position());
+                self.reader = next;
+                false
+            }
+        }
+    }
+}

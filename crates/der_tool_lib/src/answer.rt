@@ -1,0 +1,55 @@
+//! What the program prints, and the status it exits with.
+ghost use Rattle.std.specs.Prelude.{◌≡◌, IfOk, string_bytes};
+ghost use Rattle.der_tool_lib.specs.Answer.{PrintsError};
+
+use der::Error;
+use std::alloc::{AllocError, Allocator};
+
+/// What the program prints, and how it ends.
+#[derive(Drop)]
+pub enum Answer<A: Allocator> {
+    /// The lines of a header, an element, an order or joined octets.
+    Printed(String<A>),
+    /// The octets are not accepted, for the reason in this line.
+    Refused(String<A>),
+    /// An allocation failed.
+    OutOfMemory,
+    /// The words are not a command.
+    Usage,
+}
+
+impl<A: Allocator> Answer<A> {
+    ghost use Rattle.der_tool_lib.specs.Answer.{status_of, text_of};
+
+    /// The exit status of the program.
+    pub fn status(&self) -> u8
+        ensures { result ≡ status_of self.now }
+    {
+        match self {
+            Answer::Printed(_) => 0,
+            Answer::Refused(_) | Answer::OutOfMemory => 1,
+            Answer::Usage => 2,
+        }
+    }
+
+    /// The text that the program prints.
+    pub fn text(&self) -> &str
+        ensures { result.now ≡ text_of self.now }
+    {
+        match self {
+            Answer::Printed(lines) => lines,
+            Answer::Refused(line) => line,
+            Answer::OutOfMemory => "error: out of memory\n",
+            Answer::Usage => {
+                "usage: der_tool head [--ber] HEX | tlv [--ber] HEX | order HEX HEX | join HEX\n"
+            }
+        }
+    }
+}
+
+/// The line that reports an error.
+pub fn error_line<A: Allocator>(alloc: A, error: Error) -> Result<String<A>, AllocError>
+    ensures { IfOk result (λ s. PrintsError error (string_bytes s)) }
+{
+    format!(in alloc; "error: {error}\n")
+}

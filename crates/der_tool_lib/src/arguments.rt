@@ -1,0 +1,40 @@
+//! The program as a function of its arguments and an output.
+ghost use Rattle.std.specs.Prelude.{◌≡◌, ◌⊎◌, true, IfOk};
+ghost use Rattle.der_tool_lib.specs.ToolCommand.{texts};
+ghost use Rattle.der_tool_lib.specs.Arguments.{AreWordsOf, WritesToArguments};
+
+use crate::answer::Answer;
+use crate::output::Output;
+use crate::program::{run, say};
+use std::alloc::{AllocError, Global};
+use std::env::Args;
+use std::io;
+
+/// Runs the program on its arguments and returns the status, as `run` does. The first argument is
+/// the name of the program; an error says why there are no arguments.
+pub fn run_tool<W: Output>(alloc: Global, given: io::Result<Args>, out: &mut W) -> u8
+    ensures answers { (result ≡ 1)
+        ⊎ WritesToArguments given result (W.contents out.old) (W.contents out.new) }
+    ensures exact { W.reliable ≡ true
+        → WritesToArguments given result (W.contents out.old) (W.contents out.new) }
+{
+    match given {
+        Ok(arguments) => match words_of(alloc, arguments) {
+            Ok(words) => run(alloc, &words, out),
+            Err(_) => say(&Answer::<Global>::OutOfMemory, out).unwrap_or(1),
+        },
+        // An argument that is not UTF-8 text is not a word of a command.
+        Err(error) if error.kind() == io::ErrorKind::InvalidData => {
+            say(&Answer::<Global>::Usage, out).unwrap_or(1)
+        }
+        Err(_) => say(&Answer::<Global>::OutOfMemory, out).unwrap_or(1),
+    }
+}
+
+/// The arguments after the name of the program.
+fn words_of(alloc: Global, mut arguments: Args) -> Result<Vec<String>, AllocError>
+    ensures { IfOk result (λ words. AreWordsOf arguments (texts words.items)) }
+{
+    let _name = arguments.next();
+    arguments.collect(alloc)
+}

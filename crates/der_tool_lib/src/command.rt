@@ -1,0 +1,110 @@
+//! The commands of the program, parsed from its words.
+ghost use Rattle.std.specs.Prelude.{◌≡◌, ◌↔◌, IsSome, IfSome, IsTrue};
+ghost use Rattle.der_tool_lib.specs.ToolCommand.{IsHex, IsName, IsCommand, texts};
+
+use der::EncodingRules;
+
+/// What the words request.
+#[derive(Clone, Copy)]
+pub enum ToolCommand<'a> {
+    /// `head [--ber] HEX`: the header at the front of these octets.
+    Head { rules: EncodingRules, hex: &'a str },
+    /// `tlv [--ber] HEX`: the whole element at the front of these octets.
+    Tlv { rules: EncodingRules, hex: &'a str },
+    /// `order HEX HEX`: the order of two whole elements.
+    Order { first: &'a str, second: &'a str },
+    /// `join HEX`: the joined segments of a whole element.
+    Join { hex: &'a str },
+}
+
+impl<'a> ToolCommand<'a> {
+    ghost use Rattle.der_tool_lib.specs.ToolCommand.{words_of, words_under, order_words, join_words, two, three, SpellsOctets};
+
+    /// The command of these words, if they are one.
+    pub fn parse(words: &'a [String]) -> Option<Self>
+        ensures found { IsSome result ↔ IsCommand (texts words.now) }
+        ensures words { IfSome result (λ c. texts words.now ≡ words_of c) }
+        ensures digits { IfSome result SpellsOctets }
+    {
+        match words {
+            [name, hex] => ToolCommand::of_two(name, hex),
+            [first, second, third] => ToolCommand::of_three(first, second, third),
+            _ => None,
+        }
+    }
+
+    /// The command of these two words, if they are one.
+    fn of_two(name: &str, hex: &'a str) -> Option<Self>
+        ensures found { IsSome result ↔ IsCommand (two name.now hex.now) }
+        ensures words { IfSome result (λ c. two name.now hex.now ≡ words_of c) }
+        ensures digits { IfSome result SpellsOctets }
+    {
+        if name == "join" {
+            ToolCommand::joining(hex)
+        } else {
+            ToolCommand::named(name, EncodingRules::Der, hex)
+        }
+    }
+
+    /// The command of these three words, if they are one.
+    fn of_three(first: &'a str, second: &'a str, third: &'a str) -> Option<Self>
+        ensures found { IsSome result ↔ IsCommand (three first.now second.now third.now) }
+        ensures words { IfSome result (λ c. three first.now second.now third.now ≡ words_of c) }
+        ensures digits { IfSome result SpellsOctets }
+    {
+        if second == "--ber" {
+            ToolCommand::named(first, EncodingRules::Ber, third)
+        } else if first == "order" {
+            ToolCommand::ordering(second, third)
+        } else {
+            None
+        }
+    }
+
+    /// The command of this name with one text, if there is one and the text is octets in
+    /// hexadecimal.
+    fn named(name: &str, rules: EncodingRules, hex: &'a str) -> Option<Self>
+        ensures found { IsSome result ↔ (IsName name.now × IsHex hex.now) }
+        ensures words { IfSome result (λ c. words_under rules name.now hex.now ≡ words_of c) }
+        ensures digits { IfSome result SpellsOctets }
+    {
+        match name {
+            "head" if is_hex(hex) => Some(ToolCommand::Head { rules, hex }),
+            "tlv" if is_hex(hex) => Some(ToolCommand::Tlv { rules, hex }),
+            _ => None,
+        }
+    }
+
+    /// The command `order` with these texts, if both are octets in hexadecimal.
+    fn ordering(first: &'a str, second: &'a str) -> Option<Self>
+        ensures found { IsSome result ↔ (IsHex first.now × IsHex second.now) }
+        ensures words { IfSome result (λ c. order_words first.now second.now ≡ words_of c) }
+        ensures digits { IfSome result SpellsOctets }
+    {
+        if is_hex(first) && is_hex(second) {
+            Some(ToolCommand::Order { first, second })
+        } else {
+            None
+        }
+    }
+
+    /// The command `join` with this text, if it is octets in hexadecimal.
+    fn joining(hex: &'a str) -> Option<Self>
+        ensures found { IsSome result ↔ IsHex hex.now }
+        ensures words { IfSome result (λ c. join_words hex.now ≡ words_of c) }
+        ensures digits { IfSome result SpellsOctets }
+    {
+        if is_hex(hex) {
+            Some(ToolCommand::Join { hex })
+        } else {
+            None
+        }
+    }
+}
+
+/// Whether the text is an even number of hexadecimal digits.
+fn is_hex(text: &str) -> bool
+    ensures { IsTrue result ↔ IsHex text.now }
+{
+    text.len() % 2 == 0 && text.bytes().all(|digit| digit.is_ascii_hexdigit())
+}
