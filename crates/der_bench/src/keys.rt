@@ -4,7 +4,7 @@ use crate::writing::last_of;
 use der::example::MyByteMonth;
 use der::{Encode, SliceWriter};
 use der_uses::algorithm_identifier::AlgorithmIdentifier;
-use der_uses::borrowed::Borrowed;
+use der_uses::my_octets::Borrowed;
 use der_uses::key_info::KeyInfo;
 use std::alloc::Global;
 

@@ -4,7 +4,7 @@ use crate::refused_fields::{search_algorithm, search_first_bits};
 use crate::search::Search;
 use der::Tag;
 use der_asn1::{Implicit, OctetStringRef, Optional};
-use pkcs8::{Attributes, Version};
+use pkcs8::{PrivateKeyAttributes, Version};
 
 /// Searches a private key for the field that fails.
 pub fn search_private_key(search: &mut Search<'_>) {
@@ -12,6 +12,6 @@ pub fn search_private_key(search: &mut Search<'_>) {
         && (search.is_refused::<Version<'_>>("version")
             || search_algorithm(search, "privateKeyAlgorithm")
             || search.is_refused::<OctetStringRef<'_>>("privateKey")
-            || search.is_refused::<Optional<Implicit<Attributes<'_>, 0>>>("attributes")
+            || search.is_refused::<Optional<Implicit<PrivateKeyAttributes<'_>, 0>>>("attributes")
             || search_first_bits(search, "publicKey"));
 }

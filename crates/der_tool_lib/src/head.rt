@@ -47,7 +47,7 @@ fn header_lines<A: Allocator + Copy>(
     let eoc = indefinite_suffix(length.is_indefinite());
     let rest = octets_text(alloc, rest)?;
     format!(in alloc;
-        "tag: {tag}\nconstructed: {constructed}\nlength: {length}{mark}\nrest: {rest}\n"
+        "tag: {tag}\nconstructed: {constructed}\nlength: {length}{eoc}\nrest: {rest}\n"
     )
 }
 

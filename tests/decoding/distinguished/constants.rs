@@ -8,7 +8,7 @@ use der_fixtures::hasty::Hasty;
 use der_fixtures::nest::Nest;
 use der_fixtures::octet::Octet;
 use der_fixtures::unread::Unread;
-use der_uses::borrowed::MyOctets;
+use der_uses::my_octets::MyOctets;
 
 #[test]
 fn constants_and_functions_tell_the_same_tags(rt: HostRuntime) {

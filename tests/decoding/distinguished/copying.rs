@@ -2,7 +2,7 @@
 use super::*;
 use crate::checks::{holds, same};
 use der_uses::algorithm_identifier::AlgorithmIdentifier;
-use der_uses::borrowed::MyOctets;
+use der_uses::my_octets::MyOctets;
 use der_uses::reader::CopyingReader;
 
 fn is_finished(reader: &CopyingReader<'_>) -> bool {

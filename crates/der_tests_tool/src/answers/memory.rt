@@ -37,7 +37,7 @@ fn refuse_in_turn(
 fn refuses_each_growth_in_turn(rt: HostRuntime) -> Result<(), Fail> {
     let lines = "tag: INTEGER\nconstructed: no\nlength: 1\nrest: 2a00\n";
     let reported = refuse_in_turn(&rt, "head 02012A00", 0, lines)?;
-    assert!(rt; 0 < reported && reported < 256, "{told}");
+    assert!(rt; 0 < reported && reported < 256, "{reported}");
     let line = "error: incorrect length for OCTET STRING at DER byte 3\n";
     let refused = refuse_in_turn(&rt, "head 04817F", 1, line)?;
     assert!(rt; 0 < refused && refused < 256, "{refused}");
@@ -47,7 +47,7 @@ fn refuses_each_growth_in_turn(rt: HostRuntime) -> Result<(), Fail> {
 #[test]
 fn refuses_each_growth_for_an_element_in_turn(rt: HostRuntime) -> Result<(), Fail> {
     let reported = refuse_in_turn(&rt, "tlv 02012A00", 0, "02012a\n")?;
-    assert!(rt; 0 < reported && reported < 256, "{told}");
+    assert!(rt; 0 < reported && reported < 256, "{reported}");
     let line = "error: ASN.1 DER message is incomplete: expected 4, actual 2 at DER byte 0\n";
     let refused = refuse_in_turn(&rt, "tlv 3002", 1, line)?;
     assert!(rt; 0 < refused && refused < 256, "{refused}");
@@ -58,9 +58,9 @@ fn refuses_each_growth_for_an_element_in_turn(rt: HostRuntime) -> Result<(), Fai
 fn refuses_each_growth_by_ber_in_turn(rt: HostRuntime) -> Result<(), Fail> {
     let lines = "tag: SEQUENCE\nconstructed: yes\nlength: 2 indefinite\nrest: 0000\n";
     let reported = refuse_in_turn(&rt, "head --ber 30800000", 0, lines)?;
-    assert!(rt; 0 < reported && reported < 256, "{told}");
+    assert!(rt; 0 < reported && reported < 256, "{reported}");
     let reported = refuse_in_turn(&rt, "tlv --ber 30800000", 0, "30800000\n")?;
-    assert!(rt; 0 < reported && reported < 256, "{told}");
+    assert!(rt; 0 < reported && reported < 256, "{reported}");
     let line = "error: ASN.1 DER message is incomplete: expected 3, actual 2 at DER byte 2\n";
     let refused = refuse_in_turn(&rt, "head --ber 3080", 1, line)?;
     assert!(rt; 0 < refused && refused < 256, "{refused}");
@@ -70,7 +70,7 @@ fn refuses_each_growth_by_ber_in_turn(rt: HostRuntime) -> Result<(), Fail> {
 #[test]
 fn refuses_each_growth_for_two_elements_in_turn(rt: HostRuntime) -> Result<(), Fail> {
     let reported = refuse_in_turn(&rt, "order 02012A 3000", 0, "less\n")?;
-    assert!(rt; 0 < reported && reported < 256, "{told}");
+    assert!(rt; 0 < reported && reported < 256, "{reported}");
     let line = "error: ASN.1 DER message is incomplete: expected 3, actual 2 at DER byte 2\n";
     let refused = refuse_in_turn(&rt, "order 3000 0405", 1, line)?;
     assert!(rt; 0 < refused && refused < 256, "{refused}");
@@ -82,7 +82,7 @@ fn refuses_each_growth_for_two_elements_in_turn(rt: HostRuntime) -> Result<(), F
 #[test]
 fn refuses_each_growth_for_segments_in_turn(rt: HostRuntime) -> Result<(), Fail> {
     let reported = refuse_in_turn(&rt, "join 240524030401AA", 0, "aa\n")?;
-    assert!(rt; 0 < reported && reported < 256, "{told}");
+    assert!(rt; 0 < reported && reported < 256, "{reported}");
     let line = "error: unexpected ASN.1 DER tag: expected OCTET STRING, got NULL\n";
     let refused = refuse_in_turn(&rt, "join 240424020500", 1, line)?;
     assert!(rt; 0 < refused && refused < 256, "{refused}");
