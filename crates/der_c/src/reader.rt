@@ -103,7 +103,7 @@ impl<'a> Reader for DerReader<'a> {
 
     const CAN_READ_SLICE: bool = true;
 
-    fn can_read_slice() -> bool
+    fn can_return_slices() -> bool
         ensures { result ≡ true }
     {
         Self::CAN_READ_SLICE

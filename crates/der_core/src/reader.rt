@@ -72,7 +72,7 @@ pub trait Reader: Sized + Drop {
     const CAN_READ_SLICE: bool;
 
     /// Whether the reader can return slices, as a function for generic code.
-    fn can_read_slice() -> bool
+    fn can_return_slices() -> bool
         ensures { result ≡ reads_slices };
 
     /// The encoding rules by which tags, lengths and values are read.

@@ -35,7 +35,7 @@ impl<'a> Reader for SlicingReader<'a> {
 
     const CAN_READ_SLICE: bool = true;
 
-    fn can_read_slice() -> bool
+    fn can_return_slices() -> bool
         ensures { result ≡ true }
     {
         Self::CAN_READ_SLICE

@@ -69,7 +69,7 @@ impl<'a> Reader for CopyingReader<'a> {
 
     const CAN_READ_SLICE: bool = false;
 
-    fn can_read_slice() -> bool
+    fn can_return_slices() -> bool
         ensures { result ≡ false }
     {
         Self::CAN_READ_SLICE

@@ -69,7 +69,7 @@ impl<'a, R: Reader<Borrowed = &'a [u8]>> DecodeValue<R> for BytesCow<'a> {
             result (R.state reader.new) }
         ensures borrowed { IfOk result (λ b. IsBorrowedOctets b ↔ (R.reads_slices ≡ true)) }
     {
-        if R::can_read_slice() {
+        if R::can_return_slices() {
             Ok(BytesCow::Borrowed(BytesRef::decode_value(alloc, reader, header)?))
         } else {
             Ok(BytesCow::Owned(BytesOwned::decode_value(alloc, reader, header)?))

@@ -74,7 +74,7 @@ impl<'a, R: Reader<Borrowed = &'a [u8]>> DecodeValue<R> for StringCow<'a> {
             (map_ok cow_text result) (R.state reader.new) }
         ensures borrowed { IfOk result (λ t. IsBorrowedText t ↔ (R.reads_slices ≡ true)) }
     {
-        if R::can_read_slice() {
+        if R::can_return_slices() {
             Ok(StringCow::Borrowed(StringRef::decode_value(alloc, reader, header)?))
         } else {
             Ok(StringCow::Owned(StringOwned::decode_value(alloc, reader, header)?))
