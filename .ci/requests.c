@@ -1,4 +1,4 @@
-/* Put before the C library: refuses the request for memory whose number REFUSED names, and tells on
+/* Put before the C library: refuses the request for memory whose number REFUSED names, and prints on
    the standard error how many requests came before the end of each line of the standard output, how
    many came in all, and whether one was refused. */
 #define _GNU_SOURCE

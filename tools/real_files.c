@@ -4,7 +4,7 @@
  *     real_files KIND! FILE ..   also with each octet in turn changed to each other value, cut at each length,
  *                                and with octets behind it
  *
- * A line tells of each file what it is read as: 0 refused, 1 written back to the same octets, 2 to others; and, where
+ * A line for each file has what it is read as: 0 refused, 1 written back to the same octets, 2 to others; and, where
  * it is changed, how many of the changes were refused and how many read. A cut, or octets behind, are never read. */
 #include <stdint.h>
 #include <stdio.h>
@@ -34,7 +34,7 @@ static void give_up(const char *name, const char *why, size_t at)
 
 static void change(uint8_t kind, const char *name, const uint8_t *octets, size_t len)
 {
-    size_t told[2] = {0, 0};
+    size_t printed[2] = {0, 0};
     uint8_t *at = room + ROOM - len;
     memcpy(at, octets, len);
     for (size_t i = 0; i < len; i += 1) {
@@ -43,11 +43,11 @@ static void change(uint8_t kind, const char *name, const uint8_t *octets, size_t
             uint8_t answer = der_bench_reads_back(kind, at, len);
             if (answer > SAME)
                 give_up(name, "is written back to other octets where it is changed", i);
-            told[answer] += 1;
+            printed[answer] += 1;
         }
         at[i] = octets[i];
     }
-    printf(" %zu %zu", told[REFUSED], told[SAME]);
+    printf(" %zu %zu", printed[REFUSED], printed[SAME]);
 }
 
 static void cut(uint8_t kind, const char *name, const uint8_t *octets, size_t len)

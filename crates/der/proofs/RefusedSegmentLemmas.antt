@@ -36,10 +36,10 @@ use Rattle.der.proofs.JoiningLemmas.{levels_same}
 sound_on : {s u : ReaderState} (m : ℕ) → IsSound s → m ≤ length (rest_of s) → u ≡ advanced_state s m → IsSound u
 sound_on {s} {u} m sound there leaves =
     subst IsSound (sym leaves)
-    (record { ordered = omega (arith, there, length-rest s sound, sound.ordered); in_input = sound.in_input; addressable = sound.addressable; shallow = sound.shallow; has_eoc = sound.has_eoc })
+    (record { ordered = omega (arith, there, length-rest s sound, sound.ordered); in_input = sound.in_input; addressable = sound.addressable; shallow = sound.shallow; failure_kept = sound.failure_kept })
 
 sound_inside : {u : ReaderState} (n : ℕ) → IsSound u → CanNest u n → IsSound (nested_state u n)
-sound_inside {u} n sound can = record { ordered = omega arith; in_input = omega (arith, can.0, sound.in_input); addressable = sound.addressable; shallow = omega (arith, can.1); has_eoc = sound.has_eoc }
+sound_inside {u} n sound can = record { ordered = omega arith; in_input = omega (arith, can.0, sound.in_input); addressable = sound.addressable; shallow = omega (arith, can.1); failure_kept = sound.failure_kept }
 
 -- reading octets that are there does not fail
 pub slice_there : (n : ℕ) (s t : ReaderState) (e : Error) → s.failed ≡ false → s.position + n ≤ s.end → Gives (read_slice_outcome n) s (Err e) t → ⊥

@@ -168,8 +168,8 @@ element_size : {A : Type 0} {tag : Tag} {takes : A → EncodingRules → Head �
 element_size x y =
     let one = one_header x.next y.next in
     let sized : length x.contents ≡ length y.contents = x.sized ∙ ap (λ (h : Head). number (sans_eoc h.length)) one.0 ∙ sym y.sized in
-    let keeps_failure : length x.eoc ≡ length y.eoc = same_eoc (is_indefinite x.says.length) (is_indefinite y.says.length) x.eoc y.eoc (ap (λ (h : Head). is_indefinite h.length) one.0) x.has_eoc y.has_eoc in
-    omega (arith, x.whole, y.whole, one.1, sized, keeps_failure)
+    let eocs : length x.eoc ≡ length y.eoc = same_eoc (is_indefinite x.says.length) (is_indefinite y.says.length) x.eoc y.eoc (ap (λ (h : Head). is_indefinite h.length) one.0) x.has_eoc y.has_eoc in
+    omega (arith, x.whole, y.whole, one.1, sized, eocs)
   where
     same_eoc : (a b : Bool) (p q : List ℕ) → a ≡ b → IsEndOfContents a p → IsEndOfContents b q → length p ≡ length q
     same_eoc true true p q e f g = ap length (f ∙ sym g)

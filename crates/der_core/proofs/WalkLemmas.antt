@@ -54,7 +54,7 @@ pub after_same : (s : ReaderState) → IsSound s → (r : Refusal) → s.positio
 after_same s sound r forward within = record { input = refl; rules = refl; end = refl; depth = refl; keeps_failure = refl; forward = forward; within = within; failed = kept r.fails }
   where
     kept : (fails : Bool) → IsTrue s.failed → IsTrue (if fails then s.keeps_failure else s.failed)
-    kept true f = sound.has_eoc f
+    kept true f = sound.failure_kept f
     kept false f = f
 
 -- no octet is left
@@ -74,7 +74,7 @@ pub error_at_walk : (R : ReaderState → Error → ReaderState → Type 0) {a : 
 error_at_walk R w h refused =
     let s = walk_state w in
     let sound = walk_sound w in
-    (stopped_state s s.position, same_trans (reads_same sound h) (record { input = refl; rules = refl; end = refl; depth = refl; keeps_failure = refl; forward = omega arith; within = sound.ordered; failed = sound.has_eoc }), refused)
+    (stopped_state s s.position, same_trans (reads_same sound h) (record { input = refl; rules = refl; end = refl; depth = refl; keeps_failure = refl; forward = omega arith; within = sound.ordered; failed = sound.failure_kept }), refused)
 
 -- too few octets are left for contents
 pub truncated_contents_error : (w : Walk) (n : ℕ) {e : Error} → Err e ≡ (drain_outcome (definite_length n) (walk_state w)).answer → IsErrorOf (λ s e t. Gives (drain_outcome (definite_length n)) s (Err e) t) (walk_state w) e

@@ -15,4 +15,5 @@ pub mod sequence;
 pub mod slicing_reader;
 pub mod turns;
 pub mod unread;
+pub mod written_month;
 pub mod zeros;

@@ -40,9 +40,7 @@ pub trait WrittenValue {
 /// ghost use Rattle.der_base.specs.declared.tag.Tag.TheVariants.{OctetString};
 /// ghost use Rattle.der_core.specs.Writer.{Writes, write_outcome};
 ///
-/// use der_core::{
-///     Encode, EncodeValue, Error, FixedTag, Length, Tag, Writer, WrittenValue,
-/// };
+/// use der_core::{Encode, EncodeValue, Error, FixedTag, Length, Tag, Writer, WrittenValue};
 ///
 /// pub struct Month {
 ///     pub number: u8,

@@ -5,8 +5,8 @@ use Rattle.der_base.proofs.ScanLemmas.{body_fault_laws}
 use Rattle.der_core.proofs.DecodeLemmas.{decodes_reliably, reads}
 use Rattle.der_core.proofs.length.LengthDecode.TheImpl.Goals as goal
 
-pub decode-reports : goal.decode-reports
-decode-reports g x y z w c =
+pub decode-tells : goal.decode-tells
+decode-tells g x y z w c =
     record {
       same = c.ensures.same;
       ok = IfOk-weaker c.result _ _ (λ v read working after. read) c.ensures.ok;

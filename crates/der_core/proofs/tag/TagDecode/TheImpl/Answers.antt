@@ -3,8 +3,8 @@ use Rattle.der_base.proofs.HeaderLemmas.{tag_grammar}
 use Rattle.der_core.proofs.DecodeLemmas.{decodes_reliably, reads}
 use Rattle.der_core.proofs.tag.TagDecode.TheImpl.Goals as goal
 
-pub decode-reports : goal.decode-reports
-decode-reports g x y z w c =
+pub decode-tells : goal.decode-tells
+decode-tells g x y z w c =
     record {
       same = c.ensures.same;
       ok = IfOk-weaker c.result _ _ (λ v read working after. read) c.ensures.ok;
