@@ -42,12 +42,6 @@ segment_some {c = c} (indefinite_form id set d body is) = omega (arith, identifi
 no_segment_ends : {tag : Tag} {b : Bool} {c e : List ℕ} → IsSegment tag b c e → (x : List ℕ) → e ++ x ≡ [] → ⊥
 no_segment_ends {e = e} s x nothing = absurd (omega (arith, segment_some s, ap length nothing, length-append e x))
 
--- contents are no longer than their segment
-segment_long : {tag : Tag} {b : Bool} {c e : List ℕ} → IsSegment tag b c e → length c ≤ length e
-segment_long {tag} {c = c} (primitive_form isnt bit small is) = omega (arith, ap length is, length-append (header_octets tag (length c)) c)
-segment_long {c = c} (definite_form id set d small is) = omega (arith, ap length is, length-append id (length_octets (length c) ++ c), length-append (length_octets (length c)) c)
-segment_long {c = c} (indefinite_form id set d body is) = omega (arith, ap length is, length-append id (128 ∷ (c ++ 0 ∷ 0 ∷ [])), length-append c (0 ∷ 0 ∷ []))
-
 -- a tag with an identifier has a tag number that fits in 32 bits
 identifier_numbered : {rules : EncodingRules} {id : List ℕ} {t : Tag} {b : Bool} → IsIdentifier rules id t b → (label t).number < 2 ^ 32
 identifier_numbered (of_tag h) = h

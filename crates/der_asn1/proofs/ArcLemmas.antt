@@ -25,59 +25,12 @@ pub record HasReadSubidentifier (octets : List ℕ) (number : Option ℕ) (follo
   pub same : subidentifiers 0 octets ≡ n ∷ subidentifiers 0 following
   pub grammar : ends_subidentifiers true following ≡ true
 
-pub is_first_number : {octets following : List ℕ} {number : Option ℕ} → HasReadSubidentifier octets number following → IsFirstNumber (subidentifiers 0 octets) number (subidentifiers 0 following)
-is_first_number {following = following} {number} t = subst (λ ns. IsFirstNumber ns number (subidentifiers 0 following)) (sym t.same) (t.reported, refl)
-
-pub reading_subidentifier_begins : (octets : List ℕ) → ends_subidentifiers true octets ≡ true → IsReadingSubidentifier octets (Some 0) 0
-reading_subidentifier_begins octets grammar = record { n = 0; reported = refl; same = refl; grammar = grammar }
-
 module _ (octets : List ℕ) (number : Option ℕ) (at o : ℕ) (t : IsReadingSubidentifier octets number at) (inside : at < length octets) (is : o ≡ slice_index_or octets at 0) (small : o < 256) where
   next : drop at octets ≡ o ∷ drop (at + 1) octets
   next = drop-cons octets at 0 inside ∙ ap (λ k. slice_index_or octets at 0 ∷ drop k octets) (sym (add-one at)) ∙ ap (λ x. x ∷ drop (at + 1) octets) (sym is)
 
-  whole_from_here : ends_subidentifiers (at == 0) (o ∷ drop (at + 1) octets) ≡ true
-  whole_from_here = sym (ap (ends_subidentifiers (at == 0)) next) ∙ t.grammar
-
-  whole_after_octet : ends_subidentifiers (nat_lt o 128) (drop (at + 1) octets) ≡ true
-  whole_after_octet = go ((at == 0) && (o == 128)) whole_from_here
-    where
-      go : (b : Bool) → (if b then false else ends_subidentifiers (nat_lt o 128) (drop (at + 1) octets)) ≡ true → ends_subidentifiers (nat_lt o 128) (drop (at + 1) octets) ≡ true
-      go true e = absurd (let no : false ≡ true = e in cc)
-      go false e = e
-
   step : subidentifiers 0 octets ≡ (if nat_lt o 128 then (t.n * 128 + o) ∷ subidentifiers 0 (drop (at + 1) octets) else subidentifiers (t.n * 128 + (o - 128)) (drop (at + 1) octets))
   step = t.same ∙ ap (subidentifiers t.n) next
-
-  -- after an octet that is not the last of the subidentifier
-  pub reading_subidentifier_continues : (next_value : Option ℕ) → 128 ≤ o → ((n : ℕ) → number ≡ subidentifier_value n → next_value ≡ subidentifier_value (n * 128 + o % 128)) → IsReadingSubidentifier octets next_value (at + 1)
-  reading_subidentifier_continues next_value more digit =
-      let big : nat_lt o 128 ≡ false = le-ltb o 128 more in
-      let low : o % 128 ≡ o - 128 = omega (arith, more, small) in
-      record {
-        n = t.n * 128 + (o - 128);
-        reported = digit t.n t.reported ∙ ap (λ d. subidentifier_value (t.n * 128 + d)) low;
-        same = step ∙ cond-false (nat_lt o 128) ((t.n * 128 + o) ∷ subidentifiers 0 (drop (at + 1) octets)) (subidentifiers (t.n * 128 + (o - 128)) (drop (at + 1) octets)) big;
-        grammar = ap (λ b. ends_subidentifiers b (drop (at + 1) octets)) (ne_eqb (at + 1) 0 (λ e. omega arith) ∙ sym big) ∙ whole_after_octet;
-      }
-
-  -- after the last octet of the subidentifier
-  pub reading_subidentifier_ends : (next_value : Option ℕ) → o < 128 → ((n : ℕ) → number ≡ subidentifier_value n → next_value ≡ subidentifier_value (n * 128 + o % 128)) → HasReadSubidentifier octets next_value (drop (at + 1) octets)
-  reading_subidentifier_ends next_value last digit =
-      let low : nat_lt o 128 ≡ true = lt-ltb o 128 last in
-      let whole : o % 128 ≡ o = omega (arith, last) in
-      record {
-        n = t.n * 128 + o;
-        reported = digit t.n t.reported ∙ ap (λ d. subidentifier_value (t.n * 128 + d)) whole;
-        same = step ∙ cond-true (nat_lt o 128) ((t.n * 128 + o) ∷ subidentifiers 0 (drop (at + 1) octets)) (subidentifiers (t.n * 128 + (o - 128)) (drop (at + 1) octets)) low;
-        grammar = ap (λ b. ends_subidentifiers b (drop (at + 1) octets)) (sym low) ∙ whole_after_octet;
-      }
-
--- octets do not end within a subidentifier
-pub no_end_within_subidentifier : (octets : List ℕ) (number : Option ℕ) (at : ℕ) → IsReadingSubidentifier octets number at → 0 < length octets → length octets ≤ at → ⊥
-no_end_within_subidentifier octets number at t some past =
-    let none : drop at octets ≡ [] = drop_all at octets past in
-    let no : (at == 0) ≡ true = ap (ends_subidentifiers (at == 0)) (sym none) ∙ t.grammar in
-    omega (arith, eqb-true at 0 no)
 
 -- appending a digit to the octets of a subidentifier
 continued_push : (ds : List ℕ) (d : ℕ) → continuation_octets (ds ++ d ∷ []) ≡ map (λ x. 128 + x) ds ++ d ∷ []

@@ -41,9 +41,6 @@ uncons {A} {valid} {encoding} {octets} l some = go l.items l.are_valid l.joined
 pub cons : {A : Type 0} {valid : A → Type 0} {encoding : A → List ℕ} (v : A) {octets others : List ℕ} → valid v → octets ≡ encoding v ++ others → IsListOf valid encoding others → IsListOf valid encoding octets
 cons {encoding = encoding} v is e l = record { items = v ∷ l.items; are_valid = (is, l.are_valid); joined = e ∙ ap (λ x. encoding v ++ x) l.joined }
 
-pub nil : {A : Type 0} (valid : A → Type 0) (encoding : A → List ℕ) {octets : List ℕ} → octets ≡ [] → IsListOf valid encoding octets
-nil valid encoding e = record { items = []; are_valid = tt; joined = e }
-
 module _ {A : Type 0} {tag : Tag} {takes : A → EncodingRules → Head → List ℕ → Type 0} {valid : A → Type 0} {contents : A → List ℕ} {levels : EncodingRules → ℕ} (laws : IsLawful tag takes valid contents levels) (s : ReaderState) (sound : IsSound s) (at : IsAtItem s) where
   -- an element that was read
   pub item_passed : (v : A) (t : ReaderState) → Passes (ElementNext tag takes v) s t → valid v × Reads s t (element_octets tag (contents v))
@@ -92,15 +89,6 @@ still_at_item at r =
       outside = ap (λ (x : ReaderState). x.depth) r.state ∙ at.outside;
     }
 
--- fewer octets are left
-pub item_smaller : (s t : ReaderState) (tag : Tag) (contents : List ℕ) → IsSound t → Reads s t (element_octets tag contents) → t.end - t.position < s.end - s.position
-item_smaller s t tag contents sound r =
-    let some = tag_some tag in
-    let size : length (element_octets tag contents) ≡ length (tag_octets tag) + length (length_octets (length contents)) + length contents = omega (arith, length-append (tag_octets tag ++ length_octets (length contents)) contents, length-append (tag_octets tag) (length_octets (length contents))) in
-    let place : t.position ≡ s.position + length (element_octets tag contents) = ap (λ (x : ReaderState). x.position) r.state in
-    let end : t.end ≡ s.end = ap (λ (x : ReaderState). x.end) r.state in
-    omega (arith, some, size, place, end, sound.ordered)
-
 -- the state of an iteration over a list: the remaining octets are a list if and only if all octets
 -- are
 pub record IsWalking {A : Type 0} (valid : A → Type 0) (encoding : A → List ℕ) (octets : List ℕ) (s : ReaderState) : Type 0 where
@@ -120,9 +108,6 @@ begins_walking valid encoding octets s e =
 pub iterating_continues : {A : Type 0} {valid : A → Type 0} {encoding : A → List ℕ} {octets : List ℕ} {s t : ReaderState} (v : A) → IsWalking valid encoding octets s → valid v → Reads s t (encoding v)
     → (IsListOf valid encoding (rest_of s) → IsListOf valid encoding (rest_of t)) → IsWalking valid encoding octets t
 iterating_continues v w is r keeps = record { at = still_at_item w.at r; back = λ l. w.back (cons v is r.split l); on = λ l. keeps (w.on l) }
-
-pub ends_walking : {A : Type 0} {valid : A → Type 0} {encoding : A → List ℕ} {octets : List ℕ} (s : ReaderState) → IsWalking valid encoding octets s → s.end ≡ s.position → IsListOf valid encoding octets
-ends_walking {valid = valid} {encoding} s w e = w.back (nil valid encoding (rest_at_end s e))
 
 -- an allocation failure occurs only for a type that allocates
 pub lacks_takes : {E : Type 0} (oom : E → Bool) (takes : Bool) (e : E) → SucceedsOrLacks {A = E} oom takes (Err e) → (takes ≡ true) × (oom e ≡ true)

@@ -10,12 +10,6 @@ use Rattle.der_asn1.specs.SetOf.{EncodingsAscendAfter, IsSetAfter, IsEncodedElem
 use Rattle.der_asn1.proofs.SequenceOfLemmas.{still_at_item}
 use Rattle.der_asn1.proofs.OptionalReadLemmas.{rest_at_end}
 
--- the octets of an element that was read are those before the remaining ones
-pub octets_between : (next element following : List ℕ) → next ≡ element ++ following → take (length next - length following) next ≡ element
-octets_between next element following e =
-    let size : length next - length following ≡ length element = omega (arith, ap length e, length-append element following) in
-    ap (λ n. take n next) size ∙ ap (take (length element)) e ∙ take-append_seam element following
-
 no_front : (a b : List ℕ) → a ++ b ≡ [] → a ≡ []
 no_front [] b e = refl
 no_front (o ∷ a) b e = absurd (let size : length (o ∷ (a ++ b)) ≡ 0 = ap length e in omega arith)

@@ -175,31 +175,3 @@ tag_grammar =
       one_fault = λ rules at octets r q f g. one_identifier_fault f g refl;
       never_both = λ rules at octets v m r h f. no_tag_fault f h.1 refl;
     }
-
--- the next identifier is within the octets
-pub identifier_fits : {x : Tag × Bool} {rules : EncodingRules} {s : List ℕ} {m : ℕ} → IdentifierNext x rules s m → m ≤ length s
-identifier_fits (identifier {id = id} rest h) = omega (arith, length-append id rest)
-
--- the next length is within the octets
-pub length_fits : {l : Length} {rules : EncodingRules} {s : List ℕ} {m : ℕ} → LengthNext l rules s m → m ≤ length s
-length_fits (definite n rest h) = omega (arith, length-append (length_octets n) rest)
-length_fits (indefinite {body = body} rest h) = omega arith
-
--- the next length has one to five octets
-pub length_size : {l : Length} {rules : EncodingRules} {s : List ℕ} {m : ℕ} → LengthNext l rules s m → (1 ≤ m) × (m ≤ 5)
-length_size (definite n rest h) = (length_octets_some n, length_octets_few n h)
-length_size (indefinite {body = body} rest h) = (omega arith, omega arith)
-
--- a definite length that is next has 32 bits
-pub length_bits : {l : Length} {rules : EncodingRules} {s : List ℕ} {m : ℕ} → LengthNext l rules s m → is_indefinite l ≡ false → number l < 2 ^ 32
-length_bits (definite n rest h) e = h
-length_bits (indefinite {body = body} rest h) e = cc
-
--- under DER the next length is definite
-pub length_definite_form : {l : Length} {rules : EncodingRules} {s : List ℕ} {m : ℕ} → rules ≡ Der → LengthNext l rules s m → is_indefinite l ≡ false
-length_definite_form d (definite n rest h) = refl
-length_definite_form d (indefinite {body = body} rest h) = cc
-
--- the next header is within the octets
-pub header_fits : {h : Head} {rules : EncodingRules} {s : List ℕ} {m : ℕ} → HeadNext h rules s m → m ≤ length s
-header_fits (header {id = id} {more = more} d l ok) = omega (arith, length-append id more, length_fits l)

@@ -126,14 +126,6 @@ fault_above {rules} at o rest big =
     subst (λ n. IdentifierFault rules at (o ∷ rest) (refusal (identifier_kind [] o) n)) here
     (refused [] o rest (some_identifier rules) (none_with [] o big))
 
--- octet `0x1F` is an invalid tag number
-pub kind_invalid : (o : ℕ) → o ≡ 31 → identifier_kind [] o ≡ TagNumberInvalid
-kind_invalid o h = rw h refl
-
--- another octet is an unknown tag
-pub kind_unknown : (o : ℕ) → o ≢ 31 → identifier_kind [] o ≡ TagUnknown o
-kind_unknown o h = rw (ne_eqb o 31 h) refl
-
 -- a truncated identifier does not begin with a complete identifier
 no_cut_identifier : {rules : EncodingRules} {id : List ℕ} {t : Tag} {b : Bool} (s x : List ℕ) → IsIdentifier rules id t b → IsCutIdentifier rules s → s ≡ id ++ x → ⊥
 no_cut_identifier {id = id} s x d h e =

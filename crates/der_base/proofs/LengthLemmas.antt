@@ -69,14 +69,6 @@ length_octets_some n =
     (λ a. subst (λ l. 1 ≤ length l) (sym (large_of n a)) (omega arith))
     (cases_lt n 128)
 
--- the octets of a length of 32 bits are below 256
-pub length_octets_below : (n : ℕ) → n < 2 ^ 32 → AllBelowBase 256 (length_octets n)
-length_octets_below n h =
-    ⊎_elim
-    (λ a. subst (AllBelowBase 256) (sym (length_small n a)) (omega arith, tt))
-    (λ a. subst (AllBelowBase 256) (sym (large_of n a)) (omega (arith, length-digits_of-le 256 4 n (omega arith) h), all_below_base_digits_of 256 n (omega arith)))
-    (cases_lt n 128)
-
 -- the least length that requires k octets after the first
 abbrev pub least_of : ℕ → ℕ
 least_of k = max 128 (256 ^ (k - 1))
@@ -118,13 +110,6 @@ not_shortest k ds pos size small n large w =
     let z : get_or ds 0 0 ≢ 0 = omega (arith, first_digits_of 256 n (omega arith) (omega arith), ap (λ l. get_or l 0 0) same) in
     omega (arith, at_least_power k ds pos size z, v)
 
--- neither are they if the first is 0 or the value is below 128
-pub not_shortest_digits : (ds : List ℕ) → (get_or ds 0 0 ≡ 0) ⊎ (number_from_digits 256 ds < 128) → (n : ℕ) → 128 ≤ n → ds ≢ digits 256 n
-not_shortest_digits ds bad n large w =
-    let same : ds ≡ digits_of 256 n = w ∙ digits_positive 256 n (omega arith) in
-    let v : number_from_digits 256 ds ≡ n = ap (number_from_digits 256) same ∙ number_digits_of 256 n (omega arith) in
-    ⊎_elim (λ z. omega (arith, first_digits_of 256 n (omega arith) (omega arith), ap (λ l. get_or l 0 0) same)) (λ z. omega arith) bad
-
 -- k octets with a smaller value are an error
 pub fault_longer : {F : ℕ → List ℕ → Refusal → Type 0} {wrong : ErrorKind} {rules : EncodingRules} (at k : ℕ) (ds rest : List ℕ) → 1 ≤ k → k ≤ 4 → length ds ≡ k → number_from_digits 256 ds < least_of k → LengthFault F wrong rules at ((128 + k) ∷ (ds ++ rest)) (refusal wrong (at + 1 + k))
 fault_longer at k ds rest pos four n small = longer k ds rest pos four n (not_shortest k ds pos n small)
@@ -132,12 +117,6 @@ fault_longer at k ds rest pos four n small = longer k ds rest pos four n (not_sh
 -- the first octet from the number of digits that it announces
 count_back : (o : ℕ) → 128 ≤ o → 128 + (o - 128) ≡ o
 count_back o h = omega arith
-
--- a length is found by its first octet o, which announces the number of octets that follow
-pub octet_found : {rules : EncodingRules} (o : ℕ) (ds rest : List ℕ) → 128 < o → o < 133 → length ds ≡ o - 128 → AllBelowBase 256 ds → least_of (o - 128) ≤ number_from_digits 256 ds → LengthNext (definite_length (number_from_digits 256 ds)) rules (o ∷ (ds ++ rest)) (1 + (o - 128))
-octet_found {rules} o ds rest low high n all large =
-    subst (λ x. LengthNext (definite_length (number_from_digits 256 ds)) rules (x ∷ (ds ++ rest)) (1 + (o - 128))) (count_back o (omega arith))
-    (found_long (o - 128) ds rest (omega arith) (omega arith) n all large)
 
 -- the octets of a length, given the first octet
 pub octet_shortest : (o : ℕ) (ds : List ℕ) → 128 < o → length ds ≡ o - 128 → AllBelowBase 256 ds → least_of (o - 128) ≤ number_from_digits 256 ds → length_octets (number_from_digits 256 ds) ≡ o ∷ ds

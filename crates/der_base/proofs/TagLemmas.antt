@@ -278,12 +278,3 @@ tag_begins t =
               (omega (arith, class_small t, bit_small (label t).constructed), subst (λ l. AllBelowBase 256 (continuation_octets l)) (sym (digits_positive 128 (label t).number (omega arith))) (continued_octets (digits_of 128 (label t).number) (all_below_base_digits_of 128 (label t).number (omega arith)))),
         ))
         (cases_lt (label t).number 31)
-
--- a tag has at most six octets
-pub tag_octets_few : (t : Tag) → (label t).number < 2 ^ 32 → length (tag_octets t) ≤ 6
-tag_octets_few t h =
-    ⊎_elim
-    (λ a. subst (λ l. length l ≤ 6) (sym (label_small (label t) a)) (omega arith))
-    (λ a. subst (λ l. length l ≤ 6) (sym (label_large (label t) a))
-    (omega (arith, length_continued (digits 128 (label t).number), ap length (digits_positive 128 (label t).number (omega arith)), length-digits_of-le 128 5 (label t).number (omega arith) (omega arith))))
-    (cases_lt (label t).number 31)

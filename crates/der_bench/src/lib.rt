@@ -1,6 +1,6 @@
 //! The functions whose speed `bench/` measures: walks over elements, decoding of keys,
 //! certificates, byte strings and texts, comparison of elements, reading of messages with
-//! indefinite lengths, and writing; and those with which `.ci/real_files` reads files and writes
+//! indefinite lengths, and writing; and those with which `tools/real_files` reads files and writes
 //! them back.
 #![tactic(auto)]
 

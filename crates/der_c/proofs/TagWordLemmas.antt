@@ -117,13 +117,3 @@ word_number word t e = let h = tag_octet_small t in omega arith
 pub word_said : (word : ℕ) (t : Tag) → IsTagWord word t → said_tag (word % 256) (word / 256) ≡ Some t
 word_said word t is =
     ap (λ o. said_tag o (word / 256)) (word_octet word t is.1) ∙ ap (said_tag (tag_octet t)) (word_number word t is.1) ∙ tag_said t
-
-long_bounded : (t : Tag) → (label t).number < 2 ^ 32 → long_number t < 2 ^ 32
-long_bounded t h = ⊎_elim
-    (λ a. rw (lt-ltb (label t).number 31 a) (omega arith))
-    (λ a. rw (le-ltb (label t).number 31 a) h)
-    (cases_lt (label t).number 31)
-
--- the word of a tag has no number past 32 bits
-pub word_bounded : (word : ℕ) (t : Tag) → IsTagWord word t → word / 256 < 2 ^ 32
-word_bounded word t is = subst (λ n. n < 2 ^ 32) (sym (word_number word t is.1)) (long_bounded t is.0)

@@ -17,15 +17,6 @@ use Rattle.der_c.proofs.TreeLemmas.{stops_from, closed_from, entered_from}
 moved_on : (s t u : ReaderState) → Moved s t → Moved t u → Moved s u
 moved_on s t u m n = n ∙ ap (λ (x : ReaderState). record x { position = u.position; end = u.end }) m
 
-pub walks_compose : {a b c : Around} {s t u : ReaderState} {x y : List DerNode} → WalksNodes a s x b t → WalksNodes b t y c u → WalksNodes a s (x ++ y) c u
-walks_compose {a} {b} {c} {s} {t} {u} {x} {y} p q =
-    record {
-      moved = moved_on s t u p.moved q.moved;
-      around = q.around;
-      outermost = q.outermost ∙ p.outermost;
-      walks = λ more stop h. subst (λ l. NodesAround a s l stop) (sym (append_assoc x y more)) (p.walks (y ++ more) stop (q.walks more stop h));
-    }
-
 pub walks_nothing : {a : Around} {s : ReaderState} → AreAround a s → WalksNodes a s [] a s
 walks_nothing parts = record { moved = refl; around = parts; outermost = refl; walks = λ more stop h. h }
 

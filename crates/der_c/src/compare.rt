@@ -2,7 +2,7 @@
 ghost use Rattle.std.specs.Prelude.{IfOk, IfErr};
 ghost use Rattle.der_c.specs.CompareCall.{IsOneElement, RefusesWhole, RefusesEither, Compares};
 
-use crate::error::{DerError, reported};
+use crate::error::{DerError, c_error};
 use der_base::Error;
 use der_core::{Reader, SliceReader, decode_header};
 use std::cmp::Ordering;
@@ -26,7 +26,7 @@ pub extern "C" fn der_compare(first: &[u8], second: &[u8], order: &mut i32) -> D
             };
             DerError::NONE
         }
-        Err(error) => reported(error),
+        Err(error) => c_error(error),
     }
 }
 

@@ -5,7 +5,7 @@ ghost use Rattle.der_core.specs.Header.{head_of};
 ghost use Rattle.der_c.specs.ElementCalls.{ReadsContents, ReadsElement, ExpectsElement, EntersElement, EntersContents, OpensElement, SkipsElement, unexpected_code};
 ghost use Rattle.der_c.specs.CReader.{reader_state};
 
-use crate::error::{DerError, reported};
+use crate::error::{DerError, c_error};
 use crate::reader::DerReader;
 use crate::short::{enter_short, pass_short, read_short};
 use crate::tag::word_of;
@@ -68,7 +68,7 @@ fn read_element_contents<'a>(
             };
             DerError::NONE
         }
-        Err(error) => reported(error),
+        Err(error) => c_error(error),
     }
 }
 
@@ -135,7 +135,7 @@ fn read_slowly<'a>(reader: &mut DerReader<'a>, element: &mut DerElement<'a>) -> 
     let start = reader.position as u32;
     match decode_header(reader) {
         Ok(header) => read_element_contents(reader, start, header, element),
-        Err(error) => reported(error),
+        Err(error) => c_error(error),
     }
 }
 
@@ -202,7 +202,7 @@ fn expect_slowly<'a>(reader: &mut DerReader<'a>, tag: u64, element: &mut DerElem
             }
             read_element_contents(reader, start as u32, header, element)
         }
-        Err(error) => reported(error),
+        Err(error) => c_error(error),
     }
 }
 
@@ -250,7 +250,7 @@ fn enter_slowly<'a>(reader: &mut DerReader<'a>, tag: u64, inside: &mut DerReader
             }
             enter(reader, header, inside)
         }
-        Err(error) => reported(error),
+        Err(error) => c_error(error),
     }
 }
 
@@ -277,7 +277,7 @@ fn enter<'a>(reader: &mut DerReader<'a>, header: Header, inside: &mut DerReader<
             reader.leave_nested(outer);
             DerError::NONE
         }
-        Err(error) => reported(error),
+        Err(error) => c_error(error),
     }
 }
 
@@ -300,16 +300,16 @@ pub extern "C" fn der_open<'a>(
     let length = element.contents.len();
     let space = reader.octets.len();
     if start as usize > space {
-        return reported(ErrorKind::Reader.to_error());
+        return c_error(ErrorKind::Reader.to_error());
     }
     if length > space - start as usize {
-        return reported(ErrorKind::Reader.to_error());
+        return c_error(ErrorKind::Reader.to_error());
     }
     if reader.failed {
-        return reported(ErrorKind::Failed.to_error());
+        return c_error(ErrorKind::Failed.to_error());
     }
     if reader.depth >= 64 {
-        return reported(ErrorKind::NestingDepth.at(Length::new(start)));
+        return c_error(ErrorKind::NestingDepth.at(Length::new(start)));
     }
     *inside = DerReader {
         octets: reader.octets,

@@ -5,7 +5,7 @@ ghost use Rattle.der_core.specs.Header.{head_of};
 ghost use Rattle.der_c.specs.HeaderCall.{ReadsHeader, header_record};
 ghost use Rattle.der_c.specs.CReader.{reader_state};
 
-use crate::error::{DerError, reported};
+use crate::error::{DerError, c_error};
 use crate::reader::DerReader;
 use crate::tag::word_of;
 use der_core::{Header, decode_header};
@@ -54,6 +54,6 @@ pub extern "C" fn der_read_header(reader: &mut DerReader<'_>, header: &mut DerHe
             *header = c_header(read);
             DerError::NONE
         }
-        Err(error) => reported(error),
+        Err(error) => c_error(error),
     }
 }

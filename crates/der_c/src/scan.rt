@@ -5,7 +5,7 @@ ghost use Rattle.der_core.specs.Scan.{Scans};
 ghost use Rattle.der_c.specs.CReader.{reader_state};
 ghost use Rattle.der_c.specs.ScanCall.{ScansBody};
 
-use crate::error::{DerError, reported};
+use crate::error::{DerError, c_error};
 use crate::reader::DerReader;
 use der_base::{Error, ErrorKind, Length};
 use der_core::{Turns, decode_indefinite_length};
@@ -25,14 +25,14 @@ pub extern "C" fn der_scan(reader: &mut DerReader<'_>, count: &mut u32) -> DerEr
         (reader_state reader.new) }
 {
     if !reader.ber {
-        return reported(ErrorKind::EncodingRules.to_error());
+        return c_error(ErrorKind::EncodingRules.to_error());
     }
     match scan_counted::<Brand>(reader, Blank::new(1)) {
         Ok(length) => {
             *count = u32::from(length);
             DerError::NONE
         }
-        Err(error) => reported(error),
+        Err(error) => c_error(error),
     }
 }
 

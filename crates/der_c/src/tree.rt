@@ -7,7 +7,7 @@ mod around;
 mod walk;
 
 use crate::element::{DerElement, read_element};
-use crate::error::{DerError, reported};
+use crate::error::{DerError, c_error};
 use crate::reader::DerReader;
 use crate::tree::around::Around;
 use crate::tree::walk::{climb, look_into};
@@ -78,7 +78,7 @@ pub extern "C" fn der_read_tree(
     }
     walk.failed = true;
     *reader = walk;
-    reported(ErrorKind::Overlength.to_error())
+    c_error(ErrorKind::Overlength.to_error())
 }
 
 // The node of an element that is inside `level` others.

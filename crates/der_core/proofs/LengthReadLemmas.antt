@@ -30,9 +30,6 @@ pub record DigitsSoFar (a b : ReaderState) (i value : ℕ) : Type 0 where
   pub below : AllBelowBase 256 digits
   pub is : value ≡ number_from_digits 256 digits
 
-pub digits_none : (a : ReaderState) → DigitsSoFar a a 0 0
-digits_none a = record { digits = []; reads = reads_none a; count = refl; below = tt; is = refl }
-
 pub digits_next : {a b c : ReaderState} {i value o : ℕ} → DigitsSoFar a b i value → Reads b c (o ∷ []) → o < 256 → DigitsSoFar a c (i + 1) (value * 256 + o)
 digits_next {o = o} h g l =
     record {

@@ -40,9 +40,6 @@ stops_on {r = r} h g = record { reported = g.reported; leaves = g.leaves ∙ lef
 pub error_stops : (s t : ReaderState) (k : ErrorKind) (e : Error) → e ≡ error_at k (reader_position s) → t ≡ stopped_state s s.position → Stops s (refusal k s.position) e t
 error_stops s t k e reported leaves = record { reported = reported; leaves = leaves }
 
-true_transport : {b c : Bool} → c ≡ b → IsTrue b → IsTrue c
-true_transport e h = subst IsTrue (sym e) h
-
 pub same_trans : {a b c : ReaderState} → Same a b → Same b c → Same a c
 same_trans p q =
     record {

@@ -100,9 +100,3 @@ long_number t x n e f large =
     ap (number_from_digits 256) (tag_spelled t x n e f large)
     ∙ ap (λ (y : ℕ). number_from_digits_after 256 y (high_digits (n / 128) ++ n % 128 ∷ [])) (omega arith)
     ∙ number_after_append 256 x (high_digits (n / 128)) (n % 128 ∷ [])
-
--- the octet of a tag that has one octet, as a number
-pub short_number : (t : Tag) (x n : ℕ) → x ≡ leading_octet (label t) n → n ≡ (label t).number → n < 31 → number_from_digits 256 (tag_octets t) ≡ x
-short_number t x n e f small =
-    ap (number_from_digits 256) (label_small (label t) (omega (arith, f, small)))
-    ∙ ap (λ (m : ℕ). number_from_digits 256 (leading_octet (label t) m ∷ [])) (sym f) ∙ ap (λ (o : ℕ). number_from_digits 256 (o ∷ [])) (sym e) ∙ omega arith

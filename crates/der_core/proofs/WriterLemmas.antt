@@ -202,12 +202,3 @@ filled_appends first octets n s p q t over more leaves =
     let following : q.following ≡ drop (length octets) (drop (length first) s.following) = ap (λ (u : WriterState). u.following) more ∙ ap (λ (u : WriterState). drop (length octets) u.following) over in
     let same : record (appended_state s first) { octets = q.octets; following = q.following } ≡ appended_state (appended_state s first) octets = cc in
     leaves ∙ same ∙ appended_both s first octets
-
--- there is space for this many octets
-pub space_from_bounds : (w : SliceWriter) (n : ℕ) → w.failed ≡ false → length (slice_writer_state w).octets + n ≤ w.stop
-    → (space_outcome n (slice_writer_state w) (slice_writer_state w)).answer ≡ Ok tt
-space_from_bounds w n alive space =
-    let at = octets_written_at w in
-    let countable = w.countable in
-    let few : length (slice_writer_state w).octets - w.start + n < 2 ^ 32 = omega (arith, at, space, countable) in
-    grind (arith, nat_tests)

@@ -88,9 +88,6 @@ ascend_one_more [] x y up may = (may, tt)
 ascend_one_more (z ∷ []) x y up may = (up.0, (may, tt))
 ascend_one_more (z ∷ w ∷ more) x y up may = (up.0, ascend_one_more (w ∷ more) x y up.1 may)
 
-pub passed_first : {s t : ReaderState} (x : List ℕ) → Reads s t (string_octets x) → PassedTo s t x
-passed_first {s} {t} x reads = record { front = []; ascend = tt; reads = subst (Reads s t) (sym (append-nil (string_octets x))) reads }
-
 joined_more : (front : List (List ℕ)) (x : List ℕ) → joined_strings (front ++ x ∷ []) ≡ joined_strings front ++ string_octets x
 joined_more front x = flat_map-append string_octets front (x ∷ []) ∙ ap (λ l. joined_strings front ++ l) (append-nil (string_octets x))
 
@@ -100,14 +97,6 @@ passed_next {s} {t} {u} x y p reads may =
       front = p.front ++ x ∷ [];
       ascend = ascend_one_more p.front x y p.ascend may;
       reads = subst (Reads s u) (sym (joined_more (p.front ++ x ∷ []) y)) (reads_on p.reads reads);
-    }
-
-pub passed_ready : {levels : ℕ} {s t : ReaderState} {x : List ℕ} → IsReady levels s → PassedTo s t x → IsReady levels t
-passed_ready ready p =
-    record {
-      der = rules_on p.reads ∙ ready.der;
-      working = failed_on p.reads ∙ ready.working;
-      shallow = omega (arith, ready.shallow, ap (λ (r : ReaderState). r.depth) p.reads.state);
     }
 
 -- joined encodings determine their OCTET STRINGs

@@ -6,7 +6,7 @@ ghost use Rattle.der_c.specs.CReader.{answer_code};
 ghost use Rattle.der_c.specs.CWriter.{writer_state};
 ghost use Rattle.der_c.specs.WriterCalls.{RefusesBy, WritesOctets, WritesHeader, WritesElement, Measures};
 
-use crate::error::{DerError, reported};
+use crate::error::{DerError, c_error};
 use crate::tag::tag_of_word;
 use crate::writer::DerWriter;
 use crate::writer::short::write_short;
@@ -42,7 +42,7 @@ pub extern "C" fn der_writer_finish(writer: &DerWriter<'_>) -> DerError
     ensures { result ≡ answer_code (finished_answer (writer_state writer.now)) }
 {
     if writer.failed {
-        return reported(ErrorKind::Failed.at(Length::new(writer.position as u32)));
+        return c_error(ErrorKind::Failed.at(Length::new(writer.position as u32)));
     }
     DerError::NONE
 }
@@ -118,7 +118,7 @@ fn element_slowly(writer: &mut DerWriter<'_>, tag: u64, contents: &[u8]) -> DerE
     let header = Header::new(tag, Length::new(contents.len() as u32));
     match header.encode(writer) {
         Ok(()) => code(writer.write(contents)),
-        Err(error) => reported(error),
+        Err(error) => c_error(error),
     }
 }
 
@@ -132,14 +132,14 @@ pub extern "C" fn der_element_length(tag: u64, length: u32, count: &mut u32) -> 
     ensures { Measures tag length result count.old count.new }
 {
     let Some(tag) = tag_of_word(tag) else {
-        return reported(ErrorKind::TagNumberInvalid.to_error());
+        return c_error(ErrorKind::TagNumberInvalid.to_error());
     };
     match Length::new(length).for_tlv(tag) {
         Ok(whole) => {
             *count = u32::from(whole);
             DerError::NONE
         }
-        Err(error) => reported(error),
+        Err(error) => c_error(error),
     }
 }
 
@@ -150,7 +150,7 @@ fn code(answer: Result<(), Error>) -> DerError
 {
     match answer {
         Ok(()) => DerError::NONE,
-        Err(error) => reported(error),
+        Err(error) => c_error(error),
     }
 }
 
@@ -161,5 +161,5 @@ pub(crate) fn refuse(writer: &mut DerWriter<'_>, kind: ErrorKind) -> DerError
     ensures { RefusesBy kind (writer_state writer.old) result (writer_state writer.new) }
 {
     writer.failed = true;
-    reported(kind.to_error())
+    c_error(kind.to_error())
 }

@@ -3,7 +3,7 @@ ghost use Rattle.std.specs.Prelude.{◌≡◌, ◌+◌, ◌^◌, ◌<◌, ◌≤
 ghost use Rattle.der_c.specs.CWriter.{writer_state};
 ghost use Rattle.der_c.specs.Part.{BeginsElement, EndsElement, IsMoved, put_state};
 
-use crate::error::{DerError, reported};
+use crate::error::{DerError, c_error};
 use crate::tag::tag_of_word;
 use crate::writer::calls::refuse;
 use crate::writer::short::write_short;
@@ -43,7 +43,7 @@ fn begin_slowly(writer: &mut DerWriter<'_>, tag: u64, start: &mut usize) -> DerE
             *start = writer.position;
             DerError::NONE
         }
-        Err(error) => reported(error),
+        Err(error) => c_error(error),
     }
 }
 
@@ -58,7 +58,7 @@ pub extern "C" fn der_end(writer: &mut DerWriter<'_>, start: usize) -> DerError
     ensures { EndsElement start (writer_state writer.old) result (writer_state writer.new) }
 {
     if writer.failed {
-        return reported(refusal(true, writer.position as u32, 0));
+        return c_error(refusal(true, writer.position as u32, 0));
     }
     if start == 0 || start > writer.position {
         return refuse(writer, ErrorKind::Overlength);
@@ -72,7 +72,7 @@ pub extern "C" fn der_end(writer: &mut DerWriter<'_>, start: usize) -> DerError
     let stop = writer.octets.len().min(u32::MAX as usize);
     if more > stop - writer.position {
         writer.failed = true;
-        return reported(refusal(false, writer.position as u32, more));
+        return c_error(refusal(false, writer.position as u32, more));
     }
     put_length(writer, start, length);
     DerError::NONE

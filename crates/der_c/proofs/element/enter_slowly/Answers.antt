@@ -11,4 +11,4 @@ returns-else-met-tag-clause-enters c =
     following c.in-Ok.header _ c.in-Ok.ensures.ok (search rules) c.enter.ensures.enters
 
 pub returns-in-Err-clause-enters : goal.returns-in-Err-clause-enters
-returns-in-Err-clause-enters c = no_header c.in-Err.error (c.in-Err.ensures.refused refl) c.reported.ensures refl
+returns-in-Err-clause-enters c = no_header c.in-Err.error (c.in-Err.ensures.refused refl) c.c_error.ensures refl

@@ -11,4 +11,4 @@ returns-else-met-tag-clause-reads c =
     following c.in-Ok.header _ c.in-Ok.ensures.ok (search rules) c.read_element_contents.ensures.reads
 
 pub returns-in-Err-clause-reads : goal.returns-in-Err-clause-reads
-returns-in-Err-clause-reads c = no_header c.in-Err.error (c.in-Err.ensures.refused refl) c.reported.ensures
+returns-in-Err-clause-reads c = no_header c.in-Err.error (c.in-Err.ensures.refused refl) c.c_error.ensures

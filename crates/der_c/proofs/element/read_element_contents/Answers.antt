@@ -14,4 +14,4 @@ returns-in-Ok-clause-reads c =
     })
 
 pub returns-in-Err-clause-reads : goal.returns-in-Err-clause-reads
-returns-in-Err-clause-reads c = missing c.in-Err.error (rw c.length-length.ensures at (c.in-Err.ensures.exact refl)) c.reported.ensures
+returns-in-Err-clause-reads c = missing c.in-Err.error (rw c.length-length.ensures at (c.in-Err.ensures.exact refl)) c.c_error.ensures

@@ -6,4 +6,4 @@ pub returns-in-Ok : goal.returns-in-Ok
 returns-in-Ok c = scanned c.in-Ok.length (search rules) c.in-Ok.ensures.ok refl c.from.ensures
 
 pub returns-in-Err : goal.returns-in-Err
-returns-in-Err c = refused c.in-Err.error (search rules) (c.in-Err.ensures.refused refl) c.reported-in-Err.ensures refl
+returns-in-Err c = refused c.in-Err.error (search rules) (c.in-Err.ensures.refused refl) c.c_error-in-Err.ensures refl

@@ -31,5 +31,5 @@ returns-then-walk-2 c =
 
 pub returns : goal.returns
 returns c =
-    full_walk_reads_tree _ c.reported.result (walked_on (all_walked c.loop-i.invariant (omega (arith, c.loop-i-test.false))) c.climb-2.ensures.walks) c.if-walk-2.false refl
-    (c.reported.ensures ∙ ap error_code c.to_error.ensures) refl refl
+    full_walk_reads_tree _ c.c_error.result (walked_on (all_walked c.loop-i.invariant (omega (arith, c.loop-i-test.false))) c.climb-2.ensures.walks) c.if-walk-2.false refl
+    (c.c_error.ensures ∙ ap error_code c.to_error.ensures) refl refl

@@ -18,4 +18,4 @@ returns-in-Err c =
     let reported : checked_length (element_count c.in-Some.tag c.args.length) ≡ Err c.in-Err.error =
     ap (λ l. checked_length (element_count c.in-Some.tag (number l))) (sym c.new.ensures) ∙ sym c.for_tlv.ensures ∙ c.in-Err.is in
     let long = checked_err reported in
-    too_long c.in-Some.tag c.in-Some.ensures.is long.0 (c.reported-in-Err.ensures ∙ ap error_code long.1) refl
+    too_long c.in-Some.tag c.in-Some.ensures.is long.0 (c.c_error-in-Err.ensures ∙ ap error_code long.1) refl

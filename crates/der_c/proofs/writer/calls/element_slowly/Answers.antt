@@ -17,4 +17,4 @@ returns-in-Err c =
     of_tag c.in-Some.tag (Err c.in-Err.error) c.in-Some.ensures.is (omega arith)
     (element_refused c.in-Some.tag (length c.args.contents.now) c.args.contents.now (writer_state c.args.writer.now)
     (same_header_written (writer_state c.args.writer.now) c.new-header.ensures (ap number c.new.ensures) (c.in-Err.ensures.exact refl)))
-    c.reported.ensures
+    c.c_error.ensures

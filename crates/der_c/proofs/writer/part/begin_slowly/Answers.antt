@@ -10,4 +10,4 @@ returns-in-Ok c =
 
 pub returns-in-Err : goal.returns-in-Err
 returns-in-Err c =
-    no_header c.in-Some.tag c.in-Err.error c.in-Some.ensures.is (same_header_written (writer_state c.args.writer.now) c.new-header.ensures refl (c.in-Err.ensures.exact refl)) c.reported.ensures refl
+    no_header c.in-Some.tag c.in-Err.error c.in-Some.ensures.is (same_header_written (writer_state c.args.writer.now) c.new-header.ensures refl (c.in-Err.ensures.exact refl)) c.c_error.ensures refl

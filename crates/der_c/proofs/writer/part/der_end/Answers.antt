@@ -14,4 +14,4 @@ returns-in_default c =
     absurd (search (rules, fits))
 
 pub returns-then-more-stop : goal.returns-then-more-stop
-returns-then-more-stop c = no_space c.refusal-then-more-stop.result (search rules) (search rules) (record { answered = grind (rules, nat_tests); leaves = grind (rules, nat_tests) }) c.reported-then-more-stop.ensures
+returns-then-more-stop c = no_space c.refusal-then-more-stop.result (search rules) (search rules) (record { answered = grind (rules, nat_tests); leaves = grind (rules, nat_tests) }) c.c_error-then-more-stop.ensures
