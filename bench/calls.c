@@ -15,27 +15,27 @@ typedef struct {
 
 enum { LEVELS = 64 };
 
-static inline void pass(totals *told, const uint8_t *contents, size_t length)
+static inline void pass(totals *reported, const uint8_t *contents, size_t length)
 {
-    told->elements++;
-    told->contents += length;
-    told->first_octets += length ? contents[0] : 0;
+    reported->elements++;
+    reported->contents += length;
+    reported->first_octets += length ? contents[0] : 0;
 }
 
 /* With the library's functions. */
 
 totals calls_walk(const uint8_t *octets, size_t length)
 {
-    totals told = {0, 0, 0};
+    totals reported = {0, 0, 0};
     der_reader reader = DER_READER;
     der_element element = DER_ELEMENT;
     der_reader_init(octets, length, false, &reader);
     while (!der_is_finished(&reader) && !der_read_element(&reader, &element).kind)
-        pass(&told, element.contents, element.length);
-    return told;
+        pass(&reported, element.contents, element.length);
+    return reported;
 }
 
-static bool walk_part(der_reader *reader, int levels, totals *told)
+static bool walk_part(der_reader *reader, int levels, totals *reported)
 {
     der_element element = DER_ELEMENT;
     while (!der_is_finished(reader)) {
@@ -43,11 +43,11 @@ static bool walk_part(der_reader *reader, int levels, totals *told)
             return false;
         if (element.constructed && levels > 0) {
             der_reader inside = DER_READER;
-            pass(told, NULL, 0);
-            if (der_open(reader, &element, &inside).kind || !walk_part(&inside, levels - 1, told))
+            pass(reported, NULL, 0);
+            if (der_open(reader, &element, &inside).kind || !walk_part(&inside, levels - 1, reported))
                 return false;
         } else {
-            pass(told, element.contents, element.length);
+            pass(reported, element.contents, element.length);
         }
     }
     return true;
@@ -55,18 +55,18 @@ static bool walk_part(der_reader *reader, int levels, totals *told)
 
 totals calls_nested(const uint8_t *octets, size_t length)
 {
-    totals told = {0, 0, 0};
+    totals reported = {0, 0, 0};
     der_reader reader = DER_READER;
     der_reader_init(octets, length, false, &reader);
-    walk_part(&reader, LEVELS, &told);
-    return told;
+    walk_part(&reader, LEVELS, &reported);
+    return reported;
 }
 
 /* one call for each certificate */
 totals calls_tree(const uint8_t *octets, size_t length)
 {
     static der_node nodes[512];
-    totals told = {0, 0, 0};
+    totals reported = {0, 0, 0};
     der_reader reader = DER_READER, inside = DER_READER;
     der_element element = DER_ELEMENT;
     der_reader_init(octets, length, false, &reader);
@@ -74,15 +74,15 @@ totals calls_tree(const uint8_t *octets, size_t length)
         size_t count = 0;
         if (der_read_element(&reader, &element).kind || der_open(&reader, &element, &inside).kind ||
             der_read_tree(&inside, nodes, 512, &count).kind)
-            return told;
-        pass(&told, NULL, 0);
+            return reported;
+        pass(&reported, NULL, 0);
         for (const der_node *node = nodes; node < nodes + count; node++)
-            pass(&told, octets + node->contents_start, node->constructed ? 0 : node->end - node->contents_start);
+            pass(&reported, octets + node->contents_start, node->constructed ? 0 : node->end - node->contents_start);
     }
-    return told;
+    return reported;
 }
 
-static bool read_key(der_reader *reader, totals *told)
+static bool read_key(der_reader *reader, totals *reported)
 {
     der_reader key = DER_READER, identifier = DER_READER;
     der_element algorithm = DER_ELEMENT, month = DER_ELEMENT, own = DER_ELEMENT;
@@ -91,39 +91,39 @@ static bool read_key(der_reader *reader, totals *told)
         der_expect(&identifier, DER_OCTET_STRING, &month).kind || month.length != 1 || month.contents[0] > 11 ||
         der_finish(&identifier).kind || der_expect(&key, DER_OCTET_STRING, &own).kind || der_finish(&key).kind)
         return false;
-    told->elements++;
-    told->contents += algorithm.length + own.length;
-    told->first_octets += month.contents[0];
+    reported->elements++;
+    reported->contents += algorithm.length + own.length;
+    reported->first_octets += month.contents[0];
     return true;
 }
 
 totals calls_keys(const uint8_t *octets, size_t length)
 {
-    totals told = {0, 0, 0};
+    totals reported = {0, 0, 0};
     der_reader reader = DER_READER;
     der_reader_init(octets, length, false, &reader);
-    while (!der_is_finished(&reader) && read_key(&reader, &told))
+    while (!der_is_finished(&reader) && read_key(&reader, &reported))
         ;
-    return told;
+    return reported;
 }
 
-static totals written(const der_writer *writer, totals told)
+static totals written(const der_writer *writer, totals reported)
 {
-    told.contents = der_written(writer);
-    return told;
+    reported.contents = der_written(writer);
+    return reported;
 }
 
-totals calls_headers(const wanted *all, size_t count, uint8_t *out, size_t room)
+totals calls_headers(const wanted *all, size_t count, uint8_t *out, size_t space)
 {
-    totals told = {0, 0, 0};
+    totals reported = {0, 0, 0};
     der_writer writer = DER_WRITER;
-    der_writer_init(out, room, &writer);
-    for (const wanted *it = all; it < all + count; it++, told.elements++) {
+    der_writer_init(out, space, &writer);
+    for (const wanted *it = all; it < all + count; it++, reported.elements++) {
         der_tag tag = DER_CLASS_TAG((uint64_t)it->class * 64 + (it->constructed ? 32 : 0), it->number);
         if (der_write_header(&writer, tag, it->length).kind)
-            return told;
+            return reported;
     }
-    return written(&writer, told);
+    return written(&writer, reported);
 }
 
 static inline void set_octets(uint8_t *octets, uint64_t number)
@@ -132,18 +132,18 @@ static inline void set_octets(uint8_t *octets, uint64_t number)
     memcpy(octets, &number, 8);
 }
 
-totals calls_elements(const uint64_t *numbers, size_t count, uint8_t *out, size_t room)
+totals calls_elements(const uint64_t *numbers, size_t count, uint8_t *out, size_t space)
 {
-    totals told = {0, 0, 0};
+    totals reported = {0, 0, 0};
     der_writer writer = DER_WRITER;
-    der_writer_init(out, room, &writer);
-    for (size_t i = 0; i < count; i++, told.elements++) {
+    der_writer_init(out, space, &writer);
+    for (size_t i = 0; i < count; i++, reported.elements++) {
         uint8_t octets[8];
         set_octets(octets, numbers[i]);
         if (der_write_element(&writer, DER_OCTET_STRING, octets, 8).kind)
-            return told;
+            return reported;
     }
-    return written(&writer, told);
+    return written(&writer, reported);
 }
 
 static inline bool write_four(der_writer *writer, uint64_t number)
@@ -157,33 +157,33 @@ static inline bool write_four(der_writer *writer, uint64_t number)
 }
 
 /* with the lengths computed first */
-totals calls_sequences(const uint64_t *numbers, size_t count, uint8_t *out, size_t room)
+totals calls_sequences(const uint64_t *numbers, size_t count, uint8_t *out, size_t space)
 {
-    totals told = {0, 0, 0};
+    totals reported = {0, 0, 0};
     der_writer writer = DER_WRITER;
-    der_writer_init(out, room, &writer);
-    for (size_t i = 0; i < count; i++, told.elements++) {
+    der_writer_init(out, space, &writer);
+    for (size_t i = 0; i < count; i++, reported.elements++) {
         uint32_t length = 0;
         if (der_element_length(DER_OCTET_STRING, 8, &length).kind ||
             der_write_header(&writer, DER_SEQUENCE, 4 * length).kind || !write_four(&writer, numbers[i]))
-            return told;
+            return reported;
     }
-    return written(&writer, told);
+    return written(&writer, reported);
 }
 
 /* with a begin and an end */
-totals calls_parts(const uint64_t *numbers, size_t count, uint8_t *out, size_t room)
+totals calls_parts(const uint64_t *numbers, size_t count, uint8_t *out, size_t space)
 {
-    totals told = {0, 0, 0};
+    totals reported = {0, 0, 0};
     der_writer writer = DER_WRITER;
-    der_writer_init(out, room, &writer);
-    for (size_t i = 0; i < count; i++, told.elements++) {
+    der_writer_init(out, space, &writer);
+    for (size_t i = 0; i < count; i++, reported.elements++) {
         size_t start = 0;
         if (der_begin(&writer, DER_SEQUENCE, &start).kind || !write_four(&writer, numbers[i]) ||
             der_end(&writer, start).kind)
-            return told;
+            return reported;
     }
-    return written(&writer, told);
+    return written(&writer, reported);
 }
 
 /* By hand. */
@@ -246,25 +246,25 @@ static inline bool part_at(const uint8_t *octets, size_t at, size_t end, part *i
 
 totals hand_walk(const uint8_t *octets, size_t length)
 {
-    totals told = {0, 0, 0};
+    totals reported = {0, 0, 0};
     part it;
     for (size_t at = 0; part_at(octets, at, length, &it); at = it.end)
-        pass(&told, octets + it.start, it.end - it.start);
-    return told;
+        pass(&reported, octets + it.start, it.end - it.start);
+    return reported;
 }
 
-static bool hand_part(const uint8_t *octets, size_t at, size_t end, int levels, totals *told)
+static bool hand_part(const uint8_t *octets, size_t at, size_t end, int levels, totals *reported)
 {
     part it;
     for (; at < end; at = it.end) {
         if (!part_at(octets, at, end, &it))
             return false;
         if (it.first & 0x20 && levels > 0) {
-            pass(told, NULL, 0);
-            if (!hand_part(octets, it.start, it.end, levels - 1, told))
+            pass(reported, NULL, 0);
+            if (!hand_part(octets, it.start, it.end, levels - 1, reported))
                 return false;
         } else {
-            pass(told, octets + it.start, it.end - it.start);
+            pass(reported, octets + it.start, it.end - it.start);
         }
     }
     return true;
@@ -272,9 +272,9 @@ static bool hand_part(const uint8_t *octets, size_t at, size_t end, int levels, 
 
 totals hand_nested(const uint8_t *octets, size_t length)
 {
-    totals told = {0, 0, 0};
-    hand_part(octets, 0, length, LEVELS, &told);
-    return told;
+    totals reported = {0, 0, 0};
+    hand_part(octets, 0, length, LEVELS, &reported);
+    return reported;
 }
 
 static inline bool tagged_at(const uint8_t *octets, uint8_t tag, size_t at, size_t end, part *it)
@@ -284,7 +284,7 @@ static inline bool tagged_at(const uint8_t *octets, uint8_t tag, size_t at, size
 
 totals hand_keys(const uint8_t *octets, size_t length)
 {
-    totals told = {0, 0, 0};
+    totals reported = {0, 0, 0};
     part key, identifier, algorithm, month, own;
     for (size_t at = 0; tagged_at(octets, 0x30, at, length, &key); at = key.end) {
         if (!tagged_at(octets, 0x30, key.start, key.end, &identifier) ||
@@ -292,18 +292,18 @@ totals hand_keys(const uint8_t *octets, size_t length)
             !tagged_at(octets, 0x04, algorithm.end, identifier.end, &month) || month.end != identifier.end ||
             month.end - month.start != 1 || octets[month.start] > 11 ||
             !tagged_at(octets, 0x04, identifier.end, key.end, &own) || own.end != key.end)
-            return told;
-        told.elements++;
-        told.contents += algorithm.end - algorithm.start + own.end - own.start;
-        told.first_octets += octets[month.start];
+            return reported;
+        reported.elements++;
+        reported.contents += algorithm.end - algorithm.start + own.end - own.start;
+        reported.first_octets += octets[month.start];
     }
-    return told;
+    return reported;
 }
 
-static inline bool put_length(uint8_t *out, size_t *at, size_t room, uint32_t length)
+static inline bool put_length(uint8_t *out, size_t *at, size_t space, uint32_t length)
 {
     int count = length < 128 ? 0 : length < 256 ? 1 : length < 65536 ? 2 : length < 16777216 ? 3 : 4;
-    if (room - *at < (size_t)count + 1)
+    if (space - *at < (size_t)count + 1)
         return false;
     out[(*at)++] = count ? (uint8_t)(128 + count) : (uint8_t)length;
     while (count-- > 0)
@@ -311,12 +311,12 @@ static inline bool put_length(uint8_t *out, size_t *at, size_t room, uint32_t le
     return true;
 }
 
-static __attribute__((noinline, cold)) bool put_number(uint8_t *out, size_t *at, size_t room, uint32_t number)
+static __attribute__((noinline, cold)) bool put_number(uint8_t *out, size_t *at, size_t space, uint32_t number)
 {
     int more = 4;
     while (more > 0 && number >> 7 * more == 0)
         more--;
-    if (room - *at < (size_t)more + 1)
+    if (space - *at < (size_t)more + 1)
         return false;
     for (; more > 0; more--)
         out[(*at)++] = (uint8_t)(128 | number >> 7 * more);
@@ -324,25 +324,25 @@ static __attribute__((noinline, cold)) bool put_number(uint8_t *out, size_t *at,
     return true;
 }
 
-totals hand_headers(const wanted *all, size_t count, uint8_t *out, size_t room)
+totals hand_headers(const wanted *all, size_t count, uint8_t *out, size_t space)
 {
-    totals told = {0, 0, 0};
+    totals reported = {0, 0, 0};
     size_t at = 0;
-    for (const wanted *it = all; it < all + count; it++, told.elements++) {
-        if (at == room)
-            return told;
+    for (const wanted *it = all; it < all + count; it++, reported.elements++) {
+        if (at == space)
+            return reported;
         uint8_t leading = (uint8_t)(it->class << 6 | (it->constructed ? 0x20 : 0));
         out[at++] = leading | (uint8_t)(it->number < 31 ? it->number : 31);
-        if ((it->number >= 31 && !put_number(out, &at, room, it->number)) || !put_length(out, &at, room, it->length))
-            return told;
+        if ((it->number >= 31 && !put_number(out, &at, space, it->number)) || !put_length(out, &at, space, it->length))
+            return reported;
     }
-    told.contents = at;
-    return told;
+    reported.contents = at;
+    return reported;
 }
 
-static inline bool put_element(uint8_t *out, size_t *at, size_t room, uint64_t number)
+static inline bool put_element(uint8_t *out, size_t *at, size_t space, uint64_t number)
 {
-    if (room - *at < 10)
+    if (space - *at < 10)
         return false;
     out[*at] = 0x04;
     out[*at + 1] = 8;
@@ -351,31 +351,31 @@ static inline bool put_element(uint8_t *out, size_t *at, size_t room, uint64_t n
     return true;
 }
 
-totals hand_elements(const uint64_t *numbers, size_t count, uint8_t *out, size_t room)
+totals hand_elements(const uint64_t *numbers, size_t count, uint8_t *out, size_t space)
 {
-    totals told = {0, 0, 0};
+    totals reported = {0, 0, 0};
     size_t at = 0;
-    for (size_t i = 0; i < count; i++, told.elements++)
-        if (!put_element(out, &at, room, numbers[i]))
-            return told;
-    told.contents = at;
-    return told;
+    for (size_t i = 0; i < count; i++, reported.elements++)
+        if (!put_element(out, &at, space, numbers[i]))
+            return reported;
+    reported.contents = at;
+    return reported;
 }
 
-totals hand_sequences(const uint64_t *numbers, size_t count, uint8_t *out, size_t room)
+totals hand_sequences(const uint64_t *numbers, size_t count, uint8_t *out, size_t space)
 {
-    totals told = {0, 0, 0};
+    totals reported = {0, 0, 0};
     size_t at = 0;
-    for (size_t i = 0; i < count; i++, told.elements++) {
-        if (at == room)
-            return told;
+    for (size_t i = 0; i < count; i++, reported.elements++) {
+        if (at == space)
+            return reported;
         out[at++] = 0x30;
-        if (!put_length(out, &at, room, 40))
-            return told;
+        if (!put_length(out, &at, space, 40))
+            return reported;
         for (int k = 0; k < 4; k++)
-            if (!put_element(out, &at, room, numbers[i]))
-                return told;
+            if (!put_element(out, &at, space, numbers[i]))
+                return reported;
     }
-    told.contents = at;
-    return told;
+    reported.contents = at;
+    return reported;
 }

@@ -78,15 +78,15 @@ fn walk_by_crate(bytes: &[u8]) -> Totals {
 /// Prints the minimum time of each way, in nanoseconds for each of `count` things. The rounds
 /// alternate between the ways, so that all see the same machine. All ways must return the same
 /// totals.
-fn tell<F: Copy>(
+fn print_row<F: Copy>(
     name: &str,
     size: usize,
     count: u64,
     ways: &[(&str, F)],
     mut run: impl FnMut(F) -> Totals,
 ) {
-    let told = run(ways[0].1);
-    assert_ne!(told.elements, 0, "{name}");
+    let reported = run(ways[0].1);
+    assert_ne!(reported.elements, 0, "{name}");
     let mut least = vec![f64::INFINITY; ways.len()];
     let begun = Instant::now();
     let mut rounds = 0;
@@ -95,7 +95,7 @@ fn tell<F: Copy>(
             let start = Instant::now();
             let again = black_box(run(black_box(*does)));
             *least = least.min(start.elapsed().as_nanos() as f64 / count as f64);
-            assert_eq!(again, told, "{name} by {way}");
+            assert_eq!(again, reported, "{name} by {way}");
         }
         rounds += 1;
     }
@@ -107,11 +107,11 @@ fn tell<F: Copy>(
 type Reading = fn(&[u8]) -> Totals;
 type Putting<I> = fn(&[I], &mut [u8]) -> Totals;
 
-fn tell_reading(name: &str, size: usize, count: u64, bytes: &[u8], ways: &[(&str, Reading)]) {
-    tell(name, size, count, ways, |walk| walk(bytes));
+fn print_row_reading(name: &str, size: usize, count: u64, bytes: &[u8], ways: &[(&str, Reading)]) {
+    print_row(name, size, count, ways, |walk| walk(bytes));
 }
 
-fn tell_putting<I>(name: &str, size: usize, input: &[I], ways: &[(&str, Putting<I>)]) {
+fn print_row_putting<I>(name: &str, size: usize, input: &[I], ways: &[(&str, Putting<I>)]) {
     let mut out = vec![0; 2 * size];
     let count = (ways[0].1)(input, &mut out).contents as usize;
     out.truncate(count);
@@ -121,7 +121,7 @@ fn tell_putting<I>(name: &str, size: usize, input: &[I], ways: &[(&str, Putting<
         put(input, &mut out);
         assert!(out == wanted, "{name} by {way}");
     }
-    tell(name, size, input.len() as u64, ways, |put| {
+    print_row(name, size, input.len() as u64, ways, |put| {
         put(input, &mut out)
     });
 }
@@ -137,7 +137,7 @@ macro_rules! ways {
     }};
 }
 
-fn tell_reads(size: usize) {
+fn print_row_reads(size: usize) {
     let mut numbers = Numbers(0x9E37_79B9_7F4A_7C15);
     let mut flat = Vec::with_capacity(size + (1 << 12));
     let mut count = 0;
@@ -152,7 +152,7 @@ fn tell_reads(size: usize) {
         "by hand": from_c::hand_walk,
         "the crate": walk_by_crate
     );
-    tell_reading("flat walk", size, count, &flat, &walks);
+    print_row_reading("flat walk", size, count, &flat, &walks);
     let nested = certificates(size);
     let count = nested_inside(&nested).elements;
     let walks = ways!(Reading, nested,
@@ -162,7 +162,7 @@ fn tell_reads(size: usize) {
         "by hand": from_c::hand_nested,
         "the crate": nested_beside::walk
     );
-    tell_reading(
+    print_row_reading(
         "certificates, a call an element",
         size,
         count,
@@ -176,7 +176,7 @@ fn tell_reads(size: usize) {
         "by hand": from_c::hand_nested,
         "the crate": nested_beside::walk
     );
-    tell_reading("certificates, a call a tree", size, count, &nested, &walks);
+    print_row_reading("certificates, a call a tree", size, count, &nested, &walks);
     let (octets, count) = keys(33, size);
     let reads = ways!(Reading, keys,
         "inside Rattle": proved_decode,
@@ -185,10 +185,10 @@ fn tell_reads(size: usize) {
         "by hand": from_c::hand_keys,
         "the crate": nested_beside::decode
     );
-    tell_reading("keys, by tags", size, count, &octets, &reads);
+    print_row_reading("keys, by tags", size, count, &octets, &reads);
 }
 
-fn tell_writes(size: usize) {
+fn print_row_writes(size: usize) {
     let of_certificates: Vec<Wanted> = headers(1 << 20)
         .iter()
         .cycle()
@@ -202,7 +202,7 @@ fn tell_writes(size: usize) {
         "by hand": from_c::hand_headers,
         "the crate": writing_beside::headers
     );
-    tell_putting(
+    print_row_putting(
         "headers of certificates written",
         size,
         &of_certificates,
@@ -217,7 +217,7 @@ fn tell_writes(size: usize) {
         "by hand": from_c::hand_elements,
         "the crate": writing_beside::elements
     );
-    tell_putting("elements written", size, &numbers, &ways);
+    print_row_putting("elements written", size, &numbers, &ways);
     let numbers = &numbers[..size / 42];
     let ways = ways!(Putting<u64>, sequences,
         "inside Rattle": written::sequences,
@@ -226,7 +226,7 @@ fn tell_writes(size: usize) {
         "by hand": from_c::hand_sequences,
         "the crate": writing_beside::sequences
     );
-    tell_putting(
+    print_row_putting(
         "SEQUENCEs of four written, lengths first",
         size,
         numbers,
@@ -239,7 +239,7 @@ fn tell_writes(size: usize) {
         "by hand": from_c::hand_sequences,
         "the crate": writing_beside::sequences
     );
-    tell_putting(
+    print_row_putting(
         "SEQUENCEs of four written, begin and end",
         size,
         numbers,
@@ -249,7 +249,7 @@ fn tell_writes(size: usize) {
 
 fn main() {
     for size in SIZES {
-        tell_reads(size);
-        tell_writes(size);
+        print_row_reads(size);
+        print_row_writes(size);
     }
 }

@@ -21,7 +21,7 @@ macro_rules! putting {
         pub fn $name(input: &[$input], out: &mut [u8]) -> Totals {
             unsafe extern "C" {
                 #[link_name = $of_c]
-                fn of_c(input: *const $input, count: usize, out: *mut u8, room: usize) -> Totals;
+                fn of_c(input: *const $input, count: usize, out: *mut u8, space: usize) -> Totals;
             }
             // SAFETY: pointers and lengths are those of slices: the call reads the first, and
             // writes to the second.

@@ -6,7 +6,7 @@ use der_c::{Error, Node, Reader, Tag, Writer, element_length};
 
 /// The totals that `read` counts, up to an error.
 #[inline(always)]
-fn told(bytes: &[u8], read: impl Fn(&mut Reader<'_>, &mut Totals) -> Result<(), Error>) -> Totals {
+fn reported(bytes: &[u8], read: impl Fn(&mut Reader<'_>, &mut Totals) -> Result<(), Error>) -> Totals {
     let mut totals = Totals::default();
     if let Ok(mut reader) = Reader::der(bytes) {
         let _ = read(&mut reader, &mut totals);
@@ -16,7 +16,7 @@ fn told(bytes: &[u8], read: impl Fn(&mut Reader<'_>, &mut Totals) -> Result<(), 
 
 #[inline(never)]
 pub fn walk(bytes: &[u8]) -> Totals {
-    told(bytes, |reader, totals| {
+    reported(bytes, |reader, totals| {
         while !reader.is_finished() {
             pass(totals, reader.read()?.contents());
         }
@@ -39,7 +39,7 @@ fn walk_part(reader: &mut Reader<'_>, levels: usize, totals: &mut Totals) -> Res
 
 #[inline(never)]
 pub fn nested(bytes: &[u8]) -> Totals {
-    told(bytes, |reader, totals| walk_part(reader, LEVELS, totals))
+    reported(bytes, |reader, totals| walk_part(reader, LEVELS, totals))
 }
 
 /// One call for each certificate.
@@ -71,7 +71,7 @@ fn walk_trees(bytes: &[u8], nodes: &mut [Node], totals: &mut Totals) -> Result<(
 
 #[inline(never)]
 pub fn keys(bytes: &[u8]) -> Totals {
-    told(bytes, |reader, totals| {
+    reported(bytes, |reader, totals| {
         while !reader.is_finished() {
             read_key(reader, totals)?;
         }

@@ -5,10 +5,10 @@
 
 uint64_t openssl_certificates(const uint8_t *octets, size_t len)
 {
-    const unsigned char *ahead = octets;
+    const unsigned char *upcoming = octets;
     uint64_t count = 0;
-    while (ahead < octets + len) {
-        X509 *certificate = d2i_X509(NULL, &ahead, octets + len - ahead);
+    while (upcoming < octets + len) {
+        X509 *certificate = d2i_X509(NULL, &upcoming, octets + len - upcoming);
         if (certificate == NULL)
             break;
         X509_free(certificate);
@@ -20,8 +20,8 @@ uint64_t openssl_certificates(const uint8_t *octets, size_t len)
 /* OpenSSL keeps the octets that it read, and writes the certificate's contents from them. */
 uint64_t openssl_written(const uint8_t *octets, size_t len, uint64_t times)
 {
-    const unsigned char *ahead = octets;
-    X509 *certificate = d2i_X509(NULL, &ahead, (long)len);
+    const unsigned char *upcoming = octets;
+    X509 *certificate = d2i_X509(NULL, &upcoming, (long)len);
     uint64_t count = 0;
     while (certificate != NULL && count < times) {
         unsigned char *written = NULL;
@@ -35,36 +35,36 @@ uint64_t openssl_written(const uint8_t *octets, size_t len, uint64_t times)
 }
 
 /* The length of the next element with its header, if its length has three octets; else 0. */
-static size_t element_len(const uint8_t *ahead, const uint8_t *end)
+static size_t element_len(const uint8_t *upcoming, const uint8_t *end)
 {
-    if (end - ahead < 4 || ahead[0] != 0x30 || ahead[1] != 0x82)
+    if (end - upcoming < 4 || upcoming[0] != 0x30 || upcoming[1] != 0x82)
         return 0;
-    size_t len = 4 + (size_t)(ahead[2] << 8 | ahead[3]);
-    return len <= (size_t)(end - ahead) ? len : 0;
+    size_t len = 4 + (size_t)(upcoming[2] << 8 | upcoming[3]);
+    return len <= (size_t)(end - upcoming) ? len : 0;
 }
 
 /* Walks over each element and those inside it, without checking tags or contents. */
-static int walk(const uint8_t *ahead, const uint8_t *end, uint64_t *elements)
+static int walk(const uint8_t *upcoming, const uint8_t *end, uint64_t *elements)
 {
-    while (ahead < end) {
-        if (end - ahead < 2)
+    while (upcoming < end) {
+        if (end - upcoming < 2)
             return 0;
-        uint8_t tag = ahead[0];
-        size_t length = ahead[1];
-        ahead += 2;
+        uint8_t tag = upcoming[0];
+        size_t length = upcoming[1];
+        upcoming += 2;
         if (length >= 0x80) {
             size_t octets = length & 0x7F;
-            if (octets == 0 || octets > 4 || (size_t)(end - ahead) < octets)
+            if (octets == 0 || octets > 4 || (size_t)(end - upcoming) < octets)
                 return 0;
             for (length = 0; octets > 0; octets -= 1)
-                length = length << 8 | *ahead++;
+                length = length << 8 | *upcoming++;
         }
-        if ((size_t)(end - ahead) < length)
+        if ((size_t)(end - upcoming) < length)
             return 0;
         *elements += 1;
-        if ((tag & 0x20) != 0 && !walk(ahead, ahead + length, elements))
+        if ((tag & 0x20) != 0 && !walk(upcoming, upcoming + length, elements))
             return 0;
-        ahead += length;
+        upcoming += length;
     }
     return 1;
 }
@@ -73,8 +73,8 @@ uint64_t walked_certificates(const uint8_t *octets, size_t len)
 {
     uint64_t count = 0, elements = 0;
     size_t one;
-    for (const uint8_t *ahead = octets; (one = element_len(ahead, octets + len)) != 0; ahead += one) {
-        if (!walk(ahead, ahead + one, &elements))
+    for (const uint8_t *upcoming = octets; (one = element_len(upcoming, octets + len)) != 0; upcoming += one) {
+        if (!walk(upcoming, upcoming + one, &elements))
             break;
         count += 1;
     }
@@ -89,10 +89,10 @@ uint64_t mbedtls_certificates(const uint8_t *octets, size_t len)
 {
     uint64_t count = 0;
     size_t one;
-    for (const uint8_t *ahead = octets; (one = element_len(ahead, octets + len)) != 0; ahead += one) {
+    for (const uint8_t *upcoming = octets; (one = element_len(upcoming, octets + len)) != 0; upcoming += one) {
         mbedtls_x509_crt certificate;
         mbedtls_x509_crt_init(&certificate);
-        int answer = mbedtls_x509_crt_parse_der_nocopy(&certificate, ahead, one);
+        int answer = mbedtls_x509_crt_parse_der_nocopy(&certificate, upcoming, one);
         mbedtls_x509_crt_free(&certificate);
         if (answer != 0)
             break;

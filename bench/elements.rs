@@ -22,12 +22,12 @@ pub fn proved_walk(bytes: &[u8]) -> Totals {
 pub fn count_contents(bytes: &[u8], split: impl Fn(&[u8]) -> Option<(&[u8], &[u8])>) -> Totals {
     let mut totals = Totals::default();
     let mut rest = bytes;
-    while let Some((contents, behind)) = split(rest) {
+    while let Some((contents, following)) = split(rest) {
         totals.elements = totals.elements.wrapping_add(1);
         totals.contents = totals.contents.wrapping_add(contents.len() as u64);
         let first = contents.first().copied().unwrap_or(0);
         totals.first_octets = totals.first_octets.wrapping_add(first as u64);
-        rest = behind;
+        rest = following;
     }
     totals
 }
@@ -65,8 +65,8 @@ fn skip_long_number(bytes: &[u8]) -> Option<&[u8]> {
     let mut number = 0u32;
     let mut rest = bytes;
     loop {
-        let (&octet, behind) = rest.split_first()?;
-        rest = behind;
+        let (&octet, following) = rest.split_first()?;
+        rest = following;
         let digit = (octet & 0x7F) as u32;
         if number == 0 && digit == 0 || number >= 1 << 25 {
             return None;

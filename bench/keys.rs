@@ -21,7 +21,7 @@ pub fn proved_decode(bytes: &[u8]) -> Totals {
 pub fn decode_by_hand(bytes: &[u8]) -> Totals {
     let mut totals = Totals::default();
     let mut rest = bytes;
-    while let Some((key, behind)) = split_element(SEQUENCE, rest) {
+    while let Some((key, following)) = split_element(SEQUENCE, rest) {
         let Some((algorithm, month, octets)) = split_key(key) else {
             return totals;
         };
@@ -29,7 +29,7 @@ pub fn decode_by_hand(bytes: &[u8]) -> Totals {
         totals.contents = totals.contents.wrapping_add(algorithm.len() as u64);
         totals.contents = totals.contents.wrapping_add(octets.len() as u64);
         totals.first_octets = totals.first_octets.wrapping_add(month as u64);
-        rest = behind;
+        rest = following;
     }
     totals
 }
@@ -39,10 +39,10 @@ pub fn decode_by_hand(bytes: &[u8]) -> Totals {
 fn split_key(key: &[u8]) -> Option<(&[u8], u8, &[u8])> {
     let (identifier, rest) = split_element(SEQUENCE, key)?;
     let (algorithm, parameter) = split_element(OCTET_STRING, identifier)?;
-    let (month, behind) = split_element(OCTET_STRING, parameter)?;
+    let (month, following) = split_element(OCTET_STRING, parameter)?;
     let (octets, left) = split_element(OCTET_STRING, rest)?;
     match month {
-        &[number] if number < 12 && behind.is_empty() && left.is_empty() => {
+        &[number] if number < 12 && following.is_empty() && left.is_empty() => {
             Some((algorithm, number, octets))
         }
         _ => None,

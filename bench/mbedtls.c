@@ -13,30 +13,30 @@ typedef struct {
     uint8_t class, constructed;
 } wanted;
 
-static inline void pass(totals *told, const uint8_t *contents, size_t length)
+static inline void pass(totals *reported, const uint8_t *contents, size_t length)
 {
-    told->elements++;
-    told->contents += length;
-    told->first_octets += length ? contents[0] : 0;
+    reported->elements++;
+    reported->contents += length;
+    reported->first_octets += length ? contents[0] : 0;
 }
 
 totals mbedtls_walk(const uint8_t *octets, size_t length)
 {
-    totals told = {0, 0, 0};
+    totals reported = {0, 0, 0};
     unsigned char *at = (unsigned char *)octets;
     const unsigned char *end = octets + length;
     while (at < end) {
         size_t count;
         at++;
         if (mbedtls_asn1_get_len(&at, end, &count))
-            return told;
-        pass(&told, at, count);
+            return reported;
+        pass(&reported, at, count);
         at += count;
     }
-    return told;
+    return reported;
 }
 
-static int walk_part(unsigned char **at, const unsigned char *end, int levels, totals *told)
+static int walk_part(unsigned char **at, const unsigned char *end, int levels, totals *reported)
 {
     while (*at < end) {
         unsigned char tag = *(*at)++;
@@ -44,11 +44,11 @@ static int walk_part(unsigned char **at, const unsigned char *end, int levels, t
         if (mbedtls_asn1_get_len(at, end, &count))
             return 1;
         if (tag & MBEDTLS_ASN1_CONSTRUCTED && levels > 0) {
-            pass(told, *at, 0);
-            if (walk_part(at, *at + count, levels - 1, told))
+            pass(reported, *at, 0);
+            if (walk_part(at, *at + count, levels - 1, reported))
                 return 1;
         } else {
-            pass(told, *at, count);
+            pass(reported, *at, count);
             *at += count;
         }
     }
@@ -57,13 +57,13 @@ static int walk_part(unsigned char **at, const unsigned char *end, int levels, t
 
 totals mbedtls_nested(const uint8_t *octets, size_t length)
 {
-    totals told = {0, 0, 0};
+    totals reported = {0, 0, 0};
     unsigned char *at = (unsigned char *)octets;
-    walk_part(&at, octets + length, 64, &told);
-    return told;
+    walk_part(&at, octets + length, 64, &reported);
+    return reported;
 }
 
-static int read_key(unsigned char **at, const unsigned char *end, totals *told)
+static int read_key(unsigned char **at, const unsigned char *end, totals *reported)
 {
     size_t key, identifier, algorithm, month, own;
     if (mbedtls_asn1_get_tag(at, end, &key, 0x30))
@@ -77,34 +77,34 @@ static int read_key(unsigned char **at, const unsigned char *end, totals *told)
     *at += algorithm;
     if (mbedtls_asn1_get_tag(at, identifier_end, &month, 0x04) || month != 1 || **at > 11)
         return 1;
-    told->first_octets += *(*at)++;
+    reported->first_octets += *(*at)++;
     if (*at != identifier_end || mbedtls_asn1_get_tag(at, key_end, &own, 0x04))
         return 1;
     *at += own;
-    told->elements++;
-    told->contents += algorithm + own;
+    reported->elements++;
+    reported->contents += algorithm + own;
     return *at != key_end;
 }
 
 totals mbedtls_keys(const uint8_t *octets, size_t length)
 {
-    totals told = {0, 0, 0};
+    totals reported = {0, 0, 0};
     unsigned char *at = (unsigned char *)octets;
-    while (at < octets + length && !read_key(&at, octets + length, &told))
+    while (at < octets + length && !read_key(&at, octets + length, &reported))
         ;
-    return told;
+    return reported;
 }
 
-totals mbedtls_headers(const wanted *all, size_t count, uint8_t *out, size_t room)
+totals mbedtls_headers(const wanted *all, size_t count, uint8_t *out, size_t space)
 {
-    totals told = {count, room, 0};
-    unsigned char *at = out + room;
+    totals reported = {count, space, 0};
+    unsigned char *at = out + space;
     for (const wanted *it = all + count; it-- > all;) {
         unsigned char tag = (unsigned char)(it->class << 6 | (it->constructed ? 0x20 : 0) | it->number);
         if (mbedtls_asn1_write_len(&at, out, it->length) < 0 || mbedtls_asn1_write_tag(&at, out, tag) < 0)
             return (totals){0, 0, 0};
     }
-    return told;
+    return reported;
 }
 
 static int write_element(unsigned char **at, uint8_t *out, uint64_t number)
@@ -113,20 +113,20 @@ static int write_element(unsigned char **at, uint8_t *out, uint64_t number)
     return mbedtls_asn1_write_octet_string(at, out, (const unsigned char *)&number, 8);
 }
 
-totals mbedtls_elements(const uint64_t *numbers, size_t count, uint8_t *out, size_t room)
+totals mbedtls_elements(const uint64_t *numbers, size_t count, uint8_t *out, size_t space)
 {
-    totals told = {count, room, 0};
-    unsigned char *at = out + room;
+    totals reported = {count, space, 0};
+    unsigned char *at = out + space;
     for (size_t i = count; i-- > 0;)
         if (write_element(&at, out, numbers[i]) < 0)
             return (totals){0, 0, 0};
-    return told;
+    return reported;
 }
 
-totals mbedtls_sequences(const uint64_t *numbers, size_t count, uint8_t *out, size_t room)
+totals mbedtls_sequences(const uint64_t *numbers, size_t count, uint8_t *out, size_t space)
 {
-    totals told = {count, room, 0};
-    unsigned char *at = out + room;
+    totals reported = {count, space, 0};
+    unsigned char *at = out + space;
     for (size_t i = count; i-- > 0;) {
         int sum = 0;
         for (int k = 0; k < 4; k++)
@@ -134,5 +134,5 @@ totals mbedtls_sequences(const uint64_t *numbers, size_t count, uint8_t *out, si
         if (mbedtls_asn1_write_len(&at, out, (size_t)sum) < 0 || mbedtls_asn1_write_tag(&at, out, 0x30) < 0)
             return (totals){0, 0, 0};
     }
-    return told;
+    return reported;
 }

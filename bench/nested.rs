@@ -18,7 +18,7 @@ use certificates::certificates;
 use common::Totals;
 use hand::{Element, element_at};
 use keys::{decode_by_hand, keys, proved_decode};
-use rounds::{By, Row, SIZES, tell, way};
+use rounds::{By, Row, SIZES, print_row, way};
 
 /// How many levels of nested parts are entered.
 const LEVELS: usize = 64;
@@ -132,7 +132,7 @@ fn walk_by_ends(bytes: &[u8]) -> Totals {
 }
 
 #[allow(unused_mut, reason = "the ways of others may not be there")]
-fn tell_walks(size: usize, bytes: &[u8]) {
+fn print_row_walks(size: usize, bytes: &[u8]) {
     let count = walk_by_calls(bytes).elements;
     let library: [(&str, fn(&[u8]) -> Totals); 3] = [
         ("certificates, by read_nested", nested_proved),
@@ -158,12 +158,12 @@ fn tell_walks(size: usize, bytes: &[u8]) {
         ways.push(way(By::Crate, |()| beside::walk(bytes)));
         #[cfg(mbedtls)]
         ways.push(way(By::Mbedtls, |()| mbedtls::walk(bytes)));
-        tell(&row, &ways, &mut ());
+        print_row(&row, &ways, &mut ());
     }
 }
 
 #[allow(unused_mut, reason = "as above")]
-fn tell_keys(size: usize, bound: u64) {
+fn print_row_keys(size: usize, bound: u64) {
     let (bytes, count) = keys(bound, size);
     let row = Row {
         name: format!("keys of 0 to {} octets, by decode", bound - 1),
@@ -180,7 +180,7 @@ fn tell_keys(size: usize, bound: u64) {
     ways.push(way(By::Crate, |()| beside::decode(&bytes)));
     #[cfg(mbedtls)]
     ways.push(way(By::Mbedtls, |()| mbedtls::decode(&bytes)));
-    tell(&row, &ways, &mut ());
+    print_row(&row, &ways, &mut ());
 }
 
 /// Decodes the keys with an index.
@@ -226,8 +226,8 @@ fn tagged_at(tag: u8, bytes: &[u8], at: usize, end: usize) -> Option<Element> {
 
 fn main() {
     for wanted in SIZES {
-        tell_walks(wanted, &certificates(wanted));
-        tell_keys(wanted, 33);
-        tell_keys(wanted, 513);
+        print_row_walks(wanted, &certificates(wanted));
+        print_row_keys(wanted, 33);
+        print_row_keys(wanted, 513);
     }
 }

@@ -32,17 +32,17 @@ fn walk_part<'a>(
     Ok(())
 }
 
-struct Lent<'a>(&'a [u8]);
+struct Borrowed<'a>(&'a [u8]);
 
-impl FixedTag for Lent<'_> {
+impl FixedTag for Borrowed<'_> {
     const TAG: Tag = Tag::OctetString;
 }
 
-impl<'a> DecodeValue<'a> for Lent<'a> {
+impl<'a> DecodeValue<'a> for Borrowed<'a> {
     type Error = Error;
 
     fn decode_value<R: Reader<'a>>(reader: &mut R, header: Header) -> Result<Self, Error> {
-        Ok(Lent(reader.read_slice(header.length())?))
+        Ok(Borrowed(reader.read_slice(header.length())?))
     }
 }
 
@@ -67,7 +67,7 @@ impl<'a> DecodeValue<'a> for Month {
     }
 }
 
-struct Algorithm<'a>(Lent<'a>, Month);
+struct Algorithm<'a>(Borrowed<'a>, Month);
 
 impl FixedTag for Algorithm<'_> {
     const TAG: Tag = Tag::Sequence;
@@ -81,7 +81,7 @@ impl<'a> DecodeValue<'a> for Algorithm<'a> {
     }
 }
 
-struct Key<'a>(Algorithm<'a>, Lent<'a>);
+struct Key<'a>(Algorithm<'a>, Borrowed<'a>);
 
 impl FixedTag for Key<'_> {
     const TAG: Tag = Tag::Sequence;

@@ -37,28 +37,28 @@ fn split_element(tag: u8, bytes: &[u8]) -> Option<(&[u8], &[u8], &[u8])> {
     if identifier != tag {
         return None;
     }
-    let (contents, behind) = split_contents(rest)?;
-    let element = &bytes[..bytes.len() - behind.len()];
-    Some((element, contents, behind))
+    let (contents, following) = split_contents(rest)?;
+    let element = &bytes[..bytes.len() - following.len()];
+    Some((element, contents, following))
 }
 
 #[inline(never)]
 fn compare_by_hand(bytes: &[u8]) -> Totals {
     let mut totals = Totals::default();
-    let Some((mut ahead, _, mut rest)) = split_element(OCTET_STRING, bytes) else {
+    let Some((mut upcoming, _, mut rest)) = split_element(OCTET_STRING, bytes) else {
         return totals;
     };
-    while let Some((element, contents, behind)) = split_element(OCTET_STRING, rest) {
+    while let Some((element, contents, following)) = split_element(OCTET_STRING, rest) {
         totals.elements = totals.elements.wrapping_add(1);
         totals.contents = totals.contents.wrapping_add(contents.len() as u64);
-        let less = (element < ahead) as u64;
+        let less = (element < upcoming) as u64;
         totals.first_octets = totals.first_octets.wrapping_add(less);
-        (ahead, rest) = (element, behind);
+        (upcoming, rest) = (element, following);
     }
     totals
 }
 
-fn told(elements: u64, octets: &[u8]) -> Totals {
+fn reported(elements: u64, octets: &[u8]) -> Totals {
     Totals {
         elements,
         contents: octets.len() as u64,
@@ -69,35 +69,35 @@ fn told(elements: u64, octets: &[u8]) -> Totals {
 #[inline(never)]
 fn read_by_hand(bytes: &[u8]) -> Totals {
     match ordered_contents(bytes) {
-        Some(contents) => told(1, contents),
-        None => told(0, &[]),
+        Some(contents) => reported(1, contents),
+        None => reported(0, &[]),
     }
 }
 
 /// The contents of a SET OF OCTET STRING whose elements are in order.
 fn ordered_contents(bytes: &[u8]) -> Option<&[u8]> {
-    let (_, contents, behind) = split_element(SET, bytes)?;
-    let (mut ahead, mut rest): (&[u8], _) = (&[], contents);
+    let (_, contents, following) = split_element(SET, bytes)?;
+    let (mut upcoming, mut rest): (&[u8], _) = (&[], contents);
     while !rest.is_empty() {
         let (element, _, more) = split_element(OCTET_STRING, rest)?;
-        if element < ahead {
+        if element < upcoming {
             return None;
         }
-        (ahead, rest) = (element, more);
+        (upcoming, rest) = (element, more);
     }
-    behind.is_empty().then_some(contents)
+    following.is_empty().then_some(contents)
 }
 
 #[inline(never)]
 fn sort_by_hand(bytes: &[u8]) -> Totals {
     let mut elements = Vec::new();
     let mut rest = bytes;
-    while let Some((element, _, behind)) = split_element(OCTET_STRING, rest) {
+    while let Some((element, _, following)) = split_element(OCTET_STRING, rest) {
         elements.push(element);
-        rest = behind;
+        rest = following;
     }
     elements.sort_unstable();
-    told(elements.len() as u64, &black_box(set_of(&elements)))
+    reported(elements.len() as u64, &black_box(set_of(&elements)))
 }
 
 /// The encoding of a SET of these elements.
@@ -125,7 +125,7 @@ fn elements(bound: u64, wanted: usize) -> (Vec<u8>, u64) {
     (out, count)
 }
 
-fn tell(
+fn print_row(
     name: &str,
     (bytes, counted): (&[u8], u64),
     count: u64,
@@ -146,21 +146,21 @@ fn tell(
 fn main() {
     for bound in [5, 33, 513] {
         let (bytes, count) = elements(bound, INPUT_LEN);
-        let behind = count - 1;
+        let following = count - 1;
         let name = format!("compared, 0 to {} octets", bound - 1);
-        tell(&name, (&bytes, behind), behind, compare_proved, compare_by_hand);
+        print_row(&name, (&bytes, following), following, compare_proved, compare_by_hand);
     }
     let (bytes, count) = elements(33, INPUT_LEN);
     let mut parts = Vec::new();
     let mut rest = &bytes[..];
-    while let Some((element, _, behind)) = split_element(OCTET_STRING, rest) {
+    while let Some((element, _, following)) = split_element(OCTET_STRING, rest) {
         parts.push(element);
-        rest = behind;
+        rest = following;
     }
     parts.sort_unstable();
-    tell("read in order", (&set_of(&parts), 1), count, read_proved, read_by_hand);
+    print_row("read in order", (&set_of(&parts), 1), count, read_proved, read_by_hand);
     for wanted in [1 << 8, 1 << 16] {
         let (bytes, count) = elements(33, wanted);
-        tell("sorted and written", (&bytes, count), count, sort_proved, sort_by_hand);
+        print_row("sorted and written", (&bytes, count), count, sort_proved, sort_by_hand);
     }
 }

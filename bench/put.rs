@@ -14,11 +14,11 @@ fn put_all<I>(
     let mut totals = Totals::default();
     let mut at = 0;
     for value in values {
-        let Some(behind) = write(out, at, value) else {
+        let Some(following) = write(out, at, value) else {
             return totals;
         };
         totals.elements = totals.elements.wrapping_add(1);
-        at = behind;
+        at = following;
     }
     totals.contents = at as u64;
     totals
@@ -91,9 +91,9 @@ pub fn put_length(out: &mut [u8], at: usize, length: u32) -> Option<usize> {
     let octets = length.to_be_bytes();
     let digits = &octets[length.leading_zeros() as usize / 8..];
     let at = put_octet(out, at, 0x80 | digits.len() as u8)?;
-    let behind = at + digits.len();
-    out.get_mut(at..behind)?.copy_from_slice(digits);
-    Some(behind)
+    let following = at + digits.len();
+    out.get_mut(at..following)?.copy_from_slice(digits);
+    Some(following)
 }
 
 /// Writes an OCTET STRING of the eight octets of a number.
@@ -126,10 +126,10 @@ pub fn to_slice(numbers: &[u64]) -> Totals {
     let mut totals = Totals::default();
     for number in numbers {
         let mut buf = [0; 16];
-        let Some(behind) = put_element(&mut buf, 0, *number) else {
+        let Some(following) = put_element(&mut buf, 0, *number) else {
             return totals;
         };
-        pass(&mut totals, black_box(&buf[..behind]));
+        pass(&mut totals, black_box(&buf[..following]));
     }
     totals
 }

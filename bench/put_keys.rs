@@ -35,9 +35,9 @@ struct Key<'a> {
 }
 
 #[inline(always)]
-fn key_of<'a>(wanted: &WantedKey, lent: &'a [u8]) -> Option<Key<'a>> {
-    let algorithm = lent.get(..wanted.algorithm as usize)?;
-    let key = lent.get(..wanted.key as usize)?;
+fn key_of<'a>(wanted: &WantedKey, borrowed: &'a [u8]) -> Option<Key<'a>> {
+    let algorithm = borrowed.get(..wanted.algorithm as usize)?;
+    let key = borrowed.get(..wanted.key as usize)?;
     if wanted.month >= 12 {
         return None;
     }
@@ -61,9 +61,9 @@ pub fn put_header(out: &mut [u8], at: usize, first: u8, length: usize) -> Option
 #[inline(always)]
 fn put_octets(out: &mut [u8], at: usize, octets: &[u8]) -> Option<usize> {
     let at = put_header(out, at, OCTET_STRING, octets.len())?;
-    let behind = at + octets.len();
-    out.get_mut(at..behind)?.copy_from_slice(octets);
-    Some(behind)
+    let after = at + octets.len();
+    out.get_mut(at..after)?.copy_from_slice(octets);
+    Some(after)
 }
 
 #[inline(always)]
@@ -76,10 +76,10 @@ fn put_key(out: &mut [u8], at: usize, key: &Key<'_>) -> Option<usize> {
 }
 
 #[inline(never)]
-pub fn count(wanted: &[WantedKey], lent: &[u8]) -> Totals {
+pub fn count(wanted: &[WantedKey], borrowed: &[u8]) -> Totals {
     let mut totals = Totals::default();
     for one in wanted {
-        let Some(len) = key_of(one, lent).and_then(|it| element_len(it.contents)) else {
+        let Some(len) = key_of(one, borrowed).and_then(|it| element_len(it.contents)) else {
             return totals;
         };
         totals.elements = totals.elements.wrapping_add(1);
@@ -89,38 +89,38 @@ pub fn count(wanted: &[WantedKey], lent: &[u8]) -> Totals {
 }
 
 #[inline(never)]
-pub fn keys(wanted: &[WantedKey], lent: &[u8], out: &mut [u8]) -> Totals {
+pub fn keys(wanted: &[WantedKey], borrowed: &[u8], out: &mut [u8]) -> Totals {
     let mut totals = Totals::default();
     let mut at = 0;
     for one in wanted {
-        let Some(behind) = key_of(one, lent).and_then(|it| put_key(out, at, &it)) else {
+        let Some(after) = key_of(one, borrowed).and_then(|it| put_key(out, at, &it)) else {
             return totals;
         };
         totals.elements = totals.elements.wrapping_add(1);
-        at = behind;
+        at = after;
     }
     totals.contents = at as u64;
     totals
 }
 
 #[inline(never)]
-pub fn to_slice(wanted: &[WantedKey], lent: &[u8]) -> Totals {
+pub fn to_slice(wanted: &[WantedKey], borrowed: &[u8]) -> Totals {
     let mut totals = Totals::default();
     let mut buf = [0; 1024];
     for one in wanted {
-        let Some(behind) = key_of(one, lent).and_then(|it| put_key(&mut buf, 0, &it)) else {
+        let Some(after) = key_of(one, borrowed).and_then(|it| put_key(&mut buf, 0, &it)) else {
             return totals;
         };
-        pass(&mut totals, black_box(&buf[..behind]));
+        pass(&mut totals, black_box(&buf[..after]));
     }
     totals
 }
 
 #[inline(never)]
-pub fn to_der(wanted: &[WantedKey], lent: &[u8]) -> Totals {
+pub fn to_der(wanted: &[WantedKey], borrowed: &[u8]) -> Totals {
     let mut totals = Totals::default();
     for one in wanted {
-        let Some(octets) = key_of(one, lent).and_then(|it| key_der(&it)) else {
+        let Some(octets) = key_of(one, borrowed).and_then(|it| key_der(&it)) else {
             return totals;
         };
         pass(&mut totals, black_box(&octets));

@@ -208,15 +208,15 @@ fn name<'a>(left: &mut Left<'a>) -> Option<&'a [u8]> {
     let mut levels = Left::of(contents);
     while !levels.is_empty() {
         let mut level = levels.part(SET)?;
-        let mut ahead: &[u8] = &[];
+        let mut upcoming: &[u8] = &[];
         while !level.is_empty() {
             let start = level.at;
             attribute(&mut level)?;
             let element = &level.bytes[start..level.at];
-            if element < ahead {
+            if element < upcoming {
                 return None;
             }
-            ahead = element;
+            upcoming = element;
         }
     }
     Some(contents)

@@ -56,13 +56,13 @@ pub struct Row {
 
 /// Measures the ways, which must all return and write the same, and prints their times and ratios.
 /// Of several ways by hand the fastest counts.
-pub fn tell<S: Clone + PartialEq>(row: &Row, ways: &[Way<'_, S>], scratch: &mut S) {
+pub fn print_row<S: Clone + PartialEq>(row: &Row, ways: &[Way<'_, S>], scratch: &mut S) {
     let clean = scratch.clone();
-    let told = (ways[0].run)(scratch);
-    assert_ne!(told.elements, 0, "{}", row.name);
+    let reported = (ways[0].run)(scratch);
+    assert_ne!(reported.elements, 0, "{}", row.name);
     for way in ways {
         let mut again = clean.clone();
-        assert_eq!((way.run)(&mut again), told, "{}", row.name);
+        assert_eq!((way.run)(&mut again), reported, "{}", row.name);
         assert!(again == *scratch, "{}", row.name);
     }
     let [library, by_hand, by_crate, by_mbedtls] = least_times(row, ways, scratch);

@@ -64,13 +64,13 @@ fn body_len(bytes: &[u8]) -> Option<usize> {
     let mut level = 1;
     let mut rest = bytes;
     loop {
-        let (&first, behind) = rest.split_first()?;
+        let (&first, following) = rest.split_first()?;
         if first == 0 {
-            let (&second, behind) = behind.split_first()?;
+            let (&second, following) = following.split_first()?;
             if second != 0 {
                 return None;
             }
-            rest = behind;
+            rest = following;
             level -= 1;
             if level == 0 {
                 return Some(bytes.len() - rest.len());
@@ -78,12 +78,12 @@ fn body_len(bytes: &[u8]) -> Option<usize> {
             continue;
         }
         let length = skip_identifier(BER_IDENTIFIERS, rest)?;
-        let (&octet, behind) = length.split_first()?;
+        let (&octet, following) = length.split_first()?;
         if octet == INDEFINITE {
             if !is_constructed(first) || level == MAX_LEVEL {
                 return None;
             }
-            rest = behind;
+            rest = following;
             level += 1;
         } else {
             (_, rest) = split_contents(length)?;

@@ -54,9 +54,9 @@ fn split_element(tag: u8, bytes: &[u8]) -> Option<(&[u8], &[u8])> {
 fn borrow_by_hand(bytes: &[u8]) -> Totals {
     let mut totals = Totals::default();
     let mut rest = bytes;
-    while let Some((contents, behind)) = split_element(OCTET_STRING, rest) {
+    while let Some((contents, following)) = split_element(OCTET_STRING, rest) {
         count(&mut totals, contents);
-        rest = behind;
+        rest = following;
     }
     totals
 }
@@ -65,12 +65,12 @@ fn borrow_by_hand(bytes: &[u8]) -> Totals {
 fn copy_by_hand(bytes: &[u8]) -> Totals {
     let mut totals = Totals::default();
     let mut rest = bytes;
-    while let Some((contents, behind)) = split_element(UTF8_STRING, rest) {
+    while let Some((contents, following)) = split_element(UTF8_STRING, rest) {
         let Ok(text) = std::str::from_utf8(contents) else {
             return totals;
         };
         count(&mut totals, black_box(text.to_owned()).as_bytes());
-        rest = behind;
+        rest = following;
     }
     totals
 }
@@ -80,11 +80,11 @@ fn join_by_hand(bytes: &[u8]) -> Totals {
     let mut totals = Totals::default();
     let mut rest = bytes;
     while let Some(segments) = rest.strip_prefix(&SEGMENTS) {
-        let Some((joined, behind)) = join_segments(segments) else {
+        let Some((joined, following)) = join_segments(segments) else {
             return totals;
         };
         count(&mut totals, &black_box(joined));
-        rest = behind;
+        rest = following;
     }
     totals
 }
@@ -95,12 +95,12 @@ fn join_segments(bytes: &[u8]) -> Option<(Vec<u8>, &[u8])> {
     let mut joined = Vec::new();
     let mut rest = bytes;
     loop {
-        if let Some(behind) = rest.strip_prefix(&END_MARK) {
-            return Some((joined, behind));
+        if let Some(following) = rest.strip_prefix(&END_MARK) {
+            return Some((joined, following));
         }
-        let (contents, behind) = split_element(OCTET_STRING, rest)?;
+        let (contents, following) = split_element(OCTET_STRING, rest)?;
         joined.extend_from_slice(contents);
-        rest = behind;
+        rest = following;
     }
 }
 
@@ -110,11 +110,11 @@ fn join_levels_by_hand(bytes: &[u8]) -> Totals {
     let mut rest = bytes;
     while let Some(segments) = rest.strip_prefix(&SEGMENTS) {
         let mut joined = Vec::new();
-        let Some(behind) = append_segments(segments, &mut joined) else {
+        let Some(following) = append_segments(segments, &mut joined) else {
             return totals;
         };
         count(&mut totals, &black_box(joined));
-        rest = behind;
+        rest = following;
     }
     totals
 }
@@ -124,16 +124,16 @@ fn join_levels_by_hand(bytes: &[u8]) -> Totals {
 fn append_segments<'a>(bytes: &'a [u8], joined: &mut Vec<u8>) -> Option<&'a [u8]> {
     let mut rest = bytes;
     loop {
-        if let Some(behind) = rest.strip_prefix(&END_MARK) {
-            return Some(behind);
+        if let Some(following) = rest.strip_prefix(&END_MARK) {
+            return Some(following);
         }
         if let Some(inside) = rest.strip_prefix(&SEGMENTS) {
             rest = append_segments(inside, joined)?;
             continue;
         }
-        let (contents, behind) = split_element(OCTET_STRING, rest)?;
+        let (contents, following) = split_element(OCTET_STRING, rest)?;
         joined.extend_from_slice(contents);
-        rest = behind;
+        rest = following;
     }
 }
 
@@ -177,7 +177,7 @@ fn segmented(levels: usize, segments: usize, bound: u64) -> (Vec<u8>, u64) {
     (out, count)
 }
 
-fn tell(
+fn print_row(
     name: &str,
     (bytes, count): &(Vec<u8>, u64),
     proved: fn(&[u8]) -> Totals,
@@ -195,21 +195,21 @@ fn tell(
 
 fn main() {
     let borrowed = elements(OCTET_STRING, 33);
-    tell(
+    print_row(
         "borrowed octets",
         &borrowed,
         proved_borrowed,
         borrow_by_hand,
     );
     let texts = elements(UTF8_STRING, 33);
-    tell("copied texts", &texts, proved_texts, copy_by_hand);
+    print_row("copied texts", &texts, proved_texts, copy_by_hand);
     for bound in [33, 2049] {
         let name = format!("16 segments of 0 to {} octets", bound - 1);
-        tell(&name, &segmented(1, 16, bound), proved_joined, join_by_hand);
+        print_row(&name, &segmented(1, 16, bound), proved_joined, join_by_hand);
     }
     for levels in [1, 4, 16, 64] {
         let name = format!("1024 segments of 0 to 32 octets, inside {levels} levels");
         let strings = segmented(levels, 1024, 33);
-        tell(&name, &strings, proved_joined, join_levels_by_hand);
+        print_row(&name, &strings, proved_joined, join_levels_by_hand);
     }
 }

@@ -16,7 +16,7 @@ use certificates::headers;
 use common::{Numbers, Totals, push_length, split_contents};
 use elements::{UNIVERSAL, count_contents, proved_walk, short_len, skip_identifier};
 use hand::{Element, element_at};
-use rounds::{By, Row, SIZES, tell, way};
+use rounds::{By, Row, SIZES, print_row, way};
 
 unsafe extern "C" {
     // A slice is passed as a pointer and then a length.
@@ -108,7 +108,7 @@ fn elements(mut next_tag: impl FnMut(&mut Numbers) -> u8, wanted: usize) -> (Vec
     not(beside),
     allow(unused_mut, reason = "the crate's ways are not there")
 )]
-fn tell_all(tags: &str, size: usize, (bytes, count): (&[u8], u64)) {
+fn print_row_all(tags: &str, size: usize, (bytes, count): (&[u8], u64)) {
     let row = |what: &str| Row {
         name: format!("{tags}, {what}"),
         size,
@@ -134,9 +134,9 @@ fn tell_all(tags: &str, size: usize, (bytes, count): (&[u8], u64)) {
         summed.push(way(By::Crate, |()| beside::sum(bytes)));
         counted.push(way(By::Crate, |()| beside::count(bytes)));
     }
-    tell(&row("left alone"), &left, &mut ());
-    tell(&row("summed"), &summed, &mut ());
-    tell(&row("counted"), &counted, &mut ());
+    print_row(&row("left alone"), &left, &mut ());
+    print_row(&row("summed"), &summed, &mut ());
+    print_row(&row("counted"), &counted, &mut ());
 }
 
 fn main() {
@@ -146,9 +146,9 @@ fn main() {
         let random =
             |numbers: &mut Numbers| universal[numbers.below(universal.len() as u64) as usize];
         let (bytes, count) = elements(random, wanted);
-        tell_all("random universal tags", wanted, (&bytes, count));
+        print_row_all("random universal tags", wanted, (&bytes, count));
         let mut tags = of_certificates.iter().cycle().map(|(tag, _)| *tag);
         let (bytes, count) = elements(|_| tags.next().unwrap_or(0), wanted);
-        tell_all("tags of certificates", wanted, (&bytes, count));
+        print_row_all("tags of certificates", wanted, (&bytes, count));
     }
 }

@@ -13,7 +13,7 @@ mod rounds;
 mod written;
 
 use common::{Numbers, Totals};
-use rounds::{By, Row, SIZES, tell, way};
+use rounds::{By, Row, SIZES, print_row, way};
 use written::WantedKey;
 
 /// A way to compute something from keys, and a way to write them.
@@ -42,12 +42,12 @@ fn wanted_keys(bound: u64, size: usize) -> Vec<WantedKey> {
 
 /// A row of what is computed from keys, by the library, by hand and by the crate.
 macro_rules! making {
-    ($name:literal, $library:ident, $hand:ident, $bound:expr, $size:expr, $lent:expr) => {{
+    ($name:literal, $library:ident, $hand:ident, $bound:expr, $size:expr, $borrowed:expr) => {{
         let wanted = wanted_keys($bound, $size);
-        let octets = put_keys::count(&wanted, $lent).contents as usize;
+        let octets = put_keys::count(&wanted, $borrowed).contents as usize;
         let run = |by, make: Making| {
-            let (wanted, lent) = (&wanted[..], $lent);
-            way(by, move |()| make(wanted, lent))
+            let (wanted, borrowed) = (&wanted[..], $borrowed);
+            way(by, move |()| make(wanted, borrowed))
         };
         #[allow(unused_mut, reason = "the crate's way may not be there")]
         let mut ways = vec![
@@ -56,7 +56,7 @@ macro_rules! making {
         ];
         #[cfg(beside)]
         ways.push(run(By::Crate, beside::$hand));
-        tell(
+        print_row(
             &row($name, $bound, $size, octets, wanted.len()),
             &ways,
             &mut (),
@@ -73,13 +73,13 @@ fn row(name: &str, bound: u64, size: usize, octets: usize, count: usize) -> Row 
     }
 }
 
-fn tell_putting(bound: u64, size: usize, lent: &[u8]) {
+fn print_row_putting(bound: u64, size: usize, borrowed: &[u8]) {
     let wanted = wanted_keys(bound, size);
-    let octets = put_keys::count(&wanted, lent).contents as usize;
+    let octets = put_keys::count(&wanted, borrowed).contents as usize;
     let mut out = vec![0; octets];
     let run = |by, put: Putting| {
         let wanted = &wanted[..];
-        way(by, move |out: &mut Vec<u8>| put(wanted, lent, out))
+        way(by, move |out: &mut Vec<u8>| put(wanted, borrowed, out))
     };
     #[allow(unused_mut, reason = "as above")]
     let mut ways = vec![
@@ -88,7 +88,7 @@ fn tell_putting(bound: u64, size: usize, lent: &[u8]) {
     ];
     #[cfg(beside)]
     ways.push(run(By::Crate, beside::keys));
-    tell(
+    print_row(
         &row("into one writer", bound, size, octets, wanted.len()),
         &ways,
         &mut out,
@@ -97,20 +97,20 @@ fn tell_putting(bound: u64, size: usize, lent: &[u8]) {
 
 fn main() {
     let mut numbers = Numbers(0x2545_F491_4F6C_DD1D);
-    let lent: Vec<u8> = (0..LENT).map(|_| numbers.next() as u8).collect();
+    let borrowed: Vec<u8> = (0..LENT).map(|_| numbers.next() as u8).collect();
     for size in SIZES {
         for bound in [33, 513] {
-            making!("counted", count_keys, count, bound, size, &lent);
-            tell_putting(bound, size, &lent);
+            making!("counted", count_keys, count, bound, size, &borrowed);
+            print_row_putting(bound, size, &borrowed);
             making!(
                 "by encode_to_slice",
                 keys_to_slice,
                 to_slice,
                 bound,
                 size,
-                &lent
+                &borrowed
             );
-            making!("by to_der", keys_to_der, to_der, bound, size, &lent);
+            making!("by to_der", keys_to_der, to_der, bound, size, &borrowed);
         }
     }
 }

@@ -4,13 +4,13 @@ use crate::put::pass;
 use crate::written::WantedKey;
 use der::{Encode, EncodeValue, FixedTag, Length, Result, SliceWriter, Tag, Writer};
 
-struct Lent<'a>(&'a [u8]);
+struct Borrowed<'a>(&'a [u8]);
 
-impl FixedTag for Lent<'_> {
+impl FixedTag for Borrowed<'_> {
     const TAG: Tag = Tag::OctetString;
 }
 
-impl EncodeValue for Lent<'_> {
+impl EncodeValue for Borrowed<'_> {
     fn value_len(&self) -> Result<Length> {
         Length::try_from(self.0.len())
     }
@@ -36,7 +36,7 @@ impl EncodeValue for Month {
     }
 }
 
-struct Algorithm<'a>(Lent<'a>, Month);
+struct Algorithm<'a>(Borrowed<'a>, Month);
 
 impl FixedTag for Algorithm<'_> {
     const TAG: Tag = Tag::Sequence;
@@ -53,7 +53,7 @@ impl EncodeValue for Algorithm<'_> {
     }
 }
 
-struct Key<'a>(Algorithm<'a>, Lent<'a>);
+struct Key<'a>(Algorithm<'a>, Borrowed<'a>);
 
 impl FixedTag for Key<'_> {
     const TAG: Tag = Tag::Sequence;
@@ -71,18 +71,18 @@ impl EncodeValue for Key<'_> {
 }
 
 #[inline(always)]
-fn key_of<'a>(wanted: &WantedKey, lent: &'a [u8]) -> Option<Key<'a>> {
-    let algorithm = lent.get(..wanted.algorithm as usize)?;
-    let key = lent.get(..wanted.key as usize)?;
+fn key_of<'a>(wanted: &WantedKey, borrowed: &'a [u8]) -> Option<Key<'a>> {
+    let algorithm = borrowed.get(..wanted.algorithm as usize)?;
+    let key = borrowed.get(..wanted.key as usize)?;
     let month = (wanted.month < 12).then_some(Month(wanted.month))?;
-    Some(Key(Algorithm(Lent(algorithm), month), Lent(key)))
+    Some(Key(Algorithm(Borrowed(algorithm), month), Borrowed(key)))
 }
 
 #[inline(never)]
-pub fn count(wanted: &[WantedKey], lent: &[u8]) -> Totals {
+pub fn count(wanted: &[WantedKey], borrowed: &[u8]) -> Totals {
     let mut totals = Totals::default();
     for one in wanted {
-        let Some(Ok(len)) = key_of(one, lent).map(|it| it.encoded_len()) else {
+        let Some(Ok(len)) = key_of(one, borrowed).map(|it| it.encoded_len()) else {
             return totals;
         };
         totals.elements = totals.elements.wrapping_add(1);
@@ -92,11 +92,11 @@ pub fn count(wanted: &[WantedKey], lent: &[u8]) -> Totals {
 }
 
 #[inline(never)]
-pub fn keys(wanted: &[WantedKey], lent: &[u8], out: &mut [u8]) -> Totals {
+pub fn keys(wanted: &[WantedKey], borrowed: &[u8], out: &mut [u8]) -> Totals {
     let mut totals = Totals::default();
     let mut writer = SliceWriter::new(out);
     for one in wanted {
-        let Some(Ok(())) = key_of(one, lent).map(|it| it.encode(&mut writer)) else {
+        let Some(Ok(())) = key_of(one, borrowed).map(|it| it.encode(&mut writer)) else {
             return totals;
         };
         totals.elements = totals.elements.wrapping_add(1);
@@ -108,11 +108,11 @@ pub fn keys(wanted: &[WantedKey], lent: &[u8], out: &mut [u8]) -> Totals {
 }
 
 #[inline(never)]
-pub fn to_slice(wanted: &[WantedKey], lent: &[u8]) -> Totals {
+pub fn to_slice(wanted: &[WantedKey], borrowed: &[u8]) -> Totals {
     let mut totals = Totals::default();
     let mut buf = [0; 1024];
     for one in wanted {
-        let Some(key) = key_of(one, lent) else {
+        let Some(key) = key_of(one, borrowed) else {
             return totals;
         };
         let Ok(octets) = key.encode_to_slice(&mut buf) else {
@@ -124,10 +124,10 @@ pub fn to_slice(wanted: &[WantedKey], lent: &[u8]) -> Totals {
 }
 
 #[inline(never)]
-pub fn to_der(wanted: &[WantedKey], lent: &[u8]) -> Totals {
+pub fn to_der(wanted: &[WantedKey], borrowed: &[u8]) -> Totals {
     let mut totals = Totals::default();
     for one in wanted {
-        let Some(Ok(octets)) = key_of(one, lent).map(|it| it.to_der()) else {
+        let Some(Ok(octets)) = key_of(one, borrowed).map(|it| it.to_der()) else {
             return totals;
         };
         pass(&mut totals, &octets);

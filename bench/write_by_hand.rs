@@ -26,8 +26,8 @@ struct KeyLengths {
 
 pub fn certificate_to_slice<'b>(one: &Certificate<'_>, out: &'b mut [u8]) -> Option<&'b [u8]> {
     let lengths = lengths_of(one)?;
-    let behind = put_certificate(out, one, &lengths)?;
-    out.get(..behind)
+    let after = put_certificate(out, one, &lengths)?;
+    out.get(..after)
 }
 
 pub fn certificate_to_der(one: &Certificate<'_>) -> Option<Vec<u8>> {
@@ -39,8 +39,8 @@ pub fn certificate_to_der(one: &Certificate<'_>) -> Option<Vec<u8>> {
 
 pub fn public_key_to_slice<'b>(key: &PublicKey<'_>, out: &'b mut [u8]) -> Option<&'b [u8]> {
     let lengths = key_lengths_of(key)?;
-    let behind = put_public_key(out, 0, key, &lengths)?;
-    out.get(..behind)
+    let after = put_public_key(out, 0, key, &lengths)?;
+    out.get(..after)
 }
 
 pub fn public_key_to_der(key: &PublicKey<'_>) -> Option<Vec<u8>> {
@@ -112,9 +112,9 @@ fn lengths_of(one: &Certificate<'_>) -> Option<Lengths> {
 #[inline(always)]
 fn put(out: &mut [u8], at: usize, first: u8, contents: &[u8]) -> Option<usize> {
     let at = put_header(out, at, first, contents.len())?;
-    let behind = at + contents.len();
-    out.get_mut(at..behind)?.copy_from_slice(contents);
-    Some(behind)
+    let after = at + contents.len();
+    out.get_mut(at..after)?.copy_from_slice(contents);
+    Some(after)
 }
 
 #[inline(always)]

@@ -17,7 +17,7 @@ mod written;
 
 use certificates::headers;
 use common::{Numbers, Totals};
-use rounds::{By, Row, SIZES, Way, tell, way};
+use rounds::{By, Row, SIZES, Way, print_row, way};
 use written::Wanted;
 
 /// A way to write an input to octets.
@@ -38,7 +38,7 @@ fn octets_of<I>(put: Putting<I>, input: &[I], most: usize) -> usize {
     put(input, &mut vec![0; most]).contents as usize
 }
 
-fn tell_putting<I>(ways: &Ways<Putting<I>>, size: usize, input: &[I], values: u64) {
+fn print_row_putting<I>(ways: &Ways<Putting<I>>, size: usize, input: &[I], values: u64) {
     let octets = octets_of(ways.by_hand, input, 2 * size);
     let row = Row {
         name: ways.name.to_owned(),
@@ -48,10 +48,10 @@ fn tell_putting<I>(ways: &Ways<Putting<I>>, size: usize, input: &[I], values: u6
     };
     let mut out = vec![0; octets];
     let run = |by, put: Putting<I>| way(by, move |out: &mut Vec<u8>| put(input, out));
-    tell(&row, &all_of(ways, run), &mut out);
+    print_row(&row, &all_of(ways, run), &mut out);
 }
 
-fn tell_making(ways: &Ways<Making>, size: usize, numbers: &[u64]) {
+fn print_row_making(ways: &Ways<Making>, size: usize, numbers: &[u64]) {
     let row = Row {
         name: ways.name.to_owned(),
         size,
@@ -59,7 +59,7 @@ fn tell_making(ways: &Ways<Making>, size: usize, numbers: &[u64]) {
         count: numbers.len() as u64,
     };
     let run = |by, make: Making| way(by, move |()| make(numbers));
-    tell(&row, &all_of(ways, run), &mut ());
+    print_row(&row, &all_of(ways, run), &mut ());
 }
 
 fn all_of<'a, F: Copy, S>(ways: &Ways<F>, run: impl Fn(By, F) -> Way<'a, S>) -> Vec<Way<'a, S>> {
@@ -79,7 +79,7 @@ macro_rules! beside {
     }};
 }
 
-fn tell_headers(wanted: usize) {
+fn print_row_headers(wanted: usize) {
     let of_certificates = headers(1 << 20);
     let wanted_headers: Vec<Wanted> = of_certificates
         .iter()
@@ -93,7 +93,7 @@ fn tell_headers(wanted: usize) {
         by_hand: put::headers,
         by_crate: beside!(headers),
     };
-    tell_putting(&headers, wanted, &wanted_headers, 1);
+    print_row_putting(&headers, wanted, &wanted_headers, 1);
     let lengths: Vec<u32> = wanted_headers[..wanted / 10]
         .iter()
         .map(|it| it.length)
@@ -104,17 +104,17 @@ fn tell_headers(wanted: usize) {
         by_hand: put::known,
         by_crate: beside!(known),
     };
-    tell_putting(&known, wanted, &lengths, 4);
+    print_row_putting(&known, wanted, &lengths, 4);
 }
 
-fn tell_elements(numbers: &[u64], wanted: usize) {
+fn print_row_elements(numbers: &[u64], wanted: usize) {
     let elements = Ways {
         name: "elements into one writer",
         library: written::elements as Putting<u64>,
         by_hand: put::elements,
         by_crate: beside!(elements),
     };
-    tell_putting(&elements, wanted, numbers, 1);
+    print_row_putting(&elements, wanted, numbers, 1);
     let making = [
         Ways {
             name: "elements by encode_to_slice",
@@ -136,11 +136,11 @@ fn tell_elements(numbers: &[u64], wanted: usize) {
         },
     ];
     for ways in &making {
-        tell_making(ways, wanted, numbers);
+        print_row_making(ways, wanted, numbers);
     }
 }
 
-fn tell_sequences(numbers: &[u64], wanted: usize) {
+fn print_row_sequences(numbers: &[u64], wanted: usize) {
     let inlined = Ways {
         name: "SEQUENCEs, closure inlined",
         library: written::sequences as Putting<u64>,
@@ -153,16 +153,16 @@ fn tell_sequences(numbers: &[u64], wanted: usize) {
         by_hand: put::sequences,
         by_crate: beside!(called),
     };
-    tell_putting(&inlined, wanted, numbers, 1);
-    tell_putting(&called, wanted, numbers, 1);
+    print_row_putting(&inlined, wanted, numbers, 1);
+    print_row_putting(&called, wanted, numbers, 1);
 }
 
 fn main() {
     for wanted in SIZES {
         let mut numbers = Numbers(0x9E37_79B9_7F4A_7C15);
         let numbers: Vec<u64> = (0..wanted / 10).map(|_| numbers.next()).collect();
-        tell_headers(wanted);
-        tell_elements(&numbers, wanted);
-        tell_sequences(&numbers[..wanted / 42], wanted);
+        print_row_headers(wanted);
+        print_row_elements(&numbers, wanted);
+        print_row_sequences(&numbers[..wanted / 42], wanted);
     }
 }

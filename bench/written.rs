@@ -96,17 +96,17 @@ macro_rules! handed {
 /// The same for keys, and for the octets that they borrow from.
 macro_rules! keys {
     ($name:ident, $library:ident) => {
-        pub fn $name(wanted: &[WantedKey], lent: &[u8]) -> Totals {
-            let (at, len) = (lent.as_ptr(), lent.len());
+        pub fn $name(wanted: &[WantedKey], borrowed: &[u8]) -> Totals {
+            let (at, len) = (borrowed.as_ptr(), borrowed.len());
             // SAFETY: pointers and lengths are those of slices, which the call only reads.
             unsafe { library::$library(wanted.as_ptr(), wanted.len(), at, len) }
         }
     };
 }
 
-pub fn keys(wanted: &[WantedKey], lent: &[u8], out: &mut [u8]) -> Totals {
+pub fn keys(wanted: &[WantedKey], borrowed: &[u8], out: &mut [u8]) -> Totals {
     let (at, len) = (out.as_mut_ptr(), out.len());
-    let (from, count) = (lent.as_ptr(), lent.len());
+    let (from, count) = (borrowed.as_ptr(), borrowed.len());
     // SAFETY: pointers and lengths are those of slices: the call reads the first two, and writes
     // to the third.
     unsafe { library::der_bench_put_keys(wanted.as_ptr(), wanted.len(), from, count, at, len) }

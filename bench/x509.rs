@@ -57,14 +57,14 @@ fn agree(name: &str, file: &[u8]) {
 
 /// Prints the minimum time of each way, in nanoseconds for each of `count` things. The rounds
 /// alternate between the ways, so that all see the same machine.
-fn tell(name: &str, size: usize, count: u64, ways: &[Way<'_>]) {
+fn print_row(name: &str, size: usize, count: u64, ways: &[Way<'_>]) {
     let wanted = (ways[0].1)();
     assert_eq!(wanted.elements, count, "{name}");
     for (way, run) in ways {
-        let told = run();
-        let tells_more = told.contents != 0;
-        assert_eq!(told.elements, count, "{name} by {way}");
-        assert!(!tells_more || told == wanted, "{name} by {way}");
+        let reported = run();
+        let prints_more = reported.contents != 0;
+        assert_eq!(reported.elements, count, "{name} by {way}");
+        assert!(!prints_more || reported == wanted, "{name} by {way}");
     }
     let mut least = vec![f64::INFINITY; ways.len()];
     let begun = Instant::now();
@@ -82,7 +82,7 @@ fn tell(name: &str, size: usize, count: u64, ways: &[Way<'_>]) {
     }
 }
 
-fn tell_reading(name: &str, file: &[u8]) {
+fn print_row_reading(name: &str, file: &[u8]) {
     for size in &SIZES[..2] {
         let count = size / file.len();
         let bytes = file.repeat(count);
@@ -95,11 +95,11 @@ fn tell_reading(name: &str, file: &[u8]) {
             ("mbedTLS", Box::new(|| ways::read_by_mbedtls(bytes))),
             ("a walk by hand", Box::new(|| ways::walked(bytes))),
         ];
-        tell(&format!("{name} read"), *size, count as u64, &ways);
+        print_row(&format!("{name} read"), *size, count as u64, &ways);
     }
 }
 
-fn tell_writing(name: &str, file: &[u8]) {
+fn print_row_writing(name: &str, file: &[u8]) {
     let (mut out, mut other) = (vec![0; file.len()], vec![0; file.len()]);
     ways::to_slice(file, 1, &mut out);
     ways::to_slice_by_hand(file, 1, &mut other);
@@ -115,7 +115,7 @@ fn tell_writing(name: &str, file: &[u8]) {
             Box::new(|| ways::to_slice_by_hand(file, TIMES, &mut other.borrow_mut())),
         ),
     ];
-    tell(&format!("{name} by encode_to_slice"), 1, TIMES, &ways);
+    print_row(&format!("{name} by encode_to_slice"), 1, TIMES, &ways);
     let ways: Vec<Way<'_>> = vec![
         ("library", Box::new(|| ways::to_der(file, TIMES))),
         ("by hand", Box::new(|| ways::to_der_by_hand(file, TIMES))),
@@ -124,23 +124,23 @@ fn tell_writing(name: &str, file: &[u8]) {
             Box::new(|| ways::written_by_openssl(file, TIMES)),
         ),
     ];
-    tell(&format!("{name} by to_der"), 1, TIMES, &ways);
+    print_row(&format!("{name} by to_der"), 1, TIMES, &ways);
 }
 
-fn tell_writing_key(name: &str, file: &[u8]) {
+fn print_row_writing_key(name: &str, file: &[u8]) {
     let key = ways::public_key_of(file);
-    let (key, room) = (&key[..], std::cell::RefCell::new(vec![0; key.len()]));
+    let (key, space) = (&key[..], std::cell::RefCell::new(vec![0; key.len()]));
     let ways: Vec<Way<'_>> = vec![
         (
             "library",
-            Box::new(|| ways::key_to_slice(key, TIMES, &mut room.borrow_mut())),
+            Box::new(|| ways::key_to_slice(key, TIMES, &mut space.borrow_mut())),
         ),
         (
             "by hand",
-            Box::new(|| ways::key_to_slice_by_hand(key, TIMES, &mut room.borrow_mut())),
+            Box::new(|| ways::key_to_slice_by_hand(key, TIMES, &mut space.borrow_mut())),
         ),
     ];
-    tell(
+    print_row(
         &format!("its key of {} octets by encode_to_slice, {name}", key.len()),
         1,
         TIMES,
@@ -150,7 +150,7 @@ fn tell_writing_key(name: &str, file: &[u8]) {
         ("library", Box::new(|| ways::key_to_der(key, TIMES))),
         ("by hand", Box::new(|| ways::key_to_der_by_hand(key, TIMES))),
     ];
-    tell(&format!("its key by to_der, {name}"), 1, TIMES, &ways);
+    print_row(&format!("its key by to_der, {name}"), 1, TIMES, &ways);
 }
 
 fn main() {
@@ -165,9 +165,9 @@ fn main() {
         agree(name, &file);
         if is_measured {
             let name = format!("{name}, {} octets,", file.len());
-            tell_reading(&name, &file);
-            tell_writing(&name, &file);
-            tell_writing_key(&name, &file);
+            print_row_reading(&name, &file);
+            print_row_writing(&name, &file);
+            print_row_writing_key(&name, &file);
         }
     }
 }

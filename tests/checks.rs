@@ -1,5 +1,4 @@
-//! Assertions as functions. The checker proves `assert_eq!` anew wherever it is used, which takes
-//! seconds; these functions are proved once.
+//! Assertions as functions. Those whose names end in `_at` also print the row that failed.
 use std::fmt::{Debug, Display};
 use std::process::Abort;
 

@@ -1,5 +1,5 @@
-//! Tests of `spki`, `pkcs8` and `x509` over keys, certificates and requests that `openssl` made, as it
-//! writes them with `-outform DER`.
+//! Tests of `spki`, `pkcs8` and `x509` over keys, certificates and requests that `openssl` made, as
+//! it writes them with `-outform DER`.
 
 mod certificates;
 mod first_version;

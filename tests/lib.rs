@@ -1,4 +1,5 @@
-//! Tests of the libraries, made from outside as a user makes them. They are run, and not proved.
+//! Tests of the libraries, which call them from outside like a user's code. They are run, and not
+//! proved.
 #![tactic(auto)]
 
 #[cfg(test)]

@@ -1,5 +1,5 @@
-//! Tests of the values of `der_base` and of their printed texts against outside examples, which no
-//! clause does.
+//! Tests of the values of `der_base` and of their printed texts against examples from outside the
+//! library, with which no clause compares them.
 
 mod class;
 mod error;

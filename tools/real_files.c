@@ -2,10 +2,10 @@
  *
  *     real_files KIND FILE ..    each as it is
  *     real_files KIND! FILE ..   also with each octet in turn changed to each other value, cut at each length,
- *                                and with octets behind it
+ *                                and with octets after it
  *
  * A line for each file has what it is read as: 0 refused, 1 written back to the same octets, 2 to others; and, where
- * it is changed, how many of the changes were refused and how many read. A cut, or octets behind, are never read. */
+ * it is changed, how many of the changes were refused and how many read. A cut, or octets after, are never read. */
 #include <stdint.h>
 #include <stdio.h>
 #include <stdlib.h>
@@ -16,12 +16,12 @@ enum { ROOM = 1 << 20, PAGE = 1 << 12, REFUSED = 0, SAME = 1 };
 
 uint8_t der_bench_reads_back(uint8_t kind, const uint8_t *octets, size_t len);
 
-static uint8_t *room;
+static uint8_t *space;
 
-/* The octets stand ahead of a page that may not be read. */
+/* The octets stand next of a page that may not be read. */
 static uint8_t read_back(uint8_t kind, const uint8_t *octets, size_t len)
 {
-    uint8_t *at = room + ROOM - len;
+    uint8_t *at = space + ROOM - len;
     memcpy(at, octets, len);
     return der_bench_reads_back(kind, at, len);
 }
@@ -35,7 +35,7 @@ static void give_up(const char *name, const char *why, size_t at)
 static void change(uint8_t kind, const char *name, const uint8_t *octets, size_t len)
 {
     size_t printed[2] = {0, 0};
-    uint8_t *at = room + ROOM - len;
+    uint8_t *at = space + ROOM - len;
     memcpy(at, octets, len);
     for (size_t i = 0; i < len; i += 1) {
         for (unsigned by = 1; by < 256; by += 1) {
@@ -59,14 +59,14 @@ static void cut(uint8_t kind, const char *name, const uint8_t *octets, size_t le
 
 static void go_on(uint8_t kind, const char *name, uint8_t *octets, size_t len)
 {
-    for (unsigned behind = 0; behind < 256; behind += 1) {
-        octets[len] = (uint8_t)behind;
+    for (unsigned after = 0; after < 256; after += 1) {
+        octets[len] = (uint8_t)after;
         if (read_back(kind, octets, len + 1) != REFUSED)
-            give_up(name, "is read with an octet behind it", behind);
+            give_up(name, "is read with an octet after it", after);
     }
     memcpy(octets + len, octets, len);
     if (read_back(kind, octets, 2 * len) != REFUSED)
-        give_up(name, "is read with itself behind it", len);
+        give_up(name, "is read with itself after it", len);
 }
 
 int main(int count, char **words)
@@ -74,8 +74,8 @@ int main(int count, char **words)
     static uint8_t octets[ROOM];
     if (count < 3)
         return 2;
-    room = mmap(NULL, ROOM + PAGE, PROT_READ | PROT_WRITE, MAP_PRIVATE | MAP_ANONYMOUS, -1, 0);
-    if (room == MAP_FAILED || mprotect(room + ROOM, PAGE, PROT_NONE) != 0)
+    space = mmap(NULL, ROOM + PAGE, PROT_READ | PROT_WRITE, MAP_PRIVATE | MAP_ANONYMOUS, -1, 0);
+    if (space == MAP_FAILED || mprotect(space + ROOM, PAGE, PROT_NONE) != 0)
         return 2;
     uint8_t kind = (uint8_t)atoi(words[1]);
     for (int i = 2; i < count; i += 1) {

@@ -78,10 +78,10 @@ typedef struct der_error {
     uint32_t second;   /* depends on |kind|; the tag number of |actual| if it is 31 or more */
 } der_error;
 
-/* der_error_text writes the text of |error| into |text|, truncated to |room| octets, and returns
- * how many octets it wrote. It writes "no error" if |error| is not an error that a function here
- * returns. No zero octet follows the text. 160 octets are enough for every text. */
-size_t der_error_text(der_error error, char *text, size_t room);
+/* der_error_text writes the text of |error| into |text|, truncated to |capacity| octets, and
+ * returns how many octets it wrote. It writes "no error" if |error| is not an error that a function
+ * here returns. No zero octet follows the text. 160 octets are enough for every text. */
+size_t der_error_text(der_error error, char *text, size_t capacity);
 
 /* Tags. */
 
@@ -190,13 +190,14 @@ der_error der_skip(der_reader *reader);
 der_error der_expect(der_reader *reader, der_tag tag, der_element *element);
 
 /* der_enter consumes an element that has this tag, and makes |inside| read its contents. Fails like
- * |der_expect|, and with DER_NESTING_DEPTH inside 64 others. |inside| ends where the contents end:
- * call |der_finish| on it. */
+ * |der_expect|, and with DER_NESTING_DEPTH if the element is inside 64 others. |inside| ends where
+ * the contents end: call |der_finish| on it. */
 der_error der_enter(der_reader *reader, der_tag tag, der_reader *inside);
 
 /* der_open makes |inside| read the contents of |element|, which |reader| or a copy of it has read
  * before. Fails with DER_READER if the element does not lie in the octets of the reader, with
- * DER_FAILED if the reader has failed, and with DER_NESTING_DEPTH inside 64 others. */
+ * DER_FAILED if the reader has failed, and with DER_NESTING_DEPTH if the element is inside 64
+ * others. */
 der_error der_open(const der_reader *reader, const der_element *element, der_reader *inside);
 
 /* der_scan consumes indefinite-length contents and the end-of-contents octets that close them
@@ -218,12 +219,12 @@ typedef struct der_node {
 } der_node;
 
 /* der_read_tree reads all elements that are left and everything inside constructed ones into
- * |nodes|, an array of |room|, each element before those inside it, and sets |*count| to their
- * number. It descends 32 levels; an element deeper than that is one node. Before the call each
- * |bool| in |nodes| is 0 or 1, and all else in them is arbitrary (an array of zeros will do). Fails
- * like |der_read_element|, and with DER_OVERLENGTH if |room| nodes are too few; the reader has then
- * failed, and |*count| nodes are set. */
-der_error der_read_tree(der_reader *reader, der_node *nodes, size_t room, size_t *count);
+ * |nodes|, an array of |capacity| nodes, each element before those inside it, and sets |*count| to
+ * their number. It descends 32 levels; an element deeper than that is one node. Before the call
+ * each |bool| in |nodes| is 0 or 1, and all else in them is arbitrary (an array of zeros will do).
+ * Fails like |der_read_element|, and with DER_OVERLENGTH if |capacity| nodes are too few; the
+ * reader has then failed, and |*count| nodes are set. */
+der_error der_read_tree(der_reader *reader, der_node *nodes, size_t capacity, size_t *count);
 
 /* der_compare compares two whole elements under the Distinguished Encoding Rules in the order of a
  * SET OF (X.690 11.6), and sets |*order| to -1, 0 or 1. Fails if |first|, or else |second|, is not
@@ -254,8 +255,8 @@ size_t der_written(const der_writer *writer);
 der_error der_writer_finish(const der_writer *writer);
 
 /* der_write writes |length| octets unchanged. Fails with DER_FAILED, DER_OVERFLOW and
- * DER_OVERLENGTH; nothing is written then, and the writer has failed: every later call on it fails.
- * */
+ * DER_OVERLENGTH. Nothing is written then, and the writer has failed, so that every later call on
+ * it fails. */
 der_error der_write(der_writer *writer, const uint8_t *octets, size_t length);
 
 /* der_write_header writes the header of an element of |tag| with |length| octets of contents. Fails

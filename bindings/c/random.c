@@ -143,14 +143,14 @@ static void see_tree(const uint8_t *octets, uint32_t count, bool ber)
     if ((error.kind != 0) != is_refused || number != wanted)
         stop("a tree", octets, count);
     /* space for exactly that number of nodes, and for one less */
-    for (size_t room = number; !is_refused && room + 1 >= number && room <= number; room--) {
+    for (size_t capacity = number; !is_refused && capacity + 1 >= number && capacity <= number; capacity--) {
         der_reader again = DER_READER;
-        size_t told = 0;
+        size_t reported = 0;
         der_reader_init(octets, count, ber, &again);
-        error = der_read_tree(&again, others + 64, room, &told);
-        if (error.kind != (room < number ? DER_OVERLENGTH : 0) || told != room ||
-            der_finish(&again).kind != (room < number ? DER_FAILED : 0))
-            stop("a tree in little room", octets, count);
+        error = der_read_tree(&again, others + 64, capacity, &reported);
+        if (error.kind != (capacity < number ? DER_OVERLENGTH : 0) || reported != capacity ||
+            der_finish(&again).kind != (capacity < number ? DER_FAILED : 0))
+            stop("a tree in a small array", octets, count);
     }
     for (size_t i = 0; i < number; i++)
         if (!is_same(&nodes[i], &others[i]))
@@ -159,7 +159,7 @@ static void see_tree(const uint8_t *octets, uint32_t count, bool ber)
 
 /* writes an element inside another with der_begin and der_end, and compares it with the same
  * element written with its lengths computed first */
-static void see_parts(der_tag tag, uint32_t length, uint32_t room)
+static void see_parts(der_tag tag, uint32_t length, uint32_t capacity)
 {
     static uint8_t written[1100], wanted[1100], contents[1024];
     der_writer writer = DER_WRITER, other = DER_WRITER;
@@ -175,7 +175,7 @@ static void see_parts(der_tag tag, uint32_t length, uint32_t room)
     der_write_header(&other, DER_SEQUENCE, inside + 2);
     der_write_element(&other, tag, contents, length);
     der_write_element(&other, DER_NULL, NULL, 0);
-    der_writer_init(written, room, &writer);
+    der_writer_init(written, capacity, &writer);
     der_begin(&writer, DER_SEQUENCE, &outer);
     der_begin(&writer, tag, &inner);
     der_write(&writer, contents, length);
@@ -183,22 +183,22 @@ static void see_parts(der_tag tag, uint32_t length, uint32_t room)
     der_write_element(&writer, DER_NULL, NULL, 0);
     der_end(&writer, outer);
     bool is_refused = der_writer_finish(&writer).kind != 0;
-    if (is_refused != (room < whole) || (!is_refused && (der_written(&writer) != whole || memcmp(written, wanted, whole))))
+    if (is_refused != (capacity < whole) || (!is_refused && (der_written(&writer) != whole || memcmp(written, wanted, whole))))
         stop("an element with another inside", contents, length);
-    for (uint32_t i = room; i < sizeof written; i++)
+    for (uint32_t i = capacity; i < sizeof written; i++)
         if (written[i] != 0xEE)
-            stop("an octet behind the room", contents, length);
+            stop("an octet after the buffer", contents, length);
     if (!is_refused && (der_end(&writer, 0).kind != DER_OVERLENGTH || der_end(&writer, 1).kind != DER_FAILED))
         stop("an end without a begin", contents, length);
 }
 
 /* the function that docs/BINDINGS.md shows */
-static bool join(const der_reader *reader, const der_element *string, uint8_t *out, size_t room, size_t *count)
+static bool join(const der_reader *reader, const der_element *string, uint8_t *out, size_t capacity, size_t *count)
 {
     der_reader inside = DER_READER;
     der_element segment = DER_ELEMENT;
     if (!string->constructed) {
-        if (string->length > room - *count)
+        if (string->length > capacity - *count)
             return false;
         memcpy(out + *count, string->contents, string->length);
         *count += string->length;
@@ -207,7 +207,7 @@ static bool join(const der_reader *reader, const der_element *string, uint8_t *o
     if (der_open(reader, string, &inside).kind)
         return false;
     while (!der_is_finished(&inside))
-        if (der_expect(&inside, DER_OCTET_STRING, &segment).kind || !join(&inside, &segment, out, room, count))
+        if (der_expect(&inside, DER_OCTET_STRING, &segment).kind || !join(&inside, &segment, out, capacity, count))
             return false;
     return true;
 }
@@ -218,15 +218,15 @@ static void see_segments(void)
                                      0xBB, 0xCC, 0x00, 0x00, 0x24, 0x03, 0x04, 0x01, 0xDD, 0x00, 0x00};
     static const uint8_t wanted[] = {0xAA, 0xBB, 0xCC, 0xDD};
     uint8_t out[4];
-    for (size_t room = 3; room <= 4; room++) {
+    for (size_t capacity = 3; capacity <= 4; capacity++) {
         der_reader reader = DER_READER;
         der_element string = DER_ELEMENT;
         size_t count = 0;
         der_reader_init(octets, sizeof octets, true, &reader);
         if (der_expect(&reader, DER_OCTET_STRING, &string).kind || der_finish(&reader).kind ||
-            join(&reader, &string, out, room, &count) != (room == 4))
+            join(&reader, &string, out, capacity, &count) != (capacity == 4))
             stop("segments", octets, sizeof octets);
-        if (room == 4 && (count != 4 || memcmp(out, wanted, 4)))
+        if (capacity == 4 && (count != 4 || memcmp(out, wanted, 4)))
             stop("segments that are joined", octets, sizeof octets);
     }
 }
@@ -243,10 +243,10 @@ static void see_texts(void)
     char text[160];
     der_reader_init(octets, sizeof octets, false, &reader);
     der_error error = der_expect(&reader, DER_INTEGER, &element);
-    for (size_t room = 0; room < sizeof text; room++) {
+    for (size_t capacity = 0; capacity < sizeof text; capacity++) {
         memset(text, '#', sizeof text);
-        size_t count = der_error_text(error, text, room), whole = sizeof wanted - 1;
-        if (count != (room < whole ? room : whole) || memcmp(text, wanted, count) || text[count] != '#')
+        size_t count = der_error_text(error, text, capacity), whole = sizeof wanted - 1;
+        if (count != (capacity < whole ? capacity : whole) || memcmp(text, wanted, count) || text[count] != '#')
             stop("a text", octets, sizeof octets);
     }
     /* 7 is not a tag */

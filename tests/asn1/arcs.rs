@@ -1,4 +1,4 @@
-//! Arcs of OBJECT IDENTIFIERs. That of X.690 8.19.5 is a row here.
+//! Arcs of OBJECT IDENTIFIERs. The example of X.690 8.19.5 is a row here.
 use crate::checks::same_at;
 use der_asn1::ObjectIdentifierRef;
 

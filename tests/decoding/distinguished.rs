@@ -31,8 +31,7 @@ mod rows;
 mod sets;
 mod tags;
 
-// Calls that several tests make. They have no contracts, because a contract costs the checker
-// seconds at each call.
+// Calls that several tests make.
 
 // Reads the octets as exactly one value.
 fn value_of<'a, T: Decode<SliceReader<'a>>>(

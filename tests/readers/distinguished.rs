@@ -24,8 +24,7 @@ mod not_borrowed;
 mod not_borrowed_parts;
 mod not_borrowed_peeks;
 
-// Calls that several tests make. They have no contracts, because a contract costs the checker
-// seconds in each test, and few tests need one.
+// Calls that several tests make.
 fn octet(reader: &mut SliceReader<'_>) -> Result<u8, Error> {
     reader.read_byte()
 }

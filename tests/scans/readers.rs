@@ -1,11 +1,9 @@
-//! Readers at the position where a scan begins, and what tests read with readers of slices. Most
-//! functions have no contract, because the checker handles a contract anew in each test that calls,
-//! and few tests need one.
+//! Readers at the position where a scan begins, and what tests read with readers of slices.
 
 use der::{Error, Header, Length, Reader, ReaderExt, SliceReader, decode_header, decode_length};
 use crate::fixtures::readers::ruled_reader;
 
-/// A reader under the Basic Encoding Rules, as its contract says, that has consumed `count` octets.
+/// A reader under the Basic Encoding Rules that has consumed `count` octets.
 pub fn ruled_after(octets: &[u8], count: u32) -> Result<SliceReader<'_>, Error>
 {
     let mut reader = ruled_reader(octets)?;

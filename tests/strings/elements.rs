@@ -1,5 +1,4 @@
-//! Elements of `example`, read and written. These functions have no contracts, because the tests
-//! need none and the checker would handle them anew in each caller.
+//! Elements of `der::example`, read and written.
 use der::example::{BorrowedOctets, JoinedOctets, OwnedText};
 use der::{DecodeBytes, Encode, Error};
 use std::alloc::Global;

@@ -1,4 +1,4 @@
-//! Calls that tests make on a reader that returns slices, without contracts.
+//! Calls that tests make on a reader that returns slices.
 use der::{Error, Header, SliceReader, decode_header};
 
 /// The next header.

@@ -21,8 +21,6 @@ mod sizes;
 mod tagged;
 mod texts;
 
-// The functions below have no contracts, because the tests need none.
-
 // Borrowed octets.
 fn bytes_of(octets: &[u8]) -> Result<BytesRef<'_>, Error> {
     BytesRef::new(octets)

@@ -55,13 +55,13 @@ fn type_of(element: &Element) -> String {
 fn print_all(mut reader: Reader, depth: usize) -> Result<(), Error> {
     while !reader.is_finished() {
         let element = reader.read()?;
-        let (start, behind) = element.positions();
+        let (start, after) = element.positions();
         let length = match element.is_indefinite() {
             true => "l=inf ".to_owned(),
             false => format!("l={:4}", element.contents().len()),
         };
         let form = if element.is_constructed() { "cons" } else { "prim" };
-        let header = behind - start;
+        let header = after - start;
         println!(
             "{start:5}:d={depth:<2} hl={header} {length} {form}: {:18}",
             type_of(&element)

@@ -345,12 +345,11 @@ impl<'a> Reader<'a> {
     /// Whether no octets are left.
     #[inline]
     pub fn is_finished(&self) -> bool {
-        // the result of der_is_finished, from private fields that only the library sets, without a
-        // call
+        // The result that a call of `der_is_finished` has: only the library sets these fields.
         self.0.position == self.0.end as usize
     }
 
-    /// Fails if octets are left.
+    /// Fails if octets are left or the reader has failed.
     pub fn finish(self) -> Result<(), Error> {
         answer(sys::der_finish(&self.0))
     }
@@ -414,7 +413,7 @@ impl<'a> Writer<'a> {
             length: 0,
             position: 0,
             failed: false,
-            lent: PhantomData,
+            borrow: PhantomData,
         };
         // SAFETY: pointer and length describe a slice, which the writer borrows for 'a.
         unsafe { sys::der_writer_init(octets.as_mut_ptr(), octets.len(), &mut raw) };

@@ -27,7 +27,7 @@ pub struct RawReader<'a> {
     pub depth: u8,
     pub ber: bool,
     pub failed: bool,
-    pub lent: PhantomData<&'a [u8]>,
+    pub borrow: PhantomData<&'a [u8]>,
 }
 
 #[repr(C)]
@@ -40,7 +40,7 @@ pub struct RawElement<'a> {
     pub contents_start: u32,
     pub constructed: bool,
     pub indefinite: bool,
-    pub lent: PhantomData<&'a [u8]>,
+    pub borrow: PhantomData<&'a [u8]>,
 }
 
 #[repr(C)]
@@ -58,7 +58,7 @@ pub struct RawWriter<'a> {
     pub length: usize,
     pub position: usize,
     pub failed: bool,
-    pub lent: PhantomData<&'a mut [u8]>,
+    pub borrow: PhantomData<&'a mut [u8]>,
 }
 
 /// An element of a tree. Positions are in octets from the start of the input.
@@ -114,7 +114,7 @@ impl RawReader<'_> {
         depth: 0,
         ber: false,
         failed: false,
-        lent: PhantomData,
+        borrow: PhantomData,
     };
 }
 
@@ -127,7 +127,7 @@ impl RawElement<'_> {
         contents_start: 0,
         constructed: false,
         indefinite: false,
-        lent: PhantomData,
+        borrow: PhantomData,
     };
 }
 
@@ -140,7 +140,7 @@ unsafe extern "C" {
     pub safe fn der_skip(reader: &mut RawReader) -> RawError;
     pub safe fn der_scan(reader: &mut RawReader, count: &mut u32) -> RawError;
     pub safe fn der_open<'a>(reader: &RawReader<'a>, element: &RawElement<'a>, inside: &mut RawReader<'a>) -> RawError;
-    pub fn der_read_tree(reader: &mut RawReader, nodes: *mut Node, room: usize, count: &mut usize) -> RawError;
+    pub fn der_read_tree(reader: &mut RawReader, nodes: *mut Node, capacity: usize, count: &mut usize) -> RawError;
     pub fn der_compare(
         first: *const u8,
         first_length: usize,
@@ -149,7 +149,7 @@ unsafe extern "C" {
         order: &mut i32,
     ) -> RawError;
     pub safe fn der_read_header(reader: &mut RawReader, header: &mut RawHeader) -> RawError;
-    pub fn der_error_text(error: RawError, text: *mut u8, room: usize) -> usize;
+    pub fn der_error_text(error: RawError, text: *mut u8, capacity: usize) -> usize;
     pub fn der_writer_init<'a>(octets: *mut u8, length: usize, writer: &mut RawWriter<'a>);
     pub safe fn der_written(writer: &RawWriter) -> usize;
     pub safe fn der_writer_finish(writer: &RawWriter) -> RawError;

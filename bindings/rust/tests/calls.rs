@@ -2,7 +2,7 @@ use der_c::{ErrorKind, Reader, Tag, Writer, compare, element_length};
 use std::cmp::Ordering;
 
 #[test]
-fn errors_are_told() {
+fn errors_are_reported() {
     let texts = [
         (&[0x30, 5, 0x1f, 2, 3, 4, 5][..], "", None),
         (
@@ -100,8 +100,8 @@ fn elements_are_compared() {
 
 #[test]
 fn what_is_written_is_read() {
-    let mut room = [0xee; 300];
-    let mut writer = Writer::new(&mut room);
+    let mut buffer = [0xee; 300];
+    let mut writer = Writer::new(&mut buffer);
     writer.header(Tag::SEQUENCE, 203 + 3).unwrap();
     writer.element(Tag::OCTET_STRING, &[7; 200]).unwrap();
     writer.element(Tag::INTEGER, &[1]).unwrap();
@@ -125,8 +125,8 @@ fn a_word_that_is_no_tag_is_refused() {
     // a number below 31 in the long form, a number next to a short form, an unknown universal tag,
     // a universal tag in the long form, a number past 32 bits
     for word in [0x9F + 256 * 30, 0x80 + 256, 0x07, 0x1F + 256 * 40, 0x9F + (1 << 40)] {
-        let mut room = [0; 20];
-        let mut writer = Writer::new(&mut room);
+        let mut buffer = [0; 20];
+        let mut writer = Writer::new(&mut buffer);
         let error = writer.header(Tag(word), 0).unwrap_err();
         assert_eq!(error.kind(), ErrorKind::TagNumberInvalid);
         assert_eq!(writer.element(Tag::NULL, &[]).unwrap_err().kind(), ErrorKind::Failed);
@@ -156,8 +156,8 @@ fn bodies_are_scanned() {
 
 #[test]
 fn elements_are_written_inside_others() {
-    let mut room = [0xee; 300];
-    let mut writer = Writer::new(&mut room);
+    let mut buffer = [0xee; 300];
+    let mut writer = Writer::new(&mut buffer);
     writer
         .inside(Tag::SEQUENCE, |outer| {
             outer.inside(Tag::context(1000, true), |inner| {
@@ -174,8 +174,8 @@ fn elements_are_written_inside_others() {
     assert_eq!(octets, wanted);
     // enough space for all but the second length octet that a length of 128 needs
     for more in [0, 1] {
-        let mut room = [0xee; 2 + 128 + 1];
-        let mut writer = Writer::new(&mut room[..130 + more]);
+        let mut buffer = [0xee; 2 + 128 + 1];
+        let mut writer = Writer::new(&mut buffer[..130 + more]);
         let answer = writer.inside(Tag::SET, |inside| inside.write(&[9; 128]));
         if more == 0 {
             assert_eq!(answer.unwrap_err().kind(), ErrorKind::Overlength);
@@ -185,8 +185,8 @@ fn elements_are_written_inside_others() {
             assert_eq!(writer.finish().unwrap()[..4], [0x31, 0x81, 128, 9]);
         }
     }
-    let mut room = [0; 8];
-    let mut writer = Writer::new(&mut room);
+    let mut buffer = [0; 8];
+    let mut writer = Writer::new(&mut buffer);
     assert_eq!(
         writer.inside(Tag(7), |_| Ok(())).unwrap_err().kind(),
         ErrorKind::TagNumberInvalid

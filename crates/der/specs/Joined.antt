@@ -11,7 +11,7 @@ use Rattle.der_core.specs.Encode.{element_octets}
 -- whole elements with this tag, in sequence, and the concatenation of what they contribute, in the
 -- same order: a primitive element of definite length contributes its contents; a constructed
 -- element, if a level is left, contributes the joined segments of its contents, with one level
--- fewer; its length is definite, or indefinite, and then its end-of-contents octets are not
+-- fewer; its length may be indefinite, and its end-of-contents octets are then not part of the
 -- contents
 pub data Joined (tag : Tag) : ℕ → List ℕ → List ℕ → Type 0 where
   none : {levels : ℕ} → Joined tag levels [] []

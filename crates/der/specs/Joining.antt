@@ -37,7 +37,7 @@ levels_left s = levels_at s.rules s.depth
 abbrev pub MayJoin : Length → EncodingRules → Type 0
 MayJoin l rules = (rules ≡ Ber) ⊎ (is_indefinite l ≡ true)
 
--- the next n octets are there, and are appended
+-- the next n octets are available, and are appended
 pub record AppendsOctets (n : ℕ) (s : ReaderState) (old new : List ℕ) (t : ReaderState)
     : Type 0 where
   pub there : s.position + n ≤ s.end

@@ -1,6 +1,6 @@
 -- Types whose contents are octets or a text: the valid values (`IsCounted`, `IsText`), which
--- contents are accepted (`TakesOctets`), and the possible results of reading (`BorrowedOctetsRead` and
--- the facts after it) and writing (`OctetsWritten`).
+-- contents are accepted (`TakesOctets`), and the possible results of reading (`BorrowedOctetsRead`
+-- and the three definitions after it) and writing (`OctetsWritten`).
 use Rattle.std.specs.Prelude.{◌≡◌, ℕ, ◌+◌, ◌^◌, ◌<◌, ◌≤◌, ◌⊎◌, Bool, true, false, List, length, drop, take, nat_lt, nat_le, Result, Ok, Err, IsOk, if◌then◌else◌}
 use Rattle.std.proofs.Common.{arith}
 use Rattle.std.specs.Str.{is_utf8}
@@ -108,7 +108,8 @@ EndsTaken {A} IsKind octets_of reliable h s result t =
 abbrev pub not_borrowed_outcome : ReaderState → Outcome (List ℕ)
 not_borrowed_outcome s = outcome_of (Err (error_at Reader (reader_position s))) s
 
--- a type with such a tag is lawful: decoding inverts encoding
+-- a type that reads its octets by `TakesOctets` is lawful, if the number of its tag has 32 bits:
+-- decoding inverts encoding
 pub octets_lawful : {A : Type 0} (tag : Tag) (IsKind : List ℕ → Type 0) (octets_of : A → List ℕ)
     → (label tag).number < 2 ^ 32
     → IsLawful tag (TakesOctets IsKind octets_of) (λ v. IsKind (octets_of v)) octets_of (λ _. 0)

@@ -13,7 +13,8 @@ abbrev pub numeric_form : List ℕ → Bool
 numeric_form [] = true
 numeric_form (o ∷ os) = if nat_lt 47 o && nat_lt o 58 || (o == 32) then numeric_form os else false
 
--- the first octet of a surrogate code; two of those encode a character beyond the plane
+-- the first octet of a surrogate code; two such codes encode a character beyond the Basic
+-- Multilingual Plane
 abbrev pub is_surrogate : ℕ → Bool
 is_surrogate o = nat_lt 215 o && nat_lt o 224
 

@@ -11,6 +11,8 @@ abbrev pub any_laws : SomeLaws (AnyElementNext TakesAny) IsAny
     (λ v. element_octets v.tag (any_contents v))
 any_laws = choice_laws any_tag any_lawful (λ v is. tt) (λ v rules h octets taken. taken.numbered)
 
-pub any_element_decided_by_tag : DecidedByTagLaws any_tag (None ∷ []) [] Anything (AnyElementNext TakesAny) IsAny
+pub any_element_decided_by_tag : DecidedByTagLaws any_tag (None ∷ []) [] Anything
+    (AnyElementNext TakesAny) IsAny
     (λ v. element_octets v.tag (any_contents v))
-any_element_decided_by_tag = decided_by_tag_of any_tag (None ∷ []) [] any_laws any_laws.some (λ t h. tt) (λ t h. h)
+any_element_decided_by_tag = decided_by_tag_of any_tag (None ∷ []) [] any_laws any_laws.some
+    (λ t h. tt) (λ t h. h)

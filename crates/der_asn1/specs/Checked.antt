@@ -1,5 +1,6 @@
--- Checked octets borrowed from the input: those that pass a check (`HasCheckedContents`) are accepted as
--- contents (`AcceptsCheckedContents`), and for others reading returns an error after them (`CheckedContentsRead`).
+-- Checked octets borrowed from the input: those that pass a check (`HasCheckedContents`) are
+-- accepted as contents (`AcceptsCheckedContents`); others are an error at the position after them
+-- (`CheckedContentsRead`).
 use Rattle.std.specs.Prelude.{◌≡◌, ℕ, ◌^◌, ◌<◌, Bool, true, List, length, Result, Ok, if◌then◌else◌}
 use Rattle.std.proofs.Common.{arith, subst, sym}
 use Rattle.der.specs.Prelude.{checked_length, Head, number, Tag, Length, Error, EncodingRules}
@@ -15,9 +16,11 @@ abbrev pub HasCheckedContents : {A : Type 0} → (List ℕ → Bool) → (A → 
 HasCheckedContents grammar contents v = grammar (contents v) ≡ true
 
 -- octets that pass the check are the contents of the value
-abbrev pub AcceptsCheckedContents : {A : Type 0} → (List ℕ → Bool) → (A → List ℕ) → A → EncodingRules → Head
+abbrev pub AcceptsCheckedContents : {A : Type 0} → (List ℕ → Bool) → (A → List ℕ) → A
+    → EncodingRules → Head
     → List ℕ → Type 0
-AcceptsCheckedContents grammar contents v rules h octets = (grammar octets ≡ true) × (contents v ≡ octets)
+AcceptsCheckedContents grammar contents v rules h octets = (grammar octets ≡ true)
+    × (contents v ≡ octets)
 
 -- the octets if they pass the check, or else an error after them
 abbrev pub checked_outcome : (List ℕ → Bool) → Tag → List ℕ → ReaderState → Outcome (List ℕ)
@@ -25,10 +28,12 @@ checked_outcome grammar tag octets s =
     if grammar octets then outcome_of (Ok octets) s else kind_outcome (List ℕ) (Value tag) s
 
 abbrev pub read_checked_outcome : (List ℕ → Bool) → Tag → ℕ → ReaderState → Outcome (List ℕ)
-read_checked_outcome grammar tag n s = chained_outcome (read_slice_outcome n s) (checked_outcome grammar tag)
+read_checked_outcome grammar tag n s = chained_outcome (read_slice_outcome n s)
+    (checked_outcome grammar tag)
 
 -- the possible results of reading checked contents
-abbrev pub CheckedContentsRead : {A : Type 0} → (List ℕ → Bool) → Tag → (A → List ℕ) → Head → ReaderState
+abbrev pub CheckedContentsRead : {A : Type 0} → (List ℕ → Bool) → Tag → (A → List ℕ) → Head
+    → ReaderState
     → Result A Error → ReaderState → Type 0
 CheckedContentsRead grammar tag contents h s result t =
     Gives (read_checked_outcome grammar tag (number h.length)) s (map_ok contents result) t
@@ -41,9 +46,11 @@ abbrev pub ContentsWritten : List ℕ → WriterAnswer
 ContentsWritten octets s result t = Writes (write_outcome octets s) result t
 
 -- types with checked contents are lawful
-pub checked_contents_lawful : {A : Type 0} (tag : Tag) (grammar : List ℕ → Bool) (contents : A → List ℕ)
+pub checked_contents_lawful : {A : Type 0} (tag : Tag) (grammar : List ℕ → Bool)
+    (contents : A → List ℕ)
     → (label tag).number < 2 ^ 32
-    → IsLawful tag (AcceptsCheckedContents grammar contents) (HasCheckedContents grammar contents) contents (λ _. 0)
+    → IsLawful tag (AcceptsCheckedContents grammar contents)
+    (HasCheckedContents grammar contents) contents (λ _. 0)
 checked_contents_lawful tag grammar contents numbered =
     record {
       exact = λ octets v short. (

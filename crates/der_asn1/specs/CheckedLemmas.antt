@@ -26,15 +26,18 @@ one_contents {octets = octets} one two =
 pub one_form : {A : Type 0} {tag : Tag} {grammar : List ℕ → Bool} {contents : A → List ℕ} {v w : A}
     {rules : EncodingRules} {octets : List ℕ} {m n : ℕ}
     → ElementNext tag (AcceptsCheckedContents grammar contents) v rules octets m
-    → ElementNext tag (AcceptsCheckedContents grammar contents) w rules octets n → contents v ≡ contents w
+    → ElementNext tag (AcceptsCheckedContents grammar contents) w rules octets n
+    → contents v ≡ contents w
 one_form one two = one.taken.1 ∙ one_contents one two ∙ sym two.taken.1
 
 -- the same for values inside an element with an EXPLICIT tag
 pub one_explicit_form : {A B : Type 0} {outer tag : Tag} {grammar : List ℕ → Bool}
     {contents : A → List ℕ} (f : B → A) {v w : B} {rules : EncodingRules} {octets : List ℕ}
     {m n : ℕ} → ElementNext outer
-    (λ b. TakesWhole (ElementNext tag (AcceptsCheckedContents grammar contents)) (f b)) v rules octets m
-    → ElementNext outer (λ b. TakesWhole (ElementNext tag (AcceptsCheckedContents grammar contents)) (f b)) w
+    (λ b. TakesWhole (ElementNext tag (AcceptsCheckedContents grammar contents)) (f b)) v rules
+    octets m
+    → ElementNext outer
+    (λ b. TakesWhole (ElementNext tag (AcceptsCheckedContents grammar contents)) (f b)) w
     rules octets n → contents (f v) ≡ contents (f w)
 one_explicit_form {tag = tag} {grammar} {contents} f {w = w} {rules} one two =
     one_form one.taken (subst

@@ -31,7 +31,8 @@ IsDefaulted is_default valid v = (is_default v ≡ true) ⊎ valid v
 abbrev pub DefaultPrecedes : {A : Type 0} → (Tag → Type 0) → (A → Bool) → (A → List ℕ → Type 0)
     → A → List ℕ → Type 0
 DefaultPrecedes tags is_default MayPrecede v following =
-    (is_default v ≡ true → NoTagIn tags Der following) × (is_default v ≡ false → MayPrecede v following)
+    (is_default v ≡ true → NoTagIn tags Der following)
+    × (is_default v ≡ false → MayPrecede v following)
 
 -- the result of reading: the default at the end or if another tag is next; else the value, which
 -- under DER must not be the default

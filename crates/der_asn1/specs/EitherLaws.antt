@@ -93,7 +93,8 @@ module _ {A B : Type 0} {one_tags two_tags : Tag → Type 0}
   hold (First v) rules octets m h = one.holds v rules octets m h
   hold (Second v) rules octets m h = two.holds v rules octets m h.0
 
-  both_decided_by_tag : DecidedByTagLaws (either_tags one_tags two_tags) (first ++ second) (one_stops ++ two_stops)
+  both_decided_by_tag : DecidedByTagLaws (either_tags one_tags two_tags) (first ++ second)
+      (one_stops ++ two_stops)
       (EitherPrecedes P Q)
       (EitherNext one_tags One Two) (IsEither is_one is_two)
       (either_encoding one_octets two_octets)
@@ -107,7 +108,8 @@ module _ {A B : Type 0} {one_tags two_tags : Tag → Type 0}
       }
 
 -- a CHOICE of two alternatives has the laws if both have them and no tag belongs to both
-pub either_decided_by_tag : {A B : Type 0} {one_fits two_fits : Bool} {one_tags two_tags : Tag → Type 0}
+pub either_decided_by_tag : {A B : Type 0} {one_fits two_fits : Bool}
+    {one_tags two_tags : Tag → Type 0}
     {first second one_stops two_stops : List (Option Tag)}
     {P : A → List ℕ → Type 0} {Q : B → List ℕ → Type 0}
     {One : A → EncodingRules → List ℕ → ℕ → Type 0} {Two : B → EncodingRules → List ℕ → ℕ → Type 0}

@@ -19,8 +19,8 @@ use Rattle.der_asn1.specs.AnyElement.{AnyElementNext, IsLawfulChoice}
 use Rattle.der_asn1.specs.AnyElementLemmas.{choices_are_encodings, choices_start}
 use Rattle.der_asn1.specs.OptionalLemmas.{options_are_fields, option_may_start, option_precedes}
 
--- the laws of a field: it is read as it is written, the tags it may begin with, and the tags that
--- must not follow it
+-- the laws of a field: that it is read as it is written, which tags it may begin with, and which
+-- tags must not follow it
 pub record FieldLaws {A : Type 0} (Next : A → EncodingRules → List ℕ → ℕ → Type 0)
     (valid : A → Type 0) (encoding : A → List ℕ) : Type 1 where
   pub Precedes : A → List ℕ → Type 0
@@ -146,7 +146,10 @@ seen_laws f one =
       reads = seen_reads f one.reads;
       starts = record { starts = λ b is. one.starts.starts (f b) is };
       precedes =
-          record { precedes = λ b following is none. one.precedes.precedes (f b) following is none };
+          record {
+            precedes = λ b following is none. one.precedes.precedes
+                (f b) following is none;
+          };
       holds = λ b. one.holds (f b);
     }
 

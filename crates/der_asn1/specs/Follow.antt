@@ -15,8 +15,8 @@ pub record FieldNext {A : Type 0} (valid : A → Type 0) (encoding : A → List 
   pub whole : m ≡ length (encoding v)
   pub precedes : MayPrecede v following
 
--- under DER a field is next only if the octets begin with its encoding, followed by something that
--- may follow it; and it is next whenever they do, if their number fits in a `Length`
+-- under DER, if a field is next, the octets begin with its encoding, followed by something that may
+-- follow it; conversely, if they do, and their number fits in a `Length`, the field is next
 pub record ReadsFields {A : Type 0} (Next : A → EncodingRules → List ℕ → ℕ → Type 0)
     (valid : A → Type 0) (encoding : A → List ℕ) (MayPrecede : A → List ℕ → Type 0)
     : Type 0 where
@@ -66,7 +66,7 @@ pub record PrecedesBut {A : Type 0} (valid : A → Type 0) (MayPrecede : A → L
   pub precedes : (v : A) (following : List ℕ) → valid v → NoTagIn stops Der following
       → MayPrecede v following
 
--- no tag, one tag, any tag, and the tags of two sets
+-- sets of tags: no tag, one tag, any tag, and the tags of two sets
 abbrev pub no_tags : Tag → Type 0
 no_tags t = ⊥
 

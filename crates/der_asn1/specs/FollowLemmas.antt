@@ -29,7 +29,12 @@ encodings_are_fields reads =
             precedes = tt;
           });
       every = λ octets v m short f. reads.every octets v m short
-          (record { is_valid = f.is_valid; following = f.following; split = f.split; whole = f.whole });
+          (record {
+            is_valid = f.is_valid;
+            following = f.following;
+            split = f.split;
+            whole = f.whole;
+          });
     }
 
 -- two fields in sequence, each of which may precede what follows it
@@ -152,7 +157,8 @@ fewer_tags among (other t n h not) = other t n h (λ s. not (among t s))
 -- the octets of a tag begin with that tag
 pub tag_octets_begin_with_tag : (t : Tag) (more : List ℕ) → (label t).number < 2 ^ 32
     → TagNext t Der (tag_octets t ++ more) (length (tag_octets t))
-tag_octets_begin_with_tag t more numbered = ((label t).constructed, identifier more (of_tag numbered))
+tag_octets_begin_with_tag t more numbered =
+    ((label t).constructed, identifier more (of_tag numbered))
 
 -- octets that begin with a tag of one set begin with no tag of a disjoint set
 pub starts_apart : {tags stops : Tag → Type 0} (octets following : List ℕ)
@@ -261,12 +267,14 @@ module _ {A B : Type 0} {is_first : A → Type 0} {is_second : B → Type 0} {se
   pair_precedes_absent one two follow apart =
       record {
         precedes = λ v following is none. (
-          one.precedes v.0 (second v.1 ++ following) is.0 (go v following none (follow.starts v.1 is.1)),
+          one.precedes v.0 (second v.1 ++ following) is.0
+              (go v following none (follow.starts v.1 is.1)),
           two.precedes v.1 following is.1 (fewer_tags (λ t h. inr h) none),
         );
       }
     where
-      go : (v : A × B) (following : List ℕ) → NoTagIn (either_tags first_stops second_stops) Der following
+      go : (v : A × B) (following : List ℕ)
+          → NoTagIn (either_tags first_stops second_stops) Der following
           → (second v.1 ≡ []) ⊎ StartsIn tags (second v.1)
           → NoTagIn first_stops Der (second v.1 ++ following)
       go v following none (inl e) =

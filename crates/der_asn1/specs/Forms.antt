@@ -63,7 +63,7 @@ abbrev pub printable_form : List ℕ → Bool
 printable_form [] = true
 printable_form (o ∷ os) = if is_printable o then printable_form os else false
 
--- whether the octets begin with that of false
+-- whether the first octet is that of false
 abbrev pub is_false : List ℕ → Bool
 is_false [] = false
 is_false (o ∷ os) = o == 0

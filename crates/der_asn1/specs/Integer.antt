@@ -34,7 +34,7 @@ abbrev pub is_negative : List ℕ → Bool
 is_negative [] = false
 is_negative (o ∷ os) = not (nat_lt o 128)
 
--- the n of these contents, if the number is n, or -1 - n if negative
+-- the n of contents that encode the number n, or the negative number -1 - n
 abbrev pub magnitude : List ℕ → ℕ
 magnitude octets = number_from_digits 256 (map (turned (is_negative octets)) octets)
 

@@ -13,7 +13,7 @@ pub mod CheckedLemmas
 pub mod ContextSpecific
 pub mod Forms
 pub mod Integer
-pub mod Borrowed
+pub mod OctetsWith
 pub mod SequenceOf
 pub mod FieldLaws
 pub mod DefaultLaws

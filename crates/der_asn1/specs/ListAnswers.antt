@@ -44,8 +44,9 @@ abbrev pub ListWalked : {T E : Type 0} → (Error → E → Type 0)
 ListWalked converts reads result octets =
     WalkAnswer converts reads result (initial_state Der octets)
 
--- elements after the octets `next` are read up to the end, or up to the first error; an element
--- that is smaller than the one before it is an error at its start (X.690 11.6)
+-- elements are read up to the end, or up to the first error; an element that is smaller than the
+-- one before it is an error at its start (X.690 11.6); the first one is compared with the octets
+-- `next`
 pub data SetAnswer {T E : Type 0} (converts : Error → E → Type 0)
     (reads : ReaderState → Result T E → ReaderState → Type 0) (result : Result (Unit {0}) E)
     : List ℕ → ReaderState → Type 0 where

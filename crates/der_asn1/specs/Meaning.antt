@@ -1,5 +1,6 @@
 -- Specifications of the parts of a SEQUENCE, with their laws, so that composed specifications have
--- their laws too: a `FieldSpec`, an `AlternativeSpec`, an `ElementSpec`, and the functions that compose them.
+-- their laws too: `FieldSpec`, `AlternativeSpec` and `ElementSpec`, and the functions that compose
+-- them.
 use Rattle.std.proofs.Common.{◌≡◌, ℕ, ◌^◌, ◌<◌, ◌≤◌, ◌&&◌, ◌||◌, Bool, true, false, List, [], ◌∷◌, ◌++◌, Option, Some, None, nat_lt, arith, subst, sym, ltb-true}
 use Rattle.der.specs.Prelude.{Head, Tag, Sequence as SequenceTag, EncodingRules, Der, ElementNext}
 use Rattle.der.specs.Prelude.{element_octets, element_levels, fields_levels, FieldsNext, IsLawful}
@@ -28,10 +29,10 @@ use Rattle.der_asn1.specs.declared.defaulted.Defaulted.{Defaulted}
 use Rattle.der_asn1.specs.declared.either.Either.{Either}
 use Rattle.der_asn1.specs.declared.optional.Optional.{Optional}
 
--- a field: which values can be read from the front of octets and how many octets each has
--- (`is_next`), the valid values and their encodings, the levels of nesting, and whether the field is
--- never empty (`always`); the tags it may begin with (`first`), and the tags that must not follow
--- it (`stops`); and its laws, which hold if its parts are compatible (`is_compatible`)
+-- a field: which values octets begin with and how many octets each has (`is_next`), the valid
+-- values and their encodings, the levels of nesting, and whether the field is never empty
+-- (`always`); the tags it may begin with (`first`), and the tags that must not follow it (`stops`);
+-- and its laws, which hold if its parts are compatible (`is_compatible`)
 pub record FieldSpec (A : Type 0) : Type 1 where
   pub is_next : A → EncodingRules → List ℕ → ℕ → Type 0
   pub valid : A → Type 0
@@ -55,9 +56,10 @@ pub record AlternativeSpec (A : Type 0) : Type 1 where
   pub stops : List (Option Tag)
   pub precedes : A → List ℕ → Type 0
   pub is_compatible : Bool
-  pub laws : is_compatible ≡ true → DecidedByTagLaws tags first stops precedes is_next valid encoding
+  pub laws : is_compatible ≡ true
+      → DecidedByTagLaws tags first stops precedes is_next valid encoding
 
--- a field with a fixed tag, whose type is lawful if it `is_compatible`
+-- a field with a fixed tag; its type is lawful if `is_compatible` is true
 pub record ElementSpec (A : Type 0) : Type 1 where
   pub tag : Tag
   pub takes : A → EncodingRules → Head → List ℕ → Type 0
@@ -183,7 +185,8 @@ seen f one =
     }
 
 -- one alternative or the other; no tag may belong to both
-abbrev pub either : {A B : Type 0} → AlternativeSpec A → AlternativeSpec B → AlternativeSpec (Either A B)
+abbrev pub either : {A B : Type 0} → AlternativeSpec A → AlternativeSpec B
+    → AlternativeSpec (Either A B)
 either one two =
     record {
       is_next = EitherNext one.tags one.is_next two.is_next;
@@ -233,11 +236,13 @@ octets_with tag Holds octets =
       holds = λ e. octets_with_accepts_valid Holds octets;
     }
 
--- an element fits, and has at most 62 levels of nesting, so that another element may contain it
+-- `is_compatible` is true, and an element has at most 62 levels of nesting, so that another element
+-- may contain it
 abbrev pub is_shallow : Bool → (EncodingRules → ℕ) → Bool
 is_shallow is_compatible levels = is_compatible && nat_lt (levels Der) 63
 
-pub shallow : (is_compatible : Bool) (levels : EncodingRules → ℕ) → is_shallow is_compatible levels ≡ true
+pub shallow : (is_compatible : Bool) (levels : EncodingRules → ℕ)
+    → is_shallow is_compatible levels ≡ true
     → levels Der ≤ 62
 shallow is_compatible levels e =
     let below = ltb-true (levels Der) 63 (both_true is_compatible (nat_lt (levels Der) 63) e).1 in
@@ -333,6 +338,7 @@ explicit n one f =
           let q = both_true one.is_compatible (nat_lt (one.levels Der) 63) p.1 in
           explicit_lawful (context_tag true n) f (small n p.0) (one.lawful q.0)
           (shallow one.is_compatible one.levels p.1));
-      holds = λ e. explicit_holds f (one.holds (both_true one.is_compatible (nat_lt (one.levels Der) 63)
+      holds = λ e. explicit_holds f
+          (one.holds (both_true one.is_compatible (nat_lt (one.levels Der) 63)
           (both_true (is_small n) (is_shallow one.is_compatible one.levels) e).1).0);
     }

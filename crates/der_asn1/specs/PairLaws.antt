@@ -68,7 +68,7 @@ module _ {A B : Type 0} {a b : Bool} {first second one_stops two_stops : List (O
       (both_in first second) (both_in one_stops two_stops)
       (λ g. (let s = pair_some a refl g in record { starts = λ x is. s.starts (f x) is }))
 
--- two fields have the laws if both fit and the second may follow the first
+-- two fields have the laws if the checks of both succeed and the second may follow the first
 pub pair_set : {A B C : Type 0} {a b one_fits two_fits : Bool}
     {first second one_stops two_stops : List (Option Tag)}
     {P : A → List ℕ → Type 0} {Q : B → List ℕ → Type 0}

@@ -1,4 +1,4 @@
--- The laws of fields whose tags are decidable sets (`SetLaws`, `DecidedByTagLaws`), so that a computed
+-- The laws of fields whose tags are decidable sets (`SetLaws`, `DecidedByTagLaws`): a computed
 -- check decides whether fields may follow each other.
 use Rattle.std.proofs.Common.{◌≡◌, ◌⊎◌, inl, inr, ℕ, Bool, true, false}
 use Rattle.std.proofs.Common.{if◌then◌else◌, List, [], ◌∷◌, ◌++◌, Option, Some}
@@ -120,14 +120,16 @@ module _ {A : Type 0} {Next : A → EncodingRules → List ℕ → ℕ → Type 
         holds = one.laws.holds;
       }
 
-  pub decided_by_tag_set : {tags : Tag → Type 0} {first stops : List (Option Tag)} {P : A → List ℕ → Type 0}
+  pub decided_by_tag_set : {tags : Tag → Type 0} {first stops : List (Option Tag)}
+      {P : A → List ℕ → Type 0}
       → DecidedByTagLaws tags first stops P Next valid encoding
       → SetLaws true first stops P Next valid encoding
   decided_by_tag_set {first = first} {stops} one =
       set_of true first stops (some_of one).laws one.among (λ t h. h) (λ e. one.starts)
 
 -- an element of a lawful type
-pub element_decided_by_tag : {A : Type 0} {tag : Tag} {takes : A → EncodingRules → Head → List ℕ → Type 0}
+pub element_decided_by_tag : {A : Type 0} {tag : Tag}
+    {takes : A → EncodingRules → Head → List ℕ → Type 0}
     {valid : A → Type 0} {contents : A → List ℕ} {levels : EncodingRules → ℕ}
     → IsLawful tag takes valid contents levels
     → ((v : A) (rules : EncodingRules) (h : Head) (octets : List ℕ) → takes v rules h octets
@@ -181,7 +183,10 @@ seen_set f one =
       starts = record { starts = λ b is. one.starts.starts (f b) is };
       some = λ e. record { starts = λ b is. (one.some e).starts (f b) is };
       precedes =
-          record { precedes = λ b following is none. one.precedes.precedes (f b) following is none };
+          record {
+            precedes = λ b following is none. one.precedes.precedes
+                (f b) following is none;
+          };
       holds = λ b. one.holds (f b);
     }
 

@@ -4,16 +4,18 @@ use Rattle.std.specs.Prelude.{◌≡◌, ℕ, List, [], ◌∷◌}
 use Rattle.der.specs.Prelude.{Tag, element_octets, IsBefore}
 use Rattle.der_asn1.specs.SequenceOf.{IsListOf}
 
--- no encoding is smaller than the one before it; the octets before the first are `next`
+-- no encoding is smaller than the one before it, and the first is not smaller than `previous`
 abbrev pub EncodingsAscendAfter : {A : Type 0} → (A → List ℕ) → List ℕ → List A → Type 0
-EncodingsAscendAfter encoding next [] = Unit {0}
-EncodingsAscendAfter encoding next (v ∷ vs) = (IsBefore (encoding v) next → ⊥) × EncodingsAscendAfter encoding (encoding v) vs
+EncodingsAscendAfter encoding previous [] = Unit {0}
+EncodingsAscendAfter encoding previous (v ∷ vs) = (IsBefore (encoding v) previous → ⊥)
+    × EncodingsAscendAfter encoding (encoding v) vs
 
--- octets are the encodings of valid values, in sequence and in ascending order after `next`
+-- octets are the encodings of valid values, in sequence and in ascending order, and the first
+-- encoding is not smaller than `previous`
 pub record IsSetAfter {A : Type 0} (valid : A → Type 0) (encoding : A → List ℕ)
-    (next octets : List ℕ) : Type 0 where
+    (previous octets : List ℕ) : Type 0 where
   pub list : IsListOf valid encoding octets
-  pub ascend : EncodingsAscendAfter encoding next list.items
+  pub ascend : EncodingsAscendAfter encoding previous list.items
 
 -- octets are the elements of valid values with this tag, in ascending order
 abbrev pub AreAscending : {A : Type 0} → Tag → (A → Type 0) → (A → List ℕ) → List ℕ → Type 0

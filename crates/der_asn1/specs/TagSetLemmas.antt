@@ -8,7 +8,7 @@ pub both_true : (a b : Bool) → (a && b) ≡ true → (a ≡ true) × (b ≡ tr
 both_true true b e = (refl, e)
 both_true false b e = absurd (let no : false ≡ true = e in cc)
 
--- a tag does not differ from itself
+-- a number equals itself, so a tag does not differ from itself
 same_number : (n : ℕ) → (n == n) ≡ true
 same_number n = eq-eqb n n refl
 

@@ -72,7 +72,8 @@ generalized_reading octets = time_from (two_at 0 octets * 100 + two_at 2 octets)
 abbrev pub utc_reading : List ℕ → DateTime
 utc_reading octets = time_from (utc_year (two_at 0 octets)) 2 octets
 
--- whether contents are valid: the time that they seem to encode exists, and its contents are these
+-- whether contents are valid: the time that is read from them exists and is written as these
+-- contents
 abbrev pub generalized_form : List ℕ → Bool
 generalized_form octets =
     (length octets == 15) && (is_date_time (generalized_reading octets)

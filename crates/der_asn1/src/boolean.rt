@@ -5,7 +5,7 @@ ghost use Rattle.der.specs.Prelude.{Boolean as BooleanTag};
 ghost use Rattle.der_asn1.specs.Forms.{boolean_form, is_false};
 
 use crate::checked::Checked;
-use crate::default_form::DefaultContents;
+use crate::default_contents::DefaultContents;
 use crate::grammar::ContentsGrammar;
 use der::{FixedTag, Tag};
 
@@ -54,7 +54,7 @@ impl<'a> Checked<'a, BooleanGrammar> {
 
 /// The default is false, as in modules that have a BOOLEAN with a default.
 impl DefaultContents for BooleanGrammar {
-    ghost default_form = { is_false };
+    ghost default_contents = { is_false };
 
     #[inline(always)]
     fn default_octets() -> &'static [u8] {

@@ -9,8 +9,8 @@ use der::{Decode, DecodeValue, FixedTag, Reader, Tag};
 
 /// Types for which the next tag decides whether a value is next.
 ///
-/// Ghost members: `chooses` says which tags those are; `begins` proves that a value begins with one
-/// of them.
+/// Ghost members: `chooses` says with which tags a value may begin; `begins` proves that a value
+/// begins with one of them.
 pub trait Choice<R: Reader>: Decode<R> {
     ghost chooses: { ATag → Type 0 };
 
@@ -18,7 +18,7 @@ pub trait Choice<R: Reader>: Decode<R> {
     fn can_decode(tag: Tag) -> bool
         ensures { IsTrue result ↔ chooses tag };
 
-    // A value begins with such a tag.
+    // A value begins with a tag that `chooses` accepts.
     ghost begins: { (v : Self) (rules : Rules) (octets : List ℕ) (m : ℕ)
         → Self.is_next v rules octets m → TagIn chooses rules octets };
 }

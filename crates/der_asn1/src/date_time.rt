@@ -20,8 +20,8 @@ pub struct DateTime {
 }
 
 impl DateTime {
-    /// Whether the date exists and its year is below 10000, and the time exists; leap seconds do
-    /// not.
+    /// Whether the date exists, its year is below 10000, and the time of day exists; a leap second
+    /// does not count as an existing time.
     pub fn is_valid(&self) -> bool
         ensures { result ≡ is_date_time self.now }
     {

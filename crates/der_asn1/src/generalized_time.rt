@@ -4,7 +4,7 @@ ghost use Rattle.der.specs.Prelude.{GeneralizedTime as GeneralizedTag};
 ghost use Rattle.der_asn1.specs.Times.{generalized_octets, generalized_form, is_date_time};
 
 use crate::date_time::DateTime;
-use crate::time_form::TimeFormat;
+use crate::time_format::TimeFormat;
 use crate::time_octets::{TimeOctets, generalized_from};
 use crate::time_of::TimeOf;
 use der::{FixedTag, Tag};

@@ -22,7 +22,8 @@ use der::{
 use std::alloc::{AllocError, Global};
 use std::marker::PhantomData;
 
-// Decodes the next element. `Failed` if its type returns a value but leaves the reader failed.
+// Decodes the next element. Returns the error `Failed` if its type returns a value but leaves the
+// reader failed.
 #[inline(always)]
 pub(crate) fn next_item<'a, T: Lawful + DecodeValue<SliceReader<'a>>>(
     alloc: Global,

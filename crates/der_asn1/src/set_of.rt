@@ -85,14 +85,14 @@ fn check_set<'a, T: Lawful + DecodeValue<SliceReader<'a>>>(
         (ElementRead T.tag_is T.Error.from_gives T.decode_value_answers) result octets.now }
 {
     let mut reader = SliceReader::new(octets)?;
-    let mut next: &'a [u8] = &[];
+    let mut previous: &'a [u8] = &[];
     'elements: while !reader.is_finished() {
         let start = reader.position();
         let element = next_element::<T>(alloc, &mut reader)?;
-        if comes_before(element, next) {
+        if comes_before(element, previous) {
             return Err(ErrorKind::SetOrdering.at(start).into());
         }
-        next = element;
+        previous = element;
     }
     Ok(())
 }

@@ -28,7 +28,8 @@ pub(crate) fn first_subidentifier(octets: &[u8]) -> (Option<u64>, &[u8])
 // Appends a digit in base 128; `None` from 2^63 on.
 fn with_digit(number: Option<u64>, digit: u8) -> Option<u64>
     requires { digit < 128 }
-    ensures { (n : ℕ) → number ≡ subidentifier_value n → result ≡ subidentifier_value (n * 128 + digit) }
+    ensures { (n : ℕ) → number ≡ subidentifier_value n
+        → result ≡ subidentifier_value (n * 128 + digit) }
 {
     match number {
         Some(number) if number < 0x100_0000_0000_0000 => Some(number * 128 + digit as u64),
@@ -49,7 +50,8 @@ pub(crate) fn first_arc_of(number: Option<u64>) -> u32
 
 // The second arc, from the value of the first subidentifier.
 pub(crate) fn second_arc_of(number: Option<u64>) -> Option<u32>
-    ensures { (n : ℕ) → number ≡ subidentifier_value n → result ≡ arc_in_32_bits (n - 40 * first_arc n) }
+    ensures { (n : ℕ) → number ≡ subidentifier_value n
+        → result ≡ arc_in_32_bits (n - 40 * first_arc n) }
 {
     match number {
         Some(number) if number < 40 => narrow(Some(number)),

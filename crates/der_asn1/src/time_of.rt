@@ -8,7 +8,7 @@ ghost use Rattle.der_asn1.specs.Meaning.{of_form};
 use crate::date_time::DateTime;
 use crate::described::Described;
 use crate::explicit::Nestable;
-use crate::time_form::TimeFormat;
+use crate::time_format::TimeFormat;
 use der::{
     DecodeValue, EncodeValue, Error, FixedTag, Header, Lawful, Length, ReadValue, Reader, Tag,
     Writer, WrittenValue,

@@ -4,7 +4,7 @@ ghost use Rattle.der.specs.Prelude.{UtcTime as UtcTag};
 ghost use Rattle.der_asn1.specs.Times.{utc_octets, utc_form, is_utc_time};
 
 use crate::date_time::DateTime;
-use crate::time_form::TimeFormat;
+use crate::time_format::TimeFormat;
 use crate::time_octets::{TimeOctets, utc_from};
 use crate::time_of::TimeOf;
 use der::{FixedTag, Tag};

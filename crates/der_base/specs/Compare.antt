@@ -15,7 +15,7 @@ use Rattle.der_base.specs.declared.tag.mode.TagMode.TheVariants.{Explicit, Impli
 use Rattle.der_base.specs.declared.encoding_rules.EncodingRules.{EncodingRules}
 use Rattle.der_base.specs.declared.encoding_rules.EncodingRules.TheVariants.{Ber, Der}
 
--- by the number, then by the flag, the definite length first
+-- compares the numbers, then the flags, the definite length first
 abbrev pub length_order : Length → Length → Ordering
 length_order a b = ordering_then (nat_cmp (number a) (number b))
     (bool_cmp (is_indefinite a) (is_indefinite b))
@@ -48,7 +48,7 @@ variant_index (tag.Application b n) = 22
 variant_index (tag.ContextSpecific b n) = 23
 variant_index (tag.Private b n) = 24
 
--- by the variant, then by the constructed bit, the primitive first, then by the number
+-- compares the variants, then the constructed bits, primitive first, then the numbers
 abbrev pub tag_order : Tag → Tag → Ordering
 tag_order a b =
     ordering_then (nat_cmp (variant_index a) (variant_index b))

@@ -52,10 +52,10 @@ pub data HeadNext (h : Head) (rules : EncodingRules) : List ℕ → ℕ → Type
       → (is_indefinite h.length ≡ true → h.constructed ≡ true)
       → HeadNext h rules (id ++ more) (length id + m)
 
--- why octets at a position do not begin with a length; an encoding that is not the shortest, or has
--- more than four octets after the first, has kind `wrong` (the first of these only after all its
--- octets were read); the fault of a body is found by scanning ahead, and the reader stays after
--- octet `0x80`
+-- why octets at a position do not begin with a length; an encoding with more than four octets after
+-- the first is an error of kind `wrong` after its first octet; one that is not the shortest is an
+-- error of kind `wrong` after all its octets; the fault of a body is found by scanning ahead, and
+-- the reader stays after octet `0x80`
 pub data LengthFault (BodyFault : ℕ → List ℕ → Refusal → Type 0) (wrong : ErrorKind)
     (rules : EncodingRules) (at : ℕ) : List ℕ → Refusal → Type 0 where
   nothing : LengthFault BodyFault wrong rules at [] (end_refusal at)

@@ -21,8 +21,8 @@ abbrev pub NoTagBeginsAnother : Type 0
 NoTagBeginsAnother =
     (t u : Tag) (x y : List ℕ) → tag_octets t ++ x ≡ tag_octets u ++ y → (t ≡ u) × (x ≡ y)
 
--- no identifier is a proper prefix of another, and each has one tag and one constructed bit; octet
--- `0x24` under BER included (X.690 8.1.2, 8.7.1)
+-- no identifier is a proper prefix of another, and each has one tag and one constructed bit; under
+-- BER this includes octet `0x24` (X.690 8.1.2, 8.7.1)
 abbrev pub NoIdentifierBeginsAnother : Type 0
 NoIdentifierBeginsAnother =
     (rules : EncodingRules) (a b : List ℕ) (t u : Tag) (p q : Bool) (x y : List ℕ)
@@ -40,8 +40,8 @@ NoHeaderBeginsAnother =
     (t u : Tag) (m n : ℕ) (x y : List ℕ) → header_octets t m ++ x ≡ header_octets u n ++ y
     → (t ≡ u) × (m ≡ n) × (x ≡ y)
 
--- no indefinite-length body is a proper prefix of another, and each has one number of identifiers
--- and end-of-contents (X.690 8.1.3.6, 8.1.5)
+-- no indefinite-length body is a proper prefix of another, and its octets determine how many
+-- identifiers and end-of-contents it contains (X.690 8.1.3.6, 8.1.5)
 abbrev pub NoBodyBeginsAnother : Type 0
 NoBodyBeginsAnother =
     (a b x y : List ℕ) (m n : ℕ) → Body 1 m a → Body 1 n b → a ++ x ≡ b ++ y
@@ -66,8 +66,8 @@ pub record IsBodyFault (BodyFault : ℕ → List ℕ → Refusal → Type 0) : T
   pub never_both : (at parts : ℕ) (body rest : List ℕ) (r : Refusal)
       → Body 1 parts body → BodyFault at (body ++ rest) r → ⊥
 
--- every list of numbers, octets or not, begins with a body or has a fault of one (X.690 8.1.3.6,
--- 8.1.5)
+-- every list of numbers, octets or not, begins with a body or has a fault, the reason why it does
+-- not (X.690 8.1.3.6, 8.1.5)
 abbrev pub BodiesOrFaults : Type 0
 BodiesOrFaults =
     (at : ℕ) (octets : List ℕ)
@@ -110,10 +110,10 @@ abbrev pub nested_openings : ℕ → List ℕ → List ℕ
 nested_openings zero following = following
 nested_openings (suc n) following = 48 ∷ indefinite_octet ∷ nested_openings n following
 
--- identifiers and end-of-contents counted by hand: 4 for an OCTET STRING with one segment, whose
--- two zero contents octets are no end-of-contents; 128 for NULL within 63 openings, the deepest
--- nesting allowed; and with one opening more there is no body, and the error is after the last
--- octet `0x80`
+-- examples whose identifiers and end-of-contents are counted by hand: an OCTET STRING with one
+-- segment has 4, since its two zero contents octets are no end-of-contents; NULL within 63
+-- openings, the deepest nesting allowed, has 128; with one opening more there is no body, and the
+-- error is after the last octet `0x80`
 abbrev pub ExamplesOfParts : Type 0
 ExamplesOfParts =
     Body 1 4 (36 ∷ 128 ∷ 4 ∷ 2 ∷ 0 ∷ 0 ∷ 0 ∷ 0 ∷ 0 ∷ 0 ∷ [])

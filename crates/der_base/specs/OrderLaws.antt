@@ -18,8 +18,8 @@ pub record IsByteOrder (order : List ℕ → List ℕ → Ordering) : Type 0 whe
   pub less : (a b : List ℕ) → order a b ≡ Less ↔ IsBefore a b
   pub same : (a b : List ℕ) → order a b ≡ Equal ↔ (a ≡ b)
 
--- if neither of two lists is a prefix of the other, they decide before what follows them; so the
--- padding of X.690 11.6 never affects the comparison
+-- if neither of two lists is a proper prefix of the other, their order decides, and what follows
+-- them decides only if they are equal; so the padding of X.690 11.6 never affects the comparison
 abbrev pub FrontsDecide : Type 0
 FrontsDecide =
     (a b x y : List ℕ) → AreApart a b

@@ -15,7 +15,8 @@ use Rattle.der_base.specs.declared.encoding_rules.EncodingRules.TheVariants.{Ber
 
 -- octets begin with a body that contains `parts` identifiers and end-of-contents
 abbrev pub TokensNext : ℕ → List ℕ → Type 0
-TokensNext parts octets = (body following : List ℕ) × Body 1 parts body × (octets ≡ body ++ following)
+TokensNext parts octets = (body following : List ℕ) × Body 1 parts body
+    × (octets ≡ body ++ following)
 
 -- the first m octets of a list are a body, and the indefinite length l counts them
 pub record BodyNext (l : Length) (rules : EncodingRules) (octets : List ℕ) (m : ℕ) : Type 0 where
@@ -31,7 +32,7 @@ pub record BodyNext (l : Length) (rules : EncodingRules) (octets : List ℕ) (m 
 abbrev pub NoBodyFault : ℕ → List ℕ → Refusal → Type 0
 NoBodyFault at octets r = ⊥
 
--- the octets in the whole steps of sixteen that fit into the `left` octets
+-- the number of octets in the whole steps of sixteen that fit into the `left` octets
 abbrev pub passed_steps : ℕ → ℕ
 passed_steps left = 16 * (left / 16)
 

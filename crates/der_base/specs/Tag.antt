@@ -68,7 +68,7 @@ tag_octets t =
     if nat_lt (label t).number high_number then leading_octet (label t) (label t).number ∷ []
     else leading_octet (label t) high_number ∷ continuation_octets (digits 128 (label t).number)
 
--- the universal tags by their identifier octets, of which each has one
+-- the universal tags, each with its only identifier octet
 abbrev pub universal_rows : List (ℕ × Tag)
 universal_rows =
     (1, Boolean) ∷ (2, Integer) ∷ (3, BitString) ∷ (4, OctetString) ∷ (5, Null)

@@ -135,7 +135,8 @@ pub enum ErrorKind {
     SetOrdering,
     /// A number of octets exceeds 4294967295 or the greatest `usize`.
     Overflow,
-    /// A message or an encoded length is too long, or longer than the space for it.
+    /// An encoded length has more octets than it needs or may have, or a write needs more space
+    /// than there is.
     Overlength,
     /// The reader does not support the requested operation.
     Reader,

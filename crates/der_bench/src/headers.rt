@@ -11,7 +11,7 @@ pub struct Wanted {
     pub length: u32,
     /// The class: 0 universal, 1 application, 2 context-specific, 3 private.
     pub class: u8,
-    /// Whether the contents are constructed: not 0.
+    /// Not 0 if the contents are constructed.
     pub constructed: u8,
 }
 

@@ -4,16 +4,16 @@ use crate::writing::last_of;
 use der::example::MyByteMonth;
 use der::{Encode, SliceWriter};
 use der_uses::algorithm_identifier::AlgorithmIdentifier;
-use der_uses::my_octets::Borrowed;
 use der_uses::key_info::KeyInfo;
+use der_uses::my_octets::Borrowed;
 use std::alloc::Global;
 
 /// A key to write, whose fields borrow the first octets of a common slice.
 #[repr(C)]
 pub struct WantedKey {
-    /// How many of these octets its algorithm has.
+    /// The number of octets of its algorithm.
     pub algorithm: u32,
-    /// How many of these octets the key has.
+    /// The number of octets of the key.
     pub key: u32,
     /// The month of the algorithm, below 12.
     pub month: u8,

@@ -29,7 +29,7 @@ module _ (buffer : List ℕ) (start position more : ℕ) (begun : 1 ≤ start) (
         ∙ ap (λ r. contents ++ r) (drop-drop (position - start) start buffer ∙ ap (λ k. drop k buffer) (omega (arith, none, written))),
   )
 
-  -- with the length before them
+  -- the contents with their length before them
   pub length_put : (octets moved put : List ℕ) → length octets ≡ more + 1 → IsMoved start position more buffer moved → put ≡ take (start - 1) moved ++ (octets ++ drop (start + more) moved)
       → (take (position + more) put ≡ take (start - 1) (take position buffer) ++ (octets ++ drop start (take position buffer)))
       × (drop (position + more) put ≡ drop more (drop position buffer)) × (length put ≡ length buffer)

@@ -43,7 +43,7 @@ short_contents {n = n} {u = u} {t = t} p r =
       indefinite = r.indefinite ∙ sym (ap is_indefinite p.length);
     })
 
--- they are entered
+-- the contents after it are entered
 pub short_entered : {o n : ℕ} {s u t : ReaderState} {old new : DerReader} (p : PassesShort o n s u) → EntersShort n u (reader_state new) t → EntersContents (head_of p.header) u no_error old new t
 short_entered {u = u} {t = t} {new = new} p r =
     entered (subst (λ (l : Length). CanNest u (number l)) (sym p.length) r.fits) refl

@@ -106,14 +106,14 @@ tag_octet_small t = ⊎_elim
     (λ a. rw (le-ltb (label t).number 31 a) (octet_below (label t).constructed (label t).class 31 (class_small t) (omega arith)))
     (cases_lt (label t).number 31)
 
--- the parts of a word that is that of a tag
+-- the two parts of the word of a tag
 pub word_octet : (word : ℕ) (t : Tag) → tag_word t ≡ word → word % 256 ≡ tag_octet t
 word_octet word t e = let h = tag_octet_small t in omega arith
 
 pub word_number : (word : ℕ) (t : Tag) → tag_word t ≡ word → word / 256 ≡ long_number t
 word_number word t e = let h = tag_octet_small t in omega arith
 
--- the parts of a word that is that of a tag determine that tag
+-- the two parts of the word of a tag determine the tag
 pub word_said : (word : ℕ) (t : Tag) → IsTagWord word t → said_tag (word % 256) (word / 256) ≡ Some t
 word_said word t is =
     ap (λ o. said_tag o (word / 256)) (word_octet word t is.1) ∙ ap (said_tag (tag_octet t)) (word_number word t is.1) ∙ tag_said t

@@ -9,7 +9,8 @@ use Rattle.der_c.specs.declared.tree.around.Around.{Around}
 -- the reader in the k-th part around it, just after the part inside that one; `ends` are the ends
 -- of the parts around, `following` the positions where reading continues in them
 abbrev pub following_part : List ℕ → List ℕ → ℕ → ReaderState → ReaderState
-following_part ends following k s = record s { end = get_or ends k 0; position = get_or following k 0 }
+following_part ends following k s = record s
+    { end = get_or ends k 0; position = get_or following k 0 }
 
 -- the nodes that a reader inside k parts still writes: they stop inside the innermost part; or that
 -- part is complete, and the nodes after it follow

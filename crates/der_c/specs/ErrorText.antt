@@ -1,5 +1,5 @@
--- Texts of errors (`WritesErrorText`), from their C form (`IsSeenAs`), truncated to the space there is
--- (`IsCut`).
+-- Texts of errors (`WritesErrorText`), from their C form (`IsSeenAs`), truncated to the space there
+-- is (`IsCut`).
 use Rattle.std.specs.Prelude.{◌≡◌, ◌⊎◌, ℕ, ◌+◌, List, ◌++◌, length, take, drop, min, IfSome, codes}
 use Rattle.der_base.specs.Text.{error_text}
 use Rattle.der_base.specs.declared.error.Error.{Error}
@@ -22,8 +22,8 @@ pub record IsCut (text old : List ℕ) (count : ℕ) (new : List ℕ) : Type 0 w
   pub begins : take count new ≡ take (length old) text
   pub following : drop count new ≡ drop count old
 
--- the error has this C form; or it does without the tag that was expected, if that word is not a
--- tag
+-- the error has this C form; or, where the word of the expected tag is not that of a tag, this C
+-- form without the expected tag
 abbrev pub IsSeenAs : Error → DerError → Type 0
 IsSeenAs e code = (error_code e ≡ code) ⊎ (error_code e ≡ record code { expected = 0; first = 0 })
 

@@ -14,7 +14,7 @@ use Rattle.der_c.specs.TagWord.{IsTagWord, NoTagWord}
 use Rattle.der_c.specs.WriterCalls.{RefusesBy}
 use Rattle.der_c.specs.declared.error.DerError.{DerError}
 
--- the header of the tag of this word and of empty contents is written, and `new` is where contents
+-- a header with the tag of this word and a length of 0 is written, and `new` is where the contents
 -- begin; or there is an error
 pub data BeginsElement (word : ℕ) (s : WriterState) (result : DerError) (old new : ℕ)
     (t : WriterState) : Type 0 where

@@ -13,7 +13,7 @@ use Rattle.der_core.specs.declared.header.Header.{Header}
 use Rattle.der_c.specs.TagWord.{tag_word}
 use Rattle.der_c.specs.declared.element.DerElement.{DerElement}
 
--- the next header is the two octets `o` and `n`, of which `n` is the length, and it is consumed
+-- the next header is two octets, the identifier `o` and the length `n`, and it is consumed
 pub record PassesShort (o n : ℕ) (s u : ReaderState) : Type 0 where
   pub header : Header
   pub passed : Passes (HeaderNext header) s u

@@ -15,7 +15,7 @@ use Rattle.der_c.specs.CReader.{answer_code}
 use Rattle.der_c.specs.TagWord.{IsTagWord, NoTagWord}
 use Rattle.der_c.specs.declared.error.DerError.{DerError}
 
--- the error is this kind without a position, and the writer has failed
+-- the error is of this kind, without a position, and the writer has failed
 pub record RefusesBy (kind : ErrorKind) (s : WriterState) (result : DerError) (t : WriterState)
     : Type 0 where
   pub reported : result ≡ error_code (error_of_kind kind)
@@ -28,15 +28,15 @@ pub record WritesOctets (octets : List ℕ) (s : WriterState) (result : DerError
   pub writes : Writes (write_outcome octets s) answer t
   pub reported : result ≡ answer_code answer
 
--- the header of the tag of this word and of n octets is written
+-- a header with the tag of this word and a length of n octets is written
 pub record WritesShort (word n : ℕ) (s t : WriterState) : Type 0 where
   pub tag : Tag
   pub is : IsTagWord word tag
   pub few : n < 2 ^ 32
   pub writes : Writes (header_outcome tag n s) (Ok tt) t
 
--- the header of the tag of this word and of n octets is written, or there is an error; or the word
--- is that of no tag
+-- a header with the tag of this word and a length of n octets is written, or there is an error; or
+-- the word is that of no tag
 pub data WritesHeader (word n : ℕ) (s : WriterState) (result : DerError) (t : WriterState)
     : Type 0 where
   no_tag : NoTagWord word → RefusesBy TagNumberInvalid s result t → WritesHeader word n s result t

@@ -51,7 +51,8 @@ fn read_element_contents<'a>(
     element: &mut DerElement<'a>,
 ) -> DerError
     ensures same { Same (reader_state reader.old) (reader_state reader.new) }
-    ensures reads { ReadsContents (head_of header) start (reader_state reader.old) result element.new
+    ensures reads { ReadsContents (head_of header) start
+        (reader_state reader.old) result element.new
         (reader_state reader.new) }
 {
     let contents_start = reader.position as u32;
@@ -208,7 +209,8 @@ fn expect_slowly<'a>(reader: &mut DerReader<'a>, tag: u64, element: &mut DerElem
 
 /// Consumes an element with this tag, and makes `inside` a reader of its contents.
 ///
-/// Fails like [`der_expect`], and with `NestingDepth` inside 64 others; `inside` is unchanged then.
+/// Fails like [`der_expect`], and with `NestingDepth` if the element is inside 64 others; `inside`
+/// is unchanged then.
 #[unsafe(no_mangle)]
 pub extern "C" fn der_enter<'a>(
     reader: &mut DerReader<'a>,
@@ -286,7 +288,7 @@ fn enter<'a>(reader: &mut DerReader<'a>, header: Header, inside: &mut DerReader<
 ///
 /// Fails with `Reader` without a position if the element does not lie in the octets of the reader,
 /// with `Failed` without a position if the reader has failed, and with `NestingDepth` at the
-/// position of the contents inside 64 others; `inside` is unchanged then.
+/// position of the contents if the element is inside 64 others; `inside` is unchanged then.
 #[unsafe(no_mangle)]
 pub extern "C" fn der_open<'a>(
     reader: &DerReader<'a>,

@@ -13,8 +13,8 @@ use std::marker::Brand;
 use std::sync::ledger::{Blank, Ledger};
 
 /// Consumes indefinite-length contents, and sets `count` to their number of octets, with the
-/// end-of-contents octets that close them (X.690 8.1.3.6). The reader is just after octet `0x80`
-/// before, and just after the end-of-contents octets then.
+/// end-of-contents octets that close them (X.690 8.1.3.6). Before the call the reader is just after
+/// octet `0x80`; after the call it is just after the end-of-contents octets.
 ///
 /// Fails with `EncodingRules` without a position if the reader does not read under the Basic
 /// Encoding Rules, which leaves it unchanged, and like `decode_indefinite_length`; `count` is

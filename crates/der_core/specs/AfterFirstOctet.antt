@@ -19,7 +19,7 @@ use Rattle.der_base.specs.declared.tag.Tag.{Tag}
 use Rattle.der_base.specs.declared.tag.Tag.TheVariants.{OctetString}
 use Rattle.der_core.specs.ReaderState.{ReaderState, rest_of, state_after, Reads, Same}
 
--- the call returns the error of this failure and leaves the reader as it says
+-- the call returns the error of this failure and leaves the reader in the state that it specifies
 pub record Stops (s : ReaderState) (r : Refusal) (e : Error) (t : ReaderState) : Type 0 where
   pub reported : e ≡ r.error
   pub leaves : t ≡ state_after s r
@@ -59,7 +59,7 @@ abbrev pub RawHeadNext : ℕ × ℕ × Length → EncodingRules → List ℕ →
 RawHeadNext x =
     HeadNext (head (identifier_tag x.0 x.1) x.2 (is_constructed x.0))
 
--- an error in a long tag number, after any first octet that one follows
+-- an error in a long tag number, after any first octet that announces one
 abbrev pub RefusesNumber : ReaderState → Error → ReaderState → Type 0
 RefusesNumber s e t =
     (at first : ℕ) → s.position ≡ at + 1 → s.failed ≡ false → 64 ≤ first → first < 256
@@ -77,7 +77,7 @@ RefusesIdentifier first s e t =
     (at : ℕ) → s.position ≡ at + 1 → s.failed ≡ false
     → (r : Refusal) × IdentifierFault s.rules at (first ∷ rest_of s) r × Stops s r e t
 
--- the tag of an identifier that is given by its first octet and number, if it is
+-- the tag of the identifier with this first octet and number, if these are given
 abbrev pub identifier_tag_if_known : Option (ℕ × ℕ) → Option Tag
 identifier_tag_if_known None = None
 identifier_tag_if_known (Some x) = Some (identifier_tag x.0 x.1)
@@ -100,14 +100,14 @@ RefusesLongLength wrong first s e t =
     (at : ℕ) → s.position ≡ at + 1 → s.failed ≡ false
     → (r : Refusal) × LengthFault NoBodyFault wrong s.rules at (first ∷ rest_of s) r × Stops s r e t
 
--- the indefinite form, after its octet: a body is next, and the reader does not move
+-- the indefinite form, after octet `0x80`: a body is next, and the reader does not move
 pub record IsIndefiniteForm (l : Length) (s t : ReaderState) : Type 0 where
   pub octets : ℕ
   pub under_ber : s.rules ≡ Ber
   pub next : BodyNext l s.rules (rest_of s) octets
   pub leaves : t ≡ s
 
--- an error in the indefinite form, after its octet
+-- an error in the indefinite form, after octet `0x80`
 abbrev pub RefusesIndefinite : ReaderState → Error → ReaderState → Type 0
 RefusesIndefinite s e t =
     (wrong : ErrorKind) (at : ℕ) → s.position ≡ at + 1 → s.failed ≡ false

@@ -80,8 +80,8 @@ ReadsOrLacks out_of_memory allocates s m result t =
     (IsOk result × (t ≡ advanced_state s m))
     ⊎ ((allocates ≡ true) × IsErrAnd result (λ e. out_of_memory e ≡ true))
 
--- decoding of a byte slice: an overflow if it is too long, otherwise what follows from the
--- decoder's result
+-- decoding of a byte slice: an overflow if it is too long, otherwise the result that `Follows`
+-- derives from the decoder's result
 pub data BytesAnswer {A B E : Type 0} (rules : EncodingRules)
     (answers : ReaderState → Result A E → ReaderState → Type 0) (converts : Error → E → Type 0)
     (Follows : Result A E → ReaderState → Result B E → Type 0) (octets : List ℕ)
@@ -92,8 +92,8 @@ pub data BytesAnswer {A B E : Type 0} (rules : EncodingRules)
       → answers (initial_state rules octets) answer t → Follows answer t result
       → BytesAnswer rules answers converts Follows octets result
 
--- what follows from the result of a decoder at the start: its error; or the value and the remaining
--- octets, if the reader has not failed
+-- the result of `from_der_partial`, given that of its decoder: the decoder's error; the value and
+-- the remaining octets; or `Failed` if the reader has failed
 abbrev pub PartialThen : {A E : Type 0}
     → (Error → E → Type 0) → Result A E → ReaderState → Result (A × List ℕ) E → Type 0
 PartialThen converts (Err e) t result = result ≡ Err e
@@ -101,8 +101,8 @@ PartialThen converts (Ok v) t result =
     ((t.failed ≡ false) × (result ≡ Ok (v, rest_of t)))
     ⊎ ((t.failed ≡ true) × IsErrAnd result (λ e. converts (error_at Failed (reader_position t)) e))
 
--- what follows from the result of a decoder that must consume everything: its error, that of
--- finishing, or the value
+-- the result of `from_der` and `from_ber`, given that of their decoder: the decoder's error; the
+-- error of finishing the reader; or the value
 abbrev pub WholeThen : {A E : Type 0}
     → (Error → E → Type 0) → Result A E → ReaderState → Result A E → Type 0
 WholeThen converts (Err e) t result = result ≡ Err e
@@ -126,9 +126,9 @@ WholeAnswer rules answers converts = BytesAnswer rules answers converts (WholeTh
 abbrev pub Whole : (EncodingRules → List ℕ → ℕ → Type 0) → EncodingRules → List ℕ → Type 0
 Whole Next rules octets = Next rules octets (length octets)
 
--- the cases of `tlv_bytes`, the octets of a whole element: its header is peeked at first, which
--- leaves the reader unchanged; then header and contents are returned together, or are too many for
--- a length
+-- the cases of `tlv_bytes`, the octets of a whole element: its header is peeked at first, and an
+-- error of this leaves the reader unchanged; then header and contents are read together, as by
+-- `tlv_outcome`
 pub data TlvAnswer (s : ReaderState) (answer : Result (List ℕ) Error) (t : ReaderState)
     : Type 0 where
   no_header : (e : Error) → Peeks HeaderNext (HeaderFault BodyFault) true s (Err e)

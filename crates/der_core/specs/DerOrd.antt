@@ -26,9 +26,9 @@ then_compared Less more = Ok Less
 then_compared Equal more = more
 then_compared Greater more = Ok Greater
 
--- the comparison of two elements, given their tags, the numbers of their contents octets (each of
--- which may be an error, the first before the second), and the result of comparing the contents:
--- the headers in byte order decide, then the contents
+-- the comparison of two elements, given their tags, the results of counting their contents octets,
+-- and the result of comparing the contents: the first error of counting; otherwise the byte order
+-- of the headers decides, and if they are equal, the contents
 abbrev pub element_order : Tag → Tag → Result Length Error → Result Length Error → Compared
     → Compared
 element_order t u (Ok m) (Ok n) contents =
@@ -41,7 +41,7 @@ element_order t u (Err e) n contents = Err e
 abbrev pub AreOrderly : Tag → Tag → List ℕ → List ℕ → Compared → Type 0
 AreOrderly t u c d answer = t ≡ u → length c ≡ length d → answer ≡ Ok (byte_order c d)
 
--- this holds for the contents of any two values of a type
+-- the contents of any two values of a type satisfy `AreOrderly`
 abbrev pub IsOrderly : {A : Type 0} → (A → Tag) → (A → List ℕ) → (A → A → Compared) → Type 0
 IsOrderly {A} tag_of contents order =
     (v w : A) → AreOrderly (tag_of v) (tag_of w) (contents v) (contents w) (order v w)

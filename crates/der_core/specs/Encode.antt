@@ -162,12 +162,13 @@ abbrev pub writer_after : Result (Unit {0}) Error → WriterState → WriterStat
 writer_after (Ok _) t = t
 writer_after (Err e) t = failed_state t
 
--- a writer that had failed is unchanged
+-- a writer that had failed returns `Failed` at its position and is unchanged
 abbrev pub RefusesFailed : WriterAnswer
 RefusesFailed s result u = s.failed ≡ true → (result ≡ Err (error_at Failed (writer_position s)))
     × (u ≡ s)
 
--- the outcome of encoding a value by a slice writer that has not failed
+-- the outcome of encoding a value by a slice writer that has not failed: an error without a
+-- position gets that of the writer, and each error leaves the writer failed
 abbrev pub PlacesErrors : WriterAnswer → WriterAnswer
 PlacesErrors answers s result u =
     s.failed ≡ false → (r : Result (Unit {0}) Error) × (t : WriterState)

@@ -39,7 +39,7 @@ pub data FieldsRead {A B E : Type 0} (first : ReaderState → Result A E → Rea
   both_read : (a : A) (u : ReaderState) (b : B) → first s (Ok a) u → second u (Ok b) t
       → result ≡ Ok (a, b) → FieldsRead first second s result t
 
--- contents that are entirely one value are accepted as it, whatever their header
+-- contents are accepted as a value if they are entirely that value, whatever their header
 abbrev pub TakesWhole : {A : Type 0} → (A → EncodingRules → List ℕ → ℕ → Type 0)
     → A → EncodingRules → Head → List ℕ → Type 0
 TakesWhole Next v rules h octets = Whole (Next v) rules octets

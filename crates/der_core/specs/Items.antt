@@ -23,7 +23,8 @@ lists_order order [] (y ∷ ys) = Ok Less
 lists_order order (x ∷ xs) [] = Ok Greater
 lists_order order (x ∷ xs) (y ∷ ys) = and_compared (order x y) (lists_order order xs ys)
 
--- what decides after equal items: the next pair, or that one of its items is missing
+-- the result after equal items: `Equal` if both iterators end; if only one ends, it is the smaller;
+-- otherwise the comparison of the next pair, which is not `Equal`
 abbrev pub LastCompared : {A : Type 0} → (A → A → Compared) → Option A → Option A → Compared
     → Type 0
 LastCompared order None None answer = answer ≡ Ok Equal
@@ -31,7 +32,7 @@ LastCompared order None (Some y) answer = answer ≡ Ok Less
 LastCompared order (Some x) None answer = answer ≡ Ok Greater
 LastCompared order (Some x) (Some y) answer = (answer ≡ order x y) × (answer ≢ Ok Equal)
 
--- two iterators returned items that are equal pair by pair, and then what decides
+-- two iterators returned items that are equal pair by pair, and what they returned next decides
 pub record ComparesItems {S T A : Type 0} (steps : S → Option A → S → Type 0)
     (others : T → Option A → T → Type 0) (s : S) (t : T) (order : A → A → Compared)
     (answer : Compared) : Type 0 where

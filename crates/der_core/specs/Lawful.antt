@@ -49,8 +49,8 @@ pub record EncodingNext {A : Type 0} (valid : A → Type 0) (encoding : A → Li
   pub split : octets ≡ encoding v ++ following
   pub whole : m ≡ length (encoding v)
 
--- under DER octets begin with a value only if they begin with its encoding, and, if a length can
--- represent their number, whenever they begin with it
+-- under DER octets that begin with a value begin with its encoding; conversely, octets that begin
+-- with the encoding of a valid value begin with that value, if a length can represent their number
 pub record ReadsEncodings {A : Type 0} (Next : A → EncodingRules → List ℕ → ℕ → Type 0)
     (valid : A → Type 0) (encoding : A → List ℕ) : Type 0 where
   pub only : (octets : List ℕ) (v : A) (m : ℕ) → Next v Der octets m
@@ -58,8 +58,8 @@ pub record ReadsEncodings {A : Type 0} (Next : A → EncodingRules → List ℕ 
   pub every : (octets : List ℕ) (v : A) (m : ℕ) → length octets < 2 ^ 32
       → EncodingNext valid encoding v octets m → Next v Der octets m
 
--- under DER octets are entirely a value only if they are its encoding, and, if a length can
--- represent their number, whenever they are
+-- under DER octets that are entirely a value are its encoding; conversely, the encoding of a valid
+-- value is entirely that value, if a length can represent its number of octets
 pub record ReadsWholeEncodings {A : Type 0} (Next : A → EncodingRules → List ℕ → ℕ → Type 0)
     (valid : A → Type 0) (encoding : A → List ℕ) : Type 0 where
   pub only : (octets : List ℕ) (v : A) → Whole (Next v) Der octets

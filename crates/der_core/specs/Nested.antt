@@ -1,6 +1,6 @@
--- Reading a nested part by a closure: when one may be entered and left (`CanNest`, `CanLeave`), the
--- condition on the closure (`RestoresReader`), and the cases of `close_nested` (`Closes`), `close_value`
--- (`ClosesValue`), `read_nested` (`NestedAnswer`) and `read_value` (`ValueAnswer`).
+-- Reading a nested part by a closure: when a part may be entered and left (`CanNest`, `CanLeave`),
+-- the condition on the closure (`RestoresReader`), and the cases of `close_nested` (`Closes`),
+-- `close_value` (`ClosesValue`), `read_nested` (`NestedAnswer`) and `read_value` (`ValueAnswer`).
 use Rattle.std.specs.Prelude.{◌≡◌, ℕ, ◌+◌, ◌-◌, ◌<◌, ◌≤◌, Bool, true, false, length, Result, Ok, Err}
 use Rattle.der_base.specs.Error.{error_at}
 use Rattle.der_base.specs.Length.{number, is_indefinite, definite_length}
@@ -44,7 +44,8 @@ pub record RestoresReader {P Q A : Type 0} (pre : P → Type 0) (post : P → A 
   pub same : (p : P) (a : A) (q : Q) → CanNest s n → before p ≡ nested_state s n → post p a q
       → Same (before p) (after q)
 
--- the closure ran inside the nested part of n octets, and its result determines this one
+-- the nested part of n octets cannot be entered, or the closure ran inside it and its result
+-- determines that of the call
 pub data NestedAnswer {P Q T E : Type 0} (converts : Error → E → Type 0)
     (post : P → Result T E → Q → Type 0) (before : P → ReaderState) (after : Q → ReaderState)
     (n : ℕ)
@@ -55,8 +56,8 @@ pub data NestedAnswer {P Q T E : Type 0} (converts : Error → E → Type 0)
       → post p answer q → Closes converts answer (after q) s.end s.depth result t
       → NestedAnswer converts post before after n s result t
 
--- a nested part and the end-of-contents octets after it, if its length was read in the indefinite
--- form
+-- a nested part is left, and then the end-of-contents octets are read, if its length was read in
+-- the indefinite form (`has_eoc`)
 pub data ClosesValue {T E : Type 0} (converts : Error → E → Type 0) (answer : Result T E)
     (s : ReaderState) (end depth : ℕ) (has_eoc : Bool) (result : Result T E) (t : ReaderState)
     : Type 0 where
@@ -73,7 +74,8 @@ pub data ClosesValue {T E : Type 0} (converts : Error → E → Type 0) (answer 
       → Gives read_eoc_outcome u (Err e) t → converts e f → result ≡ Err f
       → ClosesValue converts answer s end depth has_eoc result t
 
--- the closure ran inside contents of this length, and its result determines this one
+-- contents of this length cannot be entered, or the closure ran inside them and its result
+-- determines that of the call
 pub data ValueAnswer {P Q T E : Type 0} (converts : Error → E → Type 0)
     (post : P → Result T E → Q → Type 0) (before : P → ReaderState) (after : Q → ReaderState)
     (length : Length)

@@ -19,7 +19,7 @@ outcome_of answer after = record { answer = answer; after = after }
 abbrev pub refused_outcome : (A : Type 0) → ReaderState → Refusal → Outcome A
 refused_outcome A s r = record { answer = Err r.error; after = state_after s r }
 
--- the call has the result and the state after it of its table
+-- the call has the result, and the state after it, that its table gives
 pub record Gives {A : Type 0} (table : ReaderState → Outcome A) (s : ReaderState)
     (answer : Result A Error)
     (t : ReaderState) : Type 0 where
@@ -39,7 +39,7 @@ abbrev pub AnswersAs : {A : Type 0} → Bool → (ReaderState → Outcome A) →
 AnswersAs reliable table s (Ok a) = Ok a ≡ (table s).answer
 AnswersAs reliable table s (Err e) = reliable ≡ true → Err e ≡ (table s).answer
 
--- what follows a result
+-- the outcome after a result: that of the next call if it is `Ok`, otherwise its error
 abbrev pub outcome_following : {A B : Type 0} → Result A Error → ReaderState
     → (A → ReaderState → Outcome B) → Outcome B
 outcome_following (Ok a) t next = next a t
@@ -48,7 +48,8 @@ outcome_following (Err e) t next = outcome_of (Err e) t
 abbrev pub chained_outcome : {A B : Type 0} → Outcome A → (A → ReaderState → Outcome B) → Outcome B
 chained_outcome o next = outcome_following o.answer o.after next
 
--- a result is binding for every reader if it is `Ok`, and always for a reliable one
+-- whether a reader must meet its specification for a result: always for `Ok`, and for an error if
+-- the reader is reliable
 abbrev pub IsBinding : {T E : Type 0} → Bool → Result T E → Type 0
 IsBinding reliable (Ok v) = Unit {0}
 IsBinding reliable (Err e) = reliable ≡ true
@@ -58,8 +59,8 @@ abbrev pub map_ok : {A B F : Type 0} → (A → B) → Result A F → Result B F
 map_ok f (Ok a) = Ok (f a)
 map_ok f (Err e) = Err e
 
--- if errors are not returned in detail: the result must be that of the table if that is `Ok`;
--- otherwise a reliable reader returns an error
+-- for a call that returns `None` instead of an error: a value that it returns is that of the table;
+-- if a reliable reader returns `None`, the table has an error
 abbrev pub PeeksAs : {A : Type 0} → Bool → Result A Error → Option A → Type 0
 PeeksAs reliable answer (Some a) = answer ≡ Ok a
 PeeksAs reliable answer None = reliable ≡ true → IsErr answer

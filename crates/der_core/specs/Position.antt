@@ -27,7 +27,7 @@ pub record PlaceOutcome (A : Type 0) : Type 0 where
 abbrev pub place_outcome : {A : Type 0} → Result A Error → Place → PlaceOutcome A
 place_outcome answer after = record { answer = answer; after = after }
 
--- the call has the result and the place after it of its table
+-- the call has the result, and the place after it, that its table gives
 pub record Moves {A : Type 0} (table : Place → PlaceOutcome A) (s : Place) (answer : Result A Error)
     (t : Place) : Type 0 where
   pub answered : answer ≡ (table s).answer
@@ -43,7 +43,7 @@ advance_outcome n s =
     else place_outcome (Ok (definite_length (s.position + n)))
     (place_at s.end (s.position + n) s.depth)
 
--- the error of a nested part whose end is after the end
+-- the error of a nested part that would end at `part_end`, after the end `end`
 abbrev pub part_error : ℕ → ℕ → Error
 part_error part_end end =
     if not (nat_lt part_end (2 ^ 32)) then error_of_kind Overflow else (end_refusal end).error

@@ -41,7 +41,7 @@ read_byte_outcome s = outcome_unless_failed s (next_octet_outcome s (rest_of s))
 abbrev pub remaining_answer : ReaderState → Result (List ℕ) Error
 remaining_answer s = if s.failed then Err (error_at Failed (reader_position s)) else Ok (rest_of s)
 
--- the octets in the whole steps of sixteen that fit into the remaining octets
+-- the number of octets in the whole steps of sixteen that fit into the remaining octets
 abbrev pub whole_steps : ReaderState → ℕ
 whole_steps s = 16 * ((s.end - s.position) / 16)
 
@@ -103,7 +103,7 @@ eoc_outcome s (suc o ∷ more) = kind_outcome (Unit {0}) IndefiniteLength (advan
 abbrev pub read_eoc_outcome : ReaderState → Outcome (Unit {0})
 read_eoc_outcome s = outcome_unless_failed s (eoc_outcome s (rest_of s))
 
--- one octet of the end-of-contents octets, already read
+-- the outcome after one end-of-contents octet is read, which must be zero
 abbrev pub zero_octet_outcome : ℕ → ReaderState → Outcome (Unit {0})
 zero_octet_outcome o s =
     if o == 0 then outcome_of (Ok tt) s

@@ -11,7 +11,7 @@ use Rattle.der_base.specs.declared.encoding_rules.EncodingRules.{EncodingRules}
 pub record ReaderState : Type 0 where
   pub input : List ℕ
   pub rules : EncodingRules
-  -- the end up to which may be read: inside a nested part, that of the part
+  -- the end up to which the input may be read: inside a nested part, the end of that part
   pub end : ℕ
   pub position : ℕ
   pub depth : ℕ
@@ -32,7 +32,7 @@ initial_state rules input =
       keeps_failure = true;
     }
 
--- the remaining octets, up to the present end
+-- the remaining octets, up to the end
 abbrev pub rest_of : ReaderState → List ℕ
 rest_of s = take (s.end - s.position) (drop s.position s.input)
 

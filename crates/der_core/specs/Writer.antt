@@ -8,8 +8,8 @@ use Rattle.der_base.specs.declared.error.Error.{Error}
 use Rattle.der_base.specs.declared.error.ErrorKind.TheVariants.{Failed, Overflow, Overlength}
 
 -- The meaning of a writer. One without a buffer starts at 0 with nothing written, chooses its own
--- `stop`, has nothing behind, and any capacity and reference: these two distinguish this writer
--- from others.
+-- `stop`, has an empty `following`, and any capacity and reference: these two distinguish this
+-- writer from others.
 pub record WriterState : Type 0 where
   -- all octets written since the start of the buffer
   pub octets : List ℕ
@@ -52,8 +52,8 @@ appended_state s octets =
 abbrev pub failed_state : WriterState → WriterState
 failed_state s = record s { failed = true }
 
--- the same writer, still failed if it had failed; octets written earlier remain, and the buffer
--- after what is written now is unchanged
+-- the same writer, still failed if it had failed; octets written earlier remain, and the octets of
+-- the buffer after those written now are unchanged
 pub record Keeps (s t : WriterState) : Type 0 where
   pub start : t.start ≡ s.start
   pub stop : t.stop ≡ s.stop

@@ -52,7 +52,8 @@ pub record Abandons (s : WriterState) (n : ℕ) (q t : WriterState) : Type 0 whe
   pub passed : length t.octets ≡ length s.octets + n
   pub buffer : t.octets ++ t.following ≡ q.octets ++ q.following
 
--- what follows a closure that got the reserved part, returned r and left the writer q
+-- the result and the writer t after a closure that got the reserved part, given its result and the
+-- writer q that it left
 pub data ClosesPart (s : WriterState) (n : ℕ) (q t : WriterState)
     : Result (Unit {0}) Error → Result (Unit {0}) Error → Type 0 where
   forwarded : (e : Error) → Abandons s n q t → ClosesPart s n q t (Err e) (Err e)
@@ -62,9 +63,10 @@ pub data ClosesPart (s : WriterState) (n : ℕ) (q t : WriterState)
       → ClosesPart s n q t (Ok tt)
       (Err (error_at (IncorrectLength Sequence) (definite_length (written_count s + n))))
   filled : q.failed ≡ false → length q.octets ≡ length s.octets + n
-      → t ≡ record s { octets = q.octets; following = q.following } → ClosesPart s n q t (Ok tt) (Ok tt)
+      → t ≡ record s { octets = q.octets; following = q.following }
+      → ClosesPart s n q t (Ok tt) (Ok tt)
 
--- the closure ran over the reserved part, and its result determines this one
+-- the closure ran over the reserved part, and its result determines that of the call
 pub record Runs (run : Run) (s : WriterState) (n : ℕ) (result : Result (Unit {0}) Error)
     (t : WriterState) : Type 0 where
   pub given : MutBor SliceWriter
@@ -96,7 +98,7 @@ abbrev pub RunsIfSpace : Run → WriterState → ℕ → Result (Unit {0}) Error
 RunsIfSpace run s n result t = s.failed ≡ false → length s.octets + n ≤ s.stop
     → Runs run s n result t
 
--- n octets are reserved and filled: no space, or the closure ran
+-- the cases of reserving and filling n octets: there is no space, or the closure ran
 pub data PartAnswer (run : Run) (s : WriterState) (n : ℕ) (result : Result (Unit {0}) Error)
     (t : WriterState) : Type 0 where
   no_space : (e : Error) → (space_outcome n s s).answer ≡ Err e

@@ -307,8 +307,7 @@ fn encode_long_header<W: Writer>(tag: Tag, len: Length, writer: &mut W) -> Resul
     Header::new(tag, len).encode(writer)
 }
 
-/// Writes the tag and then the length, of which only the number is written. The constructed bit is
-/// that of the tag.
+/// Writes the tag and then only the number of the length. The constructed bit is that of the tag.
 ///
 /// # Errors
 ///

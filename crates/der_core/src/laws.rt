@@ -26,10 +26,10 @@ fn next_values_are_decoded()
 {}
 
 /// Under DER, tags, lengths, headers and `PhantomData` (whose encoding is empty) are read from
-/// exactly their encodings: octets begin with one if they begin with its encoding; octets are
-/// entirely one if they are its encoding; a reader that has decoded one has consumed its encoding;
-/// and an encoding is read back as the same value, whatever follows. Tag numbers and lengths have
-/// 32 bits.
+/// exactly their encodings. Octets whose number a length can represent begin with a value exactly
+/// if they begin with its encoding, and are entirely a value exactly if they are its encoding. A
+/// reader that has decoded a value has consumed its encoding. An encoding is read back as the same
+/// value, whatever follows. Tag numbers and lengths have 32 bits.
 fn grammars_read_encodings<T>()
     ensures tags { ReadsExactly TagNext (λ t. (label t).number < 2 ^ 32) tag_octets }
     ensures lengths { ReadsExactly LengthNext IsDefinite (λ l. length_octets (number l)) }
@@ -39,9 +39,10 @@ fn grammars_read_encodings<T>()
         (λ _. []) }
 {}
 
-/// Under DER, octets begin with an element of a lawful type exactly if they begin with the encoding
-/// of a valid value; octets are entirely such an element exactly if they are the encoding; a reader
-/// that has decoded one has consumed the encoding; and an encoding is read back, whatever follows.
+/// Under DER, octets whose number a length can represent begin with an element of a lawful type
+/// exactly if they begin with the encoding of a valid value, and are entirely such an element
+/// exactly if they are the encoding. A reader that has decoded such an element has consumed the
+/// encoding. An encoding is read back, whatever follows.
 fn lawful_types_read_encodings<T: Lawful>()
     ensures front { ReadsEncodings (ElementNext T.tag_is T.takes) T.valid
         (λ v. element_octets T.tag_is (T.contents v)) }

@@ -42,14 +42,15 @@ pub fn decode_length<R: Reader>(reader: &mut R) -> Result<Length, Error>
     decode_length_after(reader, None)
 }
 
-// Decodes a length. If it follows an identifier, given by its first octet and number, then a length
-// that is not encoded as required is reported with the tag of that identifier.
+// Decodes a length. If it follows an identifier, given by its first octet and number, then the
+// error for a length that is not encoded as required has the tag of that identifier.
 #[inline(always)]
 pub(crate) fn decode_length_after<R: Reader>(
     reader: &mut R,
     identifier: Option<(u8, u32)>,
 ) -> Result<Length, Error>
-    ensures { Decodes LengthNext (LengthFault BodyFault (wrong_length_kind (identifier_tag_if_known identifier)))
+    ensures { Decodes LengthNext
+        (LengthFault BodyFault (wrong_length_kind (identifier_tag_if_known identifier)))
         R.reliable (R.state reader.old) result (R.state reader.new) }
 {
     let first = reader.read_byte()?;
@@ -95,7 +96,8 @@ pub(crate) fn decode_long_length<R: Reader>(
     ensures ok { IfOk result (λ n. DefiniteAfter first n (R.state reader.old)
         (R.state reader.new)) }
     ensures exact { R.reliable ≡ true
-        → IfErr result (λ e. RefusesLongLength (wrong_length_kind (identifier_tag_if_known identifier)) first
+        → IfErr result
+        (λ e. RefusesLongLength (wrong_length_kind (identifier_tag_if_known identifier)) first
         (R.state reader.old) e (R.state reader.new)) }
 {
     if first > 0x84 {

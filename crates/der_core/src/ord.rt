@@ -26,12 +26,12 @@ pub use value::{OrdIsValueOrd, Orderly, ValueOrd};
 ///
 /// - `order` is the exact result of [`DerOrd::der_cmp`], errors included.
 /// - `octets` is the octets by which values are ordered.
-/// - `by_octets` says of two values that every result of comparing them is the byte order of these
-///   octets.
-/// - `has_header` says of a value that the beginning of its octets can be computed; if both values
-///   have it, there is a result.
-/// - `delimits` says whether the octets of values can be separated after they are joined;
-///   `delimited` is the proof that they then can.
+/// - `by_octets` says for which two values every result of comparing them is the byte order of
+///   these octets.
+/// - `has_header` says for which values the beginning of the octets can be computed; if it holds
+///   for both values, and `by_octets` for the two, there is a result.
+/// - `delimits` is a condition under which the octets of values can be separated after they are
+///   joined; `delimited` proves that they then can.
 pub trait DerOrd {
     ghost order: { Self → Self → Compared };
 

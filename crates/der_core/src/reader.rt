@@ -79,7 +79,8 @@ pub trait Reader: Sized + Drop {
     fn encoding_rules(&self) -> EncodingRules
         ensures { result ≡ (state self.now).rules };
 
-    /// The end up to which may be read: the length of the input, or within a nested part its end.
+    /// The end up to which the input may be read: its length, or within a nested part the end of
+    /// that part.
     fn input_len(&self) -> Length
         ensures { result ≡ definite_length (state self.now).end };
 

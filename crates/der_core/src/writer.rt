@@ -9,8 +9,8 @@ pub use slice::SliceWriter;
 
 /// A writer of octets: what was written, what the buffer holds after it, how much space there is,
 /// and whether the writer has failed. A writer without a buffer starts with `start` 0, chooses its
-/// own `stop`, has nothing `following`, and any `capacity` and `reference`, as long as these do not
-/// change.
+/// own `stop`, has an empty `following`, and any `capacity` and `reference`, as long as these do
+/// not change.
 ///
 /// A writer that has not failed accepts every write that fits into its space. A reliable writer
 /// fails exactly as the outcome of each function specifies; a writer that guarantees nothing counts

@@ -14,7 +14,7 @@ pub struct Counter {
 }
 
 impl Writer for Counter {
-    // a write may fail for memory at any time, so the state is that of a failed writer
+    // a write may fail at any time for lack of memory, so the state is that of a failed writer
     ghost state = { λ w. record {
       octets = w.octets.items;
       following = [];

@@ -5,7 +5,8 @@ ghost use Rattle.der.specs.Prelude.{OctetString};
 use der::{DecodeValue, Error, ErrorKind, FixedTag, Header, ReadValue, Reader, ReaderExt, Tag};
 use std::alloc::Global;
 
-/// An octet, returned although the next read failed: no contents are read as this value.
+/// An octet. Its `decode_value` ignores that reading a second octet failed, so the contract accepts
+/// no contents as this value.
 #[derive(Clone, Copy)]
 pub struct Hasty {
     /// The octet.

@@ -1,4 +1,4 @@
-//! Readers, writers and types that tests implement: each is proved to keep the contract of its trait.
+//! Readers, writers and types for tests: each is proved to keep the contract of its trait.
 #![tactic(auto)]
 
 pub mod counter;

@@ -1,11 +1,12 @@
-//! A type that reads its contents inside nested parts, each of which is all of them.
+//! A type that reads its contents inside nested parts, each of which spans all the contents.
 ghost use Rattle.std.specs.Prelude.{false};
 ghost use Rattle.der.specs.Prelude.{OctetString, Same};
 
 use der::{DecodeValue, Error, FixedTag, Header, ReadValue, Reader, ReaderExt, Tag};
 use std::alloc::Global;
 
-/// A value whose contents are read inside `LEVELS` nested parts, each of which is all of them.
+/// A value whose contents are read inside `LEVELS` nested parts, each of which spans all the
+/// contents.
 #[derive(Clone, Copy)]
 pub struct Nest<const LEVELS: u8>;
 
@@ -24,7 +25,7 @@ impl<const LEVELS: u8> ReadValue for Nest<LEVELS> {
 
     ghost takes = { λ _ _ _ _. Unit {0} };
 
-    // reading it is promised at no depth
+    // contents with 64 levels are too deep at every depth, so no read is promised to succeed
     ghost value_levels = { λ _. 64 };
 
     ghost allocates = { false };

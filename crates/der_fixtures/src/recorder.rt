@@ -3,7 +3,7 @@ ghost use Rattle.std.specs.Prelude.{◌+◌, ◌*◌, ◌%◌, ◌^◌, fold};
 
 use std::hash::{Hash, Hasher};
 
-/// The octets so far as the digits of a number in base 256, after a 1; at most 15 octets.
+/// A number whose digits in base 256 are a 1 and then the octets so far, at most 15.
 #[derive(Drop)]
 struct Recorder(u128);
 
@@ -23,7 +23,7 @@ impl Hasher for Recorder {
     }
 }
 
-/// The octets that a hasher gets for the value, as such a number.
+/// The octets that a hasher gets for the value, as the number of a `Recorder`.
 pub fn recorded<T: Hash>(value: &T) -> u128 {
     let mut recorder = Recorder(1);
     value.hash(&mut recorder);

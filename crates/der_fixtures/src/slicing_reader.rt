@@ -1,11 +1,11 @@
-//! A reader that returns a slice of all that is left, and reads nothing.
+//! A reader that returns a slice of all that is left, and whose `read_slice` and `read_into` fail.
 ghost use Rattle.std.specs.Prelude.{◌≡◌, false, true, IfOk};
 ghost use Rattle.der.specs.Prelude.{Ber, slice_state};
 
 use der::{EncodingRules, Error, ErrorKind, Length, Reader, Resumption, SliceReader};
 use std::alloc::Allocator;
 
-/// A reader that returns what is left as a slice, and fails at each read.
+/// A reader whose `remaining` returns a slice, and whose `read_slice` and `read_into` always fail.
 #[derive(Drop)]
 pub struct SlicingReader<'a> {
     inner: SliceReader<'a>,

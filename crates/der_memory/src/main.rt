@@ -1,6 +1,7 @@
-//! Calls that allocate nothing, in groups, and then, after a line `allocating`, calls that allocate.
-//! Each prints a line with its result. Before the line `allocating` only what is printed before a
-//! line `prepared` may allocate: `.ci/refused_memory` counts the requests, and fails each in turn.
+//! Calls that allocate nothing, in groups, and then, after a line `allocating`, calls that
+//! allocate. Each prints a line with its result. Before the line `allocating`, only what runs just
+//! before a line `prepared` may allocate. `.ci/refused_memory` counts the requests, and makes each
+//! fail in turn.
 #![tactic(auto)]
 
 mod allocating;

@@ -49,7 +49,7 @@ pub fn of_strings(rt: &impl Print, alloc: Global) -> io::Result<()> {
     )
 }
 
-// Whether the octets are not text, without the text of the error.
+// Whether the octets are not text; the error itself is not printed.
 fn is_refused<T: Drop>(answer: Result<T, Error>) -> Result<bool, Error> {
     Ok(answer.is_err())
 }

@@ -37,7 +37,7 @@ impl<'a> Search<'a> {
     }
 
     /// Whether the next field, which has this name, fails to decode. The walk skips a field that
-    /// does not, and stays at one that does.
+    /// decodes, and stays at one that fails.
     pub fn is_refused<T: Decode<SliceReader<'a>, Error = Error>>(&mut self, name: &str) -> bool {
         if self.passes::<T>() {
             return false;
@@ -64,8 +64,8 @@ impl<'a> Search<'a> {
         false
     }
 
-    /// The same for a SET. If no member fails, the SET fails for the order of its members; the
-    /// position of that error is counted from the start of the contents, and is corrected here.
+    /// The same for a SET. If no member fails, the SET fails because its members are out of order;
+    /// the position of that error is counted from the start of the contents, and is corrected here.
     pub fn is_member_refused<T: Decode<SliceReader<'a>, Error = Error>>(&mut self) -> bool {
         let order = self.error_from_here();
         if self.is_item_refused::<T>() {
@@ -75,8 +75,8 @@ impl<'a> Search<'a> {
         false
     }
 
-    /// Enters the next element. Returns false if it has another tag or its header or contents are
-    /// not valid and complete.
+    /// Enters the next element. Returns false if its header fails to decode, if it has another tag,
+    /// or if its contents cannot be entered.
     pub fn enter(&mut self, tag: Tag) -> bool {
         match decode_header(&mut self.reader) {
             Ok(header) => header.tag() == tag && self.reader.enter_nested(header.length()).is_ok(),

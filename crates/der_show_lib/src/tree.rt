@@ -61,7 +61,7 @@ fn climb(around: &mut Vec<Part>, mut position: u32) -> u32 {
     position
 }
 
-/// Enters an element.
+/// Adds an element to the open ones, which `around` holds from the outermost to the innermost.
 fn enter(around: &mut Vec<Part>, element: &PlacedElement<'_>) -> Result<(), Failure> {
     if around.len() >= MAX_DEPTH {
         let error: Error = ErrorKind::NestingDepth.at(Length::new(element.start));

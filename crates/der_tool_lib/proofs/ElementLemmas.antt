@@ -24,7 +24,8 @@ module _ (rules : EncodingRules) (octets : List ℕ) where
   left : rest_of begun ≡ octets
   left = rest-beginning rules octets
 
-  -- the result for an element of n octets, and what its two tests choose from
+  -- the result for an element of n octets, which two tests choose: whether n fits a length, and
+  -- whether there are n octets
   abbrev whole_answer : ℕ → Result (List ℕ) Error
   whole_answer n = (tlv_outcome n begun).answer
 

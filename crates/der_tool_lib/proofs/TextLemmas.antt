@@ -33,7 +33,7 @@ identifier_text {at = at} (IdentifierFault.refused [] o rest c n) =
     ]
 identifier_text (IdentifierFault.refused (first ∷ s) o rest c n) = (_, refl)
 
--- contents may have any fault whose error has a text
+-- the error of each fault of contents has a text
 abbrev BodyText : (ℕ → List ℕ → Refusal → Type 0) → Type 0
 BodyText Fault = (at : ℕ) (s : List ℕ) (r : Refusal) → Fault at s r → HasText (error_text r.error)
 

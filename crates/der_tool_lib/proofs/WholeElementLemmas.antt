@@ -29,7 +29,7 @@ module _ (octets : List ℕ) (h : Head) (m : ℕ) (small : length octets < 2 ^ 3
   abbrev n : ℕ
   n = number h.length
 
-  -- contents that cannot be entered are missing
+  -- contents that cannot be entered are truncated, or end after octet 2^32 - 1
   not_entered : (e : Error) (t : ReaderState) → Gives (enter_nested_outcome n) (following octets m) (Err e) t → NoWholeElement octets e
   not_entered e t gives = go (nat_lt (m + n) (2 ^ 32)) (nat_lt (length octets) (m + n)) refl refl
     where
@@ -142,7 +142,7 @@ module _ (octets : List ℕ) (s u t : ReaderState) (h : Header) {B : Type 0} (oc
   said : (result : Result B Error) → ReadsWithClosure converts octets_of (sans_eoc (head_of h).length) u result t → ContentsSay octets (head_of h) passed.octets small before octets_of handed result t
   said result reads_slices = contents_say octets (head_of h) passed.octets small before octets_of handed result t (subst (λ x. ReadsWithClosure converts octets_of (sans_eoc (head_of h).length) x result t) state_after_header reads_slices)
 
-  -- contents that are truncated, and octets that are left after them
+  -- the error of truncated contents, and that of octets that are left after contents
   pub contents_refused : (e : Error) → ReadsWithClosure converts octets_of (sans_eoc (head_of h).length) u (Err e) t → NoWholeElement octets e
   contents_refused e reads_slices = said (Err e) reads_slices
 

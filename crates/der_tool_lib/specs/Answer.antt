@@ -101,7 +101,8 @@ ForwardsError given e = e ≡ given
 -- fails, or that an allocation failed
 abbrev pub NotJoined : List ℕ → Error → Type 0
 NotJoined octets e =
-    WholeAnswer {A = JoinedOctets} Ber (ElementRead OctetString ForwardsError JoinedRead) ForwardsError
+    WholeAnswer {A = JoinedOctets} Ber
+    (ElementRead OctetString ForwardsError JoinedRead) ForwardsError
     octets (Err e)
 
 -- the lines print the header that the octets begin with
@@ -162,7 +163,7 @@ pub data AnswersJoin (octets : List ℕ) : ℕ → List ℕ → Type 0 where
   reported : {text : List ℕ} → PrintsJoined octets text → AnswersJoin octets 0 text
   refused : {text : List ℕ} → Refuses (NotJoined octets) text → AnswersJoin octets 1 text
 
--- the text decodes to octets that this holds for
+-- the text decodes to octets for which `AnswersTo` holds
 pub record ToSpelled (hex : List ℕ) (AnswersTo : List ℕ → Type 0) : Type 0 where
   pub octets : List ℕ
   pub spelled : decode_of hex ≡ Ok octets

@@ -1,5 +1,5 @@
 pub mod ToolCommand
-pub mod Text
+pub mod PrintedText
 pub mod Answer
 pub mod Arguments
-pub mod Element
+pub mod WholeElement

@@ -11,7 +11,8 @@ use std::env::Args;
 use std::io;
 
 /// Runs the program on its arguments and returns the status, as `run` does. The first argument is
-/// the name of the program; an error says why there are no arguments.
+/// the name of the program. If there are no arguments, `given` is the reason: `InvalidData` if one
+/// is not text, which is no command, and any other error if an allocation failed.
 pub fn run_tool<W: Output>(alloc: Global, given: io::Result<Args>, out: &mut W) -> u8
     ensures answers { (result ≡ 1)
         ⊎ WritesToArguments given result (W.contents out.old) (W.contents out.new) }

@@ -73,7 +73,7 @@ impl<'a> WrittenValue for Element<'a> {
 
 /// # Errors
 ///
-/// The number of octets is always known. Writing forwards the errors of the writer, as by
+/// Computing the length never fails. Writing forwards the errors of the writer, as by
 /// [`Writer::write`].
 impl<'a> EncodeValue for Element<'a> {
     ghost value_size = { octets_size contents_of };

@@ -33,7 +33,8 @@ fn read_head(rules: EncodingRules, octets: &[u8]) -> Result<(Header, &[u8]), Err
     Ok((header, rest))
 }
 
-/// The four lines of a header and the octets after it.
+/// The four lines that `head` prints: tag, constructed bit, length, and the octets after the
+/// header.
 fn header_lines<A: Allocator + Copy>(
     alloc: A,
     header: &Header,

@@ -26,7 +26,7 @@ use Rattle.der.specs.Octets.{IsCounted, TakesOctets, BorrowedOctetsRead}
 use Rattle.der.specs.declared.example.borrowed_octets.BorrowedOctets.{BorrowedOctets}
 use Rattle.der_uses.specs.AscendingStrings.{string_octets, joined_strings, MayFollow, set_octets, StringsAscend, IsReady, PassesStrings, ReadsAscending, OrderAnswer, ascending, falling}
 
--- the facts of every reader
+-- the state of every reader of a slice is sound
 pub slice_sound : (r : SliceReader) → IsSound (slice_state r)
 slice_sound r = record { ordered = r.ordered; in_input = r.in_input; addressable = r.addressable; shallow = r.shallow; failure_kept = λ failed. refl }
 
@@ -151,7 +151,7 @@ same_error result e f was is = cc
 something_left : (s : ReaderState) → IsSound s → s.end ≢ s.position → rest_of s ≢ []
 something_left s sound unfinished none = unfinished (omega (arith, length-rest s sound, ap length none, sound.ordered))
 
--- a reader that returns that it is not finished is not at its end
+-- a reader whose `is_finished` returns false is not at its end
 pub unfinished_at : {b : Bool} (s : ReaderState) → b ≡ false → (s.end ≡ s.position → IsTrue b) → s.end ≢ s.position
 unfinished_at s said reported end = let no = reported end in cc
 

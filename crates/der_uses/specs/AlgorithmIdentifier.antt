@@ -44,7 +44,8 @@ algorithm_size v =
 
 abbrev pub AlgorithmWritten : AlgorithmIdentifier → WriterAnswer
 AlgorithmWritten v =
-    FieldsWritten (ElementWritten OctetString (my_octets_size v.algorithm) (MyOctetsWritten v.algorithm))
+    FieldsWritten
+    (ElementWritten OctetString (my_octets_size v.algorithm) (MyOctetsWritten v.algorithm))
     (ElementWritten OctetString (month_size v.month) (MonthWritten v.month))
 
 -- such a SEQUENCE is read exactly as it is written

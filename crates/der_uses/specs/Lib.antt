@@ -1,5 +1,5 @@
 pub mod MyOctets
 pub mod AlgorithmIdentifier
 pub mod KeyInfo
-pub mod SetOf
-pub mod Version
+pub mod AscendingStrings
+pub mod VersionOctet

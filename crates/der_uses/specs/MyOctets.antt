@@ -23,7 +23,8 @@ abbrev pub my_octets_size : MyOctets → Result Length Error
 my_octets_size my_octets = checked_length (length (my_octets_contents my_octets))
 
 abbrev pub MyOctetsWritten : MyOctets → WriterAnswer
-MyOctetsWritten my_octets s result t = Writes (write_outcome (my_octets_contents my_octets) s) result t
+MyOctetsWritten my_octets s result t = Writes
+    (write_outcome (my_octets_contents my_octets) s) result t
 
 -- borrowed octets are compared octet by octet, which never fails
 abbrev pub my_octets_order : MyOctets → MyOctets → Compared

@@ -21,7 +21,7 @@ version_contents v = octet_of_version v ∷ []
 abbrev pub IsVersion : Version → Type 0
 IsVersion v = Unit {0}
 
--- an octet is accepted as the version of that number, whatever the header
+-- contents are accepted as a version if they are one octet, its number, whatever the header
 abbrev pub TakesVersion : Version → EncodingRules → Head → List ℕ → Type 0
 TakesVersion v rules h octets = version_contents v ≡ octets
 

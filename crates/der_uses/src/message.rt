@@ -20,7 +20,7 @@ pub fn first_message(octets: &[u8]) -> Result<(Header, &[u8]), Error>
 }
 
 /// The number of octets of the indefinite-length contents at the front, end-of-contents octets
-/// included. At most n/2 + 1 turns for n octets, whatever they are.
+/// included. The scan takes at most n/2 + 1 turns for n octets, whatever they are.
 pub fn indefinite_len<L: Ledger>(octets: &[u8], turns: &mut Turns<L>) -> Result<Length, Error>
     ensures { turns.new ≤ turns.old + (length octets.now / 2 + 1) }
 {

@@ -153,9 +153,9 @@ fn pass_elements(alloc: Global, reader: &mut SliceReader<'_>) -> Result<(), Erro
     if reader.is_finished() {
         return Ok(());
     }
-    let mut next = next_element(alloc, reader)?;
+    let mut previous = next_element(alloc, reader)?;
     while !reader.is_finished() {
-        next = next_ascending(alloc, reader, &next)?;
+        previous = next_ascending(alloc, reader, &previous)?;
     }
     Ok(())
 }
@@ -165,22 +165,22 @@ fn pass_elements(alloc: Global, reader: &mut SliceReader<'_>) -> Result<(), Erro
 fn next_ascending<'a>(
     alloc: Global,
     reader: &mut SliceReader<'a>,
-    next: &BorrowedOctets<'a>,
+    previous: &BorrowedOctets<'a>,
 ) -> Result<BorrowedOctets<'a>, Error>
     requires { IsReady 1 (slice_state reader.old) }
     ensures same { Same (slice_state reader.old) (slice_state reader.new) }
     ensures ok { IfOk result (λ v. Reads (slice_state reader.old) (slice_state reader.new)
         (string_octets (borrowed_octets v))
-        × MayFollow (borrowed_octets next.now) (borrowed_octets v)) }
+        × MayFollow (borrowed_octets previous.now) (borrowed_octets v)) }
     ensures exact { (x more : List ℕ)
         → rest_of (slice_state reader.old) ≡ string_octets x ++ more
         → IsOk result
-        ⊎ (IsBefore (string_octets x) (string_octets (borrowed_octets next.now))
+        ⊎ (IsBefore (string_octets x) (string_octets (borrowed_octets previous.now))
         × (result ≡ Err (error_at SetOrdering (reader_position (slice_state reader.old))))) }
 {
     let begins = reader.position();
     let element = next_element(alloc, reader)?;
-    match encoding_order(&element, next) {
+    match encoding_order(&element, previous) {
         Ordering::Less => Err(ErrorKind::SetOrdering.at(begins)),
         _ => Ok(element),
     }

@@ -7,7 +7,7 @@ use der::{Encode, Error, ErrorKind, Tag, Writer};
 /// The octets that were written, in a growing vector.
 #[derive(Drop)]
 pub struct Collected {
-    /// The octets.
+    /// The octets that were written.
     pub octets: Vec<u8>,
 }
 

@@ -1,2 +1,2 @@
 pub mod PrivateKeyInfo
-pub mod Version
+pub mod PrivateKeyVersion

@@ -9,4 +9,5 @@ private_key_version_number (o ∷ os) = o
 
 -- a public key is present only in version 2
 abbrev pub MatchesPrivateKeyVersion : PrivateKeyInfo → Type 0
-MatchesPrivateKeyVersion v = IsSome v.public_key.0 → private_key_version_number v.version.octets.now ≡ 1
+MatchesPrivateKeyVersion v = IsSome v.public_key.0
+    → private_key_version_number v.version.octets.now ≡ 1

@@ -51,35 +51,35 @@ no_front [] b e = refl
 no_front (o ∷ a) b e = absurd (let size : length (o ∷ (a ++ b)) ≡ 0 = ap length e in omega arith)
 
 -- the first element of a set, and the rest
-pub record IsStep (next element following : List ℕ) : Type 0 where
-  pub in_order : IsBefore element next → ⊥
+pub record IsStep (previous element following : List ℕ) : Type 0 where
+  pub in_order : IsBefore element previous → ⊥
   pub after_it : IsSetAfter IsAny value_octets element following
 
-set_step : (next octets element following : List ℕ) → IsSetAfter IsAny value_octets next octets → IsValue element → octets ≡ element ++ following → IsStep next element following
-set_step next octets element following s is split = go s.list.items s.list.are_valid s.list.joined s.ascend
+set_step : (previous octets element following : List ℕ) → IsSetAfter IsAny value_octets previous octets → IsValue element → octets ≡ element ++ following → IsStep previous element following
+set_step previous octets element following s is split = go s.list.items s.list.are_valid s.list.joined s.ascend
   where
-    go : (items : List AnyRef) → AllValid IsAny items → octets ≡ joined_encodings value_octets items → EncodingsAscendAfter value_octets next items → IsStep next element following
+    go : (items : List AnyRef) → AllValid IsAny items → octets ≡ joined_encodings value_octets items → EncodingsAscendAfter value_octets previous items → IsStep previous element following
     go [] are e up = absurd ((elements_delimited (λ (v : AnyRef). v.tag) any_contents).some is.value (no_front (value_octets is.value) following (ap (λ x. x ++ following) (sym is.whole) ∙ sym split ∙ e)))
     go (w ∷ ws) are e up =
         let front = element_front is.value.tag w.tag (any_contents is.value) (any_contents w) following (joined_encodings value_octets ws) (ap (λ x. x ++ following) (sym is.whole) ∙ sym split ∙ e) in
         let same : value_octets w ≡ element = ap (λ t. element_octets t (any_contents w)) (sym front.0) ∙ ap (element_octets is.value.tag) (sym front.1) ∙ sym is.whole in
         record {
-          in_order = subst (λ x. IsBefore x next → ⊥) same up.0;
+          in_order = subst (λ x. IsBefore x previous → ⊥) same up.0;
           after_it = record { list = record { items = ws; are_valid = are.1; joined = front.2 }; ascend = subst (λ x. EncodingsAscendAfter value_octets x ws) same up.1 };
         }
 
-set_cons : (next octets element following : List ℕ) → IsValue element → octets ≡ element ++ following → (IsBefore element next → ⊥) → IsSetAfter IsAny value_octets element following → IsSetAfter IsAny value_octets next octets
-set_cons next octets element following is split order s =
+set_cons : (previous octets element following : List ℕ) → IsValue element → octets ≡ element ++ following → (IsBefore element previous → ⊥) → IsSetAfter IsAny value_octets element following → IsSetAfter IsAny value_octets previous octets
+set_cons previous octets element following is split order s =
     record {
       list = record { items = is.value ∷ s.list.items; are_valid = (is.is_valid, s.list.are_valid); joined = split ∙ ap (λ x. x ++ following) is.whole ∙ ap (λ x. value_octets is.value ++ x) s.list.joined };
-      ascend = (subst (λ x. IsBefore x next → ⊥) is.whole order, subst (λ x. EncodingsAscendAfter value_octets x s.list.items) is.whole s.ascend);
+      ascend = (subst (λ x. IsBefore x previous → ⊥) is.whole order, subst (λ x. EncodingsAscendAfter value_octets x s.list.items) is.whole s.ascend);
     }
 
 -- the state of an iteration over a set, after an element
-pub record IsValueWalk (octets next : List ℕ) (s : ReaderState) : Type 0 where
+pub record IsValueWalk (octets previous : List ℕ) (s : ReaderState) : Type 0 where
   pub at : IsAtItem s
-  pub back : IsSetAfter IsAny value_octets next (rest_of s) → AreValues octets
-  pub on : AreValues octets → IsSetAfter IsAny value_octets next (rest_of s)
+  pub back : IsSetAfter IsAny value_octets previous (rest_of s) → AreValues octets
+  pub on : AreValues octets → IsSetAfter IsAny value_octets previous (rest_of s)
 
 pub value_walk_begins : (octets : List ℕ) (s : ReaderState) → s ≡ initial_state Der octets → IsValueWalk octets [] s
 value_walk_begins octets s e =
@@ -90,17 +90,17 @@ value_walk_begins octets s e =
       on = subst (IsSetAfter IsAny value_octets []) (sym left);
     }
 
-pub value_walk_on : (octets next element : List ℕ) (s t : ReaderState) → IsValueWalk octets next s → IsValue element → Reads s t element → (IsBefore element next → ⊥) → IsValueWalk octets element t
-value_walk_on octets next element s t w is r order =
+pub value_walk_on : (octets previous element : List ℕ) (s t : ReaderState) → IsValueWalk octets previous s → IsValue element → Reads s t element → (IsBefore element previous → ⊥) → IsValueWalk octets element t
+value_walk_on octets previous element s t w is r order =
     record {
       at = still_at_item w.at r;
-      back = λ b. w.back (set_cons next (rest_of s) element (rest_of t) is r.split order b);
-      on = λ a. (set_step next (rest_of s) element (rest_of t) (w.on a) is r.split).after_it;
+      back = λ b. w.back (set_cons previous (rest_of s) element (rest_of t) is r.split order b);
+      on = λ a. (set_step previous (rest_of s) element (rest_of t) (w.on a) is r.split).after_it;
     }
 
-pub value_walk_ends : (octets next : List ℕ) (s : ReaderState) → IsValueWalk octets next s → s.end ≡ s.position → AreValues octets
-value_walk_ends octets next s w e = w.back (record { list = record { items = []; are_valid = tt; joined = rest_at_end s e }; ascend = tt })
+pub value_walk_ends : (octets previous : List ℕ) (s : ReaderState) → IsValueWalk octets previous s → s.end ≡ s.position → AreValues octets
+value_walk_ends octets previous s w e = w.back (record { list = record { items = []; are_valid = tt; joined = rest_at_end s e }; ascend = tt })
 
 -- an element that is smaller than the one before it does not occur in a set
-pub value_walk_stops : (octets next element : List ℕ) (s t : ReaderState) → IsValueWalk octets next s → IsValue element → Reads s t element → IsBefore element next → AreValues octets → ⊥
-value_walk_stops octets next element s t w is r before a = (set_step next (rest_of s) element (rest_of t) (w.on a) is r.split).in_order before
+pub value_walk_stops : (octets previous element : List ℕ) (s t : ReaderState) → IsValueWalk octets previous s → IsValue element → Reads s t element → IsBefore element previous → AreValues octets → ⊥
+value_walk_stops octets previous element s t w is r before a = (set_step previous (rest_of s) element (rest_of t) (w.on a) is r.split).in_order before

@@ -39,7 +39,7 @@ impl ContentsGrammar for CertificateVersionGrammar {
 }
 
 impl DefaultContents for CertificateVersionGrammar {
-    ghost default_form = { is_version_1 };
+    ghost default_contents = { is_version_1 };
 
     fn default_octets() -> &'static [u8] {
         &[0]

@@ -1,4 +1,4 @@
-//! A SEQUENCE of two fields, of which each length may have either form.
+//! A SEQUENCE of two fields, in which each length may have either form.
 use super::*;
 use crate::checks::{same, same_at, same_octets};
 use der::Encode;

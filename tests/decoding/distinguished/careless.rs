@@ -1,4 +1,4 @@
-//! Types of a careless author: what they leave, or read past the end, is refused.
+//! Careless types: octets that they leave unread and errors that they ignore make `from_der` fail.
 
 use super::*;
 use crate::checks::{holds, same};

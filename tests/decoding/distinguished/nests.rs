@@ -1,4 +1,4 @@
-//! A type that reads its contents inside so many parts, each of which is all of them.
+//! A type that reads its contents inside many nested parts, each of which spans all the contents.
 
 use super::*;
 use crate::checks::{holds, same};

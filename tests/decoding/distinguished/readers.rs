@@ -1,4 +1,5 @@
-//! Values decoded by a type from a reader, and by the reader, which then has failed.
+//! Values that a type decodes from a reader, and values that the reader decodes: in the latter case
+//! the reader has failed after every error.
 use super::*;
 use crate::checks::{holds, same};
 use der::{DecodeValue, decode_contents, decode_tlv};

@@ -33,8 +33,8 @@ fn octets_are_borrowed_from_a_reader_that_reads_slices(rt: HostRuntime) -> Resul
     Ok(())
 }
 
-// No contract excludes a `BytesOwned` or a `BytesCow` that always returns `Reader` here: such a reader
-// is not reliable, and the contract leaves its errors open.
+// No contract excludes a `BytesOwned` or a `BytesCow` that always returns `Reader` here: such a
+// reader is not reliable, and the contract leaves its errors open.
 #[test]
 fn octets_are_copied_from_a_reader_that_does_not_read_slices(rt: HostRuntime) -> Result<(), Fail> {
     let octets = [0x01, 0x02, 0x03];

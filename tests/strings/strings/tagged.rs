@@ -1,4 +1,4 @@
-//! A type with a tag of its own over octets that are borrowed where the reader lends: it is lawful.
+//! A type with its own tag over octets that are borrowed if the reader returns slices.
 
 use super::*;
 use crate::checks::{holds, same};

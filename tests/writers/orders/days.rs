@@ -1,4 +1,4 @@
-//! Types of a user: one whose `Ord` is the order of its contents, and one that is not orderly.
+//! A user-defined type whose `Ord` is the order of its contents.
 
 use super::*;
 use crate::checks::{holds, same};

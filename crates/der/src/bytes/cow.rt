@@ -65,7 +65,8 @@ impl<'a, R: Reader<Borrowed = &'a [u8]>> DecodeValue<R> for BytesCow<'a> {
             (R.state reader.old) result (R.state reader.new) }
         ensures exact { R.reliable ≡ true → BorrowedOctetsRead cow_octets (head_of header)
             (R.state reader.old) result (R.state reader.new) }
-        ensures ok { IsOk result → BorrowedOctetsRead cow_octets (head_of header) (R.state reader.old)
+        ensures ok { IsOk result
+            → BorrowedOctetsRead cow_octets (head_of header) (R.state reader.old)
             result (R.state reader.new) }
         ensures borrowed { IfOk result (λ b. IsBorrowedOctets b ↔ (R.reads_slices ≡ true)) }
     {

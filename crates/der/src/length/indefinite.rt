@@ -126,7 +126,7 @@ fn segment_header<R: Reader>(reader: &mut R, inner_tag: Tag) -> Result<Header, E
     Ok(header)
 }
 
-// Appends the next `len` octets. Allocates only after it has checked that they are there.
+// Appends the next `len` octets. Allocates only after it has checked that they are available.
 fn append_octets<R: Reader>(reader: &mut R, len: Length, out: &mut Vec<u8>) -> Result<(), Error>
     ensures same { Same (R.state reader.old) (R.state reader.new) }
     ensures ok { OnOk result (AppendsOctets (number len) (R.state reader.old) out.old.items
@@ -148,7 +148,7 @@ fn append_octets<R: Reader>(reader: &mut R, len: Length, out: &mut Vec<u8>) -> R
     reader.read_into(&mut out[before..])
 }
 
-// The error for `len` octets that are not there.
+// The error for `len` octets that are not available.
 fn missing<R: Reader>(reader: &mut R, len: Length) -> Error
     ensures same { Same (R.state reader.old) (R.state reader.new) }
     ensures exact { Stops (R.state reader.old)

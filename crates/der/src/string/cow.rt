@@ -70,7 +70,8 @@ impl<'a, R: Reader<Borrowed = &'a [u8]>> DecodeValue<R> for StringCow<'a> {
             (R.state reader.old) result (R.state reader.new) }
         ensures ok { IsOk result → BorrowedTextRead cow_text (head_of header) (R.state reader.old)
             result (R.state reader.new) }
-        ensures not_borrowed { R.reads_slices ≡ false → Gives not_borrowed_outcome (R.state reader.old)
+        ensures not_borrowed { R.reads_slices ≡ false
+            → Gives not_borrowed_outcome (R.state reader.old)
             (map_ok cow_text result) (R.state reader.new) }
         ensures borrowed { IfOk result (λ t. IsBorrowedText t ↔ (R.reads_slices ≡ true)) }
     {

@@ -58,7 +58,7 @@ fn error_kind_equality(a: ErrorKind, b: ErrorKind) -> bool
     a == b
 }
 
-/// Equal errors have the same kind, and either the same position or both none.
+/// Equal errors have the same kind, and both have the same position or both have none.
 fn error_equality(a: Error, b: Error) -> bool
     ensures { IsTrue result ↔ (a ≡ b) }
 {

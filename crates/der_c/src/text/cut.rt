@@ -1,7 +1,7 @@
 //! Texts in a buffer, truncated where the buffer ends.
 ghost use Rattle.std.specs.Prelude.{◌≤◌, length};
 
-/// A text in a buffer, of which the first `count` octets are written.
+/// A buffer for a text. Its first `count` octets are written.
 #[derive(Drop)]
 pub(crate) struct Text<'a> {
     pub(crate) octets: &'a mut [u8],

@@ -48,11 +48,13 @@ fn begin_slowly(writer: &mut DerWriter<'_>, tag: u64, start: &mut usize) -> DerE
 }
 
 /// Ends the element whose contents begin at `start`, as set by [`der_begin`]. The length of the
-/// contents replaces the octet before them; contents of 128 octets or more are moved for it.
+/// contents replaces the octet before them; contents of 128 octets or more are moved to make space
+/// for it.
 ///
 /// Fails with `Failed` at the position if the writer had failed, with `Overlength` without a
-/// position if nothing is written at `start`, and with `Overlength` and `Overflow` if there is no
-/// space for a longer length; nothing is moved then, and the writer has failed.
+/// position if nothing is written before `start` or `start` is after what is written, and with
+/// `Overlength` and `Overflow` if there is no space for a longer length; nothing is moved then, and
+/// the writer has failed.
 #[unsafe(no_mangle)]
 pub extern "C" fn der_end(writer: &mut DerWriter<'_>, start: usize) -> DerError
     ensures { EndsElement start (writer_state writer.old) result (writer_state writer.new) }

@@ -36,7 +36,7 @@ impl<R: Reader, A: Decode<R>, B: Decode<R, Error = <A as Decode<R>>::Error>> Dec
     }
 }
 
-/// Decodes a value from all of the contents in which the reader is; a pair is decoded as its
+/// Decodes a value from all of the contents that the reader is inside; a pair is decoded as its
 /// members in sequence. It is [`Decode::decode`] with the contract that
 /// [`DecodeValue::decode_value`](crate::DecodeValue::decode_value) requires: contents are accepted
 /// if they are entirely one value, whatever the header.

@@ -5,8 +5,9 @@ use crate::decode::ReadValue;
 use crate::encode::WrittenValue;
 use crate::tag::fixed::FixedTag;
 
-/// Types whose contents under the Distinguished Encoding Rules are read as exactly the values that
-/// they are written for. Implementors prove this law; no function requires it.
+/// Types whose contents, under the Distinguished Encoding Rules, are read as a value exactly if the
+/// value is valid and is written as these contents. Implementors prove this law; no function
+/// requires it.
 ///
 /// Ghost member: `lawful` is that law. It and the contracts of the functions imply the properties
 /// in `specs/Lawful.antt`: [`from_der`](crate::DecodeBytes::from_der),

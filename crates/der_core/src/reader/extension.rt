@@ -140,7 +140,8 @@ pub trait ReaderExt: Reader {
         len: Length,
         f: F,
     ) -> Result<T, E>
-        requires { RestoresReader (F.pre f) (F.post f) (λ p. Self.state p.now) (λ q. Self.state q.now)
+        requires { RestoresReader (F.pre f) (F.post f) (λ p. Self.state p.now)
+            (λ q. Self.state q.now)
             (Self.state self.old) (number len) }
         ensures same { Same (Self.state self.old) (Self.state self.new) }
         ensures exact { IsBinding Self.reliable result
@@ -228,8 +229,8 @@ pub trait ReaderExt: Reader {
     ///
     /// - Those of the header, as by [`ReaderExt::peek_header`]; the reader is unchanged.
     /// - `Overflow` without a position, if the number of octets of header and contents exceeds
-    ///   4294967295, or if they are not all available and its sum with the position does; the
-    ///   reader is unchanged.
+    ///   4294967295, or if fewer octets are left and the sum of position and this number exceeds
+    ///   4294967295; the reader is unchanged.
     /// - `Incomplete` at the position before the header, if the contents are not all available; the
     ///   reader is then failed.
     final fn tlv_bytes(&mut self) -> Result<Self::Borrowed, Error>

@@ -8,8 +8,8 @@ use std::alloc::AllocError;
 // the greatest depth of nested parts
 pub(super) const MAX_DEPTH: u8 = 64;
 
-/// A position in an input, the end up to which may be read, and the number of nested parts around
-/// the position.
+/// A position in an input, the end up to which the input may be read, and the number of nested
+/// parts around the position.
 #[derive(Debug, Drop)]
 pub struct Position {
     pub(super) end: u32,
@@ -62,7 +62,7 @@ impl Position {
         Length::new(self.position as u32)
     }
 
-    /// The end up to which may be read.
+    /// The end up to which the input may be read.
     pub fn input_len(&self) -> Length
         ensures { result ≡ definite_length (position_place self.now).end }
     {
@@ -156,7 +156,7 @@ impl Position {
         Ok(end as u32)
     }
 
-    // The error of a nested part that would end here, after the end.
+    // The error of a nested part that would end at `part_end`, after the end `end`.
     #[cold]
     #[inline(never)]
     fn part_too_long(part_end: usize, end: u32) -> Error
@@ -170,7 +170,7 @@ impl Position {
         }
     }
 
-    // Enters a nested part that ends here; returns the end and the depth around it.
+    // Enters a nested part that ends at `end`; returns the end and the depth around it.
     #[inline(always)]
     pub(super) fn enter(&mut self, end: u32) -> Resumption
         requires { self.old.depth < 64 }

@@ -147,7 +147,8 @@ impl<'a> Reader for SliceReader<'a> {
         }
         let count = u32::from(len);
         let start = self.place.position;
-        // one sum of two `usize` is compared, ends the slice and is the new position
+        // this one sum of two `usize` is compared with the end, ends the slice and is the new
+        // position
         let following = start + count as usize;
         if following > self.place.end as usize {
             return Err(self.incomplete(count));

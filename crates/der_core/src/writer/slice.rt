@@ -213,8 +213,9 @@ impl<'a> SliceWriter<'a> {
         Ok(())
     }
 
-    // Restores the writer's previous limits, after the octets that were reserved, with the result
-    // of writing them.
+    // Restores the writer's previous limits and moves it after the reserved octets. `answer` is the
+    // result of writing these: its error is returned, otherwise an error if the writer failed or
+    // did not fill them.
     #[inline(always)]
     fn close_part(
         &mut self,
@@ -252,7 +253,8 @@ impl<'a> SliceWriter<'a> {
         }
     }
 
-    // The error for this many octets; the writer is then failed.
+    // The error of a write of `count` octets for which there is no space, or by a writer that had
+    // already failed; the writer is then failed.
     #[inline(always)]
     fn refuse(&mut self, count: usize) -> Error
         ensures reported { result ≡ space_error self.old.failed self.old.position count }
@@ -289,8 +291,8 @@ impl<'a> Writer for SliceWriter<'a> {
     }
 }
 
-// The error for this many octets, at a position after which there is no space for them, or if the
-// writer had already failed.
+// The error of a write of `count` octets at a position after which there is no space for them, or
+// by a writer that had already failed.
 #[cold]
 #[inline(never)]
 fn refusal(failed: bool, position: u32, count: usize) -> Error

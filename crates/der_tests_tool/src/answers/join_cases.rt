@@ -1,6 +1,6 @@
-//! A sample of the words of `join` with their output, made by an independent model of the definitions.
-//! The model was compared with the Rust crate `der` 0.8.3 on 131 million inputs, except for segments
-//! inside a segment, which that crate does not join.
+//! A sample of the words of `join` with their output. It was made by an independent model of the
+//! definitions, which was compared with the Rust crate `der` 0.8.3 on 131 million inputs, except
+//! for segments inside a segment, which that crate does not join.
 
 /// The words with a blank between them, the status, and the text.
 pub const JOIN_CASES: [(&str, u8, &str); 67] = [

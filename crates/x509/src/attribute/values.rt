@@ -78,15 +78,16 @@ impl<'a> ReadValue for AttributeValues<'a> {
     ghost takes_valid = { octets_with_accepts_valid AreValues (λ v. v.octets.now) };
 }
 
-/// Borrows the contents from the input, and checks every element in them once, under DER. Also
-/// under BER the encodings must be in ascending order; equal ones may follow each other.
+/// Borrows the contents from the input, and checks every element in them once, under DER, even if
+/// the reader reads under BER. The encodings must be in ascending order; equal ones may follow each
+/// other.
 ///
 /// # Errors
 ///
 /// - `Failed`, `Overflow` and `Incomplete`, as by [`Reader::read_slice`].
 /// - Those of the elements, with positions counted from the beginning of the contents.
-/// - `SetOrdering` at the start, so counted, of the first element whose encoding is smaller than
-///   that of the element before it.
+/// - `SetOrdering` at the start of the first element whose encoding is smaller than that of the
+///   element before it, also counted from the beginning of the contents.
 impl<'a, R: Reader<Borrowed = &'a [u8]>> DecodeValue<R> for AttributeValues<'a> {
     type Error = Error;
 

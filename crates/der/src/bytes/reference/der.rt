@@ -47,7 +47,8 @@ impl<'a, R: Reader<Borrowed = &'a [u8]>> DecodeValue<R> for BytesRef<'a> {
             (R.state reader.old) result (R.state reader.new) }
         ensures ok { IsOk result → BorrowedOctetsRead reference_octets (head_of header)
             (R.state reader.old) result (R.state reader.new) }
-        ensures not_borrowed { R.reads_slices ≡ false → Gives not_borrowed_outcome (R.state reader.old)
+        ensures not_borrowed { R.reads_slices ≡ false
+            → Gives not_borrowed_outcome (R.state reader.old)
             (map_ok reference_octets result) (R.state reader.new) }
     {
         BytesRef::new(reader.read_slice(header.length())?)

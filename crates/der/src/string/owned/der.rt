@@ -42,7 +42,8 @@ impl<R: Reader> DecodeValue<R> for StringOwned {
         ensures same { Same (R.state reader.old) (R.state reader.new) }
         ensures exact { IsBinding R.reliable result → OwnedTextRead owned_text (head_of header)
             (R.state reader.old) result (R.state reader.new) }
-        ensures not_borrowed { R.reads_slices ≡ false → Gives not_borrowed_outcome (R.state reader.old)
+        ensures not_borrowed { R.reads_slices ≡ false
+            → Gives not_borrowed_outcome (R.state reader.old)
             (map_ok owned_text result) (R.state reader.new) }
     {
         let bytes = reader.read_slice(header.length())?;

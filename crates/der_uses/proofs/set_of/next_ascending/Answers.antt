@@ -9,7 +9,7 @@ use Rattle.der_uses.proofs.set_of.next_ascending.Goals as goal
 
 pub returns-in-Less-clause-exact : goal.returns-in-Less-clause-exact
 returns-in-Less-clause-exact c x more there =
-    let last = string_octets (borrowed_octets c.args.next.now) in
+    let last = string_octets (borrowed_octets c.args.previous.now) in
     let element = borrowed_octets c.in_ok-element.element in
     let before = before_from_less (string_octets element) last (sym c.encoding_order.ensures ∙ c.in-Less.is) in
     inr (subst (λ v. IsBefore (string_octets v) last) (sym (string_is x element more c.in_ok-element.ensures.ok there)) before, ap Err (c.at.ensures ∙ ap (error_at SetOrdering) c.position-begins.ensures))

@@ -20,14 +20,14 @@ pub(crate) fn check_values(alloc: Global, octets: &[u8]) -> Result<(), Error>
     ensures exact { length octets.now < 2 ^ 32 → ValuesWalked result octets.now }
 {
     let mut reader = SliceReader::new(octets)?;
-    let mut next: &[u8] = &[];
+    let mut previous: &[u8] = &[];
     'values: while !reader.is_finished() {
         let start = reader.position();
         let element = next_octets(alloc, &mut reader)?;
-        if comes_before(element, next) {
+        if comes_before(element, previous) {
             return Err(ErrorKind::SetOrdering.at(start));
         }
-        next = element;
+        previous = element;
     }
     Ok(())
 }

@@ -25,20 +25,20 @@ returns-in_err-element-clause-complete c short ascending =
 
 pub returns-then-comes_before-clause-complete : goal.returns-then-comes_before-clause-complete
 returns-then-comes_before-clause-complete c short ascending =
-    absurd (value_walk_stops c.args.octets.now c.values.next.now c.in_ok-element.element.now (slice_state c.values.reader) (slice_state c.next_octets.new.reader) c.values.invariant.0 c.in_ok-element.ensures.ok.0 c.in_ok-element.ensures.ok.1
+    absurd (value_walk_stops c.args.octets.now c.values.previous.now c.in_ok-element.element.now (slice_state c.values.reader) (slice_state c.next_octets.new.reader) c.values.invariant.0 c.in_ok-element.ensures.ok.0 c.in_ok-element.ensures.ok.1
     (c.comes_before.ensures.0 c.if-comes_before.true) ascending)
 
 pub values-preserved : goal.values-preserved
 values-preserved c = (
-  value_walk_on c.args.octets.now c.values.next.now c.in_ok-element.element.now (slice_state c.values.reader) (slice_state c.next_octets.new.reader) c.values.invariant.0 c.in_ok-element.ensures.ok.0 c.in_ok-element.ensures.ok.1
+  value_walk_on c.args.octets.now c.values.previous.now c.in_ok-element.element.now (slice_state c.values.reader) (slice_state c.next_octets.new.reader) c.values.invariant.0 c.in_ok-element.ensures.ok.0 c.in_ok-element.ensures.ok.1
       (λ before. (let yes = c.comes_before.ensures.1 before in let no = c.if-comes_before.false in cc)),
-  whole_set_on (initial_state Der c.args.octets.now) (slice_state c.values.reader) (slice_state c.next_octets.new.reader) c.values.next.now c.in_ok-element.element.now c.in_ok-element.ensures.exact.0 c.values.invariant.1
+  whole_set_on (initial_state Der c.args.octets.now) (slice_state c.values.reader) (slice_state c.next_octets.new.reader) c.values.previous.now c.in_ok-element.element.now c.in_ok-element.ensures.exact.0 c.values.invariant.1
       (λ e. (let yes = c.is_finished.ensures.1 e in let no = c.values-test.true in cc)) c.in_ok-element.ensures.exact.1 c.in_ok-element.ensures.ok.1.split
       (λ before. (let yes = c.comes_before.ensures.1 before in let no = c.if-comes_before.false in cc)),
 )
 
 pub returns-clause-ok : goal.returns-clause-ok
-returns-clause-ok c = value_walk_ends c.args.octets.now c.values.next.now (slice_state c.values.reader) c.values.invariant.0 (c.is_finished.ensures.0 c.values-test.false)
+returns-clause-ok c = value_walk_ends c.args.octets.now c.values.previous.now (slice_state c.values.reader) c.values.invariant.0 (c.is_finished.ensures.0 c.values-test.false)
 
 pub returns-clause-exact : goal.returns-clause-exact
 returns-clause-exact c short = c.values.invariant.1.whole (Ok tt) (SetAnswer.set_ends (c.is_finished.ensures.0 c.values-test.false) refl)

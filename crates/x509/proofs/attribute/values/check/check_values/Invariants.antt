@@ -8,8 +8,8 @@ use Rattle.x509.proofs.ValueLemmas.{IsValueWalk}
 use Rattle.x509.proofs.attribute.values.check.check_values.Given as goal
 
 abbrev pub invariant-values : goal.invariant-values
-invariant-values l = IsValueWalk l.fn.octets l.next (slice_state l.reader)
-    × IsWholeSet PassesErrorOn ValueRead (initial_state Der l.fn.octets) l.next (slice_state l.reader)
+invariant-values l = IsValueWalk l.fn.octets l.previous (slice_state l.reader)
+    × IsWholeSet PassesErrorOn ValueRead (initial_state Der l.fn.octets) l.previous (slice_state l.reader)
 
 abbrev pub decreases-values : goal.decreases-values
 decreases-values l = l.reader.place.end - l.reader.place.position

@@ -9,24 +9,25 @@ use crate::explicit::Explicit;
 use crate::grammar::ContentsGrammar;
 use der::Reader;
 
-/// Types of which some contents are the default value, for a DEFAULT field.
+/// Types with a default value for a DEFAULT field; the contents decide whether a value is the
+/// default.
 ///
-/// Ghost member: `default_form` says which contents those are.
+/// Ghost member: `default_contents` says which contents are those of the default value.
 pub trait DefaultContents: ContentsGrammar {
-    ghost default_form: { List ℕ → Bool };
+    ghost default_contents: { List ℕ → Bool };
 
     /// Contents of the default value.
     fn default_octets() -> &'static [u8]
         ensures formed { Self.ContentsGrammar.grammar result.now ≡ true }
-        ensures value { default_form result.now ≡ true };
+        ensures value { default_contents result.now ≡ true };
 
     /// Whether these contents are the default value.
     fn is_default(octets: &[u8]) -> bool
-        ensures { result ≡ default_form octets.now };
+        ensures { result ≡ default_contents octets.now };
 }
 
 impl<'a, F: DefaultContents> DefaultValue for Checked<'a, F> {
-    ghost is_default = { λ v. F.default_form v.octets.now };
+    ghost is_default = { λ v. F.default_contents v.octets.now };
 
     fn default_value() -> Self {
         Checked::formed(F::default_octets())
@@ -39,11 +40,11 @@ impl<'a, F: DefaultContents> DefaultValue for Checked<'a, F> {
 }
 
 impl<'a, R: Reader<Borrowed = &'a [u8]>, F: DefaultContents> HasDefault<R> for Checked<'a, F> {
-    ghost reported = { λ v w rules octets m n one two. ap F.default_form (one_form one two) };
+    ghost reported = { λ v w rules octets m n one two. ap F.default_contents (one_form one two) };
 }
 
 impl<'a, F: DefaultContents, const N: u32> DefaultValue for Explicit<Checked<'a, F>, N> {
-    ghost is_default = { λ v. F.default_form v.0.octets.now };
+    ghost is_default = { λ v. F.default_contents v.0.octets.now };
 
     fn default_value() -> Self {
         Explicit(Checked::default_value())
@@ -58,5 +59,5 @@ impl<'a, F: DefaultContents, const N: u32> DefaultValue for Explicit<Checked<'a,
 impl<'a, R: Reader<Borrowed = &'a [u8]>, F: DefaultContents, const N: u32> HasDefault<R>
     for Explicit<Checked<'a, F>, N> {
     ghost reported = { λ v w rules octets m n one two.
-        ap F.default_form (one_explicit_form (λ e. e.0) one two) };
+        ap F.default_contents (one_explicit_form (λ e. e.0) one two) };
 }
