@@ -4,13 +4,14 @@ ghost use Rattle.std.specs.Prelude.{◌≡◌, ℕ, ◌≤◌, List};
 ghost use Rattle.der_base.specs.declared.tag.Tag.{Tag};
 ghost use Rattle.der.specs.Joined.{Joined};
 
-/// The same octets have at most one joined result.
+/// Joining the segments in given octets has at most one result.
 fn joined_once()
     ensures { (tag : Tag) (levels : ℕ) (octets x y : List ℕ) → Joined tag levels octets x
         → Joined tag levels octets y → x ≡ y }
 {}
 
-/// A result of joining stays the result if more levels are allowed.
+/// If joining has a result with a limit on the levels of nesting, it has the same result with every
+/// higher limit.
 fn joined_with_more_levels()
     ensures { (tag : Tag) (levels more : ℕ) (octets out : List ℕ) → Joined tag levels octets out
         → levels ≤ more → Joined tag more octets out }

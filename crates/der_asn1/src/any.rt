@@ -16,9 +16,9 @@ use std::alloc::Global;
 /// older modules, and the value of an open type.
 #[derive(Clone, Copy)]
 pub struct AnyRef<'a> {
-    /// The tag.
+    /// The tag of the element.
     pub tag: Tag,
-    /// The contents octets.
+    /// The contents octets of the element.
     pub contents: &'a [u8],
 }
 
@@ -42,11 +42,11 @@ impl<'a> ReadValue for AnyRef<'a> {
     ghost takes_valid = { λ v rules h octets taken. taken.numbered };
 }
 
-/// Borrows the contents from the input. The header gives the tag and the length.
+/// Borrows the contents from the input. Takes the tag and the length from the header.
 ///
 /// # Errors
 ///
-/// As by [`Reader::read_slice`].
+/// The errors of [`Reader::read_slice`].
 impl<'a, R: Reader<Borrowed = &'a [u8]>> DecodeValue<R> for AnyRef<'a> {
     type Error = Error;
 
@@ -68,7 +68,7 @@ impl<'a, R: Reader<Borrowed = &'a [u8]>> DecodeValue<R> for AnyRef<'a> {
 
 /// # Errors
 ///
-/// As by [`decode_element`].
+/// The errors of [`decode_element`].
 impl<'a, R: Reader<Borrowed = &'a [u8]>> Decode<R> for AnyRef<'a> {
     type Error = Error;
 
@@ -94,8 +94,9 @@ impl<'a> WrittenValue for AnyRef<'a> {
 
 /// # Errors
 ///
-/// - `Overflow` without a position, if there are more than 4294967295 octets.
-/// - The writer's errors, as by [`Writer::write`].
+/// - `value_len` returns `Overflow` without a position, if there are more than 4294967295 contents
+///   octets.
+/// - `encode_value` returns the errors of [`Writer::write`].
 impl<'a> EncodeValue for AnyRef<'a> {
     ghost value_size = { any_size };
 

@@ -25,7 +25,7 @@ pub struct Arcs<'a> {
 impl<'a> Checked<'a, ObjectIdentifierGrammar> {
     ghost use Rattle.der_asn1.specs.Arcs.{arcs_left, oid_arcs, oid_octets};
 
-    /// An iterator over all arcs.
+    /// An iterator over all arcs of the OBJECT IDENTIFIER.
     pub fn arcs(&self) -> Arcs<'a>
         ensures arcs { arcs_left result ≡ oid_arcs self.now.octets.now }
         ensures octets { oid_octets (arcs_left result) ≡ self.now.octets.now }
@@ -51,7 +51,7 @@ impl<'a> Arcs<'a> {
     }
 }
 
-/// Yields each arc as a number, or `None` for an arc above 4294967295.
+/// Each item is an arc as a number, or `None` if the arc exceeds 4294967295.
 impl<'a> Iterator for Arcs<'a> {
     ghost use Rattle.std.specs.Iterator.{YieldsFirst, item_count};
     ghost use Rattle.der_asn1.specs.Arcs.{arc_items};

@@ -52,7 +52,7 @@ impl<'a> Checked<'a, BooleanGrammar> {
     }
 }
 
-/// The default is false, as in modules that have a BOOLEAN with a default.
+/// The default value is false, as in `BOOLEAN DEFAULT FALSE`.
 impl DefaultContents for BooleanGrammar {
     ghost default_contents = { is_false };
 

@@ -15,7 +15,7 @@ use der::{
 use std::alloc::{AllocError, Global};
 use std::marker::PhantomData;
 
-/// Octets borrowed from the input that are valid contents of a type (`F`).
+/// Octets that are borrowed from the input and are valid contents of the type that `F` describes.
 pub struct Checked<'a, F: ContentsGrammar> {
     octets: &'a [u8],
     grammar: PhantomData<F>,
@@ -36,7 +36,8 @@ impl<'a, F: ContentsGrammar> Clone for Checked<'a, F> {
 impl<'a, F: ContentsGrammar> Copy for Checked<'a, F> {}
 
 impl<'a, F: ContentsGrammar> Checked<'a, F> {
-    /// Wraps the octets if they are valid contents of the type, else `None`.
+    /// Wraps `octets`; returns `None` if they are not valid contents of the type that `F`
+    /// describes.
     #[inline(always)]
     pub fn new(octets: &'a [u8]) -> Option<Self>
         ensures some { IsSome result ↔ (F.grammar octets.now ≡ true) }
@@ -64,7 +65,7 @@ impl<'a, F: ContentsGrammar> Checked<'a, F> {
         }
     }
 
-    /// The contents octets.
+    /// The contents octets of the value.
     #[inline(always)]
     pub fn octets(&self) -> &'a [u8]
         ensures value { result.now ≡ self.now.octets.now }
@@ -100,14 +101,14 @@ impl<'a, F: ContentsGrammar> ReadValue for Checked<'a, F> {
         subst (λ x. F.grammar x ≡ true) (sym taken.1) taken.0 };
 }
 
-/// Borrows the contents from the input and checks them, under BER as strictly as under DER. The
-/// header gives only the length.
+/// Borrows the contents from the input and checks them, under BER as strictly as under DER. Takes
+/// only the length from the header, and ignores its tag.
 ///
 /// # Errors
 ///
-/// - Those of the contents, as by [`Reader::read_slice`].
-/// - `Value` with the tag, at the position after contents that are not valid; the reader has failed
-///   then.
+/// - The errors of reading the contents, as by [`Reader::read_slice`].
+/// - `Value` with the tag of the type, at the position after the contents, if they are not valid;
+///   the reader has failed then.
 impl<'a, F: ContentsGrammar, R: Reader<Borrowed = &'a [u8]>> DecodeValue<R> for Checked<'a, F> {
     type Error = Error;
 
@@ -135,8 +136,9 @@ impl<'a, F: ContentsGrammar> WrittenValue for Checked<'a, F> {
 
 /// # Errors
 ///
-/// - `Overflow` without a position, if there are more than 4294967295 octets.
-/// - The writer's errors, as by [`Writer::write`].
+/// - `value_len` returns `Overflow` without a position, if there are more than 4294967295 contents
+///   octets.
+/// - `encode_value` returns the errors of [`Writer::write`].
 impl<'a, F: ContentsGrammar> EncodeValue for Checked<'a, F> {
     ghost value_size = { λ v. contents_size v.octets.now };
 

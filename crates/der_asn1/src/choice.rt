@@ -14,7 +14,7 @@ use der::{Decode, DecodeValue, FixedTag, Reader, Tag};
 pub trait Choice<R: Reader>: Decode<R> {
     ghost chooses: { ATag → Type 0 };
 
-    /// Whether a value may begin with this tag.
+    /// Whether a value may begin with the tag `tag`.
     fn can_decode(tag: Tag) -> bool
         ensures { IsTrue result ↔ chooses tag };
 

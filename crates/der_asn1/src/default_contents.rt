@@ -16,12 +16,12 @@ use der::Reader;
 pub trait DefaultContents: ContentsGrammar {
     ghost default_contents: { List ℕ → Bool };
 
-    /// Contents of the default value.
+    /// The contents octets of the default value.
     fn default_octets() -> &'static [u8]
         ensures formed { Self.ContentsGrammar.grammar result.now ≡ true }
         ensures value { default_contents result.now ≡ true };
 
-    /// Whether these contents are the default value.
+    /// Whether `octets` are the contents of the default value.
     fn is_default(octets: &[u8]) -> bool
         ensures { result ≡ default_contents octets.now };
 }

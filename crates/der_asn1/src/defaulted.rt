@@ -14,7 +14,7 @@ use std::alloc::Global;
 pub trait DefaultValue: Sized {
     ghost is_default: { Self → Bool };
 
-    /// The default value.
+    /// The default value, which an absent DEFAULT field has.
     fn default_value() -> Self
         ensures { is_default result ≡ true };
 
@@ -23,9 +23,10 @@ pub trait DefaultValue: Sized {
         ensures { result ≡ is_default self.now };
 }
 
-/// Types with a default value that can be decoded.
+/// Types that have a default value and can be decoded.
 ///
-/// Ghost member: `reported` proves that the octets decide whether a value is the default.
+/// Ghost member: `reported` proves that of two values that can be decoded from the same octets,
+/// both are the default or neither is.
 pub trait HasDefault<R: Reader>: Choice<R> + DefaultValue {
     // If two values can be decoded from the same octets, both are the default or neither is.
     ghost reported: { (v w : Self) (rules : Rules) (octets : List ℕ) (m n : ℕ)
@@ -48,10 +49,11 @@ pub struct Defaulted<T>(pub T);
 
 /// # Errors
 ///
-/// - Those of [`ReaderExt::peek_tag`], if the next octets are no tag; the reader is unchanged.
-/// - Those of the value.
-/// - `Noncanonical` with the tag, at the position after an encoded default, under DER; the reader
-///   has failed then.
+/// - The errors of [`ReaderExt::peek_tag`], if octets are left that do not begin with a tag; the
+///   reader is unchanged.
+/// - The errors of decoding the value.
+/// - `Noncanonical` with the tag of the value, at the position after the value, if the value is the
+///   default and the rules are DER; the reader has failed then.
 impl<R: Reader, T: HasDefault<R>> Decode<R> for Defaulted<T> {
     type Error = <T as Decode<R>>::Error;
 
@@ -81,11 +83,11 @@ impl<R: Reader, T: HasDefault<R>> Decode<R> for Defaulted<T> {
     }
 }
 
-/// Writes no octets for the default.
+/// Writes no octets if the value is the default.
 ///
 /// # Errors
 ///
-/// Those of the value.
+/// The errors of encoding the value.
 impl<T: Encode + DefaultValue> Encode for Defaulted<T> {
     ghost encoding = { λ v. default_encoding T.is_default T.encoding v.0 };
 

@@ -22,10 +22,11 @@ pub enum Either<A, B> {
 
 /// # Errors
 ///
-/// - Those of [`Tag::peek`], if the next octets are no tag; the reader is unchanged.
+/// - The errors of [`Tag::peek`], if the next octets do not begin with a tag; the reader is
+///   unchanged.
 /// - `TagUnexpected` without an expected tag, at the position, if no value of either type begins
 ///   with the next tag; the reader has failed then.
-/// - Those of the value.
+/// - The errors of decoding the value.
 impl<R: Reader, A: Choice<R>, B: Choice<R> + Decode<R, Error = <A as Decode<R>>::Error>> Decode<R>
     for Either<A, B> {
     type Error = <A as Decode<R>>::Error;
@@ -60,7 +61,7 @@ impl<R: Reader, A: Choice<R>, B: Choice<R> + Decode<R, Error = <A as Decode<R>>:
 
 /// # Errors
 ///
-/// Those of the value.
+/// The errors of encoding the value.
 impl<A: Encode, B: Encode> Encode for Either<A, B> {
     ghost encoding = { either_encoding A.encoding B.encoding };
 

@@ -8,14 +8,14 @@ ghost use Rattle.der_asn1.specs.AnyElement.{AnyElementNext, AnyElementRead};
 use der::{DecodeValue, Header, Reader, decode_header, read_value};
 use std::alloc::Global;
 
-/// Decodes an element of any tag that its type accepts: its header, its contents, and after an
-/// indefinite length the end-of-contents octets. It implements `decode` of types without a fixed
-/// tag, such as ANY and CHOICE; their `takes` says which tags they accept.
+/// Decodes an element with any tag that `T` accepts: its header, its contents, and after an
+/// indefinite length the end-of-contents octets. Types without a fixed tag, such as ANY and CHOICE,
+/// implement `decode` by this function. The ghost member `takes` of `T` says which tags it accepts.
 ///
 /// # Errors
 ///
-/// - Those of [`decode_header`].
-/// - Those of the contents, as by [`read_value`].
+/// - The errors of [`decode_header`].
+/// - The errors of reading the contents, as by [`read_value`].
 #[inline(always)]
 pub fn decode_element<R: Reader, T: DecodeValue<R>>(
     alloc: Global,

@@ -10,7 +10,7 @@ use crate::integer::IntegerGrammar;
 use crate::integer_number::IntegerNumber;
 use der::{FixedTag, Tag};
 
-/// Contents of an ENUMERATED: those of the INTEGER that is its number (X.690 8.4).
+/// Contents of an ENUMERATED: the contents of an INTEGER with the same number (X.690 8.4).
 pub struct EnumeratedGrammar;
 
 /// An ENUMERATED borrowed from the input.
@@ -37,7 +37,7 @@ impl ContentsGrammar for EnumeratedGrammar {
 }
 
 impl<'a> EnumeratedRef<'a> {
-    /// The number; `None` if it does not fit in this type.
+    /// The number of the enumeration item; `None` if it does not fit in the type `N`.
     pub fn to_number<N: IntegerNumber>(&self) -> Option<N>
         ensures some { IsSome result ↔ (N.grammar self.now.octets.now ≡ true) }
         ensures same { IfSome result (λ v. N.contents_of v ≡ self.now.octets.now) }

@@ -13,15 +13,16 @@ use der::{
 };
 use std::alloc::Global;
 
-/// Types whose elements may be the contents of another element.
+/// Types whose elements may be the contents of another element: under DER their values need at most
+/// 62 levels of nesting.
 pub trait Nestable: ReadValue {
     // A value needs at most 62 levels of nesting: the element around it leaves 63, and the value's
     // own element needs one.
     ghost nestable: { Self.value_levels Der ≤ 62 };
 }
 
-/// A value whose element is the contents of an element with the context-specific tag number `N`
-/// (X.690 8.14.2).
+/// A value that is encoded inside another element (X.690 8.14.2). The outer element has the
+/// context-specific tag number `N`; its contents are the element of the value.
 #[derive(Clone, Copy, Drop)]
 pub struct Explicit<T, const N: u32>(pub T);
 
@@ -58,7 +59,7 @@ impl<T: ReadValue + FixedTag, const N: u32> ReadValue for Explicit<T, N> {
 
 /// # Errors
 ///
-/// Those of the element, as by [`decode_tlv`](der::decode_tlv).
+/// The errors of decoding the element of the value, as by [`decode_tlv`](der::decode_tlv).
 impl<R: Reader, T: DecodeValue<R> + FixedTag, const N: u32> DecodeValue<R> for Explicit<T, N> {
     type Error = <T as DecodeValue<R>>::Error;
 
@@ -88,7 +89,7 @@ impl<T: WrittenValue + FixedTag, const N: u32> WrittenValue for Explicit<T, N> {
 
 /// # Errors
 ///
-/// Those of the element.
+/// The errors of encoding the element of the value.
 impl<T: EncodeValue + FixedTag, const N: u32> EncodeValue for Explicit<T, N> {
     ghost value_size = { λ v. element_size T.tag_is (T.value_size v.0) };
 

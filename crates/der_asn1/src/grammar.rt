@@ -4,14 +4,14 @@ ghost use Rattle.der.specs.Tag.{label};
 
 use der::FixedTag;
 
-/// A check of contents octets, with a tag.
+/// Types that describe an ASN.1 type by its tag and by a check of its contents octets.
 ///
 /// Ghost members: `grammar` says which octets are valid contents; `numbered` proves that the tag
 /// number fits in 32 bits.
 pub trait ContentsGrammar: FixedTag {
     ghost grammar: { List ℕ → Bool };
 
-    /// Whether the octets are valid contents.
+    /// Whether `octets` are valid contents of the type.
     fn matches_grammar(octets: &[u8]) -> bool
         ensures { result ≡ grammar octets.now };
 

@@ -54,7 +54,7 @@ impl<T: ReadValue + FixedTag, const N: u32> ReadValue for Implicit<T, N> {
 
 /// # Errors
 ///
-/// Those of the value, as by its [`DecodeValue::decode_value`].
+/// The errors of [`DecodeValue::decode_value`] for the value.
 impl<R: Reader, T: DecodeValue<R> + FixedTag, const N: u32> DecodeValue<R> for Implicit<T, N> {
     type Error = <T as DecodeValue<R>>::Error;
 
@@ -84,7 +84,7 @@ impl<T: WrittenValue, const N: u32> WrittenValue for Implicit<T, N> {
 
 /// # Errors
 ///
-/// Those of the value.
+/// The errors of `value_len` and `encode_value` for the value.
 impl<T: EncodeValue, const N: u32> EncodeValue for Implicit<T, N> {
     ghost value_size = { λ v. T.value_size v.0 };
 

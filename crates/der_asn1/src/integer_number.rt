@@ -12,19 +12,19 @@ use crate::integer_octets::{IntegerOctets, turned_octet};
 
 /// Numbers that are encoded as an INTEGER (X.690 8.3).
 ///
-/// Ghost members: `grammar` says which contents are those of a number of this type; `contents_of`
-/// gives the contents of each number.
+/// Ghost members: `grammar` says which octets are the contents of a number of this type;
+/// `contents_of` gives the contents octets of each number.
 pub trait IntegerNumber: Copy {
     ghost grammar: { List ℕ → Bool };
 
     ghost contents_of: { Self → List ℕ };
 
-    /// The number with these contents; `None` if there is none of this type.
+    /// The number whose contents are `octets`; `None` if no number of this type has them.
     fn from_contents(octets: &[u8]) -> Option<Self>
         ensures some { IsSome result ↔ (grammar octets.now ≡ true) }
         ensures same { IfSome result (λ v. contents_of v ≡ octets.now) };
 
-    /// The contents of the number.
+    /// The contents octets of the number as an INTEGER.
     fn to_contents(self) -> IntegerOctets
         ensures octets { drop result.start result.octets ≡ contents_of self }
         ensures formed { grammar (contents_of self) ≡ true };

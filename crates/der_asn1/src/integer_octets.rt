@@ -31,7 +31,7 @@ impl IntegerOctets {
         IntegerOctets { octets, start }
     }
 
-    /// The contents octets.
+    /// The contents octets, as a slice.
     pub fn as_slice(&self) -> &[u8]
         ensures { result.now ≡ drop self.now.start self.now.octets }
     {

@@ -19,12 +19,12 @@ use std::alloc::Global;
 /// An INTEGER in the range of a number type: `u8`, `u32`, `u64` or `i64`.
 #[derive(Clone, Copy)]
 pub struct IntegerOf<N: IntegerNumber> {
-    /// The number.
+    /// The number that the INTEGER encodes.
     pub number: N,
 }
 
 impl<'a> IntRef<'a> {
-    /// The number; `None` if it does not fit in this type.
+    /// The number that the INTEGER encodes; `None` if it does not fit in the type `N`.
     pub fn to_number<N: IntegerNumber>(&self) -> Option<N>
         ensures some { IsSome result ↔ (N.grammar self.now.octets.now ≡ true) }
         ensures same { IfSome result (λ v. N.contents_of v ≡ self.now.octets.now) }
@@ -62,9 +62,9 @@ impl<N: IntegerNumber> ReadValue for IntegerOf<N> {
 ///
 /// # Errors
 ///
-/// - Those of the contents, as by [`Reader::read_slice`].
-/// - `Value` of an INTEGER, at the position after contents that are not the shortest or whose
-///   number is not in the range of the type; the reader has failed then.
+/// - The errors of reading the contents, as by [`Reader::read_slice`].
+/// - `Value` with the tag INTEGER, at the position after the contents, if they are not the shortest
+///   or their number is not in the range of `N`; the reader has failed then.
 impl<'a, N: IntegerNumber, R: Reader<Borrowed = &'a [u8]>> DecodeValue<R> for IntegerOf<N> {
     type Error = Error;
 

@@ -8,15 +8,16 @@ use crate::choice::Choice;
 use der::{Decode, Encode, Error, Length, Reader, ReaderExt, Writer};
 use std::alloc::Global;
 
-/// An OPTIONAL field (X.690 8.9.3): a value, or nothing if the next tag is not one of the value's.
+/// An OPTIONAL field (X.690 8.9.3): a value, or `None` if no octets are left or the next tag is not
+/// one with which a value may begin.
 #[derive(Clone, Copy, Drop)]
 pub struct Optional<T>(pub Option<T>);
 
 /// # Errors
 ///
-/// - Those of [`Tag::peek`], if octets are left that do not begin with a tag; the reader is
+/// - The errors of [`Tag::peek`], if octets are left that do not begin with a tag; the reader is
 ///   unchanged.
-/// - Those of the value, if one of its tags is next.
+/// - The errors of decoding the value, if a value may begin with the next tag.
 impl<R: Reader, T: Choice<R>> Decode<R> for Optional<T> {
     type Error = <T as Decode<R>>::Error;
 
@@ -47,7 +48,7 @@ impl<R: Reader, T: Choice<R>> Decode<R> for Optional<T> {
 ///
 /// # Errors
 ///
-/// Those of the value.
+/// The errors of encoding the value.
 impl<T: Encode> Encode for Optional<T> {
     ghost encoding = { λ v. option_encoding T.encoding v.0 };
 

@@ -73,8 +73,8 @@ fn check_items<'a, T: Lawful + DecodeValue<SliceReader<'a>>>(
     Ok(())
 }
 
-/// A SEQUENCE OF borrowed from the input. Its contents have been checked to be encodings of values
-/// of the type, in sequence.
+/// A SEQUENCE OF borrowed from the input. Its contents have been checked: they are encodings of
+/// values of `T`, in sequence.
 pub struct SequenceOf<'a, T: Lawful> {
     octets: &'a [u8],
     of: PhantomData<T>,
@@ -121,12 +121,13 @@ impl<'a, T: Lawful> ReadValue for SequenceOf<'a, T> {
         (λ v. v.octets.now) };
 }
 
-/// Borrows the contents from the input, and checks every element in them once, under DER.
+/// Borrows the contents from the input, and checks every element in them once. The elements must be
+/// encoded under DER, whatever the rules of the reader.
 ///
 /// # Errors
 ///
-/// - Those of the contents, as by [`Reader::read_slice`].
-/// - Those of the first element that cannot be decoded, as by [`SequenceOf::new`], with positions
+/// - The errors of reading the contents, as by [`Reader::read_slice`].
+/// - The errors of [`SequenceOf::new`] for the first element that cannot be decoded, with positions
 ///   counted from the beginning of the contents; the reader is after the contents and has not
 ///   failed.
 impl<'a, T: Lawful + DecodeValue<SliceReader<'a>>, R: Reader<Borrowed = &'a [u8]>> DecodeValue<R>
@@ -162,8 +163,9 @@ impl<'a, T: Lawful> WrittenValue for SequenceOf<'a, T> {
 
 /// # Errors
 ///
-/// - `Overflow` without a position, if there are more than 4294967295 octets.
-/// - The writer's errors, as by [`Writer::write`].
+/// - `value_len` returns `Overflow` without a position, if there are more than 4294967295 contents
+///   octets.
+/// - `encode_value` returns the errors of [`Writer::write`].
 impl<'a, T: Lawful> EncodeValue for SequenceOf<'a, T> {
     ghost value_size = { λ v. contents_size v.octets.now };
 
@@ -189,7 +191,7 @@ impl<'a, T: Lawful> Nestable for SequenceOf<'a, T> {
     ghost nestable = { Prim.omega arith };
 }
 
-/// An iteration over the elements of a SEQUENCE OF.
+/// An iteration over the elements of a SEQUENCE OF or a SET OF.
 #[derive(Drop)]
 pub struct Items<'a, T: Lawful> {
     reader: SliceReader<'a>,
@@ -200,15 +202,15 @@ pub struct Items<'a, T: Lawful> {
 }
 
 impl<'a, T: Lawful + DecodeValue<SliceReader<'a>>> SequenceOf<'a, T> {
-    /// The SEQUENCE OF with these contents, which must be encodings of values of the type, in
+    /// The SEQUENCE OF whose contents are `octets`. They must be encodings of values of `T`, in
     /// sequence.
     ///
     /// # Errors
     ///
     /// - `Overflow` without a position, if there are more than 4294967295 octets.
-    /// - Those of the first element that cannot be decoded, as by [`decode_tlv`].
-    /// - `Failed` at the position after an element, if the type returns its value but leaves the
-    ///   reader failed.
+    /// - The errors of decoding the first element that cannot be decoded, as by [`decode_tlv`].
+    /// - `Failed` at the position after an element, if `T` returns a value but leaves the reader
+    ///   failed.
     pub fn new(
         alloc: Global,
         octets: &'a [u8],
@@ -245,7 +247,7 @@ impl<'a, T: Lawful> SequenceOf<'a, T> {
         }
     }
 
-    /// The contents octets.
+    /// The contents octets of the SEQUENCE OF.
     #[inline(always)]
     pub fn octets(&self) -> &'a [u8]
         ensures value { result.now ≡ self.now.octets.now }
@@ -254,7 +256,7 @@ impl<'a, T: Lawful> SequenceOf<'a, T> {
         self.octets
     }
 
-    /// An iteration over the elements, from the first.
+    /// An iteration over the elements of the SEQUENCE OF, from the first.
     pub fn items(&self) -> Items<'a, T>
         ensures { rest_of (slice_state result.reader) ≡ self.now.octets.now }
     {
@@ -269,8 +271,8 @@ impl<'a, T: Lawful> SequenceOf<'a, T> {
 }
 
 impl<'a, T: Lawful + DecodeValue<SliceReader<'a>>> Items<'a, T> {
-    /// The next element; `None` after the last one. If the type allocates, `None` can also mean
-    /// that decoding failed.
+    /// The next element; `None` after the last one. If decoding a `T` allocates, `None` can also
+    /// mean that decoding failed.
     pub fn next(&mut self, alloc: Global) -> Option<T>
         ensures some { IfSome result (λ v. T.valid v
             × Reads (slice_state self.old.reader) (slice_state self.new.reader)

@@ -97,8 +97,8 @@ fn check_set<'a, T: Lawful + DecodeValue<SliceReader<'a>>>(
     Ok(())
 }
 
-/// A SET OF borrowed from the input. Its contents have been checked to be encodings of values of
-/// the type, in sequence and in ascending order.
+/// A SET OF borrowed from the input. Its contents have been checked: they are encodings of values
+/// of `T`, in sequence and in ascending order.
 pub struct SetOf<'a, T: Lawful> {
     elements: SequenceOf<'a, T>,
     ghost short: { length elements.octets.now < 2 ^ 32 },
@@ -146,15 +146,16 @@ impl<'a, T: Lawful> ReadValue for SetOf<'a, T> {
         (λ v. v.elements.octets.now) };
 }
 
-/// Borrows the contents from the input, and checks every element in them once, under DER. Also
-/// under BER the encodings must be in ascending order; equal ones may follow each other.
+/// Borrows the contents from the input, and checks every element in them once. The elements must be
+/// encoded under DER, whatever the rules of the reader. Their encodings must be in ascending order,
+/// also under BER; equal encodings may follow each other.
 ///
 /// # Errors
 ///
-/// - Those of the contents, as by [`Reader::read_slice`].
-/// - Those of the first element that cannot be decoded, as by [`SetOf::new`], with positions
-///   counted from the beginning of the contents; the reader is after the contents and has not
-///   failed.
+/// - The errors of reading the contents, as by [`Reader::read_slice`].
+/// - The errors of [`SetOf::new`] for the first element that cannot be decoded or is out of order,
+///   with positions counted from the beginning of the contents; the reader is after the contents
+///   and has not failed.
 impl<'a, T: Lawful + DecodeValue<SliceReader<'a>>, R: Reader<Borrowed = &'a [u8]>> DecodeValue<R>
     for SetOf<'a, T> {
     type Error = <T as DecodeValue<SliceReader<'a>>>::Error;
@@ -189,8 +190,9 @@ impl<'a, T: Lawful> WrittenValue for SetOf<'a, T> {
 
 /// # Errors
 ///
-/// - `Overflow` without a position, if there are more than 4294967295 octets.
-/// - The writer's errors, as by [`Writer::write`].
+/// - `value_len` returns `Overflow` without a position, if there are more than 4294967295 contents
+///   octets.
+/// - `encode_value` returns the errors of [`Writer::write`].
 impl<'a, T: Lawful> EncodeValue for SetOf<'a, T> {
     ghost value_size = { λ v. contents_size v.elements.octets.now };
 
@@ -217,15 +219,16 @@ impl<'a, T: Lawful> Nestable for SetOf<'a, T> {
 }
 
 impl<'a, T: Lawful + DecodeValue<SliceReader<'a>>> SetOf<'a, T> {
-    /// The SET OF with these contents, which must be encodings of values of the type, in sequence
+    /// The SET OF whose contents are `octets`. They must be encodings of values of `T`, in sequence
     /// and in ascending order.
     ///
     /// # Errors
     ///
     /// - `Overflow` without a position, if there are more than 4294967295 octets.
-    /// - Those of the first element that cannot be decoded, as by [`decode_tlv`](der::decode_tlv).
-    /// - `Failed` at the position after an element, if the type returns its value but leaves the
-    ///   reader failed.
+    /// - The errors of decoding the first element that cannot be decoded, as by
+    ///   [`decode_tlv`](der::decode_tlv).
+    /// - `Failed` at the position after an element, if `T` returns a value but leaves the reader
+    ///   failed.
     /// - `SetOrdering` at the start of the first element whose encoding is smaller than that of the
     ///   element before it.
     pub fn new(
@@ -251,7 +254,7 @@ impl<'a, T: Lawful + DecodeValue<SliceReader<'a>>> SetOf<'a, T> {
 }
 
 impl<'a, T: Lawful> SetOf<'a, T> {
-    /// The contents octets.
+    /// The contents octets of the SET OF.
     #[inline(always)]
     pub fn octets(&self) -> &'a [u8]
         ensures value { result.now ≡ self.now.elements.octets.now }
@@ -261,7 +264,7 @@ impl<'a, T: Lawful> SetOf<'a, T> {
         self.elements.octets()
     }
 
-    /// An iteration over the elements, from the first.
+    /// An iteration over the elements of the SET OF, from the first.
     pub fn items(&self) -> Items<'a, T>
         ensures { rest_of (slice_state result.reader) ≡ self.now.elements.octets.now }
     {

@@ -6,11 +6,11 @@ use crate::date_time::DateTime;
 use crate::time_octets::TimeOctets;
 use der::FixedTag;
 
-/// A format of times as contents octets, with a tag.
+/// Types that describe an ASN.1 time type by its tag and by the format of its contents octets.
 ///
-/// Ghost members: `grammar` says which contents are those of a time; `holds` says which times have
-/// this format; `contents_of` gives the contents of each time; `numbered` proves that the tag
-/// number fits in 32 bits.
+/// Ghost members: `grammar` says which octets are the contents of a time; `holds` says which times
+/// can be written in this format; `contents_of` gives the contents octets of each time; `numbered`
+/// proves that the tag number fits in 32 bits.
 pub trait TimeFormat: FixedTag {
     ghost use Rattle.der_asn1.specs.declared.date_time.DateTime.{DateTime};
 
@@ -20,16 +20,16 @@ pub trait TimeFormat: FixedTag {
 
     ghost contents_of: { DateTime → List ℕ };
 
-    /// Whether the time can be written in this format.
+    /// Whether `time` can be written in this format.
     fn can_hold(time: &DateTime) -> bool
         ensures { result ≡ holds time.now };
 
-    /// The time with these contents; `None` if there is none.
+    /// The time whose contents in this format are `octets`; `None` if no time has them.
     fn from_contents(octets: &[u8]) -> Option<DateTime>
         ensures some { IsSome result ↔ (grammar octets.now ≡ true) }
         ensures same { IfSome result (λ v. (holds v ≡ true) × (contents_of v ≡ octets.now)) };
 
-    /// The contents of the time.
+    /// The contents octets of `time` in this format.
     fn to_contents(time: &DateTime) -> TimeOctets
         requires { holds time.now ≡ true }
         ensures octets { drop result.start result.octets ≡ contents_of time.now }

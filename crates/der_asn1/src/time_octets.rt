@@ -6,8 +6,8 @@ ghost use Rattle.der_asn1.specs.Times.{utc_reading, two_at, utc_year, time_from}
 
 use crate::date_time::DateTime;
 
-/// The contents of a time: four digits of the year, or its last two, then two digits each for
-/// month, day, hour, minute and second, and the letter Z.
+/// The contents octets of a time. They begin with the four digits of the year or with the last two
+/// of them. Two digits each for month, day, hour, minute and second follow, and then the letter Z.
 #[derive(Drop)]
 pub struct TimeOctets {
     octets: [u8; 15],
@@ -38,7 +38,7 @@ impl TimeOctets {
         }
     }
 
-    /// The contents octets.
+    /// The contents octets, as a slice.
     pub fn as_slice(&self) -> &[u8]
         ensures { result.now ≡ drop self.now.start self.now.octets }
     {

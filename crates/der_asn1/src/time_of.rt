@@ -37,7 +37,7 @@ impl<F: TimeFormat> Clone for TimeOf<F> {
 impl<F: TimeFormat> Copy for TimeOf<F> {}
 
 impl<F: TimeFormat> TimeOf<F> {
-    /// Wraps the time; `None` if it cannot be written in this format.
+    /// Wraps `time`; returns `None` if it cannot be written in the format `F`.
     pub fn new(time: DateTime) -> Option<Self>
         ensures some { IsSome result ↔ (F.holds time ≡ true) }
         ensures same { IfSome result (λ v. v.time ≡ time) }
@@ -52,7 +52,7 @@ impl<F: TimeFormat> TimeOf<F> {
         }
     }
 
-    /// The time.
+    /// The date with its time of day.
     pub fn date_time(&self) -> DateTime
         ensures value { result ≡ self.now.time }
         ensures held { F.holds result ≡ true }
@@ -91,9 +91,9 @@ impl<F: TimeFormat> ReadValue for TimeOf<F> {
 ///
 /// # Errors
 ///
-/// - Those of the contents, as by [`Reader::read_slice`].
-/// - `Value` with the tag, at the position after contents that are no time; the reader has failed
-///   then.
+/// - The errors of reading the contents, as by [`Reader::read_slice`].
+/// - `Value` with the tag of the type, at the position after the contents, if they are not the
+///   contents of a time; the reader has failed then.
 impl<'a, F: TimeFormat, R: Reader<Borrowed = &'a [u8]>> DecodeValue<R> for TimeOf<F> {
     type Error = Error;
 

@@ -39,7 +39,7 @@ impl ContentsGrammar for Utf8StringGrammar {
 }
 
 impl<'a> Checked<'a, Utf8StringGrammar> {
-    /// The contents as text.
+    /// The contents, as a `str`.
     pub fn as_str(&self) -> &'a str
         ensures { result.now ≡ self.now.octets.now }
     {

@@ -6,12 +6,12 @@ ghost use Rattle.der.specs.Prelude.{Der, ElementRead, element_octets};
 use der::{DecodeBytes, DecodeValue, Lawful, SliceReader};
 use std::alloc::Global;
 
-/// The value with this encoding. Succeeds exactly if the octets are the encoding of a valid value,
-/// unless allocation fails.
+/// Decodes the value whose encoding is all of `octets`. Unless an allocation fails, this succeeds
+/// exactly if `octets` are the encoding of a valid value.
 ///
 /// # Errors
 ///
-/// Those of [`DecodeBytes::from_der`].
+/// The errors of [`DecodeBytes::from_der`].
 pub fn lawful_from_der<'a, T: Lawful + DecodeValue<SliceReader<'a>>>(
     alloc: Global,
     octets: &'a [u8],

@@ -11,70 +11,74 @@ use crate::tag::{
     CLASS_APPLICATION, CLASS_CONTEXT_SPECIFIC, CLASS_PRIVATE, CLASS_UNIVERSAL, TagMode,
 };
 
-/// Zero octets.
+/// [`Length::ZERO`] is a definite length of zero octets.
 fn zero() -> Length
     ensures { result ≡ definite_length 0 }
 {
     Length::ZERO
 }
 
-/// One octet.
+/// [`Length::ONE`] is a definite length of one octet.
 fn one() -> Length
     ensures { result ≡ definite_length 1 }
 {
     Length::ONE
 }
 
-/// The greatest length.
+/// [`Length::MAX`] is the greatest definite length, 4294967295 octets.
 fn max() -> Length
     ensures { result ≡ definite_length 4294967295 }
 {
     Length::MAX
 }
 
-/// Bits 8 and 7 of class UNIVERSAL (X.690 8.1.2.2, table 1).
+/// [`CLASS_UNIVERSAL`] is bits 8 and 7 of an identifier octet of class UNIVERSAL (X.690 8.1.2.2,
+/// table 1).
 fn class_universal() -> u8
     ensures { result ≡ 0x00 }
 {
     CLASS_UNIVERSAL
 }
 
-/// Bits 8 and 7 of class APPLICATION.
+/// [`CLASS_APPLICATION`] is bits 8 and 7 of an identifier octet of class APPLICATION (X.690
+/// 8.1.2.2, table 1).
 fn class_application() -> u8
     ensures { result ≡ 0x40 }
 {
     CLASS_APPLICATION
 }
 
-/// Bits 8 and 7 of class CONTEXT-SPECIFIC.
+/// [`CLASS_CONTEXT_SPECIFIC`] is bits 8 and 7 of an identifier octet of class CONTEXT-SPECIFIC
+/// (X.690 8.1.2.2, table 1).
 fn class_context_specific() -> u8
     ensures { result ≡ 0x80 }
 {
     CLASS_CONTEXT_SPECIFIC
 }
 
-/// Bits 8 and 7 of class PRIVATE.
+/// [`CLASS_PRIVATE`] is bits 8 and 7 of an identifier octet of class PRIVATE (X.690 8.1.2.2, table
+/// 1).
 fn class_private() -> u8
     ensures { result ≡ 0xC0 }
 {
     CLASS_PRIVATE
 }
 
-/// The definite length 0.
+/// The default [`Length`] is the definite length 0.
 fn default_length() -> Length
     ensures { result ≡ definite_length 0 }
 {
     Length::default()
 }
 
-/// Explicit tagging.
+/// The default [`TagMode`] is explicit tagging.
 fn default_mode() -> TagMode
     ensures { result ≡ Explicit }
 {
     TagMode::default()
 }
 
-/// The Distinguished Encoding Rules.
+/// The default [`EncodingRules`] are the Distinguished Encoding Rules.
 fn default_rules() -> EncodingRules
     ensures { result ≡ Der }
 {

@@ -6,7 +6,7 @@ use crate::error::{Error, ErrorKind, Result};
 use std::fmt;
 use std::str::FromStr;
 
-/// The encoding rules of a reader.
+/// The encoding rules under which a reader reads.
 #[derive(Clone, Copy, Debug, Default, PartialEq, Eq, PartialOrd, Ord)]
 pub enum EncodingRules {
     /// The Basic Encoding Rules, as far as this library supports them: lengths in the fewest
@@ -54,7 +54,7 @@ impl FromStr for EncodingRules {
     }
 }
 
-/// The abbreviation of the rules, in capitals.
+/// Prints `BER` or `DER`.
 impl fmt::Display for EncodingRules {
     ghost use Rattle.der_base.specs.Text.{rules_text};
 

@@ -8,7 +8,7 @@ use std::fmt;
 use std::num::TryFromIntError;
 pub use std::str::Utf8Error;
 
-/// A result with this crate's error.
+/// A result whose error is [`Error`].
 pub type Result<T> = std::result::Result<T, Error>;
 
 /// An error of reading or writing: its kind, and its position if one is known. Positions count
@@ -22,7 +22,7 @@ pub struct Error {
 impl Error {
     ghost use Rattle.der_base.specs.Error.{error_at, kind_of, position_of, error_at_end};
 
-    /// An error of this kind at this position.
+    /// An error of the kind `kind` at the position `position`.
     pub const fn new(kind: ErrorKind, position: Length) -> Self
         ensures { result ≡ error_at kind position }
     {
@@ -32,9 +32,9 @@ impl Error {
         }
     }
 
-    /// The error of an input that ends after `actual_len` octets where one more is required: kind
-    /// `Incomplete`, or `Overflow` if the required length would exceed 4294967295. The position is
-    /// the end of the input.
+    /// The error of an input that has `actual_len` octets and needs one more. Its kind is
+    /// `Incomplete`, or `Overflow` if the required number of octets would exceed 4294967295. Its
+    /// position is the end of the input.
     pub fn incomplete(actual_len: Length) -> Self
         ensures { result ≡ error_at_end actual_len }
     {
@@ -48,14 +48,14 @@ impl Error {
         }
     }
 
-    /// The kind.
+    /// The kind of the error.
     pub const fn kind(self) -> ErrorKind
         ensures { result ≡ kind_of self }
     {
         self.kind
     }
 
-    /// The position, if one is known.
+    /// The position of the error, if it is known.
     pub const fn position(self) -> Option<Length>
         ensures { result ≡ position_of self }
     {
@@ -63,7 +63,7 @@ impl Error {
     }
 }
 
-/// An error of this kind, without a position.
+/// Converts a kind to an error of that kind, without a position.
 impl From<ErrorKind> for Error {
     ghost use Rattle.der_base.specs.Error.{error_of_kind};
 
@@ -114,8 +114,8 @@ pub enum ErrorKind {
     },
     /// An indefinite length where none is allowed, or one that is not closed correctly.
     IndefiniteLength,
-    /// The length of an element with this tag is not encoded as required, or is not the number of
-    /// its contents octets.
+    /// The length of an element is not encoded as required, or is not the number of its contents
+    /// octets.
     Length {
         /// The element's tag.
         tag: Tag,
@@ -144,19 +144,19 @@ pub enum ErrorKind {
     TagModeUnknown,
     /// A tag number is not encoded as required, or exceeds 32 bits.
     TagNumberInvalid,
-    /// Another tag was expected.
+    /// A tag occurs where another was expected, or where it is not allowed.
     TagUnexpected {
         /// The expected tag, if there is one.
         expected: Option<Tag>,
         /// The tag that was read.
         actual: Tag,
     },
-    /// No universal tag has this first octet.
+    /// No universal tag has the identifier octet that was read.
     TagUnknown {
-        /// The octet.
+        /// The identifier octet.
         byte: u8,
     },
-    /// Octets are left at the end.
+    /// Octets are left where the input should end.
     TrailingData {
         /// The number of octets that were read.
         decoded: Length,
@@ -177,7 +177,7 @@ pub enum ErrorKind {
 impl ErrorKind {
     ghost use Rattle.der_base.specs.Error.{error_of_kind, error_at};
 
-    /// An error of this kind at this position.
+    /// An error of this kind at the position `position`.
     pub const fn at(self, position: Length) -> Error
         ensures { result ≡ error_at self position }
     {
@@ -195,7 +195,7 @@ impl ErrorKind {
     }
 }
 
-/// The error message of the kind, with lengths and tags in their printed forms.
+/// Prints the message of the kind. Lengths and tags in it are as they are printed alone.
 impl fmt::Display for ErrorKind {
     ghost use Rattle.der_base.specs.Text.{kind_text};
 
@@ -245,7 +245,7 @@ impl fmt::Display for ErrorKind {
     }
 }
 
-/// The kind's message, and the position if there is one.
+/// Prints the message of the kind, and the position if it is known.
 impl fmt::Display for Error {
     ghost use Rattle.der_base.specs.Text.{error_text};
 

@@ -63,7 +63,7 @@ impl Length {
     ///
     /// # Errors
     ///
-    /// - `Overflow` without a position, if the number exceeds 4294967295.
+    /// - `Overflow` without a position, if `value` exceeds 4294967295.
     pub const fn new_usize(value: usize) -> Result<Self>
         ensures { result ≡ checked_length value }
     {
@@ -73,7 +73,7 @@ impl Length {
         Ok(Length::new(value as u32))
     }
 
-    /// Whether the number of octets is zero, whatever the flag.
+    /// Whether the number of octets is zero, for a definite or an indefinite length.
     pub const fn is_zero(self) -> bool
         ensures { IsTrue result ↔ (number self ≡ 0) }
     {
@@ -87,9 +87,9 @@ impl Length {
         self.indefinite
     }
 
-    /// The length without its end-of-contents octets: an indefinite length counts them, two zero
-    /// octets (X.690 8.1.5), so the result is smaller by 2, or 0 if the length is less than 2, and
-    /// stays flagged as indefinite. A definite length is returned unchanged.
+    /// The length without the two end-of-contents octets, which an indefinite length counts (X.690
+    /// 8.1.5). An indefinite length becomes smaller by 2, or 0 if it is less than 2, and stays
+    /// flagged as indefinite. A definite length is returned unchanged.
     pub const fn sans_eoc(self) -> Self
         ensures { result ≡ sans_eoc self }
     {
@@ -101,7 +101,7 @@ impl Length {
     }
 }
 
-/// The number in decimal.
+/// Prints the number of octets in decimal.
 impl fmt::Display for Length {
     ghost use Rattle.der_base.specs.Text.{length_text};
 
@@ -112,7 +112,8 @@ impl fmt::Display for Length {
     }
 }
 
-/// `Length(5)`, or `Length([indefinite])` if the flag is set.
+/// Prints a definite length as in `Length(5)`, and every indefinite length as
+/// `Length([indefinite])`.
 impl fmt::Debug for Length {
     ghost use Rattle.der_base.specs.Text.{length_debug};
 

@@ -17,69 +17,69 @@ use std::fmt;
 /// differs from the order of the identifier octets.
 #[derive(Clone, Copy, PartialEq, Eq, PartialOrd, Ord, Hash)]
 pub enum Tag {
-    /// `BOOLEAN`, 1.
+    /// `BOOLEAN`, tag number 1.
     Boolean,
-    /// `INTEGER`, 2.
+    /// `INTEGER`, tag number 2.
     Integer,
-    /// `BIT STRING`, 3.
+    /// `BIT STRING`, tag number 3.
     BitString,
-    /// `OCTET STRING`, 4.
+    /// `OCTET STRING`, tag number 4.
     OctetString,
-    /// `NULL`, 5.
+    /// `NULL`, tag number 5.
     Null,
-    /// `OBJECT IDENTIFIER`, 6.
+    /// `OBJECT IDENTIFIER`, tag number 6.
     ObjectIdentifier,
-    /// `REAL`, 9.
+    /// `REAL`, tag number 9.
     Real,
-    /// `ENUMERATED`, 10.
+    /// `ENUMERATED`, tag number 10.
     Enumerated,
-    /// `UTF8String`, 12.
+    /// `UTF8String`, tag number 12.
     Utf8String,
-    /// `RELATIVE-OID`, 13; printed as `RELATIVE OID`.
+    /// `RELATIVE-OID`, tag number 13; printed as `RELATIVE OID`.
     RelativeOid,
-    /// `SEQUENCE` and `SEQUENCE OF`, 16, constructed.
+    /// `SEQUENCE` and `SEQUENCE OF`, tag number 16, constructed.
     Sequence,
-    /// `SET` and `SET OF`, 17, constructed.
+    /// `SET` and `SET OF`, tag number 17, constructed.
     Set,
-    /// `NumericString`, 18.
+    /// `NumericString`, tag number 18.
     NumericString,
-    /// `PrintableString`, 19.
+    /// `PrintableString`, tag number 19.
     PrintableString,
-    /// `TeletexString`, 20.
+    /// `TeletexString`, tag number 20.
     TeletexString,
-    /// `VideotexString`, 21.
+    /// `VideotexString`, tag number 21.
     VideotexString,
-    /// `IA5String`, 22.
+    /// `IA5String`, tag number 22.
     Ia5String,
-    /// `UTCTime`, 23.
+    /// `UTCTime`, tag number 23.
     UtcTime,
-    /// `GeneralizedTime`, 24.
+    /// `GeneralizedTime`, tag number 24.
     GeneralizedTime,
-    /// `VisibleString`, 26.
+    /// `VisibleString`, tag number 26.
     VisibleString,
-    /// `GeneralString`, 27.
+    /// `GeneralString`, tag number 27.
     GeneralString,
-    /// `BMPString`, 30.
+    /// `BMPString`, tag number 30.
     BmpString,
-    /// A tag of an application.
+    /// A tag of class APPLICATION.
     Application {
         /// Whether the contents are constructed.
         constructed: bool,
-        /// The number.
+        /// The tag number.
         number: TagNumber,
     },
-    /// A tag whose meaning depends on the context.
+    /// A tag of class CONTEXT-SPECIFIC: its meaning depends on the context.
     ContextSpecific {
         /// Whether the contents are constructed.
         constructed: bool,
-        /// The number.
+        /// The tag number.
         number: TagNumber,
     },
-    /// A private tag.
+    /// A tag of class PRIVATE.
     Private {
         /// Whether the contents are constructed.
         constructed: bool,
-        /// The number.
+        /// The tag number.
         number: TagNumber,
     },
 }
@@ -89,7 +89,7 @@ impl Tag {
     ghost use Rattle.der_base.specs.Class.{class_number};
     ghost use Rattle.der_base.specs.Error.{unexpected_tag};
 
-    /// The class.
+    /// The class of the tag.
     pub const fn class(self) -> Class
         ensures { class_number result ≡ (label self).class }
     {
@@ -101,7 +101,7 @@ impl Tag {
         }
     }
 
-    /// The number.
+    /// The number of the tag.
     #[inline(always)]
     pub const fn number(self) -> TagNumber
         ensures { result.0 ≡ (label self).number }
@@ -148,8 +148,8 @@ impl Tag {
         }
     }
 
-    /// Whether the contents are constructed: true for `Sequence` and `Set`, and for tags of other
-    /// classes as their field says.
+    /// Whether the contents are constructed. This is true for `Sequence` and `Set`, and false for
+    /// the other universal tags. Tags of other classes have a field that says it.
     pub const fn is_constructed(self) -> bool
         ensures { result ≡ (label self).constructed }
     {
@@ -162,8 +162,8 @@ impl Tag {
         }
     }
 
-    /// The number of identifier octets (X.690 8.1.2), 1 to 6: one for numbers up to 30, otherwise
-    /// one plus the number of base-128 digits of the tag number.
+    /// The number of identifier octets (X.690 8.1.2), 1 to 6: one for tag numbers up to 30,
+    /// otherwise one plus the number of base-128 digits of the tag number.
     pub const fn octet_count(self) -> u32
         ensures octets { result ≡ length (tag_octets self) }
         ensures most { result ≤ 6 }
@@ -212,11 +212,11 @@ impl Tag {
         matches!(self.class(), Class::Universal)
     }
 
-    /// Returns this tag if it is the expected one.
+    /// Returns this tag if it is the tag `expected`.
     ///
     /// # Errors
     ///
-    /// - `TagUnexpected` with both tags, without a position, if it is another tag.
+    /// - `TagUnexpected` with both tags, without a position, if it is not.
     pub fn assert_eq(self, expected: Tag) -> Result<Tag>
         ensures expected_tag { self ≡ expected → result ≡ Ok self }
         ensures other_tag { self ≢ expected → result ≡ Err (unexpected_tag expected self) }
@@ -228,21 +228,22 @@ impl Tag {
         }
     }
 
-    /// Kind `Length` of this tag: the length of an element is not encoded as required.
+    /// The kind `Length` with this tag: the length of an element is not encoded as required.
     pub const fn length_error(self) -> ErrorKind
         ensures { result ≡ ErrorKind.Length self }
     {
         ErrorKind::Length { tag: self }
     }
 
-    /// Kind `Noncanonical` of this tag: a value is not encoded canonically.
+    /// The kind `Noncanonical` with this tag: a value is not encoded canonically.
     pub const fn non_canonical_error(self) -> ErrorKind
         ensures { result ≡ ErrorKind.Noncanonical self }
     {
         ErrorKind::Noncanonical { tag: self }
     }
 
-    /// Kind `TagUnexpected`: this tag occurs where another was expected, or where none is allowed.
+    /// The kind `TagUnexpected` with this tag as the actual one. The tag occurs where the tag
+    /// `expected` was expected, or, if that is `None`, where it is not allowed.
     pub const fn unexpected_error(self, expected: Option<Self>) -> ErrorKind
         ensures { result ≡ ErrorKind.TagUnexpected expected self }
     {
@@ -252,7 +253,7 @@ impl Tag {
         }
     }
 
-    /// Kind `Value` of this tag: a value is malformed.
+    /// The kind `Value` with this tag: a value is malformed.
     pub const fn value_error(self) -> ErrorKind
         ensures { result ≡ ErrorKind.Value self }
     {
@@ -260,7 +261,8 @@ impl Tag {
     }
 }
 
-/// The name of a universal tag; otherwise class, number and form (primitive or constructed).
+/// Prints the name of a universal tag. Prints the class, number and form (primitive or constructed)
+/// of another tag.
 impl fmt::Display for Tag {
     ghost use Rattle.der_base.specs.Text.{tag_text};
 
@@ -317,7 +319,7 @@ fn form(constructed: bool) -> &'static str
     }
 }
 
-/// The number in hexadecimal and the printed name, such as `Tag(0x10: SEQUENCE)`.
+/// Prints the number in hexadecimal and the tag as by `Display`, such as `Tag(0x10: SEQUENCE)`.
 impl fmt::Debug for Tag {
     ghost use Rattle.der_base.specs.Text.{tag_debug};
 

@@ -6,8 +6,8 @@ use spki::SubjectPublicKeyInfoRef;
 use std::alloc::Global;
 use x509::Certificate;
 
-/// Writes a certificate `times` times to the start of the same octets, until an error.
-/// `first_octets` is the sum of the last octets written.
+/// Decodes a certificate from `octets` and writes it `times` times to the start of `out`, until an
+/// error. `first_octets` is the sum of the last octets of what was written each time.
 #[unsafe(no_mangle)]
 pub extern "C" fn der_bench_certificate_to_slice(
     alloc: Global,
@@ -18,13 +18,15 @@ pub extern "C" fn der_bench_certificate_to_slice(
     to_slice::<Certificate<'_>>(alloc, octets, times, out)
 }
 
-/// The same, each time into a new vector.
+/// Decodes a certificate from `octets` and writes it `times` times, each time into a new vector,
+/// until an error. `first_octets` is the sum of the last octets of the vectors.
 #[unsafe(no_mangle)]
 pub extern "C" fn der_bench_certificate_to_der(alloc: Global, octets: &[u8], times: u64) -> Totals {
     to_der::<Certificate<'_>>(alloc, octets, times)
 }
 
-/// Writes a public key `times` times to the start of the same octets, as for a certificate.
+/// Decodes a public key from `octets` and writes it `times` times to the start of `out`, until an
+/// error. `first_octets` is the sum of the last octets of what was written each time.
 #[unsafe(no_mangle)]
 pub extern "C" fn der_bench_public_key_to_slice(
     alloc: Global,
@@ -35,7 +37,8 @@ pub extern "C" fn der_bench_public_key_to_slice(
     to_slice::<SubjectPublicKeyInfoRef<'_>>(alloc, octets, times, out)
 }
 
-/// The same, each time into a new vector.
+/// Decodes a public key from `octets` and writes it `times` times, each time into a new vector,
+/// until an error. `first_octets` is the sum of the last octets of the vectors.
 #[unsafe(no_mangle)]
 pub extern "C" fn der_bench_public_key_to_der(alloc: Global, octets: &[u8], times: u64) -> Totals {
     to_der::<SubjectPublicKeyInfoRef<'_>>(alloc, octets, times)

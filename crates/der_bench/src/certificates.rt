@@ -23,7 +23,8 @@ impl<'a> Counted for Certificate<'a> {
 }
 
 /// Decodes certificates in sequence until the octets end or there is an error. `contents` counts
-/// those of the signatures, and `first_octets` sums the first octets of the serial numbers.
+/// the contents octets of the signatures. `first_octets` is the sum of the first octets of the
+/// serial numbers.
 #[unsafe(no_mangle)]
 pub extern "C" fn der_bench_certificates(alloc: Global, bytes: &[u8]) -> Totals {
     decode_each::<Certificate<'_>>(alloc, bytes, EncodingRules::Der)

@@ -5,8 +5,9 @@ use spki::SubjectPublicKeyInfoRef;
 use std::alloc::Global;
 use x509::Certificate;
 
-/// Reads a certificate (kind 0), a public key (1) or a private key (2), and writes it back. Returns
-/// 0 if reading fails, 1 if the same octets are written, and 2 if other octets or none are.
+/// Reads a certificate (kind 0), a public key (1) or a private key (2) from `octets`, and writes it
+/// again. Returns 0 if reading fails, 1 if the octets written are `octets`, and 2 if writing fails
+/// or writes other octets.
 #[unsafe(no_mangle)]
 pub extern "C" fn der_bench_reads_back(alloc: Global, kind: u8, octets: &[u8]) -> u8 {
     match kind {

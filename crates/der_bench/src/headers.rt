@@ -5,7 +5,7 @@ use der::{Header, Length, SliceWriter, Tag, TagNumber};
 /// A header to write.
 #[repr(C)]
 pub struct Wanted {
-    /// The number of its tag.
+    /// The tag number.
     pub number: u32,
     /// The length of the contents.
     pub length: u32,
@@ -15,8 +15,8 @@ pub struct Wanted {
     pub constructed: u8,
 }
 
-/// Writes headers in sequence until all are written or there is an error. Returns their number and
-/// the number of their octets.
+/// Writes headers in sequence until all are written or there is an error. Returns the number of
+/// headers in `elements`, and the number of octets written in `contents`.
 #[unsafe(no_mangle)]
 pub extern "C" fn der_bench_put_headers(wanted: &[Wanted], out: &mut [u8]) -> Totals {
     let mut totals = Totals::none();
@@ -31,7 +31,7 @@ pub extern "C" fn der_bench_put_headers(wanted: &[Wanted], out: &mut [u8]) -> To
     totals.written(writer.finish())
 }
 
-/// Writes four headers for each length, whose tags are constants: SEQUENCE, INTEGER, OBJECT
+/// For each length, writes four headers whose tags are constants: SEQUENCE, INTEGER, OBJECT
 /// IDENTIFIER and context-specific 3.
 #[unsafe(no_mangle)]
 pub extern "C" fn der_bench_put_known(lengths: &[u32], out: &mut [u8]) -> Totals {

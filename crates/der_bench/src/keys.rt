@@ -8,14 +8,14 @@ use der_uses::key_info::KeyInfo;
 use der_uses::my_octets::Borrowed;
 use std::alloc::Global;
 
-/// A key to write, whose fields borrow the first octets of a common slice.
+/// A key to write. Its fields borrow the first octets of a slice that all keys share.
 #[repr(C)]
 pub struct WantedKey {
-    /// The number of octets of its algorithm.
+    /// The number of octets of the key's algorithm.
     pub algorithm: u32,
     /// The number of octets of the key.
     pub key: u32,
-    /// The month of the algorithm, below 12.
+    /// The month of the key's algorithm, below 12.
     pub month: u8,
 }
 
@@ -49,8 +49,8 @@ pub extern "C" fn der_bench_count_keys(wanted: &[WantedKey], borrowed: &[u8]) ->
     totals
 }
 
-/// Writes keys in sequence until all are written or there is an error. Returns their number and the
-/// number of their octets.
+/// Writes keys in sequence until all are written or there is an error. Returns the number of keys
+/// in `elements`, and the number of octets written in `contents`.
 #[unsafe(no_mangle)]
 pub extern "C" fn der_bench_put_keys(
     wanted: &[WantedKey],
@@ -71,8 +71,8 @@ pub extern "C" fn der_bench_put_keys(
     totals.written(writer.finish())
 }
 
-/// Writes each key to the start of the same octets. `first_octets` is the sum of the last octets of
-/// the keys.
+/// Writes each key to the start of one array, until all are written or there is an error.
+/// `first_octets` is the sum of the last octets of the written keys.
 #[unsafe(no_mangle)]
 pub extern "C" fn der_bench_keys_to_slice(wanted: &[WantedKey], borrowed: &[u8]) -> Totals {
     let mut totals = Totals::none();
@@ -89,7 +89,8 @@ pub extern "C" fn der_bench_keys_to_slice(wanted: &[WantedKey], borrowed: &[u8])
     totals
 }
 
-/// The same, each key into a new vector.
+/// Writes each key into a new vector, until all are written or there is an error. `first_octets` is
+/// the sum of the last octets of the written keys.
 #[unsafe(no_mangle)]
 pub extern "C" fn der_bench_keys_to_der(
     alloc: Global,

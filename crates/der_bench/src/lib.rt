@@ -20,7 +20,7 @@ mod writing;
 
 use der::{EncodingRules, Error, Reader, ReaderExt, SliceReader, decode_header};
 
-/// What was read or written.
+/// Counts of what a measured function read or wrote.
 #[repr(C)]
 pub struct Totals {
     /// The number of elements.
@@ -58,7 +58,7 @@ impl Totals {
     }
 }
 
-/// Walks over the elements of the octets until they end or there is an error.
+/// Walks over the elements in `bytes` until the octets end or there is an error.
 #[unsafe(no_mangle)]
 pub extern "C" fn der_bench_walk(bytes: &[u8]) -> Totals {
     walk(bytes, EncodingRules::Der)

@@ -6,7 +6,8 @@ use std::alloc::Global;
 use std::cmp::Ordering;
 
 /// Decodes OCTET STRINGs in sequence and compares each with the preceding one, until the octets end
-/// or there is an error. `first_octets` is the number of those that are less.
+/// or there is an error. `first_octets` is the number of OCTET STRINGs that are less than the
+/// preceding one.
 #[unsafe(no_mangle)]
 pub extern "C" fn der_bench_orders(alloc: Global, bytes: &[u8]) -> Totals {
     let mut totals = Totals::none();

@@ -7,14 +7,14 @@ use std::marker::Brand;
 use std::sync::ledger::{Blank, Ledger};
 
 /// Reads messages in sequence under the Basic Encoding Rules until the octets end or there is an
-/// error. An indefinite length counts the contents as a scan measured them.
+/// error. Contents of an indefinite length are measured by a scan.
 #[unsafe(no_mangle)]
 pub extern "C" fn der_bench_scan(bytes: &[u8]) -> Totals {
     walk(bytes, EncodingRules::Ber)
 }
 
-/// Skips the two header octets of each message, and measures its contents with the scan octet by
-/// octet, which is the one for readers that return no slices.
+/// Skips the two header octets of each message and measures its contents octet by octet, with the
+/// scan for readers that return no slices.
 #[unsafe(no_mangle)]
 pub extern "C" fn der_bench_scan_by_octets(bytes: &[u8]) -> Totals {
     let mut totals = Totals::none();

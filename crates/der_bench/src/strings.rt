@@ -53,13 +53,15 @@ pub extern "C" fn der_bench_borrowed(alloc: Global, bytes: &[u8]) -> Totals {
     decode_each::<BorrowedOctets<'_>>(alloc, bytes, EncodingRules::Der)
 }
 
-/// The same for copied UTF8Strings.
+/// Decodes UTF8Strings in sequence and copies their texts, until the octets end or there is an
+/// error.
 #[unsafe(no_mangle)]
 pub extern "C" fn der_bench_texts(alloc: Global, bytes: &[u8]) -> Totals {
     decode_each::<OwnedText>(alloc, bytes, EncodingRules::Der)
 }
 
-/// The same for OCTET STRINGs whose segments are joined, under the Basic Encoding Rules.
+/// Decodes OCTET STRINGs in sequence under the Basic Encoding Rules and joins their segments, until
+/// the octets end or there is an error.
 #[unsafe(no_mangle)]
 pub extern "C" fn der_bench_joined(alloc: Global, bytes: &[u8]) -> Totals {
     decode_each::<JoinedOctets>(alloc, bytes, EncodingRules::Ber)

@@ -2,8 +2,8 @@
 use crate::Totals;
 use der::{Reader, ReaderExt, SliceReader, decode_header};
 
-/// Walks over the elements of the octets until they end or there is an error. `first_octets` is the
-/// sum of the tag numbers.
+/// Walks over the elements in `bytes` until the octets end or there is an error. `first_octets` is
+/// the sum of the tag numbers.
 #[unsafe(no_mangle)]
 pub extern "C" fn der_bench_numbers(bytes: &[u8]) -> Totals {
     let mut totals = Totals::none();
@@ -26,8 +26,8 @@ pub extern "C" fn der_bench_numbers(bytes: &[u8]) -> Totals {
     totals
 }
 
-/// The same with the tags counted in a table, by the low octet of their numbers. `first_octets` is
-/// computed from the counts.
+/// Walks over the elements in `bytes` until the octets end or there is an error. Counts the tags in
+/// a table, by the low octet of the tag number. `first_octets` is computed from the counts.
 #[unsafe(no_mangle)]
 pub extern "C" fn der_bench_counts(bytes: &[u8]) -> Totals {
     let mut counts = [0u64; 256];

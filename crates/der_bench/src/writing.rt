@@ -51,8 +51,9 @@ impl Eight {
     }
 }
 
-/// Writes an element for each number in sequence until all are written or there is an error.
-/// Returns their number and the number of their octets.
+/// Writes an OCTET STRING of eight octets for each number, in sequence, until all are written or
+/// there is an error. Returns the number of OCTET STRINGs in `elements`, and the number of octets
+/// written in `contents`.
 #[unsafe(no_mangle)]
 pub extern "C" fn der_bench_put_elements(numbers: &[u64], out: &mut [u8]) -> Totals {
     let mut totals = Totals::none();
@@ -66,7 +67,8 @@ pub extern "C" fn der_bench_put_elements(numbers: &[u64], out: &mut [u8]) -> Tot
     totals.written(writer.finish())
 }
 
-/// Writes each element into a new array. `first_octets` is the sum of the last octets.
+/// Writes an OCTET STRING of eight octets for each number into a new array, until all are written
+/// or there is an error. `first_octets` is the sum of the last octets of the OCTET STRINGs.
 #[unsafe(no_mangle)]
 pub extern "C" fn der_bench_to_slice(numbers: &[u64]) -> Totals {
     let mut totals = Totals::none();
@@ -87,7 +89,8 @@ pub(crate) fn last_of(octets: &[u8]) -> u8 {
     octets.last().copied().unwrap_or(0)
 }
 
-/// The same, each element into a new vector.
+/// Writes an OCTET STRING of eight octets for each number into a new vector, until all are written
+/// or there is an error. `first_octets` is the sum of the last octets of the OCTET STRINGs.
 #[unsafe(no_mangle)]
 pub extern "C" fn der_bench_to_der(alloc: Global, numbers: &[u64]) -> Totals {
     let mut totals = Totals::none();
@@ -100,7 +103,8 @@ pub extern "C" fn der_bench_to_der(alloc: Global, numbers: &[u64]) -> Totals {
     totals
 }
 
-/// Appends the elements to one vector, which grows. `first_octets` is its last octet.
+/// Appends an OCTET STRING of eight octets for each number to one vector, which grows.
+/// `first_octets` is the last octet of the vector.
 #[unsafe(no_mangle)]
 pub extern "C" fn der_bench_to_vec(alloc: Global, numbers: &[u64]) -> Totals {
     let mut totals = Totals::none();
@@ -116,8 +120,8 @@ pub extern "C" fn der_bench_to_vec(alloc: Global, numbers: &[u64]) -> Totals {
     totals
 }
 
-/// Writes a SEQUENCE of four such elements for each number, with `sequence` and a closure that is
-/// inlined.
+/// For each number, writes a SEQUENCE of four OCTET STRINGs of eight octets, with `sequence` and a
+/// closure that is inlined.
 #[unsafe(no_mangle)]
 pub extern "C" fn der_bench_put_sequences(numbers: &[u64], out: &mut [u8]) -> Totals {
     let mut totals = Totals::none();
@@ -133,7 +137,8 @@ pub extern "C" fn der_bench_put_sequences(numbers: &[u64], out: &mut [u8]) -> To
     totals.written(writer.finish())
 }
 
-/// The same with a closure that is not inlined.
+/// For each number, writes a SEQUENCE of four OCTET STRINGs of eight octets, with `sequence` and a
+/// closure that calls a function that is not inlined.
 #[unsafe(no_mangle)]
 pub extern "C" fn der_bench_call_sequences(numbers: &[u64], out: &mut [u8]) -> Totals {
     let mut totals = Totals::none();

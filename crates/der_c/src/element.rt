@@ -16,13 +16,13 @@ use der_core::{Header, Reader, decode_header};
 #[repr(C)]
 #[derive(Clone, Copy)]
 pub struct DerElement<'a> {
-    /// The contents, without end-of-contents octets.
+    /// The contents octets, without end-of-contents octets.
     pub contents: &'a [u8],
-    /// The tag, as in a header.
+    /// The tag: the first octet of its identifier, plus 256 times its number if that is 31 or more.
     pub tag: u64,
-    /// Where the header begins.
+    /// The position at which the header begins.
     pub start: u32,
-    /// Where the contents begin.
+    /// The position at which the contents begin.
     pub contents_start: u32,
     /// Whether the identifier has the constructed bit.
     pub constructed: bool,
@@ -77,7 +77,7 @@ fn read_element_contents<'a>(
 /// length.
 ///
 /// Fails like [`der_read_header`](crate::der_read_header), and with `Incomplete` and `Overflow` if
-/// the contents are not all there.
+/// octets of the contents are missing.
 #[unsafe(no_mangle)]
 pub extern "C" fn der_read_element<'a>(
     reader: &mut DerReader<'a>,
@@ -90,7 +90,8 @@ pub extern "C" fn der_read_element<'a>(
     read_element(reader, element)
 }
 
-/// Consumes an element, and the end-of-contents octets of an indefinite length.
+/// Consumes an element: its header, its contents, and the end-of-contents octets of an indefinite
+/// length.
 ///
 /// Fails like [`der_read_element`].
 #[unsafe(no_mangle)]
@@ -157,7 +158,7 @@ fn unexpected(expected: u64, actual: u64) -> DerError
     }
 }
 
-/// Reads an element with this tag.
+/// Reads an element with the tag `tag`.
 ///
 /// Fails like [`der_read_element`], and with `TagUnexpected` without a position if the next element
 /// has another tag; the reader is unchanged then.
@@ -207,7 +208,7 @@ fn expect_slowly<'a>(reader: &mut DerReader<'a>, tag: u64, element: &mut DerElem
     }
 }
 
-/// Consumes an element with this tag, and makes `inside` a reader of its contents.
+/// Consumes an element with the tag `tag`, and makes `inside` a reader of its contents.
 ///
 /// Fails like [`der_expect`], and with `NestingDepth` if the element is inside 64 others; `inside`
 /// is unchanged then.
@@ -283,12 +284,12 @@ fn enter<'a>(reader: &mut DerReader<'a>, header: Header, inside: &mut DerReader<
     }
 }
 
-/// Makes `inside` a reader of the contents of an element that this reader, or a copy of it, has
-/// read.
+/// Makes `inside` a reader of the contents of `element`. `reader` or a copy of it has read
+/// `element` before.
 ///
-/// Fails with `Reader` without a position if the element does not lie in the octets of the reader,
-/// with `Failed` without a position if the reader has failed, and with `NestingDepth` at the
-/// position of the contents if the element is inside 64 others; `inside` is unchanged then.
+/// Fails with `Reader` without a position if the element does not lie in the octets of `reader`,
+/// with `Failed` without a position if `reader` has failed, and with `NestingDepth` at the position
+/// of the contents if the element is inside 64 others; `inside` is unchanged then.
 #[unsafe(no_mangle)]
 pub extern "C" fn der_open<'a>(
     reader: &DerReader<'a>,

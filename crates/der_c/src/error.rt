@@ -9,21 +9,21 @@ use der_base::{Error, ErrorKind, Length, Tag};
 #[repr(C)]
 #[derive(Clone, Copy)]
 pub struct DerError {
-    /// The number of the kind, or 0.
+    /// The number of the kind; 0 if there is no error.
     pub kind: u8,
     /// Whether a position is known.
     pub has_position: bool,
-    /// The first octet of the tag that was expected, or 0.
+    /// The first octet of the tag that was expected; 0 if there is none.
     pub expected: u8,
-    /// The first octet of the tag that was found, or 0.
+    /// The first octet of the tag that was found; 0 if there is none.
     pub actual: u8,
-    /// The position in octets, or 0.
+    /// The position in octets; 0 if it is not known.
     pub position: u32,
-    /// The number of octets that was expected or read; the octet that begins no tag; the number of
-    /// the expected tag, if that is 31 or more.
+    /// Depends on the kind: the number of octets that was expected or read, the octet that begins
+    /// no tag, or the number of the expected tag if that is 31 or more. Otherwise 0.
     pub first: u32,
-    /// The number of octets that there are, or that are left; the number of the tag that was found,
-    /// if that is 31 or more.
+    /// Depends on the kind: the number of octets that there are or that are left, or the number of
+    /// the tag that was found if that is 31 or more. Otherwise 0.
     pub second: u32,
 }
 
@@ -130,7 +130,7 @@ pub(crate) fn c_error(error: Error) -> DerError
     }
 }
 
-/// The error with this C form, if there is one. Errors with equal C forms have equal texts.
+/// An error whose C form is `code`, if there is one. Errors with equal C forms have equal texts.
 pub(crate) fn known_error(code: DerError) -> Option<Error>
     ensures { IfSome result (λ e. error_code e ≡ code) }
 {

@@ -16,8 +16,7 @@ use der_core::{Header, decode_header};
 pub struct DerHeader {
     /// The tag: the first octet of its identifier, plus 256 times its number if that is 31 or more.
     pub tag: u64,
-    /// How many octets of contents there are, with the end-of-contents octets of an indefinite
-    /// length.
+    /// The number of contents octets, including the end-of-contents octets of an indefinite length.
     pub length: u32,
     /// Whether the identifier has the constructed bit.
     pub constructed: bool,
@@ -42,7 +41,7 @@ fn c_header(header: Header) -> DerHeader
 /// Reads a header, as `decode_header` does.
 ///
 /// Fails with `Failed`, `Overflow`, `Incomplete`, `TagUnknown`, `TagNumberInvalid`,
-/// `IndefiniteLength`, `Length` and `NestingDepth`; the header is unchanged then.
+/// `IndefiniteLength`, `Length` and `NestingDepth`; `header` is unchanged then.
 #[unsafe(no_mangle)]
 pub extern "C" fn der_read_header(reader: &mut DerReader<'_>, header: &mut DerHeader) -> DerError
     ensures same { Same (reader_state reader.old) (reader_state reader.new) }

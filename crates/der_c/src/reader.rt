@@ -14,8 +14,8 @@ const STEP: u32 = 16;
 // how many nested parts may be inside each other
 const MAX_DEPTH: u8 = 64;
 
-/// A reader of octets. C makes it with [`der_reader_init`], and changes it only with the functions
-/// here.
+/// A reader of octets. A C program makes it with [`der_reader_init`], and changes it only with
+/// functions of this crate.
 #[repr(C)]
 #[derive(Drop)]
 pub struct DerReader<'a> {

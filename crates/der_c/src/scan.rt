@@ -12,13 +12,13 @@ use der_core::{Turns, decode_indefinite_length};
 use std::marker::Brand;
 use std::sync::ledger::{Blank, Ledger};
 
-/// Consumes indefinite-length contents, and sets `count` to their number of octets, with the
-/// end-of-contents octets that close them (X.690 8.1.3.6). Before the call the reader is just after
-/// octet `0x80`; after the call it is just after the end-of-contents octets.
+/// Consumes indefinite-length contents and the end-of-contents octets that close them (X.690
+/// 8.1.3.6), and sets `count` to the number of all these octets. Before the call the reader is just
+/// after octet `0x80`; after the call it is just after the end-of-contents octets.
 ///
-/// Fails with `EncodingRules` without a position if the reader does not read under the Basic
-/// Encoding Rules, which leaves it unchanged, and like `decode_indefinite_length`; `count` is
-/// unchanged then.
+/// Fails like `decode_indefinite_length`, and with `EncodingRules` without a position if the reader
+/// does not read under the Basic Encoding Rules. `EncodingRules` leaves the reader unchanged. Every
+/// error leaves `count` unchanged.
 #[unsafe(no_mangle)]
 pub extern "C" fn der_scan(reader: &mut DerReader<'_>, count: &mut u32) -> DerError
     ensures { ScansBody (reader_state reader.old) result count.old count.new

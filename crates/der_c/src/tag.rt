@@ -5,7 +5,7 @@ ghost use Rattle.der_c.specs.TagWord.{IsTagWord, NoTagWord, said_tag, tag_octet,
 
 use der_base::{Class, Tag, TagNumber};
 
-/// The tag of a word, or `None` if the word is not that of a tag.
+/// The tag whose word is `word`, as by [`word_of`]; `None` if no tag has that word.
 #[inline(always)]
 pub(crate) fn tag_of_word(word: u64) -> Option<Tag>
     ensures is { IfSome result (λ t. IsTagWord word t) }
@@ -23,7 +23,8 @@ pub(crate) fn tag_of_word(word: u64) -> Option<Tag>
     }
 }
 
-/// The tag with this first octet, and with the number `long` if the octet announces the long form.
+/// The tag whose identifier begins with `octet`. Its number is `long` if `octet` announces the long
+/// form. `None` if `octet` is of class UNIVERSAL and begins no universal tag.
 pub(crate) fn tag_of(octet: u8, long: u32) -> Option<Tag>
     ensures { result ≡ said_tag octet long }
 {
@@ -51,7 +52,8 @@ pub(crate) fn tag_of(octet: u8, long: u32) -> Option<Tag>
     })
 }
 
-/// The universal tag whose identifier is this one octet (X.680 8.6).
+/// The universal tag whose identifier is the one octet `octet` (X.680 8.6); `None` if there is
+/// none.
 #[inline(always)]
 pub(crate) fn universal(octet: u8) -> Option<Tag>
     ensures { result ≡ universal_tag octet }
@@ -109,7 +111,8 @@ pub(crate) fn number_in_long_form(tag: Tag) -> u32
     if number < 31 { 0 } else { number }
 }
 
-/// A tag as a word: its first octet, plus 256 times a number in the long form.
+/// A tag as a word: the first octet of its identifier, plus 256 times its number if that is 31 or
+/// more.
 #[inline(always)]
 pub(crate) fn word_of(tag: Tag) -> u64
     ensures { result ≡ tag_word tag }

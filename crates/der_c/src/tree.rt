@@ -14,19 +14,19 @@ use crate::tree::walk::{climb, look_into};
 use der_base::ErrorKind;
 use der_core::Reader;
 
-/// An element of a tree, by positions in octets.
+/// An element of a tree. Positions are in octets from the start of the input.
 #[repr(C)]
 #[derive(Clone, Copy)]
 pub struct DerNode {
-    /// The tag, as in a header.
+    /// The tag: the first octet of its identifier, plus 256 times its number if that is 31 or more.
     pub tag: u64,
-    /// Where the header begins.
+    /// The position at which the header begins.
     pub start: u32,
-    /// Where the contents begin.
+    /// The position at which the contents begin.
     pub contents_start: u32,
-    /// Where the contents end.
+    /// The position at which the contents end.
     pub end: u32,
-    /// How many elements of the tree contain it.
+    /// How many elements of the tree contain this element.
     pub depth: u8,
     /// Whether the identifier has the constructed bit.
     pub constructed: bool,
@@ -34,9 +34,9 @@ pub struct DerNode {
     pub indefinite: bool,
 }
 
-/// Reads all elements that are left and everything inside constructed ones, each before those
-/// inside it, and sets `count` to their number. It descends 32 levels; an element deeper than that
-/// is one node.
+/// Reads into `nodes` all elements that are left, and all elements inside constructed ones. Each
+/// element comes before the elements inside it. Sets `count` to the number of elements. It descends
+/// 32 levels; an element inside 32 others is one node, whatever its contents.
 ///
 /// Fails like [`der_read_element`](crate::der_read_element), and with `Overlength` without a
 /// position if there are more elements than nodes. The reader has then failed.

@@ -30,15 +30,15 @@ fn header_clone(header: &Header) -> Result<Header, AllocError>
     header.clone()
 }
 
-/// A clone of a position is at the same place; cloning allocates nothing.
+/// A clone of a position has the same position, end and depth; cloning allocates nothing.
 fn position_clone(position: &Position) -> Result<Position, AllocError>
     ensures { IsOkAnd result (λ p. position_place p ≡ position_place position.now) }
 {
     position.clone()
 }
 
-/// Two values of an orderly type compare as their encodings do in byte order, whenever there is a
-/// result; there is one if both headers can be computed (X.690 11.6).
+/// Compares two values of an orderly type. The result, if it is no error, is the byte order of
+/// their encodings (X.690 11.6). It is no error if both headers can be computed.
 fn encodings_are_compared<T: Orderly>(value: &T, other: &T) -> Result<Ordering, Error>
     ensures ok { IfOk result (λ o. o
         ≡ byte_order (element_octets (T.tag_of value.now) (T.contents value.now))
@@ -50,8 +50,8 @@ fn encodings_are_compared<T: Orderly>(value: &T, other: &T) -> Result<Ordering, 
     value.der_cmp(other)
 }
 
-/// Two slices of an orderly type compare as their concatenated encodings do in byte order, whenever
-/// there is a result; there is one if every header can be computed.
+/// Compares two slices of an orderly type. The result, if it is no error, is the byte order of the
+/// joined encodings of their values. It is no error if the header of every value can be computed.
 fn joined_encodings_are_compared<T: Orderly>(these: &[T], those: &[T]) -> Result<Ordering, Error>
     ensures ok { IfOk result (λ o. o ≡ byte_order (joined_elements T.tag_of T.contents these.now)
         (joined_elements T.tag_of T.contents those.now)) }

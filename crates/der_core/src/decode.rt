@@ -27,7 +27,8 @@ pub use value::{DecodeValue, ReadValue, decode_tlv};
 /// Ghost members:
 ///
 /// - `out_of_memory` says whether an error reports that an allocation failed.
-/// - `carries` is the law that a converted error reports this exactly if the [`Error`] did.
+/// - `carries` is the law that a converted error reports a failed allocation exactly if the
+///   original [`Error`] did.
 pub trait DecodeError: From<Error> + Drop {
     ghost out_of_memory: { Self → Bool };
 
@@ -54,9 +55,11 @@ impl DecodeError for Error {
 ///
 /// Ghost members:
 ///
-/// - `is_next` says which values octets begin with, and how many octets each takes; it is a
-///   relation over all remaining octets, since an indefinite length depends on what follows.
-/// - `decode_levels` is the number of nesting levels that decoding requires under these rules.
+/// - `is_next` says which values octets begin with under given encoding rules, and how many octets
+///   each value takes. It is a relation over all remaining octets, since an indefinite length
+///   depends on what follows.
+/// - `decode_levels` is the number of nesting levels that decoding requires under given encoding
+///   rules.
 /// - `allocates` says whether decoding allocates.
 /// - `decode_answers` is the exact outcome on a reliable reader, including each error and the state
 ///   in which it leaves the reader.
@@ -74,12 +77,12 @@ pub trait Decode<R: Reader>: Sized + Drop {
 
     /// Decodes a value from the next octets of the reader and consumes them.
     ///
-    /// A reliable reader that has not failed, with `decode_levels` levels of nesting left, returns
-    /// the next value, or an error that reports a failed allocation.
+    /// If the reader is reliable, has not failed and has `decode_levels` levels of nesting left,
+    /// and a value is next, the result is this value or an error that reports a failed allocation.
     ///
     /// # Errors
     ///
-    /// - One that reports a failed allocation, if the type allocates.
+    /// - An error that reports a failed allocation, if the type allocates.
     /// - Those of the type: `decode_answers` specifies them, their positions, and whether the
     ///   reader is then failed.
     fn decode(alloc: Global, reader: &mut R) -> Result<Self, Self::Error>

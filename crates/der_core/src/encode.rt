@@ -40,7 +40,7 @@ pub trait Encode {
     ghost encode_answers: { Self → WriterState → AResult (Unit {0}) AnError → WriterState
         → Type 0 };
 
-    /// The number of octets of the encoding.
+    /// The number of octets of the value's encoding.
     ///
     /// # Errors
     ///
@@ -51,7 +51,7 @@ pub trait Encode {
         ensures succeeds { encodable self.now → HasSize (encoding self.now) result }
         ensures exact { result ≡ size self.now };
 
-    /// Writes the encoding.
+    /// Writes the value's encoding.
     ///
     /// # Errors
     ///
@@ -68,7 +68,8 @@ pub trait Encode {
         ensures exact { W.reliable ≡ true
             → encode_answers self.now (W.state writer.old) result (W.state writer.new) };
 
-    /// Writes the encoding to the start of the buffer and returns it. Allocates nothing.
+    /// Writes the value's encoding to the start of the buffer, and returns the octets written.
+    /// Allocates nothing.
     ///
     /// # Errors
     ///
@@ -90,7 +91,7 @@ pub trait Encode {
         writer.finish()
     }
 
-    /// Appends the encoding and returns its number of octets.
+    /// Appends the value's encoding to `out`, and returns the number of its octets.
     ///
     /// # Errors
     ///
@@ -115,7 +116,7 @@ pub trait Encode {
         encode_to_vec_in(self, out)
     }
 
-    /// The encoding.
+    /// Returns the value's encoding in a new vector.
     ///
     /// # Errors
     ///

@@ -13,7 +13,7 @@ pub use value::EncodeValueRef;
 pub struct EncodeRef<'a, T>(pub &'a T);
 
 impl<'a, T> EncodeRef<'a, T> {
-    /// The value.
+    /// The value that the reference refers to.
     pub fn as_ref(&self) -> &T
         ensures { result.now ≡ self.now.0.now }
     {
@@ -21,11 +21,11 @@ impl<'a, T> EncodeRef<'a, T> {
     }
 }
 
-/// The value's encoding.
+/// Writes the encoding of the value that the reference refers to.
 ///
 /// # Errors
 ///
-/// Those of the value, with the same positions and states.
+/// Those of that value, with the same positions and states.
 impl<'a, T: Encode> Encode for EncodeRef<'a, T> {
     ghost encoding = { λ v. T.encoding v.0.now };
 

@@ -72,7 +72,7 @@ impl Header {
         self.constructed
     }
 
-    /// The same header with another length; the constructed bit is kept.
+    /// A copy of the header with another length; tag and constructed bit are kept.
     pub fn with_length(&self, length: Length) -> Self
         ensures { head_of result ≡ head (head_of self.now).tag length
             (head_of self.now).constructed }
@@ -92,11 +92,13 @@ impl Header {
     }
 }
 
-/// Decodes a header (X.690 8.1.2, 8.1.3, 10.1), as [`Header::decode`] does, without an allocator.
+/// Decodes a header (X.690 8.1.2, 8.1.3, 10.1) without an allocator. [`Header::decode`] is this
+/// function.
 ///
 /// # Errors
 ///
-/// The same as for [`Header::decode`].
+/// `Failed`, `Overflow`, `Incomplete`, `TagUnknown`, `TagNumberInvalid`, `IndefiniteLength`,
+/// `NestingDepth` and `Length`, as by [`Header::decode`].
 #[inline(always)]
 pub fn decode_header<R: Reader>(reader: &mut R) -> Result<Header, Error>
     ensures { Decodes HeaderNext (HeaderFault BodyFault) R.reliable (R.state reader.old) result
@@ -201,9 +203,9 @@ impl<R: Reader> Decode<R> for Header {
     ghost decode_answers = { Decodes HeaderNext (HeaderFault BodyFault) true };
 
     /// Decodes a header (X.690 8.1.2, 8.1.3, 10.1). Under the Basic Encoding Rules octet `0x24` is
-    /// also an identifier, and octet `0x80` is a length after a constructed identifier: the result
-    /// counts the octets of the body that follows, including its end-of-contents octets, and the
-    /// reader stays after octet `0x80` (X.690 8.1.3.6).
+    /// also an identifier, and octet `0x80` after a constructed identifier is an indefinite length.
+    /// The length in the result is then the number of octets of the body that follows, including
+    /// its end-of-contents octets; the reader stays after octet `0x80` (X.690 8.1.3.6).
     ///
     /// # Errors
     ///
@@ -235,11 +237,13 @@ impl<R: Reader> Decode<R> for Header {
 }
 
 impl Header {
-    /// The next header, as [`decode_header`] would return it; the reader does not move.
+    /// The next header, decoded without moving the reader.
     ///
     /// # Errors
     ///
-    /// The same as for [`Header::decode`], with the same positions; the reader is unchanged.
+    /// `Failed`, `Overflow`, `Incomplete`, `TagUnknown`, `TagNumberInvalid`, `IndefiniteLength`,
+    /// `NestingDepth` and `Length`, as by [`Header::decode`] and with the same positions; the
+    /// reader is unchanged.
     pub fn peek<R: Reader>(reader: &R) -> Result<Self, Error>
         ensures { Peeks HeaderNext (HeaderFault BodyFault) R.reliable (R.state reader.now)
             result }
@@ -307,12 +311,14 @@ fn encode_long_header<W: Writer>(tag: Tag, len: Length, writer: &mut W) -> Resul
     Header::new(tag, len).encode(writer)
 }
 
-/// Writes the tag and then only the number of the length. The constructed bit is that of the tag.
+/// Writes the identifier octets of the tag, with the constructed bit of the tag, and then the
+/// length in the definite form. Whether the length was read in the indefinite form, and the
+/// constructed bit of the header, are ignored.
 ///
 /// # Errors
 ///
-/// The size never fails. Writing returns the writer's errors, as by [`Writer::write`]; the octets
-/// of earlier writes remain.
+/// [`Encode::encoded_len`] never fails. [`Encode::encode`] returns the writer's errors, as by
+/// [`Writer::write`]; the octets of earlier writes remain.
 impl Encode for Header {
     ghost encoding = { λ h. header_octets (head_of h).tag (number (head_of h).length) };
 

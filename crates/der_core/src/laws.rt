@@ -16,7 +16,8 @@ ghost use Rattle.der_core.specs.Lawful.{IsDefinite, IsDefiniteHeader, PassesEnco
 use crate::decode::Lawful;
 use std::marker::PhantomData;
 
-/// A reliable reader that has not failed decodes the next identifier, tag, length or header.
+/// If a reader is reliable and has not failed, the identifier, tag, length or header that its
+/// octets begin with is decoded.
 
 fn next_values_are_decoded()
     ensures identifiers { Accepts IdentifierNext IdentifierFault }
@@ -26,10 +27,13 @@ fn next_values_are_decoded()
 {}
 
 /// Under DER, tags, lengths, headers and `PhantomData` (whose encoding is empty) are read from
-/// exactly their encodings. Octets whose number a length can represent begin with a value exactly
-/// if they begin with its encoding, and are entirely a value exactly if they are its encoding. A
-/// reader that has decoded a value has consumed its encoding. An encoding is read back as the same
-/// value, whatever follows. Tag numbers and lengths have 32 bits.
+/// exactly their encodings. For octets whose number a length can represent:
+///
+/// - They begin with a value exactly if they begin with its encoding.
+/// - They are entirely a value exactly if they are its encoding.
+///
+/// A reader that has decoded a value has consumed its encoding. An encoding is read back as the
+/// same value, whatever follows. Tag numbers and lengths have 32 bits.
 fn grammars_read_encodings<T>()
     ensures tags { ReadsExactly TagNext (λ t. (label t).number < 2 ^ 32) tag_octets }
     ensures lengths { ReadsExactly LengthNext IsDefinite (λ l. length_octets (number l)) }
@@ -39,10 +43,15 @@ fn grammars_read_encodings<T>()
         (λ _. []) }
 {}
 
-/// Under DER, octets whose number a length can represent begin with an element of a lawful type
-/// exactly if they begin with the encoding of a valid value, and are entirely such an element
-/// exactly if they are the encoding. A reader that has decoded such an element has consumed the
-/// encoding. An encoding is read back, whatever follows.
+/// Elements of a lawful type are read from exactly the encodings of valid values, under DER. For
+/// octets whose number a length can represent:
+///
+/// - They begin with an element of the type exactly if they begin with the encoding of a valid
+///   value.
+/// - They are entirely an element of the type exactly if they are the encoding of a valid value.
+///
+/// A reader that has decoded such an element has consumed the encoding. An encoding is read back,
+/// whatever follows.
 fn lawful_types_read_encodings<T: Lawful>()
     ensures front { ReadsEncodings (ElementNext T.tag_is T.takes) T.valid
         (λ v. element_octets T.tag_is (T.contents v)) }

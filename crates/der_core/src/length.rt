@@ -29,11 +29,12 @@ use std::cmp::Ordering;
 // the length octet of the indefinite form
 pub(crate) const INDEFINITE: u8 = 0x80;
 
-/// Decodes a length (X.690 8.1.3, 10.1), as [`Length::decode`] does, without an allocator.
+/// Decodes a length (X.690 8.1.3, 10.1) without an allocator. [`Length::decode`] is this function.
 ///
 /// # Errors
 ///
-/// The same as for [`Length::decode`].
+/// `Failed`, `Overflow`, `Incomplete`, `IndefiniteLength`, `TagUnknown`, `TagNumberInvalid`,
+/// `Length`, `NestingDepth` and `Overlength`, as by [`Length::decode`].
 #[inline(always)]
 pub fn decode_length<R: Reader>(reader: &mut R) -> Result<Length, Error>
     ensures { Decodes LengthNext (LengthFault BodyFault Overlength) R.reliable
@@ -150,9 +151,9 @@ impl<R: Reader> Decode<R> for Length {
 
     ghost decode_answers = { Decodes LengthNext (LengthFault BodyFault Overlength) true };
 
-    /// Decodes a length (X.690 8.1.3, 10.1). Under the Basic Encoding Rules octet `0x80` is also a
-    /// length: the result counts the octets of the body that follows, including its end-of-contents
-    /// octets, and the reader stays after octet `0x80` (X.690 8.1.3.6).
+    /// Decodes a length (X.690 8.1.3, 10.1). Under the Basic Encoding Rules octet `0x80` is an
+    /// indefinite length. The result is then the number of octets of the body that follows,
+    /// including its end-of-contents octets; the reader stays after octet `0x80` (X.690 8.1.3.6).
     ///
     /// # Errors
     ///
@@ -179,13 +180,14 @@ impl<R: Reader> Decode<R> for Length {
     }
 }
 
-/// Writes only the number, in the fewest octets (X.690 8.1.3, 10.1): one octet, then its base-256
-/// digits, if it has any, in one write.
+/// Writes the length in the definite form, in the fewest octets (X.690 8.1.3, 10.1). A length below
+/// 128 is one octet. A greater one is an octet with the number of its base-256 digits, then these
+/// digits in one write. Whether the length was read in the indefinite form is ignored.
 ///
 /// # Errors
 ///
-/// The size never fails. Writing returns the writer's errors, as by [`Writer::write`]; the octets
-/// of earlier writes remain.
+/// [`Encode::encoded_len`] never fails. [`Encode::encode`] returns the writer's errors, as by
+/// [`Writer::write`]; the octets of earlier writes remain.
 impl Encode for Length {
     ghost encoding = { λ l. length_octets (number l) };
 

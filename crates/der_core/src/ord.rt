@@ -25,13 +25,13 @@ pub use value::{OrdIsValueOrd, Orderly, ValueOrd};
 /// Ghost members:
 ///
 /// - `order` is the exact result of [`DerOrd::der_cmp`], errors included.
-/// - `octets` is the octets by which values are ordered.
-/// - `by_octets` says for which two values every result of comparing them is the byte order of
-///   these octets.
-/// - `has_header` says for which values the beginning of the octets can be computed; if it holds
-///   for both values, and `by_octets` for the two, there is a result.
-/// - `delimits` is a condition under which the octets of values can be separated after they are
-///   joined; `delimited` proves that they then can.
+/// - `octets` is the octets by which a value is ordered.
+/// - `by_octets` holds for two values if every result of comparing them is the byte order of their
+///   `octets`.
+/// - `has_header` holds for a value if the beginning of its `octets` can be computed. If it holds
+///   for both values, and `by_octets` for the two, comparing them returns a result.
+/// - `delimits` is a condition under which the `octets` of several values can be separated after
+///   they are joined; `delimited` proves this from the condition.
 pub trait DerOrd {
     ghost order: { Self → Self → Compared };
 

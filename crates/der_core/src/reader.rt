@@ -27,7 +27,7 @@ pub use value::{close_value, read_eoc, read_value};
 pub trait Octets: Drop {
     ghost octets: { Self → List ℕ };
 
-    /// The octets.
+    /// These octets as a slice.
     fn as_slice(&self) -> &[u8]
         ensures { result.now ≡ octets self.now };
 }
@@ -45,15 +45,17 @@ impl<'a> Octets for &'a [u8] {
 ///
 /// A reliable reader fails exactly as the outcome of each function specifies, with its error and
 /// its position. Any other reader may fail at every call; only its `Ok` results are specified. A
-/// reader that keeps no failed state has not failed, even where the text below says that the reader
-/// is then failed. If several errors of a function's list apply, the first of them is returned.
+/// reader that keeps no failed state never counts as failed, even where the list of errors of a
+/// function says that the reader is then failed. If several errors of such a list apply, the first
+/// of them is returned.
 ///
 /// Ghost members:
 ///
 /// - `state` is the meaning of the reader: input, rules, end, position, depth, failed, and whether
 ///   it keeps a failed state; see `specs/ReaderState.antt`.
-/// - `reliable` says whether its errors are also those of the specified outcomes.
-/// - `reads_slices` says whether it can return slices.
+/// - `reliable` says whether the reader is reliable: whether its errors are also those of the
+///   specified outcomes.
+/// - `reads_slices` says whether the reader can return slices.
 /// - `sound_state` is the law of every state: the position is within the end, and the end within
 ///   the input of at most 4294967295 octets; the depth is at most 64; and only a reader that keeps
 ///   a failed state fails.
@@ -79,8 +81,8 @@ pub trait Reader: Sized + Drop {
     fn encoding_rules(&self) -> EncodingRules
         ensures { result ≡ (state self.now).rules };
 
-    /// The end up to which the input may be read: its length, or within a nested part the end of
-    /// that part.
+    /// The end up to which the input may be read. Within a nested part this is the end of the part,
+    /// otherwise the length of the input.
     fn input_len(&self) -> Length
         ensures { result ≡ definite_length (state self.now).end };
 
@@ -128,8 +130,8 @@ pub trait Reader: Sized + Drop {
             (map_ok (λ _. buf.new) result) (state self.new) }
         ensures kept { OnErr result (buf.new ≡ buf.old) };
 
-    /// Returns the error of this kind at the position and marks the reader failed, if it keeps such
-    /// a state.
+    /// Returns the error of this kind at the position. Marks the reader failed, if it keeps a
+    /// failed state.
     fn error(&mut self, kind: ErrorKind) -> Error
         ensures same { Same (state self.old) (state self.new) }
         ensures at_position { result ≡ error_at kind (reader_position (state self.old)) }
@@ -151,7 +153,8 @@ pub trait Reader: Sized + Drop {
             → map_ok Self.Borrowed.octets result ≡ Err
             (error_at CannotRead (reader_position (state self.now))) };
 
-    /// An equal reader; reading from it leaves this one unchanged. Allocates nothing.
+    /// Returns a reader in the same state. Reading from it leaves this reader unchanged. Allocates
+    /// nothing.
     fn fork(&self) -> Self
         ensures { state result ≡ state self.now };
 
@@ -171,11 +174,16 @@ pub trait Reader: Sized + Drop {
             (map_ok (λ v. v.items) result)
             (state self.new) };
 
-    /// Returns the next `len` octets in memory of the global allocator.
+    /// Returns the next `len` octets in memory of the global allocator. A reliable reader allocates
+    /// only once the octets are known to be available.
     ///
     /// # Errors
     ///
-    /// The same as for [`Reader::read_vec_in`].
+    /// - `Failed` at the position, if the reader had already failed; it is unchanged.
+    /// - `Overflow` without a position, if fewer octets are left and the sum of position and length
+    ///   exceeds 4294967295; the reader is unchanged.
+    /// - `Incomplete` at the position, if fewer octets are left; the reader is then failed.
+    /// - `OutOfMemory` without a position, if the allocation fails; the reader is unchanged.
     final fn read_vec(&mut self, alloc: Global, len: Length) -> Result<Vec<u8>, Error>
         ensures same { Same (Self.state self.old) (Self.state self.new) }
         ensures exact { VecMeets Self.reliable (number len) (Self.state self.old)
@@ -184,8 +192,9 @@ pub trait Reader: Sized + Drop {
         self.read_vec_in(alloc, len)
     }
 
-    /// Skips this many octets. A definite length of zero skips none, even on a failed reader. If
-    /// fewer are left, whole steps of sixteen octets are skipped, and the next step is an error.
+    /// Skips `amount` octets. A definite length of zero skips none, even on a failed reader. If
+    /// fewer octets are left, the reader skips as many whole steps of sixteen octets as are left,
+    /// and the next step is an error.
     ///
     /// # Errors
     ///
@@ -209,8 +218,9 @@ pub trait Reader: Sized + Drop {
         ensures ok { OnOk result (finish_answer (state self) ≡ Ok tt) }
         ensures exact { reliable ≡ true → result ≡ finish_answer (state self) };
 
-    /// Enters a nested part of `len` octets: until it is left, only these may be read, and the
-    /// depth is one more. A failed reader enters it too.
+    /// Enters a nested part of the next `len` octets, and returns the end and the depth around it.
+    /// Until the part is left, only its octets may be read, and the depth is one greater. A failed
+    /// reader also enters the part.
     ///
     /// # Errors
     ///
@@ -224,11 +234,12 @@ pub trait Reader: Sized + Drop {
             (map_ok outer_place result) (state self.new) }
         ensures err { OnErr result (Same (state self.old) (state self.new)) };
 
-    /// Leaves a nested part and restores the end and the depth around it.
+    /// Leaves a nested part and restores the end and the depth around it, which are in
+    /// `resumption`.
     ///
-    /// The caller must ensure that the outer end is neither before the position nor after the end
-    /// of the input, and that the outer depth is at most 64. What [`Reader::enter_nested`] returned
-    /// satisfies this.
+    /// The caller must ensure that the end in `resumption` is neither before the position nor after
+    /// the end of the input, and that the depth in it is at most 64. What [`Reader::enter_nested`]
+    /// returned satisfies this.
     fn leave_nested(&mut self, resumption: Resumption)
         requires { CanLeave (state self.old) (outer_end resumption) (outer_depth resumption) }
         ensures { state self.new ≡ resumed_state (state self.old) (outer_end resumption)

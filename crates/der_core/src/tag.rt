@@ -309,8 +309,8 @@ impl<R: Reader> Decode<R> for Tag {
 ///
 /// # Errors
 ///
-/// The size never fails. Writing returns the writer's errors, as by [`Writer::write`]; the octets
-/// of earlier writes remain.
+/// [`Encode::encoded_len`] never fails. [`Encode::encode`] returns the writer's errors, as by
+/// [`Writer::write`]; the octets of earlier writes remain.
 impl Encode for Tag {
     ghost encoding = { tag_octets };
 

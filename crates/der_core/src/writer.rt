@@ -7,10 +7,8 @@ pub mod slice;
 use der_base::Error;
 pub use slice::SliceWriter;
 
-/// A writer of octets: what was written, what the buffer holds after it, how much space there is,
-/// and whether the writer has failed. A writer without a buffer starts with `start` 0, chooses its
-/// own `stop`, has an empty `following`, and any `capacity` and `reference`, as long as these do
-/// not change.
+/// A writer of octets: the octets written, the octets of its buffer after them, the space that is
+/// left, and whether the writer has failed.
 ///
 /// A writer that has not failed accepts every write that fits into its space. A reliable writer
 /// fails exactly as the outcome of each function specifies; a writer that guarantees nothing counts
@@ -18,9 +16,14 @@ pub use slice::SliceWriter;
 ///
 /// Ghost members:
 ///
-/// - `state` is the meaning of the writer: the octets written, `following`, `start`, `stop`,
-///   `capacity`, failed, and `reference`; see `specs/Writer.antt`.
-/// - `reliable` says whether its errors are also those of the specified outcomes.
+/// - `state` is the meaning of the writer; see `specs/Writer.antt`. It has the `octets` written,
+///   the octets `following` them in the buffer, `start` and `stop` of the part of the buffer that
+///   may be written, the `capacity` of the buffer, whether the writer has `failed`, and a
+///   `reference`, the identity of the buffer. A writer without a buffer starts with `start` 0,
+///   chooses its own `stop`, has an empty `following`, and any `capacity` and `reference`, as long
+///   as these do not change.
+/// - `reliable` says whether the writer is reliable: whether its errors are also those of the
+///   specified outcomes.
 pub trait Writer {
     ghost state: { Self → WriterState };
 
@@ -42,15 +45,15 @@ pub trait Writer {
         ensures exact { reliable ≡ true
             → Writes (write_outcome octets.now (state self.old)) result (state self.new) };
 
-    /// Whether a write of this many octets is known to succeed. If true, a header is written at
-    /// once, otherwise piece by piece. The default returns `false`, which promises nothing.
+    /// Whether a write of this many octets is known to succeed. If true, a header is written with
+    /// one write, otherwise piece by piece. The default returns `false`, which promises nothing.
     fn has_space(&self, _count: usize) -> bool
         ensures { result ≡ true → HasSpace (state self.now) _count }
     {
         false
     }
 
-    /// Appends one octet, as [`Writer::write`] does.
+    /// Appends one octet.
     ///
     /// # Errors
     ///

@@ -9,7 +9,7 @@ use std::alloc::Global;
 pub struct Counter {
     /// The octets that were written.
     pub octets: Vec<u8>,
-    /// The number of calls.
+    /// The number of calls of `write`.
     pub writes: u32,
 }
 
@@ -37,7 +37,7 @@ impl Writer for Counter {
 }
 
 impl Counter {
-    /// A counter with no octets.
+    /// A writer that has written nothing and counted no calls.
     pub fn new(alloc: Global) -> Self {
         Counter {
             octets: Vec::new(alloc),

@@ -12,7 +12,7 @@ use der::{
 };
 use std::alloc::Global;
 
-/// An OCTET STRING, borrowed or copied.
+/// An OCTET STRING whose contents are borrowed from the input or copied.
 #[derive(Drop)]
 pub struct CowOctets<'a> {
     /// The contents octets.

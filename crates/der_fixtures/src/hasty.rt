@@ -5,11 +5,11 @@ ghost use Rattle.der.specs.Prelude.{OctetString};
 use der::{DecodeValue, Error, ErrorKind, FixedTag, Header, ReadValue, Reader, ReaderExt, Tag};
 use std::alloc::Global;
 
-/// An octet. Its `decode_value` ignores that reading a second octet failed, so the contract accepts
-/// no contents as this value.
+/// An OCTET STRING of one octet, read carelessly: `decode_value` ignores that reading a second
+/// octet failed, and leaves the reader failed. So the contract accepts no contents as this value.
 #[derive(Clone, Copy)]
 pub struct Hasty {
-    /// The octet.
+    /// The contents octet.
     pub octet: u8,
 }
 

@@ -6,14 +6,15 @@ use der::example::MyByteMonth;
 use der::{Encode, Error, Length};
 use std::alloc::Global;
 
-/// The encoding of a month, by the clauses that every type has.
+/// Returns the encoding of a month, `04 01` and its number, by the clauses that `to_der` has for
+/// every type.
 pub fn month_der(alloc: Global, month: &MyByteMonth) -> Result<Vec<u8>, Error>
     ensures { IfOk result (λ v. v.items ≡ 4 ∷ 1 ∷ month.now.number ∷ []) }
 {
     month.to_der(alloc)
 }
 
-/// Appends the encoding of a month, and returns its length.
+/// Appends the encoding of a month to `out`, and returns the number of its octets.
 pub fn append_month(out: &mut Vec<u8>, month: &MyByteMonth) -> Result<Length, Error>
     ensures count { IfOk result (λ n. n ≡ definite_length 3) }
     ensures ok { OnOk result (out.new.items ≡ out.old.items ++ (4 ∷ 1 ∷ month.now.number ∷ [])) }

@@ -7,10 +7,10 @@ ghost use Rattle.der.specs.Decode.{is_out_of_memory_kind};
 use der::{DecodeError, DecodeValue, Error, FixedTag, Header, ReadValue, Reader, ReaderExt, Tag};
 use std::alloc::Global;
 
-/// The error of an [`Octet`]: an error of decoding.
+/// The error type of decoding an [`Octet`]: it holds an [`Error`].
 #[derive(Clone, Copy, Debug, PartialEq, Eq)]
 pub struct OctetError {
-    /// The error of decoding.
+    /// The original error of decoding.
     pub error: Error,
 }
 
@@ -32,10 +32,10 @@ impl DecodeError for OctetError {
     ghost carries = { λ error e same. ap (λ x. is_out_of_memory_kind (kind_of x)) same };
 }
 
-/// An octet of any value.
+/// An OCTET STRING of one octet, which may have any value.
 #[derive(Clone, Copy, Debug, PartialEq, Eq)]
 pub struct Octet {
-    /// The octet.
+    /// The contents octet.
     pub number: u8,
 }
 

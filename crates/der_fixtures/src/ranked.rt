@@ -5,14 +5,14 @@ ghost use Rattle.der.specs.Prelude.{definite_length, map_ok};
 use der::{EncodeValue, Error, Length, Tag, Tagged, ValueOrd, Writer, WrittenValue};
 use std::cmp::Ordering;
 
-/// A value without contents, whose length and whose comparison may fail.
+/// A value without contents. Computing its length and comparing it may fail.
 #[derive(Clone, Copy)]
 pub struct Ranked {
-    /// Its tag.
+    /// The tag of the value.
     pub tag: Tag,
-    /// Whether its length can be computed.
+    /// `Ok` if the number of contents octets can be computed, or the error of computing it.
     pub size: Result<(), Error>,
-    /// The result of each comparison.
+    /// The result of comparing this value with any other.
     pub order: Result<Ordering, Error>,
 }
 

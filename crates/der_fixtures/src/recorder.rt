@@ -3,7 +3,8 @@ ghost use Rattle.std.specs.Prelude.{◌+◌, ◌*◌, ◌%◌, ◌^◌, fold};
 
 use std::hash::{Hash, Hasher};
 
-/// A number whose digits in base 256 are a 1 and then the octets so far, at most 15.
+/// A hasher that keeps the octets it gets, at most 15, as a number. The digits of the number in
+/// base 256 are a 1 and then the octets.
 #[derive(Drop)]
 struct Recorder(u128);
 
@@ -23,7 +24,8 @@ impl Hasher for Recorder {
     }
 }
 
-/// The octets that a hasher gets for the value, as the number of a `Recorder`.
+/// The octets that a hasher gets for the value, at most 15, as a number. The digits of the number
+/// in base 256 are a 1 and then the octets.
 pub fn recorded<T: Hash>(value: &T) -> u128 {
     let mut recorder = Recorder(1);
     value.hash(&mut recorder);

@@ -5,7 +5,7 @@ ghost use Rattle.der.specs.WrittenSequence.{headed_state};
 
 use der::{Encode, Error, Length, SliceWriter, Writer};
 
-/// Writes a SEQUENCE of `len` contents octets that holds the value.
+/// Writes a SEQUENCE with `len` contents octets, which are the encoding of the value.
 pub fn encode_in_sequence<T: Encode>(
     writer: &mut SliceWriter<'_>,
     len: Length,

@@ -11,7 +11,7 @@ pub struct SlicingReader<'a> {
     inner: SliceReader<'a>,
 }
 
-/// A reader under the Basic Encoding Rules.
+/// A [`SlicingReader`] at the start of these octets, under the Basic Encoding Rules.
 pub fn ber_slicing(octets: &[u8]) -> Result<SlicingReader<'_>, Error>
     ensures { IfOk result (λ r. (slice_state r.inner).rules ≡ Ber) }
 {

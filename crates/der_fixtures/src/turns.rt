@@ -15,7 +15,7 @@ pub fn scan_nulls<L: Ledger>(turns: &mut Turns<L>) -> Result<Length, Error>
     reader.scan_indefinite(turns)
 }
 
-/// Scans them, and counts the turns from zero.
+/// Scans three NULLs and the end-of-contents octets, with a counter of turns that starts at zero.
 pub fn scan_nulls_counted<L: Ledger>(blank: Blank) -> Result<Length, Error>
     requires name { blank.name ≡ L.name }
     requires parts { blank.parts ≡ L.parts }

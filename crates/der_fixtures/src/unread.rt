@@ -5,7 +5,7 @@ ghost use Rattle.der.specs.Prelude.{OctetString};
 use der::{DecodeValue, Error, FixedTag, Header, ReadValue, Reader, Tag};
 use std::alloc::Global;
 
-/// A value whose contents are never read.
+/// An OCTET STRING whose `decode_value` reads nothing. So only empty contents are accepted.
 #[derive(Clone, Copy)]
 pub struct Unread;
 

@@ -4,7 +4,8 @@ ghost use Rattle.der_base.specs.Length.{definite_length};
 ghost use Rattle.der_base.specs.declared.tag.Tag.TheVariants.{OctetString};
 ghost use Rattle.der_core.specs.Writer.{Writes, write_outcome};
 
-use der_core::{Encode, EncodeValue, Error, FixedTag, Length, Tag, Writer, WrittenValue};
+use der_base::{Error, Length, Tag};
+use der_core::{Encode, EncodeValue, FixedTag, Writer, WrittenValue};
 
 pub struct Month {
     pub number: u8,

@@ -3,17 +3,17 @@ use der::Error;
 use std::fmt::{Debug, Display};
 use std::io;
 
-/// Prints the result of a call that never fails.
+/// Prints `call` and the value that it returned, in debug format.
 pub fn print_value<T: Debug + Drop>(rt: &impl Print, call: &str, value: T) -> io::Result<()> {
     println!(rt; "{call}: {value:?}")
 }
 
-/// Prints the text of a value.
+/// Prints `call` and the value that it returned, as text.
 pub fn print_text<T: Display + Drop>(rt: &impl Print, call: &str, value: T) -> io::Result<()> {
     println!(rt; "{call}: {value}")
 }
 
-/// Prints the result of a call, or its error.
+/// Prints `call` and its result: the value in debug format, or the text of the error.
 pub fn print_result<T: Debug + Drop>(
     rt: &impl Print,
     call: &str,

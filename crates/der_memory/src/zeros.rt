@@ -5,7 +5,7 @@ ghost use Rattle.der.specs.ErrorKinds.{Overlength};
 
 use der::{EncodeValue, Error, ErrorKind, Length, Tag, Tagged, Writer, WrittenValue};
 
-/// `count` zero octets, which are never written.
+/// An OCTET STRING of `count` zero octets. Writing its contents always fails with `Overlength`.
 #[derive(Drop)]
 pub struct Zeros {
     pub count: u32,

@@ -12,8 +12,8 @@ use std::alloc::{AllocError, Global};
 use std::fmt::Write;
 use x509::{Certificate, Extension, Extensions, TbsCertificate};
 
-/// Writes one line per field, in the words of `openssl x509 -text`. `offsets` must be at the start
-/// of the octets that the certificate was read from.
+/// Writes one line per field of the certificate, in the words of `openssl x509 -text`. `offsets`
+/// must be at the start of the octets that the certificate was read from.
 pub fn write_certificate(
     alloc: Global,
     text: &mut String,
@@ -36,7 +36,7 @@ pub fn write_certificate(
     write_warnings(text, certificate, offsets)
 }
 
-/// Writes one line for each rule that the certificate breaks although reading accepts it.
+/// Writes one line for each rule that the certificate breaks although decoding accepts it.
 fn write_warnings(
     text: &mut String,
     certificate: &Certificate<'_>,
@@ -53,7 +53,7 @@ fn write_warnings(
     Ok(())
 }
 
-/// Writes version, serial number and algorithm.
+/// Writes the lines of a certificate's version, serial number and signature algorithm.
 fn write_head(
     text: &mut String,
     tbs: &TbsCertificate<'_>,
@@ -74,7 +74,7 @@ fn write_head(
     write_signature_algorithm(text, &tbs.signature.oid, offsets)
 }
 
-/// Writes issuer, validity and subject.
+/// Writes the lines of a certificate's issuer, validity and subject.
 fn write_parties(
     alloc: Global,
     text: &mut String,
@@ -100,8 +100,8 @@ fn write_parties(
     text.push('\n')
 }
 
-/// Writes a serial number in hexadecimal: a positive one without a leading zero octet, and a
-/// negative one in two's complement.
+/// Writes a serial number in hexadecimal. A positive number is written without a leading zero
+/// octet. A negative one is written as `(Negative)` and its octets in two's complement.
 fn write_serial_number(text: &mut String, number: &IntRef<'_>) -> Result<(), AllocError> {
     match number.octets() {
         [0, second, rest @ ..] => {
@@ -116,7 +116,7 @@ fn write_serial_number(text: &mut String, number: &IntRef<'_>) -> Result<(), All
     }
 }
 
-/// Writes the line of the algorithm of a signature.
+/// Writes a line with the identifier of a signature algorithm.
 pub fn write_signature_algorithm(
     text: &mut String,
     oid: &ObjectIdentifierRef<'_>,
@@ -128,7 +128,7 @@ pub fn write_signature_algorithm(
     text.push('\n')
 }
 
-/// Writes the line of a signature.
+/// Writes a line with the number of octets of a signature.
 pub fn write_signature(
     text: &mut String,
     signature: &BitStringRef<'_>,
@@ -139,7 +139,8 @@ pub fn write_signature(
     writeln!(text, "Signature Value: {signature_len} octets")
 }
 
-/// Writes the line of a unique identifier, if there is one.
+/// Writes a line with a unique identifier in hexadecimal, if there is one. `of` is the word for
+/// whose it is.
 fn write_unique_id<const N: u32>(
     text: &mut String,
     of: &str,
@@ -176,7 +177,7 @@ fn write_extensions(
 }
 
 /// Writes the line of an extension: its identifier, whether it is critical, and the number of
-/// octets of its value, which is not parsed.
+/// octets of its value. The value is not parsed.
 fn write_extension(text: &mut String, extension: &Extension<'_>) -> Result<(), AllocError> {
     text.push_str("    ")?;
     write_identifier(text, &extension.extn_id)?;

@@ -7,11 +7,12 @@ use std::alloc::AllocError;
 use std::fmt::Write;
 use std::str;
 
-/// How many octets are printed of contents that are not text.
+/// The greatest number of octets that are printed of contents that are not text.
 const SHOWN_OCTETS: usize = 32;
 
-/// Writes the contents of an element: an object identifier by its arcs, text unchanged, and the
-/// first 32 octets of anything else in hexadecimal.
+/// Writes the contents of an element. An object identifier is written by its name, if it is known,
+/// and its arcs; text is written unchanged. Of anything else the first 32 octets are written in
+/// hexadecimal.
 pub fn write_contents(text: &mut String, tag: Tag, contents: &[u8]) -> Result<(), AllocError> {
     if tag == Tag::ObjectIdentifier {
         if let Some(oid) = ObjectIdentifierRef::new(contents) {
@@ -24,8 +25,8 @@ pub fn write_contents(text: &mut String, tag: Tag, contents: &[u8]) -> Result<()
     }
 }
 
-/// The contents of a string or a time as text, if they fit on a line: UTF-8 without control
-/// characters.
+/// The contents of a string or a time as text, or `None` for other tags. The text must fit on a
+/// line: it must be UTF-8 without control characters.
 pub fn shown_text(tag: Tag, contents: &[u8]) -> Option<&str> {
     match tag {
         Tag::Utf8String
@@ -50,7 +51,7 @@ pub fn write_octets(text: &mut String, octets: &[u8]) -> Result<(), AllocError> 
     Ok(())
 }
 
-/// Writes the first octets in hexadecimal, followed by `..` if there are more.
+/// Writes the first 32 octets in upper-case hexadecimal, followed by `..` if there are more.
 pub fn write_first_octets(text: &mut String, octets: &[u8]) -> Result<(), AllocError> {
     match octets.get(..SHOWN_OCTETS) {
         Some(first) if octets.len() > SHOWN_OCTETS => {

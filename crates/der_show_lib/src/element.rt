@@ -2,25 +2,26 @@
 
 use der::{EncodingRules, Error, Header, Length, Reader, SliceReader, decode_header, read_eoc};
 
-/// An element and its positions in the input.
+/// An element, and its positions in the input.
 #[derive(Clone, Copy)]
 pub struct PlacedElement<'a> {
-    /// Its header.
+    /// The header of the element.
     pub header: Header,
-    /// Where its header begins.
+    /// The position at which the header begins.
     pub start: u32,
-    /// Where its contents begin.
+    /// The position at which the contents begin.
     pub contents_start: u32,
-    /// Its contents, without end-of-contents octets.
+    /// The contents, without end-of-contents octets.
     pub contents: &'a [u8],
-    /// Where its contents end.
+    /// The position at which the contents end, before any end-of-contents octets.
     pub contents_end: u32,
-    /// Where it ends, after any end-of-contents octets.
+    /// The position at which the element ends, after any end-of-contents octets.
     pub end: u32,
 }
 
 impl<'a> PlacedElement<'a> {
-    /// Reads the element at position `start`, which must not pass `end`.
+    /// Reads the element that begins at position `start` of `octets`. It must not extend past
+    /// position `end`.
     pub fn read(
         octets: &'a [u8],
         start: u32,

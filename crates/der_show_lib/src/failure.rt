@@ -3,7 +3,7 @@
 use der::Error;
 use std::alloc::AllocError;
 
-/// Why a text is not complete.
+/// Why the printed text is not complete.
 #[derive(Drop)]
 pub enum Failure {
     /// The octets are not accepted.

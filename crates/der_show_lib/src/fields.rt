@@ -14,7 +14,8 @@ use spki::SubjectPublicKeyInfoRef;
 use std::alloc::Global;
 use x509::{CertReq, Certificate};
 
-/// Writes one line per field of the expected type, or the field that failed.
+/// Decodes the octets as the type `shape`, and writes one line per field. If the octets do not
+/// decode, writes a line with the field that failed instead, and returns its error.
 pub fn write_fields(
     alloc: Global,
     text: &mut String,
@@ -29,7 +30,8 @@ pub fn write_fields(
     }
 }
 
-/// Writes the fields of octets that are a value of the expected type.
+/// Decodes the octets as the type `shape`, and writes one line per field. If they do not decode,
+/// writes nothing and returns the error.
 fn write_accepted(
     alloc: Global,
     text: &mut String,
@@ -58,7 +60,7 @@ fn write_accepted(
     Ok(())
 }
 
-/// Reads the octets as exactly one value.
+/// Decodes exactly one value from all of the octets, under DER.
 fn read<'a, T: Decode<SliceReader<'a>, Error = Error>>(
     alloc: Global,
     octets: &'a [u8],

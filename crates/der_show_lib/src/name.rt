@@ -6,7 +6,8 @@ use crate::names::name_of;
 use std::alloc::{AllocError, Global};
 use x509::{AttributeTypeAndValue, Name, RelativeDistinguishedName};
 
-/// Writes a name: its levels from the outermost, separated by commas.
+/// Writes a distinguished name: its relative distinguished names, the most significant first,
+/// separated by commas.
 pub fn write_name(alloc: Global, text: &mut String, name: &Name<'_>) -> Result<(), AllocError> {
     let mut levels = name.levels.items();
     for at in 0..name.levels.octets().len() {
@@ -39,7 +40,8 @@ fn write_level(
     Ok(())
 }
 
-/// Writes an attribute: its type, and its value as text, or in hexadecimal after `#`.
+/// Writes an attribute as its type, `=` and its value. The value is written as text, or else in
+/// hexadecimal after `#`.
 fn write_attribute(
     text: &mut String,
     attribute: &AttributeTypeAndValue<'_>,

@@ -4,8 +4,8 @@ use der::{Error, Reader, ReaderExt, SliceReader, decode_header};
 use std::alloc::AllocError;
 use std::fmt::Write;
 
-/// A walk over the elements of octets that were already read as a value. It writes the offset of
-/// the header of each element before its line.
+/// A walk over the elements of octets that were already decoded. Before the line of each element it
+/// writes the offset of the element's header, if offsets were requested.
 #[derive(Drop)]
 pub struct Offsets<'a> {
     // At the element of the next line.
@@ -15,13 +15,14 @@ pub struct Offsets<'a> {
 }
 
 impl<'a> Offsets<'a> {
-    /// A walk that starts at the first element of the octets.
+    /// A walk that starts at the first element of the octets. `is_shown` says whether it writes
+    /// offsets.
     pub fn new(octets: &'a [u8], is_shown: bool) -> Result<Self, Error> {
         let reader = SliceReader::new(octets)?;
         Ok(Offsets { reader, is_shown })
     }
 
-    /// A copy of the walk.
+    /// A copy of the walk, at the same element. Moving the copy leaves this walk unchanged.
     pub fn fork(&self) -> Self {
         Offsets {
             reader: self.reader.fork(),
@@ -29,17 +30,17 @@ impl<'a> Offsets<'a> {
         }
     }
 
-    /// Enters the next element.
+    /// Moves past the header of the next element, to the first element inside it.
     pub fn enter(&mut self) {
         let _header = decode_header(&mut self.reader);
     }
 
-    /// Skips the next element.
+    /// Moves past the whole next element.
     pub fn pass(&mut self) {
         let _octets = self.reader.tlv_bytes();
     }
 
-    /// Writes the offset of the next element, and stays at it.
+    /// Writes the offset of the next element, if offsets were requested. The walk does not move.
     pub fn show(&self, text: &mut String) -> Result<(), AllocError> {
         if !self.is_shown {
             return Ok(());
@@ -47,21 +48,24 @@ impl<'a> Offsets<'a> {
         write!(text, "{:>5}: ", u32::from(self.reader.position()))
     }
 
-    /// Writes the offset of the next element, and enters it.
+    /// Writes the offset of the next element, if offsets were requested, and moves to the first
+    /// element inside it.
     pub fn put_around(&mut self, text: &mut String) -> Result<(), AllocError> {
         self.show(text)?;
         self.enter();
         Ok(())
     }
 
-    /// Writes the offset of the next element, and skips it.
+    /// Writes the offset of the next element, if offsets were requested, and moves past the
+    /// element.
     pub fn put(&mut self, text: &mut String) -> Result<(), AllocError> {
         self.show(text)?;
         self.pass();
         Ok(())
     }
 
-    /// Writes spaces in place of an offset, before the line of a default, which has no element.
+    /// Writes spaces in place of an offset, if offsets were requested. This is for a line without
+    /// an element, such as that of a default.
     pub fn put_none(&self, text: &mut String) -> Result<(), AllocError> {
         if !self.is_shown {
             return Ok(());

@@ -9,21 +9,23 @@ pub struct Options {
     pub rules: EncodingRules,
     /// Whether each line begins with the offset of its element.
     pub has_offsets: bool,
-    /// Whether to print elements, whatever type the octets have.
+    /// Whether to print every element of the octets, even if they have a type whose fields can be
+    /// printed.
     pub is_tree: bool,
 }
 
-/// What to read, and how to print it.
+/// A parsed command line: which file to read, and how to print it.
 #[derive(Clone, Copy)]
 pub struct ShowCommand<'a> {
-    /// How to print it.
+    /// The encoding rules, and how to print the octets.
     pub options: Options,
-    /// The file, or `None` for standard input.
+    /// The path of the file to read, or `None` for standard input.
     pub file: Option<&'a str>,
 }
 
 impl<'a> ShowCommand<'a> {
-    /// The command of these words, if they are options and then at most one file.
+    /// Parses the words of the command line: options, and then at most one file. Returns `None` for
+    /// any other words.
     pub fn parse(words: &'a [String]) -> Option<Self> {
         let mut options = Options {
             rules: EncodingRules::Der,

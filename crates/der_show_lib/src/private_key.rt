@@ -9,7 +9,8 @@ use pkcs8::PrivateKeyInfo;
 use std::alloc::AllocError;
 use std::fmt::Write;
 
-/// Writes one line per field of a private key; of the key itself, only its number of octets.
+/// Writes one line per field of a private key. Of the octets of the key itself only the number is
+/// written.
 pub fn write_private_key(
     text: &mut String,
     key: &PrivateKeyInfo<'_>,
@@ -38,7 +39,7 @@ pub fn write_private_key(
     Ok(())
 }
 
-/// Writes version, algorithm and curve.
+/// Writes the lines of a private key's version, algorithm and curve.
 fn write_head(
     text: &mut String,
     key: &PrivateKeyInfo<'_>,

@@ -12,9 +12,12 @@ use std::{fs, io};
 
 const USAGE: &str = "usage: der_show [--offsets] [--tree] [--ber] [FILE]\n";
 
-/// Prints the file that the arguments name, or standard input, and returns the status: 0 on
-/// success, 1 if the octets are not accepted or cannot be read, an allocation fails or the output
-/// fails, and 2 if the words are not a command. The first argument is the name of the program.
+/// Prints the fields or the elements in the file that the arguments name, or in standard input, and
+/// returns the exit status. The first argument is the name of the program. The status is:
+///
+/// - 0 on success;
+/// - 1 if the octets are not accepted or cannot be read, an allocation fails or the output fails;
+/// - 2 if `given` is an error, or the words are not a command; the usage is printed then.
 pub fn run_show<R: Files + Input + AllocGlobal, W: Write>(
     rt: &R,
     given: io::Result<Args>,
@@ -48,7 +51,7 @@ fn run<R: Files + Input + AllocGlobal, W: Write>(
     }
 }
 
-/// Reads the file, or standard input.
+/// Reads all octets of the file with this path, or of standard input if it is `None`.
 fn read_octets<R: Files + Input + AllocGlobal>(rt: &R, file: Option<&str>) -> io::Result<Vec<u8>> {
     match file {
         Some(path) => fs::read(rt, path),
@@ -60,8 +63,8 @@ fn read_octets<R: Files + Input + AllocGlobal>(rt: &R, file: Option<&str>) -> io
     }
 }
 
-/// The text and the status for these octets. On an error of the octets, the text ends with an error
-/// line.
+/// The text to print for these octets, and the exit status. If the octets are not accepted, the
+/// text ends with an error line, and the status is 1.
 fn view(alloc: Global, octets: &[u8], options: Options) -> Result<(String, u8), AllocError> {
     let mut text = String::new(alloc);
     match write_view(alloc, &mut text, octets, options) {

@@ -9,13 +9,13 @@ use spki::{AlgorithmIdentifierRef, SubjectPublicKeyInfoRef};
 use std::alloc::AllocError;
 use std::fmt::Write;
 
-/// rsaEncryption (RFC 8017, C).
+/// The contents of the object identifier rsaEncryption (RFC 8017, C).
 const RSA: &[u8] = &[0x2a, 0x86, 0x48, 0x86, 0xf7, 0x0d, 0x01, 0x01, 0x01];
 
-/// id-ecPublicKey (RFC 5480, 2.1.1).
+/// The contents of the object identifier id-ecPublicKey (RFC 5480, 2.1.1).
 const ELLIPTIC_CURVE: &[u8] = &[0x2a, 0x86, 0x48, 0xce, 0x3d, 0x02, 0x01];
 
-/// Writes the lines of a public key: its algorithm, its size and its named curve.
+/// Writes the lines of a public key: its algorithm, its size, and its curve if it has one.
 pub fn write_public_key(
     text: &mut String,
     key: &SubjectPublicKeyInfoRef<'_>,
@@ -36,7 +36,8 @@ pub fn write_public_key(
     write_curve(text, &key.algorithm, &mut parameters)
 }
 
-/// The nominal size of a key in bits, if its algorithm and curve are known here.
+/// The nominal size in bits of the public key with these octets: of the modulus of an RSA key, or
+/// of the order of a named curve. `None` if the algorithm or the curve is not known here.
 fn key_bits(key: &SubjectPublicKeyInfoRef<'_>, octets: &[u8]) -> Option<u64> {
     let algorithm = key.algorithm.oid.octets();
     if algorithm == RSA {
@@ -50,7 +51,8 @@ fn key_bits(key: &SubjectPublicKeyInfoRef<'_>, octets: &[u8]) -> Option<u64> {
     None
 }
 
-/// The number of bits of the order of a named curve (RFC 5480, 2.1.1.1).
+/// The number of bits of the order of the named curve with these contents (RFC 5480, 2.1.1.1), or
+/// `None` if it is not in the list here.
 fn curve_bits(curve: &[u8]) -> Option<u64> {
     match curve {
         [0x2a, 0x86, 0x48, 0xce, 0x3d, 0x03, 0x01, 0x07] => Some(256),
@@ -60,8 +62,9 @@ fn curve_bits(curve: &[u8]) -> Option<u64> {
     }
 }
 
-/// Writes the line of the curve that the parameters name, if the algorithm is that of elliptic
-/// curves. `offsets` must be at the element of the algorithm.
+/// Writes a line with the curve that the parameters name, if the algorithm is id-ecPublicKey and
+/// has parameters. Parameters that are no object identifier are written in hexadecimal. `offsets`
+/// must be at the element of the algorithm.
 pub fn write_curve(
     text: &mut String,
     algorithm: &AlgorithmIdentifierRef<'_>,
@@ -89,7 +92,7 @@ pub fn write_curve(
     text.push('\n')
 }
 
-/// The number of bits of the modulus of an RSAPublicKey (RFC 8017, A.1.1).
+/// The number of bits of the modulus of the RSAPublicKey in these octets (RFC 8017, A.1.1).
 fn modulus_bits(octets: &[u8]) -> Result<u64, Error> {
     let mut reader = SliceReader::new(octets)?;
     let key = decode_header(&mut reader)?;
@@ -99,7 +102,8 @@ fn modulus_bits(octets: &[u8]) -> Result<u64, Error> {
     Ok(bit_count(reader.read_slice(modulus.length())?))
 }
 
-/// The number of bits of a natural number with at most one leading zero octet.
+/// The number of bits of the natural number with these octets, of which at most one is a leading
+/// zero.
 fn bit_count(octets: &[u8]) -> u64 {
     match octets {
         [0, rest @ ..] => bits_from_first(rest),

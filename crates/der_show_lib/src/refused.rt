@@ -11,8 +11,9 @@ use der::Error;
 use std::alloc::{AllocError, Global};
 use std::fmt::Write;
 
-/// Writes a line with the path and the offset of the innermost field that failed, if one did, and
-/// returns its error.
+/// Reports octets that fail to decode as the type `shape` with `error`. Searches for the innermost
+/// field that fails, and writes a line with its path and offset. Always fails: with the error of
+/// this field, with `error` if no field fails, or because an allocation failed.
 pub fn refuse(
     alloc: Global,
     text: &mut String,

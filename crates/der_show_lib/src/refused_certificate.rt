@@ -10,7 +10,7 @@ use der_asn1::{
 };
 use x509::{Extension, Extensions, TbsCertificate, Time, Validity, Version};
 
-/// Searches a certificate for the field that fails.
+/// Searches a certificate for the innermost field that fails to decode.
 pub fn search_certificate(search: &mut Search<'_>) {
     let _found = search.enter(Tag::Sequence)
         && (search_signed(search)
@@ -18,7 +18,7 @@ pub fn search_certificate(search: &mut Search<'_>) {
             || search_bits(search, "signatureValue"));
 }
 
-/// Searches a TBSCertificate.
+/// Whether the next field, a TBSCertificate, fails to decode. If it does, also searches its fields.
 fn search_signed(search: &mut Search<'_>) -> bool {
     if !search.is_refused::<TbsCertificate<'_>>("tbsCertificate") {
         return false;
@@ -27,7 +27,8 @@ fn search_signed(search: &mut Search<'_>) -> bool {
     true
 }
 
-/// Searches the fields before the subject.
+/// Whether a field of a TBSCertificate before the subject fails to decode. Searches inside this
+/// field.
 fn search_issued(search: &mut Search<'_>) -> bool {
     search.is_refused::<Defaulted<Explicit<Version<'_>, 0>>>("version")
         || search.is_refused::<IntRef<'_>>("serialNumber")
@@ -36,7 +37,8 @@ fn search_issued(search: &mut Search<'_>) -> bool {
         || search_validity(search)
 }
 
-/// Searches the fields from the subject on.
+/// Whether a field of a TBSCertificate from the subject on fails to decode. Searches inside this
+/// field.
 fn search_subject(search: &mut Search<'_>) -> bool {
     search_name(search, "subject")
         || search_key(search, "subjectPublicKeyInfo")
@@ -45,7 +47,7 @@ fn search_subject(search: &mut Search<'_>) -> bool {
         || search_extensions(search)
 }
 
-/// Searches a validity and its times.
+/// Whether the next field, a Validity, fails to decode. If it does, also searches its two times.
 fn search_validity(search: &mut Search<'_>) -> bool {
     if !search.is_refused::<Validity>("validity") {
         return false;
@@ -59,7 +61,8 @@ fn search_time(search: &mut Search<'_>, name: &str) -> bool {
     search.is_refused::<Time>(name)
 }
 
-/// Searches the extensions, if there are any, and the fields of each.
+/// Whether the next field, the optional extensions, fails to decode. If it does, also searches the
+/// fields of the first extension that fails.
 fn search_extensions(search: &mut Search<'_>) -> bool {
     if !search.is_refused::<Optional<Explicit<Extensions<'_>, 3>>>("extensions") {
         return false;

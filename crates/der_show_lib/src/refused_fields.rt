@@ -9,22 +9,24 @@ use der_asn1::{AnyRef, BitStringRef, Implicit, ObjectIdentifierRef, Optional};
 use spki::{AlgorithmIdentifierRef, SubjectPublicKeyInfoRef};
 use x509::{AttributeTypeAndValue, Name, RelativeDistinguishedName};
 
-/// Searches an OBJECT IDENTIFIER.
+/// Whether the next field, an OBJECT IDENTIFIER with this name, fails to decode.
 pub fn search_identifier(search: &mut Search<'_>, name: &str) -> bool {
     search.is_refused::<ObjectIdentifierRef<'_>>(name)
 }
 
-/// Searches a BIT STRING.
+/// Whether the next field, a BIT STRING with this name, fails to decode.
 pub fn search_bits(search: &mut Search<'_>, name: &str) -> bool {
     search.is_refused::<BitStringRef<'_>>(name)
 }
 
-/// Searches an optional BIT STRING with the implicit tag `[1]`.
+/// Whether the next field, an optional BIT STRING with the implicit tag `[1]` and this name, fails
+/// to decode.
 pub fn search_first_bits(search: &mut Search<'_>, name: &str) -> bool {
     search.is_refused::<Optional<Implicit<BitStringRef<'_>, 1>>>(name)
 }
 
-/// Searches an algorithm.
+/// Whether the next field, an AlgorithmIdentifier with this name, fails to decode. If it does, also
+/// searches its fields.
 pub fn search_algorithm(search: &mut Search<'_>, name: &str) -> bool {
     if !search.is_refused::<AlgorithmIdentifierRef<'_>>(name) {
         return false;
@@ -35,7 +37,8 @@ pub fn search_algorithm(search: &mut Search<'_>, name: &str) -> bool {
     true
 }
 
-/// Searches a public key that is a field.
+/// Whether the next field, a SubjectPublicKeyInfo with this name, fails to decode. If it does, also
+/// searches its fields.
 pub fn search_key(search: &mut Search<'_>, name: &str) -> bool {
     if !search.is_refused::<SubjectPublicKeyInfoRef<'_>>(name) {
         return false;
@@ -44,13 +47,14 @@ pub fn search_key(search: &mut Search<'_>, name: &str) -> bool {
     true
 }
 
-/// Searches a public key that is the whole input and fails.
+/// Searches a SubjectPublicKeyInfo that fails to decode for the innermost field that fails.
 pub fn search_public_key(search: &mut Search<'_>) {
     let _found = search.enter(Tag::Sequence)
         && (search_algorithm(search, "algorithm") || search_bits(search, "subjectPublicKey"));
 }
 
-/// Searches a name, with its levels and their attributes.
+/// Whether the next field, a Name with this field name, fails to decode. If it does, also searches
+/// its relative distinguished names and their attributes.
 pub fn search_name(search: &mut Search<'_>, name: &str) -> bool {
     if !search.is_refused::<Name<'_>>(name) {
         return false;

@@ -6,7 +6,7 @@ use der::Tag;
 use der_asn1::{Implicit, OctetStringRef, Optional};
 use pkcs8::{PrivateKeyAttributes, Version};
 
-/// Searches a private key for the field that fails.
+/// Searches a private key for the innermost field that fails to decode.
 pub fn search_private_key(search: &mut Search<'_>) {
     let _found = search.enter(Tag::Sequence)
         && (search.is_refused::<Version<'_>>("version")

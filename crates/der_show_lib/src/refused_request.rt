@@ -8,7 +8,7 @@ use der::{Tag, TagNumber};
 use der_asn1::{AnyRef, Implicit};
 use x509::{Attribute, AttributeValues, Attributes, CertReqInfo, CertReqVersion};
 
-/// Searches a request for the field that fails.
+/// Searches a certification request for the innermost field that fails to decode.
 pub fn search_request(search: &mut Search<'_>) {
     let _found = search.enter(Tag::Sequence)
         && (search_info(search)
@@ -16,7 +16,8 @@ pub fn search_request(search: &mut Search<'_>) {
             || search_bits(search, "signature"));
 }
 
-/// Searches a CertificationRequestInfo.
+/// Whether the next field, a CertificationRequestInfo, fails to decode. If it does, also searches
+/// its fields.
 fn search_info(search: &mut Search<'_>) -> bool {
     if !search.is_refused::<CertReqInfo<'_>>("certificationRequestInfo") {
         return false;
@@ -29,7 +30,8 @@ fn search_info(search: &mut Search<'_>) -> bool {
     true
 }
 
-/// Searches attributes, and the fields of each.
+/// Whether the next field, the attributes of a request, fails to decode. If it does, also searches
+/// the fields of the first attribute that fails.
 fn search_attributes(search: &mut Search<'_>) -> bool {
     if !search.is_refused::<Implicit<Attributes<'_>, 0>>("attributes") {
         return false;
@@ -45,7 +47,8 @@ fn search_attributes(search: &mut Search<'_>) -> bool {
     true
 }
 
-/// Searches the values of an attribute.
+/// Whether the next field, the values of an attribute, fails to decode. If it does, also searches
+/// the values.
 fn search_values(search: &mut Search<'_>) -> bool {
     if !search.is_refused::<AttributeValues<'_>>("values") {
         return false;

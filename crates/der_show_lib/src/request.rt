@@ -10,7 +10,8 @@ use std::alloc::{AllocError, Global};
 use std::fmt::Write;
 use x509::{Attributes, CertReq};
 
-/// Writes one line per field, in the words of `openssl req -text`.
+/// Writes one line per field of the certification request, in the words of `openssl req -text`.
+/// `offsets` must be at the start of the octets that the request was read from.
 pub fn write_request(
     alloc: Global,
     text: &mut String,
@@ -32,8 +33,8 @@ pub fn write_request(
     write_signature(text, &request.signature, offsets)
 }
 
-/// Writes one line per attribute: its identifier, and the number of octets of its values, which are
-/// not parsed.
+/// Writes a heading, and one line per attribute: its identifier, and the number of octets of its
+/// values. The values are not parsed.
 fn write_attributes(
     alloc: Global,
     text: &mut String,

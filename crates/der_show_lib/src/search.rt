@@ -5,7 +5,7 @@ use std::alloc::Global;
 use std::fmt::Write;
 
 /// A walk over the fields of a value that fails to decode, down to the innermost field that fails.
-/// Each field is decoded as its own type.
+/// Each field is decoded by its own type.
 #[derive(Drop)]
 pub struct Search<'a> {
     alloc: Global,
@@ -13,10 +13,10 @@ pub struct Search<'a> {
     reader: SliceReader<'a>,
     /// The error of the innermost failing field found so far, with positions in the whole input.
     pub error: Error,
-    /// The names of the fields around that field, and its own, separated by dots; items of lists
-    /// have their index, from 0 on.
+    /// The path of the innermost failing field found so far: the names of the fields around it and
+    /// its own name, separated by dots. An item of a list has its index, from 0 on.
     pub path: String,
-    /// The offset of that field.
+    /// The offset of the innermost failing field found so far.
     pub start: u32,
     /// Whether an allocation failed, so that the path is not complete.
     pub lacks_memory: bool,
@@ -36,8 +36,8 @@ impl<'a> Search<'a> {
         })
     }
 
-    /// Whether the next field, which has this name, fails to decode. The walk skips a field that
-    /// decodes, and stays at one that fails.
+    /// Whether the next field fails to decode as a `T`. The walk skips a field that decodes. At one
+    /// that fails it stays, keeps the error and the offset, and adds `name` to the path.
     pub fn is_refused<T: Decode<SliceReader<'a>, Error = Error>>(&mut self, name: &str) -> bool {
         if self.passes::<T>() {
             return false;
@@ -49,8 +49,9 @@ impl<'a> Search<'a> {
         true
     }
 
-    /// Whether an item of a list fails to decode. The walk must be at the start of the contents of
-    /// the list, and stays at the first item that fails.
+    /// Whether an item of a SEQUENCE OF fails to decode as a `T`. The walk must be at the start of
+    /// the contents of the list. At the first item that fails it stays, keeps the error and the
+    /// offset, and adds the index to the path.
     pub fn is_item_refused<T: Decode<SliceReader<'a>, Error = Error>>(&mut self) -> bool {
         for at in 0..u32::from(self.reader.remaining_len()) {
             if self.reader.is_finished() {
@@ -64,8 +65,11 @@ impl<'a> Search<'a> {
         false
     }
 
-    /// The same for a SET. If no member fails, the SET fails because its members are out of order;
-    /// the position of that error is counted from the start of the contents, and is corrected here.
+    /// Whether a member of a SET OF fails to decode as a `T`. The walk must be at the start of the
+    /// contents of the SET OF, and stays at the first member that fails. If no member fails, the
+    /// SET OF fails because its members are out of order. The position of that error is counted
+    /// from the start of the contents; it is then corrected to be counted from the start of the
+    /// input.
     pub fn is_member_refused<T: Decode<SliceReader<'a>, Error = Error>>(&mut self) -> bool {
         let order = self.error_from_here();
         if self.is_item_refused::<T>() {
@@ -75,8 +79,8 @@ impl<'a> Search<'a> {
         false
     }
 
-    /// Enters the next element. Returns false if its header fails to decode, if it has another tag,
-    /// or if its contents cannot be entered.
+    /// Enters the contents of the next element. Returns false if its header fails to decode, if it
+    /// has another tag, or if its contents cannot be entered.
     pub fn enter(&mut self, tag: Tag) -> bool {
         match decode_header(&mut self.reader) {
             Ok(header) => header.tag() == tag && self.reader.enter_nested(header.length()).is_ok(),
@@ -84,7 +88,8 @@ impl<'a> Search<'a> {
         }
     }
 
-    /// The error with its position counted from the position of the walk.
+    /// The error found so far, whose position is counted from the position of the walk. In the
+    /// result its position is counted from the start of the input.
     fn error_from_here(&self) -> Error {
         let Some(position) = self.error.position() else {
             return self.error;
@@ -95,7 +100,8 @@ impl<'a> Search<'a> {
         }
     }
 
-    /// Skips the next field; or stays at it, and keeps its error, if it fails to decode.
+    /// Whether the next field decodes as a `T`. The walk skips a field that does. At one that fails
+    /// it stays, and keeps the error and the offset.
     fn passes<T: Decode<SliceReader<'a>, Error = Error>>(&mut self) -> bool {
         let next = self.reader.fork();
         match self.reader.decode::<T>(self.alloc) {

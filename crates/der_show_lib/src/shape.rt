@@ -3,7 +3,7 @@
 use crate::element::PlacedElement;
 use der::{EncodingRules, Error, Length, Tag, TagNumber};
 
-/// The type that octets are expected to have. They may still fail to decode as it.
+/// The type that octets are expected to have. They may still fail to decode as this type.
 #[derive(Clone, Copy)]
 pub enum Shape {
     /// A certificate (RFC 5280, 4.1).
@@ -16,15 +16,16 @@ pub enum Shape {
     PrivateKey,
 }
 
-/// The expected type of the octets, from the tags of the elements in the SEQUENCE that they begin
-/// with. An *algorithm* is a SEQUENCE that begins with an OBJECT IDENTIFIER.
+/// The expected type of the octets, or `None` if they have none of these types. It follows from the
+/// tags of the elements in the SEQUENCE that the octets begin with. An *algorithm* is a SEQUENCE
+/// that begins with an OBJECT IDENTIFIER.
 ///
 /// - A public key: an algorithm and a BIT STRING.
 /// - A private key: an INTEGER, an algorithm and an OCTET STRING.
-/// - A certificate: a SEQUENCE, an algorithm and a BIT STRING, if the SEQUENCE begins with `[0]`,
-///   or with an INTEGER, an algorithm and two SEQUENCEs.
-/// - A request: the same, if the SEQUENCE begins with an INTEGER, a SEQUENCE that is empty or
-///   begins with a SET, and another SEQUENCE.
+/// - A certificate: a SEQUENCE, an algorithm and a BIT STRING. The SEQUENCE begins with `[0]`, or
+///   with an INTEGER, an algorithm and two SEQUENCEs.
+/// - A request: a SEQUENCE, an algorithm and a BIT STRING. The SEQUENCE begins with an INTEGER, a
+///   SEQUENCE that is empty or begins with a SET, and another SEQUENCE.
 ///
 /// Nothing else is checked: neither the inside of other elements nor what follows.
 pub fn shape_of(octets: &[u8]) -> Option<Shape> {
@@ -56,7 +57,8 @@ fn find_shape(octets: &[u8]) -> Result<Option<Shape>, Error> {
     }
 }
 
-/// The expected type of a signed structure, from the elements of its signed part.
+/// Whether a signed structure is expected to be a certificate or a request, from the elements
+/// inside its signed part; `None` if neither.
 fn find_signed_shape(octets: &[u8], signed: &PlacedElement<'_>) -> Result<Option<Shape>, Error> {
     let first = first_in(octets, signed)?;
     if first.header.tag() == context_tag() {
@@ -77,7 +79,7 @@ fn find_signed_shape(octets: &[u8], signed: &PlacedElement<'_>) -> Result<Option
     Ok(None)
 }
 
-/// The constructed tag `[0]`.
+/// The constructed context-specific tag `[0]`.
 fn context_tag() -> Tag {
     Tag::ContextSpecific {
         constructed: true,
@@ -85,13 +87,13 @@ fn context_tag() -> Tag {
     }
 }
 
-/// The first element inside another.
+/// Reads the first element in the contents of the element `whole`.
 fn first_in<'a>(octets: &'a [u8], whole: &PlacedElement<'a>) -> Result<PlacedElement<'a>, Error> {
     let start = whole.contents_start;
     PlacedElement::read(octets, start, whole.contents_end, EncodingRules::Der)
 }
 
-/// The element after one inside another.
+/// Reads the element that follows the element `next` in the contents of the element `whole`.
 fn next_in<'a>(
     octets: &'a [u8],
     whole: &PlacedElement<'a>,

@@ -8,10 +8,10 @@ use der::{Error, ErrorKind, Length};
 use std::alloc::{AllocError, Global};
 use std::fmt::Write;
 
-/// How many elements may be around one.
+/// The greatest number of elements that another element may be inside.
 const MAX_DEPTH: usize = 64;
 
-/// A constructed element that was entered.
+/// A constructed element whose contents are being printed.
 #[derive(Clone, Copy)]
 struct Part {
     // Where its contents end.
@@ -20,7 +20,8 @@ struct Part {
     end: u32,
 }
 
-/// Writes one line per element, each before those inside it, up to the first error.
+/// Writes one line per element of the octets, each before the lines of the elements inside it.
+/// Stops at the first error.
 pub fn write_tree(
     alloc: Global,
     text: &mut String,
@@ -47,7 +48,8 @@ pub fn write_tree(
     Ok(())
 }
 
-/// Leaves each part that ends at this position, and returns the position of the next element.
+/// Removes from `around` each element whose contents end at `position`, and returns the position of
+/// the next element.
 fn climb(around: &mut Vec<Part>, mut position: u32) -> u32 {
     for _ in 0..=MAX_DEPTH {
         match around.last() {
@@ -61,7 +63,9 @@ fn climb(around: &mut Vec<Part>, mut position: u32) -> u32 {
     position
 }
 
-/// Adds an element to the open ones, which `around` holds from the outermost to the innermost.
+/// Adds a constructed element to `around`, which holds the elements around the next one, from the
+/// outermost to the innermost. Fails with `NestingDepth` at the start of the element if there are
+/// already 64.
 fn enter(around: &mut Vec<Part>, element: &PlacedElement<'_>) -> Result<(), Failure> {
     if around.len() >= MAX_DEPTH {
         let error: Error = ErrorKind::NestingDepth.at(Length::new(element.start));
@@ -77,8 +81,8 @@ fn enter(around: &mut Vec<Part>, element: &PlacedElement<'_>) -> Result<(), Fail
     }
 }
 
-/// Writes the line of an element that is inside `depth` others, in the words of `openssl
-/// asn1parse`.
+/// Writes the line of an element in the words of `openssl asn1parse`. The element is inside `depth`
+/// others.
 fn write_line(
     text: &mut String,
     element: &PlacedElement<'_>,

@@ -8,9 +8,9 @@ use crate::tree::write_tree;
 use der::EncodingRules;
 use std::alloc::Global;
 
-/// Writes the fields of octets that are expected to be a certificate, a request or a key (`Shape`),
-/// or the field that failed; and the elements of any other octets. With the option `is_tree`, or
-/// under BER, it writes elements for all octets.
+/// Writes what is printed for the octets. Under DER and without the option `is_tree`, octets that
+/// are expected to be a certificate, a request or a key (`Shape`) are printed as fields, or the
+/// field that failed is printed. For all other octets their elements are printed.
 pub fn write_view(
     alloc: Global,
     text: &mut String,

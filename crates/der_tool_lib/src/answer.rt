@@ -21,7 +21,8 @@ pub enum Answer<A: Allocator> {
 impl<A: Allocator> Answer<A> {
     ghost use Rattle.der_tool_lib.specs.Answer.{status_of, text_of};
 
-    /// The exit status of the program.
+    /// The exit status of the program: 0 if lines are printed, 1 if the octets are not accepted or
+    /// an allocation failed, 2 if the words are not a command.
     pub fn status(&self) -> u8
         ensures { result ≡ status_of self.now }
     {

@@ -10,9 +10,12 @@ use std::alloc::{AllocError, Global};
 use std::env::Args;
 use std::io;
 
-/// Runs the program on its arguments and returns the status, as `run` does. The first argument is
-/// the name of the program. If there are no arguments, `given` is the reason: `InvalidData` if one
-/// is not text, which is no command, and any other error if an allocation failed.
+/// Runs the program on its arguments and returns the exit status: 0 on success, 1 if the octets are
+/// not accepted, an allocation fails or the output fails, and 2 if the words are not a command. The
+/// first argument is the name of the program; the others are the words.
+///
+/// If `given` is an error of the kind `InvalidData`, an argument is not text, so the words are not
+/// a command. If it is any other error, an allocation failed.
 pub fn run_tool<W: Output>(alloc: Global, given: io::Result<Args>, out: &mut W) -> u8
     ensures answers { (result ≡ 1)
         ⊎ WritesToArguments given result (W.contents out.old) (W.contents out.new) }

@@ -4,12 +4,12 @@ ghost use Rattle.der_tool_lib.specs.ToolCommand.{IsHex, IsName, IsCommand, texts
 
 use der::EncodingRules;
 
-/// What the words request.
+/// A command of the program, which the words request.
 #[derive(Clone, Copy)]
 pub enum ToolCommand<'a> {
-    /// `head [--ber] HEX`: the header at the front of these octets.
+    /// `head [--ber] HEX`: the header at the front of the octets `hex`.
     Head { rules: EncodingRules, hex: &'a str },
-    /// `tlv [--ber] HEX`: the whole element at the front of these octets.
+    /// `tlv [--ber] HEX`: the whole element at the front of the octets `hex`.
     Tlv { rules: EncodingRules, hex: &'a str },
     /// `order HEX HEX`: the order of two whole elements.
     Order { first: &'a str, second: &'a str },
@@ -20,7 +20,7 @@ pub enum ToolCommand<'a> {
 impl<'a> ToolCommand<'a> {
     ghost use Rattle.der_tool_lib.specs.ToolCommand.{words_of, words_under, order_words, join_words, two, three, SpellsOctets};
 
-    /// The command of these words, if they are one.
+    /// The command that these words request, or `None` if they are not a command.
     pub fn parse(words: &'a [String]) -> Option<Self>
         ensures found { IsSome result ↔ IsCommand (texts words.now) }
         ensures words { IfSome result (λ c. texts words.now ≡ words_of c) }
@@ -33,7 +33,7 @@ impl<'a> ToolCommand<'a> {
         }
     }
 
-    /// The command of these two words, if they are one.
+    /// The command that the words `name` and `hex` request, or `None` if they are not a command.
     fn of_two(name: &str, hex: &'a str) -> Option<Self>
         ensures found { IsSome result ↔ IsCommand (two name.now hex.now) }
         ensures words { IfSome result (λ c. two name.now hex.now ≡ words_of c) }
@@ -46,7 +46,7 @@ impl<'a> ToolCommand<'a> {
         }
     }
 
-    /// The command of these three words, if they are one.
+    /// The command that these three words request, or `None` if they are not a command.
     fn of_three(first: &'a str, second: &'a str, third: &'a str) -> Option<Self>
         ensures found { IsSome result ↔ IsCommand (three first.now second.now third.now) }
         ensures words { IfSome result (λ c. three first.now second.now third.now ≡ words_of c) }
@@ -61,7 +61,7 @@ impl<'a> ToolCommand<'a> {
         }
     }
 
-    /// The command of this name with one text, if there is one and the text is octets in
+    /// The command `head` or `tlv` under these rules, if this is its name and `hex` is octets in
     /// hexadecimal.
     fn named(name: &str, rules: EncodingRules, hex: &'a str) -> Option<Self>
         ensures found { IsSome result ↔ (IsName name.now × IsHex hex.now) }

@@ -14,7 +14,7 @@ use der::{
 };
 use std::cmp::Ordering;
 
-/// A tag, and the contents after its header (X.690 8.1.1).
+/// An element of any tag: its tag and its contents (X.690 8.1.1).
 #[derive(Clone, Copy)]
 pub struct Element<'a> {
     tag: Tag,
@@ -71,6 +71,8 @@ impl<'a> WrittenValue for Element<'a> {
     ghost writable = { λ e. IsCounted (contents_of e) };
 }
 
+/// Writes the contents unchanged.
+///
 /// # Errors
 ///
 /// Computing the length never fails. Writing forwards the errors of the writer, as by

@@ -8,7 +8,8 @@ use crate::answer::{Answer, error_line};
 use der::{EncodingRules, Error, Header, Reader, SliceReader, decode_header};
 use std::alloc::{AllocError, Allocator};
 
-/// Prints the header at the start of the octets.
+/// The answer to the command `head`: the lines of the header at the start of the octets, or an
+/// error line.
 pub fn answer_head<A: Allocator + Copy>(
     alloc: A,
     rules: EncodingRules,
@@ -22,7 +23,7 @@ pub fn answer_head<A: Allocator + Copy>(
     }
 }
 
-/// The header at the start of the octets, and the octets after it.
+/// Reads the header at the start of the octets; returns it and the octets after it.
 fn read_head(rules: EncodingRules, octets: &[u8]) -> Result<(Header, &[u8]), Error>
     ensures ok { IfOk result (λ p. IsHeaderRead rules octets.now (head_of p.0) p.1.now) }
     ensures err { IfErr result (IsRefusedFor rules octets.now) }
@@ -58,7 +59,8 @@ fn yes_or_no(answer: bool) -> &'static str
     if answer { "yes" } else { "no" }
 }
 
-/// The text after a length, which says whether it was read in the indefinite form.
+/// The text to print after a length: ` indefinite` if it was read in the indefinite form, otherwise
+/// none.
 fn indefinite_suffix(indefinite: bool) -> &'static str
     ensures { result.now ≡ text.indefinite_suffix indefinite }
 {

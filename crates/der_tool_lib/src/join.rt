@@ -10,7 +10,8 @@ use der::example::JoinedOctets;
 use der::{DecodeBytes, Error};
 use std::alloc::{AllocError, Allocator, Global};
 
-/// Prints the joined segments of an element. The segments are joined in memory of `global`.
+/// The answer to the command `join`: a line with the joined segments of the OCTET STRING, or an
+/// error line. The segments are joined in memory of `global`.
 pub fn answer_join<A: Allocator + Copy>(
     global: Global,
     alloc: A,
@@ -24,7 +25,7 @@ pub fn answer_join<A: Allocator + Copy>(
     }
 }
 
-/// Reads the octets as exactly one OCTET STRING under BER, and joins its segments.
+/// Reads the octets as exactly one OCTET STRING under BER, and returns its joined segments.
 fn read_joined(global: Global, octets: &[u8]) -> Result<JoinedOctets, Error>
     ensures ok { IfOk result (λ j. IsJoined octets.now (joined_octets j)) }
     ensures err { IfErr result (NotJoined octets.now) }
@@ -32,7 +33,7 @@ fn read_joined(global: Global, octets: &[u8]) -> Result<JoinedOctets, Error>
     JoinedOctets::from_ber(global, octets)
 }
 
-/// The line that prints octets.
+/// A line with the octets in lower-case hexadecimal, or with a dash if there are none.
 fn octets_line<A: Allocator + Copy>(alloc: A, octets: &[u8]) -> Result<String<A>, AllocError>
     ensures { IfOk result (λ s. string_bytes s ≡ text.octets_line octets.now) }
 {

@@ -10,7 +10,7 @@ use der::{DerOrd, Error};
 use std::alloc::{AllocError, Allocator};
 use std::cmp::Ordering;
 
-/// Prints the order of two elements.
+/// The answer to the command `order`: a line with the order of two elements, or an error line.
 pub fn answer_order<A: Allocator + Copy>(
     alloc: A,
     first: &[u8],
@@ -24,7 +24,7 @@ pub fn answer_order<A: Allocator + Copy>(
     }
 }
 
-/// The order of two whole elements by their encodings (X.690 11.6). The first is read before the
+/// Compares two whole elements by their encodings (X.690 11.6). The first is read before the
 /// second.
 fn compare(first: &[u8], second: &[u8]) -> Result<Ordering, Error>
     ensures whole { IfOk result (λ _. IsWholeElement first.now × IsWholeElement second.now) }
@@ -36,7 +36,7 @@ fn compare(first: &[u8], second: &[u8]) -> Result<Ordering, Error>
     first.der_cmp(&second)
 }
 
-/// The line that prints an ordering.
+/// The line that is printed for an ordering: `less`, `equal` or `greater`.
 fn order_line(ordering: Ordering) -> &'static str
     ensures { result.now ≡ text.order_line ordering }
 {

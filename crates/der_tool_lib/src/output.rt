@@ -4,7 +4,7 @@ ghost use Rattle.std.specs.Io.KnownBytes.{Appends};
 
 use std::io;
 
-/// Writes a whole text, or fails. Every `io::Write` is an `Output`.
+/// An output of the program: it writes a whole text, or fails. Every `io::Write` is an `Output`.
 pub trait Output {
     // The octets that were written, where they are known.
     ghost contents: { Self → Option (List ℕ) };
@@ -12,7 +12,7 @@ pub trait Output {
     // Whether it never fails. Unknown for an `io::Write`.
     ghost reliable: { Bool };
 
-    /// Writes the text and flushes it.
+    /// Writes the whole text and flushes it.
     fn put(&mut self, text: &str) -> io::Result<()>
         ensures written { OnOk result (Appends (contents self.old) (contents self.new) text.now) }
         ensures succeeds { reliable ≡ true → IsOk result };

@@ -16,9 +16,9 @@ use hex::FromHexError;
 use std::alloc::{AllocError, Allocator, Global};
 use std::io;
 
-/// Runs the command of these words, prints its result and returns the status: 0 on success, 1 if
-/// the octets are not accepted, an allocation fails or the output fails, and 2 if the words are not
-/// a command. What an output that fails has written is unspecified.
+/// Runs the command that these words request, prints its result and returns the exit status: 0 on
+/// success, 1 if the octets are not accepted, an allocation fails or the output fails, and 2 if the
+/// words are not a command. If the output fails, what it has written is unspecified.
 pub fn run<W: Output>(alloc: Global, words: &[String], out: &mut W) -> u8
     ensures answers { (result ≡ 1)
         ⊎ WritesAnswer (texts words.now) result (W.contents out.old) (W.contents out.new) }
@@ -28,9 +28,11 @@ pub fn run<W: Output>(alloc: Global, words: &[String], out: &mut W) -> u8
     respond(alloc, alloc, words, out).unwrap_or(1)
 }
 
-/// Runs the command of these words and prints its result; an error is that of the output. Nothing
-/// is allocated once the output is called. Octets and lines are allocated with `alloc`, so that a
-/// test can make that fail; segments are joined in memory of `global`, as in the library.
+/// Runs the command that these words request, prints its result and returns the exit status. Fails
+/// only if the output fails. Nothing is allocated once the output is called.
+///
+/// Octets and lines are allocated with `alloc`, so that a test can make their allocation fail.
+/// Segments are joined in memory of `global`, as in the library.
 pub fn respond<A: Allocator + Copy, W: Output>(
     global: Global,
     alloc: A,
@@ -44,7 +46,7 @@ pub fn respond<A: Allocator + Copy, W: Output>(
     say(&answer(global, alloc, words), out)
 }
 
-/// Prints a result, and returns its status.
+/// Prints the text of the answer, and returns the exit status of the answer.
 pub fn say<A: Allocator, W: Output>(answer: &Answer<A>, out: &mut W) -> io::Result<u8>
     ensures status { IfOk result (λ status. status ≡ status_of answer.now) }
     ensures written { OnOk result
@@ -55,7 +57,8 @@ pub fn say<A: Allocator, W: Output>(answer: &Answer<A>, out: &mut W) -> io::Resu
     Ok(answer.status())
 }
 
-/// The result for these words.
+/// The answer to these words: that of the command that they request, or the usage if they are not a
+/// command.
 fn answer<A: Allocator + Copy>(global: Global, alloc: A, words: &[String]) -> Answer<A>
     ensures { Answers (texts words.now) (status_of result) (text_of result) }
 {
@@ -65,8 +68,8 @@ fn answer<A: Allocator + Copy>(global: Global, alloc: A, words: &[String]) -> An
     }
 }
 
-/// The result of a command. Its texts are even numbers of hexadecimal digits, so decoding them
-/// fails only if an allocation does.
+/// The answer to a command. The caller must ensure that its texts are even numbers of hexadecimal
+/// digits. So decoding them fails only if an allocation does.
 fn fulfil<A: Allocator + Copy>(
     global: Global,
     alloc: A,
@@ -87,7 +90,8 @@ fn fulfil<A: Allocator + Copy>(
     }
 }
 
-/// The octets of these hexadecimal digits.
+/// The octets that the text spells, which must be an even number of hexadecimal digits. Fails only
+/// if an allocation does.
 fn octets_of<A: Allocator>(alloc: A, hex: &str) -> Result<Vec<u8, A>, AllocError>
     requires { IsHex hex.now }
     ensures { IfOk result (λ octets. decode_of hex.now ≡ Ok octets.items) }

@@ -7,7 +7,8 @@ use crate::answer::{Answer, error_line};
 use der::{EncodingRules, Error, ReaderExt, SliceReader};
 use std::alloc::{AllocError, Allocator};
 
-/// Prints the whole element at the start of the octets.
+/// The answer to the command `tlv`: a line with the whole element at the start of the octets, or an
+/// error line.
 pub fn answer_tlv<A: Allocator + Copy>(
     alloc: A,
     rules: EncodingRules,
@@ -21,7 +22,7 @@ pub fn answer_tlv<A: Allocator + Copy>(
     }
 }
 
-/// The octets of the element at the start, header and contents.
+/// Reads the element at the start of the octets, and returns its octets, header and contents.
 fn read_element(rules: EncodingRules, octets: &[u8]) -> Result<&[u8], Error>
     ensures ok { IfOk result (λ e. IsFirstElement rules octets.now e.now) }
     ensures err { IfErr result (NoElement rules octets.now) }
@@ -30,7 +31,7 @@ fn read_element(rules: EncodingRules, octets: &[u8]) -> Result<&[u8], Error>
     reader.tlv_bytes()
 }
 
-/// The line that prints an element.
+/// A line with the octets of an element in lower-case hexadecimal.
 fn element_line<A: Allocator + Copy>(alloc: A, element: &[u8]) -> Result<String<A>, AllocError>
     ensures { IfOk result (λ s. string_bytes s ≡ text.element_line element.now) }
 {

@@ -11,12 +11,12 @@ use der::{
 };
 use std::alloc::Global;
 
-/// An algorithm, and a month as its parameter.
+/// An algorithm with a month as its parameter.
 #[derive(Clone, Copy)]
 pub struct AlgorithmIdentifier<'a> {
     /// The algorithm, borrowed from the input.
     pub algorithm: MyOctets<'a>,
-    /// Its parameter.
+    /// The parameter of the algorithm: a month.
     pub month: MyByteMonth,
 }
 

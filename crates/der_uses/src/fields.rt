@@ -8,7 +8,8 @@ use der::example::{BorrowedOctets, OwnedText};
 use der::{BytesRef, DecodeBytes, Error, StringOwned};
 use std::alloc::Global;
 
-/// The octets of an OCTET STRING, which borrow from the input.
+/// Reads exactly one OCTET STRING under DER, and returns its contents, which are borrowed from the
+/// input.
 pub fn borrowed_octets_of(alloc: Global, octets: &[u8]) -> Result<BytesRef<'_>, Error>
     ensures { IfOk result (λ b. octets.now ≡ element_octets OctetString (reference_octets b)) }
 {
@@ -16,7 +17,8 @@ pub fn borrowed_octets_of(alloc: Global, octets: &[u8]) -> Result<BytesRef<'_>, 
     Ok(field.octets)
 }
 
-/// The text of a UTF8String, which outlives the input.
+/// Reads exactly one UTF8String under DER, and returns a copy of its text, which outlives the
+/// input.
 pub fn kept_text(alloc: Global, octets: &[u8]) -> Result<StringOwned, Error>
     ensures { IfOk result (λ t. octets.now ≡ element_octets Utf8String (owned_text t)) }
 {

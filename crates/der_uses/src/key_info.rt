@@ -11,10 +11,10 @@ use der::{
 };
 use std::alloc::Global;
 
-/// A key, and what it is for.
+/// A key with the algorithm that it is for.
 #[derive(Clone, Copy)]
 pub struct KeyInfo<'a> {
-    /// What it is for.
+    /// The algorithm that the key is for.
     pub algorithm: AlgorithmIdentifier<'a>,
     /// The key, borrowed from the input.
     pub key: MyOctets<'a>,
@@ -86,7 +86,7 @@ impl<'a> Lawful for KeyInfo<'a> {
     ghost lawful = { key_info_lawful };
 }
 
-/// Reads the octets as exactly one key.
+/// Reads the octets as exactly one [`KeyInfo`] under DER.
 pub fn key_info_from_der<'a>(alloc: Global, octets: &'a [u8]) -> Result<KeyInfo<'a>, Error>
     ensures ok { IfOk result (λ v. IsKeyInfo v
         × (octets.now ≡ element_octets Sequence (key_info_contents v))) }
@@ -96,7 +96,7 @@ pub fn key_info_from_der<'a>(alloc: Global, octets: &'a [u8]) -> Result<KeyInfo<
     KeyInfo::from_der(alloc, octets)
 }
 
-/// The encoding of a key.
+/// Returns the encoding of a [`KeyInfo`] in a new vector.
 pub fn key_info_der(alloc: Global, key: &KeyInfo<'_>) -> Result<Vec<u8>, Error>
     ensures { IfOk result (λ v. v.items ≡ element_octets Sequence (key_info_contents key.now)) }
 {

@@ -11,10 +11,10 @@ use der::{
 use std::alloc::Global;
 use std::cmp::Ordering;
 
-/// Octets borrowed from the input.
+/// An OCTET STRING whose contents are borrowed from the input.
 #[derive(Clone, Copy)]
 pub struct MyOctets<'a> {
-    /// The octets.
+    /// The contents octets.
     pub octets: &'a [u8],
 }
 

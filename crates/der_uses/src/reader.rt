@@ -7,8 +7,8 @@ ghost use Rattle.der.specs.ErrorKinds.{Reader as CannotRead};
 use der::{EncodingRules, Error, ErrorKind, Length, Reader, Resumption, SliceReader};
 use std::alloc::Allocator;
 
-/// A reader over another one that returns no slices of its input. It continues after a read that
-/// failed.
+/// A reader that wraps a [`SliceReader`] and returns no slices of its input. It can read on after
+/// one of its reads has failed.
 #[derive(Drop)]
 pub struct CopyingReader<'a> {
     inner: SliceReader<'a>,
@@ -17,15 +17,15 @@ pub struct CopyingReader<'a> {
 }
 
 impl<'a> CopyingReader<'a> {
-    /// A reader that continues where `inner` is.
+    /// A reader that continues at the position of `inner`. None of its reads is made to fail.
     pub fn new(inner: SliceReader<'a>) -> Self
         ensures inner { result.inner ≡ inner.entry }
     {
         CopyingReader { inner, reads: 0 }
     }
 
-    /// A reader that continues where `inner` is, and fails at the read of this number; the first is
-    /// 1.
+    /// A reader that continues at the position of `inner`. The read with the number `reads`,
+    /// counted from 1, fails.
     pub fn failing(inner: SliceReader<'a>, reads: u32) -> Self
         ensures inner { result.inner ≡ inner.entry }
     {

@@ -4,8 +4,8 @@ ghost use Rattle.der.specs.Prelude.{Same, slice_state};
 
 use der::{Error, Reader, ReaderExt, SliceReader, Tag, decode_header};
 
-/// Reads the octets as exactly one SEQUENCE that holds exactly one OCTET STRING, and returns its
-/// contents.
+/// Reads the octets as exactly one SEQUENCE that holds exactly one OCTET STRING, and returns the
+/// contents of the OCTET STRING.
 pub fn wrapped_octets(octets: &[u8]) -> Result<&[u8], Error> {
     let mut reader = SliceReader::new(octets)?;
     let contents = reader.sequence(read_octet_string)?;

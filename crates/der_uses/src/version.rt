@@ -21,7 +21,7 @@ pub enum Version {
 }
 
 impl Version {
-    /// The number that is written.
+    /// The number that the version is written as: 0, 1 or 2.
     pub fn number(self) -> u8
         ensures { result ≡ octet_of_version self }
     {

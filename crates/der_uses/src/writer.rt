@@ -4,7 +4,7 @@ ghost use Rattle.der.specs.Prelude.{tag_octets};
 
 use der::{Encode, Error, ErrorKind, Tag, Writer};
 
-/// The octets that were written, in a growing vector.
+/// A writer that collects the octets written in a growing vector.
 #[derive(Drop)]
 pub struct Collected {
     /// The octets that were written.
@@ -34,7 +34,7 @@ impl Writer for Collected {
     }
 }
 
-/// Writes a tag after what was collected.
+/// Appends the identifier octets of a tag to the octets in `out`.
 pub fn collect_tag(tag: &Tag, out: &mut Collected) -> Result<(), Error>
     ensures { OnOk result (out.new.octets.items ≡ out.old.octets.items ++ tag_octets tag.now) }
 {

@@ -21,15 +21,15 @@ pub struct PrivateKeyInfo<'a> {
     pub version: Version<'a>,
     /// The algorithm of the key.
     pub private_key_algorithm: AlgorithmIdentifierRef<'a>,
-    /// The key, in a format given by its algorithm; its octets are not checked.
+    /// The octets of the private key, in a format given by its algorithm; they are not checked.
     pub private_key: OctetStringRef<'a>,
-    /// Further information about the key.
+    /// Further information about the key, which is not checked.
     pub attributes: Optional<Implicit<PrivateKeyAttributes<'a>, 0>>,
     /// The public key, in version 2.
     pub public_key: Optional<Implicit<BitStringRef<'a>, 1>>,
 }
 
-/// The fields, in sequence.
+/// The fields of a [`PrivateKeyInfo`], in sequence.
 pub type PrivateKeyInfoFields<'a> = (
     (Version<'a>, AlgorithmIdentifierRef<'a>),
     (
@@ -75,9 +75,11 @@ impl<'a> ReadValue for PrivateKeyInfo<'a> {
     ghost takes_valid = { ⟦<PrivateKeyInfo<'a> as Described>⟧.element.holds refl };
 }
 
+/// Decodes the fields in sequence.
+///
 /// # Errors
 ///
-/// Those of the fields, in sequence.
+/// The error of the first field that fails to decode.
 impl<'a, R: Reader<Borrowed = &'a [u8]>> DecodeValue<R> for PrivateKeyInfo<'a> {
     type Error = Error;
 
@@ -122,9 +124,13 @@ impl<'a> WrittenValue for PrivateKeyInfo<'a> {
     ghost writable = { ⟦<PrivateKeyInfo<'a> as Described>⟧.element.valid };
 }
 
+/// Writes the fields in sequence.
+///
 /// # Errors
 ///
-/// Those of the fields, in sequence, and `Overflow` without a position.
+/// - Those of the fields, in sequence.
+/// - `Overflow` without a position from [`EncodeValue::value_len`], if the fields together have
+///   more than 4294967295 octets.
 impl<'a> EncodeValue for PrivateKeyInfo<'a> {
     ghost value_size = { λ v. ⟦<PrivateKeyInfoFields<'a> as Encode>⟧.size (
       (

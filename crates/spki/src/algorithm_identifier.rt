@@ -21,7 +21,7 @@ pub struct AlgorithmIdentifierRef<'a> {
     pub parameters: Optional<AnyRef<'a>>,
 }
 
-/// The fields, in sequence.
+/// The fields of an [`AlgorithmIdentifierRef`], in sequence.
 pub type AlgorithmIdentifierFields<'a> = (ObjectIdentifierRef<'a>, Optional<AnyRef<'a>>);
 
 impl<'a> Described for AlgorithmIdentifierRef<'a> {
@@ -55,9 +55,11 @@ impl<'a> ReadValue for AlgorithmIdentifierRef<'a> {
     ghost takes_valid = { ⟦<AlgorithmIdentifierRef<'a> as Described>⟧.element.holds refl };
 }
 
+/// Decodes the fields in sequence.
+///
 /// # Errors
 ///
-/// Those of the fields, in sequence.
+/// The error of the first field that fails to decode.
 impl<'a, R: Reader<Borrowed = &'a [u8]>> DecodeValue<R> for AlgorithmIdentifierRef<'a> {
     type Error = Error;
 
@@ -85,9 +87,13 @@ impl<'a> WrittenValue for AlgorithmIdentifierRef<'a> {
     ghost writable = { ⟦<AlgorithmIdentifierRef<'a> as Described>⟧.element.valid };
 }
 
+/// Writes the fields in sequence.
+///
 /// # Errors
 ///
-/// Those of the fields, in sequence, and `Overflow` without a position.
+/// - Those of the fields, in sequence.
+/// - `Overflow` without a position from [`EncodeValue::value_len`], if the fields together have
+///   more than 4294967295 octets.
 impl<'a> EncodeValue for AlgorithmIdentifierRef<'a> {
     ghost value_size = { λ v. ⟦<AlgorithmIdentifierFields<'a> as Encode>⟧.size (v.oid, v.parameters) };
 

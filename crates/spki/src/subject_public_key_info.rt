@@ -17,11 +17,11 @@ use std::alloc::Global;
 pub struct SubjectPublicKeyInfoRef<'a> {
     /// The algorithm of the key.
     pub algorithm: AlgorithmIdentifierRef<'a>,
-    /// The key.
+    /// The octets of the key, as a BIT STRING.
     pub subject_public_key: BitStringRef<'a>,
 }
 
-/// The fields, in sequence.
+/// The fields of a [`SubjectPublicKeyInfoRef`], in sequence.
 pub type SubjectPublicKeyInfoFields<'a> = (AlgorithmIdentifierRef<'a>, BitStringRef<'a>);
 
 impl<'a> Described for SubjectPublicKeyInfoRef<'a> {
@@ -55,9 +55,11 @@ impl<'a> ReadValue for SubjectPublicKeyInfoRef<'a> {
     ghost takes_valid = { ⟦<SubjectPublicKeyInfoRef<'a> as Described>⟧.element.holds refl };
 }
 
+/// Decodes the fields in sequence.
+///
 /// # Errors
 ///
-/// Those of the fields, in sequence.
+/// The error of the first field that fails to decode.
 impl<'a, R: Reader<Borrowed = &'a [u8]>> DecodeValue<R> for SubjectPublicKeyInfoRef<'a> {
     type Error = Error;
 
@@ -86,9 +88,13 @@ impl<'a> WrittenValue for SubjectPublicKeyInfoRef<'a> {
     ghost writable = { ⟦<SubjectPublicKeyInfoRef<'a> as Described>⟧.element.valid };
 }
 
+/// Writes the fields in sequence.
+///
 /// # Errors
 ///
-/// Those of the fields, in sequence, and `Overflow` without a position.
+/// - Those of the fields, in sequence.
+/// - `Overflow` without a position from [`EncodeValue::value_len`], if the fields together have
+///   more than 4294967295 octets.
 impl<'a> EncodeValue for SubjectPublicKeyInfoRef<'a> {
     ghost value_size = { λ v. ⟦<SubjectPublicKeyInfoFields<'a> as Encode>⟧.size (
       v.algorithm,

@@ -26,7 +26,7 @@ pub struct Attribute<'a> {
 /// The attributes of a request, in ascending order of their encodings.
 pub type Attributes<'a> = SetOf<'a, Attribute<'a>>;
 
-/// The fields of an attribute, in sequence.
+/// The fields of an [`Attribute`], in sequence.
 pub type AttributeFields<'a> = (ObjectIdentifierRef<'a>, AttributeValues<'a>);
 
 impl<'a> Described for Attribute<'a> {
@@ -60,9 +60,11 @@ impl<'a> ReadValue for Attribute<'a> {
     ghost takes_valid = { ⟦<Attribute<'a> as Described>⟧.element.holds refl };
 }
 
+/// Decodes the fields in sequence.
+///
 /// # Errors
 ///
-/// Those of the fields, in sequence.
+/// The error of the first field that fails to decode.
 impl<'a, R: Reader<Borrowed = &'a [u8]>> DecodeValue<R> for Attribute<'a> {
     type Error = Error;
 
@@ -88,9 +90,13 @@ impl<'a> WrittenValue for Attribute<'a> {
     ghost writable = { ⟦<Attribute<'a> as Described>⟧.element.valid };
 }
 
+/// Writes the fields in sequence.
+///
 /// # Errors
 ///
-/// Those of the fields, in sequence, and `Overflow` without a position.
+/// - Those of the fields, in sequence.
+/// - `Overflow` without a position from [`EncodeValue::value_len`], if the fields together have
+///   more than 4294967295 octets.
 impl<'a> EncodeValue for Attribute<'a> {
     ghost value_size = { λ v. ⟦<AttributeFields<'a> as Encode>⟧.size (v.oid, v.values) };
 

@@ -20,7 +20,7 @@ pub struct AttributeTypeAndValue<'a> {
     pub value: AnyRef<'a>,
 }
 
-/// The fields, in sequence.
+/// The fields of an [`AttributeTypeAndValue`], in sequence.
 pub type AttributeTypeAndValueFields<'a> = (ObjectIdentifierRef<'a>, AnyRef<'a>);
 
 impl<'a> Described for AttributeTypeAndValue<'a> {
@@ -54,9 +54,11 @@ impl<'a> ReadValue for AttributeTypeAndValue<'a> {
     ghost takes_valid = { ⟦<AttributeTypeAndValue<'a> as Described>⟧.element.holds refl };
 }
 
+/// Decodes the fields in sequence.
+///
 /// # Errors
 ///
-/// Those of the fields, in sequence.
+/// The error of the first field that fails to decode.
 impl<'a, R: Reader<Borrowed = &'a [u8]>> DecodeValue<R> for AttributeTypeAndValue<'a> {
     type Error = Error;
 
@@ -82,9 +84,13 @@ impl<'a> WrittenValue for AttributeTypeAndValue<'a> {
     ghost writable = { ⟦<AttributeTypeAndValue<'a> as Described>⟧.element.valid };
 }
 
+/// Writes the fields in sequence.
+///
 /// # Errors
 ///
-/// Those of the fields, in sequence, and `Overflow` without a position.
+/// - Those of the fields, in sequence.
+/// - `Overflow` without a position from [`EncodeValue::value_len`], if the fields together have
+///   more than 4294967295 octets.
 impl<'a> EncodeValue for AttributeTypeAndValue<'a> {
     ghost value_size = { λ v. ⟦<AttributeTypeAndValueFields<'a> as Encode>⟧.size (v.oid, v.value) };
 

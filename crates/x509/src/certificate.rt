@@ -20,11 +20,11 @@ pub struct Certificate<'a> {
     pub tbs_certificate: TbsCertificate<'a>,
     /// The algorithm of the signature.
     pub signature_algorithm: AlgorithmIdentifierRef<'a>,
-    /// The signature.
+    /// The signature of the signed part, as a BIT STRING.
     pub signature: BitStringRef<'a>,
 }
 
-/// The fields, in sequence.
+/// The fields of a [`Certificate`], in sequence.
 pub type CertificateFields<'a> = (
     TbsCertificate<'a>,
     (AlgorithmIdentifierRef<'a>, BitStringRef<'a>),
@@ -62,9 +62,11 @@ impl<'a> ReadValue for Certificate<'a> {
     ghost takes_valid = { ⟦<Certificate<'a> as Described>⟧.element.holds refl };
 }
 
+/// Decodes the fields in sequence.
+///
 /// # Errors
 ///
-/// Those of the fields, in sequence.
+/// The error of the first field that fails to decode.
 impl<'a, R: Reader<Borrowed = &'a [u8]>> DecodeValue<R> for Certificate<'a> {
     type Error = Error;
 
@@ -95,9 +97,13 @@ impl<'a> WrittenValue for Certificate<'a> {
     ghost writable = { ⟦<Certificate<'a> as Described>⟧.element.valid };
 }
 
+/// Writes the fields in sequence.
+///
 /// # Errors
 ///
-/// Those of the fields, in sequence, and `Overflow` without a position.
+/// - Those of the fields, in sequence.
+/// - `Overflow` without a position from [`EncodeValue::value_len`], if the fields together have
+///   more than 4294967295 octets.
 impl<'a> EncodeValue for Certificate<'a> {
     ghost value_size = { λ v. ⟦<CertificateFields<'a> as Encode>⟧.size (
       v.tbs_certificate,

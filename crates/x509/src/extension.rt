@@ -24,7 +24,7 @@ pub struct Extension<'a> {
     pub extn_value: OctetStringRef<'a>,
 }
 
-/// The fields, in sequence.
+/// The fields of an [`Extension`], in sequence.
 pub type ExtensionFields<'a> = (
     ObjectIdentifierRef<'a>,
     (Defaulted<BooleanRef<'a>>, OctetStringRef<'a>),
@@ -63,9 +63,11 @@ impl<'a> ReadValue for Extension<'a> {
     ghost takes_valid = { ⟦<Extension<'a> as Described>⟧.element.holds refl };
 }
 
+/// Decodes the fields in sequence.
+///
 /// # Errors
 ///
-/// Those of the fields, in sequence.
+/// The error of the first field that fails to decode.
 impl<'a, R: Reader<Borrowed = &'a [u8]>> DecodeValue<R> for Extension<'a> {
     type Error = Error;
 
@@ -96,9 +98,13 @@ impl<'a> WrittenValue for Extension<'a> {
     ghost writable = { ⟦<Extension<'a> as Described>⟧.element.valid };
 }
 
+/// Writes the fields in sequence.
+///
 /// # Errors
 ///
-/// Those of the fields, in sequence, and `Overflow` without a position.
+/// - Those of the fields, in sequence.
+/// - `Overflow` without a position from [`EncodeValue::value_len`], if the fields together have
+///   more than 4294967295 octets.
 impl<'a> EncodeValue for Extension<'a> {
     ghost value_size = { λ v. ⟦<ExtensionFields<'a> as Encode>⟧.size (
       v.extn_id,

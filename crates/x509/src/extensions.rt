@@ -15,7 +15,7 @@ use std::alloc::Global;
 /// The extensions of a certificate, borrowed from the input.
 #[derive(Clone, Copy, Drop)]
 pub struct Extensions<'a> {
-    /// The extensions.
+    /// The list of extensions: a SEQUENCE OF [`Extension`].
     pub items: SequenceOf<'a, Extension<'a>>,
 }
 
@@ -47,9 +47,11 @@ impl<'a> ReadValue for Extensions<'a> {
     ghost takes_valid = { ⟦<Extensions<'a> as Described>⟧.element.holds refl };
 }
 
+/// Decodes the list of extensions.
+///
 /// # Errors
 ///
-/// Those of the list.
+/// Those of the list, as by `decode_value` of [`SequenceOf`].
 impl<'a, R: Reader<Borrowed = &'a [u8]>> DecodeValue<R> for Extensions<'a> {
     type Error = Error;
 
@@ -75,9 +77,11 @@ impl<'a> WrittenValue for Extensions<'a> {
     ghost writable = { ⟦<Extensions<'a> as Described>⟧.element.valid };
 }
 
+/// Writes the list of extensions.
+///
 /// # Errors
 ///
-/// Those of the list.
+/// Those of the list, as by `value_len` and `encode_value` of [`SequenceOf`].
 impl<'a> EncodeValue for Extensions<'a> {
     ghost value_size = { λ v. ⟦<SequenceOf<'a, Extension<'a>> as EncodeValue>⟧.value_size v.items };
 

@@ -48,9 +48,11 @@ impl<'a> ReadValue for Name<'a> {
     ghost takes_valid = { ⟦<Name<'a> as Described>⟧.element.holds refl };
 }
 
+/// Decodes the list of relative distinguished names.
+///
 /// # Errors
 ///
-/// Those of the list.
+/// Those of the list, as by `decode_value` of [`SequenceOf`].
 impl<'a, R: Reader<Borrowed = &'a [u8]>> DecodeValue<R> for Name<'a> {
     type Error = Error;
 
@@ -76,9 +78,11 @@ impl<'a> WrittenValue for Name<'a> {
     ghost writable = { ⟦<Name<'a> as Described>⟧.element.valid };
 }
 
+/// Writes the list of relative distinguished names.
+///
 /// # Errors
 ///
-/// Those of the list.
+/// Those of the list, as by `value_len` and `encode_value` of [`SequenceOf`].
 impl<'a> EncodeValue for Name<'a> {
     ghost value_size = { λ v.
         ⟦<SequenceOf<'a, RelativeDistinguishedName<'a>> as EncodeValue>⟧.value_size v.levels };

@@ -24,11 +24,11 @@ pub struct CertReq<'a> {
     pub info: CertReqInfo<'a>,
     /// The algorithm of the signature.
     pub algorithm: AlgorithmIdentifierRef<'a>,
-    /// The signature.
+    /// The signature of the signed part, as a BIT STRING.
     pub signature: BitStringRef<'a>,
 }
 
-/// The fields, in sequence.
+/// The fields of a [`CertReq`], in sequence.
 pub type CertReqFields<'a> = (
     CertReqInfo<'a>,
     (AlgorithmIdentifierRef<'a>, BitStringRef<'a>),
@@ -66,9 +66,11 @@ impl<'a> ReadValue for CertReq<'a> {
     ghost takes_valid = { ⟦<CertReq<'a> as Described>⟧.element.holds refl };
 }
 
+/// Decodes the fields in sequence.
+///
 /// # Errors
 ///
-/// Those of the fields, in sequence.
+/// The error of the first field that fails to decode.
 impl<'a, R: Reader<Borrowed = &'a [u8]>> DecodeValue<R> for CertReq<'a> {
     type Error = Error;
 
@@ -99,9 +101,13 @@ impl<'a> WrittenValue for CertReq<'a> {
     ghost writable = { ⟦<CertReq<'a> as Described>⟧.element.valid };
 }
 
+/// Writes the fields in sequence.
+///
 /// # Errors
 ///
-/// Those of the fields, in sequence, and `Overflow` without a position.
+/// - Those of the fields, in sequence.
+/// - `Overflow` without a position from [`EncodeValue::value_len`], if the fields together have
+///   more than 4294967295 octets.
 impl<'a> EncodeValue for CertReq<'a> {
     ghost value_size = { λ v. ⟦<CertReqFields<'a> as Encode>⟧.size (
       v.info,

@@ -49,7 +49,7 @@ pub struct TbsCertificate<'a> {
     pub extensions: Optional<Explicit<Extensions<'a>, 3>>,
 }
 
-/// The fields, in sequence.
+/// The fields of a [`TbsCertificate`], in sequence.
 pub type TbsCertificateFields<'a> = (
     (
         (Defaulted<Explicit<Version<'a>, 0>>, IntRef<'a>),
@@ -126,9 +126,11 @@ impl<'a> ReadValue for TbsCertificate<'a> {
     ghost takes_valid = { ⟦<TbsCertificate<'a> as Described>⟧.element.holds refl };
 }
 
+/// Decodes the fields in sequence.
+///
 /// # Errors
 ///
-/// Those of the fields, in sequence.
+/// The error of the first field that fails to decode.
 impl<'a, R: Reader<Borrowed = &'a [u8]>> DecodeValue<R> for TbsCertificate<'a> {
     type Error = Error;
 
@@ -180,9 +182,13 @@ impl<'a> WrittenValue for TbsCertificate<'a> {
     ghost writable = { ⟦<TbsCertificate<'a> as Described>⟧.element.valid };
 }
 
+/// Writes the fields in sequence.
+///
 /// # Errors
 ///
-/// Those of the fields, in sequence, and `Overflow` without a position.
+/// - Those of the fields, in sequence.
+/// - `Overflow` without a position from [`EncodeValue::value_len`], if the fields together have
+///   more than 4294967295 octets.
 impl<'a> EncodeValue for TbsCertificate<'a> {
     ghost value_size = { λ v. ⟦<TbsCertificateFields<'a> as Encode>⟧.size (
       (

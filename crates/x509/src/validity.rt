@@ -21,7 +21,7 @@ pub struct Validity {
     pub not_after: Time,
 }
 
-/// The fields, in sequence.
+/// The fields of a [`Validity`], in sequence.
 pub type ValidityFields = (Time, Time);
 
 impl Described for Validity {
@@ -56,9 +56,11 @@ impl ReadValue for Validity {
     ghost takes_valid = { ⟦<Validity as Described>⟧.element.holds refl };
 }
 
+/// Decodes the fields in sequence.
+///
 /// # Errors
 ///
-/// Those of the fields, in sequence.
+/// The error of the first field that fails to decode.
 impl<'a, R: Reader<Borrowed = &'a [u8]>> DecodeValue<R> for Validity {
     type Error = Error;
 
@@ -93,9 +95,13 @@ impl WrittenValue for Validity {
     ghost writable = { ⟦<Validity as Described>⟧.element.valid };
 }
 
+/// Writes the fields in sequence.
+///
 /// # Errors
 ///
-/// Those of the fields, in sequence, and `Overflow` without a position.
+/// - Those of the fields, in sequence.
+/// - `Overflow` without a position from [`EncodeValue::value_len`], if the fields together have
+///   more than 4294967295 octets.
 impl EncodeValue for Validity {
     ghost value_size = { λ v. ⟦<ValidityFields as Encode>⟧.size (v.not_before, v.not_after) };
 

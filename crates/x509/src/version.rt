@@ -7,7 +7,8 @@ ghost use Rattle.x509.specs.CertificateVersion.{is_version_1, is_certificate_ver
 use der::{FixedTag, Tag};
 use der_asn1::{Checked, ContentsGrammar, DefaultContents};
 
-/// Contents of a version: 0, 1 or 2, for version 1, 2 or 3.
+/// The grammar of the contents of a [`Version`]: one octet, which is 0, 1 or 2 for version 1, 2 or
+/// 3.
 pub struct CertificateVersionGrammar;
 
 /// The version of a certificate, borrowed from the input; version 1 is the default.

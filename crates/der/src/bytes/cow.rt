@@ -46,7 +46,7 @@ impl<'a> ReadValue for BytesCow<'a> {
 }
 
 /// Borrows the contents from the input if the reader can return slices of it, and copies them
-/// otherwise. The header gives only the length.
+/// otherwise. Takes only the length from the header, and ignores its tag.
 ///
 /// # Errors
 ///

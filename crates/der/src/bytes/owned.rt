@@ -16,7 +16,8 @@ mod parts;
 
 /// An owned byte string of at most 4294967295 octets.
 ///
-/// The derived order puts shorter strings first; equal lengths are compared octet by octet.
+/// The derived order puts shorter strings first; strings of equal length are compared octet by
+/// octet.
 #[derive(Debug, Drop, PartialEq, Eq, PartialOrd, Ord, Hash)]
 pub struct BytesOwned {
     length: Length,
@@ -26,11 +27,11 @@ pub struct BytesOwned {
 }
 
 impl BytesOwned {
-    /// Wraps these octets, without allocating.
+    /// Wraps the octets in `inner`, without allocating.
     ///
     /// # Errors
     ///
-    /// - `Overflow` without a position, if there are more than 4294967295.
+    /// - `Overflow` without a position, if `inner` has more than 4294967295 octets.
     pub fn new(inner: BoxedSlice<u8>) -> Result<Self, Error>
         ensures exact { map_ok (λ b. boxed_slice_items b.inner) result
             ≡ checked_octets (boxed_slice_items inner) }
@@ -41,11 +42,11 @@ impl BytesOwned {
         }
     }
 
-    /// A copy of these octets.
+    /// Copies `bytes` into an owned byte string.
     ///
     /// # Errors
     ///
-    /// - `Overflow` without a position, if there are more than 4294967295.
+    /// - `Overflow` without a position, if `bytes` has more than 4294967295 octets.
     /// - `OutOfMemory` without a position, if allocation fails.
     pub fn from_slice(alloc: Global, bytes: &[u8]) -> Result<Self, Error>
         ensures exact { AnswersOrLacks (checked_octets bytes.now)
@@ -56,11 +57,11 @@ impl BytesOwned {
         Ok(BytesOwned { length, inner })
     }
 
-    /// Wraps the octets of a vector, without allocating.
+    /// Wraps the octets in the vector `bytes`, without allocating.
     ///
     /// # Errors
     ///
-    /// - `Overflow` without a position, if there are more than 4294967295.
+    /// - `Overflow` without a position, if `bytes` has more than 4294967295 octets.
     pub fn from_vec(bytes: Vec<u8>) -> Result<Self, Error>
         ensures exact { map_ok (λ b. boxed_slice_items b.inner) result
             ≡ checked_octets bytes.items }
@@ -68,7 +69,7 @@ impl BytesOwned {
         BytesOwned::new(bytes.into_boxed_slice())
     }
 
-    /// A copy of borrowed octets.
+    /// Copies the octets of a borrowed byte string into an owned one.
     ///
     /// # Errors
     ///
@@ -80,7 +81,7 @@ impl BytesOwned {
         BytesOwned::from_slice(alloc, bytes.as_slice())
     }
 
-    /// The empty string; allocates nothing.
+    /// The byte string of zero octets; allocates nothing.
     pub fn empty(alloc: Global) -> Self
         ensures { boxed_slice_items result.inner ≡ [] }
     {
@@ -90,7 +91,7 @@ impl BytesOwned {
         }
     }
 
-    /// The octets.
+    /// The octets of the byte string, as a slice.
     pub fn as_slice(&self) -> &[u8]
         ensures { result.now ≡ boxed_slice_items self.now.inner }
     {
@@ -118,21 +119,21 @@ impl BytesOwned {
         self.length
     }
 
-    /// Whether there are no octets.
+    /// Whether the byte string has no octets.
     pub fn is_empty(&self) -> bool
         ensures { IsTrue result ↔ (boxed_slice_items self.now.inner ≡ []) }
     {
         self.length.is_zero()
     }
 
-    /// The octets in their box, without a copy.
+    /// Returns the box that holds the octets, without copying them.
     pub fn into_box(self) -> BoxedSlice<u8>
         ensures { result ≡ self.inner }
     {
         self.inner
     }
 
-    /// A copy of the octets.
+    /// An owned byte string with a copy of the octets.
     ///
     /// # Errors
     ///
@@ -146,7 +147,7 @@ impl BytesOwned {
 }
 
 impl<'a> BytesRef<'a> {
-    /// An owned copy of the octets.
+    /// An owned byte string with a copy of the octets.
     ///
     /// # Errors
     ///

@@ -18,14 +18,14 @@ pub struct BytesRef<'a> {
 }
 
 impl<'a> BytesRef<'a> {
-    /// The empty string.
+    /// The byte string of zero octets.
     pub const EMPTY: BytesRef<'static> = BytesRef { bytes: &[] };
 
-    /// Wraps these octets.
+    /// Wraps the octets in `bytes`.
     ///
     /// # Errors
     ///
-    /// - `Overflow` without a position, if there are more than 4294967295.
+    /// - `Overflow` without a position, if `bytes` has more than 4294967295 octets.
     pub const fn new(bytes: &'a [u8]) -> Result<Self, Error>
         ensures exact { map_ok (λ b. b.bytes.now) result ≡ checked_octets bytes.now }
     {
@@ -43,7 +43,7 @@ impl<'a> BytesRef<'a> {
         BytesRef { bytes }
     }
 
-    /// The octets.
+    /// The octets of the byte string, as a slice.
     pub const fn as_slice(&self) -> &'a [u8]
         ensures { result.now ≡ self.now.bytes.now }
     {
@@ -57,7 +57,7 @@ impl<'a> BytesRef<'a> {
         Length::new(self.bytes.len() as u32)
     }
 
-    /// Whether there are no octets.
+    /// Whether the byte string has no octets.
     pub fn is_empty(&self) -> bool
         ensures { IsTrue result ↔ (self.now.bytes.now ≡ []) }
     {
@@ -68,10 +68,8 @@ impl<'a> BytesRef<'a> {
     ///
     /// # Errors
     ///
-    /// With fewer octets than `length` it fails as [`Error::incomplete`] does:
-    ///
-    /// - `Incomplete` at the number of octets, which expects one octet more than there are.
-    /// - `Overflow` at the number of octets, if there are 4294967295.
+    /// - `Incomplete`, as by [`Error::incomplete`], if there are fewer octets than `length`. The
+    ///   position and `actual_len` are the number of octets; `expected_len` is one more.
     pub fn prefix(&self, length: Length) -> Result<Self, Error>
         ensures exact { map_ok (λ b. b.bytes.now) result
             ≡ prefix_of (number length) self.now.bytes.now }

@@ -11,28 +11,29 @@ use crate::bytes::{BytesOwned, BytesRef};
 use crate::string::{StringOwned, StringRef};
 use std::hash::{Hash, Hasher};
 
-/// The octets, as for a slice.
+/// A [`BytesRef`] is hashed like the slice of its octets.
 fn bytes_ref_hash<H: Hasher>(bytes: &BytesRef<'_>, state: &mut H)
     ensures { state.new ≡ fold H.write state.old (fed.slice fed.u8 (reference_octets bytes.now)) }
 {
     bytes.hash(state);
 }
 
-/// The number of octets, then the octets.
+/// A [`BytesOwned`] is hashed as its number of octets, a [`Length`](der_base::Length), followed by
+/// the slice of its octets.
 fn bytes_owned_hash<H: Hasher>(bytes: &BytesOwned, state: &mut H)
     ensures { state.new ≡ fold H.write state.old (counted_writes (owned_octets bytes.now)) }
 {
     bytes.hash(state);
 }
 
-/// The text, as for a `str`.
+/// A [`StringRef`] is hashed like a `str` with its text.
 fn string_ref_hash<H: Hasher>(text: &StringRef<'_>, state: &mut H)
     ensures { state.new ≡ fold H.write state.old (fed.str (reference_text text.now)) }
 {
     text.hash(state);
 }
 
-/// The text, as for a `str`.
+/// A [`StringOwned`] is hashed like a `str` with its text.
 fn string_owned_hash<H: Hasher>(text: &StringOwned, state: &mut H)
     ensures { state.new ≡ fold H.write state.old (fed.str (owned_text text.now)) }
 {

@@ -18,7 +18,7 @@ use std::cmp::Ordering;
 /// An OCTET STRING whose octets are borrowed.
 #[derive(Clone, Copy, Debug)]
 pub struct BorrowedOctets<'a> {
-    /// The octets.
+    /// The contents octets of the OCTET STRING.
     pub octets: BytesRef<'a>,
 }
 
@@ -46,11 +46,11 @@ impl<'a> ReadValue for BorrowedOctets<'a> {
     ghost takes_valid = { λ b rules h octets taken. taken.0 };
 }
 
-/// Borrows the contents from the input. The header gives only the length.
+/// Borrows the contents from the input. Takes only the length from the header, and ignores its tag.
 ///
 /// # Errors
 ///
-/// Those of [`BytesRef`].
+/// The errors of decoding a [`BytesRef`].
 impl<'a, R: Reader<Borrowed = &'a [u8]>> DecodeValue<R> for BorrowedOctets<'a> {
     type Error = Error;
 
@@ -93,7 +93,7 @@ impl<'a> Lawful for BorrowedOctets<'a> {
     ghost lawful = { borrowed_lawful };
 }
 
-/// Compares the octets. Never fails.
+/// Compares the contents octets in lexicographic order. Never fails.
 impl<'a> ValueOrd for BorrowedOctets<'a> {
     ghost value_order = { octets_order borrowed_octets };
 

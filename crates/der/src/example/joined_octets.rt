@@ -15,10 +15,10 @@ use der_core::{
 use std::alloc::Global;
 use std::cmp::Ordering;
 
-/// An OCTET STRING whose segments are joined on reading.
+/// An OCTET STRING that owns its octets. Decoding joins the segments of a constructed encoding.
 #[derive(Debug, Drop)]
 pub struct JoinedOctets {
-    /// The octets.
+    /// The contents octets, with all segments joined.
     pub octets: BytesOwned,
 }
 
@@ -44,11 +44,12 @@ impl ReadValue for JoinedOctets {
     ghost takes_valid = { λ v rules h octets taken. taken.0 };
 }
 
-/// Copies primitive contents, and joins segments, including segments inside segments.
+/// Copies the contents if the encoding is primitive. Joins the segments, including segments inside
+/// segments, if it is constructed.
 ///
 /// # Errors
 ///
-/// Those of [`BytesOwned::decode_value_parts`], with the inner tag OCTET STRING.
+/// The errors of [`BytesOwned::decode_value_parts`], with the inner tag OCTET STRING.
 impl<R: Reader> DecodeValue<R> for JoinedOctets {
     type Error = Error;
 
@@ -89,7 +90,7 @@ impl Lawful for JoinedOctets {
     ghost lawful = { joined_lawful };
 }
 
-/// Compares the octets. Never fails.
+/// Compares the joined octets in lexicographic order. Never fails.
 impl ValueOrd for JoinedOctets {
     ghost value_order = { octets_order joined_octets };
 

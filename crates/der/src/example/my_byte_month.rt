@@ -3,7 +3,7 @@ ghost use Rattle.std.specs.Prelude.{◌≡◌, ◌↔◌, ◌<◌, IsSome, IfSom
 
 mod der;
 
-/// A month by its number, from 0 to 11, as an OCTET STRING of one octet.
+/// A month, given by its number from 0 to 11. It is encoded as an OCTET STRING of one octet.
 #[derive(Clone, Copy, Debug, PartialEq, Eq)]
 pub struct MyByteMonth {
     number: u8,
@@ -11,7 +11,7 @@ pub struct MyByteMonth {
 }
 
 impl MyByteMonth {
-    /// The month with this number; `None` if the number is 12 or more.
+    /// The month whose number is `number`; `None` if `number` is 12 or more.
     pub fn new(number: u8) -> Option<Self>
         ensures number { IfSome result (λ m. m.number ≡ number) }
         ensures some { IsSome result ↔ (number < 12) }

@@ -44,11 +44,12 @@ impl ReadValue for OwnedText {
     ghost takes_valid = { λ t rules h octets taken. taken.0 };
 }
 
-/// Copies the contents, as a text. The header gives only the length.
+/// Copies the contents into an owned text. Takes only the length from the header, and ignores its
+/// tag.
 ///
 /// # Errors
 ///
-/// Those of [`StringOwned`].
+/// The errors of decoding a [`StringOwned`].
 impl<R: Reader> DecodeValue<R> for OwnedText {
     type Error = Error;
 
@@ -89,7 +90,7 @@ impl Lawful for OwnedText {
     ghost lawful = { owned_text_lawful };
 }
 
-/// Compares the octets. Never fails.
+/// Compares the octets of the texts in lexicographic order. Never fails.
 impl ValueOrd for OwnedText {
     ghost value_order = { octets_order owned_text_octets };
 

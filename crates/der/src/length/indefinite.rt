@@ -14,12 +14,12 @@ use der_base::{Error, ErrorKind, Length, Tag};
 use der_core::{Header, Reader, ReaderExt, close_value, decode_header};
 use std::alloc::Global;
 
-/// Joins the segments up to the end (X.690 8.7.3) into a new vector. The segments are elements with
-/// the tag `inner_tag`, in sequence. A primitive segment contributes its contents. Under the Basic
-/// Encoding Rules a segment may be constructed, of definite or indefinite length, and contributes
-/// the joined segments inside it; each is entered as a nested part, to a depth of at most 64.
-/// `length` is the length of the element that contains the segments; its end-of-contents octets are
-/// not read.
+/// Joins segments (X.690 8.7.3) into a new vector, from the position of the reader up to its end.
+/// The segments are elements with the tag `inner_tag`, in sequence. A primitive segment contributes
+/// its contents. Under the Basic Encoding Rules a segment may be constructed, of definite or
+/// indefinite length. It then contributes the joined segments inside it, and is entered as a nested
+/// part, to a depth of at most 64. `length` is the length of the element that contains the
+/// segments. The end-of-contents octets of that element are not read.
 ///
 /// # Errors
 ///
@@ -27,22 +27,23 @@ use std::alloc::Global;
 ///   Distinguished Encoding Rules; the reader has failed then.
 /// - `OutOfMemory` without a position, if the allocation of `length` octets fails; the reader is
 ///   unchanged.
-/// - Those of a segment's header, as by [`Header::decode`](der_core::Header).
-/// - `TagUnexpected` without a position, if a segment has another tag; the reader is after its
-///   header and has not failed.
+/// - The errors of decoding a segment's header, as by [`Header::decode`](der_core::Header).
+/// - `TagUnexpected` without a position, if a segment has another tag than `inner_tag`; the reader
+///   is after the segment's header and has not failed.
 /// - `Noncanonical` with the tag, at the last octet of the header of a constructed segment, under
 ///   the Distinguished Encoding Rules; the reader is after the header and has not failed.
 /// - `Overflow`, `Incomplete` and `NestingDepth` if a constructed segment cannot be entered, as by
-///   [`Reader::enter_nested`]; the reader is after its header.
-/// - `Overflow` without a position, if fewer octets are left than a primitive segment has, and its
-///   end would exceed 4294967295; the reader is after its header and has not failed.
+///   [`Reader::enter_nested`]; the reader is after the segment's header.
+/// - `Overflow` without a position, if fewer octets are left than a primitive segment has, and the
+///   end of the segment would exceed 4294967295; the reader is after the segment's header and has
+///   not failed.
 /// - `Incomplete` at the position, if fewer octets are left than a primitive segment has; the
-///   reader is after its header and has failed.
-/// - `OutOfMemory` without a position, if the allocation of a segment's octets fails; the reader is
-///   after its header and has not failed.
+///   reader is after the segment's header and has failed.
+/// - `OutOfMemory` without a position, if the allocation of a primitive segment's octets fails; the
+///   reader is after the segment's header and has not failed.
 ///
-/// If reading the segments inside a segment fails, the reader is where that stopped; its end and
-/// depth are restored.
+/// If reading the segments inside a constructed segment fails, the reader stays where that reading
+/// stopped. The end and the depth of the reader are restored.
 pub fn read_constructed_vec<R: Reader>(
     alloc: Global,
     reader: &mut R,

@@ -46,8 +46,9 @@ impl<'a> ReadValue for StringCow<'a> {
     ghost takes_valid = { λ t rules h octets taken. taken.0 };
 }
 
-/// Borrows the contents from the input, as a text. The header gives only the length. With a reader
-/// that cannot return slices this fails, because an owned text is also read from a slice.
+/// Borrows the contents from the input as a text. Takes only the length from the header, and
+/// ignores its tag. Fails if the reader cannot return slices, because an owned text too is read
+/// from a slice.
 ///
 /// # Errors
 ///

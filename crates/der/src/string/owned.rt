@@ -24,11 +24,11 @@ pub struct StringOwned {
 }
 
 impl StringOwned {
-    /// Wraps this text, without allocating.
+    /// Wraps `inner`, without allocating.
     ///
     /// # Errors
     ///
-    /// - `Overflow` without a position, if it has more than 4294967295 octets.
+    /// - `Overflow` without a position, if `inner` has more than 4294967295 octets.
     pub fn new(inner: String) -> Result<Self, Error>
         ensures exact { map_ok (λ t. string_bytes t.inner) result
             ≡ checked_octets (string_bytes inner) }
@@ -39,13 +39,13 @@ impl StringOwned {
         }
     }
 
-    /// A copy of these octets, as a text. Allocates only after the octets and their number are
-    /// checked.
+    /// Copies `bytes` into an owned text. Allocates only after it has checked that `bytes` are
+    /// UTF-8 and at most 4294967295.
     ///
     /// # Errors
     ///
-    /// - `Utf8` without a position, if they are not UTF-8.
-    /// - `Overflow` without a position, if there are more than 4294967295.
+    /// - `Utf8` without a position, if `bytes` are not UTF-8.
+    /// - `Overflow` without a position, if there are more than 4294967295 octets.
     /// - `OutOfMemory` without a position, if allocation fails.
     pub fn from_bytes(alloc: Global, bytes: &[u8]) -> Result<Self, Error>
         ensures exact { AnswersOrLacks (checked_text bytes.now)
@@ -54,7 +54,7 @@ impl StringOwned {
         StringRef::from_bytes(bytes)?.ref_to_owned(alloc)
     }
 
-    /// The text.
+    /// The text, as a `str`.
     pub fn as_str(&self) -> &str
         ensures { result.now ≡ string_bytes self.now.inner }
     {
@@ -68,7 +68,7 @@ impl StringOwned {
         self.inner.as_bytes()
     }
 
-    /// The octets, borrowed as a [`BytesRef`].
+    /// The octets of the text, borrowed as a [`BytesRef`].
     pub fn as_bytes_ref(&self) -> BytesRef<'_>
         ensures { result.bytes.now ≡ string_bytes self.now.inner }
     {

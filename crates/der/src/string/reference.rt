@@ -22,11 +22,11 @@ pub struct StringRef<'a> {
 }
 
 impl<'a> StringRef<'a> {
-    /// Wraps this text.
+    /// Wraps `text`.
     ///
     /// # Errors
     ///
-    /// - `Overflow` without a position, if it has more than 4294967295 octets.
+    /// - `Overflow` without a position, if `text` has more than 4294967295 octets.
     pub const fn new(text: &'a str) -> Result<Self, Error>
         ensures exact { map_ok (λ t. t.text.now) result ≡ checked_octets text.now }
     {
@@ -36,12 +36,12 @@ impl<'a> StringRef<'a> {
         }
     }
 
-    /// The octets as a text.
+    /// Wraps the octets in `bytes` as a text.
     ///
     /// # Errors
     ///
-    /// - `Utf8` without a position, if they are not UTF-8.
-    /// - `Overflow` without a position, if there are more than 4294967295.
+    /// - `Utf8` without a position, if `bytes` are not UTF-8.
+    /// - `Overflow` without a position, if there are more than 4294967295 octets.
     pub fn from_bytes(bytes: &'a [u8]) -> Result<Self, Error>
         ensures exact { map_ok (λ t. t.text.now) result ≡ checked_text bytes.now }
     {
@@ -56,7 +56,7 @@ impl<'a> StringRef<'a> {
         StringRef { text }
     }
 
-    /// The text.
+    /// The text, as a `str`.
     pub const fn as_str(&self) -> &'a str
         ensures { result.now ≡ self.now.text.now }
     {
@@ -70,7 +70,7 @@ impl<'a> StringRef<'a> {
         self.text.as_bytes()
     }
 
-    /// The octets, borrowed as a [`BytesRef`].
+    /// The octets of the text, borrowed as a [`BytesRef`].
     pub const fn as_bytes_ref(&self) -> BytesRef<'a>
         ensures { result.bytes.now ≡ self.now.text.now }
     {

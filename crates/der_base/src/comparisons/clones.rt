@@ -7,56 +7,56 @@ use crate::length::Length;
 use crate::tag::{Class, Tag, TagMode, TagNumber};
 use std::alloc::AllocError;
 
-/// The length itself.
+/// A clone of a [`Length`] is equal to it.
 fn length_clone(length: &Length) -> Result<Length, AllocError>
     ensures { result ≡ Ok length.now }
 {
     length.clone()
 }
 
-/// The tag itself.
+/// A clone of a [`Tag`] is equal to it.
 fn tag_clone(tag: &Tag) -> Result<Tag, AllocError>
     ensures { result ≡ Ok tag.now }
 {
     tag.clone()
 }
 
-/// The number itself.
+/// A clone of a [`TagNumber`] is equal to it.
 fn tag_number_clone(number: &TagNumber) -> Result<TagNumber, AllocError>
     ensures { result ≡ Ok number.now }
 {
     number.clone()
 }
 
-/// The class itself.
+/// A clone of a [`Class`] is equal to it.
 fn class_clone(class: &Class) -> Result<Class, AllocError>
     ensures { result ≡ Ok class.now }
 {
     class.clone()
 }
 
-/// The mode itself.
+/// A clone of a [`TagMode`] is equal to it.
 fn mode_clone(mode: &TagMode) -> Result<TagMode, AllocError>
     ensures { result ≡ Ok mode.now }
 {
     mode.clone()
 }
 
-/// The rules themselves.
+/// A clone of [`EncodingRules`] is equal to them.
 fn rules_clone(rules: &EncodingRules) -> Result<EncodingRules, AllocError>
     ensures { result ≡ Ok rules.now }
 {
     rules.clone()
 }
 
-/// The kind itself.
+/// A clone of an [`ErrorKind`] is equal to it.
 fn error_kind_clone(kind: &ErrorKind) -> Result<ErrorKind, AllocError>
     ensures { result ≡ Ok kind.now }
 {
     kind.clone()
 }
 
-/// The error itself.
+/// A clone of an [`Error`] is equal to it.
 fn error_clone(error: &Error) -> Result<Error, AllocError>
     ensures { result ≡ Ok error.now }
 {

@@ -7,7 +7,7 @@ use crate::error::{Error, ErrorKind};
 use crate::length::Length;
 use crate::tag::{Class, Tag, TagMode, TagNumber};
 
-/// Equal lengths have the same number and the same flag.
+/// Equal lengths have the same number of octets, and are both definite or both indefinite.
 fn length_equality(a: Length, b: Length) -> bool
     ensures parts { IsTrue result
         ↔ ((number a ≡ number b) × (is_indefinite a ≡ is_indefinite b)) }
@@ -51,7 +51,7 @@ fn rules_equality(a: EncodingRules, b: EncodingRules) -> bool
     a == b
 }
 
-/// Equal kinds are the same kind, with the same lengths, tags, octet or error of std.
+/// Equal kinds are the same variant, with the same lengths, tags, octet or error of std.
 fn error_kind_equality(a: ErrorKind, b: ErrorKind) -> bool
     ensures { IsTrue result ↔ (a ≡ b) }
 {

@@ -8,7 +8,7 @@ use crate::length::Length;
 use crate::tag::{Tag, TagNumber};
 use std::hash::{Hash, Hasher};
 
-/// The number of octets, then the flag.
+/// A [`Length`] is hashed as its number of octets, followed by the flag for the indefinite form.
 fn length_hash<H: Hasher>(length: Length, state: &mut H)
     ensures { state.new
         ≡ fold H.write state.old (fed.u32 (number length) ++ fed.bool (is_indefinite length)) }
@@ -16,7 +16,8 @@ fn length_hash<H: Hasher>(length: Length, state: &mut H)
     length.hash(state);
 }
 
-/// Equal lengths hash equally: both number and flag are compared and hashed.
+/// Equal lengths hash equally: both the number of octets and the flag for the indefinite form are
+/// compared and hashed.
 fn equal_lengths_hash_equally<H: Hasher>(a: Length, b: Length, state: &mut H, other: &mut H) -> bool
     ensures { IsTrue result → state.old ≡ other.old → state.new ≡ other.new }
 {
@@ -25,14 +26,15 @@ fn equal_lengths_hash_equally<H: Hasher>(a: Length, b: Length, state: &mut H, ot
     a == b
 }
 
-/// The number.
+/// A [`TagNumber`] is hashed as its number.
 fn tag_number_hash<H: Hasher>(number: TagNumber, state: &mut H)
     ensures { state.new ≡ fold H.write state.old (fed.u32 number.0) }
 {
     number.hash(state);
 }
 
-/// The index of the variant, then its constructed bit and its number, if it has them.
+/// A [`Tag`] is hashed as the index of its variant, followed by its constructed bit and its number
+/// if the variant has them.
 fn tag_hash<H: Hasher>(tag: Tag, state: &mut H)
     ensures { state.new ≡ fold H.write state.old (tag_writes tag) }
 {

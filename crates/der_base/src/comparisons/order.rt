@@ -9,7 +9,8 @@ use crate::length::Length;
 use crate::tag::{Class, Tag, TagMode, TagNumber};
 use std::cmp::Ordering;
 
-/// Compares the numbers of octets, then the flags, the definite length first.
+/// Compares the numbers of octets. If they are equal, a definite length is less than an indefinite
+/// one.
 fn length_ordering(a: Length, b: Length) -> Ordering
     ensures { result ≡ length_order a b }
 {

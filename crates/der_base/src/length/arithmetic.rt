@@ -8,14 +8,14 @@ use crate::length::Length;
 use std::ops::{Add, Sub};
 
 impl Length {
-    /// The sum as a definite length, at most 4294967295.
+    /// The sum as a definite length; 4294967295 if the sum exceeds it.
     pub const fn saturating_add(self, rhs: Self) -> Self
         ensures { result ≡ definite_length (saturated_number (number self + number rhs)) }
     {
         Length::new(self.inner.saturating_add(rhs.inner))
     }
 
-    /// The difference as a definite length, at least zero.
+    /// The difference as a definite length; zero if `rhs` is greater.
     pub const fn saturating_sub(self, rhs: Self) -> Self
         ensures { result ≡ definite_length (number self - number rhs) }
     {
@@ -119,7 +119,7 @@ impl Sub for Length {
     }
 }
 
-/// The sum, as for two lengths.
+/// Adds a length to the length in a result. The sum is a definite length.
 ///
 /// # Errors
 ///
@@ -135,7 +135,7 @@ impl Add<Length> for Result<Length> {
     }
 }
 
-/// The difference, as for two lengths.
+/// Subtracts a length from the length in a result. The difference is a definite length.
 ///
 /// # Errors
 ///

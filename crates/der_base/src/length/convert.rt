@@ -6,7 +6,7 @@ ghost use Rattle.der_base.specs.Arithmetic.{checked_length};
 use crate::error::{Error, Result};
 use crate::length::Length;
 
-/// A definite length of this number of octets.
+/// Converts a number of octets to a definite length.
 impl From<u8> for Length {
     ghost from_gives = { λ n l. l ≡ definite_length n };
 
@@ -15,7 +15,7 @@ impl From<u8> for Length {
     }
 }
 
-/// A definite length of this number of octets.
+/// Converts a number of octets to a definite length.
 impl From<u16> for Length {
     ghost from_gives = { λ n l. l ≡ definite_length n };
 
@@ -24,7 +24,7 @@ impl From<u16> for Length {
     }
 }
 
-/// A definite length of this number of octets.
+/// Converts a number of octets to a definite length.
 impl From<u32> for Length {
     ghost from_gives = { λ n l. l ≡ definite_length n };
 
@@ -33,7 +33,7 @@ impl From<u32> for Length {
     }
 }
 
-/// The number of octets, whatever the flag.
+/// Converts a length, definite or indefinite, to its number of octets.
 impl From<Length> for u32 {
     ghost from_gives = { λ l n. n ≡ number l };
 
@@ -42,7 +42,7 @@ impl From<Length> for u32 {
     }
 }
 
-/// A definite length of this number of octets.
+/// Converts a number of octets to a definite length.
 ///
 /// # Errors
 ///
@@ -57,7 +57,7 @@ impl TryFrom<usize> for Length {
     }
 }
 
-/// The number of octets, whatever the flag.
+/// Converts a length, definite or indefinite, to its number of octets.
 ///
 /// # Errors
 ///

@@ -8,9 +8,9 @@ use crate::length::Length;
 use crate::tag::Tag;
 
 impl Length {
-    /// The number of octets of an element with this tag whose contents have this length: its
-    /// identifier octets (X.690 8.1.2), its length octets (8.1.3) and its contents. The result is a
-    /// definite length.
+    /// The number of octets of a whole element with the tag `tag` and contents of the length
+    /// `self`. It counts the identifier octets (X.690 8.1.2), the length octets (8.1.3) and the
+    /// contents. The result is a definite length.
     ///
     /// # Errors
     ///
@@ -21,8 +21,9 @@ impl Length {
         Length::new(tag.octet_count() + self.octet_count()) + self
     }
 
-    /// The number of octets of the encoded length (X.690 8.1.3, 10.1), 1 to 5: one for numbers up
-    /// to 127, otherwise one plus the number of base-256 digits. The flag is ignored.
+    /// The number of octets that encode the length (X.690 8.1.3, 10.1), 1 to 5: one for lengths up
+    /// to 127, otherwise one plus the number of base-256 digits. An indefinite length counts as a
+    /// definite one.
     pub const fn octet_count(self) -> u32
         ensures octets { result ≡ length (length_octets (number self)) }
         ensures some { 1 ≤ result }

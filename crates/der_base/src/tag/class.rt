@@ -31,7 +31,7 @@ pub enum Class {
 impl Class {
     ghost use Rattle.der_base.specs.Class.{class_number};
 
-    /// The class as the two highest bits of an octet; its other bits are 0.
+    /// An octet whose two highest bits are the class and whose other bits are 0.
     pub const fn bits(&self) -> u8
         ensures { result ≡ 64 * class_number self.now }
     {
@@ -43,7 +43,7 @@ impl Class {
         }
     }
 
-    /// The class in the two highest bits of an octet, whatever its other bits.
+    /// The class in the two highest bits of `bits`. The other bits are ignored.
     pub const fn from_bits(bits: u8) -> Self
         ensures { class_number result ≡ bits / 64 }
     {
@@ -56,7 +56,7 @@ impl Class {
     }
 }
 
-/// The class in the two highest bits of the octet.
+/// Converts an octet to the class in its two highest bits. The other bits are ignored.
 impl From<u8> for Class {
     ghost use Rattle.der_base.specs.Class.{class_number};
 
@@ -67,7 +67,7 @@ impl From<u8> for Class {
     }
 }
 
-/// The name of the class in the standard, in capitals.
+/// Prints the name that the standard gives the class, in capitals.
 impl fmt::Display for Class {
     ghost use Rattle.der_base.specs.Text.{class_text};
 

@@ -5,13 +5,13 @@ use crate::error::{Error, ErrorKind, Result};
 use std::fmt;
 use std::str::FromStr;
 
-/// Whether a tag encloses the tag of a value or replaces it (X.690 8.14).
+/// Whether an additional tag encloses the tag of a value or replaces it (X.690 8.14).
 #[derive(Clone, Copy, Debug, Default, PartialEq, Eq, PartialOrd, Ord)]
 pub enum TagMode {
-    /// The tag of the value is kept inside.
+    /// The additional tag encloses the tag of the value.
     #[default]
     Explicit,
-    /// The tag of the value is omitted.
+    /// The additional tag replaces the tag of the value.
     Implicit,
 }
 
@@ -36,7 +36,7 @@ impl FromStr for TagMode {
     }
 }
 
-/// The ASN.1 keyword, in capitals.
+/// Prints the ASN.1 keyword, in capitals.
 impl fmt::Display for TagMode {
     ghost use Rattle.der_base.specs.Text.{mode_text};
 

@@ -12,14 +12,14 @@ pub struct TagNumber(pub u32);
 impl TagNumber {
     ghost use Rattle.der_base.specs.declared.tag.Tag.{Tag};
 
-    /// A tag number.
+    /// The tag number with the value `value`.
     pub const fn new(value: u32) -> Self
         ensures { result.0 ≡ value }
     {
         TagNumber(value)
     }
 
-    /// The number.
+    /// The tag number as a `u32`.
     pub const fn value(self) -> u32
         ensures { result ≡ self.0 }
     {
@@ -57,7 +57,7 @@ impl TagNumber {
     }
 }
 
-/// The tag number with this value.
+/// Converts a `u32` to the tag number with that value.
 impl From<u32> for TagNumber {
     ghost from_gives = { λ n t. t.0 ≡ n };
 
@@ -66,7 +66,7 @@ impl From<u32> for TagNumber {
     }
 }
 
-/// The value of a tag number.
+/// Converts a tag number to its value.
 impl From<TagNumber> for u32 {
     ghost from_gives = { λ t n. n ≡ t.0 };
 
@@ -75,7 +75,7 @@ impl From<TagNumber> for u32 {
     }
 }
 
-/// The number in decimal.
+/// Prints the tag number in decimal.
 impl fmt::Display for TagNumber {
     ghost use Rattle.std.specs.Fmt.{decimal};
 

@@ -4,7 +4,8 @@ ghost use Rattle.std.specs.Prelude.{◌≤◌};
 // how many levels of nested parts are entered
 pub(crate) const LEVELS: usize = 32;
 
-/// For each part around the reader, where it ends, and where the reader continues in it.
+/// The parts around the reader. It holds, for each part, its end and the position at which the
+/// reader continues in it.
 #[derive(Drop)]
 pub(crate) struct Around {
     pub(crate) ends: [u32; 32],

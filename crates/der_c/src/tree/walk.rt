@@ -38,7 +38,7 @@ fn leave(reader: &mut DerReader<'_>, around: &mut Around)
     reader.end = around.ends[level];
 }
 
-/// Enters an element that was read, if it is constructed and less than 32 levels deep.
+/// Enters `element`, which was read, if it is constructed and less than 32 levels deep.
 #[inline(always)]
 pub(crate) fn look_into(reader: &mut DerReader<'_>, around: &mut Around, element: &DerElement<'_>)
     requires parts { AreAround around.old (reader_state reader.old) }

@@ -13,8 +13,7 @@ use crate::writer::short::write_short;
 use der_base::{Error, ErrorKind, Length};
 use der_core::{Encode, Header, Writer};
 
-/// Makes `writer` a writer into these octets, from their start. It writes at most 4294967295
-/// octets.
+/// Makes `writer` a writer into `octets`, from their start. It writes at most 4294967295 octets.
 #[unsafe(no_mangle)]
 pub extern "C" fn der_writer_init<'a>(octets: &'a mut [u8], writer: &mut DerWriter<'a>)
     ensures { writer_state writer.new ≡ fresh_state octets.old octets.entry.ghost_name }
@@ -26,7 +25,7 @@ pub extern "C" fn der_writer_init<'a>(octets: &'a mut [u8], writer: &mut DerWrit
     };
 }
 
-/// How many octets are written.
+/// How many octets have been written.
 #[unsafe(no_mangle)]
 pub extern "C" fn der_written(writer: &DerWriter<'_>) -> usize
     ensures { result ≡ length (writer_state writer.now).octets }
@@ -36,7 +35,7 @@ pub extern "C" fn der_written(writer: &DerWriter<'_>) -> usize
 
 /// Succeeds if the writer has not failed.
 ///
-/// Fails with `Failed`, at the position.
+/// Fails with `Failed` at the position of the writer, if it has failed.
 #[unsafe(no_mangle)]
 pub extern "C" fn der_writer_finish(writer: &DerWriter<'_>) -> DerError
     ensures { result ≡ answer_code (finished_answer (writer_state writer.now)) }
@@ -47,7 +46,7 @@ pub extern "C" fn der_writer_finish(writer: &DerWriter<'_>) -> DerError
     DerError::NONE
 }
 
-/// Writes octets unchanged.
+/// Writes `octets` unchanged.
 ///
 /// Fails with `Failed`, `Overflow` and `Overlength`, like `Writer::write`; nothing is written then,
 /// and the writer has failed.
@@ -58,9 +57,9 @@ pub extern "C" fn der_write(writer: &mut DerWriter<'_>, octets: &[u8]) -> DerErr
     code(writer.write(octets))
 }
 
-/// Writes the header of an element with this tag and `length` octets of contents.
+/// Writes the header of an element with the tag `tag` and `length` octets of contents.
 ///
-/// Fails with `TagNumberInvalid` without a position if the word is not that of a tag, and like
+/// Fails with `TagNumberInvalid` without a position if `tag` is not the word of a tag, and like
 /// [`der_write`]; octets of the header that were already written remain, and the writer has failed.
 #[unsafe(no_mangle)]
 pub extern "C" fn der_write_header(writer: &mut DerWriter<'_>, tag: u64, length: u32) -> DerError
@@ -122,11 +121,12 @@ fn element_slowly(writer: &mut DerWriter<'_>, tag: u64, contents: &[u8]) -> DerE
     }
 }
 
-/// Sets `count` to the number of octets of an element with this tag and `length` octets of
-/// contents.
+/// Sets `count` to the number of octets of a whole element, header and contents. The element has
+/// this tag and `length` octets of contents.
 ///
-/// Fails with `TagNumberInvalid` without a position if the word is not that of a tag, and with
-/// `Overflow` without a position if there are more than 4294967295; `count` is unchanged then.
+/// Fails with `TagNumberInvalid` without a position if the word `tag` is not that of a tag, and
+/// with `Overflow` without a position if the element has more than 4294967295 octets; `count` is
+/// unchanged then.
 #[unsafe(no_mangle)]
 pub extern "C" fn der_element_length(tag: u64, length: u32, count: &mut u32) -> DerError
     ensures { Measures tag length result count.old count.new }

@@ -12,10 +12,12 @@ use der_base::{ErrorKind, Length};
 use der_core::{Encode, Header};
 
 /// Begins an element with this tag: writes its header, with one octet for the length, and sets
-/// `start` to where its contents begin. All that is written then belongs to the contents, until
-/// [`der_end`].
+/// `start` to the position at which its contents begin. All octets that are then written until
+/// [`der_end`] are its contents.
 ///
-/// Fails like [`der_write_header`](crate::der_write_header); `start` is unchanged then.
+/// Fails with `TagNumberInvalid`, `Failed`, `Overflow` and `Overlength`, like
+/// [`der_write_header`](crate::der_write_header); `start` is unchanged then, and the writer has
+/// failed.
 #[unsafe(no_mangle)]
 pub extern "C" fn der_begin(writer: &mut DerWriter<'_>, tag: u64, start: &mut usize) -> DerError
     ensures { BeginsElement tag (writer_state writer.old) result start.old start.new
@@ -48,13 +50,13 @@ fn begin_slowly(writer: &mut DerWriter<'_>, tag: u64, start: &mut usize) -> DerE
 }
 
 /// Ends the element whose contents begin at `start`, as set by [`der_begin`]. The length of the
-/// contents replaces the octet before them; contents of 128 octets or more are moved to make space
-/// for it.
+/// contents replaces the octet before them. Contents of 128 octets or more need more octets for
+/// their length, and are moved to make space for these.
 ///
-/// Fails with `Failed` at the position if the writer had failed, with `Overlength` without a
-/// position if nothing is written before `start` or `start` is after what is written, and with
-/// `Overlength` and `Overflow` if there is no space for a longer length; nothing is moved then, and
-/// the writer has failed.
+/// Fails with `Failed` at the position if the writer had already failed. Fails with `Overlength`
+/// without a position if nothing is written before `start`, or if `start` is after what is written.
+/// Fails with `Overlength` and `Overflow` if there is no space for the longer length. Nothing is
+/// moved then, and the writer has failed.
 #[unsafe(no_mangle)]
 pub extern "C" fn der_end(writer: &mut DerWriter<'_>, start: usize) -> DerError
     ensures { EndsElement start (writer_state writer.old) result (writer_state writer.new) }

@@ -7,8 +7,8 @@ use crate::short::is_identifier;
 use crate::writer::DerWriter;
 use der_core::Writer;
 
-/// Writes the header of an element with this tag and `length` octets of contents. Returns false and
-/// writes nothing if the header does not have two octets or there is no space for them.
+/// Writes the header of an element with this tag and `length` octets of contents, if the header has
+/// two octets and the writer has space for them. Otherwise writes nothing and returns false.
 #[inline(always)]
 pub(crate) fn write_short(writer: &mut DerWriter<'_>, tag: u64, length: usize) -> bool
     ensures written { result ≡ true → WritesShort tag length (writer_state writer.old)

@@ -20,7 +20,7 @@ impl<T: ReadValue> ReadValue for Box<T> {
     ghost takes_valid = { λ v rules h octets taken. T.takes_valid v.value rules h octets taken };
 }
 
-/// Decodes the value first and then allocates.
+/// Decodes the value that the box will hold, and then allocates the box.
 ///
 /// # Errors
 ///

@@ -11,8 +11,8 @@ use crate::header::Header;
 use crate::reader::Reader;
 use std::alloc::Global;
 
-/// A pair is decoded as its first member followed by its second; three fields are one member and a
-/// pair.
+/// Decodes the first member of the pair, and then the second. Three fields are decoded as a pair of
+/// one field and another pair.
 ///
 /// # Errors
 ///
@@ -36,10 +36,10 @@ impl<R: Reader, A: Decode<R>, B: Decode<R, Error = <A as Decode<R>>::Error>> Dec
     }
 }
 
-/// Decodes a value from all of the contents that the reader is inside; a pair is decoded as its
-/// members in sequence. It is [`Decode::decode`] with the contract that
-/// [`DecodeValue::decode_value`](crate::DecodeValue::decode_value) requires: contents are accepted
-/// if they are entirely one value, whatever the header.
+/// Decodes a value from the contents that the reader is inside, by [`Decode::decode`]. The contents
+/// are accepted if they are entirely one value, whatever the header. A pair is decoded as its
+/// members in sequence. The contract is the one that
+/// [`DecodeValue::decode_value`](crate::DecodeValue::decode_value) requires.
 ///
 /// # Errors
 ///

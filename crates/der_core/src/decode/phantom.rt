@@ -7,7 +7,7 @@ use der_base::Error;
 use std::alloc::Global;
 use std::marker::PhantomData;
 
-/// Decoded from zero octets, and without a tag. Never fails.
+/// Decodes a `PhantomData` from zero octets, without a tag. Never fails.
 impl<R: Reader, T> Decode<R> for PhantomData<T> {
     type Error = Error;
 

@@ -20,10 +20,10 @@ use std::alloc::Global;
 ///
 /// Ghost members:
 ///
-/// - `valid` says which models are values of the type.
-/// - `takes` says as which value the contents after a header are read, under either rules; the
-///   header's length is that of the contents alone.
-/// - `value_levels` is the number of nesting levels that the contents require under each of the
+/// - `valid` says which models (the values of the type in proofs) are valid values.
+/// - `takes` says which contents are read as which value under given encoding rules, after which
+///   header. The length in the header is that of the contents alone.
+/// - `value_levels` is the number of nesting levels that the contents require under given encoding
 ///   rules.
 /// - `allocates` says whether reading allocates.
 /// - `takes_valid` is the law that only valid values are read.
@@ -41,8 +41,8 @@ pub trait ReadValue: Sized {
         → takes v rules h octets → valid v };
 }
 
-/// Types whose values are decoded from the contents after a header. Such a type that also has a
-/// fixed tag is decoded by [`Decode`]: its header, then its contents.
+/// Types whose values are decoded from the contents after a header. A type that also implements
+/// [`FixedTag`] is decoded by [`Decode`]: its header, then its contents.
 ///
 /// Ghost member: `decode_value_answers` is the exact outcome on a reliable reader, including each
 /// error and the state in which it leaves the reader. Its arguments are the header, the reader
@@ -54,17 +54,17 @@ pub trait DecodeValue<R: Reader>: ReadValue + Drop {
     ghost decode_value_answers: { Head → ReaderState → AResult Self Self.Error → ReaderState
         → Type 0 };
 
-    /// Decodes a value from contents: the reader is inside them, and the header has their length.
-    /// An `Ok` that leaves some of the contents unread, or leaves the reader failed, does not count
-    /// as a value.
+    /// Decodes a value from the contents that the reader is inside; `header` has their length. An
+    /// `Ok` that leaves some of the contents unread, or leaves the reader failed, does not count as
+    /// a value.
     ///
-    /// A reliable reader that has not failed and is inside a nested part, with `value_levels`
-    /// levels of nesting left, returns a value if the contents are accepted as one, or an error
-    /// that reports a failed allocation.
+    /// If the reader is reliable, has not failed, is inside a nested part and has `value_levels`
+    /// levels of nesting left, and the contents are accepted as a value, the result is a value or
+    /// an error that reports a failed allocation.
     ///
     /// # Errors
     ///
-    /// - One that reports a failed allocation, if the type allocates.
+    /// - An error that reports a failed allocation, if the type allocates.
     /// - Those of the type: `decode_value_answers` specifies them, their positions, and whether the
     ///   reader is then failed.
     fn decode_value(alloc: Global, reader: &mut R, header: Header) -> Result<Self, Self::Error>
@@ -78,14 +78,14 @@ pub trait DecodeValue<R: Reader>: ReadValue + Drop {
         ensures exact { R.reliable ≡ true → decode_value_answers (head_of header)
             (R.state reader.old) result (R.state reader.new) };
 
-    /// Proves that `self` is a valid value; does nothing.
+    /// Does nothing. The contract proves that `self` is a valid value.
     fn is_value(&self)
         ensures { Self.valid self.now };
 }
 
-/// Decodes the element of a value (X.690 8.1.1): its header, which has the type's tag, then its
-/// contents, and the end-of-contents octets if their length is indefinite. It is the
-/// [`Decode::decode`] of every type that implements [`DecodeValue`] and [`FixedTag`].
+/// Decodes the whole element of a value (X.690 8.1.1): a header with the type's tag, the contents,
+/// and the end-of-contents octets if the length is indefinite. This is [`Decode::decode`] of every
+/// type that implements [`DecodeValue`] and [`FixedTag`].
 ///
 /// # Errors
 ///

@@ -9,7 +9,7 @@ impl<T: WrittenValue> WrittenValue for Box<T> {
     ghost writable = { λ v. T.writable v.value };
 }
 
-/// The value's contents.
+/// Writes the contents of the value that the box holds.
 ///
 /// # Errors
 ///

@@ -7,7 +7,7 @@ use crate::writer::Writer;
 use der_base::{Error, Length};
 use std::marker::PhantomData;
 
-/// Written as zero octets. Never fails.
+/// Writes a `PhantomData` as zero octets. Never fails.
 impl<T> Encode for PhantomData<T> {
     ghost encoding = { λ _. [] };
 

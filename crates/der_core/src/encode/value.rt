@@ -11,20 +11,20 @@ use crate::tag::fixed::Tagged;
 use crate::writer::{SliceWriter, Writer};
 use der_base::{Error, Length};
 
-/// The meaning of a value when it is written.
+/// The meaning of a value when it is written. The trait has no functions.
 ///
 /// Ghost members:
 ///
 /// - `contents` is the contents octets of a value.
-/// - `writable` says whether it can be written at all.
+/// - `writable` says whether a value can be written at all.
 pub trait WrittenValue {
     ghost contents: { Self → List ℕ };
 
     ghost writable: { Self → Type 0 };
 }
 
-/// Types whose values have contents, which are written after a header. Such a type that also has a
-/// tag is encoded by [`crate::Encode`]: its header, then its contents.
+/// Types whose values have contents, which are written after a header. A type that also implements
+/// [`Tagged`] is encoded by [`crate::Encode`]: its header, then its contents.
 ///
 /// Ghost members:
 ///
@@ -40,7 +40,8 @@ pub trait WrittenValue {
 /// ghost use Rattle.der_base.specs.declared.tag.Tag.TheVariants.{OctetString};
 /// ghost use Rattle.der_core.specs.Writer.{Writes, write_outcome};
 ///
-/// use der_core::{Encode, EncodeValue, Error, FixedTag, Length, Tag, Writer, WrittenValue};
+/// use der_base::{Error, Length, Tag};
+/// use der_core::{Encode, EncodeValue, FixedTag, Writer, WrittenValue};
 ///
 /// pub struct Month {
 ///     pub number: u8,
@@ -107,7 +108,7 @@ pub trait EncodeValue: WrittenValue {
         Ok(Header::new(self.tag(), len))
     }
 
-    /// The number of contents octets.
+    /// The number of the value's contents octets.
     ///
     /// # Errors
     ///
@@ -117,7 +118,7 @@ pub trait EncodeValue: WrittenValue {
         ensures succeeds { Self.writable self.now → HasSize (Self.contents self.now) result }
         ensures exact { result ≡ value_size self.now };
 
-    /// Writes the contents.
+    /// Writes the value's contents octets.
     ///
     /// # Errors
     ///
@@ -136,7 +137,8 @@ pub trait EncodeValue: WrittenValue {
             → encode_value_answers self.now (W.state writer.old) result (W.state writer.new) };
 }
 
-/// Writes the contents to the start of the buffer and returns them. Allocates nothing.
+/// Writes the value's contents octets to the start of the buffer, and returns them. Allocates
+/// nothing.
 ///
 /// # Errors
 ///

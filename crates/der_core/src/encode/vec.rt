@@ -10,12 +10,17 @@ use crate::writer::SliceWriter;
 use der_base::{Error, ErrorKind, Length};
 use std::alloc::Allocator;
 
-/// The encoding, in memory of this allocator; otherwise the same as [`Encode::to_der`].
+/// Returns the value's encoding in a new vector, whose memory is that of the allocator `alloc`.
+/// [`Encode::to_der`] is this function with the global allocator.
 ///
 /// # Errors
 ///
-/// Those of [`Encode::encoded_len`], `OutOfMemory` without a position, and those of
-/// [`Encode::encode`], as by [`Encode::to_der`].
+/// If several apply, the first is returned.
+///
+/// - Those of [`Encode::encoded_len`], including `Overflow` without a position for more than
+///   4294967295 octets.
+/// - `OutOfMemory` without a position, if an allocation fails.
+/// - Those of [`Encode::encode`].
 #[inline(always)]
 pub fn to_der_in<T: Encode, A: Allocator>(alloc: A, value: &T) -> Result<Vec<u8, A>, Error>
     ensures ok { IfOk result (λ v. v.items ≡ T.encoding value.now) }
@@ -28,13 +33,18 @@ pub fn to_der_in<T: Encode, A: Allocator>(alloc: A, value: &T) -> Result<Vec<u8,
     Ok(out)
 }
 
-/// Appends the encoding to a vector of any allocator; otherwise the same as
-/// [`Encode::encode_to_vec`].
+/// Appends the value's encoding to a vector of any allocator, and returns the number of its octets.
+/// [`Encode::encode_to_vec`] is this function for the global allocator.
 ///
 /// # Errors
 ///
-/// Those of [`Encode::encoded_len`], `Overflow` and `OutOfMemory` without a position, and those of
-/// [`Encode::encode`], as by [`Encode::encode_to_vec`]; the vector has its previous contents.
+/// After each, the vector has its previous contents. If several apply, the first is returned.
+///
+/// - Those of [`Encode::encoded_len`], including `Overflow` without a position for more than
+///   4294967295 octets.
+/// - `Overflow` without a position, if the length of the vector would exceed the greatest `usize`.
+/// - `OutOfMemory` without a position, if an allocation fails.
+/// - Those of [`Encode::encode`], with positions counted from the start of the encoding.
 #[inline(always)]
 pub fn encode_to_vec_in<T: Encode, A: Allocator>(
     value: &T,

@@ -6,12 +6,12 @@ use crate::tag::fixed::Tagged;
 use crate::writer::Writer;
 use der_base::{Error, Length, Tag};
 
-/// A reference to a value, with the value's contents and tag.
+/// A reference to a value, encoded with the contents and the tag of that value.
 #[derive(Debug, Drop)]
 pub struct EncodeValueRef<'a, T>(pub &'a T);
 
 impl<'a, T> EncodeValueRef<'a, T> {
-    /// The value.
+    /// The value that the reference refers to.
     pub fn as_ref(&self) -> &T
         ensures { result.now ≡ self.now.0.now }
     {
@@ -25,11 +25,11 @@ impl<'a, T: WrittenValue> WrittenValue for EncodeValueRef<'a, T> {
     ghost writable = { λ v. T.writable v.0.now };
 }
 
-/// The value's contents.
+/// Writes the contents of the value that the reference refers to.
 ///
 /// # Errors
 ///
-/// Those of the value, with the same positions and states.
+/// Those of that value, with the same positions and states.
 impl<'a, T: EncodeValue> EncodeValue for EncodeValueRef<'a, T> {
     ghost value_size = { λ v. T.value_size v.0.now };
 

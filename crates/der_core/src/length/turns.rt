@@ -2,8 +2,8 @@
 use std::marker::Model;
 use std::sync::ledger::{Blank, Book, Ledger, Share};
 
-/// The number of turns that scans have made: a counter that exists only in contracts, so it needs
-/// no memory. Only a scan increments it.
+/// The number of turns that scans have made. A turn reads one identifier or one end-of-contents.
+/// The counter exists only in contracts, so it needs no memory. Only a scan increments it.
 #[derive(Drop)]
 pub struct Turns<L: Ledger> {
     book: Book<L>,

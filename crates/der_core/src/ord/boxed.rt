@@ -4,9 +4,11 @@ use crate::tag::fixed::FixedTag;
 use der_base::Error;
 use std::cmp::Ordering;
 
+/// Compares the contents of the values that the boxes hold.
+///
 /// # Errors
 ///
-/// Those of the value.
+/// Those of the values' [`ValueOrd::value_cmp`].
 impl<T: ValueOrd> ValueOrd for Box<T> {
     ghost value_order = { λ v w. T.value_order v.value w.value };
 

@@ -10,9 +10,9 @@ use der_base::Error;
 pub use owned::iter_cmp_owned;
 use std::cmp::Ordering;
 
-/// Compares the values that two iterators refer to, pair by pair: the first pair that is unequal or
-/// returns an error decides, otherwise the iterator that ends first is the smaller. Only the
-/// iterators may allocate.
+/// Compares the values that two iterators refer to, pair by pair. The first pair that is unequal or
+/// returns an error decides. If there is none, the iterator that ends first is the smaller. Only
+/// the iterators may allocate.
 ///
 /// # Errors
 ///

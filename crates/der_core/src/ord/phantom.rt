@@ -7,7 +7,7 @@ use der_base::Error;
 use std::cmp::Ordering;
 use std::marker::PhantomData;
 
-/// Always equal. Never fails.
+/// All values of `PhantomData` are equal. Never fails.
 impl<T> ValueOrd for PhantomData<T> {
     ghost value_order = { λ _ _. Ok Equal };
 
@@ -16,8 +16,8 @@ impl<T> ValueOrd for PhantomData<T> {
     }
 }
 
-/// Always equal. Never fails. The encoding is empty, so the encodings of several values cannot be
-/// separated after they are joined.
+/// All values of `PhantomData` are equal. Never fails. Their encoding is empty, so the encodings of
+/// several values cannot be separated after they are joined.
 impl<T> DerOrd for PhantomData<T> {
     ghost order = { λ _ _. Ok Equal };
 

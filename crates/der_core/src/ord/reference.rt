@@ -4,9 +4,11 @@ use crate::ord::{Orderly, ValueOrd};
 use der_base::Error;
 use std::cmp::Ordering;
 
+/// Compares the contents of the values that the references refer to.
+///
 /// # Errors
 ///
-/// Those of the value.
+/// Those of the values' [`ValueOrd::value_cmp`].
 impl<'a, T: ValueOrd> ValueOrd for EncodeValueRef<'a, T> {
     ghost value_order = { λ v w. T.value_order v.0.now w.0.now };
 

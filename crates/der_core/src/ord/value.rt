@@ -8,7 +8,7 @@ use crate::tag::fixed::Tagged;
 use der_base::Error;
 use std::cmp::Ordering;
 
-/// Types whose contents are compared.
+/// Types whose values are compared by their contents.
 ///
 /// Ghost member: `value_order` is the exact result of [`ValueOrd::value_cmp`], errors included.
 pub trait ValueOrd {
@@ -23,20 +23,24 @@ pub trait ValueOrd {
         ensures { result ≡ value_order self.now other.now };
 }
 
-/// Types whose [`ValueOrd::value_cmp`] is the byte order of the contents if the tags are equal and
-/// the contents have equal lengths. For two values of such a type
-/// [`DerOrd::der_cmp`](crate::DerOrd::der_cmp) returns the byte order of their encodings, whenever
-/// it returns a result.
+/// Types whose [`ValueOrd::value_cmp`] returns the byte order of the contents of two values with
+/// equal tags and with contents of equal length. So [`DerOrd::der_cmp`](crate::DerOrd::der_cmp) of
+/// two values returns the byte order of their encodings, whenever it returns a result.
+///
+/// Ghost member: `orderly` is the law of [`ValueOrd::value_cmp`].
 pub trait Orderly: EncodeValue + Tagged + ValueOrd {
     ghost orderly: { IsOrderly Self.tag_of Self.contents Self.value_order };
 }
 
-/// Types whose `Ord` is the byte order of the contents if these have equal lengths.
+/// Types whose `Ord` is the byte order of the contents of two values, if these have equal lengths.
+/// They are compared by [`ValueOrd`] in the same order.
+///
+/// Ghost member: `orders_contents` is the law of `Ord`.
 pub trait OrdIsValueOrd: Ord + EncodeValue {
     ghost orders_contents: { OrdersContents Self.contents Self.cmp };
 }
 
-/// Compares the contents as the values are compared. Never fails.
+/// Compares two values by their `Ord`. Never fails.
 impl<T: OrdIsValueOrd> ValueOrd for T {
     ghost value_order = { λ v w. Ok (T.cmp v w) };
 

@@ -29,7 +29,7 @@ use der_base::{Error, ErrorKind, Length, Tag};
 use std::alloc::Global;
 use std::sync::ledger::Ledger;
 
-/// Functions that every reader has, implemented by those of [`Reader`] alone.
+/// Functions that every reader has. They only use the functions of [`Reader`].
 pub trait ReaderExt: Reader {
     /// Reads the next octet.
     ///
@@ -51,7 +51,7 @@ pub trait ReaderExt: Reader {
         Ok(octet[0])
     }
 
-    /// The number of octets read, the same as [`Reader::position`].
+    /// The number of octets read since the start of the input. It is [`Reader::position`].
     final fn offset(&self) -> Length
         ensures { result ≡ definite_length (Self.state self.now).position }
     {
@@ -73,12 +73,12 @@ pub trait ReaderExt: Reader {
         self.remaining_len().is_zero()
     }
 
-    /// Leaves a nested part with the result of reading it. Octets left unread in the part are an
-    /// error.
+    /// Leaves a nested part and returns `answer`, the result of reading the part. If `answer` is
+    /// `Ok`, octets left unread in the part are an error.
     ///
-    /// The caller must ensure that the outer end is neither before the position nor after the end
-    /// of the input, and that the outer depth is at most 64. What [`Reader::enter_nested`] returned
-    /// satisfies this.
+    /// The caller must ensure that the end in `outer` is neither before the position nor after the
+    /// end of the input, and that the depth in it is at most 64. What [`Reader::enter_nested`]
+    /// returned satisfies this.
     ///
     /// # Errors
     ///
@@ -119,14 +119,16 @@ pub trait ReaderExt: Reader {
         Ok(value)
     }
 
-    /// Reads a nested part of `len` octets by `f`, which gets this reader with the end of the part
-    /// as its end and with the depth increased by one. Octets of the part that `f` leaves unread
-    /// are an error.
+    /// Reads a nested part of the next `len` octets by `f`. While `f` runs, the end of this reader
+    /// is the end of the part, and its depth is one greater. Octets of the part that `f` leaves
+    /// unread are an error.
     ///
-    /// The caller must ensure that `f` may be called with this reader inside the part, provided
-    /// that the part does not exceed the end and is nested in fewer than 64 others; and that `f`
-    /// leaves the same reader: with input, rules, end and depth unchanged, at no earlier position,
-    /// and failed if it had failed before.
+    /// The caller must ensure two things:
+    ///
+    /// - `f` may be called with this reader inside the part, provided that the part does not exceed
+    ///   the end and is nested in fewer than 64 others.
+    /// - `f` leaves this reader with input, rules, end and depth unchanged, at no earlier position,
+    ///   and failed if it had failed before.
     ///
     /// # Errors
     ///
@@ -161,13 +163,12 @@ pub trait ReaderExt: Reader {
         fork.read_byte().ok()
     }
 
-    /// Fills the buffer with the next octets, as [`Reader::read_into`] does; the reader does not
-    /// move.
+    /// Fills the buffer with the next octets; the reader does not move.
     ///
     /// # Errors
     ///
-    /// The same as for [`Reader::read_into`], with the same positions; buffer and reader are
-    /// unchanged.
+    /// `Overflow`, `Failed` and `Incomplete`, as by [`Reader::read_into`] and with the same
+    /// positions; buffer and reader are unchanged.
     final fn peek_into(&self, buf: &mut [u8]) -> Result<(), Error>
         ensures exact { AnswersAs Self.reliable (read_into_outcome (length buf.old))
             (Self.state self.now) (map_ok (λ _. buf.new) result) }
@@ -177,11 +178,13 @@ pub trait ReaderExt: Reader {
         fork.read_into(buf)
     }
 
-    /// The next header, as [`decode_header`] would return it; the reader does not move.
+    /// The next header, decoded without moving the reader.
     ///
     /// # Errors
     ///
-    /// The same as for [`Header::decode`], with the same positions; the reader is unchanged.
+    /// `Failed`, `Overflow`, `Incomplete`, `TagUnknown`, `TagNumberInvalid`, `IndefiniteLength`,
+    /// `NestingDepth` and `Length`, as by [`Header::decode`] and with the same positions; the
+    /// reader is unchanged.
     final fn peek_header(&self) -> Result<Header, Error>
         ensures { Peeks HeaderNext (HeaderFault BodyFault) Self.reliable (Self.state self.now)
             result }
@@ -190,11 +193,12 @@ pub trait ReaderExt: Reader {
         decode_header(&mut fork)
     }
 
-    /// The next tag, as decoding would return it; the reader does not move.
+    /// The next tag, decoded without moving the reader.
     ///
     /// # Errors
     ///
-    /// The same as for [`Tag::decode`], with the same positions; the reader is unchanged.
+    /// `Failed`, `Overflow`, `Incomplete`, `TagUnknown` and `TagNumberInvalid`, as by
+    /// [`Tag::decode`] and with the same positions; the reader is unchanged.
     #[inline(always)]
     final fn peek_tag(&self) -> Result<Tag, Error>
         ensures { Peeks TagNext IdentifierFault Self.reliable (Self.state self.now) result }
@@ -203,18 +207,19 @@ pub trait ReaderExt: Reader {
         decode_tag(&mut fork)
     }
 
-    /// The number of octets of the next indefinite-length body, including its end-of-contents
-    /// octets (X.690 8.1.3.6), as [`decode_indefinite_length`](crate::decode_indefinite_length)
-    /// would return it; the reader does not move. `turns` counts each identifier and each
-    /// end-of-contents in the scan. If [`Reader::remaining`] returns the octets, they are scanned
-    /// by an index, and none is read.
+    /// Scans the next indefinite-length body and returns its number of octets, including its
+    /// end-of-contents octets (X.690 8.1.3.6); the reader does not move. `turns` counts each
+    /// identifier and each end-of-contents in the scan. If [`Reader::remaining`] returns the
+    /// octets, they are scanned by an index, and none is read.
     ///
     /// The caller must ensure that the reader uses the Basic Encoding Rules.
     ///
     /// # Errors
     ///
-    /// The same as for [`decode_indefinite_length`](crate::decode_indefinite_length), with the same
-    /// positions; the reader is unchanged.
+    /// `Failed`, `Overflow`, `Incomplete`, `IndefiniteLength`, `TagUnknown`, `TagNumberInvalid`,
+    /// `NestingDepth` and `Length`, as by
+    /// [`decode_indefinite_length`](crate::decode_indefinite_length) and with the same positions;
+    /// the reader is unchanged.
     final fn scan_indefinite<L: Ledger>(&self, turns: &mut Turns<L>) -> Result<Length, Error>
         requires ber { (Self.state self.now).rules ≡ Ber }
         ensures scans { ScansNext Self.reliable (Self.state self.now) result }
@@ -246,7 +251,7 @@ pub trait ReaderExt: Reader {
         self.read_slice(len)
     }
 
-    /// Decodes a value, as [`Decode::decode`] does.
+    /// Decodes a value by its type's [`Decode::decode`]. After every error the reader is failed.
     ///
     /// # Errors
     ///
@@ -285,10 +290,12 @@ pub trait ReaderExt: Reader {
     /// Reads a SEQUENCE (X.690 8.9) by `f`, which gets this reader inside the contents. Contents
     /// octets that `f` leaves unread are an error.
     ///
-    /// The caller must ensure that, whatever header of a SEQUENCE is next, `f` may be called with
-    /// this reader inside the contents, provided that they do not exceed the end and are nested in
-    /// fewer than 64 parts; and that `f` leaves the same reader: with input, rules, end and depth
-    /// unchanged, at no earlier position, and failed if it had failed before.
+    /// The caller must ensure two things, whatever header of a SEQUENCE is next:
+    ///
+    /// - `f` may be called with this reader inside the contents, provided that they do not exceed
+    ///   the end and are nested in fewer than 64 parts.
+    /// - `f` leaves this reader with input, rules, end and depth unchanged, at no earlier position,
+    ///   and failed if it had failed before.
     ///
     /// # Errors
     ///

@@ -19,7 +19,7 @@ pub struct Position {
     ghost counted: { position < 2 ^ 32 },
 }
 
-/// A clone is at the same place; cloning allocates nothing.
+/// A clone has the same position, end and depth; cloning allocates nothing.
 impl Clone for Position {
     ghost use Rattle.std.specs.Prelude.{⊤};
 
@@ -44,7 +44,7 @@ impl Position {
     ghost use Rattle.der_core.specs.Position.{position_place, place_at, Moves, advance_outcome, part_end, part_error, nested_place, split_nested_outcome};
     ghost use Rattle.der_core.specs.Resumption.{outer_place, outer_end, outer_depth};
 
-    /// The start of an input of this length.
+    /// A position at the start of an input of this length, outside all nested parts.
     pub fn new(input_len: Length) -> Self
         ensures { position_place result ≡ place_at (number input_len) 0 0 }
     {
@@ -183,7 +183,7 @@ impl Position {
         around
     }
 
-    /// Leaves a nested part: restores the end and the depth around it.
+    /// Leaves a nested part: restores the end and the depth around it, which are in `resumption`.
     pub fn resume_nested(&mut self, resumption: Resumption)
         ensures { position_place self.new ≡ place_at (outer_end resumption)
             (position_place self.old).position
@@ -211,7 +211,7 @@ pub(crate) fn missing_octets(position: usize, count: u32, end: u32) -> Error
     kind.at(Length::new(position as u32))
 }
 
-/// What leaving a nested part restores: the end and the depth around it.
+/// The end and the depth around a nested part. They are restored when the part is left.
 #[derive(Debug, Drop)]
 pub struct Resumption {
     end: u32,
@@ -222,7 +222,8 @@ impl Resumption {
     ghost use Rattle.der_base.specs.Length.{number, definite_length};
     ghost use Rattle.der_core.specs.Resumption.{outer_end, outer_depth};
 
-    /// The end and the depth around a nested part, for readers that keep these themselves.
+    /// Makes a `Resumption` from the end and the depth around a nested part, for readers that keep
+    /// end and depth themselves.
     pub fn new(input_len: Length, depth: u8) -> Self
         ensures end { outer_end result ≡ number input_len }
         ensures depth { outer_depth result ≡ depth }
@@ -233,7 +234,7 @@ impl Resumption {
         }
     }
 
-    /// The end around the nested part.
+    /// The end up to which the input may be read around the nested part.
     pub fn input_len(&self) -> Length
         ensures { result ≡ definite_length (outer_end self.now) }
     {

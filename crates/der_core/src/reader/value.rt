@@ -48,12 +48,12 @@ pub(crate) fn read_zero_octet<R: Reader>(reader: &mut R) -> Result<(), Error>
     Ok(())
 }
 
-/// Leaves the contents of an element with the result of reading them, as
-/// [`ReaderExt::close_nested`] does, and then reads the end-of-contents octets, if the length was
-/// read in the indefinite form.
+/// Leaves the contents of an element and returns `answer`, the result of reading them. If `answer`
+/// is `Ok`, contents octets left unread are an error. If `length` was read in the indefinite form,
+/// the end-of-contents octets are then read.
 ///
-/// The caller must ensure that the outer end is neither before the position nor after the end of
-/// the input, and that the outer depth is at most 64. What [`Reader::enter_nested`] returned
+/// The caller must ensure that the end in `outer` is neither before the position nor after the end
+/// of the input, and that the depth in it is at most 64. What [`Reader::enter_nested`] returned
 /// satisfies this.
 ///
 /// # Errors
@@ -86,15 +86,16 @@ pub fn close_value<R: Reader, T: Drop, E: From<Error> + Drop>(
     Ok(value)
 }
 
-/// Reads the contents after a header by `f`, which gets the reader inside them and the header with
-/// the length of the contents alone. If that length was read in the indefinite form, the
-/// end-of-contents octets are read after the contents. Contents octets that `f` leaves unread are
-/// an error.
+/// Reads the contents after a header by `f`. It gets the reader inside the contents, and the header
+/// with the length of the contents alone. Contents octets that `f` leaves unread are an error. If
+/// the length was read in the indefinite form, the end-of-contents octets are then read.
 ///
-/// The caller must ensure that `f` may be called with this reader inside the contents and with that
-/// header, provided that the contents do not exceed the end and are nested in fewer than 64 parts;
-/// and that `f` leaves the same reader: with input, rules, end and depth unchanged, at no earlier
-/// position, and failed if it had failed before.
+/// The caller must ensure two things:
+///
+/// - `f` may be called with this reader inside the contents and with that header, provided that the
+///   contents do not exceed the end and are nested in fewer than 64 parts.
+/// - `f` leaves this reader with input, rules, end and depth unchanged, at no earlier position, and
+///   failed if it had failed before.
 ///
 /// # Errors
 ///

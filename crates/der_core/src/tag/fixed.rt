@@ -11,11 +11,11 @@ use der_base::Tag;
 pub trait FixedTag {
     ghost tag_is: { ATag };
 
-    /// The tag.
+    /// The tag of every value of the type.
     const TAG: Tag;
 
-    /// The tag, as a function for generic code. It must return `Self::TAG`: no clause can name the
-    /// constant, so the implementation is responsible for this.
+    /// Returns `Self::TAG`, the tag of every value, for generic code. No clause can name the
+    /// constant, so the implementation is responsible for returning it.
     fn fixed_tag() -> Tag
         ensures { result ≡ tag_is };
 }
@@ -59,9 +59,8 @@ pub trait IsConstructed {
     /// Whether the tag has the constructed bit.
     const CONSTRUCTED: bool;
 
-    /// Whether the tag has the constructed bit, as a function for generic code. It must return
-    /// `Self::CONSTRUCTED`: no clause can name the constant, so the implementation is responsible
-    /// for this.
+    /// Returns `Self::CONSTRUCTED`, whether the tag has the constructed bit, for generic code. No
+    /// clause can name the constant, so the implementation is responsible for returning it.
     fn has_constructed_bit() -> bool
         ensures { result ≡ constructed };
 }

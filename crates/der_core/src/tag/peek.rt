@@ -12,12 +12,12 @@ use der_base::{Class, Error, Tag, TagNumber};
 
 /// Functions of the type `Tag` that take a reader; no other type has them.
 pub trait TagPeek: Sized {
-    /// The next tag, as decoding would return it; the reader does not move.
+    /// The next tag, decoded without moving the reader.
     ///
     /// # Errors
     ///
-    /// The same as for [`Tag::decode`](crate::Decode::decode), with the same positions; the reader
-    /// is unchanged.
+    /// `Failed`, `Overflow`, `Incomplete`, `TagUnknown` and `TagNumberInvalid`, as by
+    /// [`Tag::decode`](crate::Decode::decode) and with the same positions; the reader is unchanged.
     fn peek<R: Reader>(reader: &R) -> Result<Self, Error>;
 
     /// Whether the next tag has this class and number; false if no octets are left, even on a
@@ -25,8 +25,8 @@ pub trait TagPeek: Sized {
     ///
     /// # Errors
     ///
-    /// The same as for [`Tag::decode`](crate::Decode::decode), with the same positions; the reader
-    /// is unchanged.
+    /// `Failed`, `Overflow`, `Incomplete`, `TagUnknown` and `TagNumberInvalid`, as by
+    /// [`Tag::decode`](crate::Decode::decode) and with the same positions; the reader is unchanged.
     fn peek_matches<R: Reader>(
         reader: &mut R,
         expected_class: Class,
@@ -37,7 +37,8 @@ pub trait TagPeek: Sized {
     ///
     /// # Errors
     ///
-    /// The same as for [`Tag::decode`](crate::Decode::decode).
+    /// `Failed`, `Overflow`, `Incomplete`, `TagUnknown` and `TagNumberInvalid`, as by
+    /// [`Tag::decode`](crate::Decode::decode).
     fn decode_with_constructed_bit<R: Reader>(reader: &mut R) -> Result<(Self, bool), Error>;
 }
 

@@ -66,7 +66,7 @@ impl<'a> SliceWriter<'a> {
         Length::new(self.position)
     }
 
-    /// Returns the error of this kind at the position, as a result.
+    /// Returns the error of this kind at the position, as an `Err`.
     ///
     /// # Errors
     ///
@@ -96,7 +96,7 @@ impl<'a> SliceWriter<'a> {
         Ok(&bytes[..end])
     }
 
-    /// Writes a value.
+    /// Writes the encoding of a value.
     ///
     /// # Errors
     ///
@@ -129,9 +129,11 @@ impl<'a> SliceWriter<'a> {
     /// writer limited to the next `len` octets, at position 0 and not failed. Afterwards the writer
     /// has its previous limits again, whatever `f` returned.
     ///
-    /// The caller must ensure that `f` may be called with any writer limited to those octets, and
-    /// that `f` leaves the same writer: the same slice and limits, the same octets before its
-    /// start, the slice after the written octets unchanged, and failed if it had failed before.
+    /// The caller must ensure two things for every writer that is limited to those octets:
+    ///
+    /// - `f` may be called with the writer.
+    /// - `f` leaves the writer with the same slice and limits, the same octets before its start,
+    ///   the slice after the written octets unchanged, and failed if it had failed before.
     ///
     /// # Errors
     ///

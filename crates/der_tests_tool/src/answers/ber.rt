@@ -2,13 +2,14 @@
 use super::{USAGE, replay};
 use std::test::Fail;
 
-/// The contents of an encrypted message, 66 octets with the end-of-contents octets: their type, the
-/// cipher, and the encrypted octets in indefinite-length contents.
+/// The indefinite-length contents of a SEQUENCE in an encrypted message: 66 octets with the
+/// end-of-contents octets. They hold the content type, the cipher, and the encrypted octets, which
+/// are in indefinite-length contents themselves.
 const MESSAGE_BODY: &str =
     "06092a864886f70d010701301d060960864801650304012a041037343df1470df625eeb6\
     f4bfd2f1acc3a0800410cc74adf65d973c8b72cd51e1b927f0f000000000";
 
-/// 126 different octets.
+/// 126 different octets in hexadecimal.
 const CONTENTS: &str = "000102030405060708090a0b0c0d0e0f101112131415161718191a1b1c1d1e1f20212223\
     2425262728292a2b2c2d2e2f303132333435363738393a3b3c3d3e3f4041424344454647\
     48494a4b4c4d4e4f505152535455565758595a5b5c5d5e5f606162636465666768696a6b\

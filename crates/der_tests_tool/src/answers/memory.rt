@@ -7,8 +7,9 @@ use std::test::Fail;
 
 const REFUSED: &str = "error: out of memory\n";
 
-/// Runs the line on heaps of growing sizes, so that the first allocation fails, then the next, and
-/// at last none: each output is that of a failed allocation, or the complete one.
+/// Runs the words of the line on heaps of growing sizes, so that the first allocation fails, then
+/// the next, and at last none. Each output must be that of a failed allocation, or the complete
+/// text. Returns how many outputs were those of a failed allocation.
 fn refuse_in_turn(
     rt: &(impl Abort + AllocGlobal),
     line: &str,

@@ -2,7 +2,8 @@
 //! definitions, which was compared with the Rust crate `der` 0.8.3 on 131 million inputs.
 use super::USAGE;
 
-/// The words with a blank between them, the status, and the text.
+/// Each row has the words with a blank between each two, the expected status, and the expected
+/// text.
 pub const TLV_CASES: [(&str, u8, &str); 55] = [
     ("tlv 3100", 0, "3100\n"),
     (

@@ -43,7 +43,7 @@ const ROWS: [(&str, u8, &str); 13] = [
     ("order --ber 3000 3000", 2, USAGE),
 ];
 
-/// Accepts one octet per call, and fails once the calls are used up.
+/// A writer that accepts one octet per call, and fails once the number of `calls` is used up.
 #[derive(Drop)]
 struct Choppy {
     taken: Vec<u8>,
@@ -66,7 +66,7 @@ impl io::Write for Choppy {
     }
 }
 
-/// Accepts nothing, or accepts all and then fails to pass it on.
+/// A writer whose flush fails. It accepts all octets if `takes` is true, and otherwise none.
 #[derive(Drop)]
 struct Broken {
     takes: bool,
@@ -118,7 +118,7 @@ fn a_writer_that_takes_nothing_or_keeps_it_is_status_1(rt: HostRuntime) -> Resul
     Ok(())
 }
 
-/// Counts the octets.
+/// An output that counts the octets it gets, and never fails.
 #[derive(Drop)]
 pub struct Tally(pub usize);
 

@@ -18,9 +18,9 @@ use der::{
 use der_asn1::Described;
 use std::alloc::{AllocError, Global};
 
-/// The values of an attribute, borrowed from the input: a SET OF elements of any tags. They have
-/// been checked to be elements in ascending order of their encodings; their contents are not
-/// checked.
+/// The values of an attribute, borrowed from the input: a SET OF elements of any tags. It has been
+/// checked that the contents are elements in ascending order of their encodings. The contents of
+/// the elements are not checked.
 pub struct AttributeValues<'a> {
     octets: &'a [u8],
     ghost short: { length octets.now < 2 ^ 32 },
@@ -41,7 +41,7 @@ impl<'a> Clone for AttributeValues<'a> {
 impl<'a> Copy for AttributeValues<'a> {}
 
 impl<'a> AttributeValues<'a> {
-    /// The contents octets.
+    /// The contents octets of the SET OF.
     pub fn octets(&self) -> &'a [u8]
         ensures value { result.now ≡ self.now.octets.now }
         ensures ascending { ∥ AreValues result.now ∥₁ }
@@ -78,9 +78,9 @@ impl<'a> ReadValue for AttributeValues<'a> {
     ghost takes_valid = { octets_with_accepts_valid AreValues (λ v. v.octets.now) };
 }
 
-/// Borrows the contents from the input, and checks every element in them once, under DER, even if
-/// the reader reads under BER. The encodings must be in ascending order; equal ones may follow each
-/// other.
+/// Borrows the contents from the input, and checks every element in them once. Elements are read
+/// under DER, even if the reader reads under BER. Their encodings must be in ascending order; equal
+/// ones may follow each other.
 ///
 /// # Errors
 ///
@@ -110,6 +110,8 @@ impl<'a> WrittenValue for AttributeValues<'a> {
     ghost writable = { HasOctetsWith AreValues (λ v. v.octets.now) };
 }
 
+/// Writes the contents of the SET OF unchanged.
+///
 /// # Errors
 ///
 /// - `Overflow` if there are more than 4294967295 octets.

@@ -28,7 +28,7 @@ pub struct CertReqInfo<'a> {
     pub attributes: Implicit<Attributes<'a>, 0>,
 }
 
-/// The fields, in sequence.
+/// The fields of a [`CertReqInfo`], in sequence.
 pub type CertReqInfoFields<'a> = (
     (CertReqVersion<'a>, Name<'a>),
     (SubjectPublicKeyInfoRef<'a>, Implicit<Attributes<'a>, 0>),
@@ -67,9 +67,11 @@ impl<'a> ReadValue for CertReqInfo<'a> {
     ghost takes_valid = { ⟦<CertReqInfo<'a> as Described>⟧.element.holds refl };
 }
 
+/// Decodes the fields in sequence.
+///
 /// # Errors
 ///
-/// Those of the fields, in sequence.
+/// The error of the first field that fails to decode.
 impl<'a, R: Reader<Borrowed = &'a [u8]>> DecodeValue<R> for CertReqInfo<'a> {
     type Error = Error;
 
@@ -102,9 +104,13 @@ impl<'a> WrittenValue for CertReqInfo<'a> {
     ghost writable = { ⟦<CertReqInfo<'a> as Described>⟧.element.valid };
 }
 
+/// Writes the fields in sequence.
+///
 /// # Errors
 ///
-/// Those of the fields, in sequence, and `Overflow` without a position.
+/// - Those of the fields, in sequence.
+/// - `Overflow` without a position from [`EncodeValue::value_len`], if the fields together have
+///   more than 4294967295 octets.
 impl<'a> EncodeValue for CertReqInfo<'a> {
     ghost value_size = { λ v. ⟦<CertReqInfoFields<'a> as Encode>⟧.size (
       (

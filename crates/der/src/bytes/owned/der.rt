@@ -27,7 +27,8 @@ impl ReadValue for BytesOwned {
     ghost takes_valid = { λ b rules h octets taken. taken.0 };
 }
 
-/// Copies the contents. The header gives only the length.
+/// Copies the contents into an owned byte string. Takes only the length from the header, and
+/// ignores its tag.
 ///
 /// # Errors
 ///
@@ -86,7 +87,7 @@ impl EncodeValue for BytesOwned {
     }
 }
 
-/// Compares the octets alone, without a header. Never fails.
+/// Compares the octets in lexicographic order, without a header. Never fails.
 impl DerOrd for BytesOwned {
     ghost order = { octets_order owned_octets };
 

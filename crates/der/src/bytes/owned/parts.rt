@@ -17,13 +17,15 @@ use der_core::{Header, Reader};
 use std::alloc::Global;
 
 impl BytesOwned {
-    /// Decodes contents: those of a primitive header are copied. After a constructed header, under
-    /// the Basic Encoding Rules, the contents are segments with the tag `inner_tag`, which are
-    /// joined (X.690 8.7.3); a segment may itself consist of segments.
+    /// Decodes contents into an owned byte string. After a primitive header it copies the contents.
+    /// After a constructed header, under the Basic Encoding Rules, the contents are segments with
+    /// the tag `inner_tag`; it joins them (X.690 8.7.3). A segment may itself consist of segments.
     ///
     /// # Errors
     ///
-    /// - Those of [`Reader::read_vec`] and of [`read_constructed_vec`].
+    /// - After a primitive header, the errors of [`Reader::read_vec`].
+    /// - After a constructed header, under the Basic Encoding Rules, the errors of
+    ///   [`read_constructed_vec`].
     /// - `Noncanonical` with the header's tag, at the last octet of the header, if the header is
     ///   constructed and the rules are the Distinguished Encoding Rules; the reader is unchanged.
     pub fn decode_value_parts<R: Reader>(

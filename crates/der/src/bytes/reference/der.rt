@@ -26,7 +26,7 @@ impl<'a> ReadValue for BytesRef<'a> {
     ghost takes_valid = { λ b rules h octets taken. taken.0 };
 }
 
-/// Borrows the contents from the input. The header gives only the length.
+/// Borrows the contents from the input. Takes only the length from the header, and ignores its tag.
 ///
 /// # Errors
 ///
@@ -80,7 +80,7 @@ impl<'a> EncodeValue for BytesRef<'a> {
     }
 }
 
-/// Compares the octets alone, without a header. Never fails.
+/// Compares the octets in lexicographic order, without a header. Never fails.
 impl<'a> DerOrd for BytesRef<'a> {
     ghost order = { octets_order reference_octets };
 

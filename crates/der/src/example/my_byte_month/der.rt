@@ -36,13 +36,13 @@ impl ReadValue for MyByteMonth {
     ghost takes_valid = { λ month rules h octets taken. taken.0 };
 }
 
-/// Reads one octet, whatever the header.
+/// Reads one octet, and ignores the header.
 ///
 /// # Errors
 ///
 /// - `Failed`, `Overflow` and `Incomplete`, as by [`ReaderExt::read_byte`].
-/// - `DateTime` at the position after the octet, if its value is 12 or more; the reader is there
-///   and has failed.
+/// - `DateTime` at the position after the octet, if its value is 12 or more; the reader is after
+///   the octet and has failed.
 impl<R: Reader> DecodeValue<R> for MyByteMonth {
     type Error = Error;
 
@@ -88,7 +88,7 @@ impl Lawful for MyByteMonth {
     ghost lawful = { month_lawful };
 }
 
-/// Compares the octets. Never fails.
+/// Compares the numbers of the months. Never fails.
 impl ValueOrd for MyByteMonth {
     ghost value_order = { octets_order month_contents };
 

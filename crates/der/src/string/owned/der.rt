@@ -23,7 +23,8 @@ impl ReadValue for StringOwned {
     ghost takes_valid = { λ t rules h octets taken. taken.0 };
 }
 
-/// Copies the contents, as a text, from a slice of the input. The header gives only the length.
+/// Reads the contents as a slice of the input, and copies them into an owned text. Takes only the
+/// length from the header, and ignores its tag.
 ///
 /// # Errors
 ///

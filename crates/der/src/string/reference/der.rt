@@ -24,7 +24,8 @@ impl<'a> ReadValue for StringRef<'a> {
     ghost takes_valid = { λ t rules h octets taken. taken.0 };
 }
 
-/// Borrows the contents from the input, as a text. The header gives only the length.
+/// Borrows the contents from the input as a text. Takes only the length from the header, and
+/// ignores its tag.
 ///
 /// # Errors
 ///

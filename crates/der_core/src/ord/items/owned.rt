@@ -7,8 +7,9 @@ use crate::ord::DerOrd;
 use der_base::Error;
 use std::cmp::Ordering;
 
-/// Compares the values that two iterators return, as [`iter_cmp`](crate::iter_cmp) compares those
-/// that two iterators refer to.
+/// Compares the values that two iterators return, pair by pair. The first pair that is unequal or
+/// returns an error decides. If there is none, the iterator that ends first is the smaller. Only
+/// the iterators may allocate.
 ///
 /// # Errors
 ///
