@@ -38,5 +38,3 @@ building_continues {negative} {n} {octets} {start} {left} d b pos is =
       size = length-set octets (start - 1) d ∙ b.size;
       digits = b.digits ∙ ap (λ l. l ++ drop start octets) step ∙ append_assoc (map (turned negative) (digits_of 256 (left / 256))) (d ∷ []) (drop start octets) ∙ ap (λ l. map (turned negative) (digits_of 256 (left / 256)) ++ l) (sym shown);
     }
-
-module _ {negative : Bool} {n : ℕ} {octets : List ℕ} {start left : ℕ} (b : IsBuilding negative n octets start left) (none : left ≡ 0) where

@@ -3,7 +3,9 @@
 -- 11.8; RFC 5280, 4.1.2.5).
 use Rattle.std.specs.Prelude.{ℕ, ◌+◌, ◌*◌, ◌/◌, ◌%◌, ◌==◌, ◌&&◌, ◌||◌, not, Bool, nat_lt, nat_le}
 use Rattle.std.specs.Prelude.{List, [], ◌∷◌, ◌++◌, length, if◌then◌else◌, slice_index_or}
+use Rattle.std.specs.Ordering.{ordering_then, nat_cmp}
 use Rattle.std.specs.Str.{bytes_eq}
+use Rattle.std.specs.declared.cmp.Ordering.{Ordering}
 use Rattle.der_asn1.specs.declared.date_time.DateTime.{DateTime}
 
 -- whether a year of the Gregorian calendar has 366 days
@@ -26,6 +28,16 @@ is_date_time t =
 -- whether the time exists, in a year from 1950 to 2049, which two digits determine
 abbrev pub is_utc_time : DateTime → Bool
 is_utc_time t = nat_le 1950 t.year && (nat_lt t.year 2050 && is_date_time t)
+
+-- which of two times comes first: the year decides, then the month, the day, the hour, the minute
+-- and the second
+abbrev pub time_order : DateTime → DateTime → Ordering
+time_order a b =
+    ordering_then (nat_cmp a.year b.year)
+    (ordering_then (nat_cmp a.month b.month)
+    (ordering_then (nat_cmp a.day b.day)
+    (ordering_then (nat_cmp a.hour b.hour)
+    (ordering_then (nat_cmp a.minute b.minute) (nat_cmp a.second b.second)))))
 
 -- the two decimal digits of a number below 100
 abbrev pub two_digits : ℕ → List ℕ

@@ -12,6 +12,7 @@ mod bmp_string;
 mod boolean;
 mod checked;
 mod choice;
+mod comparisons;
 mod date_time;
 mod default_contents;
 mod defaulted;

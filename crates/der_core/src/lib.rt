@@ -14,6 +14,7 @@ mod laws;
 mod length;
 mod ord;
 pub mod reader;
+mod sequence;
 mod tag;
 pub mod writer;
 
@@ -33,6 +34,7 @@ pub use ord::{DerOrd, OrdIsValueOrd, Orderly, ValueOrd, der_cmp_tlv, iter_cmp, i
 pub use reader::{
     Octets, Position, Reader, ReaderExt, Resumption, SliceReader, close_value, read_eoc, read_value,
 };
+pub use sequence::{FromFields, decode_sequence};
 pub use tag::TagPeek;
 pub use tag::fixed::{FixedTag, IsConstructed, Tagged};
 pub use writer::{SliceWriter, Writer};

@@ -7,8 +7,8 @@ ghost use Rattle.der_asn1.specs.Meaning.{alternative, field, optional, sequence,
 use crate::attributes::PrivateKeyAttributes;
 use crate::version::Version;
 use der::{
-    Decode, DecodeValue, Encode, EncodeRef, EncodeValue, Error, FixedTag, Header, Lawful, Length,
-    ReadValue, Reader, SliceReader, Tag, Writer, WrittenValue, decode_contents,
+    Decode, DecodeValue, Encode, EncodeRef, EncodeValue, Error, FixedTag, FromFields, Header,
+    Lawful, Length, ReadValue, Reader, SliceReader, Tag, Writer, WrittenValue, decode_sequence,
 };
 use der_asn1::{BitStringRef, Described, Implicit, OctetStringRef, Optional};
 use spki::AlgorithmIdentifierRef;
@@ -41,6 +41,21 @@ pub type PrivateKeyInfoFields<'a> = (
     ),
 );
 
+impl<'a> FromFields<PrivateKeyInfoFields<'a>> for PrivateKeyInfo<'a> {
+    ghost fields = { λ v. ((v.version, v.private_key_algorithm), ((v.private_key, v.attributes), v.public_key)) };
+
+    fn from_fields(members: PrivateKeyInfoFields<'a>) -> Self {
+        let ((version, private_key_algorithm), ((private_key, attributes), public_key)) = members;
+        PrivateKeyInfo {
+            version,
+            private_key_algorithm,
+            private_key,
+            attributes,
+            public_key,
+        }
+    }
+}
+
 impl<'a> Described for PrivateKeyInfo<'a> {
     ghost element = { sequence (two_fields (two_fields (field (alternative
         ⟦<Version<'a> as Described>⟧.element))
@@ -48,7 +63,7 @@ impl<'a> Described for PrivateKeyInfo<'a> {
         (two_fields (two_fields (field (alternative ⟦<OctetStringRef<'a> as Described>⟧.element))
         (optional (alternative ⟦<Implicit<PrivateKeyAttributes<'a>, 0> as Described>⟧.element)))
         (optional (alternative ⟦<Implicit<BitStringRef<'a>, 1> as Described>⟧.element))))
-        (λ v. ((v.version, v.private_key_algorithm), ((v.private_key, v.attributes), v.public_key))) };
+        ⟦<PrivateKeyInfo<'a> as FromFields<PrivateKeyInfoFields<'a>>>⟧.fields };
 }
 
 impl<'a> FixedTag for PrivateKeyInfo<'a> {
@@ -85,24 +100,10 @@ impl<'a, R: Reader<Borrowed = &'a [u8]>> DecodeValue<R> for PrivateKeyInfo<'a> {
 
     ghost decode_value_answers = { λ h s result t.
         ⟦<PrivateKeyInfoFields<'a> as Decode<SliceReader<'a>>>⟧.decode_answers s
-        (map_ok (λ v. (
-          (v.version, v.private_key_algorithm),
-          (
-            (v.private_key, v.attributes),
-            v.public_key,
-          ),
-        )) result) t };
+        (map_ok ⟦<PrivateKeyInfo<'a> as FromFields<PrivateKeyInfoFields<'a>>>⟧.fields result) t };
 
     fn decode_value(alloc: Global, reader: &mut R, header: Header) -> Result<Self, Error> {
-        let fields = decode_contents::<R, PrivateKeyInfoFields<'a>>(alloc, reader, header)?;
-        let ((version, private_key_algorithm), ((private_key, attributes), public_key)) = fields;
-        Ok(PrivateKeyInfo {
-            version,
-            private_key_algorithm,
-            private_key,
-            attributes,
-            public_key,
-        })
+        decode_sequence::<R, PrivateKeyInfoFields<'a>, Self>(alloc, reader, header)
     }
 
     fn is_value(&self) {
@@ -132,16 +133,11 @@ impl<'a> WrittenValue for PrivateKeyInfo<'a> {
 /// - `Overflow` without a position from [`EncodeValue::value_len`], if the fields together have
 ///   more than 4294967295 octets.
 impl<'a> EncodeValue for PrivateKeyInfo<'a> {
-    ghost value_size = { λ v. ⟦<PrivateKeyInfoFields<'a> as Encode>⟧.size (
-      (
-        v.version,
-        v.private_key_algorithm,
-      ),
-      ((v.private_key, v.attributes), v.public_key),
-    ) };
+    ghost value_size = { λ v. ⟦<PrivateKeyInfoFields<'a> as Encode>⟧.size
+        (⟦<PrivateKeyInfo<'a> as FromFields<PrivateKeyInfoFields<'a>>>⟧.fields v) };
 
     ghost encode_value_answers = { λ v. ⟦<PrivateKeyInfoFields<'a> as Encode>⟧.encode_answers
-        ((v.version, v.private_key_algorithm), ((v.private_key, v.attributes), v.public_key)) };
+        (⟦<PrivateKeyInfo<'a> as FromFields<PrivateKeyInfoFields<'a>>>⟧.fields v) };
 
     fn value_len(&self) -> Result<Length, Error> {
         (

@@ -6,8 +6,8 @@ ghost use Rattle.der_asn1.specs.Meaning.{alternative, any_element, field, option
 ghost use Rattle.der_asn1.specs.Meaning.{two_fields};
 
 use der::{
-    Decode, DecodeValue, Encode, EncodeRef, EncodeValue, Error, FixedTag, Header, Lawful, Length,
-    ReadValue, Reader, SliceReader, Tag, Writer, WrittenValue, decode_contents,
+    Decode, DecodeValue, Encode, EncodeRef, EncodeValue, Error, FixedTag, FromFields, Header,
+    Lawful, Length, ReadValue, Reader, SliceReader, Tag, Writer, WrittenValue, decode_sequence,
 };
 use der_asn1::{AnyRef, Described, ObjectIdentifierRef, Optional};
 use std::alloc::Global;
@@ -24,11 +24,20 @@ pub struct AlgorithmIdentifierRef<'a> {
 /// The fields of an [`AlgorithmIdentifierRef`], in sequence.
 pub type AlgorithmIdentifierFields<'a> = (ObjectIdentifierRef<'a>, Optional<AnyRef<'a>>);
 
+impl<'a> FromFields<AlgorithmIdentifierFields<'a>> for AlgorithmIdentifierRef<'a> {
+    ghost fields = { λ v. (v.oid, v.parameters) };
+
+    fn from_fields(members: AlgorithmIdentifierFields<'a>) -> Self {
+        let (oid, parameters) = members;
+        AlgorithmIdentifierRef { oid, parameters }
+    }
+}
+
 impl<'a> Described for AlgorithmIdentifierRef<'a> {
     ghost element = { sequence (two_fields (field (alternative
         ⟦<ObjectIdentifierRef<'a> as Described>⟧.element))
         (optional any_element))
-        (λ v. (v.oid, v.parameters)) };
+        ⟦<AlgorithmIdentifierRef<'a> as FromFields<AlgorithmIdentifierFields<'a>>>⟧.fields };
 }
 
 impl<'a> FixedTag for AlgorithmIdentifierRef<'a> {
@@ -65,12 +74,10 @@ impl<'a, R: Reader<Borrowed = &'a [u8]>> DecodeValue<R> for AlgorithmIdentifierR
 
     ghost decode_value_answers = { λ h s result t.
         ⟦<AlgorithmIdentifierFields<'a> as Decode<SliceReader<'a>>>⟧.decode_answers s
-        (map_ok (λ v. (v.oid, v.parameters)) result) t };
+        (map_ok ⟦<AlgorithmIdentifierRef<'a> as FromFields<AlgorithmIdentifierFields<'a>>>⟧.fields result) t };
 
     fn decode_value(alloc: Global, reader: &mut R, header: Header) -> Result<Self, Error> {
-        let fields = decode_contents::<R, AlgorithmIdentifierFields<'a>>(alloc, reader, header)?;
-        let (oid, parameters) = fields;
-        Ok(AlgorithmIdentifierRef { oid, parameters })
+        decode_sequence::<R, AlgorithmIdentifierFields<'a>, Self>(alloc, reader, header)
     }
 
     fn is_value(&self) {
@@ -95,10 +102,11 @@ impl<'a> WrittenValue for AlgorithmIdentifierRef<'a> {
 /// - `Overflow` without a position from [`EncodeValue::value_len`], if the fields together have
 ///   more than 4294967295 octets.
 impl<'a> EncodeValue for AlgorithmIdentifierRef<'a> {
-    ghost value_size = { λ v. ⟦<AlgorithmIdentifierFields<'a> as Encode>⟧.size (v.oid, v.parameters) };
+    ghost value_size = { λ v. ⟦<AlgorithmIdentifierFields<'a> as Encode>⟧.size
+        (⟦<AlgorithmIdentifierRef<'a> as FromFields<AlgorithmIdentifierFields<'a>>>⟧.fields v) };
 
     ghost encode_value_answers = { λ v. ⟦<AlgorithmIdentifierFields<'a> as Encode>⟧.encode_answers
-        (v.oid, v.parameters) };
+        (⟦<AlgorithmIdentifierRef<'a> as FromFields<AlgorithmIdentifierFields<'a>>>⟧.fields v) };
 
     #[inline(always)]
     fn value_len(&self) -> Result<Length, Error> {

@@ -6,8 +6,8 @@ ghost use Rattle.der_asn1.specs.Meaning.{alternative, field, sequence, two_field
 
 use crate::algorithm_identifier::AlgorithmIdentifierRef;
 use der::{
-    Decode, DecodeValue, Encode, EncodeRef, EncodeValue, Error, FixedTag, Header, Lawful, Length,
-    ReadValue, Reader, SliceReader, Tag, Writer, WrittenValue, decode_contents,
+    Decode, DecodeValue, Encode, EncodeRef, EncodeValue, Error, FixedTag, FromFields, Header,
+    Lawful, Length, ReadValue, Reader, SliceReader, Tag, Writer, WrittenValue, decode_sequence,
 };
 use der_asn1::{BitStringRef, Described};
 use std::alloc::Global;
@@ -24,11 +24,23 @@ pub struct SubjectPublicKeyInfoRef<'a> {
 /// The fields of a [`SubjectPublicKeyInfoRef`], in sequence.
 pub type SubjectPublicKeyInfoFields<'a> = (AlgorithmIdentifierRef<'a>, BitStringRef<'a>);
 
+impl<'a> FromFields<SubjectPublicKeyInfoFields<'a>> for SubjectPublicKeyInfoRef<'a> {
+    ghost fields = { λ v. (v.algorithm, v.subject_public_key) };
+
+    fn from_fields(members: SubjectPublicKeyInfoFields<'a>) -> Self {
+        let (algorithm, subject_public_key) = members;
+        SubjectPublicKeyInfoRef {
+            algorithm,
+            subject_public_key,
+        }
+    }
+}
+
 impl<'a> Described for SubjectPublicKeyInfoRef<'a> {
     ghost element = { sequence (two_fields (field (alternative
         ⟦<AlgorithmIdentifierRef<'a> as Described>⟧.element))
         (field (alternative ⟦<BitStringRef<'a> as Described>⟧.element)))
-        (λ v. (v.algorithm, v.subject_public_key)) };
+        ⟦<SubjectPublicKeyInfoRef<'a> as FromFields<SubjectPublicKeyInfoFields<'a>>>⟧.fields };
 }
 
 impl<'a> FixedTag for SubjectPublicKeyInfoRef<'a> {
@@ -65,15 +77,10 @@ impl<'a, R: Reader<Borrowed = &'a [u8]>> DecodeValue<R> for SubjectPublicKeyInfo
 
     ghost decode_value_answers = { λ h s result t.
         ⟦<SubjectPublicKeyInfoFields<'a> as Decode<SliceReader<'a>>>⟧.decode_answers s
-        (map_ok (λ v. (v.algorithm, v.subject_public_key)) result) t };
+        (map_ok ⟦<SubjectPublicKeyInfoRef<'a> as FromFields<SubjectPublicKeyInfoFields<'a>>>⟧.fields result) t };
 
     fn decode_value(alloc: Global, reader: &mut R, header: Header) -> Result<Self, Error> {
-        let fields = decode_contents::<R, SubjectPublicKeyInfoFields<'a>>(alloc, reader, header)?;
-        let (algorithm, subject_public_key) = fields;
-        Ok(SubjectPublicKeyInfoRef {
-            algorithm,
-            subject_public_key,
-        })
+        decode_sequence::<R, SubjectPublicKeyInfoFields<'a>, Self>(alloc, reader, header)
     }
 
     fn is_value(&self) {
@@ -96,13 +103,11 @@ impl<'a> WrittenValue for SubjectPublicKeyInfoRef<'a> {
 /// - `Overflow` without a position from [`EncodeValue::value_len`], if the fields together have
 ///   more than 4294967295 octets.
 impl<'a> EncodeValue for SubjectPublicKeyInfoRef<'a> {
-    ghost value_size = { λ v. ⟦<SubjectPublicKeyInfoFields<'a> as Encode>⟧.size (
-      v.algorithm,
-      v.subject_public_key,
-    ) };
+    ghost value_size = { λ v. ⟦<SubjectPublicKeyInfoFields<'a> as Encode>⟧.size
+        (⟦<SubjectPublicKeyInfoRef<'a> as FromFields<SubjectPublicKeyInfoFields<'a>>>⟧.fields v) };
 
     ghost encode_value_answers = { λ v. ⟦<SubjectPublicKeyInfoFields<'a> as Encode>⟧.encode_answers
-        (v.algorithm, v.subject_public_key) };
+        (⟦<SubjectPublicKeyInfoRef<'a> as FromFields<SubjectPublicKeyInfoFields<'a>>>⟧.fields v) };
 
     #[inline(always)]
     fn value_len(&self) -> Result<Length, Error> {

@@ -7,8 +7,8 @@ ghost use Rattle.der_asn1.specs.Meaning.{alternative, field, sequence, two_field
 mod values;
 
 use der::{
-    Decode, DecodeValue, Encode, EncodeRef, EncodeValue, Error, FixedTag, Header, Lawful, Length,
-    ReadValue, Reader, SliceReader, Tag, Writer, WrittenValue, decode_contents,
+    Decode, DecodeValue, Encode, EncodeRef, EncodeValue, Error, FixedTag, FromFields, Header,
+    Lawful, Length, ReadValue, Reader, SliceReader, Tag, Writer, WrittenValue, decode_sequence,
 };
 use der_asn1::{Described, ObjectIdentifierRef, SetOf};
 use std::alloc::Global;
@@ -29,11 +29,20 @@ pub type Attributes<'a> = SetOf<'a, Attribute<'a>>;
 /// The fields of an [`Attribute`], in sequence.
 pub type AttributeFields<'a> = (ObjectIdentifierRef<'a>, AttributeValues<'a>);
 
+impl<'a> FromFields<AttributeFields<'a>> for Attribute<'a> {
+    ghost fields = { λ v. (v.oid, v.values) };
+
+    fn from_fields(members: AttributeFields<'a>) -> Self {
+        let (oid, values) = members;
+        Attribute { oid, values }
+    }
+}
+
 impl<'a> Described for Attribute<'a> {
     ghost element = { sequence (two_fields (field (alternative
         ⟦<ObjectIdentifierRef<'a> as Described>⟧.element))
         (field (alternative ⟦<AttributeValues<'a> as Described>⟧.element)))
-        (λ v. (v.oid, v.values)) };
+        ⟦<Attribute<'a> as FromFields<AttributeFields<'a>>>⟧.fields };
 }
 
 impl<'a> FixedTag for Attribute<'a> {
@@ -70,12 +79,10 @@ impl<'a, R: Reader<Borrowed = &'a [u8]>> DecodeValue<R> for Attribute<'a> {
 
     ghost decode_value_answers = { λ h s result t.
         ⟦<AttributeFields<'a> as Decode<SliceReader<'a>>>⟧.decode_answers s
-        (map_ok (λ v. (v.oid, v.values)) result) t };
+        (map_ok ⟦<Attribute<'a> as FromFields<AttributeFields<'a>>>⟧.fields result) t };
 
     fn decode_value(alloc: Global, reader: &mut R, header: Header) -> Result<Self, Error> {
-        let fields = decode_contents::<R, AttributeFields<'a>>(alloc, reader, header)?;
-        let (oid, values) = fields;
-        Ok(Attribute { oid, values })
+        decode_sequence::<R, AttributeFields<'a>, Self>(alloc, reader, header)
     }
 
     fn is_value(&self) {
@@ -98,10 +105,11 @@ impl<'a> WrittenValue for Attribute<'a> {
 /// - `Overflow` without a position from [`EncodeValue::value_len`], if the fields together have
 ///   more than 4294967295 octets.
 impl<'a> EncodeValue for Attribute<'a> {
-    ghost value_size = { λ v. ⟦<AttributeFields<'a> as Encode>⟧.size (v.oid, v.values) };
+    ghost value_size = { λ v. ⟦<AttributeFields<'a> as Encode>⟧.size
+        (⟦<Attribute<'a> as FromFields<AttributeFields<'a>>>⟧.fields v) };
 
     ghost encode_value_answers = { λ v. ⟦<AttributeFields<'a> as Encode>⟧.encode_answers
-        (v.oid, v.values) };
+        (⟦<Attribute<'a> as FromFields<AttributeFields<'a>>>⟧.fields v) };
 
     fn value_len(&self) -> Result<Length, Error> {
         (EncodeRef(&self.oid), EncodeRef(&self.values)).encoded_len()

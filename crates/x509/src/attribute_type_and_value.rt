@@ -5,8 +5,8 @@ ghost use Rattle.der.specs.Prelude.{Sequence, map_ok};
 ghost use Rattle.der_asn1.specs.Meaning.{alternative, any_element, field, sequence, two_fields};
 
 use der::{
-    Decode, DecodeValue, Encode, EncodeRef, EncodeValue, Error, FixedTag, Header, Lawful, Length,
-    ReadValue, Reader, SliceReader, Tag, Writer, WrittenValue, decode_contents,
+    Decode, DecodeValue, Encode, EncodeRef, EncodeValue, Error, FixedTag, FromFields, Header,
+    Lawful, Length, ReadValue, Reader, SliceReader, Tag, Writer, WrittenValue, decode_sequence,
 };
 use der_asn1::{AnyRef, Described, ObjectIdentifierRef};
 use std::alloc::Global;
@@ -23,11 +23,20 @@ pub struct AttributeTypeAndValue<'a> {
 /// The fields of an [`AttributeTypeAndValue`], in sequence.
 pub type AttributeTypeAndValueFields<'a> = (ObjectIdentifierRef<'a>, AnyRef<'a>);
 
+impl<'a> FromFields<AttributeTypeAndValueFields<'a>> for AttributeTypeAndValue<'a> {
+    ghost fields = { λ v. (v.oid, v.value) };
+
+    fn from_fields(members: AttributeTypeAndValueFields<'a>) -> Self {
+        let (oid, value) = members;
+        AttributeTypeAndValue { oid, value }
+    }
+}
+
 impl<'a> Described for AttributeTypeAndValue<'a> {
     ghost element = { sequence (two_fields (field (alternative
         ⟦<ObjectIdentifierRef<'a> as Described>⟧.element))
         (field any_element))
-        (λ v. (v.oid, v.value)) };
+        ⟦<AttributeTypeAndValue<'a> as FromFields<AttributeTypeAndValueFields<'a>>>⟧.fields };
 }
 
 impl<'a> FixedTag for AttributeTypeAndValue<'a> {
@@ -64,12 +73,10 @@ impl<'a, R: Reader<Borrowed = &'a [u8]>> DecodeValue<R> for AttributeTypeAndValu
 
     ghost decode_value_answers = { λ h s result t.
         ⟦<AttributeTypeAndValueFields<'a> as Decode<SliceReader<'a>>>⟧.decode_answers s
-        (map_ok (λ v. (v.oid, v.value)) result) t };
+        (map_ok ⟦<AttributeTypeAndValue<'a> as FromFields<AttributeTypeAndValueFields<'a>>>⟧.fields result) t };
 
     fn decode_value(alloc: Global, reader: &mut R, header: Header) -> Result<Self, Error> {
-        let fields = decode_contents::<R, AttributeTypeAndValueFields<'a>>(alloc, reader, header)?;
-        let (oid, value) = fields;
-        Ok(AttributeTypeAndValue { oid, value })
+        decode_sequence::<R, AttributeTypeAndValueFields<'a>, Self>(alloc, reader, header)
     }
 
     fn is_value(&self) {
@@ -92,10 +99,11 @@ impl<'a> WrittenValue for AttributeTypeAndValue<'a> {
 /// - `Overflow` without a position from [`EncodeValue::value_len`], if the fields together have
 ///   more than 4294967295 octets.
 impl<'a> EncodeValue for AttributeTypeAndValue<'a> {
-    ghost value_size = { λ v. ⟦<AttributeTypeAndValueFields<'a> as Encode>⟧.size (v.oid, v.value) };
+    ghost value_size = { λ v. ⟦<AttributeTypeAndValueFields<'a> as Encode>⟧.size
+        (⟦<AttributeTypeAndValue<'a> as FromFields<AttributeTypeAndValueFields<'a>>>⟧.fields v) };
 
     ghost encode_value_answers = { λ v. ⟦<AttributeTypeAndValueFields<'a> as Encode>⟧.encode_answers
-        (v.oid, v.value) };
+        (⟦<AttributeTypeAndValue<'a> as FromFields<AttributeTypeAndValueFields<'a>>>⟧.fields v) };
 
     fn value_len(&self) -> Result<Length, Error> {
         (EncodeRef(&self.oid), EncodeRef(&self.value)).encoded_len()

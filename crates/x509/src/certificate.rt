@@ -6,8 +6,8 @@ ghost use Rattle.der_asn1.specs.Meaning.{alternative, field, sequence, two_field
 
 use crate::tbs_certificate::TbsCertificate;
 use der::{
-    Decode, DecodeValue, Encode, EncodeRef, EncodeValue, Error, FixedTag, Header, Lawful, Length,
-    ReadValue, Reader, SliceReader, Tag, Writer, WrittenValue, decode_contents,
+    Decode, DecodeValue, Encode, EncodeRef, EncodeValue, Error, FixedTag, FromFields, Header,
+    Lawful, Length, ReadValue, Reader, SliceReader, Tag, Writer, WrittenValue, decode_sequence,
 };
 use der_asn1::{BitStringRef, Described};
 use spki::AlgorithmIdentifierRef;
@@ -30,12 +30,25 @@ pub type CertificateFields<'a> = (
     (AlgorithmIdentifierRef<'a>, BitStringRef<'a>),
 );
 
+impl<'a> FromFields<CertificateFields<'a>> for Certificate<'a> {
+    ghost fields = { λ v. (v.tbs_certificate, (v.signature_algorithm, v.signature)) };
+
+    fn from_fields(members: CertificateFields<'a>) -> Self {
+        let (tbs_certificate, (signature_algorithm, signature)) = members;
+        Certificate {
+            tbs_certificate,
+            signature_algorithm,
+            signature,
+        }
+    }
+}
+
 impl<'a> Described for Certificate<'a> {
     ghost element = { sequence (two_fields (field (alternative
         ⟦<TbsCertificate<'a> as Described>⟧.element))
         (two_fields (field (alternative ⟦<AlgorithmIdentifierRef<'a> as Described>⟧.element))
         (field (alternative ⟦<BitStringRef<'a> as Described>⟧.element))))
-        (λ v. (v.tbs_certificate, (v.signature_algorithm, v.signature))) };
+        ⟦<Certificate<'a> as FromFields<CertificateFields<'a>>>⟧.fields };
 }
 
 impl<'a> FixedTag for Certificate<'a> {
@@ -72,16 +85,10 @@ impl<'a, R: Reader<Borrowed = &'a [u8]>> DecodeValue<R> for Certificate<'a> {
 
     ghost decode_value_answers = { λ h s result t.
         ⟦<CertificateFields<'a> as Decode<SliceReader<'a>>>⟧.decode_answers s
-        (map_ok (λ v. (v.tbs_certificate, (v.signature_algorithm, v.signature))) result) t };
+        (map_ok ⟦<Certificate<'a> as FromFields<CertificateFields<'a>>>⟧.fields result) t };
 
     fn decode_value(alloc: Global, reader: &mut R, header: Header) -> Result<Self, Error> {
-        let fields = decode_contents::<R, CertificateFields<'a>>(alloc, reader, header)?;
-        let (tbs_certificate, (signature_algorithm, signature)) = fields;
-        Ok(Certificate {
-            tbs_certificate,
-            signature_algorithm,
-            signature,
-        })
+        decode_sequence::<R, CertificateFields<'a>, Self>(alloc, reader, header)
     }
 
     fn is_value(&self) {
@@ -105,13 +112,11 @@ impl<'a> WrittenValue for Certificate<'a> {
 /// - `Overflow` without a position from [`EncodeValue::value_len`], if the fields together have
 ///   more than 4294967295 octets.
 impl<'a> EncodeValue for Certificate<'a> {
-    ghost value_size = { λ v. ⟦<CertificateFields<'a> as Encode>⟧.size (
-      v.tbs_certificate,
-      (v.signature_algorithm, v.signature),
-    ) };
+    ghost value_size = { λ v. ⟦<CertificateFields<'a> as Encode>⟧.size
+        (⟦<Certificate<'a> as FromFields<CertificateFields<'a>>>⟧.fields v) };
 
     ghost encode_value_answers = { λ v. ⟦<CertificateFields<'a> as Encode>⟧.encode_answers
-        (v.tbs_certificate, (v.signature_algorithm, v.signature)) };
+        (⟦<Certificate<'a> as FromFields<CertificateFields<'a>>>⟧.fields v) };
 
     fn value_len(&self) -> Result<Length, Error> {
         (

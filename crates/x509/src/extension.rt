@@ -5,8 +5,8 @@ ghost use Rattle.der.specs.Prelude.{Sequence, map_ok};
 ghost use Rattle.der_asn1.specs.Meaning.{alternative, defaulted, field, sequence, two_fields};
 
 use der::{
-    Decode, DecodeValue, Encode, EncodeRef, EncodeValue, Error, FixedTag, Header, Lawful, Length,
-    ReadValue, Reader, SliceReader, Tag, Writer, WrittenValue, decode_contents,
+    Decode, DecodeValue, Encode, EncodeRef, EncodeValue, Error, FixedTag, FromFields, Header,
+    Lawful, Length, ReadValue, Reader, SliceReader, Tag, Writer, WrittenValue, decode_sequence,
 };
 use der_asn1::{
     BooleanRef, DefaultValue, Defaulted, Described, ObjectIdentifierRef, OctetStringRef,
@@ -30,13 +30,26 @@ pub type ExtensionFields<'a> = (
     (Defaulted<BooleanRef<'a>>, OctetStringRef<'a>),
 );
 
+impl<'a> FromFields<ExtensionFields<'a>> for Extension<'a> {
+    ghost fields = { λ v. (v.extn_id, (v.critical, v.extn_value)) };
+
+    fn from_fields(members: ExtensionFields<'a>) -> Self {
+        let (extn_id, (critical, extn_value)) = members;
+        Extension {
+            extn_id,
+            critical,
+            extn_value,
+        }
+    }
+}
+
 impl<'a> Described for Extension<'a> {
     ghost element = { sequence (two_fields (field (alternative
         ⟦<ObjectIdentifierRef<'a> as Described>⟧.element))
         (two_fields (defaulted ⟦<BooleanRef<'a> as DefaultValue>⟧.is_default (alternative
         ⟦<BooleanRef<'a> as Described>⟧.element))
         (field (alternative ⟦<OctetStringRef<'a> as Described>⟧.element))))
-        (λ v. (v.extn_id, (v.critical, v.extn_value))) };
+        ⟦<Extension<'a> as FromFields<ExtensionFields<'a>>>⟧.fields };
 }
 
 impl<'a> FixedTag for Extension<'a> {
@@ -73,16 +86,10 @@ impl<'a, R: Reader<Borrowed = &'a [u8]>> DecodeValue<R> for Extension<'a> {
 
     ghost decode_value_answers = { λ h s result t.
         ⟦<ExtensionFields<'a> as Decode<SliceReader<'a>>>⟧.decode_answers s
-        (map_ok (λ v. (v.extn_id, (v.critical, v.extn_value))) result) t };
+        (map_ok ⟦<Extension<'a> as FromFields<ExtensionFields<'a>>>⟧.fields result) t };
 
     fn decode_value(alloc: Global, reader: &mut R, header: Header) -> Result<Self, Error> {
-        let fields = decode_contents::<R, ExtensionFields<'a>>(alloc, reader, header)?;
-        let (extn_id, (critical, extn_value)) = fields;
-        Ok(Extension {
-            extn_id,
-            critical,
-            extn_value,
-        })
+        decode_sequence::<R, ExtensionFields<'a>, Self>(alloc, reader, header)
     }
 
     fn is_value(&self) {
@@ -106,16 +113,11 @@ impl<'a> WrittenValue for Extension<'a> {
 /// - `Overflow` without a position from [`EncodeValue::value_len`], if the fields together have
 ///   more than 4294967295 octets.
 impl<'a> EncodeValue for Extension<'a> {
-    ghost value_size = { λ v. ⟦<ExtensionFields<'a> as Encode>⟧.size (
-      v.extn_id,
-      (
-        v.critical,
-        v.extn_value,
-      ),
-    ) };
+    ghost value_size = { λ v. ⟦<ExtensionFields<'a> as Encode>⟧.size
+        (⟦<Extension<'a> as FromFields<ExtensionFields<'a>>>⟧.fields v) };
 
     ghost encode_value_answers = { λ v. ⟦<ExtensionFields<'a> as Encode>⟧.encode_answers
-        (v.extn_id, (v.critical, v.extn_value)) };
+        (⟦<Extension<'a> as FromFields<ExtensionFields<'a>>>⟧.fields v) };
 
     fn value_len(&self) -> Result<Length, Error> {
         (

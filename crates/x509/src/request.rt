@@ -8,8 +8,8 @@ mod info;
 mod version;
 
 use der::{
-    Decode, DecodeValue, Encode, EncodeRef, EncodeValue, Error, FixedTag, Header, Lawful, Length,
-    ReadValue, Reader, SliceReader, Tag, Writer, WrittenValue, decode_contents,
+    Decode, DecodeValue, Encode, EncodeRef, EncodeValue, Error, FixedTag, FromFields, Header,
+    Lawful, Length, ReadValue, Reader, SliceReader, Tag, Writer, WrittenValue, decode_sequence,
 };
 use der_asn1::{BitStringRef, Described};
 pub use info::{CertReqInfo, CertReqInfoFields};
@@ -34,12 +34,25 @@ pub type CertReqFields<'a> = (
     (AlgorithmIdentifierRef<'a>, BitStringRef<'a>),
 );
 
+impl<'a> FromFields<CertReqFields<'a>> for CertReq<'a> {
+    ghost fields = { λ v. (v.info, (v.algorithm, v.signature)) };
+
+    fn from_fields(members: CertReqFields<'a>) -> Self {
+        let (info, (algorithm, signature)) = members;
+        CertReq {
+            info,
+            algorithm,
+            signature,
+        }
+    }
+}
+
 impl<'a> Described for CertReq<'a> {
     ghost element = { sequence (two_fields (field (alternative
         ⟦<CertReqInfo<'a> as Described>⟧.element))
         (two_fields (field (alternative ⟦<AlgorithmIdentifierRef<'a> as Described>⟧.element))
         (field (alternative ⟦<BitStringRef<'a> as Described>⟧.element))))
-        (λ v. (v.info, (v.algorithm, v.signature))) };
+        ⟦<CertReq<'a> as FromFields<CertReqFields<'a>>>⟧.fields };
 }
 
 impl<'a> FixedTag for CertReq<'a> {
@@ -76,16 +89,10 @@ impl<'a, R: Reader<Borrowed = &'a [u8]>> DecodeValue<R> for CertReq<'a> {
 
     ghost decode_value_answers = { λ h s result t.
         ⟦<CertReqFields<'a> as Decode<SliceReader<'a>>>⟧.decode_answers s
-        (map_ok (λ v. (v.info, (v.algorithm, v.signature))) result) t };
+        (map_ok ⟦<CertReq<'a> as FromFields<CertReqFields<'a>>>⟧.fields result) t };
 
     fn decode_value(alloc: Global, reader: &mut R, header: Header) -> Result<Self, Error> {
-        let fields = decode_contents::<R, CertReqFields<'a>>(alloc, reader, header)?;
-        let (info, (algorithm, signature)) = fields;
-        Ok(CertReq {
-            info,
-            algorithm,
-            signature,
-        })
+        decode_sequence::<R, CertReqFields<'a>, Self>(alloc, reader, header)
     }
 
     fn is_value(&self) {
@@ -109,13 +116,11 @@ impl<'a> WrittenValue for CertReq<'a> {
 /// - `Overflow` without a position from [`EncodeValue::value_len`], if the fields together have
 ///   more than 4294967295 octets.
 impl<'a> EncodeValue for CertReq<'a> {
-    ghost value_size = { λ v. ⟦<CertReqFields<'a> as Encode>⟧.size (
-      v.info,
-      (v.algorithm, v.signature),
-    ) };
+    ghost value_size = { λ v. ⟦<CertReqFields<'a> as Encode>⟧.size
+        (⟦<CertReq<'a> as FromFields<CertReqFields<'a>>>⟧.fields v) };
 
     ghost encode_value_answers = { λ v. ⟦<CertReqFields<'a> as Encode>⟧.encode_answers
-        (v.info, (v.algorithm, v.signature)) };
+        (⟦<CertReq<'a> as FromFields<CertReqFields<'a>>>⟧.fields v) };
 
     fn value_len(&self) -> Result<Length, Error> {
         (

@@ -15,8 +15,8 @@ use crate::subject::Subject;
 use crate::validity::Validity;
 use crate::version::Version;
 use der::{
-    Decode, DecodeValue, Encode, EncodeRef, EncodeValue, Error, FixedTag, Header, Lawful, Length,
-    ReadValue, Reader, SliceReader, Tag, Writer, WrittenValue, decode_contents,
+    Decode, DecodeValue, Encode, EncodeRef, EncodeValue, Error, FixedTag, FromFields, Header,
+    Lawful, Length, ReadValue, Reader, SliceReader, Tag, Writer, WrittenValue, decode_sequence,
 };
 use der_asn1::{
     BitStringRef, DefaultValue, Defaulted, Described, Explicit, Implicit, IntRef, Optional,
@@ -66,6 +66,26 @@ pub type TbsCertificateFields<'a> = (
         ),
     ),
 );
+
+impl<'a> FromFields<(Issued<'a>, Subject<'a>)> for TbsCertificate<'a> {
+    ghost fields = { halves };
+
+    fn from_fields(members: (Issued<'a>, Subject<'a>)) -> Self {
+        let (issued, subject) = members;
+        TbsCertificate {
+            version: issued.version,
+            serial_number: issued.serial_number,
+            signature: issued.signature,
+            issuer: issued.issuer,
+            validity: issued.validity,
+            subject: subject.subject,
+            subject_public_key_info: subject.subject_public_key_info,
+            issuer_unique_id: subject.issuer_unique_id,
+            subject_unique_id: subject.subject_unique_id,
+            extensions: subject.extensions,
+        }
+    }
+}
 
 impl<'a> Described for TbsCertificate<'a> {
     ghost element = { sequence (two_fields
@@ -139,21 +159,7 @@ impl<'a, R: Reader<Borrowed = &'a [u8]>> DecodeValue<R> for TbsCertificate<'a> {
         (map_ok halves result) t };
 
     fn decode_value(alloc: Global, reader: &mut R, header: Header) -> Result<Self, Error> {
-        let (issued, subject) = decode_contents::<R, (Issued<'a>, Subject<'a>)>(
-            alloc, reader, header,
-        )?;
-        Ok(TbsCertificate {
-            version: issued.version,
-            serial_number: issued.serial_number,
-            signature: issued.signature,
-            issuer: issued.issuer,
-            validity: issued.validity,
-            subject: subject.subject,
-            subject_public_key_info: subject.subject_public_key_info,
-            issuer_unique_id: subject.issuer_unique_id,
-            subject_unique_id: subject.subject_unique_id,
-            extensions: subject.extensions,
-        })
+        decode_sequence::<R, (Issued<'a>, Subject<'a>), Self>(alloc, reader, header)
     }
 
     fn is_value(&self) {

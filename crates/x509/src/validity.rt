@@ -6,8 +6,8 @@ ghost use Rattle.der_asn1.specs.Meaning.{alternative, either, field, sequence, t
 
 use crate::time::Time;
 use der::{
-    Decode, DecodeValue, Encode, EncodeRef, EncodeValue, Error, FixedTag, Header, Lawful, Length,
-    ReadValue, Reader, SliceReader, Tag, Writer, WrittenValue, decode_contents,
+    Decode, DecodeValue, Encode, EncodeRef, EncodeValue, Error, FixedTag, FromFields, Header,
+    Lawful, Length, ReadValue, Reader, SliceReader, Tag, Writer, WrittenValue, decode_sequence,
 };
 use der_asn1::{Described, Either, GeneralizedTime, UtcTime};
 use std::alloc::Global;
@@ -24,12 +24,24 @@ pub struct Validity {
 /// The fields of a [`Validity`], in sequence.
 pub type ValidityFields = (Time, Time);
 
+impl FromFields<ValidityFields> for Validity {
+    ghost fields = { λ v. (v.not_before, v.not_after) };
+
+    fn from_fields(members: ValidityFields) -> Self {
+        let (not_before, not_after) = members;
+        Validity {
+            not_before,
+            not_after,
+        }
+    }
+}
+
 impl Described for Validity {
     ghost element = { sequence (two_fields (field (either (alternative
         ⟦<UtcTime as Described>⟧.element) (alternative ⟦<GeneralizedTime as Described>⟧.element)))
         (field (either (alternative ⟦<UtcTime as Described>⟧.element) (alternative
         ⟦<GeneralizedTime as Described>⟧.element))))
-        (λ v. (v.not_before, v.not_after)) };
+        ⟦<Validity as FromFields<ValidityFields>>⟧.fields };
 }
 
 impl FixedTag for Validity {
@@ -66,15 +78,10 @@ impl<'a, R: Reader<Borrowed = &'a [u8]>> DecodeValue<R> for Validity {
 
     ghost decode_value_answers = { λ h s result t.
         ⟦<ValidityFields as Decode<SliceReader<'a>>>⟧.decode_answers s
-        (map_ok (λ v. (v.not_before, v.not_after)) result) t };
+        (map_ok ⟦<Validity as FromFields<ValidityFields>>⟧.fields result) t };
 
     fn decode_value(alloc: Global, reader: &mut R, header: Header) -> Result<Self, Error> {
-        let fields = decode_contents::<R, ValidityFields>(alloc, reader, header)?;
-        let (not_before, not_after) = fields;
-        Ok(Validity {
-            not_before,
-            not_after,
-        })
+        decode_sequence::<R, ValidityFields, Self>(alloc, reader, header)
     }
 
     fn is_value(&self) {
@@ -103,10 +110,11 @@ impl WrittenValue for Validity {
 /// - `Overflow` without a position from [`EncodeValue::value_len`], if the fields together have
 ///   more than 4294967295 octets.
 impl EncodeValue for Validity {
-    ghost value_size = { λ v. ⟦<ValidityFields as Encode>⟧.size (v.not_before, v.not_after) };
+    ghost value_size = { λ v. ⟦<ValidityFields as Encode>⟧.size
+        (⟦<Validity as FromFields<ValidityFields>>⟧.fields v) };
 
     ghost encode_value_answers = { λ v. ⟦<ValidityFields as Encode>⟧.encode_answers
-        (v.not_before, v.not_after) };
+        (⟦<Validity as FromFields<ValidityFields>>⟧.fields v) };
 
     fn value_len(&self) -> Result<Length, Error> {
         (EncodeRef(&self.not_before), EncodeRef(&self.not_after)).encoded_len()

@@ -8,8 +8,8 @@ use crate::attribute::Attributes;
 use crate::name::Name;
 use crate::request::version::CertReqVersion;
 use der::{
-    Decode, DecodeValue, Encode, EncodeRef, EncodeValue, Error, FixedTag, Header, Lawful, Length,
-    ReadValue, Reader, SliceReader, Tag, Writer, WrittenValue, decode_contents,
+    Decode, DecodeValue, Encode, EncodeRef, EncodeValue, Error, FixedTag, FromFields, Header,
+    Lawful, Length, ReadValue, Reader, SliceReader, Tag, Writer, WrittenValue, decode_sequence,
 };
 use der_asn1::{Described, Implicit};
 use spki::SubjectPublicKeyInfoRef;
@@ -34,13 +34,27 @@ pub type CertReqInfoFields<'a> = (
     (SubjectPublicKeyInfoRef<'a>, Implicit<Attributes<'a>, 0>),
 );
 
+impl<'a> FromFields<CertReqInfoFields<'a>> for CertReqInfo<'a> {
+    ghost fields = { λ v. ((v.version, v.subject), (v.public_key, v.attributes)) };
+
+    fn from_fields(members: CertReqInfoFields<'a>) -> Self {
+        let ((version, subject), (public_key, attributes)) = members;
+        CertReqInfo {
+            version,
+            subject,
+            public_key,
+            attributes,
+        }
+    }
+}
+
 impl<'a> Described for CertReqInfo<'a> {
     ghost element = { sequence (two_fields (two_fields (field (alternative
         ⟦<CertReqVersion<'a> as Described>⟧.element))
         (field (alternative ⟦<Name<'a> as Described>⟧.element)))
         (two_fields (field (alternative ⟦<SubjectPublicKeyInfoRef<'a> as Described>⟧.element))
         (field (alternative ⟦<Implicit<Attributes<'a>, 0> as Described>⟧.element))))
-        (λ v. ((v.version, v.subject), (v.public_key, v.attributes))) };
+        ⟦<CertReqInfo<'a> as FromFields<CertReqInfoFields<'a>>>⟧.fields };
 }
 
 impl<'a> FixedTag for CertReqInfo<'a> {
@@ -77,17 +91,10 @@ impl<'a, R: Reader<Borrowed = &'a [u8]>> DecodeValue<R> for CertReqInfo<'a> {
 
     ghost decode_value_answers = { λ h s result t.
         ⟦<CertReqInfoFields<'a> as Decode<SliceReader<'a>>>⟧.decode_answers s
-        (map_ok (λ v. ((v.version, v.subject), (v.public_key, v.attributes))) result) t };
+        (map_ok ⟦<CertReqInfo<'a> as FromFields<CertReqInfoFields<'a>>>⟧.fields result) t };
 
     fn decode_value(alloc: Global, reader: &mut R, header: Header) -> Result<Self, Error> {
-        let fields = decode_contents::<R, CertReqInfoFields<'a>>(alloc, reader, header)?;
-        let ((version, subject), (public_key, attributes)) = fields;
-        Ok(CertReqInfo {
-            version,
-            subject,
-            public_key,
-            attributes,
-        })
+        decode_sequence::<R, CertReqInfoFields<'a>, Self>(alloc, reader, header)
     }
 
     fn is_value(&self) {
@@ -112,16 +119,11 @@ impl<'a> WrittenValue for CertReqInfo<'a> {
 /// - `Overflow` without a position from [`EncodeValue::value_len`], if the fields together have
 ///   more than 4294967295 octets.
 impl<'a> EncodeValue for CertReqInfo<'a> {
-    ghost value_size = { λ v. ⟦<CertReqInfoFields<'a> as Encode>⟧.size (
-      (
-        v.version,
-        v.subject,
-      ),
-      (v.public_key, v.attributes),
-    ) };
+    ghost value_size = { λ v. ⟦<CertReqInfoFields<'a> as Encode>⟧.size
+        (⟦<CertReqInfo<'a> as FromFields<CertReqInfoFields<'a>>>⟧.fields v) };
 
     ghost encode_value_answers = { λ v. ⟦<CertReqInfoFields<'a> as Encode>⟧.encode_answers
-        ((v.version, v.subject), (v.public_key, v.attributes)) };
+        (⟦<CertReqInfo<'a> as FromFields<CertReqInfoFields<'a>>>⟧.fields v) };
 
     fn value_len(&self) -> Result<Length, Error> {
         (

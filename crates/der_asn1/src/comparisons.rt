@@ -1,0 +1,28 @@
+//! States the results of the derived comparisons. Each function calls one of them and its contract
+//! states the result; nothing else uses these functions.
+ghost use Rattle.std.specs.Prelude.{◌≡◌, ◌↔◌, IsTrue, Some};
+ghost use Rattle.der_asn1.specs.Times.{time_order};
+
+use crate::date_time::DateTime;
+use std::cmp::Ordering;
+
+/// Equal times have the same date and the same time of day.
+fn date_time_equality(a: DateTime, b: DateTime) -> bool
+    ensures { IsTrue result ↔ (a ≡ b) }
+{
+    a == b
+}
+
+/// The earlier time is less.
+fn date_time_ordering(a: DateTime, b: DateTime) -> Ordering
+    ensures { result ≡ time_order a b }
+{
+    a.cmp(&b)
+}
+
+/// The earlier time is less, and any two times can be compared.
+fn date_time_partial_ordering(a: DateTime, b: DateTime) -> Option<Ordering>
+    ensures { result ≡ Some (time_order a b) }
+{
+    a.partial_cmp(&b)
+}

@@ -1,0 +1,52 @@
+//! Types that consist of fields in sequence.
+ghost use Rattle.std.specs.Prelude.{◌≡◌, ◌+◌, ◌≤◌, true};
+ghost use Rattle.der_core.specs.DecodeValue.{ContentsNext, EndsOrLacks, TakesContents};
+ghost use Rattle.der_core.specs.Fields.{TakesWhole};
+ghost use Rattle.der_core.specs.Header.{head_of};
+ghost use Rattle.der_core.specs.Outcome.{map_ok};
+ghost use Rattle.der_core.specs.ReaderState.{Same};
+
+use crate::decode::{Decode, decode_contents};
+use crate::header::Header;
+use crate::reader::Reader;
+use std::alloc::Global;
+
+/// Types that consist of fields of the type `F`, such as nested pairs.
+///
+/// Ghost member: `fields` is the fields of a value.
+pub trait FromFields<F>: Sized + Drop {
+    ghost fields: { Self → F };
+
+    /// The value with these fields.
+    fn from_fields(members: F) -> Self
+        ensures { Self.fields result ≡ members };
+}
+
+/// Decodes a value from all of the contents that the reader is inside: the contents are its fields
+/// in sequence. It has the contract that
+/// [`DecodeValue::decode_value`](crate::DecodeValue::decode_value) requires.
+///
+/// # Errors
+///
+/// Those of the fields, in sequence, as by [`Decode::decode`].
+#[inline(always)]
+pub fn decode_sequence<R: Reader, F: Decode<R>, T: FromFields<F>>(
+    alloc: Global,
+    reader: &mut R,
+    header: Header,
+) -> Result<T, <F as Decode<R>>::Error>
+    ensures same { Same (R.state reader.old) (R.state reader.new) }
+    ensures sound { TakesContents (λ v. TakesWhole F.is_next (T.fields v)) (head_of header)
+        (R.state reader.old) result (R.state reader.new) }
+    ensures complete { (v : T) → R.reliable ≡ true
+        → ContentsNext (TakesWhole F.is_next (T.fields v)) (head_of header) (R.state reader.old)
+        → (R.state reader.old).depth + F.decode_levels (R.state reader.old).rules ≤ 64
+        → EndsOrLacks F.Error.out_of_memory F.allocates result (R.state reader.new) }
+    ensures exact { R.reliable ≡ true → F.decode_answers (R.state reader.old)
+        (map_ok T.fields result) (R.state reader.new) }
+{
+    match decode_contents::<R, F>(alloc, reader, header) {
+        Ok(fields) => Ok(T::from_fields(fields)),
+        Err(error) => Err(error),
+    }
+}
