@@ -5,7 +5,7 @@ ghost use Rattle.der.specs.BytesRef.{reference_octets};
 
 use crate::bytes::BytesRef;
 
-/// `BytesRef::EMPTY` has no octets.
+/// States that `BytesRef::EMPTY` has no octets.
 fn empty() -> BytesRef<'static>
     ensures { reference_octets result ≡ [] }
 {

@@ -4,14 +4,15 @@ ghost use Rattle.std.specs.Prelude.{◌≡◌, ℕ, ◌≤◌, List};
 ghost use Rattle.der_base.specs.declared.tag.Tag.{Tag};
 ghost use Rattle.der.specs.Joined.{Joined};
 
-/// Joining the segments in given octets has at most one result.
+/// States that joining is unambiguous: the segments of an OCTET STRING that given octets contain
+/// (X.690 8.7.3) can be joined to at most one result.
 fn joined_once()
     ensures { (tag : Tag) (levels : ℕ) (octets x y : List ℕ) → Joined tag levels octets x
         → Joined tag levels octets y → x ≡ y }
 {}
 
-/// If joining has a result with a limit on the levels of nesting, it has the same result with every
-/// higher limit.
+/// States that a higher limit on nesting does not change the result of joining segments (X.690
+/// 8.7.3): a result under one limit is also the result under every higher limit.
 fn joined_with_more_levels()
     ensures { (tag : Tag) (levels more : ℕ) (octets out : List ℕ) → Joined tag levels octets out
         → levels ≤ more → Joined tag more octets out }

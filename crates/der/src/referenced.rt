@@ -22,7 +22,7 @@ pub fn slice_to_owned(alloc: Global, bytes: &[u8]) -> Result<BoxedSlice<u8>, Err
     }
 }
 
-/// The octets in the box `bytes`, borrowed.
+/// The octets in the box `bytes`, borrowed as a slice.
 pub fn box_to_ref(bytes: &BoxedSlice<u8>) -> &[u8]
     ensures { result.now ≡ boxed_slice_items bytes.now }
 {

@@ -68,7 +68,7 @@ impl<'a, R: Reader<Borrowed = &'a [u8]>> DecodeValue<R> for AnyRef<'a> {
 
 /// # Errors
 ///
-/// The errors of [`decode_element`].
+/// The errors of [`decode_element`] for an element of any tag.
 impl<'a, R: Reader<Borrowed = &'a [u8]>> Decode<R> for AnyRef<'a> {
     type Error = Error;
 

@@ -14,7 +14,7 @@ enum Stage {
     Other,
 }
 
-/// An iterator over the arcs of an OBJECT IDENTIFIER.
+/// An iterator over the arcs of an OBJECT IDENTIFIER: the numbers of which it consists.
 #[derive(Drop)]
 pub struct Arcs<'a> {
     octets: &'a [u8],
@@ -25,7 +25,7 @@ pub struct Arcs<'a> {
 impl<'a> Checked<'a, ObjectIdentifierGrammar> {
     ghost use Rattle.der_asn1.specs.Arcs.{arcs_left, oid_arcs, oid_octets};
 
-    /// An iterator over all arcs of the OBJECT IDENTIFIER.
+    /// An iterator over all arcs of the OBJECT IDENTIFIER, from the first.
     pub fn arcs(&self) -> Arcs<'a>
         ensures arcs { arcs_left result ≡ oid_arcs self.now.octets.now }
         ensures octets { oid_octets (arcs_left result) ≡ self.now.octets.now }
@@ -51,7 +51,8 @@ impl<'a> Arcs<'a> {
     }
 }
 
-/// Each item is an arc as a number, or `None` if the arc exceeds 4294967295.
+/// Each item is one arc: its number, or `None` if the number exceeds 4294967295. The iteration
+/// continues after a `None` item.
 impl<'a> Iterator for Arcs<'a> {
     ghost use Rattle.std.specs.Iterator.{YieldsFirst, item_count};
     ghost use Rattle.der_asn1.specs.Arcs.{arc_items};

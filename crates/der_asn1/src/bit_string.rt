@@ -8,8 +8,8 @@ use crate::checked::Checked;
 use crate::grammar::ContentsGrammar;
 use der::{FixedTag, Tag};
 
-/// Contents of a BIT STRING: an octet with the number of unused bits, then the octets of the bits.
-/// The unused bits, at the end of the last octet, are zero (X.690 8.6.2, 11.2.1).
+/// Describes the contents of a BIT STRING: an octet with the number of unused bits, then the octets
+/// of the bits. The unused bits, at the end of the last octet, are zero (X.690 8.6.2, 11.2.1).
 pub struct BitStringGrammar;
 
 /// A BIT STRING borrowed from the input. The first contents octet is the number of unused bits.

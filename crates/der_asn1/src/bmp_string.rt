@@ -8,8 +8,8 @@ use crate::checked::Checked;
 use crate::grammar::ContentsGrammar;
 use der::{FixedTag, Tag};
 
-/// Contents of a BMPString: characters of the Basic Multilingual Plane, of two octets each (X.690
-/// 8.23.9).
+/// Describes the contents of a BMPString: characters of the Basic Multilingual Plane, of two octets
+/// each (X.690 8.23.9).
 pub struct BmpStringGrammar;
 
 /// A BMPString borrowed from the input.

@@ -9,7 +9,7 @@ use crate::default_contents::DefaultContents;
 use crate::grammar::ContentsGrammar;
 use der::{FixedTag, Tag};
 
-/// Contents of a BOOLEAN: `0x00` for false, `0xFF` for true (X.690 8.2, 11.1).
+/// Describes the contents of a BOOLEAN: `0x00` for false, `0xFF` for true (X.690 8.2, 11.1).
 pub struct BooleanGrammar;
 
 /// A BOOLEAN borrowed from the input.
@@ -52,7 +52,7 @@ impl<'a> Checked<'a, BooleanGrammar> {
     }
 }
 
-/// The default value is false, as in `BOOLEAN DEFAULT FALSE`.
+/// The default value of a BOOLEAN is false, as in `BOOLEAN DEFAULT FALSE`.
 impl DefaultContents for BooleanGrammar {
     ghost default_contents = { is_false };
 

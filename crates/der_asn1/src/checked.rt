@@ -15,7 +15,8 @@ use der::{
 use std::alloc::{AllocError, Global};
 use std::marker::PhantomData;
 
-/// Octets that are borrowed from the input and are valid contents of the type that `F` describes.
+/// A value of the type that `F` describes: octets that are borrowed from the input and are valid
+/// contents of that type.
 pub struct Checked<'a, F: ContentsGrammar> {
     octets: &'a [u8],
     grammar: PhantomData<F>,
@@ -36,8 +37,7 @@ impl<'a, F: ContentsGrammar> Clone for Checked<'a, F> {
 impl<'a, F: ContentsGrammar> Copy for Checked<'a, F> {}
 
 impl<'a, F: ContentsGrammar> Checked<'a, F> {
-    /// Wraps `octets`; returns `None` if they are not valid contents of the type that `F`
-    /// describes.
+    /// Wraps `octets`; `None` if `octets` are not valid contents of the type that `F` describes.
     #[inline(always)]
     pub fn new(octets: &'a [u8]) -> Option<Self>
         ensures some { IsSome result ↔ (F.grammar octets.now ≡ true) }
@@ -101,14 +101,14 @@ impl<'a, F: ContentsGrammar> ReadValue for Checked<'a, F> {
         subst (λ x. F.grammar x ≡ true) (sym taken.1) taken.0 };
 }
 
-/// Borrows the contents from the input and checks them, under BER as strictly as under DER. Takes
-/// only the length from the header, and ignores its tag.
+/// Borrows the contents from the input and checks them. The check is as strict under BER as under
+/// DER. Takes only the length from the header, and ignores its tag.
 ///
 /// # Errors
 ///
 /// - The errors of reading the contents, as by [`Reader::read_slice`].
-/// - `Value` with the tag of the type, at the position after the contents, if they are not valid;
-///   the reader has failed then.
+/// - `Value` with the tag of the type, at the position after the contents, if the contents are not
+///   valid; the reader has failed then.
 impl<'a, F: ContentsGrammar, R: Reader<Borrowed = &'a [u8]>> DecodeValue<R> for Checked<'a, F> {
     type Error = Error;
 

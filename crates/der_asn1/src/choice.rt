@@ -7,14 +7,15 @@ ghost use Rattle.der_asn1.specs.Begins.{element_begins, any_element_begins};
 use crate::any::AnyRef;
 use der::{Decode, DecodeValue, FixedTag, Reader, Tag};
 
-/// Types for which the next tag decides whether a value is next.
+/// Types whose values are recognized by their tag: from the next tag a reader decides whether a
+/// value of the type comes next.
 ///
-/// Ghost members: `chooses` says with which tags a value may begin; `begins` proves that a value
-/// begins with one of them.
+/// Ghost members (for proofs only): `chooses` says with which tags a value may begin; `begins`
+/// proves that every value begins with one of these tags.
 pub trait Choice<R: Reader>: Decode<R> {
     ghost chooses: { ATag → Type 0 };
 
-    /// Whether a value may begin with the tag `tag`.
+    /// Whether a value of this type may begin with the tag `tag`.
     fn can_decode(tag: Tag) -> bool
         ensures { IsTrue result ↔ chooses tag };
 

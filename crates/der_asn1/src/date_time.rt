@@ -9,7 +9,7 @@ pub struct DateTime {
     pub year: u16,
     /// The month, from 1 to 12.
     pub month: u8,
-    /// The day of the month, from 1.
+    /// The day of the month; the first day is 1.
     pub day: u8,
     /// The hour, from 0 to 23.
     pub hour: u8,
@@ -20,8 +20,8 @@ pub struct DateTime {
 }
 
 impl DateTime {
-    /// Whether the date exists, its year is below 10000, and the time of day exists; a leap second
-    /// does not count as an existing time.
+    /// Whether the date exists, its year is below 10000, and the time of day exists. A time with
+    /// second 60, a leap second, is not valid.
     pub fn is_valid(&self) -> bool
         ensures { result ≡ is_date_time self.now }
     {

@@ -9,10 +9,11 @@ use crate::explicit::Explicit;
 use crate::grammar::ContentsGrammar;
 use der::Reader;
 
-/// Types with a default value for a DEFAULT field; the contents decide whether a value is the
-/// default.
+/// Types with a default value, which an absent DEFAULT field has. The contents octets of a value
+/// decide whether it is the default.
 ///
-/// Ghost member: `default_contents` says which contents are those of the default value.
+/// Ghost member (for proofs only): `default_contents` says which octets are the contents of the
+/// default value.
 pub trait DefaultContents: ContentsGrammar {
     ghost default_contents: { List ℕ → Bool };
 

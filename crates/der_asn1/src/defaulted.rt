@@ -8,9 +8,9 @@ use crate::choice::Choice;
 use der::{Decode, Encode, EncodingRules, Error, ErrorKind, Length, Reader, ReaderExt, Writer};
 use std::alloc::Global;
 
-/// Types that have a default value in a DEFAULT field.
+/// Types that have a default value: the value of a DEFAULT field that is absent.
 ///
-/// Ghost member: `is_default` says which values are the default.
+/// Ghost member (for proofs only): `is_default` says of each value whether it is the default.
 pub trait DefaultValue: Sized {
     ghost is_default: { Self → Bool };
 
@@ -23,10 +23,10 @@ pub trait DefaultValue: Sized {
         ensures { result ≡ is_default self.now };
 }
 
-/// Types that have a default value and can be decoded.
+/// Types that have a default value and that a reader `R` can decode.
 ///
-/// Ghost member: `reported` proves that of two values that can be decoded from the same octets,
-/// both are the default or neither is.
+/// Ghost member (for proofs only): `reported` proves that, if two values can be decoded from the
+/// same octets, both are the default or neither is.
 pub trait HasDefault<R: Reader>: Choice<R> + DefaultValue {
     // If two values can be decoded from the same octets, both are the default or neither is.
     ghost reported: { (v w : Self) (rules : Rules) (octets : List ℕ) (m n : ℕ)
@@ -42,8 +42,8 @@ fn is_written_default<R: Reader, T: HasDefault<R>>(rules: EncodingRules, value: 
     rules.is_der() && value.has_default()
 }
 
-/// A DEFAULT field: it is absent if its value is the default (X.690 11.5). Under BER the default
-/// may also be encoded (8.9.3).
+/// A DEFAULT field. If its value is the default, DER requires that the field is absent (X.690
+/// 11.5); BER also allows that the default is encoded (8.9.3).
 #[derive(Drop)]
 pub struct Defaulted<T>(pub T);
 

@@ -24,8 +24,8 @@ pub enum Either<A, B> {
 ///
 /// - The errors of [`Tag::peek`], if the next octets do not begin with a tag; the reader is
 ///   unchanged.
-/// - `TagUnexpected` without an expected tag, at the position, if no value of either type begins
-///   with the next tag; the reader has failed then.
+/// - `TagUnexpected` without an expected tag, at the reader's position, if no value of either type
+///   begins with the next tag; the reader has failed then.
 /// - The errors of decoding the value.
 impl<R: Reader, A: Choice<R>, B: Choice<R> + Decode<R, Error = <A as Decode<R>>::Error>> Decode<R>
     for Either<A, B> {

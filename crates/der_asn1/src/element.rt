@@ -10,7 +10,8 @@ use std::alloc::Global;
 
 /// Decodes an element with any tag that `T` accepts: its header, its contents, and after an
 /// indefinite length the end-of-contents octets. Types without a fixed tag, such as ANY and CHOICE,
-/// implement `decode` by this function. The ghost member `takes` of `T` says which tags it accepts.
+/// implement `decode` by calling this function. The ghost member `takes` of `T`, which is for
+/// proofs only, says which tags `T` accepts.
 ///
 /// # Errors
 ///

@@ -10,7 +10,8 @@ use crate::integer::IntegerGrammar;
 use crate::integer_number::IntegerNumber;
 use der::{FixedTag, Tag};
 
-/// Contents of an ENUMERATED: the contents of an INTEGER with the same number (X.690 8.4).
+/// Describes the contents of an ENUMERATED: the contents of an INTEGER with the same number (X.690
+/// 8.4).
 pub struct EnumeratedGrammar;
 
 /// An ENUMERATED borrowed from the input.

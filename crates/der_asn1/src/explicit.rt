@@ -13,8 +13,11 @@ use der::{
 };
 use std::alloc::Global;
 
-/// Types whose elements may be the contents of another element: under DER their values need at most
-/// 62 levels of nesting.
+/// Types whose elements may be the contents of another element. A reader allows 64 levels of
+/// nesting. The outer element and the element of the value need one level each, so under DER the
+/// contents of the value may need at most 62.
+///
+/// Ghost member (for proofs only): `nestable` proves that they need at most 62.
 pub trait Nestable: ReadValue {
     // A value needs at most 62 levels of nesting: the element around it leaves 63, and the value's
     // own element needs one.
@@ -59,7 +62,8 @@ impl<T: ReadValue + FixedTag, const N: u32> ReadValue for Explicit<T, N> {
 
 /// # Errors
 ///
-/// The errors of decoding the element of the value, as by [`decode_tlv`](der::decode_tlv).
+/// The errors of decoding the inner element, which is that of the value, as by
+/// [`decode_tlv`](der::decode_tlv).
 impl<R: Reader, T: DecodeValue<R> + FixedTag, const N: u32> DecodeValue<R> for Explicit<T, N> {
     type Error = <T as DecodeValue<R>>::Error;
 
@@ -89,7 +93,7 @@ impl<T: WrittenValue + FixedTag, const N: u32> WrittenValue for Explicit<T, N> {
 
 /// # Errors
 ///
-/// The errors of encoding the element of the value.
+/// The errors of encoding the inner element, which is that of the value.
 impl<T: EncodeValue + FixedTag, const N: u32> EncodeValue for Explicit<T, N> {
     ghost value_size = { λ v. element_size T.tag_is (T.value_size v.0) };
 

@@ -6,8 +6,8 @@ use der::FixedTag;
 
 /// Types that describe an ASN.1 type by its tag and by a check of its contents octets.
 ///
-/// Ghost members: `grammar` says which octets are valid contents; `numbered` proves that the tag
-/// number fits in 32 bits.
+/// Ghost members (for proofs only): `grammar` says which octets are valid contents; `numbered`
+/// proves that the number of the tag fits in 32 bits.
 pub trait ContentsGrammar: FixedTag {
     ghost grammar: { List ℕ → Bool };
 

@@ -7,7 +7,7 @@ use crate::checked::Checked;
 use crate::grammar::ContentsGrammar;
 use der::{FixedTag, Tag};
 
-/// Contents of an IA5String: octets below `0x80` (X.690 8.23, X.680 41).
+/// Describes the contents of an IA5String: octets below `0x80` (X.690 8.23, X.680 41).
 pub struct Ia5StringGrammar;
 
 /// An IA5String borrowed from the input.

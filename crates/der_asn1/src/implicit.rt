@@ -15,8 +15,8 @@ use der::{
 };
 use std::alloc::Global;
 
-/// A value whose own tag is replaced by the context-specific tag number `N` (X.690 8.14.3). The tag
-/// is constructed if the value's own tag is.
+/// A value whose own tag is replaced by the context-specific tag number `N` (X.690 8.14.3). The new
+/// tag is constructed if and only if the value's own tag is.
 #[derive(Clone, Copy, Drop)]
 pub struct Implicit<T, const N: u32>(pub T);
 
@@ -54,7 +54,7 @@ impl<T: ReadValue + FixedTag, const N: u32> ReadValue for Implicit<T, N> {
 
 /// # Errors
 ///
-/// The errors of [`DecodeValue::decode_value`] for the value.
+/// The errors of [`DecodeValue::decode_value`] for the type `T`.
 impl<R: Reader, T: DecodeValue<R> + FixedTag, const N: u32> DecodeValue<R> for Implicit<T, N> {
     type Error = <T as DecodeValue<R>>::Error;
 
@@ -84,7 +84,7 @@ impl<T: WrittenValue, const N: u32> WrittenValue for Implicit<T, N> {
 
 /// # Errors
 ///
-/// The errors of `value_len` and `encode_value` for the value.
+/// The errors of `value_len` and `encode_value` for the wrapped value of type `T`.
 impl<T: EncodeValue, const N: u32> EncodeValue for Implicit<T, N> {
     ghost value_size = { λ v. T.value_size v.0 };
 

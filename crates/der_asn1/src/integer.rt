@@ -8,7 +8,8 @@ use crate::checked::Checked;
 use crate::grammar::ContentsGrammar;
 use der::{FixedTag, Tag};
 
-/// Contents of an INTEGER: a number in two's complement, in the fewest octets (X.690 8.3.2).
+/// Describes the contents of an INTEGER: a number in two's complement, in the fewest octets (X.690
+/// 8.3.2).
 pub struct IntegerGrammar;
 
 /// An INTEGER borrowed from the input.

@@ -12,19 +12,20 @@ use crate::integer_octets::{IntegerOctets, turned_octet};
 
 /// Numbers that are encoded as an INTEGER (X.690 8.3).
 ///
-/// Ghost members: `grammar` says which octets are the contents of a number of this type;
-/// `contents_of` gives the contents octets of each number.
+/// Ghost members (for proofs only): `grammar` says which octets are the INTEGER contents of a
+/// number of this type; `contents_of` gives the contents octets of each number.
 pub trait IntegerNumber: Copy {
     ghost grammar: { List ℕ → Bool };
 
     ghost contents_of: { Self → List ℕ };
 
-    /// The number whose contents are `octets`; `None` if no number of this type has them.
+    /// The number whose INTEGER contents are `octets`; `None` if no number of this type has these
+    /// contents.
     fn from_contents(octets: &[u8]) -> Option<Self>
         ensures some { IsSome result ↔ (grammar octets.now ≡ true) }
         ensures same { IfSome result (λ v. contents_of v ≡ octets.now) };
 
-    /// The contents octets of the number as an INTEGER.
+    /// The contents octets of the INTEGER that encodes the number.
     fn to_contents(self) -> IntegerOctets
         ensures octets { drop result.start result.octets ≡ contents_of self }
         ensures formed { grammar (contents_of self) ≡ true };

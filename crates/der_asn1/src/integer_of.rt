@@ -58,13 +58,14 @@ impl<N: IntegerNumber> ReadValue for IntegerOf<N> {
         subst (λ x. N.grammar x ≡ true) (sym taken.1) taken.0 };
 }
 
-/// Accepts only the shortest contents, also under BER (X.690 8.3.2).
+/// Reads the number from the contents. Accepts only the shortest contents for a number, also under
+/// BER (X.690 8.3.2).
 ///
 /// # Errors
 ///
 /// - The errors of reading the contents, as by [`Reader::read_slice`].
-/// - `Value` with the tag INTEGER, at the position after the contents, if they are not the shortest
-///   or their number is not in the range of `N`; the reader has failed then.
+/// - `Value` with the tag INTEGER, at the position after the contents, if the contents are not the
+///   shortest or the number is not in the range of `N`; the reader has failed then.
 impl<'a, N: IntegerNumber, R: Reader<Borrowed = &'a [u8]>> DecodeValue<R> for IntegerOf<N> {
     type Error = Error;
 

@@ -7,7 +7,7 @@ use crate::checked::Checked;
 use crate::grammar::ContentsGrammar;
 use der::{FixedTag, Tag};
 
-/// Contents of NULL: no octets (X.690 8.8.2).
+/// Describes the contents of NULL: no octets (X.690 8.8.2).
 pub struct NullGrammar;
 
 /// NULL, borrowed from the input.

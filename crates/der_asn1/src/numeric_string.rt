@@ -7,7 +7,7 @@ use crate::checked::Checked;
 use crate::grammar::ContentsGrammar;
 use der::{FixedTag, Tag};
 
-/// Contents of a NumericString: digits and space (X.680 41.2).
+/// Describes the contents of a NumericString: the digits and the space (X.680 41.2).
 pub struct NumericStringGrammar;
 
 /// A NumericString borrowed from the input.

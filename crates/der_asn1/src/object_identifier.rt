@@ -8,8 +8,8 @@ use crate::checked::Checked;
 use crate::grammar::ContentsGrammar;
 use der::{FixedTag, Tag};
 
-/// Contents of an OBJECT IDENTIFIER: one or more subidentifiers, none of which begins with octet
-/// `0x80` (X.690 8.19.2, 8.19.3).
+/// Describes the contents of an OBJECT IDENTIFIER: one or more subidentifiers, none of which begins
+/// with octet `0x80` (X.690 8.19.2, 8.19.3).
 pub struct ObjectIdentifierGrammar;
 
 /// An OBJECT IDENTIFIER borrowed from the input.

@@ -7,7 +7,7 @@ use crate::checked::Checked;
 use crate::grammar::ContentsGrammar;
 use der::{FixedTag, Tag};
 
-/// Contents of an OCTET STRING: any octets (X.690 8.7).
+/// Describes the contents of an OCTET STRING: any octets (X.690 8.7).
 pub struct OctetStringGrammar;
 
 /// An OCTET STRING borrowed from the input.

@@ -8,8 +8,8 @@ use crate::choice::Choice;
 use der::{Decode, Encode, Error, Length, Reader, ReaderExt, Writer};
 use std::alloc::Global;
 
-/// An OPTIONAL field (X.690 8.9.3): a value, or `None` if no octets are left or the next tag is not
-/// one with which a value may begin.
+/// An OPTIONAL field (X.690 8.9.3): a value, or `None` if the field is absent. Decoding takes the
+/// field as absent if no octets are left, or if no value of `T` may begin with the next tag.
 #[derive(Clone, Copy, Drop)]
 pub struct Optional<T>(pub Option<T>);
 

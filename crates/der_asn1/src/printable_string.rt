@@ -8,7 +8,8 @@ use crate::checked::Checked;
 use crate::grammar::ContentsGrammar;
 use der::{FixedTag, Tag};
 
-/// Contents of a PrintableString: letters, digits, space, and `'()+,-./:=?` (X.680 41.4).
+/// Describes the contents of a PrintableString: letters, digits, space, and `'()+,-./:=?` (X.680
+/// 41.4).
 pub struct PrintableStringGrammar;
 
 /// A PrintableString borrowed from the input.

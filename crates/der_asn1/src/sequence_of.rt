@@ -74,7 +74,7 @@ fn check_items<'a, T: Lawful + DecodeValue<SliceReader<'a>>>(
 }
 
 /// A SEQUENCE OF borrowed from the input. Its contents have been checked: they are encodings of
-/// values of `T`, in sequence.
+/// values of `T`, one after the other.
 pub struct SequenceOf<'a, T: Lawful> {
     octets: &'a [u8],
     of: PhantomData<T>,
@@ -122,7 +122,7 @@ impl<'a, T: Lawful> ReadValue for SequenceOf<'a, T> {
 }
 
 /// Borrows the contents from the input, and checks every element in them once. The elements must be
-/// encoded under DER, whatever the rules of the reader.
+/// encoded under DER, also if the reader reads BER.
 ///
 /// # Errors
 ///
@@ -202,15 +202,15 @@ pub struct Items<'a, T: Lawful> {
 }
 
 impl<'a, T: Lawful + DecodeValue<SliceReader<'a>>> SequenceOf<'a, T> {
-    /// The SEQUENCE OF whose contents are `octets`. They must be encodings of values of `T`, in
-    /// sequence.
+    /// Wraps `octets` as the contents of a SEQUENCE OF. Checks that they are encodings of values of
+    /// `T`, one after the other.
     ///
     /// # Errors
     ///
     /// - `Overflow` without a position, if there are more than 4294967295 octets.
     /// - The errors of decoding the first element that cannot be decoded, as by [`decode_tlv`].
-    /// - `Failed` at the position after an element, if `T` returns a value but leaves the reader
-    ///   failed.
+    /// - `Failed` at the position after an element, if decoding a `T` returns a value but leaves
+    ///   the reader failed.
     pub fn new(
         alloc: Global,
         octets: &'a [u8],
@@ -272,7 +272,7 @@ impl<'a, T: Lawful> SequenceOf<'a, T> {
 
 impl<'a, T: Lawful + DecodeValue<SliceReader<'a>>> Items<'a, T> {
     /// The next element; `None` after the last one. If decoding a `T` allocates, `None` can also
-    /// mean that decoding failed.
+    /// mean that decoding failed; the iteration then stays before that element.
     pub fn next(&mut self, alloc: Global) -> Option<T>
         ensures some { IfSome result (λ v. T.valid v
             × Reads (slice_state self.old.reader) (slice_state self.new.reader)

@@ -98,7 +98,7 @@ fn check_set<'a, T: Lawful + DecodeValue<SliceReader<'a>>>(
 }
 
 /// A SET OF borrowed from the input. Its contents have been checked: they are encodings of values
-/// of `T`, in sequence and in ascending order.
+/// of `T`, one after the other and in ascending order.
 pub struct SetOf<'a, T: Lawful> {
     elements: SequenceOf<'a, T>,
     ghost short: { length elements.octets.now < 2 ^ 32 },
@@ -147,7 +147,7 @@ impl<'a, T: Lawful> ReadValue for SetOf<'a, T> {
 }
 
 /// Borrows the contents from the input, and checks every element in them once. The elements must be
-/// encoded under DER, whatever the rules of the reader. Their encodings must be in ascending order,
+/// encoded under DER, also if the reader reads BER. Their encodings must be in ascending order,
 /// also under BER; equal encodings may follow each other.
 ///
 /// # Errors
@@ -219,16 +219,16 @@ impl<'a, T: Lawful> Nestable for SetOf<'a, T> {
 }
 
 impl<'a, T: Lawful + DecodeValue<SliceReader<'a>>> SetOf<'a, T> {
-    /// The SET OF whose contents are `octets`. They must be encodings of values of `T`, in sequence
-    /// and in ascending order.
+    /// Wraps `octets` as the contents of a SET OF. Checks that they are encodings of values of `T`,
+    /// one after the other and in ascending order.
     ///
     /// # Errors
     ///
     /// - `Overflow` without a position, if there are more than 4294967295 octets.
     /// - The errors of decoding the first element that cannot be decoded, as by
     ///   [`decode_tlv`](der::decode_tlv).
-    /// - `Failed` at the position after an element, if `T` returns a value but leaves the reader
-    ///   failed.
+    /// - `Failed` at the position after an element, if decoding a `T` returns a value but leaves
+    ///   the reader failed.
     /// - `SetOrdering` at the start of the first element whose encoding is smaller than that of the
     ///   element before it.
     pub fn new(

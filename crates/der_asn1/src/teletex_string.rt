@@ -7,8 +7,8 @@ use crate::checked::Checked;
 use crate::grammar::ContentsGrammar;
 use der::{FixedTag, Tag};
 
-/// Contents of a TeletexString: any octets, because the set of registered character sets is open
-/// (X.690 8.23.5).
+/// Describes the contents of a TeletexString: any octets, because the set of registered character
+/// sets is open (X.690 8.23.5).
 pub struct TeletexStringGrammar;
 
 /// A TeletexString borrowed from the input.

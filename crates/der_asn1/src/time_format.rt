@@ -8,9 +8,9 @@ use der::FixedTag;
 
 /// Types that describe an ASN.1 time type by its tag and by the format of its contents octets.
 ///
-/// Ghost members: `grammar` says which octets are the contents of a time; `holds` says which times
-/// can be written in this format; `contents_of` gives the contents octets of each time; `numbered`
-/// proves that the tag number fits in 32 bits.
+/// Ghost members (for proofs only): `grammar` says which octets are the contents of a time in this
+/// format; `holds` says which times can be written in this format; `contents_of` gives the contents
+/// octets of each time; `numbered` proves that the number of the tag fits in 32 bits.
 pub trait TimeFormat: FixedTag {
     ghost use Rattle.der_asn1.specs.declared.date_time.DateTime.{DateTime};
 
@@ -24,12 +24,13 @@ pub trait TimeFormat: FixedTag {
     fn can_hold(time: &DateTime) -> bool
         ensures { result ≡ holds time.now };
 
-    /// The time whose contents in this format are `octets`; `None` if no time has them.
+    /// The time whose contents in this format are `octets`; `None` if no time has these contents.
     fn from_contents(octets: &[u8]) -> Option<DateTime>
         ensures some { IsSome result ↔ (grammar octets.now ≡ true) }
         ensures same { IfSome result (λ v. (holds v ≡ true) × (contents_of v ≡ octets.now)) };
 
-    /// The contents octets of `time` in this format.
+    /// The contents octets of `time` in this format. The caller must ensure that `time` can be
+    /// written in it.
     fn to_contents(time: &DateTime) -> TimeOctets
         requires { holds time.now ≡ true }
         ensures octets { drop result.start result.octets ≡ contents_of time.now }

@@ -37,7 +37,7 @@ impl<F: TimeFormat> Clone for TimeOf<F> {
 impl<F: TimeFormat> Copy for TimeOf<F> {}
 
 impl<F: TimeFormat> TimeOf<F> {
-    /// Wraps `time`; returns `None` if it cannot be written in the format `F`.
+    /// Wraps `time`; `None` if `time` cannot be written in the format `F`.
     pub fn new(time: DateTime) -> Option<Self>
         ensures some { IsSome result ↔ (F.holds time ≡ true) }
         ensures same { IfSome result (λ v. v.time ≡ time) }
@@ -87,13 +87,14 @@ impl<F: TimeFormat> ReadValue for TimeOf<F> {
         subst (λ x. F.grammar x ≡ true) (sym taken.1) taken.0 };
 }
 
-/// Accepts only the contents that DER allows, also under BER (X.690 11.7, 11.8).
+/// Reads the time from the contents. Accepts only the contents that DER allows, also under BER
+/// (X.690 11.7, 11.8).
 ///
 /// # Errors
 ///
 /// - The errors of reading the contents, as by [`Reader::read_slice`].
 /// - `Value` with the tag of the type, at the position after the contents, if they are not the
-///   contents of a time; the reader has failed then.
+///   contents of a time in the format `F`; the reader has failed then.
 impl<'a, F: TimeFormat, R: Reader<Borrowed = &'a [u8]>> DecodeValue<R> for TimeOf<F> {
     type Error = Error;
 

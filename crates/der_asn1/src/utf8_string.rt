@@ -8,8 +8,8 @@ use crate::checked::Checked;
 use crate::grammar::ContentsGrammar;
 use der::{FixedTag, Tag};
 
-/// Contents of a UTF8String: characters of ISO/IEC 10646 in UTF-8, each in the fewest octets (X.690
-/// 8.23.10).
+/// Describes the contents of a UTF8String: characters of ISO/IEC 10646 in UTF-8, each in the fewest
+/// octets (X.690 8.23.10).
 pub struct Utf8StringGrammar;
 
 /// A UTF8String borrowed from the input.

@@ -7,7 +7,8 @@ use crate::checked::Checked;
 use crate::grammar::ContentsGrammar;
 use der::{FixedTag, Tag};
 
-/// Contents of a VisibleString: printing characters of ISO/IEC 646, and space (X.680 41).
+/// Describes the contents of a VisibleString: printing characters of ISO/IEC 646, and space (X.680
+/// 41).
 pub struct VisibleStringGrammar;
 
 /// A VisibleString borrowed from the input.

@@ -11,74 +11,74 @@ use crate::tag::{
     CLASS_APPLICATION, CLASS_CONTEXT_SPECIFIC, CLASS_PRIVATE, CLASS_UNIVERSAL, TagMode,
 };
 
-/// [`Length::ZERO`] is a definite length of zero octets.
+/// States that [`Length::ZERO`] is a definite length of zero octets.
 fn zero() -> Length
     ensures { result ≡ definite_length 0 }
 {
     Length::ZERO
 }
 
-/// [`Length::ONE`] is a definite length of one octet.
+/// States that [`Length::ONE`] is a definite length of one octet.
 fn one() -> Length
     ensures { result ≡ definite_length 1 }
 {
     Length::ONE
 }
 
-/// [`Length::MAX`] is the greatest definite length, 4294967295 octets.
+/// States that [`Length::MAX`] is the greatest definite length, 4294967295 octets.
 fn max() -> Length
     ensures { result ≡ definite_length 4294967295 }
 {
     Length::MAX
 }
 
-/// [`CLASS_UNIVERSAL`] is bits 8 and 7 of an identifier octet of class UNIVERSAL (X.690 8.1.2.2,
-/// table 1).
+/// States that [`CLASS_UNIVERSAL`] is `0x00`: in an identifier octet of class UNIVERSAL bits 8 and
+/// 7 are both 0 (X.690 8.1.2.2, table 1).
 fn class_universal() -> u8
     ensures { result ≡ 0x00 }
 {
     CLASS_UNIVERSAL
 }
 
-/// [`CLASS_APPLICATION`] is bits 8 and 7 of an identifier octet of class APPLICATION (X.690
-/// 8.1.2.2, table 1).
+/// States that [`CLASS_APPLICATION`] is `0x40`: in an identifier octet of class APPLICATION bit 8
+/// is 0 and bit 7 is 1 (X.690 8.1.2.2, table 1).
 fn class_application() -> u8
     ensures { result ≡ 0x40 }
 {
     CLASS_APPLICATION
 }
 
-/// [`CLASS_CONTEXT_SPECIFIC`] is bits 8 and 7 of an identifier octet of class CONTEXT-SPECIFIC
-/// (X.690 8.1.2.2, table 1).
+/// States that [`CLASS_CONTEXT_SPECIFIC`] is `0x80`: in an identifier octet of class
+/// CONTEXT-SPECIFIC bit 8 is 1 and bit 7 is 0 (X.690 8.1.2.2, table 1).
 fn class_context_specific() -> u8
     ensures { result ≡ 0x80 }
 {
     CLASS_CONTEXT_SPECIFIC
 }
 
-/// [`CLASS_PRIVATE`] is bits 8 and 7 of an identifier octet of class PRIVATE (X.690 8.1.2.2, table
-/// 1).
+/// States that [`CLASS_PRIVATE`] is `0xC0`: in an identifier octet of class PRIVATE bits 8 and 7
+/// are both 1 (X.690 8.1.2.2, table 1).
 fn class_private() -> u8
     ensures { result ≡ 0xC0 }
 {
     CLASS_PRIVATE
 }
 
-/// The default [`Length`] is the definite length 0.
+/// States that the default [`Length`] is the definite length 0.
 fn default_length() -> Length
     ensures { result ≡ definite_length 0 }
 {
     Length::default()
 }
 
-/// The default [`TagMode`] is explicit tagging.
+/// States that the default [`TagMode`] is explicit tagging.
 fn default_mode() -> TagMode
     ensures { result ≡ Explicit }
 {
     TagMode::default()
 }
 
-/// The default [`EncodingRules`] are the Distinguished Encoding Rules.
+/// States that the default [`EncodingRules`] are the Distinguished Encoding Rules.
 fn default_rules() -> EncodingRules
     ensures { result ≡ Der }
 {

@@ -32,9 +32,9 @@ impl Error {
         }
     }
 
-    /// The error of an input that has `actual_len` octets and needs one more. Its kind is
-    /// `Incomplete`, or `Overflow` if the required number of octets would exceed 4294967295. Its
-    /// position is the end of the input.
+    /// The error of an input that has `actual_len` octets and needs one more. The kind is
+    /// `Incomplete`, or `Overflow` if the required number of octets would exceed 4294967295. The
+    /// position is `actual_len`, the end of the input.
     pub fn incomplete(actual_len: Length) -> Self
         ensures { result ≡ error_at_end actual_len }
     {
@@ -55,7 +55,7 @@ impl Error {
         self.kind
     }
 
-    /// The position of the error, if it is known.
+    /// The position of the error; `None` if it is not known.
     pub const fn position(self) -> Option<Length>
         ensures { result ≡ position_of self }
     {
@@ -74,7 +74,8 @@ impl From<ErrorKind> for Error {
     }
 }
 
-/// Converts a failed integer conversion to kind `Overflow`, without a position.
+/// Converts the error of a failed integer conversion to an error of the kind `Overflow`, without a
+/// position.
 impl From<TryFromIntError> for Error {
     ghost use Rattle.der_base.specs.Error.{error_of_kind};
 
@@ -85,7 +86,7 @@ impl From<TryFromIntError> for Error {
     }
 }
 
-/// Converts a UTF-8 error to kind `Utf8`, without a position.
+/// Converts a UTF-8 error to an error of the kind `Utf8`, without a position.
 impl From<Utf8Error> for Error {
     ghost use Rattle.der_base.specs.Error.{error_of_kind};
 
@@ -107,7 +108,7 @@ pub enum ErrorKind {
     Failed,
     /// The input ends too early.
     Incomplete {
-        /// The number of octets that the input would need.
+        /// The number of octets that the whole input would need.
         expected_len: Length,
         /// The number of octets that the input has.
         actual_len: Length,
@@ -146,7 +147,7 @@ pub enum ErrorKind {
     TagNumberInvalid,
     /// A tag occurs where another was expected, or where it is not allowed.
     TagUnexpected {
-        /// The expected tag, if there is one.
+        /// The expected tag; `None` if the error names no expected tag.
         expected: Option<Tag>,
         /// The tag that was read.
         actual: Tag,
@@ -195,7 +196,8 @@ impl ErrorKind {
     }
 }
 
-/// Prints the message of the kind. Lengths and tags in it are as they are printed alone.
+/// Prints the message of the kind. Lengths and tags in the message are printed by their own
+/// `Display`.
 impl fmt::Display for ErrorKind {
     ghost use Rattle.der_base.specs.Text.{kind_text};
 
@@ -245,7 +247,7 @@ impl fmt::Display for ErrorKind {
     }
 }
 
-/// Prints the message of the kind, and the position if it is known.
+/// Prints the message of the kind, followed by the position if it is known.
 impl fmt::Display for Error {
     ghost use Rattle.der_base.specs.Text.{error_text};
 

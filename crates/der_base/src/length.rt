@@ -8,9 +8,9 @@ mod element;
 use crate::error::{ErrorKind, Result};
 use std::fmt;
 
-/// A number of octets, up to 4294967295, and a flag: whether it was read in the indefinite form
-/// (X.690 8.1.3.6). Two lengths are equal if both number and flag are equal. They are ordered by
-/// the number and then by the flag, the definite length first.
+/// A number of octets, up to 4294967295, with a flag: whether the length was read in the indefinite
+/// form (X.690 8.1.3.6). Two lengths are equal if their numbers and their flags are equal. Lengths
+/// are ordered by the number and then by the flag, the definite length first.
 #[derive(Clone, Copy, Default, PartialEq, Eq, PartialOrd, Ord, Hash)]
 pub struct Length {
     inner: u32,
@@ -21,19 +21,19 @@ impl Length {
     ghost use Rattle.der_base.specs.Length.{number, is_indefinite, definite_length, indefinite_length};
     ghost use Rattle.der_base.specs.Arithmetic.{checked_length, sans_eoc};
 
-    /// Zero octets.
+    /// The definite length of zero octets.
     pub const ZERO: Self = Length {
         inner: 0,
         indefinite: false,
     };
 
-    /// One octet.
+    /// The definite length of one octet.
     pub const ONE: Self = Length {
         inner: 1,
         indefinite: false,
     };
 
-    /// The greatest length, 4294967295 octets.
+    /// The greatest definite length, 4294967295 octets.
     pub const MAX: Self = Length {
         inner: u32::MAX,
         indefinite: false,
@@ -88,8 +88,8 @@ impl Length {
     }
 
     /// The length without the two end-of-contents octets, which an indefinite length counts (X.690
-    /// 8.1.5). An indefinite length becomes smaller by 2, or 0 if it is less than 2, and stays
-    /// flagged as indefinite. A definite length is returned unchanged.
+    /// 8.1.5). An indefinite length becomes smaller by 2, but not less than 0, and stays flagged as
+    /// indefinite. A definite length is returned unchanged.
     pub const fn sans_eoc(self) -> Self
         ensures { result ≡ sans_eoc self }
     {

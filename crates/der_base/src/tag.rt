@@ -13,8 +13,8 @@ pub use number::TagNumber;
 use std::fmt;
 
 /// The tag of an element: a class, whether the contents are constructed, and a number (X.690
-/// 8.1.2). The derived order compares the variants, then the constructed bits, then the numbers; it
-/// differs from the order of the identifier octets.
+/// 8.1.2). The derived order compares the variants first. For equal variants it compares the
+/// constructed bits, then the numbers. This differs from the order of the identifier octets.
 #[derive(Clone, Copy, PartialEq, Eq, PartialOrd, Ord, Hash)]
 pub enum Tag {
     /// `BOOLEAN`, tag number 1.
@@ -149,7 +149,7 @@ impl Tag {
     }
 
     /// Whether the contents are constructed. This is true for `Sequence` and `Set`, and false for
-    /// the other universal tags. Tags of other classes have a field that says it.
+    /// the other universal tags. For a tag of another class it is the field `constructed`.
     pub const fn is_constructed(self) -> bool
         ensures { result ≡ (label self).constructed }
     {
@@ -212,11 +212,11 @@ impl Tag {
         matches!(self.class(), Class::Universal)
     }
 
-    /// Returns this tag if it is the tag `expected`.
+    /// Returns this tag if it equals `expected`.
     ///
     /// # Errors
     ///
-    /// - `TagUnexpected` with both tags, without a position, if it is not.
+    /// - `TagUnexpected` with both tags, without a position, if the two tags differ.
     pub fn assert_eq(self, expected: Tag) -> Result<Tag>
         ensures expected_tag { self ≡ expected → result ≡ Ok self }
         ensures other_tag { self ≢ expected → result ≡ Err (unexpected_tag expected self) }
@@ -228,22 +228,25 @@ impl Tag {
         }
     }
 
-    /// The kind `Length` with this tag: the length of an element is not encoded as required.
+    /// The error kind `Length` with this tag. It reports that the length of an element with this
+    /// tag is not encoded as required.
     pub const fn length_error(self) -> ErrorKind
         ensures { result ≡ ErrorKind.Length self }
     {
         ErrorKind::Length { tag: self }
     }
 
-    /// The kind `Noncanonical` with this tag: a value is not encoded canonically.
+    /// The error kind `Noncanonical` with this tag. It reports that a value with this tag is not
+    /// encoded canonically.
     pub const fn non_canonical_error(self) -> ErrorKind
         ensures { result ≡ ErrorKind.Noncanonical self }
     {
         ErrorKind::Noncanonical { tag: self }
     }
 
-    /// The kind `TagUnexpected` with this tag as the actual one. The tag occurs where the tag
-    /// `expected` was expected, or, if that is `None`, where it is not allowed.
+    /// The error kind `TagUnexpected` with this tag as the tag that was found. If `expected` is
+    /// `Some`, it is the tag that was expected. If `expected` is `None`, this tag is not allowed
+    /// where it occurs.
     pub const fn unexpected_error(self, expected: Option<Self>) -> ErrorKind
         ensures { result ≡ ErrorKind.TagUnexpected expected self }
     {
@@ -253,7 +256,7 @@ impl Tag {
         }
     }
 
-    /// The kind `Value` with this tag: a value is malformed.
+    /// The error kind `Value` with this tag. It reports that a value with this tag is malformed.
     pub const fn value_error(self) -> ErrorKind
         ensures { result ≡ ErrorKind.Value self }
     {
@@ -319,7 +322,8 @@ fn form(constructed: bool) -> &'static str
     }
 }
 
-/// Prints the number in hexadecimal and the tag as by `Display`, such as `Tag(0x10: SEQUENCE)`.
+/// Prints `Tag`, then in parentheses the tag number in hexadecimal and the tag as `Display` prints
+/// it, such as `Tag(0x10: SEQUENCE)`.
 impl fmt::Debug for Tag {
     ghost use Rattle.der_base.specs.Text.{tag_debug};
 

@@ -6,8 +6,9 @@ use spki::SubjectPublicKeyInfoRef;
 use std::alloc::Global;
 use x509::Certificate;
 
-/// Decodes a certificate from `octets` and writes it `times` times to the start of `out`, until an
-/// error. `first_octets` is the sum of the last octets of what was written each time.
+/// Decodes one certificate from `octets`, then writes it `times` times, each time to the start of
+/// `out`. Stops at the first error. Returns the number of writes in `elements`, the total number of
+/// octets written in `contents`, and the sum of the last octet of each write in `first_octets`.
 #[unsafe(no_mangle)]
 pub extern "C" fn der_bench_certificate_to_slice(
     alloc: Global,
@@ -18,15 +19,17 @@ pub extern "C" fn der_bench_certificate_to_slice(
     to_slice::<Certificate<'_>>(alloc, octets, times, out)
 }
 
-/// Decodes a certificate from `octets` and writes it `times` times, each time into a new vector,
-/// until an error. `first_octets` is the sum of the last octets of the vectors.
+/// Decodes one certificate from `octets`, then writes it `times` times, each time into a new
+/// vector. Stops at the first error. Returns the number of writes in `elements`, the total number
+/// of octets written in `contents`, and the sum of the last octet of each vector in `first_octets`.
 #[unsafe(no_mangle)]
 pub extern "C" fn der_bench_certificate_to_der(alloc: Global, octets: &[u8], times: u64) -> Totals {
     to_der::<Certificate<'_>>(alloc, octets, times)
 }
 
-/// Decodes a public key from `octets` and writes it `times` times to the start of `out`, until an
-/// error. `first_octets` is the sum of the last octets of what was written each time.
+/// Decodes one public key from `octets`, then writes it `times` times, each time to the start of
+/// `out`. Stops at the first error. Returns the number of writes in `elements`, the total number of
+/// octets written in `contents`, and the sum of the last octet of each write in `first_octets`.
 #[unsafe(no_mangle)]
 pub extern "C" fn der_bench_public_key_to_slice(
     alloc: Global,
@@ -37,8 +40,9 @@ pub extern "C" fn der_bench_public_key_to_slice(
     to_slice::<SubjectPublicKeyInfoRef<'_>>(alloc, octets, times, out)
 }
 
-/// Decodes a public key from `octets` and writes it `times` times, each time into a new vector,
-/// until an error. `first_octets` is the sum of the last octets of the vectors.
+/// Decodes one public key from `octets`, then writes it `times` times, each time into a new vector.
+/// Stops at the first error. Returns the number of writes in `elements`, the total number of octets
+/// written in `contents`, and the sum of the last octet of each vector in `first_octets`.
 #[unsafe(no_mangle)]
 pub extern "C" fn der_bench_public_key_to_der(alloc: Global, octets: &[u8], times: u64) -> Totals {
     to_der::<SubjectPublicKeyInfoRef<'_>>(alloc, octets, times)

@@ -22,9 +22,10 @@ impl<'a> Counted for Certificate<'a> {
     }
 }
 
-/// Decodes certificates in sequence until the octets end or there is an error. `contents` counts
-/// the contents octets of the signatures. `first_octets` is the sum of the first octets of the
-/// serial numbers.
+/// Decodes certificates in sequence from `bytes` until the octets end or there is an error. Returns
+/// the number of certificates in `elements`, the total number of contents octets of their
+/// signatures in `contents`, and the sum of the first octets of their serial numbers in
+/// `first_octets`.
 #[unsafe(no_mangle)]
 pub extern "C" fn der_bench_certificates(alloc: Global, bytes: &[u8]) -> Totals {
     decode_each::<Certificate<'_>>(alloc, bytes, EncodingRules::Der)

@@ -15,8 +15,9 @@ pub struct Wanted {
     pub constructed: u8,
 }
 
-/// Writes headers in sequence until all are written or there is an error. Returns the number of
-/// headers in `elements`, and the number of octets written in `contents`.
+/// Writes the headers in `wanted` in sequence to `out` until all are written or there is an error.
+/// Returns the number of headers in `elements`. If all are written, returns the number of octets
+/// written in `contents`; otherwise `contents` is 0.
 #[unsafe(no_mangle)]
 pub extern "C" fn der_bench_put_headers(wanted: &[Wanted], out: &mut [u8]) -> Totals {
     let mut totals = Totals::none();
@@ -31,8 +32,10 @@ pub extern "C" fn der_bench_put_headers(wanted: &[Wanted], out: &mut [u8]) -> To
     totals.written(writer.finish())
 }
 
-/// For each length, writes four headers whose tags are constants: SEQUENCE, INTEGER, OBJECT
-/// IDENTIFIER and context-specific 3.
+/// For each length in `lengths`, writes four headers with this length to `out`. Their tags are
+/// constants: SEQUENCE, INTEGER, OBJECT IDENTIFIER and context-specific 3. Stops at the first
+/// error. Returns the number of lengths whose headers are written in `elements`. If all are
+/// written, returns the number of octets written in `contents`; otherwise `contents` is 0.
 #[unsafe(no_mangle)]
 pub extern "C" fn der_bench_put_known(lengths: &[u32], out: &mut [u8]) -> Totals {
     let mut totals = Totals::none();

@@ -8,7 +8,8 @@ use der_uses::key_info::KeyInfo;
 use der_uses::my_octets::Borrowed;
 use std::alloc::Global;
 
-/// A key to write. Its fields borrow the first octets of a slice that all keys share.
+/// A key to write. Its algorithm and its key octets are each the first octets of one slice that all
+/// keys share.
 #[repr(C)]
 pub struct WantedKey {
     /// The number of octets of the key's algorithm.
@@ -33,7 +34,9 @@ fn key_of<'a>(wanted: &WantedKey, borrowed: &'a [u8]) -> Option<KeyInfo<'a>> {
     })
 }
 
-/// Computes the lengths of the encodings of keys until all are done or there is an error.
+/// Computes the length of the encoding of each key in `wanted`, until all are done or there is an
+/// error. Returns the number of keys in `elements` and the sum of the lengths in `contents`. The
+/// algorithm and the key octets of each key are the first octets of `borrowed`.
 #[unsafe(no_mangle)]
 pub extern "C" fn der_bench_count_keys(wanted: &[WantedKey], borrowed: &[u8]) -> Totals {
     let mut totals = Totals::none();
@@ -49,8 +52,10 @@ pub extern "C" fn der_bench_count_keys(wanted: &[WantedKey], borrowed: &[u8]) ->
     totals
 }
 
-/// Writes keys in sequence until all are written or there is an error. Returns the number of keys
-/// in `elements`, and the number of octets written in `contents`.
+/// Writes the keys in `wanted` in sequence to `out` until all are written or there is an error. The
+/// algorithm and the key octets of each key are the first octets of `borrowed`. Returns the number
+/// of keys in `elements`. If all are written, returns the number of octets written in `contents`;
+/// otherwise `contents` is 0.
 #[unsafe(no_mangle)]
 pub extern "C" fn der_bench_put_keys(
     wanted: &[WantedKey],
@@ -71,8 +76,10 @@ pub extern "C" fn der_bench_put_keys(
     totals.written(writer.finish())
 }
 
-/// Writes each key to the start of one array, until all are written or there is an error.
-/// `first_octets` is the sum of the last octets of the written keys.
+/// Writes each key in `wanted` to the start of the same array, until all are written or there is an
+/// error. The algorithm and the key octets of each key are the first octets of `borrowed`. Returns
+/// the number of keys in `elements`, the number of octets written in `contents`, and the sum of the
+/// last octet of each written key in `first_octets`.
 #[unsafe(no_mangle)]
 pub extern "C" fn der_bench_keys_to_slice(wanted: &[WantedKey], borrowed: &[u8]) -> Totals {
     let mut totals = Totals::none();
@@ -89,8 +96,10 @@ pub extern "C" fn der_bench_keys_to_slice(wanted: &[WantedKey], borrowed: &[u8])
     totals
 }
 
-/// Writes each key into a new vector, until all are written or there is an error. `first_octets` is
-/// the sum of the last octets of the written keys.
+/// Writes each key in `wanted` into a new vector, until all are written or there is an error. The
+/// algorithm and the key octets of each key are the first octets of `borrowed`. Returns the number
+/// of keys in `elements`, the number of octets written in `contents`, and the sum of the last octet
+/// of each written key in `first_octets`.
 #[unsafe(no_mangle)]
 pub extern "C" fn der_bench_keys_to_der(
     alloc: Global,

@@ -20,14 +20,15 @@ mod writing;
 
 use der::{EncodingRules, Error, Reader, ReaderExt, SliceReader, decode_header};
 
-/// Counts of what a measured function read or wrote.
+/// Counts of what a measured function read or wrote. The comment of a function says where a field
+/// counts something else.
 #[repr(C)]
 pub struct Totals {
-    /// The number of elements.
+    /// The number of elements that were read or written.
     pub elements: u64,
-    /// The number of octets of their contents.
+    /// The number of contents octets of these elements.
     pub contents: u64,
-    /// The sum of the first octets of the contents.
+    /// The sum of the first contents octet of each of these elements.
     pub first_octets: u64,
 }
 
@@ -58,7 +59,9 @@ impl Totals {
     }
 }
 
-/// Walks over the elements in `bytes` until the octets end or there is an error.
+/// Reads the elements in `bytes` one after the other, without those inside them, until the octets
+/// end or there is an error. Counts the elements, their contents octets and the first octet of
+/// each.
 #[unsafe(no_mangle)]
 pub extern "C" fn der_bench_walk(bytes: &[u8]) -> Totals {
     walk(bytes, EncodingRules::Der)

@@ -10,9 +10,9 @@ use der::{
 // How many levels of nested parts are entered.
 const LEVELS: u8 = 64;
 
-/// Walks over the elements in `bytes` and over the elements inside constructed ones, until the
-/// octets end or there is an error. `contents` counts the contents octets of primitive elements.
-/// Nested parts are entered with `read_nested`.
+/// Reads the elements in `bytes`, and the elements inside constructed ones, until the octets end or
+/// there is an error. `elements` counts all of them; `contents` counts only the contents octets of
+/// primitive elements. Constructed contents are entered with the function `read_nested`.
 #[unsafe(no_mangle)]
 pub extern "C" fn der_bench_nested(bytes: &[u8]) -> Totals {
     let mut totals = Totals::none();
@@ -22,9 +22,9 @@ pub extern "C" fn der_bench_nested(bytes: &[u8]) -> Totals {
     totals
 }
 
-/// Walks over the elements in `bytes` and over the elements inside constructed ones, until the
-/// octets end or there is an error. `contents` counts the contents octets of primitive elements.
-/// Nested parts are entered with `read_value`.
+/// Reads the elements in `bytes`, and the elements inside constructed ones, until the octets end or
+/// there is an error. `elements` counts all of them; `contents` counts only the contents octets of
+/// primitive elements. Constructed contents are entered with the function `read_value`.
 #[unsafe(no_mangle)]
 pub extern "C" fn der_bench_values(bytes: &[u8]) -> Totals {
     let mut totals = Totals::none();
@@ -95,10 +95,10 @@ fn walk_values(reader: &mut SliceReader<'_>, levels: u8, totals: &mut Totals) ->
     Ok(())
 }
 
-/// Walks over the elements in `bytes` and over the elements inside constructed ones, until the
-/// octets end or there is an error. `contents` counts the contents octets of primitive elements. A
-/// loop enters nested parts with `enter_nested` and leaves them with `leave_nested`, without
-/// closures or recursion.
+/// Reads the elements in `bytes`, and the elements inside constructed ones, until the octets end or
+/// there is an error. `elements` counts all of them; `contents` counts only the contents octets of
+/// primitive elements. A loop enters constructed contents with `enter_nested` and leaves them with
+/// `leave_nested`, without closures or recursion.
 #[unsafe(no_mangle)]
 pub extern "C" fn der_bench_halves(bytes: &[u8]) -> Totals {
     let mut totals = Totals::none();

@@ -5,9 +5,10 @@ use der::{DerOrd, ReaderExt, SliceReader};
 use std::alloc::Global;
 use std::cmp::Ordering;
 
-/// Decodes OCTET STRINGs in sequence and compares each with the preceding one, until the octets end
-/// or there is an error. `first_octets` is the number of OCTET STRINGs that are less than the
-/// preceding one.
+/// Decodes OCTET STRINGs in sequence from `bytes` and compares each, from the second on, with the
+/// preceding one, until the octets end or there is an error. Returns the number of comparisons in
+/// `elements`, and in `first_octets` the number of OCTET STRINGs that are less than the preceding
+/// one. `contents` counts the contents octets of all but the first.
 #[unsafe(no_mangle)]
 pub extern "C" fn der_bench_orders(alloc: Global, bytes: &[u8]) -> Totals {
     let mut totals = Totals::none();

@@ -6,15 +6,20 @@ use der::{EncodingRules, SliceReader, Turns, decode_indefinite_length};
 use std::marker::Brand;
 use std::sync::ledger::{Blank, Ledger};
 
-/// Reads messages in sequence under the Basic Encoding Rules until the octets end or there is an
-/// error. Contents of an indefinite length are measured by a scan.
+/// Reads messages (elements) in sequence from `bytes` under the Basic Encoding Rules until the
+/// octets end or there is an error. Where a length is indefinite, a scan finds the end of the
+/// contents. Returns the number of messages in `elements` and the number of their contents octets,
+/// with the end-of-contents octets, in `contents`.
 #[unsafe(no_mangle)]
 pub extern "C" fn der_bench_scan(bytes: &[u8]) -> Totals {
     walk(bytes, EncodingRules::Ber)
 }
 
-/// Skips the two header octets of each message and measures its contents octet by octet, with the
-/// scan for readers that return no slices.
+/// Scans messages in sequence until the octets end or there is an error. Each message has a header
+/// of two octets, which are skipped, and contents of indefinite length. The contents are measured
+/// octet by octet, with the scan for readers that return no slices. Returns the number of messages
+/// in `elements`, the number of contents octets with the end-of-contents octets in `contents`, and
+/// the sum of their first octets in `first_octets`.
 #[unsafe(no_mangle)]
 pub extern "C" fn der_bench_scan_by_octets(bytes: &[u8]) -> Totals {
     let mut totals = Totals::none();

@@ -5,9 +5,9 @@ use der::{ReaderExt, SliceReader};
 use der_uses::set_of::{set_of_contents, set_of_der};
 use std::alloc::Global;
 
-/// Decodes OCTET STRINGs in sequence, sorts them, and writes them as a SET OF. Returns the number
-/// of OCTET STRINGs in `elements`, the number of octets of the SET OF in `contents`, and its last
-/// octet in `first_octets`. All are 0 on an error.
+/// Decodes OCTET STRINGs in sequence from `bytes`, sorts them, and writes them as one SET OF.
+/// Returns the number of OCTET STRINGs in `elements`, the number of octets of the SET OF in
+/// `contents`, and its last octet in `first_octets`. All three are 0 on an error.
 #[unsafe(no_mangle)]
 pub extern "C" fn der_bench_sorted(alloc: Global, bytes: &[u8]) -> Totals {
     let mut elements = Vec::new(alloc);
@@ -20,8 +20,9 @@ pub extern "C" fn der_bench_sorted(alloc: Global, bytes: &[u8]) -> Totals {
     }
 }
 
-/// Reads a SET OF OCTET STRING. Returns the number of its contents octets in `contents`, and the
-/// last of them in `first_octets`.
+/// Reads one SET OF OCTET STRING from `bytes`. Returns 1 in `elements`, the number of contents
+/// octets of the SET OF in `contents`, and the last of these octets in `first_octets`. All three
+/// are 0 on an error.
 #[unsafe(no_mangle)]
 pub extern "C" fn der_bench_set(alloc: Global, bytes: &[u8]) -> Totals {
     match set_of_contents(alloc, bytes) {

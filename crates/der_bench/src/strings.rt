@@ -47,21 +47,24 @@ fn first_of(octets: &[u8]) -> u8 {
     octets.first().copied().unwrap_or(0)
 }
 
-/// Decodes borrowed OCTET STRINGs in sequence until the octets end or there is an error.
+/// Decodes OCTET STRINGs in sequence from `bytes` until the octets end or there is an error. Each
+/// borrows its octets from `bytes`. Counts the OCTET STRINGs, their octets, and the first octet of
+/// each.
 #[unsafe(no_mangle)]
 pub extern "C" fn der_bench_borrowed(alloc: Global, bytes: &[u8]) -> Totals {
     decode_each::<BorrowedOctets<'_>>(alloc, bytes, EncodingRules::Der)
 }
 
-/// Decodes UTF8Strings in sequence and copies their texts, until the octets end or there is an
-/// error.
+/// Decodes UTF8Strings in sequence from `bytes` and copies each text, until the octets end or there
+/// is an error. Counts the texts, their octets, and the first octet of each.
 #[unsafe(no_mangle)]
 pub extern "C" fn der_bench_texts(alloc: Global, bytes: &[u8]) -> Totals {
     decode_each::<OwnedText>(alloc, bytes, EncodingRules::Der)
 }
 
-/// Decodes OCTET STRINGs in sequence under the Basic Encoding Rules and joins their segments, until
-/// the octets end or there is an error.
+/// Decodes OCTET STRINGs in sequence from `bytes` under the Basic Encoding Rules, and joins the
+/// segments of each, until the octets end or there is an error. Counts the OCTET STRINGs, their
+/// joined octets, and the first octet of each.
 #[unsafe(no_mangle)]
 pub extern "C" fn der_bench_joined(alloc: Global, bytes: &[u8]) -> Totals {
     decode_each::<JoinedOctets>(alloc, bytes, EncodingRules::Ber)

@@ -2,8 +2,9 @@
 use crate::Totals;
 use der::{Reader, ReaderExt, SliceReader, decode_header};
 
-/// Walks over the elements in `bytes` until the octets end or there is an error. `first_octets` is
-/// the sum of the tag numbers.
+/// Reads the elements in `bytes` one after the other, without those inside them, until the octets
+/// end or there is an error. Counts the elements and their contents octets; `first_octets` is the
+/// sum of the tag numbers.
 #[unsafe(no_mangle)]
 pub extern "C" fn der_bench_numbers(bytes: &[u8]) -> Totals {
     let mut totals = Totals::none();
@@ -26,8 +27,10 @@ pub extern "C" fn der_bench_numbers(bytes: &[u8]) -> Totals {
     totals
 }
 
-/// Walks over the elements in `bytes` until the octets end or there is an error. Counts the tags in
-/// a table, by the low octet of the tag number. `first_octets` is computed from the counts.
+/// Reads the elements in `bytes` one after the other, without those inside them, until the octets
+/// end or there is an error. Counts the elements and their contents octets. Also counts the
+/// elements in a table of 256 counts, by the low octet of the tag number. `first_octets` is
+/// computed from that table; it is 0 on an error.
 #[unsafe(no_mangle)]
 pub extern "C" fn der_bench_counts(bytes: &[u8]) -> Totals {
     let mut counts = [0u64; 256];

@@ -51,9 +51,10 @@ impl Eight {
     }
 }
 
-/// Writes an OCTET STRING of eight octets for each number, in sequence, until all are written or
-/// there is an error. Returns the number of OCTET STRINGs in `elements`, and the number of octets
-/// written in `contents`.
+/// For each number in `numbers`, writes an OCTET STRING of its eight octets, in sequence to `out`,
+/// until all are written or there is an error. Returns the number of OCTET STRINGs in `elements`.
+/// If all are written, returns the number of octets written in `contents`; otherwise `contents` is
+/// 0.
 #[unsafe(no_mangle)]
 pub extern "C" fn der_bench_put_elements(numbers: &[u64], out: &mut [u8]) -> Totals {
     let mut totals = Totals::none();
@@ -67,8 +68,9 @@ pub extern "C" fn der_bench_put_elements(numbers: &[u64], out: &mut [u8]) -> Tot
     totals.written(writer.finish())
 }
 
-/// Writes an OCTET STRING of eight octets for each number into a new array, until all are written
-/// or there is an error. `first_octets` is the sum of the last octets of the OCTET STRINGs.
+/// For each number in `numbers`, writes an OCTET STRING of its eight octets into a new array, until
+/// all are written or there is an error. Returns the number of OCTET STRINGs in `elements`, the
+/// number of octets written in `contents`, and the sum of the last octet of each in `first_octets`.
 #[unsafe(no_mangle)]
 pub extern "C" fn der_bench_to_slice(numbers: &[u64]) -> Totals {
     let mut totals = Totals::none();
@@ -89,8 +91,10 @@ pub(crate) fn last_of(octets: &[u8]) -> u8 {
     octets.last().copied().unwrap_or(0)
 }
 
-/// Writes an OCTET STRING of eight octets for each number into a new vector, until all are written
-/// or there is an error. `first_octets` is the sum of the last octets of the OCTET STRINGs.
+/// For each number in `numbers`, writes an OCTET STRING of its eight octets into a new vector,
+/// until all are written or there is an error. Returns the number of OCTET STRINGs in `elements`,
+/// the number of octets written in `contents`, and the sum of the last octet of each in
+/// `first_octets`.
 #[unsafe(no_mangle)]
 pub extern "C" fn der_bench_to_der(alloc: Global, numbers: &[u64]) -> Totals {
     let mut totals = Totals::none();
@@ -103,8 +107,10 @@ pub extern "C" fn der_bench_to_der(alloc: Global, numbers: &[u64]) -> Totals {
     totals
 }
 
-/// Appends an OCTET STRING of eight octets for each number to one vector, which grows.
-/// `first_octets` is the last octet of the vector.
+/// For each number in `numbers`, appends an OCTET STRING of its eight octets to the same vector,
+/// which grows. Stops at the first error. Returns the number of OCTET STRINGs in `elements`. If all
+/// are written, returns the length of the vector in `contents` and its last octet in
+/// `first_octets`; otherwise both are 0.
 #[unsafe(no_mangle)]
 pub extern "C" fn der_bench_to_vec(alloc: Global, numbers: &[u64]) -> Totals {
     let mut totals = Totals::none();
@@ -120,8 +126,10 @@ pub extern "C" fn der_bench_to_vec(alloc: Global, numbers: &[u64]) -> Totals {
     totals
 }
 
-/// For each number, writes a SEQUENCE of four OCTET STRINGs of eight octets, with `sequence` and a
-/// closure that is inlined.
+/// For each number in `numbers`, writes a SEQUENCE of four OCTET STRINGs to `out`, each with the
+/// eight octets of the number. Calls `sequence` with a closure that is inlined. Stops at the first
+/// error. Returns the number of SEQUENCEs in `elements`. If all are written, returns the number of
+/// octets written in `contents`; otherwise `contents` is 0.
 #[unsafe(no_mangle)]
 pub extern "C" fn der_bench_put_sequences(numbers: &[u64], out: &mut [u8]) -> Totals {
     let mut totals = Totals::none();
@@ -137,8 +145,10 @@ pub extern "C" fn der_bench_put_sequences(numbers: &[u64], out: &mut [u8]) -> To
     totals.written(writer.finish())
 }
 
-/// For each number, writes a SEQUENCE of four OCTET STRINGs of eight octets, with `sequence` and a
-/// closure that calls a function that is not inlined.
+/// For each number in `numbers`, writes a SEQUENCE of four OCTET STRINGs to `out`, each with the
+/// eight octets of the number. Calls `sequence` with a closure that calls a function that is not
+/// inlined. Stops at the first error. Returns the number of SEQUENCEs in `elements`. If all are
+/// written, returns the number of octets written in `contents`; otherwise `contents` is 0.
 #[unsafe(no_mangle)]
 pub extern "C" fn der_bench_call_sequences(numbers: &[u64], out: &mut [u8]) -> Totals {
     let mut totals = Totals::none();

@@ -7,13 +7,16 @@ use der_base::Error;
 use der_core::{Reader, SliceReader, decode_header};
 use std::cmp::Ordering;
 
-/// Compares two whole elements under the Distinguished Encoding Rules by their octets, as a SET OF
-/// is sorted (X.690 11.6). Sets `order` to -1, 0 or 1 if `first` is less than, equal to or greater
-/// than `second`.
+/// Compares two whole elements under the Distinguished Encoding Rules by their octets, in the order
+/// of the elements of a SET OF (X.690 11.6). Sets `order` to -1, 0 or 1 if `first` is less than,
+/// equal to or greater than `second`.
 ///
-/// Fails if `first`, or else `second`, is not exactly one element, with the error of a reader: like
-/// `der_read_element`, with `Overflow` without a position if there are more than 4294967295 octets,
-/// and with `TrailingData` if octets follow the element. `order` is unchanged then.
+/// Fails if one of them is not exactly one element; `order` is unchanged then. `first` is checked
+/// before `second`. The errors are:
+///
+/// - the errors of `der_read_element`;
+/// - `Overflow` without a position, if there are more than 4294967295 octets;
+/// - `TrailingData`, if octets follow the element.
 #[unsafe(no_mangle)]
 pub extern "C" fn der_compare(first: &[u8], second: &[u8], order: &mut i32) -> DerError
     ensures { Compares first.now second.now result order.old order.new }

@@ -76,8 +76,10 @@ fn read_element_contents<'a>(
 /// Reads an element: its header, its contents, and the end-of-contents octets of an indefinite
 /// length.
 ///
-/// Fails like [`der_read_header`](crate::der_read_header), and with `Incomplete` and `Overflow` if
-/// octets of the contents are missing.
+/// Fails with:
+///
+/// - the errors of [`der_read_header`](crate::der_read_header);
+/// - `Incomplete` or `Overflow`, if octets of the contents are missing.
 #[unsafe(no_mangle)]
 pub extern "C" fn der_read_element<'a>(
     reader: &mut DerReader<'a>,
@@ -160,8 +162,11 @@ fn unexpected(expected: u64, actual: u64) -> DerError
 
 /// Reads an element with the tag `tag`.
 ///
-/// Fails like [`der_read_element`], and with `TagUnexpected` without a position if the next element
-/// has another tag; the reader is unchanged then.
+/// Fails with:
+///
+/// - the errors of [`der_read_element`];
+/// - `TagUnexpected` without a position, if the next element has another tag; `reader` is unchanged
+///   then.
 #[unsafe(no_mangle)]
 pub extern "C" fn der_expect<'a>(
     reader: &mut DerReader<'a>,
@@ -210,8 +215,10 @@ fn expect_slowly<'a>(reader: &mut DerReader<'a>, tag: u64, element: &mut DerElem
 
 /// Consumes an element with the tag `tag`, and makes `inside` a reader of its contents.
 ///
-/// Fails like [`der_expect`], and with `NestingDepth` if the element is inside 64 others; `inside`
-/// is unchanged then.
+/// Every error leaves `inside` unchanged. Fails with:
+///
+/// - the errors of [`der_expect`];
+/// - `NestingDepth`, if the element is inside 64 others.
 #[unsafe(no_mangle)]
 pub extern "C" fn der_enter<'a>(
     reader: &mut DerReader<'a>,
@@ -284,12 +291,14 @@ fn enter<'a>(reader: &mut DerReader<'a>, header: Header, inside: &mut DerReader<
     }
 }
 
-/// Makes `inside` a reader of the contents of `element`. `reader` or a copy of it has read
-/// `element` before.
+/// Makes `inside` a reader of the contents of `element`. `element` must have been read by `reader`
+/// or by a copy of `reader`.
 ///
-/// Fails with `Reader` without a position if the element does not lie in the octets of `reader`,
-/// with `Failed` without a position if `reader` has failed, and with `NestingDepth` at the position
-/// of the contents if the element is inside 64 others; `inside` is unchanged then.
+/// Every error leaves `inside` unchanged. Fails with:
+///
+/// - `Reader` without a position, if `element` does not lie in the octets of `reader`;
+/// - `Failed` without a position, if `reader` has failed;
+/// - `NestingDepth` at the position of the contents, if `element` is inside 64 others.
 #[unsafe(no_mangle)]
 pub extern "C" fn der_open<'a>(
     reader: &DerReader<'a>,

@@ -5,25 +5,32 @@ ghost use Rattle.der_c.specs.ErrorCode.{error_code, kind_code, tag_code, coded a
 use crate::tag::{first_octet, number_in_long_form, tag_of};
 use der_base::{Error, ErrorKind, Length, Tag};
 
-/// An error in 16 octets, which fit in two registers. Kind 0 is no error.
+/// An error as a C struct of 16 octets, which fit in two registers. Kind 0 is no error.
 #[repr(C)]
 #[derive(Clone, Copy)]
 pub struct DerError {
-    /// The number of the kind; 0 if there is no error.
+    /// The number of the error kind; 0 if there is no error.
     pub kind: u8,
-    /// Whether a position is known.
+    /// Whether the position of the error is known. If not, `position` is 0.
     pub has_position: bool,
     /// The first octet of the tag that was expected; 0 if there is none.
     pub expected: u8,
     /// The first octet of the tag that was found; 0 if there is none.
     pub actual: u8,
-    /// The position in octets; 0 if it is not known.
+    /// The position of the error, in octets; 0 if it is not known.
     pub position: u32,
-    /// Depends on the kind: the number of octets that was expected or read, the octet that begins
-    /// no tag, or the number of the expected tag if that is 31 or more. Otherwise 0.
+    /// Depends on the kind of the error; 0 for kinds without such a number:
+    ///
+    /// - `Incomplete`: the number of octets that was expected.
+    /// - `TrailingData`: the number of octets that was read.
+    /// - `TagUnknown`: the octet that begins no tag.
+    /// - `TagUnexpected`: the number of the expected tag if that is 31 or more, otherwise 0.
     pub first: u32,
-    /// Depends on the kind: the number of octets that there are or that are left, or the number of
-    /// the tag that was found if that is 31 or more. Otherwise 0.
+    /// Depends on the kind of the error; 0 for kinds without such a number:
+    ///
+    /// - `Incomplete`: the number of octets that there are.
+    /// - `TrailingData`: the number of octets that are left.
+    /// - Kinds with a tag that was found: its number if that is 31 or more, otherwise 0.
     pub second: u32,
 }
 
@@ -113,7 +120,7 @@ fn coded_tags(expected: Option<Tag>, actual: Tag) -> DerError
     }
 }
 
-/// The C form of an error.
+/// Converts an error to the struct [`DerError`] of the C interface.
 #[cold]
 #[inline(never)]
 pub(crate) fn c_error(error: Error) -> DerError
@@ -130,7 +137,9 @@ pub(crate) fn c_error(error: Error) -> DerError
     }
 }
 
-/// An error whose C form is `code`, if there is one. Errors with equal C forms have equal texts.
+/// Converts a [`DerError`] back to an error that [`c_error`] converts to `code`; `None` if there is
+/// none, and for the kind `Utf8` (20). Errors that convert to the same [`DerError`] have the same
+/// text.
 pub(crate) fn known_error(code: DerError) -> Option<Error>
     ensures { IfSome result (λ e. error_code e ≡ code) }
 {

@@ -87,8 +87,8 @@ fn missing_octets(position: usize, count: u32, end: u32) -> Error
     kind.at(Length::new(position as u32))
 }
 
-/// A reliable reader, as `SliceReader` is: it fails exactly where [`Reader`] says, keeps a failed
-/// state, and returns slices of its input.
+/// A reliable reader: it fails exactly where [`Reader`] says. It keeps a failed state, and returns
+/// slices of its input, as `SliceReader` does.
 impl<'a> Reader for DerReader<'a> {
     ghost use Rattle.std.proofs.Common.{rules};
     ghost use Rattle.der_c.specs.CReader.{reader_state};

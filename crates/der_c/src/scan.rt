@@ -13,12 +13,14 @@ use std::marker::Brand;
 use std::sync::ledger::{Blank, Ledger};
 
 /// Consumes indefinite-length contents and the end-of-contents octets that close them (X.690
-/// 8.1.3.6), and sets `count` to the number of all these octets. Before the call the reader is just
-/// after octet `0x80`; after the call it is just after the end-of-contents octets.
+/// 8.1.3.6), and sets `count` to the number of all these octets. Before the call, `reader` must be
+/// just after the length octet `0x80`; after the call it is just after the end-of-contents octets.
 ///
-/// Fails like `decode_indefinite_length`, and with `EncodingRules` without a position if the reader
-/// does not read under the Basic Encoding Rules. `EncodingRules` leaves the reader unchanged. Every
-/// error leaves `count` unchanged.
+/// Every error leaves `count` unchanged. Fails with:
+///
+/// - the errors of `der_core::decode_indefinite_length`;
+/// - `EncodingRules` without a position, if `reader` does not read under the Basic Encoding Rules;
+///   `reader` is unchanged then.
 #[unsafe(no_mangle)]
 pub extern "C" fn der_scan(reader: &mut DerReader<'_>, count: &mut u32) -> DerError
     ensures { ScansBody (reader_state reader.old) result count.old count.new

@@ -5,7 +5,7 @@ ghost use Rattle.der_c.specs.TagWord.{IsTagWord, NoTagWord, said_tag, tag_octet,
 
 use der_base::{Class, Tag, TagNumber};
 
-/// The tag whose word is `word`, as by [`word_of`]; `None` if no tag has that word.
+/// The tag that [`word_of`] converts to `word`; `None` if there is none.
 #[inline(always)]
 pub(crate) fn tag_of_word(word: u64) -> Option<Tag>
     ensures is { IfSome result (λ t. IsTagWord word t) }
@@ -23,8 +23,9 @@ pub(crate) fn tag_of_word(word: u64) -> Option<Tag>
     }
 }
 
-/// The tag whose identifier begins with `octet`. Its number is `long` if `octet` announces the long
-/// form. `None` if `octet` is of class UNIVERSAL and begins no universal tag.
+/// The tag whose identifier begins with `octet`. If the low five bits of `octet` are all set (long
+/// form), the tag number is `long`; otherwise they are the tag number and `long` is ignored. `None`
+/// if `octet` is of class UNIVERSAL and begins no universal tag.
 pub(crate) fn tag_of(octet: u8, long: u32) -> Option<Tag>
     ensures { result ≡ said_tag octet long }
 {
@@ -52,8 +53,8 @@ pub(crate) fn tag_of(octet: u8, long: u32) -> Option<Tag>
     })
 }
 
-/// The universal tag whose identifier is the one octet `octet` (X.680 8.6); `None` if there is
-/// none.
+/// The universal tag whose identifier consists of `octet` alone (X.680 8.6); `None` if there is no
+/// such tag.
 #[inline(always)]
 pub(crate) fn universal(octet: u8) -> Option<Tag>
     ensures { result ≡ universal_tag octet }

@@ -24,8 +24,8 @@ impl fmt::Write for Text<'_> {
     }
 }
 
-/// Writes the text of an error into `text`, truncated to the length of `text` and without a final
-/// zero octet. Returns how many octets were written.
+/// Writes the text of `error` to the start of `text`, truncated to the length of `text`. Adds no
+/// final zero octet. Returns how many octets were written.
 #[unsafe(no_mangle)]
 pub extern "C" fn der_error_text(error: DerError, text: &mut [u8]) -> usize
     ensures { WritesErrorText error text.old result text.new }

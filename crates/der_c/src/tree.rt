@@ -34,12 +34,15 @@ pub struct DerNode {
     pub indefinite: bool,
 }
 
-/// Reads into `nodes` all elements that are left, and all elements inside constructed ones. Each
-/// element comes before the elements inside it. Sets `count` to the number of elements. It descends
-/// 32 levels; an element inside 32 others is one node, whatever its contents.
+/// Reads into `nodes` all elements that are left in `reader`, and all elements inside constructed
+/// ones. Each element comes before the elements inside it. Sets `count` to the number of elements
+/// read. The elements inside an element are read only if fewer than 32 other elements enclose it;
+/// otherwise it is one node, whatever its contents.
 ///
-/// Fails like [`der_read_element`](crate::der_read_element), and with `Overlength` without a
-/// position if there are more elements than nodes. The reader has then failed.
+/// After an error `reader` has failed. Fails with:
+///
+/// - the errors of [`der_read_element`](crate::der_read_element);
+/// - `Overlength` without a position, if there are more elements than nodes.
 #[unsafe(no_mangle)]
 pub extern "C" fn der_read_tree(
     reader: &mut DerReader<'_>,

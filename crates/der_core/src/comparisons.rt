@@ -16,29 +16,31 @@ use der_base::Error;
 use std::alloc::AllocError;
 use std::cmp::Ordering;
 
-/// Two headers are equal if tag, length and constructed bit are equal.
+/// States that two headers are equal exactly if their tags, lengths and constructed bits are equal.
 fn header_equality(a: Header, b: Header) -> bool
     ensures { IsTrue result ↔ (head_of a ≡ head_of b) }
 {
     a == b
 }
 
-/// A clone of a header is the same header; cloning allocates nothing.
+/// States that a clone of a header equals the original, and that cloning allocates nothing.
 fn header_clone(header: &Header) -> Result<Header, AllocError>
     ensures { result ≡ Ok header.now }
 {
     header.clone()
 }
 
-/// A clone of a position has the same position, end and depth; cloning allocates nothing.
+/// States that a clone has the same position, end and depth as the original, and that cloning
+/// allocates nothing.
 fn position_clone(position: &Position) -> Result<Position, AllocError>
     ensures { IsOkAnd result (λ p. position_place p ≡ position_place position.now) }
 {
     position.clone()
 }
 
-/// Compares two values of an orderly type. The result, if it is no error, is the byte order of
-/// their encodings (X.690 11.6). It is no error if both headers can be computed.
+/// States the result of comparing two values of an [`Orderly`] type: if it is no error, it is the
+/// byte order of their encodings (X.690 11.6). It is no error if the headers of both values can be
+/// computed.
 fn encodings_are_compared<T: Orderly>(value: &T, other: &T) -> Result<Ordering, Error>
     ensures ok { IfOk result (λ o. o
         ≡ byte_order (element_octets (T.tag_of value.now) (T.contents value.now))
@@ -50,8 +52,9 @@ fn encodings_are_compared<T: Orderly>(value: &T, other: &T) -> Result<Ordering, 
     value.der_cmp(other)
 }
 
-/// Compares two slices of an orderly type. The result, if it is no error, is the byte order of the
-/// joined encodings of their values. It is no error if the header of every value can be computed.
+/// States the result of comparing two slices of values of an [`Orderly`] type: if it is no error,
+/// it is the byte order of the joined encodings of `these` and of `those`. It is no error if the
+/// header of every value in both slices can be computed.
 fn joined_encodings_are_compared<T: Orderly>(these: &[T], those: &[T]) -> Result<Ordering, Error>
     ensures ok { IfOk result (λ o. o ≡ byte_order (joined_elements T.tag_of T.contents these.now)
         (joined_elements T.tag_of T.contents those.now)) }

@@ -24,11 +24,11 @@ pub use value::{DecodeValue, ReadValue, decode_tlv};
 
 /// Error types of decoding: an [`Error`] converts to each of them.
 ///
-/// Ghost members:
+/// Ghost members (for proofs only):
 ///
 /// - `out_of_memory` says whether an error reports that an allocation failed.
-/// - `carries` is the law that a converted error reports a failed allocation exactly if the
-///   original [`Error`] did.
+/// - `carries` is a property that implementors prove: a converted error reports a failed allocation
+///   exactly if the original [`Error`] did.
 pub trait DecodeError: From<Error> + Drop {
     ghost out_of_memory: { Self → Bool };
 
@@ -53,16 +53,16 @@ impl DecodeError for Error {
 
 /// Types that are decoded from the octets of a reader `R`.
 ///
-/// Ghost members:
+/// Ghost members (for proofs only):
 ///
-/// - `is_next` says which values octets begin with under given encoding rules, and how many octets
-///   each value takes. It is a relation over all remaining octets, since an indefinite length
-///   depends on what follows.
+/// - `is_next` says with which values a list of octets begins under given encoding rules, and how
+///   many octets each of them takes up. Its argument is all remaining octets, since an indefinite
+///   length depends on what follows.
 /// - `decode_levels` is the number of nesting levels that decoding requires under given encoding
 ///   rules.
 /// - `allocates` says whether decoding allocates.
-/// - `decode_answers` is the exact outcome on a reliable reader, including each error and the state
-///   in which it leaves the reader.
+/// - `decode_answers` is the exact outcome on a reliable reader (see [`Reader`]), including each
+///   error and the state in which it leaves the reader.
 pub trait Decode<R: Reader>: Sized + Drop {
     /// The error type of decoding.
     type Error: DecodeError;
@@ -77,13 +77,14 @@ pub trait Decode<R: Reader>: Sized + Drop {
 
     /// Decodes a value from the next octets of the reader and consumes them.
     ///
-    /// If the reader is reliable, has not failed and has `decode_levels` levels of nesting left,
-    /// and a value is next, the result is this value or an error that reports a failed allocation.
+    /// Suppose that the reader is reliable (see [`Reader`]), has not failed, and has
+    /// `decode_levels` levels of nesting left. If its next octets are a value, the result is this
+    /// value or an error that reports a failed allocation.
     ///
     /// # Errors
     ///
     /// - An error that reports a failed allocation, if the type allocates.
-    /// - Those of the type: `decode_answers` specifies them, their positions, and whether the
+    /// - The errors of the type: `decode_answers` specifies them, their positions, and whether the
     ///   reader is then failed.
     fn decode(alloc: Global, reader: &mut R) -> Result<Self, Self::Error>
         ensures same { Same (R.state reader.old) (R.state reader.new) }

@@ -23,13 +23,13 @@ pub use vec::{encode_to_vec_in, to_der_in};
 
 /// Types whose values are written as octets.
 ///
-/// Ghost members:
+/// Ghost members (for proofs only):
 ///
 /// - `encoding` is the octets of a value.
 /// - `encodable` says whether a value can be written at all.
 /// - `size` is the exact result of [`Encode::encoded_len`], errors included.
-/// - `encode_answers` is the exact outcome of [`Encode::encode`] on a reliable writer, including
-///   each error and the state in which it leaves the writer.
+/// - `encode_answers` is the exact outcome of [`Encode::encode`] on a reliable writer (see
+///   [`Writer`]), including each error and the state in which it leaves the writer.
 pub trait Encode {
     ghost encoding: { Self → List ℕ };
 
@@ -45,7 +45,7 @@ pub trait Encode {
     /// # Errors
     ///
     /// - `Overflow` without a position, if an element has more than 4294967295 octets.
-    /// - Those of the type, which `size` specifies.
+    /// - The errors of the type, which the ghost member `size` specifies.
     fn encoded_len(&self) -> Result<Length, Error>
         ensures ok { Counts (encoding self.now) result }
         ensures succeeds { encodable self.now → HasSize (encoding self.now) result }
@@ -55,10 +55,10 @@ pub trait Encode {
     ///
     /// # Errors
     ///
-    /// After each, octets written earlier remain; `encode_answers` specifies the state of the
-    /// writer.
+    /// After each, octets written earlier remain; the ghost member `encode_answers` specifies the
+    /// state of the writer.
     ///
-    /// - Those of the type.
+    /// - The errors of the type, which `encode_answers` also specifies.
     /// - `Failed`, `Overflow` and `Overlength` of the writer, as by [`Writer::write`].
     fn encode<W: Writer>(&self, writer: &mut W) -> Result<(), Error>
         ensures kept { Keeps (W.state writer.old) (W.state writer.new) }
@@ -137,11 +137,12 @@ pub trait Encode {
     }
 }
 
-/// The element of a value that has a tag: its header, then its contents (X.690 8.1.1).
+/// Encodes a value that has a tag as an element: its header, then its contents (X.690 8.1.1).
 ///
 /// # Errors
 ///
-/// Those of [`encoded_len_tlv`] and [`encode_tlv`].
+/// [`Encode::encoded_len`] has the errors of [`encoded_len_tlv`], and [`Encode::encode`] those of
+/// [`encode_tlv`].
 impl<T: EncodeValue + Tagged> Encode for T {
     ghost encoding = { λ v. element_octets (T.tag_of v) (T.contents v) };
 

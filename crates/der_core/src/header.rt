@@ -37,8 +37,8 @@ pub struct Header {
 impl Header {
     ghost use Rattle.der_core.specs.Header.{header_sans_eoc};
 
-    /// Creates a header with this tag and length. It is constructed if the tag is, or if the length
-    /// was read in the indefinite form.
+    /// Creates a header with this tag and length. Its constructed bit is set if that of `tag` is,
+    /// or if `length` was read in the indefinite form.
     pub fn new(tag: Tag, length: Length) -> Self
         ensures { head_of result ≡ head tag length
             ((label tag).constructed || is_indefinite length) }
@@ -212,7 +212,8 @@ impl<R: Reader> Decode<R> for Header {
     /// After all but `Failed`, `Overflow` and the errors of a scan, the reader is at the error's
     /// position and failed.
     ///
-    /// - `Failed` at the position, if the reader had already failed; it is unchanged.
+    /// - `Failed` at the reader's position, if the reader had already failed; the reader is
+    ///   unchanged.
     /// - `Overflow` without a position, if an octet is missing at position 4294967295; the reader
     ///   is there and has not failed.
     /// - `Incomplete` at the end, if an octet is missing at any other position.

@@ -16,8 +16,8 @@ ghost use Rattle.der_core.specs.Lawful.{IsDefinite, IsDefiniteHeader, PassesEnco
 use crate::decode::Lawful;
 use std::marker::PhantomData;
 
-/// If a reader is reliable and has not failed, the identifier, tag, length or header that its
-/// octets begin with is decoded.
+/// States what a reader decodes, if it is reliable (see [`Reader`](crate::Reader)) and has not
+/// failed: if its next octets are an identifier, tag, length or header, decoding returns it.
 
 fn next_values_are_decoded()
     ensures identifiers { Accepts IdentifierNext IdentifierFault }
@@ -26,14 +26,15 @@ fn next_values_are_decoded()
     ensures headers { Accepts HeaderNext (HeaderFault BodyFault) }
 {}
 
-/// Under DER, tags, lengths, headers and `PhantomData` (whose encoding is empty) are read from
-/// exactly their encodings. For octets whose number a length can represent:
+/// States that, under DER, tags, lengths, headers and `PhantomData` (whose encoding is empty) are
+/// read from exactly their encodings. Tag numbers and lengths have 32 bits. For octets whose number
+/// a [`Length`](crate::Length) can represent:
 ///
-/// - They begin with a value exactly if they begin with its encoding.
-/// - They are entirely a value exactly if they are its encoding.
+/// - The octets begin with a value exactly if they begin with the encoding of that value.
+/// - The octets are entirely one value exactly if they are the encoding of that value.
 ///
-/// A reader that has decoded a value has consumed its encoding. An encoding is read back as the
-/// same value, whatever follows. Tag numbers and lengths have 32 bits.
+/// A reader that has decoded a value has consumed the encoding of that value. An encoding is read
+/// back as the same value, whatever follows it.
 fn grammars_read_encodings<T>()
     ensures tags { ReadsExactly TagNext (λ t. (label t).number < 2 ^ 32) tag_octets }
     ensures lengths { ReadsExactly LengthNext IsDefinite (λ l. length_octets (number l)) }
@@ -43,15 +44,16 @@ fn grammars_read_encodings<T>()
         (λ _. []) }
 {}
 
-/// Elements of a lawful type are read from exactly the encodings of valid values, under DER. For
-/// octets whose number a length can represent:
+/// States that, under DER, elements of a [`Lawful`] type are read from exactly the encodings of
+/// valid values. For octets whose number a [`Length`](crate::Length) can represent:
 ///
-/// - They begin with an element of the type exactly if they begin with the encoding of a valid
+/// - The octets begin with an element of the type exactly if they begin with the encoding of a
+///   valid value.
+/// - The octets are entirely one element of the type exactly if they are the encoding of a valid
 ///   value.
-/// - They are entirely an element of the type exactly if they are the encoding of a valid value.
 ///
 /// A reader that has decoded such an element has consumed the encoding. An encoding is read back,
-/// whatever follows.
+/// whatever follows it.
 fn lawful_types_read_encodings<T: Lawful>()
     ensures front { ReadsEncodings (ElementNext T.tag_is T.takes) T.valid
         (λ v. element_octets T.tag_is (T.contents v)) }
@@ -62,8 +64,8 @@ fn lawful_types_read_encodings<T: Lawful>()
     ensures written { ReadsWritten T.tag_is T.takes T.valid T.contents }
 {}
 
-/// No encoded element is a proper prefix of another, so padding never affects their comparison
-/// (X.690 11.6).
+/// States that no encoded element is a proper prefix of another. So the padding with zero octets,
+/// by which X.690 11.6 compares encodings of different lengths, never decides a comparison.
 fn padding_never_decides()
     ensures apart { NoElementBeginsAnother }
     ensures padded { PaddingNeverDecides }

@@ -160,7 +160,8 @@ impl<R: Reader> Decode<R> for Length {
     /// After all but `Failed`, `Overflow` and the errors of a scan, the reader is at the error's
     /// position and failed.
     ///
-    /// - `Failed` at the position, if the reader had already failed; it is unchanged.
+    /// - `Failed` at the reader's position, if the reader had already failed; the reader is
+    ///   unchanged.
     /// - `Overflow` without a position, if an octet is missing at position 4294967295; the reader
     ///   is there and has not failed.
     /// - `Incomplete` at the end, if an octet is missing at any other position.

@@ -22,16 +22,17 @@ pub use value::{OrdIsValueOrd, Orderly, ValueOrd};
 
 /// Types whose values are compared by octets, as the elements of a SET OF are sorted (X.690 11.6).
 ///
-/// Ghost members:
+/// Ghost members (for proofs only):
 ///
 /// - `order` is the exact result of [`DerOrd::der_cmp`], errors included.
 /// - `octets` is the octets by which a value is ordered.
-/// - `by_octets` holds for two values if every result of comparing them is the byte order of their
-///   `octets`.
-/// - `has_header` holds for a value if the beginning of its `octets` can be computed. If it holds
-///   for both values, and `by_octets` for the two, comparing them returns a result.
+/// - `by_octets` is a condition on two values. If it holds, the result of comparing them, if it is
+///   no error, is the byte order of their `octets`.
+/// - `has_header` is a condition on one value: the beginning of its `octets` (for an element, its
+///   header) can be computed. If it holds for both values, and `by_octets` holds for the two,
+///   comparing them is no error.
 /// - `delimits` is a condition under which the `octets` of several values can be separated after
-///   they are joined; `delimited` proves this from the condition.
+///   they are joined; `delimited` is the proof of this from the condition.
 pub trait DerOrd {
     ghost order: { Self → Self → Compared };
 
@@ -45,11 +46,11 @@ pub trait DerOrd {
 
     ghost delimited: { delimits → AreDelimited octets };
 
-    /// Compares two values. Allocates nothing.
+    /// Compares this value with `other`. Allocates nothing.
     ///
     /// # Errors
     ///
-    /// - Those of the type, which `order` specifies.
+    /// - The errors of the type, which the ghost member `order` specifies.
     fn der_cmp(&self, other: &Self) -> Result<Ordering, Error>
         ensures ok { by_octets self.now other.now
             → IfOk result (λ o. o ≡ byte_order (octets self.now) (octets other.now)) }
@@ -59,7 +60,7 @@ pub trait DerOrd {
         ensures exact { result ≡ order self.now other.now };
 }
 
-/// Compares the elements of the values: their headers, then their contents.
+/// Compares the elements of two values: their headers, then their contents.
 ///
 /// # Errors
 ///

@@ -23,7 +23,7 @@ pub use value::{close_value, read_eoc, read_value};
 
 /// Octets that a reader returns.
 ///
-/// Ghost member: `octets` is the list of them.
+/// Ghost member (for proofs only): `octets` is the list of these octets.
 pub trait Octets: Drop {
     ghost octets: { Self → List ℕ };
 
@@ -43,23 +43,22 @@ impl<'a> Octets for &'a [u8] {
 /// A reader of octets: an input, the end up to which it may be read, a position, and whether the
 /// reader has failed.
 ///
-/// A reliable reader fails exactly as the outcome of each function specifies, with its error and
-/// its position. Any other reader may fail at every call; only its `Ok` results are specified. A
-/// reader that keeps no failed state never counts as failed, even where the list of errors of a
-/// function says that the reader is then failed. If several errors of such a list apply, the first
-/// of them is returned.
+/// A reader is reliable if each of its functions fails exactly when, and with the error and
+/// position that, its contract specifies. Any other reader may fail at every call; only its `Ok`
+/// results are specified. A reader that keeps no failed state never counts as failed, even where
+/// the list of errors of a function says that the reader is then failed. If several errors of such
+/// a list apply, the first of them is returned.
 ///
-/// Ghost members:
+/// Ghost members (for proofs only):
 ///
 /// - `state` is the meaning of the reader: input, rules, end, position, depth, failed, and whether
 ///   it keeps a failed state; see `specs/ReaderState.antt`.
-/// - `reliable` says whether the reader is reliable: whether its errors are also those of the
-///   specified outcomes.
+/// - `reliable` says whether the reader is reliable, as described above.
 /// - `reads_slices` says whether the reader can return slices.
-/// - `sound_state` is the law of every state: the position is within the end, and the end within
-///   the input of at most 4294967295 octets; the depth is at most 64; and only a reader that keeps
-///   a failed state fails.
-/// - `reading_slices` is the law that a reliable reader returns slices.
+/// - `sound_state` is a property of every state, which implementors prove: the position is within
+///   the end, and the end within the input of at most 4294967295 octets; the depth is at most 64;
+///   and only a reader that keeps a failed state fails.
+/// - `reading_slices` is a property that implementors prove: a reliable reader returns slices.
 pub trait Reader: Sized + Drop {
     /// The octets that [`Reader::read_slice`] returns; for a [`SliceReader`] a slice of its input.
     type Borrowed: Octets;
@@ -73,7 +72,8 @@ pub trait Reader: Sized + Drop {
     /// Whether the reader can return slices.
     const CAN_READ_SLICE: bool;
 
-    /// Whether the reader can return slices, as a function for generic code.
+    /// Whether the reader can return slices: `Self::CAN_READ_SLICE`. Generic code calls this,
+    /// because it cannot name the constant in a contract.
     fn can_return_slices() -> bool
         ensures { result ≡ reads_slices };
 
@@ -81,8 +81,8 @@ pub trait Reader: Sized + Drop {
     fn encoding_rules(&self) -> EncodingRules
         ensures { result ≡ (state self.now).rules };
 
-    /// The end up to which the input may be read. Within a nested part this is the end of the part,
-    /// otherwise the length of the input.
+    /// The end up to which the input may be read. Inside a nested part (see
+    /// [`Reader::enter_nested`]) this is the end of that part, otherwise the length of the input.
     fn input_len(&self) -> Length
         ensures { result ≡ definite_length (state self.now).end };
 
@@ -98,11 +98,14 @@ pub trait Reader: Sized + Drop {
     ///
     /// # Errors
     ///
-    /// - `Reader` at the position, if the reader cannot return slices; it is unchanged.
-    /// - `Failed` at the position, if the reader had already failed; it is unchanged.
+    /// - `Reader` at the reader's position, if the reader cannot return slices; the reader is
+    ///   unchanged.
+    /// - `Failed` at the reader's position, if the reader had already failed; the reader is
+    ///   unchanged.
     /// - `Overflow` without a position, if fewer octets are left and the sum of position and length
     ///   exceeds 4294967295; the reader is unchanged.
-    /// - `Incomplete` at the position, if fewer octets are left; the reader is then failed.
+    /// - `Incomplete` at the reader's position, if fewer octets are left; the reader is then
+    ///   failed.
     fn read_slice(&mut self, len: Length) -> Result<Self::Borrowed, Error>
         ensures same { Same (state self.old) (state self.new) }
         ensures exact { Meets reliable (read_slice_outcome (number len)) (state self.old)
@@ -120,18 +123,20 @@ pub trait Reader: Sized + Drop {
     ///
     /// - `Overflow` without a position, if the buffer is longer than 4294967295 octets; the reader
     ///   is unchanged.
-    /// - `Failed` at the position, if the reader had already failed; it is unchanged.
+    /// - `Failed` at the reader's position, if the reader had already failed; the reader is
+    ///   unchanged.
     /// - `Overflow` without a position, if fewer octets are left and the sum of position and length
     ///   exceeds 4294967295; the reader is unchanged.
-    /// - `Incomplete` at the position, if fewer octets are left; the reader is then failed.
+    /// - `Incomplete` at the reader's position, if fewer octets are left; the reader is then
+    ///   failed.
     fn read_into(&mut self, buf: &mut [u8]) -> Result<(), Error>
         ensures same { Same (state self.old) (state self.new) }
         ensures exact { Meets reliable (read_into_outcome (length buf.old)) (state self.old)
             (map_ok (λ _. buf.new) result) (state self.new) }
         ensures kept { OnErr result (buf.new ≡ buf.old) };
 
-    /// Returns the error of this kind at the position. Marks the reader failed, if it keeps a
-    /// failed state.
+    /// Returns an error of the kind `kind` at the reader's position. Also marks the reader failed,
+    /// if it keeps a failed state.
     fn error(&mut self, kind: ErrorKind) -> Error
         ensures same { Same (state self.old) (state self.new) }
         ensures at_position { result ≡ error_at kind (reader_position (state self.old)) }
@@ -142,8 +147,8 @@ pub trait Reader: Sized + Drop {
     ///
     /// # Errors
     ///
-    /// - `Reader` at the position, if the reader cannot return slices.
-    /// - `Failed` at the position, if the reader had already failed.
+    /// - `Reader` at the reader's position, if the reader cannot return slices.
+    /// - `Failed` at the reader's position, if the reader had already failed.
     fn remaining(&self) -> Result<Self::Borrowed, Error>
         ensures ok { IfOk result (λ r. Ok (Self.Borrowed.octets r) ≡ remaining_answer
             (state self.now)) }
@@ -158,15 +163,17 @@ pub trait Reader: Sized + Drop {
     fn fork(&self) -> Self
         ensures { state result ≡ state self.now };
 
-    /// Returns the next `len` octets in memory of this allocator. A reliable reader allocates only
-    /// once the octets are known to be available.
+    /// Returns the next `len` octets in memory of the allocator `alloc`. A reliable reader (see
+    /// [`Reader`]) allocates only once the octets are known to be available.
     ///
     /// # Errors
     ///
-    /// - `Failed` at the position, if the reader had already failed; it is unchanged.
+    /// - `Failed` at the reader's position, if the reader had already failed; the reader is
+    ///   unchanged.
     /// - `Overflow` without a position, if fewer octets are left and the sum of position and length
     ///   exceeds 4294967295; the reader is unchanged.
-    /// - `Incomplete` at the position, if fewer octets are left; the reader is then failed.
+    /// - `Incomplete` at the reader's position, if fewer octets are left; the reader is then
+    ///   failed.
     /// - `OutOfMemory` without a position, if the allocation fails; the reader is unchanged.
     fn read_vec_in<A: Allocator>(&mut self, alloc: A, len: Length) -> Result<Vec<u8, A>, Error>
         ensures same { Same (state self.old) (state self.new) }
@@ -174,15 +181,17 @@ pub trait Reader: Sized + Drop {
             (map_ok (λ v. v.items) result)
             (state self.new) };
 
-    /// Returns the next `len` octets in memory of the global allocator. A reliable reader allocates
-    /// only once the octets are known to be available.
+    /// Returns the next `len` octets in memory of the global allocator. A reliable reader (see
+    /// [`Reader`]) allocates only once the octets are known to be available.
     ///
     /// # Errors
     ///
-    /// - `Failed` at the position, if the reader had already failed; it is unchanged.
+    /// - `Failed` at the reader's position, if the reader had already failed; the reader is
+    ///   unchanged.
     /// - `Overflow` without a position, if fewer octets are left and the sum of position and length
     ///   exceeds 4294967295; the reader is unchanged.
-    /// - `Incomplete` at the position, if fewer octets are left; the reader is then failed.
+    /// - `Incomplete` at the reader's position, if fewer octets are left; the reader is then
+    ///   failed.
     /// - `OutOfMemory` without a position, if the allocation fails; the reader is unchanged.
     final fn read_vec(&mut self, alloc: Global, len: Length) -> Result<Vec<u8>, Error>
         ensures same { Same (Self.state self.old) (Self.state self.new) }
@@ -192,13 +201,14 @@ pub trait Reader: Sized + Drop {
         self.read_vec_in(alloc, len)
     }
 
-    /// Skips `amount` octets. A definite length of zero skips none, even on a failed reader. If
-    /// fewer octets are left, the reader skips as many whole steps of sixteen octets as are left,
-    /// and the next step is an error.
+    /// Skips `amount` octets. A definite length of zero skips none, even on a failed reader. Octets
+    /// are skipped in steps of sixteen. If fewer than `amount` are left, the reader skips all steps
+    /// for which sixteen octets are left, and fails at the next step.
     ///
     /// # Errors
     ///
-    /// - `Failed` at the position, if the reader had already failed; it is unchanged.
+    /// - `Failed` at the reader's position, if the reader had already failed; the reader is
+    ///   unchanged.
     /// - `Overflow` without a position, if fewer octets are left and the end of the next step would
     ///   exceed 4294967295; the reader is after the whole steps and has not failed.
     /// - `Incomplete` at the position after the whole steps, if fewer octets are left; the reader
@@ -212,30 +222,30 @@ pub trait Reader: Sized + Drop {
     ///
     /// # Errors
     ///
-    /// - `Failed` at the position, if the reader had already failed.
-    /// - `TrailingData` at the position, if octets are left.
+    /// - `Failed` at the reader's position, if the reader had already failed.
+    /// - `TrailingData` at the reader's position, if octets are left.
     fn finish(self) -> Result<(), Error>
         ensures ok { OnOk result (finish_answer (state self) ≡ Ok tt) }
         ensures exact { reliable ≡ true → result ≡ finish_answer (state self) };
 
-    /// Enters a nested part of the next `len` octets, and returns the end and the depth around it.
-    /// Until the part is left, only its octets may be read, and the depth is one greater. A failed
-    /// reader also enters the part.
+    /// Enters a nested part that consists of the next `len` octets. Returns the reader's end and
+    /// depth from before the call, for [`Reader::leave_nested`]. Until the part is left, only its
+    /// octets may be read, and the depth is one greater than before. A failed reader also enters
+    /// the part.
     ///
     /// # Errors
     ///
     /// - `Overflow` without a position, if the end of the part would exceed 4294967295; the reader
     ///   is unchanged.
     /// - `Incomplete` at the end, if the part would exceed the end; the reader is unchanged.
-    /// - `NestingDepth` at the position, if the part would be nested in 64 others; the reader is
-    ///   then failed.
+    /// - `NestingDepth` at the reader's position, if the part would be nested in 64 others; the
+    ///   reader is then failed.
     fn enter_nested(&mut self, len: Length) -> Result<Resumption, Error>
         ensures exact { Meets reliable (enter_nested_outcome (number len)) (state self.old)
             (map_ok outer_place result) (state self.new) }
         ensures err { OnErr result (Same (state self.old) (state self.new)) };
 
-    /// Leaves a nested part and restores the end and the depth around it, which are in
-    /// `resumption`.
+    /// Leaves a nested part: restores the reader's end and depth to those in `resumption`.
     ///
     /// The caller must ensure that the end in `resumption` is neither before the position nor after
     /// the end of the input, and that the depth in it is at most 64. What [`Reader::enter_nested`]

@@ -11,20 +11,21 @@ use crate::header::Header;
 use crate::reader::Reader;
 use std::alloc::Global;
 
-/// Types that consist of fields of the type `F`, such as nested pairs.
+/// Types whose values consist of fields, given as one value of the type `F`, such as nested pairs.
 ///
-/// Ghost member: `fields` is the fields of a value.
+/// Ghost member (for proofs only): `fields` returns the fields of a value.
 pub trait FromFields<F>: Sized + Drop {
     ghost fields: { Self → F };
 
-    /// The value with these fields.
+    /// The value whose fields are `members`.
     fn from_fields(members: F) -> Self
         ensures { Self.fields result ≡ members };
 }
 
 /// Decodes a value from all of the contents that the reader is inside: the contents are its fields
-/// in sequence. It has the contract that
-/// [`DecodeValue::decode_value`](crate::DecodeValue::decode_value) requires.
+/// in sequence. This function has the contract of
+/// [`DecodeValue::decode_value`](crate::DecodeValue::decode_value), so an implementation of that
+/// function can call it.
 ///
 /// # Errors
 ///

@@ -289,7 +289,8 @@ impl<R: Reader> Decode<R> for Tag {
     ///
     /// After all but `Failed` and `Overflow`, the reader is at the error's position and failed.
     ///
-    /// - `Failed` at the position, if the reader had already failed; it is unchanged.
+    /// - `Failed` at the reader's position, if the reader had already failed; the reader is
+    ///   unchanged.
     /// - `Overflow` without a position, if an octet is missing at position 4294967295; the reader
     ///   is there and has not failed.
     /// - `Incomplete` at the end, if an octet is missing at any other position.

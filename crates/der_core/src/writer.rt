@@ -10,11 +10,12 @@ pub use slice::SliceWriter;
 /// A writer of octets: the octets written, the octets of its buffer after them, the space that is
 /// left, and whether the writer has failed.
 ///
-/// A writer that has not failed accepts every write that fits into its space. A reliable writer
-/// fails exactly as the outcome of each function specifies; a writer that guarantees nothing counts
-/// as failed. If several errors of a function's list apply, the first of them is returned.
+/// A writer that has not failed accepts every write that fits into its space. A writer is reliable
+/// if each of its functions fails exactly when, and with the error and position that, its contract
+/// specifies. A writer that guarantees nothing counts as failed. If several errors of a function's
+/// list apply, the first of them is returned.
 ///
-/// Ghost members:
+/// Ghost members (for proofs only):
 ///
 /// - `state` is the meaning of the writer; see `specs/Writer.antt`. It has the `octets` written,
 ///   the octets `following` them in the buffer, `start` and `stop` of the part of the buffer that
@@ -22,21 +23,22 @@ pub use slice::SliceWriter;
 ///   `reference`, the identity of the buffer. A writer without a buffer starts with `start` 0,
 ///   chooses its own `stop`, has an empty `following`, and any `capacity` and `reference`, as long
 ///   as these do not change.
-/// - `reliable` says whether the writer is reliable: whether its errors are also those of the
-///   specified outcomes.
+/// - `reliable` says whether the writer is reliable, as described above.
 pub trait Writer {
     ghost state: { Self → WriterState };
 
     ghost reliable: { Bool };
 
-    /// Appends the octets.
+    /// Appends `octets` to the octets written.
     ///
     /// # Errors
     ///
     /// After each nothing is written and the position is unchanged.
     ///
-    /// - `Failed` at the position, if the writer had already failed; it is unchanged.
-    /// - `Overflow` at the position, if the end would exceed 4294967295; the writer is then failed.
+    /// - `Failed` at the writer's position, if the writer had already failed; the writer is
+    ///   unchanged.
+    /// - `Overflow` at the writer's position, if the end would exceed 4294967295; the writer is
+    ///   then failed.
     /// - `Overlength` at the requested end, if there is no space; the writer is then failed.
     fn write(&mut self, octets: &[u8]) -> Result<(), Error>
         ensures kept { Keeps (state self.old) (state self.new) }
@@ -45,7 +47,7 @@ pub trait Writer {
         ensures exact { reliable ≡ true
             → Writes (write_outcome octets.now (state self.old)) result (state self.new) };
 
-    /// Whether a write of this many octets is known to succeed. If true, a header is written with
+    /// Whether a write of `_count` octets is known to succeed. If true, a header is written with
     /// one write, otherwise piece by piece. The default returns `false`, which promises nothing.
     fn has_space(&self, _count: usize) -> bool
         ensures { result ≡ true → HasSpace (state self.now) _count }

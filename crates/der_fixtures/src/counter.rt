@@ -7,9 +7,9 @@ use std::alloc::Global;
 /// A writer into a vector, which counts the calls of `write`.
 #[derive(Drop)]
 pub struct Counter {
-    /// The octets that were written.
+    /// The octets written so far.
     pub octets: Vec<u8>,
-    /// The number of calls of `write`.
+    /// The number of calls of `write` so far, failed ones included.
     pub writes: u32,
 }
 
@@ -37,7 +37,7 @@ impl Writer for Counter {
 }
 
 impl Counter {
-    /// A writer that has written nothing and counted no calls.
+    /// A writer into a new, empty vector, with no calls counted.
     pub fn new(alloc: Global) -> Self {
         Counter {
             octets: Vec::new(alloc),

@@ -12,7 +12,8 @@ use der::{
 };
 use std::alloc::Global;
 
-/// An OCTET STRING whose contents are borrowed from the input or copied.
+/// An OCTET STRING whose contents are borrowed from the input if the reader returns slices, and are
+/// copied otherwise.
 #[derive(Drop)]
 pub struct CowOctets<'a> {
     /// The contents octets.

@@ -8,7 +8,7 @@ ghost use Rattle.der_base.proofs.OrderLemmas.{then_equal};
 use der::{DerOrd, EncodeValue, Error, FixedTag, Length, OrdIsValueOrd, Tag, Writer, WrittenValue};
 use std::cmp::Ordering;
 
-/// A day, as an INTEGER with one contents octet. The derived `Ord` is the order of this octet.
+/// A day, as an INTEGER with one contents octet. The derived `Ord` compares this octet.
 #[derive(Clone, Copy, Debug, PartialEq, Eq, PartialOrd, Ord)]
 pub struct Day {
     /// The contents octet.
@@ -49,7 +49,8 @@ impl OrdIsValueOrd for Day {
     ghost orders_contents = { λ a b _. sym (then_equal (nat_cmp a.number b.number)) };
 }
 
-/// Compares two days by `der_cmp`. By its contract the result is the byte order of their encodings.
+/// Compares two days by `DerOrd::der_cmp`. The contract states that the result is the order of
+/// their encodings, compared octet by octet.
 pub fn compare_days(a: Day, b: Day) -> Result<Ordering, Error>
     ensures { result ≡ Ok (byte_order (2 ∷ 1 ∷ a.number ∷ []) (2 ∷ 1 ∷ b.number ∷ [])) }
 {

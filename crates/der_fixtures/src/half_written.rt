@@ -6,7 +6,7 @@ ghost use Rattle.der.specs.Encode.{ThenAnswer};
 
 use der::{Encode, Error, ErrorKind, Length, Writer};
 
-/// A value that writes the octet `AA` and then fails with `Overflow`.
+/// A value whose `encode` writes the octet `0xAA` and then fails with `Overflow`.
 #[derive(Clone, Copy)]
 pub struct HalfWritten;
 

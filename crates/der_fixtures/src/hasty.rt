@@ -5,8 +5,14 @@ ghost use Rattle.der.specs.Prelude.{OctetString};
 use der::{DecodeValue, Error, ErrorKind, FixedTag, Header, ReadValue, Reader, ReaderExt, Tag};
 use std::alloc::Global;
 
-/// An OCTET STRING of one octet, read carelessly: `decode_value` ignores that reading a second
-/// octet failed, and leaves the reader failed. So the contract accepts no contents as this value.
+/// A careless type: an OCTET STRING of one octet. `decode_value` reads this octet, and then tries
+/// to read a second one.
+///
+/// - If the reader has failed then, as it does at the end of the contents, `decode_value` returns
+///   the value all the same.
+/// - If the reader has not failed, `decode_value` fails with `Overlength`.
+///
+/// So the contract accepts no contents as a value of this type.
 #[derive(Clone, Copy)]
 pub struct Hasty {
     /// The contents octet.

@@ -5,8 +5,8 @@ ghost use Rattle.der.specs.Prelude.{OctetString, Same};
 use der::{DecodeValue, Error, FixedTag, Header, ReadValue, Reader, ReaderExt, Tag};
 use std::alloc::Global;
 
-/// A value whose contents are read inside `LEVELS` nested parts, each of which spans all the
-/// contents.
+/// An OCTET STRING whose `decode_value` enters `LEVELS` nested parts of the input, one inside the
+/// other, and then skips the contents. Each part spans all the contents.
 #[derive(Clone, Copy)]
 pub struct Nest<const LEVELS: u8>;
 

@@ -7,10 +7,10 @@ ghost use Rattle.der.specs.Decode.{is_out_of_memory_kind};
 use der::{DecodeError, DecodeValue, Error, FixedTag, Header, ReadValue, Reader, ReaderExt, Tag};
 use std::alloc::Global;
 
-/// The error type of decoding an [`Octet`]: it holds an [`Error`].
+/// The error of decoding an [`Octet`]. It wraps an [`Error`].
 #[derive(Clone, Copy, Debug, PartialEq, Eq)]
 pub struct OctetError {
-    /// The original error of decoding.
+    /// The [`Error`] that was converted to this error.
     pub error: Error,
 }
 
@@ -32,7 +32,7 @@ impl DecodeError for OctetError {
     ghost carries = { λ error e same. ap (λ x. is_out_of_memory_kind (kind_of x)) same };
 }
 
-/// An OCTET STRING of one octet, which may have any value.
+/// An OCTET STRING with one contents octet, which may have any value.
 #[derive(Clone, Copy, Debug, PartialEq, Eq)]
 pub struct Octet {
     /// The contents octet.

@@ -5,14 +5,14 @@ ghost use Rattle.der.specs.Prelude.{definite_length, map_ok};
 use der::{EncodeValue, Error, Length, Tag, Tagged, ValueOrd, Writer, WrittenValue};
 use std::cmp::Ordering;
 
-/// A value without contents. Computing its length and comparing it may fail.
+/// A value without contents octets. Its fields are the results of its methods.
 #[derive(Clone, Copy)]
 pub struct Ranked {
-    /// The tag of the value.
+    /// The result of `tag`.
     pub tag: Tag,
-    /// `Ok` if the number of contents octets can be computed, or the error of computing it.
+    /// The result of `value_len`: `Ok` for the length 0, or the error that it returns.
     pub size: Result<(), Error>,
-    /// The result of comparing this value with any other.
+    /// The result of `value_cmp` with any other value.
     pub order: Result<Ordering, Error>,
 }
 

@@ -3,8 +3,8 @@ ghost use Rattle.std.specs.Prelude.{◌+◌, ◌*◌, ◌%◌, ◌^◌, fold};
 
 use std::hash::{Hash, Hasher};
 
-/// A hasher that keeps the octets it gets, at most 15, as a number. The digits of the number in
-/// base 256 are a 1 and then the octets.
+/// A hasher that keeps the octets it gets as a number. In base 256 the digits of this number are a
+/// 1 and then the octets. There is room for 15 octets; with more, the first digits are lost.
 #[derive(Drop)]
 struct Recorder(u128);
 
@@ -24,8 +24,8 @@ impl Hasher for Recorder {
     }
 }
 
-/// The octets that a hasher gets for the value, at most 15, as a number. The digits of the number
-/// in base 256 are a 1 and then the octets.
+/// The octets that `value` gives to a hasher, as a number. In base 256 the digits of this number
+/// are a 1 and then the octets. There is room for 15 octets; with more, the first digits are lost.
 pub fn recorded<T: Hash>(value: &T) -> u128 {
     let mut recorder = Recorder(1);
     value.hash(&mut recorder);

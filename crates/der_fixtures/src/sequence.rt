@@ -5,7 +5,8 @@ ghost use Rattle.der.specs.WrittenSequence.{headed_state};
 
 use der::{Encode, Error, Length, SliceWriter, Writer};
 
-/// Writes a SEQUENCE with `len` contents octets, which are the encoding of the value.
+/// Writes a SEQUENCE whose contents are the encoding of `value`. Fails if the encoding does not
+/// have `len` octets.
 pub fn encode_in_sequence<T: Encode>(
     writer: &mut SliceWriter<'_>,
     len: Length,

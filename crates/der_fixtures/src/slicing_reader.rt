@@ -5,13 +5,14 @@ ghost use Rattle.der.specs.Prelude.{Ber, slice_state};
 use der::{EncodingRules, Error, ErrorKind, Length, Reader, Resumption, SliceReader};
 use std::alloc::Allocator;
 
-/// A reader whose `remaining` returns a slice, and whose `read_slice` and `read_into` always fail.
+/// A reader whose `remaining` returns a slice of the input, but whose `read_slice` and `read_into`
+/// always fail.
 #[derive(Drop)]
 pub struct SlicingReader<'a> {
     inner: SliceReader<'a>,
 }
 
-/// A [`SlicingReader`] at the start of these octets, under the Basic Encoding Rules.
+/// A [`SlicingReader`] at the start of `octets`, under the Basic Encoding Rules.
 pub fn ber_slicing(octets: &[u8]) -> Result<SlicingReader<'_>, Error>
     ensures { IfOk result (λ r. (slice_state r.inner).rules ≡ Ber) }
 {

@@ -5,7 +5,8 @@ ghost use Rattle.der.specs.Prelude.{indefinite_length};
 use der::{EncodingRules, Error, Length, ReaderExt, SliceReader, Turns};
 use std::sync::ledger::{Blank, Ledger};
 
-/// Scans three NULLs and the end-of-contents octets: eight octets, in four turns.
+/// Scans three NULLs and the end-of-contents octets, and returns the number of these octets: 8.
+/// Adds 4 to `turns`, one for each NULL and one for the end-of-contents octets.
 pub fn scan_nulls<L: Ledger>(turns: &mut Turns<L>) -> Result<Length, Error>
     ensures answer { result ≡ Ok (indefinite_length 8) }
     ensures turned { turns.new ≡ turns.old + 4 }
@@ -15,7 +16,8 @@ pub fn scan_nulls<L: Ledger>(turns: &mut Turns<L>) -> Result<Length, Error>
     reader.scan_indefinite(turns)
 }
 
-/// Scans three NULLs and the end-of-contents octets, with a counter of turns that starts at zero.
+/// Scans three NULLs and the end-of-contents octets, and returns the number of these octets: 8.
+/// Creates the counter of turns (see [`Turns`]), which starts at 0, from `blank`.
 pub fn scan_nulls_counted<L: Ledger>(blank: Blank) -> Result<Length, Error>
     requires name { blank.name ≡ L.name }
     requires parts { blank.parts ≡ L.parts }

@@ -5,7 +5,8 @@ ghost use Rattle.der.specs.Prelude.{OctetString};
 use der::{DecodeValue, Error, FixedTag, Header, ReadValue, Reader, Tag};
 use std::alloc::Global;
 
-/// An OCTET STRING whose `decode_value` reads nothing. So only empty contents are accepted.
+/// A careless type: an OCTET STRING whose `decode_value` reads nothing. So decoding accepts only
+/// empty contents.
 #[derive(Clone, Copy)]
 pub struct Unread;
 

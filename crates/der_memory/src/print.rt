@@ -3,17 +3,18 @@ use der::Error;
 use std::fmt::{Debug, Display};
 use std::io;
 
-/// Prints `call` and the value that it returned, in debug format.
+/// Prints a line with `call`, the name of a call, and with `value`, its result, in debug format.
 pub fn print_value<T: Debug + Drop>(rt: &impl Print, call: &str, value: T) -> io::Result<()> {
     println!(rt; "{call}: {value:?}")
 }
 
-/// Prints `call` and the value that it returned, as text.
+/// Prints a line with `call`, the name of a call, and with `value`, its result, as text.
 pub fn print_text<T: Display + Drop>(rt: &impl Print, call: &str, value: T) -> io::Result<()> {
     println!(rt; "{call}: {value}")
 }
 
-/// Prints `call` and its result: the value in debug format, or the text of the error.
+/// Prints a line with `call`, the name of a call, and with `answer`, its result: the value in debug
+/// format, or the error as text.
 pub fn print_result<T: Debug + Drop>(
     rt: &impl Print,
     call: &str,

@@ -12,8 +12,8 @@ use std::alloc::{AllocError, Global};
 use std::fmt::Write;
 use x509::{Certificate, Extension, Extensions, TbsCertificate};
 
-/// Writes one line per field of the certificate, in the words of `openssl x509 -text`. `offsets`
-/// must be at the start of the octets that the certificate was read from.
+/// Writes one line per field of the certificate to `text`, in the words of `openssl x509 -text`.
+/// `offsets` must be at the start of the octets that the certificate was read from.
 pub fn write_certificate(
     alloc: Global,
     text: &mut String,
@@ -36,7 +36,8 @@ pub fn write_certificate(
     write_warnings(text, certificate, offsets)
 }
 
-/// Writes one line for each rule that the certificate breaks although decoding accepts it.
+/// Checks two rules that decoding does not check, and writes a warning line for each one that the
+/// certificate breaks.
 fn write_warnings(
     text: &mut String,
     certificate: &Certificate<'_>,
@@ -53,7 +54,7 @@ fn write_warnings(
     Ok(())
 }
 
-/// Writes the lines of a certificate's version, serial number and signature algorithm.
+/// Writes one line each for a certificate's version, serial number and signature algorithm.
 fn write_head(
     text: &mut String,
     tbs: &TbsCertificate<'_>,
@@ -101,7 +102,7 @@ fn write_parties(
 }
 
 /// Writes a serial number in hexadecimal. A positive number is written without a leading zero
-/// octet. A negative one is written as `(Negative)` and its octets in two's complement.
+/// octet, a negative one as `(Negative)` and then its octets in two's complement.
 fn write_serial_number(text: &mut String, number: &IntRef<'_>) -> Result<(), AllocError> {
     match number.octets() {
         [0, second, rest @ ..] => {
@@ -116,7 +117,7 @@ fn write_serial_number(text: &mut String, number: &IntRef<'_>) -> Result<(), All
     }
 }
 
-/// Writes a line with the identifier of a signature algorithm.
+/// Writes a line with `oid`, the identifier of a signature algorithm.
 pub fn write_signature_algorithm(
     text: &mut String,
     oid: &ObjectIdentifierRef<'_>,
@@ -128,7 +129,7 @@ pub fn write_signature_algorithm(
     text.push('\n')
 }
 
-/// Writes a line with the number of octets of a signature.
+/// Writes a line with the number of octets of `signature`. The octets are not written.
 pub fn write_signature(
     text: &mut String,
     signature: &BitStringRef<'_>,
@@ -139,8 +140,8 @@ pub fn write_signature(
     writeln!(text, "Signature Value: {signature_len} octets")
 }
 
-/// Writes a line with a unique identifier in hexadecimal, if there is one. `of` is the word for
-/// whose it is.
+/// Writes a line with the unique identifier `id` in hexadecimal, or nothing if it is absent. `of`
+/// is the word for its owner: `Issuer` or `Subject`.
 fn write_unique_id<const N: u32>(
     text: &mut String,
     of: &str,

@@ -7,12 +7,14 @@ use std::alloc::AllocError;
 use std::fmt::Write;
 use std::str;
 
-/// The greatest number of octets that are printed of contents that are not text.
+/// If contents are not text, at most this number of their octets is printed.
 const SHOWN_OCTETS: usize = 32;
 
-/// Writes the contents of an element. An object identifier is written by its name, if it is known,
-/// and its arcs; text is written unchanged. Of anything else the first 32 octets are written in
-/// hexadecimal.
+/// Writes the contents of an element with the tag `tag`:
+///
+/// - of an object identifier its name, if it is known, and the numbers that it consists of;
+/// - of a string or a time its text, unchanged;
+/// - of anything else the first 32 octets in hexadecimal, and `..` if there are more.
 pub fn write_contents(text: &mut String, tag: Tag, contents: &[u8]) -> Result<(), AllocError> {
     if tag == Tag::ObjectIdentifier {
         if let Some(oid) = ObjectIdentifierRef::new(contents) {
@@ -25,8 +27,8 @@ pub fn write_contents(text: &mut String, tag: Tag, contents: &[u8]) -> Result<()
     }
 }
 
-/// The contents of a string or a time as text, or `None` for other tags. The text must fit on a
-/// line: it must be UTF-8 without control characters.
+/// The contents as text, if `tag` is that of a string or a time, and the contents are UTF-8 without
+/// control characters, so that they fit on a line. Otherwise `None`.
 pub fn shown_text(tag: Tag, contents: &[u8]) -> Option<&str> {
     match tag {
         Tag::Utf8String

@@ -2,12 +2,12 @@
 
 use der::{EncodingRules, Error, Header, Length, Reader, SliceReader, decode_header, read_eoc};
 
-/// An element, and its positions in the input.
+/// An element, and its positions in the input, counted in octets from 0.
 #[derive(Clone, Copy)]
 pub struct PlacedElement<'a> {
     /// The header of the element.
     pub header: Header,
-    /// The position at which the header begins.
+    /// The position in the input at which the header begins.
     pub start: u32,
     /// The position at which the contents begin.
     pub contents_start: u32,
@@ -20,8 +20,8 @@ pub struct PlacedElement<'a> {
 }
 
 impl<'a> PlacedElement<'a> {
-    /// Reads the element that begins at position `start` of `octets`. It must not extend past
-    /// position `end`.
+    /// Reads the element that begins at position `start` of `octets`. Fails if the element cannot
+    /// be read under `rules`, or does not end at position `end` or before.
     pub fn read(
         octets: &'a [u8],
         start: u32,

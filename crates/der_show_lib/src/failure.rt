@@ -6,7 +6,7 @@ use std::alloc::AllocError;
 /// Why the printed text is not complete.
 #[derive(Drop)]
 pub enum Failure {
-    /// The octets are not accepted.
+    /// The octets are not accepted, because of this error.
     Refused(Error),
     /// An allocation failed.
     OutOfMemory,

@@ -14,8 +14,9 @@ use spki::SubjectPublicKeyInfoRef;
 use std::alloc::Global;
 use x509::{CertReq, Certificate};
 
-/// Decodes the octets as the type `shape`, and writes one line per field. If the octets do not
-/// decode, writes a line with the field that failed instead, and returns its error.
+/// Decodes the octets as the type `shape`, and writes one line per field. If they do not decode,
+/// writes instead one line with the innermost field that fails, and returns the error of this
+/// field. `has_offsets` says whether each line begins with the offset of its element.
 pub fn write_fields(
     alloc: Global,
     text: &mut String,

@@ -5,8 +5,8 @@ use der_asn1::ObjectIdentifierRef;
 use std::alloc::AllocError;
 use std::fmt::Write;
 
-/// Writes an object identifier. If `name_of` has a name for it, writes the name and the arcs in
-/// parentheses, otherwise only the arcs.
+/// Writes an object identifier: its name and, in parentheses, its arcs (see [`write_arcs`]). If
+/// [`name_of`] returns no name, writes only the arcs.
 pub fn write_identifier(
     text: &mut String,
     oid: &ObjectIdentifierRef<'_>,
@@ -21,8 +21,8 @@ pub fn write_identifier(
     }
 }
 
-/// Writes the arcs of an object identifier, separated by dots. An arc of more than 32 bits is
-/// written as `?`.
+/// Writes the arcs of an object identifier, which are the numbers that it consists of, separated by
+/// dots. An arc of more than 32 bits is written as `?`.
 pub fn write_arcs(text: &mut String, oid: &ObjectIdentifierRef<'_>) -> Result<(), AllocError> {
     let mut is_first = true;
     for arc in oid.arcs() {

@@ -40,8 +40,8 @@ fn write_level(
     Ok(())
 }
 
-/// Writes an attribute as its type, `=` and its value. The value is written as text, or else in
-/// hexadecimal after `#`.
+/// Writes an attribute as its type, `=` and its value. A value that can be shown as text is written
+/// as text. Any other value is written as `#` and its first 32 contents octets in hexadecimal.
 fn write_attribute(
     text: &mut String,
     attribute: &AttributeTypeAndValue<'_>,
@@ -61,7 +61,8 @@ fn write_attribute(
     }
 }
 
-/// Writes text, with a backslash before each character that is special in a name (RFC 4514, 2.4).
+/// Writes `shown` to `text`, with a backslash before each character that is special in a name (RFC
+/// 4514, 2.4).
 fn write_escaped(text: &mut String, shown: &str) -> Result<(), AllocError> {
     for c in shown.chars() {
         if matches!(c, ',' | '+' | '"' | '\\' | '<' | '>' | ';' | '#' | '=') {

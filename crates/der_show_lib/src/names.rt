@@ -1,7 +1,7 @@
 //! Names of object identifiers.
 
-/// The name that openssl gives the object identifier with these contents, or `None` if it is not in
-/// the list here.
+/// The name that openssl gives the object identifier whose contents are `octets`. `None` if this
+/// function does not list the object identifier.
 pub fn name_of(octets: &[u8]) -> Option<&'static str> {
     match octets {
         [0x55, 0x04, last] => attribute_name(*last),

@@ -4,8 +4,9 @@ use der::{Error, Reader, ReaderExt, SliceReader, decode_header};
 use std::alloc::AllocError;
 use std::fmt::Write;
 
-/// A walk over the elements of octets that were already decoded. Before the line of each element it
-/// writes the offset of the element's header, if offsets were requested.
+/// A walk over the elements of octets that were already decoded. The walk is always before one
+/// element, the next one. Before the line of this element it writes the offset of the element's
+/// header, if offsets were requested.
 #[derive(Drop)]
 pub struct Offsets<'a> {
     // At the element of the next line.
@@ -15,14 +16,14 @@ pub struct Offsets<'a> {
 }
 
 impl<'a> Offsets<'a> {
-    /// A walk that starts at the first element of the octets. `is_shown` says whether it writes
+    /// A walk that starts before the first element of `octets`. `is_shown` says whether it writes
     /// offsets.
     pub fn new(octets: &'a [u8], is_shown: bool) -> Result<Self, Error> {
         let reader = SliceReader::new(octets)?;
         Ok(Offsets { reader, is_shown })
     }
 
-    /// A copy of the walk, at the same element. Moving the copy leaves this walk unchanged.
+    /// A copy of the walk, before the same element. Moving the copy does not move this walk.
     pub fn fork(&self) -> Self {
         Offsets {
             reader: self.reader.fork(),
@@ -30,17 +31,18 @@ impl<'a> Offsets<'a> {
         }
     }
 
-    /// Moves past the header of the next element, to the first element inside it.
+    /// Moves past the header of the next element. The first element inside it is then the next one.
     pub fn enter(&mut self) {
         let _header = decode_header(&mut self.reader);
     }
 
-    /// Moves past the whole next element.
+    /// Moves past the whole next element, header and contents.
     pub fn pass(&mut self) {
         let _octets = self.reader.tlv_bytes();
     }
 
-    /// Writes the offset of the next element, if offsets were requested. The walk does not move.
+    /// Writes the offset of the next element, or nothing if offsets were not requested. The walk
+    /// does not move.
     pub fn show(&self, text: &mut String) -> Result<(), AllocError> {
         if !self.is_shown {
             return Ok(());
@@ -48,24 +50,24 @@ impl<'a> Offsets<'a> {
         write!(text, "{:>5}: ", u32::from(self.reader.position()))
     }
 
-    /// Writes the offset of the next element, if offsets were requested, and moves to the first
-    /// element inside it.
+    /// Writes the offset of the next element, if offsets were requested. In any case moves to the
+    /// first element inside it.
     pub fn put_around(&mut self, text: &mut String) -> Result<(), AllocError> {
         self.show(text)?;
         self.enter();
         Ok(())
     }
 
-    /// Writes the offset of the next element, if offsets were requested, and moves past the
-    /// element.
+    /// Writes the offset of the next element, if offsets were requested. In any case moves past the
+    /// whole element.
     pub fn put(&mut self, text: &mut String) -> Result<(), AllocError> {
         self.show(text)?;
         self.pass();
         Ok(())
     }
 
-    /// Writes spaces in place of an offset, if offsets were requested. This is for a line without
-    /// an element, such as that of a default.
+    /// Writes spaces in place of an offset, if offsets were requested. This is for a line that no
+    /// element belongs to, such as the line of a default value that is not encoded.
     pub fn put_none(&self, text: &mut String) -> Result<(), AllocError> {
         if !self.is_shown {
             return Ok(());

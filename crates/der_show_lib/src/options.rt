@@ -5,12 +5,12 @@ use der::EncodingRules;
 /// The options of the command line.
 #[derive(Clone, Copy)]
 pub struct Options {
-    /// The encoding rules of the octets.
+    /// The encoding rules of the octets: BER with the option `--ber`, otherwise DER.
     pub rules: EncodingRules,
-    /// Whether each line begins with the offset of its element.
+    /// Whether each line begins with the offset of its element: the option `--offsets`.
     pub has_offsets: bool,
-    /// Whether to print every element of the octets, even if they have a type whose fields can be
-    /// printed.
+    /// Whether to print one line per element, even if the octets are a certificate, a request or a
+    /// key, whose fields could be printed: the option `--tree`.
     pub is_tree: bool,
 }
 
@@ -24,8 +24,8 @@ pub struct ShowCommand<'a> {
 }
 
 impl<'a> ShowCommand<'a> {
-    /// Parses the words of the command line: options, and then at most one file. Returns `None` for
-    /// any other words.
+    /// Parses the words of the command line, without the program's name: options, and then at most
+    /// one file. Returns `None` for any other words.
     pub fn parse(words: &'a [String]) -> Option<Self> {
         let mut options = Options {
             rules: EncodingRules::Der,

@@ -9,8 +9,8 @@ use pkcs8::PrivateKeyInfo;
 use std::alloc::AllocError;
 use std::fmt::Write;
 
-/// Writes one line per field of a private key. Of the octets of the key itself only the number is
-/// written.
+/// Writes one line per field of a private key. The octets of the key itself are not written, only
+/// their number.
 pub fn write_private_key(
     text: &mut String,
     key: &PrivateKeyInfo<'_>,
@@ -39,7 +39,7 @@ pub fn write_private_key(
     Ok(())
 }
 
-/// Writes the lines of a private key's version, algorithm and curve.
+/// Writes the lines of a private key's version and algorithm, and of its curve if it has one.
 fn write_head(
     text: &mut String,
     key: &PrivateKeyInfo<'_>,

@@ -12,12 +12,13 @@ use std::{fs, io};
 
 const USAGE: &str = "usage: der_show [--offsets] [--tree] [--ber] [FILE]\n";
 
-/// Prints the fields or the elements in the file that the arguments name, or in standard input, and
-/// returns the exit status. The first argument is the name of the program. The status is:
+/// Runs the program: reads the file that the arguments name, or standard input if they name none,
+/// prints its fields or its elements to `out`, and returns the exit status. `given` are the
+/// arguments; the first one is the name of the program. The status is:
 ///
 /// - 0 on success;
 /// - 1 if the octets are not accepted or cannot be read, an allocation fails or the output fails;
-/// - 2 if `given` is an error, or the words are not a command; the usage is printed then.
+/// - 2 if `given` is an error, or the other arguments are not a command; the usage is printed then.
 pub fn run_show<R: Files + Input + AllocGlobal, W: Write>(
     rt: &R,
     given: io::Result<Args>,
@@ -51,7 +52,7 @@ fn run<R: Files + Input + AllocGlobal, W: Write>(
     }
 }
 
-/// Reads all octets of the file with this path, or of standard input if it is `None`.
+/// Reads all octets of the file with the path `file`, or of standard input if `file` is `None`.
 fn read_octets<R: Files + Input + AllocGlobal>(rt: &R, file: Option<&str>) -> io::Result<Vec<u8>> {
     match file {
         Some(path) => fs::read(rt, path),
@@ -63,8 +64,8 @@ fn read_octets<R: Files + Input + AllocGlobal>(rt: &R, file: Option<&str>) -> io
     }
 }
 
-/// The text to print for these octets, and the exit status. If the octets are not accepted, the
-/// text ends with an error line, and the status is 1.
+/// The text to print for `octets`, and the exit status. The status is 0 if the octets are accepted.
+/// Otherwise it is 1, and the text ends with an error line. Fails if an allocation fails.
 fn view(alloc: Global, octets: &[u8], options: Options) -> Result<(String, u8), AllocError> {
     let mut text = String::new(alloc);
     match write_view(alloc, &mut text, octets, options) {
@@ -81,7 +82,7 @@ fn error_line(alloc: Global, error: Error) -> Result<String, AllocError> {
     format!(in alloc; "error: {error}\n")
 }
 
-/// Prints the text, and returns the status, or 1 if the output fails.
+/// Prints `text` to `out`, and returns `status`, or 1 if the output fails.
 fn say<W: Write>(text: &str, status: u8, out: &mut W) -> u8 {
     match put(text, out) {
         Ok(()) => status,

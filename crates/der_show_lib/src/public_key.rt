@@ -16,6 +16,8 @@ const RSA: &[u8] = &[0x2a, 0x86, 0x48, 0x86, 0xf7, 0x0d, 0x01, 0x01, 0x01];
 const ELLIPTIC_CURVE: &[u8] = &[0x2a, 0x86, 0x48, 0xce, 0x3d, 0x02, 0x01];
 
 /// Writes the lines of a public key: its algorithm, its size, and its curve if it has one.
+///
+/// `offsets` must be at the element of the key.
 pub fn write_public_key(
     text: &mut String,
     key: &SubjectPublicKeyInfoRef<'_>,
@@ -36,8 +38,9 @@ pub fn write_public_key(
     write_curve(text, &key.algorithm, &mut parameters)
 }
 
-/// The nominal size in bits of the public key with these octets: of the modulus of an RSA key, or
-/// of the order of a named curve. `None` if the algorithm or the curve is not known here.
+/// The nominal size in bits of the public key `key`, whose own octets are `octets`: the number of
+/// bits of the modulus of an RSA key, or of the order of a named curve. `None` if the algorithm or
+/// the curve is not known here, or the RSA key has no modulus that can be read.
 fn key_bits(key: &SubjectPublicKeyInfoRef<'_>, octets: &[u8]) -> Option<u64> {
     let algorithm = key.algorithm.oid.octets();
     if algorithm == RSA {
@@ -51,8 +54,8 @@ fn key_bits(key: &SubjectPublicKeyInfoRef<'_>, octets: &[u8]) -> Option<u64> {
     None
 }
 
-/// The number of bits of the order of the named curve with these contents (RFC 5480, 2.1.1.1), or
-/// `None` if it is not in the list here.
+/// The number of bits of the order of a named curve (RFC 5480, 2.1.1.1). `curve` are the contents
+/// of the curve's object identifier. `None` if this function does not list the curve.
 fn curve_bits(curve: &[u8]) -> Option<u64> {
     match curve {
         [0x2a, 0x86, 0x48, 0xce, 0x3d, 0x03, 0x01, 0x07] => Some(256),
@@ -62,9 +65,11 @@ fn curve_bits(curve: &[u8]) -> Option<u64> {
     }
 }
 
-/// Writes a line with the curve that the parameters name, if the algorithm is id-ecPublicKey and
-/// has parameters. Parameters that are no object identifier are written in hexadecimal. `offsets`
-/// must be at the element of the algorithm.
+/// Writes a line with the parameters, if the algorithm is id-ecPublicKey and has parameters;
+/// otherwise writes nothing. The parameters are written as a curve if they are an object
+/// identifier, and in hexadecimal if not.
+///
+/// `offsets` must be at the element of the algorithm.
 pub fn write_curve(
     text: &mut String,
     algorithm: &AlgorithmIdentifierRef<'_>,
@@ -92,7 +97,8 @@ pub fn write_curve(
     text.push('\n')
 }
 
-/// The number of bits of the modulus of the RSAPublicKey in these octets (RFC 8017, A.1.1).
+/// The number of bits of the modulus of an RSA key. `octets` must begin with an RSAPublicKey (RFC
+/// 8017, A.1.1).
 fn modulus_bits(octets: &[u8]) -> Result<u64, Error> {
     let mut reader = SliceReader::new(octets)?;
     let key = decode_header(&mut reader)?;
@@ -102,8 +108,8 @@ fn modulus_bits(octets: &[u8]) -> Result<u64, Error> {
     Ok(bit_count(reader.read_slice(modulus.length())?))
 }
 
-/// The number of bits of the natural number with these octets, of which at most one is a leading
-/// zero.
+/// The number of bits of the natural number with the digits `octets` in base 256, without leading
+/// zero bits. `octets` may begin with at most one zero octet.
 fn bit_count(octets: &[u8]) -> u64 {
     match octets {
         [0, rest @ ..] => bits_from_first(rest),

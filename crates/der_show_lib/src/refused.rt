@@ -11,9 +11,12 @@ use der::Error;
 use std::alloc::{AllocError, Global};
 use std::fmt::Write;
 
-/// Reports octets that fail to decode as the type `shape` with `error`. Searches for the innermost
-/// field that fails, and writes a line with its path and offset. Always fails: with the error of
-/// this field, with `error` if no field fails, or because an allocation failed.
+/// Reports `octets`, which failed to decode as the type `shape` with `error`. Searches for the
+/// innermost field that fails, and writes a line with its path and offset. Always fails:
+///
+/// - with the error of the innermost field that fails;
+/// - with `error` if no field fails;
+/// - with `OutOfMemory` if an allocation fails.
 pub fn refuse(
     alloc: Global,
     text: &mut String,

@@ -10,7 +10,8 @@ use der_asn1::{
 };
 use x509::{Extension, Extensions, TbsCertificate, Time, Validity, Version};
 
-/// Searches a certificate for the innermost field that fails to decode.
+/// Searches a certificate for the innermost field that fails to decode. `search` must be at the
+/// start of the certificate, and keeps what it finds.
 pub fn search_certificate(search: &mut Search<'_>) {
     let _found = search.enter(Tag::Sequence)
         && (search_signed(search)
@@ -18,7 +19,8 @@ pub fn search_certificate(search: &mut Search<'_>) {
             || search_bits(search, "signatureValue"));
 }
 
-/// Whether the next field, a TBSCertificate, fails to decode. If it does, also searches its fields.
+/// Whether the next field, a TBSCertificate, fails to decode. If it does, also searches its fields
+/// for the innermost one that fails. If not, skips the field.
 fn search_signed(search: &mut Search<'_>) -> bool {
     if !search.is_refused::<TbsCertificate<'_>>("tbsCertificate") {
         return false;
@@ -27,8 +29,8 @@ fn search_signed(search: &mut Search<'_>) -> bool {
     true
 }
 
-/// Whether a field of a TBSCertificate before the subject fails to decode. Searches inside this
-/// field.
+/// Whether one of the fields of a TBSCertificate before `subject` fails to decode. If one does,
+/// also searches inside it for the innermost field that fails. If none does, skips these fields.
 fn search_issued(search: &mut Search<'_>) -> bool {
     search.is_refused::<Defaulted<Explicit<Version<'_>, 0>>>("version")
         || search.is_refused::<IntRef<'_>>("serialNumber")
@@ -37,8 +39,8 @@ fn search_issued(search: &mut Search<'_>) -> bool {
         || search_validity(search)
 }
 
-/// Whether a field of a TBSCertificate from the subject on fails to decode. Searches inside this
-/// field.
+/// Whether `subject` or a later field of a TBSCertificate fails to decode. If one does, also
+/// searches inside it for the innermost field that fails. If none does, skips these fields.
 fn search_subject(search: &mut Search<'_>) -> bool {
     search_name(search, "subject")
         || search_key(search, "subjectPublicKeyInfo")
@@ -47,7 +49,8 @@ fn search_subject(search: &mut Search<'_>) -> bool {
         || search_extensions(search)
 }
 
-/// Whether the next field, a Validity, fails to decode. If it does, also searches its two times.
+/// Whether the next field, a Validity, fails to decode. If it does, also searches its two times for
+/// the one that fails. If not, skips the field.
 fn search_validity(search: &mut Search<'_>) -> bool {
     if !search.is_refused::<Validity>("validity") {
         return false;
@@ -62,7 +65,7 @@ fn search_time(search: &mut Search<'_>, name: &str) -> bool {
 }
 
 /// Whether the next field, the optional extensions, fails to decode. If it does, also searches the
-/// fields of the first extension that fails.
+/// first extension that fails for the field that fails. If not, skips the field.
 fn search_extensions(search: &mut Search<'_>) -> bool {
     if !search.is_refused::<Optional<Explicit<Extensions<'_>, 3>>>("extensions") {
         return false;

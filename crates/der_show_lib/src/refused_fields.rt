@@ -9,24 +9,26 @@ use der_asn1::{AnyRef, BitStringRef, Implicit, ObjectIdentifierRef, Optional};
 use spki::{AlgorithmIdentifierRef, SubjectPublicKeyInfoRef};
 use x509::{AttributeTypeAndValue, Name, RelativeDistinguishedName};
 
-/// Whether the next field, an OBJECT IDENTIFIER with this name, fails to decode.
+/// Whether the next field, an OBJECT IDENTIFIER with the name `name`, fails to decode. Skips a
+/// field that decodes.
 pub fn search_identifier(search: &mut Search<'_>, name: &str) -> bool {
     search.is_refused::<ObjectIdentifierRef<'_>>(name)
 }
 
-/// Whether the next field, a BIT STRING with this name, fails to decode.
+/// Whether the next field, a BIT STRING with the name `name`, fails to decode. Skips a field that
+/// decodes.
 pub fn search_bits(search: &mut Search<'_>, name: &str) -> bool {
     search.is_refused::<BitStringRef<'_>>(name)
 }
 
-/// Whether the next field, an optional BIT STRING with the implicit tag `[1]` and this name, fails
-/// to decode.
+/// Whether the next field, an optional BIT STRING with the implicit tag `[1]` and the name `name`,
+/// fails to decode. Skips a field that decodes.
 pub fn search_first_bits(search: &mut Search<'_>, name: &str) -> bool {
     search.is_refused::<Optional<Implicit<BitStringRef<'_>, 1>>>(name)
 }
 
-/// Whether the next field, an AlgorithmIdentifier with this name, fails to decode. If it does, also
-/// searches its fields.
+/// Whether the next field, an AlgorithmIdentifier with the name `name`, fails to decode. If it
+/// does, also searches its fields for the innermost one that fails. If not, skips the field.
 pub fn search_algorithm(search: &mut Search<'_>, name: &str) -> bool {
     if !search.is_refused::<AlgorithmIdentifierRef<'_>>(name) {
         return false;
@@ -37,8 +39,8 @@ pub fn search_algorithm(search: &mut Search<'_>, name: &str) -> bool {
     true
 }
 
-/// Whether the next field, a SubjectPublicKeyInfo with this name, fails to decode. If it does, also
-/// searches its fields.
+/// Whether the next field, a SubjectPublicKeyInfo with the name `name`, fails to decode. If it
+/// does, also searches its fields for the innermost one that fails. If not, skips the field.
 pub fn search_key(search: &mut Search<'_>, name: &str) -> bool {
     if !search.is_refused::<SubjectPublicKeyInfoRef<'_>>(name) {
         return false;
@@ -48,13 +50,15 @@ pub fn search_key(search: &mut Search<'_>, name: &str) -> bool {
 }
 
 /// Searches a SubjectPublicKeyInfo that fails to decode for the innermost field that fails.
+/// `search` must be at the start of the SubjectPublicKeyInfo, and keeps what it finds.
 pub fn search_public_key(search: &mut Search<'_>) {
     let _found = search.enter(Tag::Sequence)
         && (search_algorithm(search, "algorithm") || search_bits(search, "subjectPublicKey"));
 }
 
-/// Whether the next field, a Name with this field name, fails to decode. If it does, also searches
-/// its relative distinguished names and their attributes.
+/// Whether the next field, a distinguished name, fails to decode. `name` is the name of this field.
+/// If it fails, also searches its relative distinguished names and their attributes for the
+/// innermost one that fails. If not, skips the field.
 pub fn search_name(search: &mut Search<'_>, name: &str) -> bool {
     if !search.is_refused::<Name<'_>>(name) {
         return false;

@@ -6,7 +6,8 @@ use der::Tag;
 use der_asn1::{Implicit, OctetStringRef, Optional};
 use pkcs8::{PrivateKeyAttributes, Version};
 
-/// Searches a private key for the innermost field that fails to decode.
+/// Searches a private key for the innermost field that fails to decode. `search` must be at the
+/// start of the private key, and keeps what it finds.
 pub fn search_private_key(search: &mut Search<'_>) {
     let _found = search.enter(Tag::Sequence)
         && (search.is_refused::<Version<'_>>("version")

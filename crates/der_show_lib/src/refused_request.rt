@@ -8,7 +8,8 @@ use der::{Tag, TagNumber};
 use der_asn1::{AnyRef, Implicit};
 use x509::{Attribute, AttributeValues, Attributes, CertReqInfo, CertReqVersion};
 
-/// Searches a certification request for the innermost field that fails to decode.
+/// Searches a certification request for the innermost field that fails to decode. `search` must be
+/// at the start of the request, and keeps what it finds.
 pub fn search_request(search: &mut Search<'_>) {
     let _found = search.enter(Tag::Sequence)
         && (search_info(search)
@@ -17,7 +18,7 @@ pub fn search_request(search: &mut Search<'_>) {
 }
 
 /// Whether the next field, a CertificationRequestInfo, fails to decode. If it does, also searches
-/// its fields.
+/// its fields for the innermost one that fails. If not, skips the field.
 fn search_info(search: &mut Search<'_>) -> bool {
     if !search.is_refused::<CertReqInfo<'_>>("certificationRequestInfo") {
         return false;
@@ -31,7 +32,7 @@ fn search_info(search: &mut Search<'_>) -> bool {
 }
 
 /// Whether the next field, the attributes of a request, fails to decode. If it does, also searches
-/// the fields of the first attribute that fails.
+/// the first attribute that fails for the innermost field that fails. If not, skips the field.
 fn search_attributes(search: &mut Search<'_>) -> bool {
     if !search.is_refused::<Implicit<Attributes<'_>, 0>>("attributes") {
         return false;
@@ -48,7 +49,7 @@ fn search_attributes(search: &mut Search<'_>) -> bool {
 }
 
 /// Whether the next field, the values of an attribute, fails to decode. If it does, also searches
-/// the values.
+/// the values for the first one that fails. If not, skips the field.
 fn search_values(search: &mut Search<'_>) -> bool {
     if !search.is_refused::<AttributeValues<'_>>("values") {
         return false;

@@ -10,8 +10,8 @@ use std::alloc::{AllocError, Global};
 use std::fmt::Write;
 use x509::{Attributes, CertReq};
 
-/// Writes one line per field of the certification request, in the words of `openssl req -text`.
-/// `offsets` must be at the start of the octets that the request was read from.
+/// Writes one line per field of the certification request to `text`, in the words of `openssl req
+/// -text`. `offsets` must be at the start of the octets that the request was read from.
 pub fn write_request(
     alloc: Global,
     text: &mut String,

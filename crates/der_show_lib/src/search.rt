@@ -5,25 +5,26 @@ use std::alloc::Global;
 use std::fmt::Write;
 
 /// A walk over the fields of a value that fails to decode, down to the innermost field that fails.
-/// Each field is decoded by its own type.
+/// Each field is decoded on its own, as the type of this field.
 #[derive(Drop)]
 pub struct Search<'a> {
     alloc: Global,
     // At the next field.
     reader: SliceReader<'a>,
-    /// The error of the innermost failing field found so far, with positions in the whole input.
+    /// The error of the innermost failing field found so far. Its position is counted from the
+    /// start of the whole input.
     pub error: Error,
     /// The path of the innermost failing field found so far: the names of the fields around it and
-    /// its own name, separated by dots. An item of a list has its index, from 0 on.
+    /// its own name, separated by dots. An item of a list is written as its index, from `[0]` on.
     pub path: String,
-    /// The offset of the innermost failing field found so far.
+    /// The offset in the input of the innermost failing field found so far.
     pub start: u32,
     /// Whether an allocation failed, so that the path is not complete.
     pub lacks_memory: bool,
 }
 
 impl<'a> Search<'a> {
-    /// A walk from the start of octets that fail to decode with this error.
+    /// A walk that starts at the first element of `octets`, which failed to decode with `error`.
     pub fn new(alloc: Global, octets: &'a [u8], error: Error) -> Result<Self, Error> {
         let reader = SliceReader::new(octets)?;
         Ok(Search {
@@ -36,8 +37,9 @@ impl<'a> Search<'a> {
         })
     }
 
-    /// Whether the next field fails to decode as a `T`. The walk skips a field that decodes. At one
-    /// that fails it stays, keeps the error and the offset, and adds `name` to the path.
+    /// Whether the next field fails to decode as a `T`. If it decodes, the walk skips it. If it
+    /// fails, the walk stays at this field, keeps its error and its offset, and adds `name` to the
+    /// path.
     pub fn is_refused<T: Decode<SliceReader<'a>, Error = Error>>(&mut self, name: &str) -> bool {
         if self.passes::<T>() {
             return false;
@@ -51,7 +53,7 @@ impl<'a> Search<'a> {
 
     /// Whether an item of a SEQUENCE OF fails to decode as a `T`. The walk must be at the start of
     /// the contents of the list. At the first item that fails it stays, keeps the error and the
-    /// offset, and adds the index to the path.
+    /// offset, and adds the item's index to the path. If no item fails, the walk skips the list.
     pub fn is_item_refused<T: Decode<SliceReader<'a>, Error = Error>>(&mut self) -> bool {
         for at in 0..u32::from(self.reader.remaining_len()) {
             if self.reader.is_finished() {
@@ -66,10 +68,11 @@ impl<'a> Search<'a> {
     }
 
     /// Whether a member of a SET OF fails to decode as a `T`. The walk must be at the start of the
-    /// contents of the SET OF, and stays at the first member that fails. If no member fails, the
-    /// SET OF fails because its members are out of order. The position of that error is counted
-    /// from the start of the contents; it is then corrected to be counted from the start of the
-    /// input.
+    /// contents of the SET OF, and stays at the first member that fails.
+    ///
+    /// If no member fails, the SET OF was refused because its members are out of order. The
+    /// position of this error is counted from the start of the contents. This function changes it
+    /// in `self.error`, so that it is counted from the start of the input.
     pub fn is_member_refused<T: Decode<SliceReader<'a>, Error = Error>>(&mut self) -> bool {
         let order = self.error_from_here();
         if self.is_item_refused::<T>() {
@@ -79,8 +82,8 @@ impl<'a> Search<'a> {
         false
     }
 
-    /// Enters the contents of the next element. Returns false if its header fails to decode, if it
-    /// has another tag, or if its contents cannot be entered.
+    /// Enters the contents of the next element, and returns true. Returns false if the header of
+    /// the element fails to decode, if its tag is not `tag`, or if its contents cannot be entered.
     pub fn enter(&mut self, tag: Tag) -> bool {
         match decode_header(&mut self.reader) {
             Ok(header) => header.tag() == tag && self.reader.enter_nested(header.length()).is_ok(),
@@ -88,8 +91,9 @@ impl<'a> Search<'a> {
         }
     }
 
-    /// The error found so far, whose position is counted from the position of the walk. In the
-    /// result its position is counted from the start of the input.
+    /// The error found so far, `self.error`, whose position is counted from the position of the
+    /// walk. In the result the position is counted from the start of the input. An error without a
+    /// position is returned unchanged.
     fn error_from_here(&self) -> Error {
         let Some(position) = self.error.position() else {
             return self.error;
@@ -100,8 +104,8 @@ impl<'a> Search<'a> {
         }
     }
 
-    /// Whether the next field decodes as a `T`. The walk skips a field that does. At one that fails
-    /// it stays, and keeps the error and the offset.
+    /// Whether the next field decodes as a `T`. If it does, the walk skips it. If it fails, the
+    /// walk stays at this field, and keeps its error and its offset.
     fn passes<T: Decode<SliceReader<'a>, Error = Error>>(&mut self) -> bool {
         let next = self.reader.fork();
         match self.reader.decode::<T>(self.alloc) {

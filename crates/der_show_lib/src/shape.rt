@@ -16,9 +16,9 @@ pub enum Shape {
     PrivateKey,
 }
 
-/// The expected type of the octets, or `None` if they have none of these types. It follows from the
-/// tags of the elements in the SEQUENCE that the octets begin with. An *algorithm* is a SEQUENCE
-/// that begins with an OBJECT IDENTIFIER.
+/// The type that `octets` are expected to have, or `None` if it is none of the types below. It
+/// follows from the tags of the elements in the SEQUENCE that the octets begin with. An *algorithm*
+/// is a SEQUENCE that begins with an OBJECT IDENTIFIER.
 ///
 /// - A public key: an algorithm and a BIT STRING.
 /// - A private key: an INTEGER, an algorithm and an OCTET STRING.
@@ -57,8 +57,8 @@ fn find_shape(octets: &[u8]) -> Result<Option<Shape>, Error> {
     }
 }
 
-/// Whether a signed structure is expected to be a certificate or a request, from the elements
-/// inside its signed part; `None` if neither.
+/// Whether the element `signed` is expected to be the signed part of a certificate or of a request.
+/// This follows from the elements inside it. `None` if it is neither. `octets` are the whole input.
 fn find_signed_shape(octets: &[u8], signed: &PlacedElement<'_>) -> Result<Option<Shape>, Error> {
     let first = first_in(octets, signed)?;
     if first.header.tag() == context_tag() {
@@ -87,13 +87,14 @@ fn context_tag() -> Tag {
     }
 }
 
-/// Reads the first element in the contents of the element `whole`.
+/// Reads the first element in the contents of the element `whole`. `octets` are the whole input.
 fn first_in<'a>(octets: &'a [u8], whole: &PlacedElement<'a>) -> Result<PlacedElement<'a>, Error> {
     let start = whole.contents_start;
     PlacedElement::read(octets, start, whole.contents_end, EncodingRules::Der)
 }
 
-/// Reads the element that follows the element `next` in the contents of the element `whole`.
+/// Reads the element that comes after `next`, which must be an element in the contents of the
+/// element `whole`. `octets` are the whole input.
 fn next_in<'a>(
     octets: &'a [u8],
     whole: &PlacedElement<'a>,

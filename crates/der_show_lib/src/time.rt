@@ -5,7 +5,7 @@ use std::alloc::AllocError;
 use std::fmt::Write;
 use x509::Time;
 
-/// Writes a time as `Jan  2 03:04:05 2006 GMT`.
+/// Writes a time in the form of `Jan  2 03:04:05 2006 GMT`.
 pub fn write_time(text: &mut String, time: &Time) -> Result<(), AllocError> {
     let at = match time {
         Either::First(short) => short.date_time(),

@@ -8,7 +8,7 @@ use der::{Error, ErrorKind, Length};
 use std::alloc::{AllocError, Global};
 use std::fmt::Write;
 
-/// The greatest number of elements that another element may be inside.
+/// The greatest number of elements that may enclose another element.
 const MAX_DEPTH: usize = 64;
 
 /// A constructed element whose contents are being printed.
@@ -48,8 +48,9 @@ pub fn write_tree(
     Ok(())
 }
 
-/// Removes from `around` each element whose contents end at `position`, and returns the position of
-/// the next element.
+/// `around` holds the elements that enclose `position`, the innermost last. Removes each of them
+/// whose contents end at `position`, and moves `position` to the end of this element. Returns the
+/// position reached, where the next element begins or the octets end.
 fn climb(around: &mut Vec<Part>, mut position: u32) -> u32 {
     for _ in 0..=MAX_DEPTH {
         match around.last() {
@@ -63,9 +64,13 @@ fn climb(around: &mut Vec<Part>, mut position: u32) -> u32 {
     position
 }
 
-/// Adds a constructed element to `around`, which holds the elements around the next one, from the
-/// outermost to the innermost. Fails with `NestingDepth` at the start of the element if there are
-/// already 64.
+/// `around` holds the elements that enclose the next one, the innermost last. Adds `element`, which
+/// must be constructed.
+///
+/// Fails with:
+///
+/// - `NestingDepth` at the start of `element`, if `around` already holds 64 elements;
+/// - `OutOfMemory`, if an allocation fails.
 fn enter(around: &mut Vec<Part>, element: &PlacedElement<'_>) -> Result<(), Failure> {
     if around.len() >= MAX_DEPTH {
         let error: Error = ErrorKind::NestingDepth.at(Length::new(element.start));
@@ -81,8 +86,8 @@ fn enter(around: &mut Vec<Part>, element: &PlacedElement<'_>) -> Result<(), Fail
     }
 }
 
-/// Writes the line of an element in the words of `openssl asn1parse`. The element is inside `depth`
-/// others.
+/// Writes the line of an element in the words of `openssl asn1parse`. `depth` is the number of
+/// elements that enclose it.
 fn write_line(
     text: &mut String,
     element: &PlacedElement<'_>,

@@ -8,9 +8,11 @@ use crate::tree::write_tree;
 use der::EncodingRules;
 use std::alloc::Global;
 
-/// Writes what is printed for the octets. Under DER and without the option `is_tree`, octets that
-/// are expected to be a certificate, a request or a key (`Shape`) are printed as fields, or the
-/// field that failed is printed. For all other octets their elements are printed.
+/// Writes to `text` what is printed for `octets`:
+///
+/// - the fields, or the field that fails to decode, if the octets are expected to be a certificate,
+///   a request or a key (see [`shape_of`]), are read under DER, and the option `is_tree` is false;
+/// - the elements, in all other cases.
 pub fn write_view(
     alloc: Global,
     text: &mut String,

@@ -19,15 +19,15 @@ use std::test::Fail;
 const USAGE: &str =
     "usage: der_tool head [--ber] HEX | tlv [--ber] HEX | order HEX HEX | join HEX\n";
 
-/// The words of a line in which one blank separates each two.
+/// Splits a line into words at each blank.
 fn words_of(alloc: Global, line: &str) -> Result<Vec<String>, AllocError> {
     line.split(' ')
         .map(|word| String::from_str(alloc, word))
         .try_collect(alloc)
 }
 
-/// Runs the program on the words of each row, and compares the status and the text with those in
-/// the row.
+/// Runs the program on each row of `rows`, which has the words of a command line, the expected exit
+/// status and the expected text. Fails if the status or the text is another one.
 fn replay(rt: &(impl Abort + AllocGlobal), rows: &[(&str, u8, &str)]) -> Result<(), Fail> {
     for (line, status, text) in rows {
         let words = words_of(rt.alloc(), line)?;

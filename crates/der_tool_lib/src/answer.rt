@@ -5,24 +5,28 @@ ghost use Rattle.der_tool_lib.specs.Answer.{PrintsError};
 use der::Error;
 use std::alloc::{AllocError, Allocator};
 
-/// What the program prints, and how it ends.
+/// What the program prints for a command line, and how it ends.
 #[derive(Drop)]
 pub enum Answer<A: Allocator> {
-    /// The lines of a header, an element, an order or joined octets.
+    /// The command succeeded. These lines are printed: of a header, an element, an order or joined
+    /// octets.
     Printed(String<A>),
     /// The octets are not accepted, for the reason in this line.
     Refused(String<A>),
     /// An allocation failed.
     OutOfMemory,
-    /// The words are not a command.
+    /// The words of the command line are not a command, so the usage is printed.
     Usage,
 }
 
 impl<A: Allocator> Answer<A> {
     ghost use Rattle.der_tool_lib.specs.Answer.{status_of, text_of};
 
-    /// The exit status of the program: 0 if lines are printed, 1 if the octets are not accepted or
-    /// an allocation failed, 2 if the words are not a command.
+    /// The exit status of the program:
+    ///
+    /// - 0 if the command succeeded;
+    /// - 1 if the octets are not accepted or an allocation failed;
+    /// - 2 if the words of the command line are not a command.
     pub fn status(&self) -> u8
         ensures { result ≡ status_of self.now }
     {
@@ -33,7 +37,7 @@ impl<A: Allocator> Answer<A> {
         }
     }
 
-    /// The text that the program prints.
+    /// The text that the program prints for this answer.
     pub fn text(&self) -> &str
         ensures { result.now ≡ text_of self.now }
     {
@@ -48,7 +52,7 @@ impl<A: Allocator> Answer<A> {
     }
 }
 
-/// The line that reports an error.
+/// The line that reports `error`. Fails if an allocation fails.
 pub fn error_line<A: Allocator>(alloc: A, error: Error) -> Result<String<A>, AllocError>
     ensures { IfOk result (λ s. PrintsError error (string_bytes s)) }
 {

@@ -10,9 +10,13 @@ use std::alloc::{AllocError, Global};
 use std::env::Args;
 use std::io;
 
-/// Runs the program on its arguments and returns the exit status: 0 on success, 1 if the octets are
-/// not accepted, an allocation fails or the output fails, and 2 if the words are not a command. The
-/// first argument is the name of the program; the others are the words.
+/// Runs the program on the arguments `given`, prints the answer to `out`, and returns the exit
+/// status. The first argument is the name of the program; the others are the words of a command.
+/// The status is:
+///
+/// - 0 on success;
+/// - 1 if the octets are not accepted, an allocation fails or the output fails;
+/// - 2 if the words are not a command.
 ///
 /// If `given` is an error of the kind `InvalidData`, an argument is not text, so the words are not
 /// a command. If it is any other error, an allocation failed.

@@ -4,16 +4,16 @@ ghost use Rattle.der_tool_lib.specs.ToolCommand.{IsHex, IsName, IsCommand, texts
 
 use der::EncodingRules;
 
-/// A command of the program, which the words request.
+/// A command of the program, which the words of the command line request.
 #[derive(Clone, Copy)]
 pub enum ToolCommand<'a> {
     /// `head [--ber] HEX`: the header at the front of the octets `hex`.
     Head { rules: EncodingRules, hex: &'a str },
     /// `tlv [--ber] HEX`: the whole element at the front of the octets `hex`.
     Tlv { rules: EncodingRules, hex: &'a str },
-    /// `order HEX HEX`: the order of two whole elements.
+    /// `order HEX HEX`: the order of two whole elements, `first` and `second`, by their encodings.
     Order { first: &'a str, second: &'a str },
-    /// `join HEX`: the joined segments of a whole element.
+    /// `join HEX`: the joined segments of `hex`, which is a whole OCTET STRING under BER.
     Join { hex: &'a str },
 }
 
@@ -61,8 +61,8 @@ impl<'a> ToolCommand<'a> {
         }
     }
 
-    /// The command `head` or `tlv` under these rules, if this is its name and `hex` is octets in
-    /// hexadecimal.
+    /// The command `head` or `tlv` under the rules `rules`. `None` if `name` is neither of these,
+    /// or `hex` is not octets in hexadecimal.
     fn named(name: &str, rules: EncodingRules, hex: &'a str) -> Option<Self>
         ensures found { IsSome result ↔ (IsName name.now × IsHex hex.now) }
         ensures words { IfSome result (λ c. words_under rules name.now hex.now ≡ words_of c) }
@@ -75,7 +75,8 @@ impl<'a> ToolCommand<'a> {
         }
     }
 
-    /// The command `order` with these texts, if both are octets in hexadecimal.
+    /// The command `order` with the texts `first` and `second`. `None` if one of them is not octets
+    /// in hexadecimal.
     fn ordering(first: &'a str, second: &'a str) -> Option<Self>
         ensures found { IsSome result ↔ (IsHex first.now × IsHex second.now) }
         ensures words { IfSome result (λ c. order_words first.now second.now ≡ words_of c) }
@@ -88,7 +89,7 @@ impl<'a> ToolCommand<'a> {
         }
     }
 
-    /// The command `join` with this text, if it is octets in hexadecimal.
+    /// The command `join` with the text `hex`. `None` if it is not octets in hexadecimal.
     fn joining(hex: &'a str) -> Option<Self>
         ensures found { IsSome result ↔ IsHex hex.now }
         ensures words { IfSome result (λ c. join_words hex.now ≡ words_of c) }
@@ -102,7 +103,7 @@ impl<'a> ToolCommand<'a> {
     }
 }
 
-/// Whether the text is an even number of hexadecimal digits.
+/// Whether the text consists of hexadecimal digits, and their number is even.
 fn is_hex(text: &str) -> bool
     ensures { IsTrue result ↔ IsHex text.now }
 {

@@ -75,8 +75,8 @@ impl<'a> WrittenValue for Element<'a> {
 ///
 /// # Errors
 ///
-/// Computing the length never fails. Writing forwards the errors of the writer, as by
-/// [`Writer::write`].
+/// - [`EncodeValue::value_len`] never fails.
+/// - [`EncodeValue::encode_value`] returns the errors of the writer, as by [`Writer::write`].
 impl<'a> EncodeValue for Element<'a> {
     ghost value_size = { octets_size contents_of };
 

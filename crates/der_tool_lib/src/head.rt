@@ -8,8 +8,8 @@ use crate::answer::{Answer, error_line};
 use der::{EncodingRules, Error, Header, Reader, SliceReader, decode_header};
 use std::alloc::{AllocError, Allocator};
 
-/// The answer to the command `head`: the lines of the header at the start of the octets, or an
-/// error line.
+/// The answer to the command `head`: the lines of the header at the start of `octets`, or an error
+/// line if no header is accepted. Fails if an allocation fails.
 pub fn answer_head<A: Allocator + Copy>(
     alloc: A,
     rules: EncodingRules,
@@ -23,7 +23,7 @@ pub fn answer_head<A: Allocator + Copy>(
     }
 }
 
-/// Reads the header at the start of the octets; returns it and the octets after it.
+/// Reads the header at the start of `octets`. Returns this header, and the octets after it.
 fn read_head(rules: EncodingRules, octets: &[u8]) -> Result<(Header, &[u8]), Error>
     ensures ok { IfOk result (λ p. IsHeaderRead rules octets.now (head_of p.0) p.1.now) }
     ensures err { IfErr result (IsRefusedFor rules octets.now) }
@@ -34,8 +34,8 @@ fn read_head(rules: EncodingRules, octets: &[u8]) -> Result<(Header, &[u8]), Err
     Ok((header, rest))
 }
 
-/// The four lines that `head` prints: tag, constructed bit, length, and the octets after the
-/// header.
+/// The four lines that `head` prints: one each for the tag, the constructed bit, the length, and
+/// `rest`, the octets after the header.
 fn header_lines<A: Allocator + Copy>(
     alloc: A,
     header: &Header,
@@ -59,8 +59,8 @@ fn yes_or_no(answer: bool) -> &'static str
     if answer { "yes" } else { "no" }
 }
 
-/// The text to print after a length: ` indefinite` if it was read in the indefinite form, otherwise
-/// none.
+/// The text to print after a length: ` indefinite` if the length was read in the indefinite form,
+/// otherwise the empty text.
 fn indefinite_suffix(indefinite: bool) -> &'static str
     ensures { result.now ≡ text.indefinite_suffix indefinite }
 {

@@ -10,8 +10,9 @@ use der::example::JoinedOctets;
 use der::{DecodeBytes, Error};
 use std::alloc::{AllocError, Allocator, Global};
 
-/// The answer to the command `join`: a line with the joined segments of the OCTET STRING, or an
-/// error line. The segments are joined in memory of `global`.
+/// The answer to the command `join`: a line with the joined segments of the OCTET STRING in
+/// `octets`, or an error line if they are not one. The segments are joined in memory of `global`.
+/// Fails if an allocation with `alloc` fails.
 pub fn answer_join<A: Allocator + Copy>(
     global: Global,
     alloc: A,

@@ -10,7 +10,9 @@ use der::{DerOrd, Error};
 use std::alloc::{AllocError, Allocator};
 use std::cmp::Ordering;
 
-/// The answer to the command `order`: a line with the order of two elements, or an error line.
+/// The answer to the command `order`: a line with the order of the elements in `first` and
+/// `second`, or an error line if one of them is not exactly one element. Fails if an allocation
+/// fails.
 pub fn answer_order<A: Allocator + Copy>(
     alloc: A,
     first: &[u8],
@@ -24,8 +26,8 @@ pub fn answer_order<A: Allocator + Copy>(
     }
 }
 
-/// Compares two whole elements by their encodings (X.690 11.6). The first is read before the
-/// second.
+/// Compares two whole elements by their encodings (X.690 11.6). `first` is read before `second`, so
+/// if both fail, the error is that of `first`.
 fn compare(first: &[u8], second: &[u8]) -> Result<Ordering, Error>
     ensures whole { IfOk result (λ _. IsWholeElement first.now × IsWholeElement second.now) }
     ensures ok { IfOk result (λ o. o ≡ byte_order first.now second.now) }

@@ -12,7 +12,7 @@ pub trait Output {
     // Whether it never fails. Unknown for an `io::Write`.
     ghost reliable: { Bool };
 
-    /// Writes the whole text and flushes it.
+    /// Writes the whole text and flushes it, or fails.
     fn put(&mut self, text: &str) -> io::Result<()>
         ensures written { OnOk result (Appends (contents self.old) (contents self.new) text.now) }
         ensures succeeds { reliable ≡ true → IsOk result };

@@ -16,9 +16,12 @@ use hex::FromHexError;
 use std::alloc::{AllocError, Allocator, Global};
 use std::io;
 
-/// Runs the command that these words request, prints its result and returns the exit status: 0 on
-/// success, 1 if the octets are not accepted, an allocation fails or the output fails, and 2 if the
-/// words are not a command. If the output fails, what it has written is unspecified.
+/// Runs the command that `words` request, prints its result to `out`, and returns the exit status.
+/// If the output fails, what `out` has received is unspecified. The status is:
+///
+/// - 0 on success;
+/// - 1 if the octets are not accepted, an allocation fails or the output fails;
+/// - 2 if the words are not a command.
 pub fn run<W: Output>(alloc: Global, words: &[String], out: &mut W) -> u8
     ensures answers { (result ≡ 1)
         ⊎ WritesAnswer (texts words.now) result (W.contents out.old) (W.contents out.new) }
@@ -28,8 +31,8 @@ pub fn run<W: Output>(alloc: Global, words: &[String], out: &mut W) -> u8
     respond(alloc, alloc, words, out).unwrap_or(1)
 }
 
-/// Runs the command that these words request, prints its result and returns the exit status. Fails
-/// only if the output fails. Nothing is allocated once the output is called.
+/// Runs the command that `words` request, prints its result to `out`, and returns the exit status.
+/// Fails only if the output fails. Makes all its allocations before it calls `out`.
 ///
 /// Octets and lines are allocated with `alloc`, so that a test can make their allocation fail.
 /// Segments are joined in memory of `global`, as in the library.
@@ -46,7 +49,8 @@ pub fn respond<A: Allocator + Copy, W: Output>(
     say(&answer(global, alloc, words), out)
 }
 
-/// Prints the text of the answer, and returns the exit status of the answer.
+/// Prints the text of `answer` to `out`, and returns the exit status of `answer`. Fails if the
+/// output fails.
 pub fn say<A: Allocator, W: Output>(answer: &Answer<A>, out: &mut W) -> io::Result<u8>
     ensures status { IfOk result (λ status. status ≡ status_of answer.now) }
     ensures written { OnOk result
@@ -57,8 +61,8 @@ pub fn say<A: Allocator, W: Output>(answer: &Answer<A>, out: &mut W) -> io::Resu
     Ok(answer.status())
 }
 
-/// The answer to these words: that of the command that they request, or the usage if they are not a
-/// command.
+/// The answer to `words`: the result of the command that they request, or the usage if they are not
+/// a command. A failed allocation is an answer too.
 fn answer<A: Allocator + Copy>(global: Global, alloc: A, words: &[String]) -> Answer<A>
     ensures { Answers (texts words.now) (status_of result) (text_of result) }
 {
@@ -68,8 +72,8 @@ fn answer<A: Allocator + Copy>(global: Global, alloc: A, words: &[String]) -> An
     }
 }
 
-/// The answer to a command. The caller must ensure that its texts are even numbers of hexadecimal
-/// digits. So decoding them fails only if an allocation does.
+/// The answer to `command`. The texts in `command` must be even numbers of hexadecimal digits.
+/// Fails only if an allocation fails.
 fn fulfil<A: Allocator + Copy>(
     global: Global,
     alloc: A,
@@ -90,8 +94,8 @@ fn fulfil<A: Allocator + Copy>(
     }
 }
 
-/// The octets that the text spells, which must be an even number of hexadecimal digits. Fails only
-/// if an allocation does.
+/// The octets that the text `hex` spells. `hex` must be an even number of hexadecimal digits. Fails
+/// only if an allocation fails.
 fn octets_of<A: Allocator>(alloc: A, hex: &str) -> Result<Vec<u8, A>, AllocError>
     requires { IsHex hex.now }
     ensures { IfOk result (λ octets. decode_of hex.now ≡ Ok octets.items) }

@@ -7,8 +7,8 @@ use crate::answer::{Answer, error_line};
 use der::{EncodingRules, Error, ReaderExt, SliceReader};
 use std::alloc::{AllocError, Allocator};
 
-/// The answer to the command `tlv`: a line with the whole element at the start of the octets, or an
-/// error line.
+/// The answer to the command `tlv`: a line with the whole element at the start of `octets`, or an
+/// error line if no element is accepted. Fails if an allocation fails.
 pub fn answer_tlv<A: Allocator + Copy>(
     alloc: A,
     rules: EncodingRules,
@@ -22,7 +22,8 @@ pub fn answer_tlv<A: Allocator + Copy>(
     }
 }
 
-/// Reads the element at the start of the octets, and returns its octets, header and contents.
+/// Reads the element at the start of `octets`, and returns all of its octets: those of its header
+/// and of its contents.
 fn read_element(rules: EncodingRules, octets: &[u8]) -> Result<&[u8], Error>
     ensures ok { IfOk result (λ e. IsFirstElement rules octets.now e.now) }
     ensures err { IfErr result (NoElement rules octets.now) }

@@ -14,7 +14,7 @@ use std::alloc::Global;
 /// An algorithm with a month as its parameter.
 #[derive(Clone, Copy)]
 pub struct AlgorithmIdentifier<'a> {
-    /// The algorithm, borrowed from the input.
+    /// The algorithm, as an OCTET STRING that is borrowed from the input.
     pub algorithm: MyOctets<'a>,
     /// The parameter of the algorithm: a month.
     pub month: MyByteMonth,

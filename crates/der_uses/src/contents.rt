@@ -4,8 +4,8 @@ ghost use Rattle.der.specs.Prelude.{HeadNext, number, Der, head_of};
 
 use der::{Error, Header, Reader, SliceReader, decode_header};
 
-/// The header at the front of the octets, and the contents that follow it. The contents are a slice
-/// of the input, not a copy.
+/// The header at the front of `octets`, and the contents that follow it. The contents are a slice
+/// of `octets`, not a copy.
 pub fn first_contents(octets: &[u8]) -> Result<(Header, &[u8]), Error>
     ensures { IfOk result (λ p. (m : ℕ) × HeadNext (head_of p.0) Der octets.now m
         × (p.1.now ≡ take (number (head_of p.0).length) (drop m octets.now))) }

@@ -5,7 +5,7 @@ ghost use Rattle.der.specs.Prelude.{HeadNext, Der, head_of};
 use der::{DecodeBytes, Error, Header};
 use std::alloc::Global;
 
-/// The header at the front of the octets, and the octets after it.
+/// The header at the front of `octets`, and all octets after the header.
 pub fn first_header(alloc: Global, octets: &[u8]) -> Result<(Header, &[u8]), Error>
     ensures { IfOk result (λ p. (m : ℕ) × HeadNext (head_of p.0) Der octets.now m
         × (p.1.now ≡ drop m octets.now)) }

@@ -11,12 +11,12 @@ use der::{
 };
 use std::alloc::Global;
 
-/// A key with the algorithm that it is for.
+/// A key, and the algorithm that the key is for.
 #[derive(Clone, Copy)]
 pub struct KeyInfo<'a> {
     /// The algorithm that the key is for.
     pub algorithm: AlgorithmIdentifier<'a>,
-    /// The key, borrowed from the input.
+    /// The key, as an OCTET STRING that is borrowed from the input.
     pub key: MyOctets<'a>,
 }
 

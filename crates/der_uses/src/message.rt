@@ -7,8 +7,8 @@ use der::{
 };
 use std::sync::ledger::Ledger;
 
-/// The header at the front of a message under the Basic Encoding Rules, and the contents that
-/// follow it. Contents of an indefinite length include their end-of-contents octets.
+/// The header at the front of `octets`, which are read under the Basic Encoding Rules, and the
+/// contents that follow it. Contents of an indefinite length include their end-of-contents octets.
 pub fn first_message(octets: &[u8]) -> Result<(Header, &[u8]), Error>
     ensures { IfOk result (λ p. (m : ℕ) × HeadNext (head_of p.0) Ber octets.now m
         × (p.1.now ≡ take (number (head_of p.0).length) (drop m octets.now))) }
@@ -19,9 +19,9 @@ pub fn first_message(octets: &[u8]) -> Result<(Header, &[u8]), Error>
     Ok((header, contents))
 }
 
-/// The number of octets of the indefinite-length contents at the front of the octets,
-/// end-of-contents octets included. For n octets, whatever they are, the scan takes at most n/2 + 1
-/// turns.
+/// The number of octets of the indefinite-length contents at the front of `octets`, end-of-contents
+/// octets included. For n octets, whatever they are, the scan adds at most n/2 + 1 to `turns`, a
+/// counter that exists only in contracts (see [`Turns`]).
 pub fn indefinite_len<L: Ledger>(octets: &[u8], turns: &mut Turns<L>) -> Result<Length, Error>
     ensures { turns.new ≤ turns.old + (length octets.now / 2 + 1) }
 {

@@ -9,13 +9,14 @@ use der::{Error, Reader, ReaderExt, SliceReader, Tag, decode_header};
 pub struct PublicKey<'a> {
     /// The contents of the OBJECT IDENTIFIER that names the algorithm.
     pub algorithm: &'a [u8],
-    /// The parameters of the algorithm, as a whole element, if there are any.
+    /// The parameters of the algorithm, as a whole element with its header; `None` if there are
+    /// none.
     pub parameters: Option<&'a [u8]>,
-    /// The octets of the key.
+    /// The octets of the key: the contents of the BIT STRING after their first octet.
     pub key: &'a [u8],
 }
 
-/// Reads the octets as exactly one public key.
+/// Reads the octets as exactly one public key (SubjectPublicKeyInfo of RFC 5280, 4.1).
 pub fn public_key(octets: &[u8]) -> Result<PublicKey<'_>, Error> {
     let mut reader = SliceReader::new(octets)?;
     let key = reader.sequence(read_fields)?;

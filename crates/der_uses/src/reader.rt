@@ -17,15 +17,15 @@ pub struct CopyingReader<'a> {
 }
 
 impl<'a> CopyingReader<'a> {
-    /// A reader that continues at the position of `inner`. None of its reads is made to fail.
+    /// A reader that continues at the position of `inner`. It makes none of its reads fail.
     pub fn new(inner: SliceReader<'a>) -> Self
         ensures inner { result.inner ≡ inner.entry }
     {
         CopyingReader { inner, reads: 0 }
     }
 
-    /// A reader that continues at the position of `inner`. The read with the number `reads`,
-    /// counted from 1, fails.
+    /// A reader that continues at the position of `inner`. It makes one read fail: the one with the
+    /// number `reads`, counted from 1. If `reads` is 0, it makes none fail.
     pub fn failing(inner: SliceReader<'a>, reads: u32) -> Self
         ensures inner { result.inner ≡ inner.entry }
     {

@@ -13,7 +13,7 @@ use der::{
 use std::alloc::Global;
 use std::cmp::Ordering;
 
-/// Sorts the elements by their encodings, and returns the encoding of the SET OF them.
+/// Sorts `elements` in place by their encodings, and returns the encoding of the SET OF them.
 ///
 /// # Errors
 ///
@@ -84,18 +84,18 @@ fn write_all(elements: &[BorrowedOctets<'_>], out: &mut Vec<u8>) -> Result<(), E
     Ok(())
 }
 
-/// Reads the octets as exactly one SET OF OCTET STRING, and returns the contents of the SET OF.
+/// Reads `octets` as exactly one SET OF OCTET STRING, and returns the contents of the SET OF.
 /// Allocates nothing.
 ///
 /// # Errors
 ///
 /// - `Overflow` without a position if there are more than 4294967295 octets.
-/// - Those of the header, as by [`Header::decode`](der::Decode::decode), and `TagUnexpected`
-///   without a position if its tag is not that of a SET.
+/// - Those of the header, as by [`Header::decode`](der::Decode::decode).
+/// - `TagUnexpected` without a position if the tag of the header is not that of a SET.
 /// - `Overflow` and `Incomplete` if the contents are truncated, as by [`Reader::enter_nested`].
 /// - Those of an element, as by [`ReaderExt::decode`].
 /// - `SetOrdering` at the position of the first element whose encoding is smaller than that of the
-///   element before it (X.690 11.6); equal elements may follow each other.
+///   element before it (X.690 11.6). Equal elements may follow each other.
 /// - `TrailingData` at the position after the SET if octets are left.
 pub fn set_of_contents(alloc: Global, octets: &[u8]) -> Result<&[u8], Error>
     ensures ok { IfOk result (λ r. (strings : List (List ℕ)) × StringsAscend strings

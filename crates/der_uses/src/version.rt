@@ -12,11 +12,11 @@ use std::alloc::Global;
 /// A version of a certificate (RFC 5280, 4.1.2.1).
 #[derive(Clone, Copy, Debug, PartialEq, Eq)]
 pub enum Version {
-    /// Written as 0.
+    /// Version 1, written as 0.
     V1,
-    /// Written as 1.
+    /// Version 2, written as 1.
     V2,
-    /// Written as 2.
+    /// Version 3, written as 2.
     V3,
 }
 
@@ -65,6 +65,8 @@ impl Lawful for Version {
     ghost lawful = { version_lawful };
 }
 
+/// Reads a version from one octet: 0, 1 or 2.
+///
 /// # Errors
 ///
 /// - `Failed`, `Overflow` and `Incomplete`, as by [`ReaderExt::read_byte`].

@@ -4,10 +4,10 @@ ghost use Rattle.der.specs.Prelude.{tag_octets};
 
 use der::{Encode, Error, ErrorKind, Tag, Writer};
 
-/// A writer that collects the octets written in a growing vector.
+/// A writer that appends the octets it gets to a growing vector.
 #[derive(Drop)]
 pub struct Collected {
-    /// The octets that were written.
+    /// The octets written so far.
     pub octets: Vec<u8>,
 }
 
@@ -34,7 +34,7 @@ impl Writer for Collected {
     }
 }
 
-/// Appends the identifier octets of a tag to the octets in `out`.
+/// Appends the identifier octets of `tag` to the octets in `out`.
 pub fn collect_tag(tag: &Tag, out: &mut Collected) -> Result<(), Error>
     ensures { OnOk result (out.new.octets.items ≡ out.old.octets.items ++ tag_octets tag.now) }
 {

@@ -5,8 +5,8 @@ ghost use Rattle.pkcs8.specs.PrivateKeyInfo.{MatchesPrivateKeyVersion};
 use crate::private_key_info::PrivateKeyInfo;
 
 impl PrivateKeyInfo<'_> {
-    /// Whether a public key is present only in version 2 (RFC 5958, 2). Decoding does not check
-    /// this.
+    /// Whether the fields are allowed in the version: a public key must be absent in version 1 (RFC
+    /// 5958, 2). Decoding does not check this.
     pub fn has_fields_of_version(&self) -> bool
         ensures { (result ≡ true) ↔ MatchesPrivateKeyVersion self.now }
     {

@@ -17,19 +17,20 @@ use std::alloc::Global;
 /// A private key with its algorithm, borrowed from the input.
 #[derive(Drop)]
 pub struct PrivateKeyInfo<'a> {
-    /// The version.
+    /// The version of the format, 1 or 2.
     pub version: Version<'a>,
     /// The algorithm of the key.
     pub private_key_algorithm: AlgorithmIdentifierRef<'a>,
     /// The octets of the private key, in a format given by its algorithm; they are not checked.
     pub private_key: OctetStringRef<'a>,
-    /// Further information about the key, which is not checked.
+    /// Further information about the key, if present. Its contents are not checked.
     pub attributes: Optional<Implicit<PrivateKeyAttributes<'a>, 0>>,
-    /// The public key, in version 2.
+    /// The public key that belongs to the private key, if present. Only version 2 allows it, but
+    /// decoding does not check this.
     pub public_key: Optional<Implicit<BitStringRef<'a>, 1>>,
 }
 
-/// The fields of a [`PrivateKeyInfo`], in sequence.
+/// The fields of a [`PrivateKeyInfo`] as nested pairs, in the order in which they are encoded.
 pub type PrivateKeyInfoFields<'a> = (
     (Version<'a>, AlgorithmIdentifierRef<'a>),
     (
@@ -129,7 +130,7 @@ impl<'a> WrittenValue for PrivateKeyInfo<'a> {
 ///
 /// # Errors
 ///
-/// - Those of the fields, in sequence.
+/// - The error of the first field that fails.
 /// - `Overflow` without a position from [`EncodeValue::value_len`], if the fields together have
 ///   more than 4294967295 octets.
 impl<'a> EncodeValue for PrivateKeyInfo<'a> {

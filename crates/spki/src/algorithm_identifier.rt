@@ -15,13 +15,13 @@ use std::alloc::Global;
 /// An algorithm with its parameters, borrowed from the input.
 #[derive(Drop)]
 pub struct AlgorithmIdentifierRef<'a> {
-    /// The identifier of the algorithm.
+    /// The object identifier of the algorithm.
     pub oid: ObjectIdentifierRef<'a>,
-    /// The parameters of the algorithm, of any type.
+    /// The parameters of the algorithm, of any type, if present.
     pub parameters: Optional<AnyRef<'a>>,
 }
 
-/// The fields of an [`AlgorithmIdentifierRef`], in sequence.
+/// The fields of an [`AlgorithmIdentifierRef`] as a pair, in the order in which they are encoded.
 pub type AlgorithmIdentifierFields<'a> = (ObjectIdentifierRef<'a>, Optional<AnyRef<'a>>);
 
 impl<'a> FromFields<AlgorithmIdentifierFields<'a>> for AlgorithmIdentifierRef<'a> {
@@ -98,7 +98,7 @@ impl<'a> WrittenValue for AlgorithmIdentifierRef<'a> {
 ///
 /// # Errors
 ///
-/// - Those of the fields, in sequence.
+/// - The error of the first field that fails.
 /// - `Overflow` without a position from [`EncodeValue::value_len`], if the fields together have
 ///   more than 4294967295 octets.
 impl<'a> EncodeValue for AlgorithmIdentifierRef<'a> {

@@ -21,7 +21,7 @@ pub struct SubjectPublicKeyInfoRef<'a> {
     pub subject_public_key: BitStringRef<'a>,
 }
 
-/// The fields of a [`SubjectPublicKeyInfoRef`], in sequence.
+/// The fields of a [`SubjectPublicKeyInfoRef`] as a pair, in the order in which they are encoded.
 pub type SubjectPublicKeyInfoFields<'a> = (AlgorithmIdentifierRef<'a>, BitStringRef<'a>);
 
 impl<'a> FromFields<SubjectPublicKeyInfoFields<'a>> for SubjectPublicKeyInfoRef<'a> {
@@ -99,7 +99,7 @@ impl<'a> WrittenValue for SubjectPublicKeyInfoRef<'a> {
 ///
 /// # Errors
 ///
-/// - Those of the fields, in sequence.
+/// - The error of the first field that fails.
 /// - `Overflow` without a position from [`EncodeValue::value_len`], if the fields together have
 ///   more than 4294967295 octets.
 impl<'a> EncodeValue for SubjectPublicKeyInfoRef<'a> {

@@ -14,19 +14,19 @@ use der_asn1::{Described, ObjectIdentifierRef, SetOf};
 use std::alloc::Global;
 pub use values::AttributeValues;
 
-/// An attribute of a request, borrowed from the input.
+/// An attribute of a certification request, borrowed from the input.
 #[derive(Drop)]
 pub struct Attribute<'a> {
-    /// The type of the attribute.
+    /// The type of the attribute, as an object identifier.
     pub oid: ObjectIdentifierRef<'a>,
     /// The values of the attribute, of any type.
     pub values: AttributeValues<'a>,
 }
 
-/// The attributes of a request, in ascending order of their encodings.
+/// The attributes of a certification request, in ascending order of their encodings.
 pub type Attributes<'a> = SetOf<'a, Attribute<'a>>;
 
-/// The fields of an [`Attribute`], in sequence.
+/// The fields of an [`Attribute`] as a pair, in the order in which they are encoded.
 pub type AttributeFields<'a> = (ObjectIdentifierRef<'a>, AttributeValues<'a>);
 
 impl<'a> FromFields<AttributeFields<'a>> for Attribute<'a> {
@@ -101,7 +101,7 @@ impl<'a> WrittenValue for Attribute<'a> {
 ///
 /// # Errors
 ///
-/// - Those of the fields, in sequence.
+/// - The error of the first field that fails.
 /// - `Overflow` without a position from [`EncodeValue::value_len`], if the fields together have
 ///   more than 4294967295 octets.
 impl<'a> EncodeValue for Attribute<'a> {

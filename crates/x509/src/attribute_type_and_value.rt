@@ -14,13 +14,13 @@ use std::alloc::Global;
 /// An attribute of a name, borrowed from the input.
 #[derive(Drop)]
 pub struct AttributeTypeAndValue<'a> {
-    /// The type of the attribute.
+    /// The type of the attribute, as an object identifier.
     pub oid: ObjectIdentifierRef<'a>,
     /// The value of the attribute, of any type.
     pub value: AnyRef<'a>,
 }
 
-/// The fields of an [`AttributeTypeAndValue`], in sequence.
+/// The fields of an [`AttributeTypeAndValue`] as a pair, in the order in which they are encoded.
 pub type AttributeTypeAndValueFields<'a> = (ObjectIdentifierRef<'a>, AnyRef<'a>);
 
 impl<'a> FromFields<AttributeTypeAndValueFields<'a>> for AttributeTypeAndValue<'a> {
@@ -95,7 +95,7 @@ impl<'a> WrittenValue for AttributeTypeAndValue<'a> {
 ///
 /// # Errors
 ///
-/// - Those of the fields, in sequence.
+/// - The error of the first field that fails.
 /// - `Overflow` without a position from [`EncodeValue::value_len`], if the fields together have
 ///   more than 4294967295 octets.
 impl<'a> EncodeValue for AttributeTypeAndValue<'a> {

@@ -16,15 +16,15 @@ use std::alloc::Global;
 /// A certificate, borrowed from the input.
 #[derive(Drop)]
 pub struct Certificate<'a> {
-    /// The signed part: the contents of the certificate.
+    /// The part of the certificate that the signature covers.
     pub tbs_certificate: TbsCertificate<'a>,
-    /// The algorithm of the signature.
+    /// The algorithm of `signature`.
     pub signature_algorithm: AlgorithmIdentifierRef<'a>,
-    /// The signature of the signed part, as a BIT STRING.
+    /// The signature of `tbs_certificate`, as a BIT STRING.
     pub signature: BitStringRef<'a>,
 }
 
-/// The fields of a [`Certificate`], in sequence.
+/// The fields of a [`Certificate`] as nested pairs, in the order in which they are encoded.
 pub type CertificateFields<'a> = (
     TbsCertificate<'a>,
     (AlgorithmIdentifierRef<'a>, BitStringRef<'a>),
@@ -108,7 +108,7 @@ impl<'a> WrittenValue for Certificate<'a> {
 ///
 /// # Errors
 ///
-/// - Those of the fields, in sequence.
+/// - The error of the first field that fails.
 /// - `Overflow` without a position from [`EncodeValue::value_len`], if the fields together have
 ///   more than 4294967295 octets.
 impl<'a> EncodeValue for Certificate<'a> {

@@ -20,8 +20,9 @@ fn number_of(octets: &[u8]) -> u8
 }
 
 impl TbsCertificate<'_> {
-    /// Whether unique identifiers are present only in version 2 or 3, and extensions only in
-    /// version 3 (RFC 5280, 4.1.2.1, 4.1.2.8, 4.1.2.9). Decoding does not check this.
+    /// Whether the fields are allowed in the version: unique identifiers must be absent in version
+    /// 1, and extensions in versions 1 and 2 (RFC 5280, 4.1.2.1, 4.1.2.8, 4.1.2.9). Decoding does
+    /// not check this.
     pub fn has_fields_of_version(&self) -> bool
         ensures { (result ≡ true) ↔ MatchesCertificateVersion self.now }
     {
@@ -35,8 +36,9 @@ impl TbsCertificate<'_> {
 }
 
 impl Certificate<'_> {
-    /// Whether the algorithm of the signature is the one in the signed part: the same identifier,
-    /// and the same parameters or none in both (RFC 5280, 4.1.1.2). Decoding does not check this.
+    /// Whether the field `signature_algorithm` is the same as the field `signature` of the signed
+    /// part: the same identifier, and the same parameters or none in both (RFC 5280, 4.1.1.2).
+    /// Decoding does not check this.
     pub fn has_same_algorithms(&self) -> bool
         ensures { (result ≡ true) ↔ HasSameAlgorithms self.now }
     {

@@ -16,7 +16,7 @@ use std::alloc::Global;
 /// An extension of a certificate, borrowed from the input.
 #[derive(Drop)]
 pub struct Extension<'a> {
-    /// The type of the extension.
+    /// The type of the extension, as an object identifier.
     pub extn_id: ObjectIdentifierRef<'a>,
     /// Whether an application that does not know the extension must reject the certificate.
     pub critical: Defaulted<BooleanRef<'a>>,
@@ -24,7 +24,7 @@ pub struct Extension<'a> {
     pub extn_value: OctetStringRef<'a>,
 }
 
-/// The fields of an [`Extension`], in sequence.
+/// The fields of an [`Extension`] as nested pairs, in the order in which they are encoded.
 pub type ExtensionFields<'a> = (
     ObjectIdentifierRef<'a>,
     (Defaulted<BooleanRef<'a>>, OctetStringRef<'a>),
@@ -109,7 +109,7 @@ impl<'a> WrittenValue for Extension<'a> {
 ///
 /// # Errors
 ///
-/// - Those of the fields, in sequence.
+/// - The error of the first field that fails.
 /// - `Overflow` without a position from [`EncodeValue::value_len`], if the fields together have
 ///   more than 4294967295 octets.
 impl<'a> EncodeValue for Extension<'a> {

@@ -20,15 +20,15 @@ pub use version::{CertReqVersion, CertReqVersionGrammar};
 /// A certification request, borrowed from the input.
 #[derive(Drop)]
 pub struct CertReq<'a> {
-    /// The signed part: the requested contents.
+    /// The part of the request that the signature covers.
     pub info: CertReqInfo<'a>,
-    /// The algorithm of the signature.
+    /// The algorithm of `signature`.
     pub algorithm: AlgorithmIdentifierRef<'a>,
-    /// The signature of the signed part, as a BIT STRING.
+    /// The signature of `info`, as a BIT STRING.
     pub signature: BitStringRef<'a>,
 }
 
-/// The fields of a [`CertReq`], in sequence.
+/// The fields of a [`CertReq`] as nested pairs, in the order in which they are encoded.
 pub type CertReqFields<'a> = (
     CertReqInfo<'a>,
     (AlgorithmIdentifierRef<'a>, BitStringRef<'a>),
@@ -112,7 +112,7 @@ impl<'a> WrittenValue for CertReq<'a> {
 ///
 /// # Errors
 ///
-/// - Those of the fields, in sequence.
+/// - The error of the first field that fails.
 /// - `Overflow` without a position from [`EncodeValue::value_len`], if the fields together have
 ///   more than 4294967295 octets.
 impl<'a> EncodeValue for CertReq<'a> {

@@ -24,14 +24,14 @@ use der_asn1::{
 use spki::{AlgorithmIdentifierRef, SubjectPublicKeyInfoRef};
 use std::alloc::Global;
 
-/// The contents of a certificate, which its signature covers.
+/// The part of a certificate that its signature covers.
 #[derive(Drop)]
 pub struct TbsCertificate<'a> {
-    /// The version.
+    /// The version of the certificate: 1, 2 or 3. The default is 1.
     pub version: Defaulted<Explicit<Version<'a>, 0>>,
-    /// The serial number.
+    /// The serial number of the certificate.
     pub serial_number: IntRef<'a>,
-    /// The algorithm of the signature.
+    /// The algorithm of the certificate's signature. The signature itself is not in this part.
     pub signature: AlgorithmIdentifierRef<'a>,
     /// The issuer of the certificate.
     pub issuer: Name<'a>,
@@ -41,15 +41,17 @@ pub struct TbsCertificate<'a> {
     pub subject: Name<'a>,
     /// The public key of the subject.
     pub subject_public_key_info: SubjectPublicKeyInfoRef<'a>,
-    /// A unique identifier of the issuer, in version 2 and 3.
+    /// A unique identifier of the issuer, if present. Only versions 2 and 3 allow it, but decoding
+    /// does not check this.
     pub issuer_unique_id: Optional<Implicit<BitStringRef<'a>, 1>>,
-    /// A unique identifier of the subject, in version 2 and 3.
+    /// A unique identifier of the subject, if present. Only versions 2 and 3 allow it, but decoding
+    /// does not check this.
     pub subject_unique_id: Optional<Implicit<BitStringRef<'a>, 2>>,
-    /// The extensions, in version 3.
+    /// The extensions, if present. Only version 3 allows them, but decoding does not check this.
     pub extensions: Optional<Explicit<Extensions<'a>, 3>>,
 }
 
-/// The fields of a [`TbsCertificate`], in sequence.
+/// The fields of a [`TbsCertificate`] as nested pairs, in the order in which they are encoded.
 pub type TbsCertificateFields<'a> = (
     (
         (Defaulted<Explicit<Version<'a>, 0>>, IntRef<'a>),
@@ -192,7 +194,7 @@ impl<'a> WrittenValue for TbsCertificate<'a> {
 ///
 /// # Errors
 ///
-/// - Those of the fields, in sequence.
+/// - The error of the first field that fails.
 /// - `Overflow` without a position from [`EncodeValue::value_len`], if the fields together have
 ///   more than 4294967295 octets.
 impl<'a> EncodeValue for TbsCertificate<'a> {

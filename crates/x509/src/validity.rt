@@ -21,7 +21,7 @@ pub struct Validity {
     pub not_after: Time,
 }
 
-/// The fields of a [`Validity`], in sequence.
+/// The fields of a [`Validity`] as a pair, in the order in which they are encoded.
 pub type ValidityFields = (Time, Time);
 
 impl FromFields<ValidityFields> for Validity {
@@ -106,7 +106,7 @@ impl WrittenValue for Validity {
 ///
 /// # Errors
 ///
-/// - Those of the fields, in sequence.
+/// - The error of the first field that fails.
 /// - `Overflow` without a position from [`EncodeValue::value_len`], if the fields together have
 ///   more than 4294967295 octets.
 impl EncodeValue for Validity {

@@ -45,13 +45,14 @@ impl<'a> ReadValue for BytesCow<'a> {
     ghost takes_valid = { λ b rules h octets taken. taken.0 };
 }
 
-/// Borrows the contents from the input if the reader can return slices of it, and copies them
+/// Borrows the contents if the reader can return slices of its input, and copies the contents
 /// otherwise. Takes only the length from the header, and ignores its tag.
 ///
 /// # Errors
 ///
-/// `Failed`, `Overflow` and `Incomplete`, as by [`Reader::read_slice`]; from a reader that cannot
-/// return slices, the errors of [`Reader::read_vec`].
+/// - If the reader can return slices: `Failed`, `Overflow` and `Incomplete`, as by
+///   [`Reader::read_slice`].
+/// - If it cannot: the errors of [`Reader::read_vec`].
 impl<'a, R: Reader<Borrowed = &'a [u8]>> DecodeValue<R> for BytesCow<'a> {
     type Error = Error;
 

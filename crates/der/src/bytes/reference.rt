@@ -64,12 +64,13 @@ impl<'a> BytesRef<'a> {
         self.bytes.is_empty()
     }
 
-    /// The first `length` octets.
+    /// The first `length` octets of the byte string.
     ///
     /// # Errors
     ///
-    /// - `Incomplete`, as by [`Error::incomplete`], if there are fewer octets than `length`. The
-    ///   position and `actual_len` are the number of octets; `expected_len` is one more.
+    /// - `Incomplete`, as by [`Error::incomplete`], if the byte string has fewer octets than
+    ///   `length`. The position and `actual_len` are the number of octets of the byte string;
+    ///   `expected_len` is one more.
     pub fn prefix(&self, length: Length) -> Result<Self, Error>
         ensures exact { map_ok (λ b. b.bytes.now) result
             ≡ prefix_of (number length) self.now.bytes.now }

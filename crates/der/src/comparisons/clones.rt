@@ -8,14 +8,14 @@ use crate::bytes::BytesRef;
 use crate::string::StringRef;
 use std::alloc::AllocError;
 
-/// A clone has the same octets.
+/// States that cloning succeeds and that the clone has the same octets.
 fn bytes_ref_clone<'a>(bytes: &BytesRef<'a>) -> Result<BytesRef<'a>, AllocError>
     ensures { map_ok reference_octets result ≡ Ok (reference_octets bytes.now) }
 {
     bytes.clone()
 }
 
-/// A clone has the same text.
+/// States that cloning succeeds and that the clone has the same text.
 fn string_ref_clone<'a>(text: &StringRef<'a>) -> Result<StringRef<'a>, AllocError>
     ensures { map_ok reference_text result ≡ Ok (reference_text text.now) }
 {

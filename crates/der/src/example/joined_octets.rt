@@ -15,7 +15,8 @@ use der_core::{
 use std::alloc::Global;
 use std::cmp::Ordering;
 
-/// An OCTET STRING that owns its octets. Decoding joins the segments of a constructed encoding.
+/// An OCTET STRING that owns its octets. The contents of a constructed encoding are segments;
+/// decoding joins them.
 #[derive(Debug, Drop)]
 pub struct JoinedOctets {
     /// The contents octets, with all segments joined.
@@ -44,8 +45,8 @@ impl ReadValue for JoinedOctets {
     ghost takes_valid = { λ v rules h octets taken. taken.0 };
 }
 
-/// Copies the contents if the encoding is primitive. Joins the segments, including segments inside
-/// segments, if it is constructed.
+/// If the encoding is primitive, copies the contents. If the encoding is constructed, joins the
+/// segments, including segments inside segments.
 ///
 /// # Errors
 ///

@@ -17,28 +17,29 @@ use std::alloc::Global;
 /// Joins segments (X.690 8.7.3) into a new vector, from the position of the reader up to its end.
 /// The segments are elements with the tag `inner_tag`, in sequence. A primitive segment contributes
 /// its contents. Under the Basic Encoding Rules a segment may be constructed, of definite or
-/// indefinite length. It then contributes the joined segments inside it, and is entered as a nested
-/// part, to a depth of at most 64. `length` is the length of the element that contains the
-/// segments. The end-of-contents octets of that element are not read.
+/// indefinite length. A constructed segment contributes the joined segments inside it. It is
+/// entered as a nested part; the depth is at most 64. `length` is the length of the element that
+/// contains the segments. The end-of-contents octets of that element are not read.
 ///
 /// # Errors
 ///
-/// - `IndefiniteLength` at the position, if `length` is definite and the rules are the
+/// - `IndefiniteLength` at the reader's position, if `length` is definite and the rules are the
 ///   Distinguished Encoding Rules; the reader has failed then.
 /// - `OutOfMemory` without a position, if the allocation of `length` octets fails; the reader is
 ///   unchanged.
 /// - The errors of decoding a segment's header, as by [`Header::decode`](der_core::Header).
-/// - `TagUnexpected` without a position, if a segment has another tag than `inner_tag`; the reader
+/// - `TagUnexpected` without a position, if a segment has a tag other than `inner_tag`; the reader
 ///   is after the segment's header and has not failed.
-/// - `Noncanonical` with the tag, at the last octet of the header of a constructed segment, under
-///   the Distinguished Encoding Rules; the reader is after the header and has not failed.
+/// - `Noncanonical` with the segment's tag, at the last octet of the segment's header, if a segment
+///   is constructed and the rules are the Distinguished Encoding Rules; the reader is after the
+///   header and has not failed.
 /// - `Overflow`, `Incomplete` and `NestingDepth` if a constructed segment cannot be entered, as by
 ///   [`Reader::enter_nested`]; the reader is after the segment's header.
 /// - `Overflow` without a position, if fewer octets are left than a primitive segment has, and the
 ///   end of the segment would exceed 4294967295; the reader is after the segment's header and has
 ///   not failed.
-/// - `Incomplete` at the position, if fewer octets are left than a primitive segment has; the
-///   reader is after the segment's header and has failed.
+/// - `Incomplete` at the reader's position, if fewer octets are left than a primitive segment has;
+///   the reader is after the segment's header and has failed.
 /// - `OutOfMemory` without a position, if the allocation of a primitive segment's octets fails; the
 ///   reader is after the segment's header and has not failed.
 ///

@@ -47,15 +47,15 @@ impl<'a> ReadValue for StringCow<'a> {
 }
 
 /// Borrows the contents from the input as a text. Takes only the length from the header, and
-/// ignores its tag. Fails if the reader cannot return slices, because an owned text too is read
-/// from a slice.
+/// ignores its tag. Fails if the reader cannot return slices: an owned text, too, is copied from a
+/// slice of the input.
 ///
 /// # Errors
 ///
-/// - `Failed`, `Overflow` and `Incomplete`, as by [`Reader::read_slice`]; `Reader` if the reader
-///   cannot return slices.
-/// - `Utf8` without a position, if the contents are not UTF-8; the reader is after them and has not
-///   failed.
+/// - `Failed`, `Overflow` and `Incomplete`, as by [`Reader::read_slice`].
+/// - The error `Reader`, if the reader cannot return slices.
+/// - `Utf8` without a position, if the contents are not UTF-8; the reader is after the contents and
+///   has not failed.
 impl<'a, R: Reader<Borrowed = &'a [u8]>> DecodeValue<R> for StringCow<'a> {
     type Error = Error;
 

@@ -40,7 +40,7 @@ impl StringOwned {
     }
 
     /// Copies `bytes` into an owned text. Allocates only after it has checked that `bytes` are
-    /// UTF-8 and at most 4294967295.
+    /// UTF-8 and are at most 4294967295 octets.
     ///
     /// # Errors
     ///

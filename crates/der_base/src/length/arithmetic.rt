@@ -8,14 +8,14 @@ use crate::length::Length;
 use std::ops::{Add, Sub};
 
 impl Length {
-    /// The sum as a definite length; 4294967295 if the sum exceeds it.
+    /// The sum of `self` and `rhs` as a definite length; 4294967295 if the sum is greater.
     pub const fn saturating_add(self, rhs: Self) -> Self
         ensures { result ≡ definite_length (saturated_number (number self + number rhs)) }
     {
         Length::new(self.inner.saturating_add(rhs.inner))
     }
 
-    /// The difference as a definite length; zero if `rhs` is greater.
+    /// The definite length `self` minus `rhs`; zero if `rhs` is greater.
     pub const fn saturating_sub(self, rhs: Self) -> Self
         ensures { result ≡ definite_length (number self - number rhs) }
     {
@@ -119,7 +119,7 @@ impl Sub for Length {
     }
 }
 
-/// Adds a length to the length in a result. The sum is a definite length.
+/// Adds a length to the length in the result on the left. The sum is a definite length.
 ///
 /// # Errors
 ///
@@ -135,7 +135,8 @@ impl Add<Length> for Result<Length> {
     }
 }
 
-/// Subtracts a length from the length in a result. The difference is a definite length.
+/// Subtracts a length from the length in the result on the left. The difference is a definite
+/// length.
 ///
 /// # Errors
 ///

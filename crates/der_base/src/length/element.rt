@@ -9,8 +9,8 @@ use crate::tag::Tag;
 
 impl Length {
     /// The number of octets of a whole element with the tag `tag` and contents of the length
-    /// `self`. It counts the identifier octets (X.690 8.1.2), the length octets (8.1.3) and the
-    /// contents. The result is a definite length.
+    /// `self`. The number counts the identifier octets (X.690 8.1.2), the length octets (8.1.3) and
+    /// the contents. The result is a definite length.
     ///
     /// # Errors
     ///
@@ -22,8 +22,8 @@ impl Length {
     }
 
     /// The number of octets that encode the length (X.690 8.1.3, 10.1), 1 to 5: one for lengths up
-    /// to 127, otherwise one plus the number of base-256 digits. An indefinite length counts as a
-    /// definite one.
+    /// to 127, otherwise one plus the number of base-256 digits. A length that was read in the
+    /// indefinite form counts as a definite one.
     pub const fn octet_count(self) -> u32
         ensures octets { result ≡ length (length_octets (number self)) }
         ensures some { 1 ≤ result }

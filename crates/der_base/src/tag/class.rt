@@ -3,16 +3,20 @@ ghost use Rattle.std.specs.Prelude.{◌≡◌, ◌*◌, ◌/◌, Some};
 
 use std::fmt;
 
-/// The two highest bits of the first identifier octet of a universal tag.
+/// `0x00`: the class bits (the two highest) of the first identifier octet of a universal tag. The
+/// other bits are 0.
 pub const CLASS_UNIVERSAL: u8 = 0x00;
 
-/// The two highest bits of the first identifier octet of an application tag.
+/// `0x40`: the class bits (the two highest) of the first identifier octet of an application tag.
+/// The other bits are 0.
 pub const CLASS_APPLICATION: u8 = 0x40;
 
-/// The two highest bits of the first identifier octet of a context-specific tag.
+/// `0x80`: the class bits (the two highest) of the first identifier octet of a context-specific
+/// tag. The other bits are 0.
 pub const CLASS_CONTEXT_SPECIFIC: u8 = 0x80;
 
-/// The two highest bits of the first identifier octet of a private tag.
+/// `0xC0`: the class bits (the two highest) of the first identifier octet of a private tag. The
+/// other bits are 0.
 pub const CLASS_PRIVATE: u8 = 0xC0;
 
 /// The class of a tag (X.690 8.1.2.2, table 1).
@@ -31,7 +35,8 @@ pub enum Class {
 impl Class {
     ghost use Rattle.der_base.specs.Class.{class_number};
 
-    /// An octet whose two highest bits are the class and whose other bits are 0.
+    /// The class as the two highest bits of an octet: `0x00`, `0x40`, `0x80` or `0xC0`. The other
+    /// bits are 0.
     pub const fn bits(&self) -> u8
         ensures { result ≡ 64 * class_number self.now }
     {
@@ -67,7 +72,7 @@ impl From<u8> for Class {
     }
 }
 
-/// Prints the name that the standard gives the class, in capitals.
+/// Prints `UNIVERSAL`, `APPLICATION`, `CONTEXT-SPECIFIC` or `PRIVATE`.
 impl fmt::Display for Class {
     ghost use Rattle.der_base.specs.Text.{class_text};
 

@@ -36,7 +36,7 @@ impl FromStr for TagMode {
     }
 }
 
-/// Prints the ASN.1 keyword, in capitals.
+/// Prints the ASN.1 keyword: `EXPLICIT` or `IMPLICIT`.
 impl fmt::Display for TagMode {
     ghost use Rattle.der_base.specs.Text.{mode_text};
 

@@ -1,7 +1,8 @@
 //! Texts in a buffer, truncated where the buffer ends.
 ghost use Rattle.std.specs.Prelude.{◌≤◌, length};
 
-/// A buffer for a text. Its first `count` octets are written.
+/// A buffer `octets` for a text. The first `count` octets of the buffer are the text written so
+/// far.
 #[derive(Drop)]
 pub(crate) struct Text<'a> {
     pub(crate) octets: &'a mut [u8],

@@ -4,8 +4,9 @@ ghost use Rattle.std.specs.Prelude.{◌≤◌};
 // how many levels of nested parts are entered
 pub(crate) const LEVELS: usize = 32;
 
-/// The parts around the reader. It holds, for each part, its end and the position at which the
-/// reader continues in it.
+/// The nested parts that enclose the position of the reader, the outermost first. For the part at
+/// index `i`, `ends[i]` is the end to restore when the part is left, and `following[i]` is the
+/// position after the part, at which the reader then continues.
 #[derive(Drop)]
 pub(crate) struct Around {
     pub(crate) ends: [u32; 32],

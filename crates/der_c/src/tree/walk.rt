@@ -9,7 +9,8 @@ use crate::element::DerElement;
 use crate::reader::DerReader;
 use crate::tree::around::{Around, LEVELS};
 
-/// Leaves all parts whose end the reader has reached.
+/// Leaves, from the innermost outwards, each nested part whose end the reader has reached. Changes
+/// nothing if the reader is before the end of the innermost part.
 #[inline(always)]
 pub(crate) fn climb(reader: &mut DerReader<'_>, around: &mut Around)
     requires parts { AreAround around.old (reader_state reader.old) }
@@ -38,7 +39,8 @@ fn leave(reader: &mut DerReader<'_>, around: &mut Around)
     reader.end = around.ends[level];
 }
 
-/// Enters `element`, which was read, if it is constructed and less than 32 levels deep.
+/// Moves `reader` into the contents of `element`, which must have been read by `reader`, if
+/// `element` is constructed and fewer than 32 other elements enclose it. Otherwise changes nothing.
 #[inline(always)]
 pub(crate) fn look_into(reader: &mut DerReader<'_>, around: &mut Around, element: &DerElement<'_>)
     requires parts { AreAround around.old (reader_state reader.old) }

@@ -13,7 +13,8 @@ use crate::writer::short::write_short;
 use der_base::{Error, ErrorKind, Length};
 use der_core::{Encode, Header, Writer};
 
-/// Makes `writer` a writer into `octets`, from their start. It writes at most 4294967295 octets.
+/// Makes `writer` a writer into `octets`, from their start. `writer` writes at most 4294967295
+/// octets.
 #[unsafe(no_mangle)]
 pub extern "C" fn der_writer_init<'a>(octets: &'a mut [u8], writer: &mut DerWriter<'a>)
     ensures { writer_state writer.new ≡ fresh_state octets.old octets.entry.ghost_name }
@@ -25,7 +26,7 @@ pub extern "C" fn der_writer_init<'a>(octets: &'a mut [u8], writer: &mut DerWrit
     };
 }
 
-/// How many octets have been written.
+/// How many octets `writer` has written.
 #[unsafe(no_mangle)]
 pub extern "C" fn der_written(writer: &DerWriter<'_>) -> usize
     ensures { result ≡ length (writer_state writer.now).octets }
@@ -33,9 +34,9 @@ pub extern "C" fn der_written(writer: &DerWriter<'_>) -> usize
     writer.position
 }
 
-/// Succeeds if the writer has not failed.
+/// Succeeds if `writer` has not failed.
 ///
-/// Fails with `Failed` at the position of the writer, if it has failed.
+/// Fails with `Failed` at the position of `writer`, if `writer` has failed.
 #[unsafe(no_mangle)]
 pub extern "C" fn der_writer_finish(writer: &DerWriter<'_>) -> DerError
     ensures { result ≡ answer_code (finished_answer (writer_state writer.now)) }
@@ -48,8 +49,8 @@ pub extern "C" fn der_writer_finish(writer: &DerWriter<'_>) -> DerError
 
 /// Writes `octets` unchanged.
 ///
-/// Fails with `Failed`, `Overflow` and `Overlength`, like `Writer::write`; nothing is written then,
-/// and the writer has failed.
+/// Fails with `Failed`, `Overflow` and `Overlength`, as `der_core::Writer::write` does. After an
+/// error nothing is written, and the writer has failed.
 #[unsafe(no_mangle)]
 pub extern "C" fn der_write(writer: &mut DerWriter<'_>, octets: &[u8]) -> DerError
     ensures { WritesOctets octets.now (writer_state writer.old) result (writer_state writer.new) }
@@ -59,8 +60,12 @@ pub extern "C" fn der_write(writer: &mut DerWriter<'_>, octets: &[u8]) -> DerErr
 
 /// Writes the header of an element with the tag `tag` and `length` octets of contents.
 ///
-/// Fails with `TagNumberInvalid` without a position if `tag` is not the word of a tag, and like
-/// [`der_write`]; octets of the header that were already written remain, and the writer has failed.
+/// After an error the writer has failed; octets of the header that were already written remain.
+/// Fails with:
+///
+/// - `TagNumberInvalid` without a position, if `tag` is not a valid tag word (the first octet of
+///   the identifier, plus 256 times the tag number if that is 31 or more);
+/// - the errors of [`der_write`].
 #[unsafe(no_mangle)]
 pub extern "C" fn der_write_header(writer: &mut DerWriter<'_>, tag: u64, length: u32) -> DerError
     ensures { WritesHeader tag length (writer_state writer.old) result (writer_state writer.new) }
@@ -85,8 +90,10 @@ fn header_slowly(writer: &mut DerWriter<'_>, tag: u64, length: u32) -> DerError
 
 /// Writes an element: its header and its contents.
 ///
-/// Fails with `Overflow` without a position if there are more than 4294967295 octets of contents,
-/// and like [`der_write_header`] and [`der_write`].
+/// Fails with:
+///
+/// - `Overflow` without a position, if there are more than 4294967295 octets of contents;
+/// - the errors of [`der_write_header`] and [`der_write`].
 #[unsafe(no_mangle)]
 pub extern "C" fn der_write_element(
     writer: &mut DerWriter<'_>,
@@ -121,12 +128,14 @@ fn element_slowly(writer: &mut DerWriter<'_>, tag: u64, contents: &[u8]) -> DerE
     }
 }
 
-/// Sets `count` to the number of octets of a whole element, header and contents. The element has
-/// this tag and `length` octets of contents.
+/// Sets `count` to the number of octets of a whole element, header and contents, with the tag `tag`
+/// and `length` octets of contents.
 ///
-/// Fails with `TagNumberInvalid` without a position if the word `tag` is not that of a tag, and
-/// with `Overflow` without a position if the element has more than 4294967295 octets; `count` is
-/// unchanged then.
+/// Every error leaves `count` unchanged. Fails with:
+///
+/// - `TagNumberInvalid` without a position, if `tag` is not a valid tag word (the first octet of
+///   the identifier, plus 256 times the tag number if that is 31 or more);
+/// - `Overflow` without a position, if the element has more than 4294967295 octets.
 #[unsafe(no_mangle)]
 pub extern "C" fn der_element_length(tag: u64, length: u32, count: &mut u32) -> DerError
     ensures { Measures tag length result count.old count.new }

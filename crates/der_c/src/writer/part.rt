@@ -11,13 +11,13 @@ use crate::writer::{DerWriter, refusal};
 use der_base::{ErrorKind, Length};
 use der_core::{Encode, Header};
 
-/// Begins an element with this tag: writes its header, with one octet for the length, and sets
-/// `start` to the position at which its contents begin. All octets that are then written until
-/// [`der_end`] are its contents.
+/// Begins an element with the tag `tag`: writes its header, with one octet reserved for the length,
+/// and sets `start` to the position at which its contents begin. All octets that are written after
+/// this call and before [`der_end`] are its contents.
 ///
-/// Fails with `TagNumberInvalid`, `Failed`, `Overflow` and `Overlength`, like
-/// [`der_write_header`](crate::der_write_header); `start` is unchanged then, and the writer has
-/// failed.
+/// Fails with `TagNumberInvalid`, `Failed`, `Overflow` and `Overlength`, as
+/// [`der_write_header`](crate::der_write_header) does. After an error `start` is unchanged, and the
+/// writer has failed.
 #[unsafe(no_mangle)]
 pub extern "C" fn der_begin(writer: &mut DerWriter<'_>, tag: u64, start: &mut usize) -> DerError
     ensures { BeginsElement tag (writer_state writer.old) result start.old start.new
@@ -49,14 +49,16 @@ fn begin_slowly(writer: &mut DerWriter<'_>, tag: u64, start: &mut usize) -> DerE
     }
 }
 
-/// Ends the element whose contents begin at `start`, as set by [`der_begin`]. The length of the
-/// contents replaces the octet before them. Contents of 128 octets or more need more octets for
-/// their length, and are moved to make space for these.
+/// Ends the element whose contents begin at `start`, as set by [`der_begin`]. Writes the length of
+/// the contents into the octet just before them. If the contents have 128 octets or more, their
+/// length needs more octets, and the contents are moved to make space.
 ///
-/// Fails with `Failed` at the position if the writer had already failed. Fails with `Overlength`
-/// without a position if nothing is written before `start`, or if `start` is after what is written.
-/// Fails with `Overlength` and `Overflow` if there is no space for the longer length. Nothing is
-/// moved then, and the writer has failed.
+/// After an error nothing is moved, and the writer has failed. Fails with:
+///
+/// - `Failed` at the writer's position, if the writer had already failed;
+/// - `Overlength` without a position, if nothing is written before `start`, or if `start` is after
+///   the octets written;
+/// - `Overlength` and `Overflow`, if there is no space for the longer length.
 #[unsafe(no_mangle)]
 pub extern "C" fn der_end(writer: &mut DerWriter<'_>, start: usize) -> DerError
     ensures { EndsElement start (writer_state writer.old) result (writer_state writer.new) }

@@ -7,8 +7,9 @@ use crate::short::is_identifier;
 use crate::writer::DerWriter;
 use der_core::Writer;
 
-/// Writes the header of an element with this tag and `length` octets of contents, if the header has
-/// two octets and the writer has space for them. Otherwise writes nothing and returns false.
+/// Writes the header of an element with the tag `tag` and `length` octets of contents, if this
+/// header has two octets and `writer` has space for them. Returns true if the header was written;
+/// otherwise writes nothing and returns false.
 #[inline(always)]
 pub(crate) fn write_short(writer: &mut DerWriter<'_>, tag: u64, length: usize) -> bool
     ensures written { result ≡ true → WritesShort tag length (writer_state writer.old)

@@ -24,7 +24,7 @@ impl<T: ReadValue> ReadValue for Box<T> {
 ///
 /// # Errors
 ///
-/// - Those of the value, as by its [`DecodeValue::decode_value`].
+/// - The errors of [`DecodeValue::decode_value`] of the value.
 /// - `OutOfMemory` without a position, if the allocation fails; the reader is after the contents
 ///   and has not failed.
 impl<R: Reader, T: DecodeValue<R>> DecodeValue<R> for Box<T> {

@@ -11,12 +11,12 @@ use crate::header::Header;
 use crate::reader::Reader;
 use std::alloc::Global;
 
-/// Decodes the first member of the pair, and then the second. Three fields are decoded as a pair of
-/// one field and another pair.
+/// Decodes the first member of the pair, and then the second. To decode three fields, nest the
+/// pairs: a pair of one field and another pair.
 ///
 /// # Errors
 ///
-/// Those of the first member, then those of the second.
+/// Those of the first member; if it is decoded, those of the second.
 impl<R: Reader, A: Decode<R>, B: Decode<R, Error = <A as Decode<R>>::Error>> Decode<R> for (A, B) {
     type Error = <A as Decode<R>>::Error;
 
@@ -37,9 +37,10 @@ impl<R: Reader, A: Decode<R>, B: Decode<R, Error = <A as Decode<R>>::Error>> Dec
 }
 
 /// Decodes a value from the contents that the reader is inside, by [`Decode::decode`]. The contents
-/// are accepted if they are entirely one value, whatever the header. A pair is decoded as its
-/// members in sequence. The contract is the one that
-/// [`DecodeValue::decode_value`](crate::DecodeValue::decode_value) requires.
+/// are accepted as a value if they are entirely one value; the header is ignored. A pair is decoded
+/// as its members in sequence. This function has the contract of
+/// [`DecodeValue::decode_value`](crate::DecodeValue::decode_value), so an implementation of that
+/// function can call it.
 ///
 /// # Errors
 ///

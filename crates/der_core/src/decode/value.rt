@@ -18,15 +18,16 @@ use std::alloc::Global;
 /// The meaning of a type when its values are read: which values it has, and which octets are read
 /// as which value. The trait has no functions.
 ///
-/// Ghost members:
+/// Ghost members (for proofs only):
 ///
-/// - `valid` says which models (the values of the type in proofs) are valid values.
-/// - `takes` says which contents are read as which value under given encoding rules, after which
-///   header. The length in the header is that of the contents alone.
+/// - `valid` says which models are valid values. A model is a value of the type as it appears in
+///   proofs.
+/// - `takes` says which contents octets are read as which value, under given encoding rules and
+///   after a given header. The length in that header does not count end-of-contents octets.
 /// - `value_levels` is the number of nesting levels that the contents require under given encoding
 ///   rules.
 /// - `allocates` says whether reading allocates.
-/// - `takes_valid` is the law that only valid values are read.
+/// - `takes_valid` is a property that implementors prove: only valid values are read.
 pub trait ReadValue: Sized {
     ghost valid: { Self → Type 0 };
 
@@ -44,9 +45,9 @@ pub trait ReadValue: Sized {
 /// Types whose values are decoded from the contents after a header. A type that also implements
 /// [`FixedTag`] is decoded by [`Decode`]: its header, then its contents.
 ///
-/// Ghost member: `decode_value_answers` is the exact outcome on a reliable reader, including each
-/// error and the state in which it leaves the reader. Its arguments are the header, the reader
-/// before, the result, and the reader after.
+/// Ghost member (for proofs only): `decode_value_answers` is the exact outcome on a reliable reader
+/// (see [`Reader`]), including each error and the state in which it leaves the reader. Its
+/// arguments are the header, the reader before, the result, and the reader after.
 pub trait DecodeValue<R: Reader>: ReadValue + Drop {
     /// The error type of decoding.
     type Error: DecodeError;
@@ -54,19 +55,19 @@ pub trait DecodeValue<R: Reader>: ReadValue + Drop {
     ghost decode_value_answers: { Head → ReaderState → AResult Self Self.Error → ReaderState
         → Type 0 };
 
-    /// Decodes a value from the contents that the reader is inside; `header` has their length. An
-    /// `Ok` that leaves some of the contents unread, or leaves the reader failed, does not count as
-    /// a value.
+    /// Decodes a value from the contents that the reader is inside; `header` is the header before
+    /// them, with their length. If the function returns `Ok` but leaves some of the contents
+    /// unread, or leaves the reader failed, the contents do not count as accepted.
     ///
-    /// If the reader is reliable, has not failed, is inside a nested part and has `value_levels`
-    /// levels of nesting left, and the contents are accepted as a value, the result is a value or
-    /// an error that reports a failed allocation.
+    /// Suppose that the reader is reliable (see [`Reader`]), has not failed, is inside a nested
+    /// part, and has `value_levels` levels of nesting left. If the contents are accepted as a
+    /// value, the result is a value or an error that reports a failed allocation.
     ///
     /// # Errors
     ///
     /// - An error that reports a failed allocation, if the type allocates.
-    /// - Those of the type: `decode_value_answers` specifies them, their positions, and whether the
-    ///   reader is then failed.
+    /// - The errors of the type: `decode_value_answers` specifies them, their positions, and
+    ///   whether the reader is then failed.
     fn decode_value(alloc: Global, reader: &mut R, header: Header) -> Result<Self, Self::Error>
         ensures same { Same (R.state reader.old) (R.state reader.new) }
         ensures sound { TakesContents Self.takes (head_of header) (R.state reader.old) result
@@ -78,7 +79,7 @@ pub trait DecodeValue<R: Reader>: ReadValue + Drop {
         ensures exact { R.reliable ≡ true → decode_value_answers (head_of header)
             (R.state reader.old) result (R.state reader.new) };
 
-    /// Does nothing. The contract proves that `self` is a valid value.
+    /// Does nothing. Code calls this for its contract, which states that `self` is a valid value.
     fn is_value(&self)
         ensures { Self.valid self.now };
 }
@@ -95,7 +96,8 @@ pub trait DecodeValue<R: Reader>: ReadValue + Drop {
 /// - `Overflow`, `Incomplete` and `NestingDepth`, if the contents cannot be entered, as by
 ///   [`Reader::enter_nested`]; the reader is after the header.
 /// - Those of the type, as by [`DecodeValue::decode_value`].
-/// - `TrailingData` at the position, if the type leaves octets unread; the reader is then failed.
+/// - `TrailingData` at the reader's position, if [`DecodeValue::decode_value`] leaves contents
+///   octets unread; the reader is then failed.
 /// - Those of [`read_eoc`](crate::read_eoc), if the length was read in the indefinite form.
 #[inline(always)]
 pub fn decode_tlv<R: Reader, T: DecodeValue<R> + FixedTag>(

@@ -6,13 +6,14 @@ use crate::encode::Encode;
 use crate::writer::Writer;
 use der_base::{Error, Length};
 
-/// Writes the first member of the pair, and then the second. Three fields are written as a pair of
-/// one field and another pair.
+/// Writes the first member of the pair, and then the second. To write three fields, nest the pairs:
+/// a pair of one field and another pair.
 ///
 /// # Errors
 ///
-/// Those of the first member, then those of the second. [`Encode::encoded_len`] also fails with
-/// `Overflow` without a position, if the two members together have more than 4294967295 octets.
+/// Those of the first member; if it is written, those of the second. [`Encode::encoded_len`] also
+/// fails with `Overflow` without a position, if the two members together have more than 4294967295
+/// octets.
 impl<A: Encode, B: Encode> Encode for (A, B) {
     ghost encoding = { λ v. A.encoding v.0 ++ B.encoding v.1 };
 

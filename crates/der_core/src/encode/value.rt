@@ -13,7 +13,7 @@ use der_base::{Error, Length};
 
 /// The meaning of a value when it is written. The trait has no functions.
 ///
-/// Ghost members:
+/// Ghost members (for proofs only):
 ///
 /// - `contents` is the contents octets of a value.
 /// - `writable` says whether a value can be written at all.
@@ -26,11 +26,11 @@ pub trait WrittenValue {
 /// Types whose values have contents, which are written after a header. A type that also implements
 /// [`Tagged`] is encoded by [`crate::Encode`]: its header, then its contents.
 ///
-/// Ghost members:
+/// Ghost members (for proofs only):
 ///
 /// - `value_size` is the exact result of [`EncodeValue::value_len`], errors included.
 /// - `encode_value_answers` is the exact outcome of [`EncodeValue::encode_value`] on a reliable
-///   writer, including each error and the state in which it leaves the writer.
+///   writer (see [`Writer`]), including each error and the state in which it leaves the writer.
 ///
 /// A month as an `OCTET STRING` of one octet:
 ///
@@ -112,7 +112,7 @@ pub trait EncodeValue: WrittenValue {
     ///
     /// # Errors
     ///
-    /// - Those of the type, which `value_size` specifies.
+    /// - The errors of the type, which the ghost member `value_size` specifies.
     fn value_len(&self) -> Result<Length, Error>
         ensures ok { Counts (Self.contents self.now) result }
         ensures succeeds { Self.writable self.now → HasSize (Self.contents self.now) result }
@@ -122,10 +122,10 @@ pub trait EncodeValue: WrittenValue {
     ///
     /// # Errors
     ///
-    /// After each, octets written earlier remain; `encode_value_answers` specifies the state of the
-    /// writer.
+    /// After each, octets written earlier remain; the ghost member `encode_value_answers` specifies
+    /// the state of the writer.
     ///
-    /// - Those of the type.
+    /// - The errors of the type, which `encode_value_answers` also specifies.
     /// - `Failed`, `Overflow` and `Overlength` of the writer, as by [`Writer::write`].
     fn encode_value<W: Writer>(&self, writer: &mut W) -> Result<(), Error>
         ensures kept { Keeps (W.state writer.old) (W.state writer.new) }

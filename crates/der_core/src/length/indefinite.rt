@@ -32,9 +32,10 @@ enum Part {
     Opens,
 }
 
-/// Scans the body of an indefinite length and returns its number of octets, including its
-/// end-of-contents octets (X.690 8.1.3.6). Definite-length contents are skipped unread; every other
-/// octet is read once. `turns` counts each identifier and each end-of-contents that is read.
+/// Scans the body that follows an indefinite length: the contents and the end-of-contents octets
+/// that close them (X.690 8.1.3.6). Returns the number of octets of the body. Definite-length
+/// contents are skipped unread; every other octet is read once. `turns` counts each identifier and
+/// each end-of-contents (two zero octets) that is read; it exists only for proofs.
 ///
 /// The caller must ensure that the reader uses the Basic Encoding Rules.
 ///
@@ -42,7 +43,7 @@ enum Part {
 ///
 /// After all but `Failed` and `Overflow`, the reader is at the error's position and failed.
 ///
-/// - `Failed` at the position, if the reader had already failed; it is unchanged.
+/// - `Failed` at the reader's position, if the reader had already failed; the reader is unchanged.
 /// - `Overflow` without a position, if `Incomplete` would report a length above 4294967295; the
 ///   reader is where the missing octets were to be read, and has not failed.
 /// - `Incomplete` at the end, if no octet is left, or only half an end-of-contents, a truncated

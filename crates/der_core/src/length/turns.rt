@@ -2,8 +2,10 @@
 use std::marker::Model;
 use std::sync::ledger::{Blank, Book, Ledger, Share};
 
-/// The number of turns that scans have made. A turn reads one identifier or one end-of-contents.
-/// The counter exists only in contracts, so it needs no memory. Only a scan increments it.
+/// The number of turns that scans (see
+/// [`decode_indefinite_length`](crate::decode_indefinite_length)) have made. A turn reads one
+/// identifier or one end-of-contents (two zero octets). The counter exists only in contracts, so it
+/// needs no memory. Only a scan increments it.
 #[derive(Drop)]
 pub struct Turns<L: Ledger> {
     book: Book<L>,
@@ -25,8 +27,8 @@ impl<L: Ledger> Turns<L> {
 
     /// A counter at zero.
     ///
-    /// The caller must ensure that the blank is not shared and is the one that the ledger `L`
-    /// names.
+    /// The caller must ensure that `blank` is not shared, and that its name is the name of the
+    /// ledger `L`.
     pub fn new(blank: Blank) -> Self
         requires name { blank.name ≡ L.name }
         requires parts { blank.parts ≡ L.parts }

@@ -10,12 +10,13 @@ use crate::tag::fixed::Tagged;
 use der_base::Error;
 use std::cmp::Ordering;
 
-/// Compares the elements of two values: their tags in byte order, the lengths of their contents,
-/// then the contents by [`ValueOrd::value_cmp`]. Allocates nothing.
+/// Compares the elements of two values: first their tags in byte order; if they are equal, the
+/// lengths of the contents; if these are equal too, the contents by [`ValueOrd::value_cmp`].
+/// Allocates nothing.
 ///
 /// # Errors
 ///
-/// - Those of [`EncodeValue::header`], of the first value before the second.
+/// - Those of [`EncodeValue::header`] of `value`, then those of `other`.
 /// - Those of [`ValueOrd::value_cmp`], if the headers are equal.
 #[inline(always)]
 pub fn der_cmp_tlv<T: EncodeValue + ValueOrd + Tagged>(

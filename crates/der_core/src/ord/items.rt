@@ -10,13 +10,14 @@ use der_base::Error;
 pub use owned::iter_cmp_owned;
 use std::cmp::Ordering;
 
-/// Compares the values that two iterators refer to, pair by pair. The first pair that is unequal or
-/// returns an error decides. If there is none, the iterator that ends first is the smaller. Only
-/// the iterators may allocate.
+/// Compares the values to which the references from `a` and `b` refer, pair by pair. The first pair
+/// that is unequal or whose comparison fails decides. If there is none, the iterator that ends
+/// first is the smaller; if both end at once, they are equal. Only the iterators may allocate.
 ///
 /// # Errors
 ///
-/// - Those of [`DerOrd::der_cmp`], of the first pair that returns one.
+/// - The error of [`DerOrd::der_cmp`] of the first pair whose comparison fails, if all earlier
+///   pairs are equal.
 pub fn iter_cmp<'a, A, B, T>(mut a: A, mut b: B) -> Result<Ordering, Error>
 where
     A: Iterator<Item = &'a T>,

@@ -16,8 +16,8 @@ impl<T> ValueOrd for PhantomData<T> {
     }
 }
 
-/// All values of `PhantomData` are equal. Never fails. Their encoding is empty, so the encodings of
-/// several values cannot be separated after they are joined.
+/// All values of `PhantomData` are equal. Never fails. Their encoding is empty, so joined encodings
+/// of several values cannot be separated again: the ghost member `delimits` does not hold.
 impl<T> DerOrd for PhantomData<T> {
     ghost order = { λ _ _. Ok Equal };
 

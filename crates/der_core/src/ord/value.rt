@@ -10,7 +10,8 @@ use std::cmp::Ordering;
 
 /// Types whose values are compared by their contents.
 ///
-/// Ghost member: `value_order` is the exact result of [`ValueOrd::value_cmp`], errors included.
+/// Ghost member (for proofs only): `value_order` is the exact result of [`ValueOrd::value_cmp`],
+/// errors included.
 pub trait ValueOrd {
     ghost value_order: { Self → Self → Compared };
 
@@ -18,24 +19,28 @@ pub trait ValueOrd {
     ///
     /// # Errors
     ///
-    /// - Those of the type, which `value_order` specifies.
+    /// - The errors of the type, which the ghost member `value_order` specifies.
     fn value_cmp(&self, other: &Self) -> Result<Ordering, Error>
         ensures { result ≡ value_order self.now other.now };
 }
 
-/// Types whose [`ValueOrd::value_cmp`] returns the byte order of the contents of two values with
-/// equal tags and with contents of equal length. So [`DerOrd::der_cmp`](crate::DerOrd::der_cmp) of
-/// two values returns the byte order of their encodings, whenever it returns a result.
+/// Types whose [`ValueOrd::value_cmp`] orders contents of equal length by their octets: for two
+/// values with equal tags and contents of equal length, it returns the byte order of the contents.
+/// So [`DerOrd::der_cmp`](crate::DerOrd::der_cmp) of any two values is the byte order of their
+/// encodings, if it is no error.
 ///
-/// Ghost member: `orderly` is the law of [`ValueOrd::value_cmp`].
+/// Ghost member (for proofs only): `orderly` is this property of [`ValueOrd::value_cmp`], which
+/// implementors prove.
 pub trait Orderly: EncodeValue + Tagged + ValueOrd {
     ghost orderly: { IsOrderly Self.tag_of Self.contents Self.value_order };
 }
 
-/// Types whose `Ord` is the byte order of the contents of two values, if these have equal lengths.
-/// They are compared by [`ValueOrd`] in the same order.
+/// Types whose `Ord` orders contents of equal length by their octets: for two values with contents
+/// of equal length, it is the byte order of the contents. [`ValueOrd`] compares values of such a
+/// type by their `Ord`.
 ///
-/// Ghost member: `orders_contents` is the law of `Ord`.
+/// Ghost member (for proofs only): `orders_contents` is this property of `Ord`, which implementors
+/// prove.
 pub trait OrdIsValueOrd: Ord + EncodeValue {
     ghost orders_contents: { OrdersContents Self.contents Self.cmp };
 }

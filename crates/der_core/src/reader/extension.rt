@@ -35,11 +35,12 @@ pub trait ReaderExt: Reader {
     ///
     /// # Errors
     ///
-    /// - `Failed` at the position, if the reader had already failed; it is unchanged.
+    /// - `Failed` at the reader's position, if the reader had already failed; the reader is
+    ///   unchanged.
     /// - `Overflow` without a position, if no octet is left at position 4294967295; the reader is
     ///   unchanged.
-    /// - `Incomplete` at the position, if no octet is left at any other position; the reader is
-    ///   then failed.
+    /// - `Incomplete` at the reader's position, if no octet is left at any other position; the
+    ///   reader is then failed.
     #[inline(always)]
     final fn read_byte(&mut self) -> Result<u8, Error>
         ensures same { Same (Self.state self.old) (Self.state self.new) }
@@ -51,14 +52,14 @@ pub trait ReaderExt: Reader {
         Ok(octet[0])
     }
 
-    /// The number of octets read since the start of the input. It is [`Reader::position`].
+    /// The number of octets read since the start of the input. It equals [`Reader::position`].
     final fn offset(&self) -> Length
         ensures { result ≡ definite_length (Self.state self.now).position }
     {
         self.position()
     }
 
-    /// The number of octets left, up to the end.
+    /// The number of octets left, up to the end in [`Reader::input_len`].
     final fn remaining_len(&self) -> Length
         ensures { result ≡ definite_length
             ((Self.state self.now).end - (Self.state self.now).position) }
@@ -73,8 +74,9 @@ pub trait ReaderExt: Reader {
         self.remaining_len().is_zero()
     }
 
-    /// Leaves a nested part and returns `answer`, the result of reading the part. If `answer` is
-    /// `Ok`, octets left unread in the part are an error.
+    /// Leaves a nested part: restores the reader's end and depth to those in `outer`. Returns
+    /// `answer`, the result of reading the part. If `answer` is `Ok`, octets left unread in the
+    /// part are an error.
     ///
     /// The caller must ensure that the end in `outer` is neither before the position nor after the
     /// end of the input, and that the depth in it is at most 64. What [`Reader::enter_nested`]
@@ -82,10 +84,11 @@ pub trait ReaderExt: Reader {
     ///
     /// # Errors
     ///
-    /// After each the reader has the end and the depth around the part.
+    /// After each the reader has the end and the depth in `outer`.
     ///
     /// - The error in `answer`, unchanged; the reader does not move.
-    /// - `TrailingData` at the position, if octets are left in the part; the reader is then failed.
+    /// - `TrailingData` at the reader's position, if octets are left in the part; the reader is
+    ///   then failed.
     #[inline(always)]
     final fn close_nested<T: Drop, E: From<Error> + Drop>(
         &mut self,
@@ -119,23 +122,24 @@ pub trait ReaderExt: Reader {
         Ok(value)
     }
 
-    /// Reads a nested part of the next `len` octets by `f`. While `f` runs, the end of this reader
-    /// is the end of the part, and its depth is one greater. Octets of the part that `f` leaves
-    /// unread are an error.
+    /// Calls `f` to read a nested part that consists of the next `len` octets, and returns its
+    /// result. While `f` runs, the end of this reader is the end of the part, and its depth is one
+    /// greater. Octets of the part that `f` leaves unread are an error.
     ///
     /// The caller must ensure two things:
     ///
-    /// - `f` may be called with this reader inside the part, provided that the part does not exceed
-    ///   the end and is nested in fewer than 64 others.
-    /// - `f` leaves this reader with input, rules, end and depth unchanged, at no earlier position,
-    ///   and failed if it had failed before.
+    /// - The requirements of `f` hold for this reader inside the part. The caller may assume that
+    ///   the part does not exceed the end and is nested in fewer than 64 others.
+    /// - `f` leaves the reader's input, rules, end and depth unchanged. It does not move the reader
+    ///   backwards, and a failed reader stays failed.
     ///
     /// # Errors
     ///
     /// - `Overflow`, `Incomplete` and `NestingDepth`, if the part cannot be entered, as by
     ///   [`Reader::enter_nested`].
     /// - The error of `f`; the reader is where `f` left it, with its previous end and depth.
-    /// - `TrailingData` at the position, if `f` leaves octets unread; the reader is then failed.
+    /// - `TrailingData` at the reader's position, if `f` leaves octets unread; the reader is then
+    ///   failed.
     #[inline(always)]
     final fn read_nested<T: Drop, E: From<Error> + Drop, F: FnOnce(&mut Self) -> Result<T, E>>(
         &mut self,
@@ -208,9 +212,9 @@ pub trait ReaderExt: Reader {
     }
 
     /// Scans the next indefinite-length body and returns its number of octets, including its
-    /// end-of-contents octets (X.690 8.1.3.6); the reader does not move. `turns` counts each
-    /// identifier and each end-of-contents in the scan. If [`Reader::remaining`] returns the
-    /// octets, they are scanned by an index, and none is read.
+    /// end-of-contents octets (X.690 8.1.3.6); the reader does not move. `turns`, which exists only
+    /// for proofs, counts each identifier and each end-of-contents in the scan. If
+    /// [`Reader::remaining`] returns the octets, they are scanned by an index, and none is read.
     ///
     /// The caller must ensure that the reader uses the Basic Encoding Rules.
     ///
@@ -251,11 +255,13 @@ pub trait ReaderExt: Reader {
         self.read_slice(len)
     }
 
-    /// Decodes a value by its type's [`Decode::decode`]. After every error the reader is failed.
+    /// Decodes a value by [`Decode::decode`] of its type `T`. After every error the reader is
+    /// failed.
     ///
     /// # Errors
     ///
-    /// - `Failed` at the position, if the reader had already failed; it is unchanged.
+    /// - `Failed` at the reader's position, if the reader had already failed; the reader is
+    ///   unchanged.
     /// - Those of the type, as by [`Decode::decode`]; the reader is where decoding leaves it and
     ///   failed, whatever the error.
     #[inline(always)]
@@ -287,15 +293,15 @@ pub trait ReaderExt: Reader {
         }
     }
 
-    /// Reads a SEQUENCE (X.690 8.9) by `f`, which gets this reader inside the contents. Contents
-    /// octets that `f` leaves unread are an error.
+    /// Reads a SEQUENCE (X.690 8.9). Calls `f` with this reader inside the contents, and returns
+    /// its result. Contents octets that `f` leaves unread are an error.
     ///
     /// The caller must ensure two things, whatever header of a SEQUENCE is next:
     ///
-    /// - `f` may be called with this reader inside the contents, provided that they do not exceed
-    ///   the end and are nested in fewer than 64 parts.
-    /// - `f` leaves this reader with input, rules, end and depth unchanged, at no earlier position,
-    ///   and failed if it had failed before.
+    /// - The requirements of `f` hold for this reader inside the contents. The caller may assume
+    ///   that the contents do not exceed the end and are nested in fewer than 64 parts.
+    /// - `f` leaves the reader's input, rules, end and depth unchanged. It does not move the reader
+    ///   backwards, and a failed reader stays failed.
     ///
     /// # Errors
     ///
@@ -305,7 +311,8 @@ pub trait ReaderExt: Reader {
     /// - `Overflow`, `Incomplete` and `NestingDepth`, if the contents cannot be entered, as by
     ///   [`Reader::enter_nested`]; the reader is after the header.
     /// - The error of `f`; the reader is where `f` left it, with its previous end and depth.
-    /// - `TrailingData` at the position, if `f` leaves octets unread; the reader is then failed.
+    /// - `TrailingData` at the reader's position, if `f` leaves octets unread; the reader is then
+    ///   failed.
     /// - Those of [`read_eoc`](crate::read_eoc), if the length was read in the indefinite form.
     final fn sequence<T: Drop, E: From<Error> + Drop, F: FnOnce(&mut Self) -> Result<T, E>>(
         &mut self,

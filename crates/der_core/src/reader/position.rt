@@ -9,7 +9,7 @@ use std::alloc::AllocError;
 pub(super) const MAX_DEPTH: u8 = 64;
 
 /// A position in an input, the end up to which the input may be read, and the number of nested
-/// parts around the position.
+/// parts that enclose the position.
 #[derive(Debug, Drop)]
 pub struct Position {
     pub(super) end: u32,
@@ -19,7 +19,7 @@ pub struct Position {
     ghost counted: { position < 2 ^ 32 },
 }
 
-/// A clone has the same position, end and depth; cloning allocates nothing.
+/// Cloning copies position, end and depth; it allocates nothing.
 impl Clone for Position {
     ghost use Rattle.std.specs.Prelude.{⊤};
 
@@ -44,7 +44,7 @@ impl Position {
     ghost use Rattle.der_core.specs.Position.{position_place, place_at, Moves, advance_outcome, part_end, part_error, nested_place, split_nested_outcome};
     ghost use Rattle.der_core.specs.Resumption.{outer_place, outer_end, outer_depth};
 
-    /// A position at the start of an input of this length, outside all nested parts.
+    /// A position at the start of an input of `input_len` octets, outside all nested parts.
     pub fn new(input_len: Length) -> Self
         ensures { position_place result ≡ place_at (number input_len) 0 0 }
     {
@@ -55,14 +55,15 @@ impl Position {
         }
     }
 
-    /// The position, in octets from the start.
+    /// The position: the number of octets from the start of the input.
     pub fn current(&self) -> Length
         ensures { result ≡ definite_length (position_place self.now).position }
     {
         Length::new(self.position as u32)
     }
 
-    /// The end up to which the input may be read.
+    /// The end up to which the input may be read. Inside a nested part this is the end of that
+    /// part, otherwise the length of the input.
     pub fn input_len(&self) -> Length
         ensures { result ≡ definite_length (position_place self.now).end }
     {
@@ -77,21 +78,21 @@ impl Position {
         self.input_len().saturating_sub(self.current())
     }
 
-    /// The number of nested parts around the position.
+    /// The number of nested parts that enclose the position.
     pub fn depth(&self) -> u8
         ensures { result ≡ (position_place self.now).depth }
     {
         self.depth
     }
 
-    /// The error of this kind at the position.
+    /// An error of the kind `kind` at this position.
     pub fn error(&self, kind: ErrorKind) -> Error
         ensures { result ≡ error_at kind (definite_length (position_place self.now).position) }
     {
         kind.at(self.current())
     }
 
-    /// Advances by this many octets and returns the new position.
+    /// Advances by `amount` octets and returns the new position.
     ///
     /// # Errors
     ///
@@ -121,7 +122,8 @@ impl Position {
         missing_octets(self.position, count, self.end)
     }
 
-    /// Enters a nested part of `len` octets and returns the end and the depth around it.
+    /// Enters a nested part that consists of the next `len` octets. Returns the end and the depth
+    /// from before the call, for [`Position::resume_nested`].
     ///
     /// # Errors
     ///
@@ -183,7 +185,7 @@ impl Position {
         around
     }
 
-    /// Leaves a nested part: restores the end and the depth around it, which are in `resumption`.
+    /// Leaves a nested part: restores the end and the depth to those in `resumption`.
     pub fn resume_nested(&mut self, resumption: Resumption)
         ensures { position_place self.new ≡ place_at (outer_end resumption)
             (position_place self.old).position
@@ -211,7 +213,8 @@ pub(crate) fn missing_octets(position: usize, count: u32, end: u32) -> Error
     kind.at(Length::new(position as u32))
 }
 
-/// The end and the depth around a nested part. They are restored when the part is left.
+/// The end and the depth that a reader had before it entered a nested part. They are restored when
+/// the part is left.
 #[derive(Debug, Drop)]
 pub struct Resumption {
     end: u32,
@@ -222,8 +225,9 @@ impl Resumption {
     ghost use Rattle.der_base.specs.Length.{number, definite_length};
     ghost use Rattle.der_core.specs.Resumption.{outer_end, outer_depth};
 
-    /// Makes a `Resumption` from the end and the depth around a nested part, for readers that keep
-    /// end and depth themselves.
+    /// Makes a `Resumption` from the end `input_len` and the depth `depth` that a reader had before
+    /// it entered a nested part. It is for readers that keep end and depth themselves, without a
+    /// [`Position`].
     pub fn new(input_len: Length, depth: u8) -> Self
         ensures end { outer_end result ≡ number input_len }
         ensures depth { outer_depth result ≡ depth }
@@ -234,14 +238,14 @@ impl Resumption {
         }
     }
 
-    /// The end up to which the input may be read around the nested part.
+    /// The end up to which the input may be read after the nested part is left.
     pub fn input_len(&self) -> Length
         ensures { result ≡ definite_length (outer_end self.now) }
     {
         Length::new(self.end)
     }
 
-    /// The number of nested parts around the nested part.
+    /// The number of nested parts that enclose this one.
     pub fn depth(&self) -> u8
         ensures { result ≡ outer_depth self.now }
     {

@@ -41,7 +41,7 @@ impl<'a> SliceReader<'a> {
     ghost use Rattle.der_core.specs.ReaderState.{initial_state, reader_position, state_after};
     ghost use Rattle.der_core.specs.SliceReader.{slice_state};
 
-    /// A reader at the start of these octets, under the Distinguished Encoding Rules.
+    /// A reader at the start of `bytes`, under the Distinguished Encoding Rules.
     ///
     /// # Errors
     ///
@@ -54,7 +54,7 @@ impl<'a> SliceReader<'a> {
         Self::new_with_encoding_rules(bytes, EncodingRules::Der)
     }
 
-    /// A reader at the start of these octets, under the given rules.
+    /// A reader at the start of `bytes`, under the given encoding rules.
     ///
     /// # Errors
     ///
@@ -99,7 +99,7 @@ impl<'a> SliceReader<'a> {
 }
 
 /// A reliable reader: it fails exactly as [`Reader`] specifies, keeps a failed state, and returns
-/// slices, so it never fails with `Reader`.
+/// slices, so it never fails with the error kind `Reader`.
 impl<'a> Reader for SliceReader<'a> {
     ghost use Rattle.std.proofs.Common.{rules};
     ghost use Rattle.der_core.specs.SliceReader.{slice_state};

@@ -17,7 +17,7 @@ use der_base::{Error, ErrorKind, Length};
 ///
 /// # Errors
 ///
-/// - `Failed` at the position, if the reader had already failed; it is unchanged.
+/// - `Failed` at the reader's position, if the reader had already failed; the reader is unchanged.
 /// - `IndefiniteLength` at the position after the first nonzero octet; the reader is there and
 ///   failed.
 /// - `Overflow` without a position, if an octet is missing at position 4294967295; the reader is
@@ -48,9 +48,10 @@ pub(crate) fn read_zero_octet<R: Reader>(reader: &mut R) -> Result<(), Error>
     Ok(())
 }
 
-/// Leaves the contents of an element and returns `answer`, the result of reading them. If `answer`
-/// is `Ok`, contents octets left unread are an error. If `length` was read in the indefinite form,
-/// the end-of-contents octets are then read.
+/// Leaves the contents of an element: restores the reader's end and depth to those in `outer`.
+/// Returns `answer`, the result of reading the contents. If `answer` is `Ok`, contents octets left
+/// unread are an error. If `length` was read in the indefinite form, the end-of-contents octets are
+/// then read.
 ///
 /// The caller must ensure that the end in `outer` is neither before the position nor after the end
 /// of the input, and that the depth in it is at most 64. What [`Reader::enter_nested`] returned
@@ -58,10 +59,11 @@ pub(crate) fn read_zero_octet<R: Reader>(reader: &mut R) -> Result<(), Error>
 ///
 /// # Errors
 ///
-/// After each the reader has the end and the depth around the contents.
+/// After each the reader has the end and the depth in `outer`.
 ///
 /// - The error in `answer`, unchanged; the reader does not move.
-/// - `TrailingData` at the position, if octets are left in the contents; the reader is then failed.
+/// - `TrailingData` at the reader's position, if octets are left in the contents; the reader is
+///   then failed.
 /// - `Failed`, `IndefiniteLength`, `Incomplete` and `Overflow` of the end-of-contents octets, as by
 ///   [`read_eoc`].
 #[inline(always)]
@@ -86,23 +88,25 @@ pub fn close_value<R: Reader, T: Drop, E: From<Error> + Drop>(
     Ok(value)
 }
 
-/// Reads the contents after a header by `f`. It gets the reader inside the contents, and the header
-/// with the length of the contents alone. Contents octets that `f` leaves unread are an error. If
-/// the length was read in the indefinite form, the end-of-contents octets are then read.
+/// Reads the contents after `header`. Calls `f` with the reader inside the contents, and with a
+/// copy of `header` whose length does not count end-of-contents octets. Returns the result of `f`.
+/// Contents octets that `f` leaves unread are an error. If the length was read in the indefinite
+/// form, the end-of-contents octets are then read.
 ///
 /// The caller must ensure two things:
 ///
-/// - `f` may be called with this reader inside the contents and with that header, provided that the
-///   contents do not exceed the end and are nested in fewer than 64 parts.
-/// - `f` leaves this reader with input, rules, end and depth unchanged, at no earlier position, and
-///   failed if it had failed before.
+/// - The requirements of `f` hold for this reader inside the contents and that header. The caller
+///   may assume that the contents do not exceed the end and are nested in fewer than 64 parts.
+/// - `f` leaves the reader's input, rules, end and depth unchanged. It does not move the reader
+///   backwards, and a failed reader stays failed.
 ///
 /// # Errors
 ///
 /// - `Overflow`, `Incomplete` and `NestingDepth`, if the contents cannot be entered, as by
 ///   [`Reader::enter_nested`].
 /// - The error of `f`; the reader is where `f` left it, with its previous end and depth.
-/// - `TrailingData` at the position, if `f` leaves octets unread; the reader is then failed.
+/// - `TrailingData` at the reader's position, if `f` leaves octets unread; the reader is then
+///   failed.
 /// - `Failed`, `IndefiniteLength`, `Incomplete` and `Overflow` of the end-of-contents octets, as by
 ///   [`read_eoc`].
 #[inline(always)]

@@ -7,15 +7,15 @@ use der_base::Tag;
 
 /// Types whose values all have the same tag.
 ///
-/// Ghost member: `tag_is` is that tag.
+/// Ghost member (for proofs only): `tag_is` is that tag.
 pub trait FixedTag {
     ghost tag_is: { ATag };
 
     /// The tag of every value of the type.
     const TAG: Tag;
 
-    /// Returns `Self::TAG`, the tag of every value, for generic code. No clause can name the
-    /// constant, so the implementation is responsible for returning it.
+    /// Returns `Self::TAG`, the tag of every value. Generic code calls this, because it cannot name
+    /// the constant in a contract. The implementor must ensure that the result is `Self::TAG`.
     fn fixed_tag() -> Tag
         ensures { result ≡ tag_is };
 }
@@ -33,7 +33,7 @@ impl<T: FixedTag> FixedTag for Box<T> {
 
 /// Types whose values each have a tag.
 ///
-/// Ghost member: `tag_of` is the tag of a value.
+/// Ghost member (for proofs only): `tag_of` is the tag of a value.
 pub trait Tagged {
     ghost tag_of: { Self → ATag };
 
@@ -52,15 +52,16 @@ impl<T: FixedTag> Tagged for T {
 
 /// Types whose tag determines whether their contents are constructed.
 ///
-/// Ghost member: `constructed` says whether the tag has the constructed bit.
+/// Ghost member (for proofs only): `constructed` says whether the tag has the constructed bit.
 pub trait IsConstructed {
     ghost constructed: { Bool };
 
     /// Whether the tag has the constructed bit.
     const CONSTRUCTED: bool;
 
-    /// Returns `Self::CONSTRUCTED`, whether the tag has the constructed bit, for generic code. No
-    /// clause can name the constant, so the implementation is responsible for returning it.
+    /// Returns `Self::CONSTRUCTED`: whether the tag has the constructed bit. Generic code calls
+    /// this, because it cannot name the constant in a contract. The implementor must ensure that
+    /// the result is `Self::CONSTRUCTED`.
     fn has_constructed_bit() -> bool
         ensures { result ≡ constructed };
 }

@@ -10,7 +10,7 @@ use crate::reader::{Reader, ReaderExt};
 use crate::tag::decode_with_constructed_bit;
 use der_base::{Class, Error, Tag, TagNumber};
 
-/// Functions of the type `Tag` that take a reader; no other type has them.
+/// Functions of the type `Tag` that take a reader. Only `Tag` implements this trait.
 pub trait TagPeek: Sized {
     /// The next tag, decoded without moving the reader.
     ///
@@ -20,8 +20,8 @@ pub trait TagPeek: Sized {
     /// [`Tag::decode`](crate::Decode::decode) and with the same positions; the reader is unchanged.
     fn peek<R: Reader>(reader: &R) -> Result<Self, Error>;
 
-    /// Whether the next tag has this class and number; false if no octets are left, even on a
-    /// failed reader. The reader does not move.
+    /// Whether the next tag has the given class and number. If no octets are left, returns
+    /// `Ok(false)`, even on a failed reader. The reader does not move.
     ///
     /// # Errors
     ///

@@ -12,8 +12,8 @@ use crate::header::Header;
 use crate::writer::Writer;
 use der_base::{Error, ErrorKind, Length, Tag};
 
-/// A writer into a slice. Allocates nothing and writes at most 4294967295 octets. The slice after
-/// the written octets is unchanged.
+/// A writer into a slice. Allocates nothing and writes at most 4294967295 octets. The octets of the
+/// slice after those written are unchanged.
 ///
 /// After an error the writer is failed, and every further write fails.
 #[derive(Debug, Drop)]
@@ -38,7 +38,7 @@ impl<'a> SliceWriter<'a> {
     ghost use Rattle.der_core.specs.SliceWriter.{slice_writer_state};
     ghost use Rattle.der_core.specs.WrittenSequence.{RestoresWriter, ClosesPart, Fills, RunsIfSpace, PartAnswer, SequenceAnswer, headed_state, part_state, outer_state};
 
-    /// A writer at the start of these octets.
+    /// A writer into `bytes`, at their start.
     pub fn new(bytes: &'a mut [u8]) -> Self
         ensures { slice_writer_state result ≡ fresh_state bytes.old bytes.entry.ghost_name }
     {
@@ -66,11 +66,12 @@ impl<'a> SliceWriter<'a> {
         Length::new(self.position)
     }
 
-    /// Returns the error of this kind at the position, as an `Err`.
+    /// Returns an error of the kind `kind` at the writer's position, as an `Err`. The writer is
+    /// then failed.
     ///
     /// # Errors
     ///
-    /// - This kind at the position, always; the writer is then failed.
+    /// - `kind` at the writer's position, always.
     pub fn error<T>(&mut self, kind: ErrorKind) -> Result<T, Error>
         ensures at_position { result ≡ Err
             (error_at kind (writer_position (slice_writer_state self.old))) }
@@ -84,7 +85,7 @@ impl<'a> SliceWriter<'a> {
     ///
     /// # Errors
     ///
-    /// - `Failed` at the position, if the writer had already failed.
+    /// - `Failed` at the writer's position, if the writer had already failed.
     pub fn finish(self) -> Result<&'a [u8], Error>
         ensures { map_ok (λ r. r.now) result ≡ finished_answer (slice_writer_state self.entry) }
     {
@@ -100,9 +101,10 @@ impl<'a> SliceWriter<'a> {
     ///
     /// # Errors
     ///
-    /// - `Failed` at the position, if the writer had already failed; it is unchanged.
-    /// - Those of the value's [`Encode::encode`], with the error's position, or the writer's if it
-    ///   has none; octets written earlier remain, and the writer is then failed.
+    /// - `Failed` at the writer's position, if the writer had already failed; the writer is
+    ///   unchanged.
+    /// - Those of [`Encode::encode`] of `value`. An error without a position gets the position of
+    ///   the writer; octets written earlier remain, and the writer is then failed.
     #[inline(always)]
     pub fn encode<T: Encode>(&mut self, value: &T) -> Result<(), Error>
         ensures kept { Keeps (slice_writer_state self.old) (slice_writer_state self.new) }
@@ -126,21 +128,22 @@ impl<'a> SliceWriter<'a> {
     }
 
     /// Writes the header of a SEQUENCE (X.690 8.9) and lets `f` write its contents. `f` gets this
-    /// writer limited to the next `len` octets, at position 0 and not failed. Afterwards the writer
-    /// has its previous limits again, whatever `f` returned.
+    /// writer limited to the next `len` octets, with position 0 at the first of them, and not
+    /// failed. Afterwards the writer has its previous limits again, whatever `f` returned.
     ///
     /// The caller must ensure two things for every writer that is limited to those octets:
     ///
-    /// - `f` may be called with the writer.
-    /// - `f` leaves the writer with the same slice and limits, the same octets before its start,
-    ///   the slice after the written octets unchanged, and failed if it had failed before.
+    /// - The requirements of `f` hold for that writer.
+    /// - `f` leaves unchanged the slice and the limits of that writer, the octets before its start,
+    ///   and the octets of the slice after those written. A failed writer stays failed.
     ///
     /// # Errors
     ///
     /// After each the writer is failed; if `f` was called, the position is after the contents. If
     /// several apply, the first is returned.
     ///
-    /// - `Failed` at the position, if the writer had already failed; it is unchanged.
+    /// - `Failed` at the writer's position, if the writer had already failed; the writer is
+    ///   unchanged.
     /// - `Overflow` at the position of the write, if the header, or the contents after it, would
     ///   exceed 4294967295.
     /// - `Overlength` at the requested end, if there is no space for the header, or for the
@@ -268,7 +271,7 @@ impl<'a> SliceWriter<'a> {
     }
 }
 
-/// A reliable writer: it fails exactly as [`Writer::write`] specifies.
+/// A reliable writer (see [`Writer`]): it fails exactly as [`Writer::write`] specifies.
 impl<'a> Writer for SliceWriter<'a> {
     ghost use Rattle.der_core.specs.SliceWriter.{slice_writer_state};
 

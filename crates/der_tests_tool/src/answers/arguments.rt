@@ -6,8 +6,8 @@ use std::env::FillError;
 use std::rt::Env;
 use std::{env, io};
 
-/// An environment with these arguments and without variables. Arguments are octets, which need not
-/// be text.
+/// An environment of a process, with these arguments and without variables. Arguments are octets,
+/// which need not be text.
 #[derive(Drop)]
 struct Fixed<'a>(&'a [&'a [u8]]);
 

@@ -2,9 +2,9 @@
 use super::{USAGE, replay};
 use std::test::Fail;
 
-/// The indefinite-length contents of a SEQUENCE in an encrypted message: 66 octets with the
-/// end-of-contents octets. They hold the content type, the cipher, and the encrypted octets, which
-/// are in indefinite-length contents themselves.
+/// The indefinite-length contents of a SEQUENCE in an encrypted message, in hexadecimal: 66 octets,
+/// end-of-contents octets included. They hold the content type, the cipher, and the encrypted
+/// octets, which are in indefinite-length contents themselves.
 const MESSAGE_BODY: &str =
     "06092a864886f70d010701301d060960864801650304012a041037343df1470df625eeb6\
     f4bfd2f1acc3a0800410cc74adf65d973c8b72cd51e1b927f0f000000000";

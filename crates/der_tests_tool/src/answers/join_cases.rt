@@ -2,8 +2,8 @@
 //! definitions, which was compared with the Rust crate `der` 0.8.3 on 131 million inputs, except
 //! for segments inside a segment, which that crate does not join.
 
-/// Each row has the words with a blank between each two, the expected status, and the expected
-/// text.
+/// Samples of the command `join`. Each row has the words of a command line, separated by single
+/// blanks, the expected exit status, and the expected text.
 pub const JOIN_CASES: [(&str, u8, &str); 67] = [
     (
         "join 0484FFFFFFF9",

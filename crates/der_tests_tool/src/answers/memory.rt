@@ -7,9 +7,10 @@ use std::test::Fail;
 
 const REFUSED: &str = "error: out of memory\n";
 
-/// Runs the words of the line on heaps of growing sizes, so that the first allocation fails, then
-/// the next, and at last none. Each output must be that of a failed allocation, or the complete
-/// text. Returns how many outputs were those of a failed allocation.
+/// Runs the command of `line` on heaps of growing sizes, so that first the first allocation fails,
+/// then the next one, and at last none. Each run must print `text` with the exit status `status`,
+/// or the line of a failed allocation with the status 1. Returns how many runs printed the line of
+/// a failed allocation.
 fn refuse_in_turn(
     rt: &(impl Abort + AllocGlobal),
     line: &str,

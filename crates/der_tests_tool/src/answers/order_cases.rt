@@ -2,8 +2,8 @@
 //! definitions, which was compared with the Rust crate `der` 0.8.3 on 131 million inputs.
 use super::USAGE;
 
-/// Each row has the words with a blank between each two, the expected status, and the expected
-/// text.
+/// Samples of the command `order`. Each row has the words of a command line, separated by single
+/// blanks, the expected exit status, and the expected text.
 pub const ORDER_CASES: [(&str, u8, &str); 35] = [
     (
         "order 021c5c0a71282393631c12c28846d09d496fc530cb91ca102169c1e96153 \

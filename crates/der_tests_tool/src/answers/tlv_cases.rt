@@ -2,8 +2,8 @@
 //! definitions, which was compared with the Rust crate `der` 0.8.3 on 131 million inputs.
 use super::USAGE;
 
-/// Each row has the words with a blank between each two, the expected status, and the expected
-/// text.
+/// Samples of the command `tlv`. Each row has the words of a command line, separated by single
+/// blanks, the expected exit status, and the expected text.
 pub const TLV_CASES: [(&str, u8, &str); 55] = [
     ("tlv 3100", 0, "3100\n"),
     (

@@ -43,7 +43,8 @@ const ROWS: [(&str, u8, &str); 13] = [
     ("order --ber 3000 3000", 2, USAGE),
 ];
 
-/// A writer that accepts one octet per call, and fails once the number of `calls` is used up.
+/// A writer that accepts one octet per call of `write`. After `calls` calls, each further call
+/// fails.
 #[derive(Drop)]
 struct Choppy {
     taken: Vec<u8>,
@@ -66,7 +67,7 @@ impl io::Write for Choppy {
     }
 }
 
-/// A writer whose flush fails. It accepts all octets if `takes` is true, and otherwise none.
+/// A writer whose `flush` fails. `write` accepts all octets if `takes` is true, and otherwise none.
 #[derive(Drop)]
 struct Broken {
     takes: bool,
@@ -118,7 +119,7 @@ fn a_writer_that_takes_nothing_or_keeps_it_is_status_1(rt: HostRuntime) -> Resul
     Ok(())
 }
 
-/// An output that counts the octets it gets, and never fails.
+/// An output that counts the octets it gets, and never fails. The field is the count.
 #[derive(Drop)]
 pub struct Tally(pub usize);
 

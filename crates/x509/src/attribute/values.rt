@@ -114,7 +114,7 @@ impl<'a> WrittenValue for AttributeValues<'a> {
 ///
 /// # Errors
 ///
-/// - `Overflow` if there are more than 4294967295 octets.
+/// - `Overflow` if the contents have more than 4294967295 octets.
 /// - The writer's errors, as by [`Writer::write`].
 impl<'a> EncodeValue for AttributeValues<'a> {
     ghost value_size = { λ v. contents_size v.octets.now };

@@ -15,10 +15,10 @@ use der_asn1::{Described, Implicit};
 use spki::SubjectPublicKeyInfoRef;
 use std::alloc::Global;
 
-/// The contents of a certification request, which its signature covers.
+/// The part of a certification request that its signature covers.
 #[derive(Drop)]
 pub struct CertReqInfo<'a> {
-    /// The version.
+    /// The version of the request. Only version 1 is accepted.
     pub version: CertReqVersion<'a>,
     /// The subject of the requested certificate.
     pub subject: Name<'a>,
@@ -28,7 +28,7 @@ pub struct CertReqInfo<'a> {
     pub attributes: Implicit<Attributes<'a>, 0>,
 }
 
-/// The fields of a [`CertReqInfo`], in sequence.
+/// The fields of a [`CertReqInfo`] as nested pairs, in the order in which they are encoded.
 pub type CertReqInfoFields<'a> = (
     (CertReqVersion<'a>, Name<'a>),
     (SubjectPublicKeyInfoRef<'a>, Implicit<Attributes<'a>, 0>),
@@ -115,7 +115,7 @@ impl<'a> WrittenValue for CertReqInfo<'a> {
 ///
 /// # Errors
 ///
-/// - Those of the fields, in sequence.
+/// - The error of the first field that fails.
 /// - `Overflow` without a position from [`EncodeValue::value_len`], if the fields together have
 ///   more than 4294967295 octets.
 impl<'a> EncodeValue for CertReqInfo<'a> {

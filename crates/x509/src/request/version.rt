@@ -7,7 +7,8 @@ ghost use Rattle.x509.specs.CertificateVersion.{is_request_version};
 use der::{FixedTag, Tag};
 use der_asn1::{Checked, ContentsGrammar};
 
-/// The grammar of the contents of a [`CertReqVersion`]: one octet, 0 for version 1.
+/// The grammar of the contents of a [`CertReqVersion`]: one octet, which is 0 for version 1. No
+/// other version is accepted.
 pub struct CertReqVersionGrammar;
 
 /// The version of a request, borrowed from the input.

@@ -17,9 +17,10 @@ use der_core::{Header, Reader};
 use std::alloc::Global;
 
 impl BytesOwned {
-    /// Decodes contents into an owned byte string. After a primitive header it copies the contents.
-    /// After a constructed header, under the Basic Encoding Rules, the contents are segments with
-    /// the tag `inner_tag`; it joins them (X.690 8.7.3). A segment may itself consist of segments.
+    /// Decodes the contents after `header` into an owned byte string. If `header` is primitive,
+    /// copies the contents. If `header` is constructed and the rules are the Basic Encoding Rules,
+    /// the contents are segments with the tag `inner_tag`, and this function joins the segments
+    /// (X.690 8.7.3). A segment may itself consist of segments.
     ///
     /// # Errors
     ///

@@ -30,8 +30,8 @@ impl<'a> ReadValue for BytesRef<'a> {
 ///
 /// # Errors
 ///
-/// `Failed`, `Overflow` and `Incomplete`, as by [`Reader::read_slice`]; `Reader` if the reader
-/// cannot return slices.
+/// - `Failed`, `Overflow` and `Incomplete`, as by [`Reader::read_slice`].
+/// - The error `Reader`, if the reader cannot return slices.
 impl<'a, R: Reader<Borrowed = &'a [u8]>> DecodeValue<R> for BytesRef<'a> {
     type Error = Error;
 
@@ -80,7 +80,7 @@ impl<'a> EncodeValue for BytesRef<'a> {
     }
 }
 
-/// Compares the octets in lexicographic order, without a header. Never fails.
+/// Compares only the octets, not a header, in lexicographic order. Never fails.
 impl<'a> DerOrd for BytesRef<'a> {
     ghost order = { octets_order reference_octets };
 

@@ -28,10 +28,10 @@ impl ReadValue for StringOwned {
 ///
 /// # Errors
 ///
-/// - `Failed`, `Overflow` and `Incomplete`, as by [`Reader::read_slice`]; `Reader` if the reader
-///   cannot return slices.
-/// - `Utf8` without a position, if the contents are not UTF-8; the reader is after them and has not
-///   failed.
+/// - `Failed`, `Overflow` and `Incomplete`, as by [`Reader::read_slice`].
+/// - The error `Reader`, if the reader cannot return slices.
+/// - `Utf8` without a position, if the contents are not UTF-8; the reader is after the contents and
+///   has not failed.
 /// - `OutOfMemory` without a position, if allocation fails; the reader is after the contents and
 ///   has not failed.
 impl<R: Reader> DecodeValue<R> for StringOwned {

@@ -7,13 +7,14 @@ use crate::ord::DerOrd;
 use der_base::Error;
 use std::cmp::Ordering;
 
-/// Compares the values that two iterators return, pair by pair. The first pair that is unequal or
-/// returns an error decides. If there is none, the iterator that ends first is the smaller. Only
-/// the iterators may allocate.
+/// Compares the values that `a` and `b` return, pair by pair. The first pair that is unequal or
+/// whose comparison fails decides. If there is none, the iterator that ends first is the smaller;
+/// if both end at once, they are equal. Only the iterators may allocate.
 ///
 /// # Errors
 ///
-/// - Those of [`DerOrd::der_cmp`], of the first pair that returns one.
+/// - The error of [`DerOrd::der_cmp`] of the first pair whose comparison fails, if all earlier
+///   pairs are equal.
 pub fn iter_cmp_owned<A, B, T>(mut a: A, mut b: B) -> Result<Ordering, Error>
 where
     A: Iterator<Item = T>,
