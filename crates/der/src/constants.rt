@@ -5,7 +5,7 @@ ghost use Rattle.der.specs.BytesRef.{reference_octets};
 
 use crate::bytes::BytesRef;
 
-/// States that `BytesRef::EMPTY` has no octets.
+/// Returns the constant; the contract states that `BytesRef::EMPTY` has no octets.
 fn empty() -> BytesRef<'static>
     ensures { reference_octets result ≡ [] }
 {

@@ -6,21 +6,22 @@ ghost use Rattle.der_asn1.specs.Times.{time_order};
 use crate::date_time::DateTime;
 use std::cmp::Ordering;
 
-/// States that equal times have the same date and the same time of day.
+/// Calls `==`; the contract states that equal times have the same date and the same time of day.
 fn date_time_equality(a: DateTime, b: DateTime) -> bool
     ensures { IsTrue result ↔ (a ≡ b) }
 {
     a == b
 }
 
-/// States that the earlier time is less.
+/// Calls `Ord::cmp`; the contract states that the earlier time is less.
 fn date_time_ordering(a: DateTime, b: DateTime) -> Ordering
     ensures { result ≡ time_order a b }
 {
     a.cmp(&b)
 }
 
-/// States that any two times can be compared, and that the earlier time is less.
+/// Calls `PartialOrd::partial_cmp`; the contract states that any two times can be compared, and
+/// that the earlier time is less.
 fn date_time_partial_ordering(a: DateTime, b: DateTime) -> Option<Ordering>
     ensures { result ≡ Some (time_order a b) }
 {

@@ -13,11 +13,11 @@ use der::{
 };
 use std::alloc::Global;
 
-/// Types whose elements may be the contents of another element. A reader allows 64 levels of
-/// nesting. The outer element and the element of the value need one level each, so under DER the
-/// contents of the value may need at most 62.
+/// Types whose elements may be the contents of another element, as EXPLICIT tagging makes them. A
+/// reader allows 64 levels of nesting; the two elements take one each, so the contents of the value
+/// may nest at most 62 levels deep under DER.
 ///
-/// Ghost member (for proofs only): `nestable` proves that they need at most 62.
+/// Ghost member (for proofs only): `nestable` proves that the contents nest at most 62 levels deep.
 pub trait Nestable: ReadValue {
     // A value needs at most 62 levels of nesting: the element around it leaves 63, and the value's
     // own element needs one.

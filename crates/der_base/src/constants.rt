@@ -11,74 +11,78 @@ use crate::tag::{
     CLASS_APPLICATION, CLASS_CONTEXT_SPECIFIC, CLASS_PRIVATE, CLASS_UNIVERSAL, TagMode,
 };
 
-/// States that [`Length::ZERO`] is a definite length of zero octets.
+/// Returns the constant; the contract states that [`Length::ZERO`] is a definite length of zero
+/// octets.
 fn zero() -> Length
     ensures { result ≡ definite_length 0 }
 {
     Length::ZERO
 }
 
-/// States that [`Length::ONE`] is a definite length of one octet.
+/// Returns the constant; the contract states that [`Length::ONE`] is a definite length of one
+/// octet.
 fn one() -> Length
     ensures { result ≡ definite_length 1 }
 {
     Length::ONE
 }
 
-/// States that [`Length::MAX`] is the greatest definite length, 4294967295 octets.
+/// Returns the constant; the contract states that [`Length::MAX`] is the greatest definite length,
+/// 4294967295 octets.
 fn max() -> Length
     ensures { result ≡ definite_length 4294967295 }
 {
     Length::MAX
 }
 
-/// States that [`CLASS_UNIVERSAL`] is `0x00`: in an identifier octet of class UNIVERSAL bits 8 and
-/// 7 are both 0 (X.690 8.1.2.2, table 1).
+/// Returns the constant; the contract states that [`CLASS_UNIVERSAL`] is `0x00`: in an identifier
+/// octet of class UNIVERSAL bits 8 and 7 are both 0 (X.690 8.1.2.2, table 1).
 fn class_universal() -> u8
     ensures { result ≡ 0x00 }
 {
     CLASS_UNIVERSAL
 }
 
-/// States that [`CLASS_APPLICATION`] is `0x40`: in an identifier octet of class APPLICATION bit 8
-/// is 0 and bit 7 is 1 (X.690 8.1.2.2, table 1).
+/// Returns the constant; the contract states that [`CLASS_APPLICATION`] is `0x40`: in an identifier
+/// octet of class APPLICATION bit 8 is 0 and bit 7 is 1 (X.690 8.1.2.2, table 1).
 fn class_application() -> u8
     ensures { result ≡ 0x40 }
 {
     CLASS_APPLICATION
 }
 
-/// States that [`CLASS_CONTEXT_SPECIFIC`] is `0x80`: in an identifier octet of class
-/// CONTEXT-SPECIFIC bit 8 is 1 and bit 7 is 0 (X.690 8.1.2.2, table 1).
+/// Returns the constant; the contract states that [`CLASS_CONTEXT_SPECIFIC`] is `0x80`: in an
+/// identifier octet of class CONTEXT-SPECIFIC bit 8 is 1 and bit 7 is 0 (X.690 8.1.2.2, table 1).
 fn class_context_specific() -> u8
     ensures { result ≡ 0x80 }
 {
     CLASS_CONTEXT_SPECIFIC
 }
 
-/// States that [`CLASS_PRIVATE`] is `0xC0`: in an identifier octet of class PRIVATE bits 8 and 7
-/// are both 1 (X.690 8.1.2.2, table 1).
+/// Returns the constant; the contract states that [`CLASS_PRIVATE`] is `0xC0`: in an identifier
+/// octet of class PRIVATE bits 8 and 7 are both 1 (X.690 8.1.2.2, table 1).
 fn class_private() -> u8
     ensures { result ≡ 0xC0 }
 {
     CLASS_PRIVATE
 }
 
-/// States that the default [`Length`] is the definite length 0.
+/// Returns the constant; the contract states that the default [`Length`] is the definite length 0.
 fn default_length() -> Length
     ensures { result ≡ definite_length 0 }
 {
     Length::default()
 }
 
-/// States that the default [`TagMode`] is explicit tagging.
+/// Returns the constant; the contract states that the default [`TagMode`] is explicit tagging.
 fn default_mode() -> TagMode
     ensures { result ≡ Explicit }
 {
     TagMode::default()
 }
 
-/// States that the default [`EncodingRules`] are the Distinguished Encoding Rules.
+/// Returns the constant; the contract states that the default [`EncodingRules`] are the
+/// Distinguished Encoding Rules.
 fn default_rules() -> EncodingRules
     ensures { result ≡ Der }
 {

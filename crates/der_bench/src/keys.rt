@@ -34,9 +34,10 @@ fn key_of<'a>(wanted: &WantedKey, borrowed: &'a [u8]) -> Option<KeyInfo<'a>> {
     })
 }
 
-/// Computes the length of the encoding of each key in `wanted`, until all are done or there is an
-/// error. Returns the number of keys in `elements` and the sum of the lengths in `contents`. The
-/// algorithm and the key octets of each key are the first octets of `borrowed`.
+/// Computes the length of the encoding of each key in `wanted`, and stops at the first error. The
+/// octets of the algorithm and those of the key both start at the front of `borrowed`; `WantedKey`
+/// has their numbers. In the result, [`Totals::elements`] is the number of keys, and
+/// [`Totals::contents`] the sum of their lengths.
 #[unsafe(no_mangle)]
 pub extern "C" fn der_bench_count_keys(wanted: &[WantedKey], borrowed: &[u8]) -> Totals {
     let mut totals = Totals::none();

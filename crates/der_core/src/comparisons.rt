@@ -16,22 +16,24 @@ use der_base::Error;
 use std::alloc::AllocError;
 use std::cmp::Ordering;
 
-/// States that two headers are equal exactly if their tags, lengths and constructed bits are equal.
+/// Calls `==`; the contract states that two headers are equal exactly if their tags, lengths and
+/// constructed bits are equal.
 fn header_equality(a: Header, b: Header) -> bool
     ensures { IsTrue result ↔ (head_of a ≡ head_of b) }
 {
     a == b
 }
 
-/// States that a clone of a header equals the original, and that cloning allocates nothing.
+/// Calls `Clone::clone`; the contract states that a clone of a header equals the original, and that
+/// cloning allocates nothing.
 fn header_clone(header: &Header) -> Result<Header, AllocError>
     ensures { result ≡ Ok header.now }
 {
     header.clone()
 }
 
-/// States that a clone has the same position, end and depth as the original, and that cloning
-/// allocates nothing.
+/// Calls `Clone::clone`; the contract states that a clone has the same position, end and depth as
+/// the original, and that cloning allocates nothing.
 fn position_clone(position: &Position) -> Result<Position, AllocError>
     ensures { IsOkAnd result (λ p. position_place p ≡ position_place position.now) }
 {

@@ -43,7 +43,8 @@ pub type PrivateKeyInfoFields<'a> = (
 );
 
 impl<'a> FromFields<PrivateKeyInfoFields<'a>> for PrivateKeyInfo<'a> {
-    ghost fields = { λ v. ((v.version, v.private_key_algorithm), ((v.private_key, v.attributes), v.public_key)) };
+    ghost fields = { λ v.
+        ((v.version, v.private_key_algorithm), ((v.private_key, v.attributes), v.public_key)) };
 
     fn from_fields(members: PrivateKeyInfoFields<'a>) -> Self {
         let ((version, private_key_algorithm), ((private_key, attributes), public_key)) = members;

@@ -74,7 +74,8 @@ impl<'a, R: Reader<Borrowed = &'a [u8]>> DecodeValue<R> for AlgorithmIdentifierR
 
     ghost decode_value_answers = { λ h s result t.
         ⟦<AlgorithmIdentifierFields<'a> as Decode<SliceReader<'a>>>⟧.decode_answers s
-        (map_ok ⟦<AlgorithmIdentifierRef<'a> as FromFields<AlgorithmIdentifierFields<'a>>>⟧.fields result) t };
+        (map_ok ⟦<AlgorithmIdentifierRef<'a> as FromFields<AlgorithmIdentifierFields<'a>>>⟧.fields
+        result) t };
 
     fn decode_value(alloc: Global, reader: &mut R, header: Header) -> Result<Self, Error> {
         decode_sequence::<R, AlgorithmIdentifierFields<'a>, Self>(alloc, reader, header)

@@ -77,7 +77,8 @@ impl<'a, R: Reader<Borrowed = &'a [u8]>> DecodeValue<R> for SubjectPublicKeyInfo
 
     ghost decode_value_answers = { λ h s result t.
         ⟦<SubjectPublicKeyInfoFields<'a> as Decode<SliceReader<'a>>>⟧.decode_answers s
-        (map_ok ⟦<SubjectPublicKeyInfoRef<'a> as FromFields<SubjectPublicKeyInfoFields<'a>>>⟧.fields result) t };
+        (map_ok ⟦<SubjectPublicKeyInfoRef<'a> as FromFields<SubjectPublicKeyInfoFields<'a>>>⟧.fields
+        result) t };
 
     fn decode_value(alloc: Global, reader: &mut R, header: Header) -> Result<Self, Error> {
         decode_sequence::<R, SubjectPublicKeyInfoFields<'a>, Self>(alloc, reader, header)

@@ -73,7 +73,8 @@ impl<'a, R: Reader<Borrowed = &'a [u8]>> DecodeValue<R> for AttributeTypeAndValu
 
     ghost decode_value_answers = { λ h s result t.
         ⟦<AttributeTypeAndValueFields<'a> as Decode<SliceReader<'a>>>⟧.decode_answers s
-        (map_ok ⟦<AttributeTypeAndValue<'a> as FromFields<AttributeTypeAndValueFields<'a>>>⟧.fields result) t };
+        (map_ok ⟦<AttributeTypeAndValue<'a> as FromFields<AttributeTypeAndValueFields<'a>>>⟧.fields
+        result) t };
 
     fn decode_value(alloc: Global, reader: &mut R, header: Header) -> Result<Self, Error> {
         decode_sequence::<R, AttributeTypeAndValueFields<'a>, Self>(alloc, reader, header)

@@ -8,14 +8,16 @@ use crate::bytes::BytesRef;
 use crate::string::StringRef;
 use std::alloc::AllocError;
 
-/// States that cloning succeeds and that the clone has the same octets.
+/// Calls `Clone::clone`; the contract states that cloning succeeds and that the clone has the same
+/// octets.
 fn bytes_ref_clone<'a>(bytes: &BytesRef<'a>) -> Result<BytesRef<'a>, AllocError>
     ensures { map_ok reference_octets result ≡ Ok (reference_octets bytes.now) }
 {
     bytes.clone()
 }
 
-/// States that cloning succeeds and that the clone has the same text.
+/// Calls `Clone::clone`; the contract states that cloning succeeds and that the clone has the same
+/// text.
 fn string_ref_clone<'a>(text: &StringRef<'a>) -> Result<StringRef<'a>, AllocError>
     ensures { map_ok reference_text result ≡ Ok (reference_text text.now) }
 {

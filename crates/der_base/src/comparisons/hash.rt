@@ -8,8 +8,8 @@ use crate::length::Length;
 use crate::tag::{Tag, TagNumber};
 use std::hash::{Hash, Hasher};
 
-/// States that a [`Length`] is hashed in two parts: first its number of octets, then the flag for
-/// the indefinite form.
+/// Calls `Hash::hash`; the contract states that a [`Length`] is hashed in two parts: first its
+/// number of octets, then the flag for the indefinite form.
 fn length_hash<H: Hasher>(length: Length, state: &mut H)
     ensures { state.new
         ≡ fold H.write state.old (fed.u32 (number length) ++ fed.bool (is_indefinite length)) }
@@ -17,9 +17,9 @@ fn length_hash<H: Hasher>(length: Length, state: &mut H)
     length.hash(state);
 }
 
-/// States that equal lengths hash equally: if `a` equals `b`, and `state` and `other` are the same
-/// before, they are the same after. The number of octets and the flag for the indefinite form are
-/// both compared and hashed.
+/// Calls `Hash::hash`; the contract states that equal lengths hash equally: if `a` equals `b`, and
+/// `state` and `other` are the same before, they are the same after. The number of octets and the
+/// flag for the indefinite form are both compared and hashed.
 fn equal_lengths_hash_equally<H: Hasher>(a: Length, b: Length, state: &mut H, other: &mut H) -> bool
     ensures { IsTrue result → state.old ≡ other.old → state.new ≡ other.new }
 {
@@ -28,15 +28,15 @@ fn equal_lengths_hash_equally<H: Hasher>(a: Length, b: Length, state: &mut H, ot
     a == b
 }
 
-/// States that a [`TagNumber`] is hashed as its number, a `u32`.
+/// Calls `Hash::hash`; the contract states that a [`TagNumber`] is hashed as its number, a `u32`.
 fn tag_number_hash<H: Hasher>(number: TagNumber, state: &mut H)
     ensures { state.new ≡ fold H.write state.old (fed.u32 number.0) }
 {
     number.hash(state);
 }
 
-/// States that a [`Tag`] is hashed as the index of its variant in the declaration, followed by its
-/// constructed bit and its number if the variant has these fields.
+/// Calls `Hash::hash`; the contract states that a [`Tag`] is hashed as the index of its variant in
+/// the declaration, followed by its constructed bit and its number if the variant has these fields.
 fn tag_hash<H: Hasher>(tag: Tag, state: &mut H)
     ensures { state.new ≡ fold H.write state.old (tag_writes tag) }
 {
