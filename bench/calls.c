@@ -4,7 +4,7 @@
 #include <string.h>
 
 typedef struct {
-    uint64_t elements, contents, first_octets;
+    uint64_t elements, contents, octet_sum;
 } totals;
 
 /* a header to write, with the layout of written.rs */
@@ -19,7 +19,7 @@ static inline void pass(totals *reported, const uint8_t *contents, size_t length
 {
     reported->elements++;
     reported->contents += length;
-    reported->first_octets += length ? contents[0] : 0;
+    reported->octet_sum += length ? contents[0] : 0;
 }
 
 /* With the library's functions. */
@@ -93,7 +93,7 @@ static bool read_key(der_reader *reader, totals *reported)
         return false;
     reported->elements++;
     reported->contents += algorithm.length + own.length;
-    reported->first_octets += month.contents[0];
+    reported->octet_sum += month.contents[0];
     return true;
 }
 
@@ -295,7 +295,7 @@ totals hand_keys(const uint8_t *octets, size_t length)
             return reported;
         reported.elements++;
         reported.contents += algorithm.end - algorithm.start + own.end - own.start;
-        reported.first_octets += octets[month.start];
+        reported.octet_sum += octets[month.start];
     }
     return reported;
 }

@@ -56,7 +56,7 @@ pub fn pass(totals: &mut Totals, contents: &[u8]) {
     totals.elements = totals.elements.wrapping_add(1);
     totals.contents = totals.contents.wrapping_add(contents.len() as u64);
     let first = contents.first().copied().unwrap_or(0);
-    totals.first_octets = totals.first_octets.wrapping_add(first as u64);
+    totals.octet_sum = totals.octet_sum.wrapping_add(first as u64);
 }
 
 /// The flat walk with the crate `der`.

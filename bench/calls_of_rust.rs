@@ -93,7 +93,7 @@ fn read_key(reader: &mut Reader<'_>, totals: &mut Totals) -> Result<(), Error> {
     {
         totals.elements += 1;
         totals.contents += (algorithm.len() + own.len()) as u64;
-        totals.first_octets += month as u64;
+        totals.octet_sum += month as u64;
     }
     Ok(())
 }

@@ -11,7 +11,7 @@ const ROUNDS: usize = 31;
 pub struct Totals {
     pub elements: u64,
     pub contents: u64,
-    pub first_octets: u64,
+    pub octet_sum: u64,
 }
 
 /// The contents after the next length, and the octets after them.

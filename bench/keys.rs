@@ -28,7 +28,7 @@ pub fn decode_by_hand(bytes: &[u8]) -> Totals {
         totals.elements = totals.elements.wrapping_add(1);
         totals.contents = totals.contents.wrapping_add(algorithm.len() as u64);
         totals.contents = totals.contents.wrapping_add(octets.len() as u64);
-        totals.first_octets = totals.first_octets.wrapping_add(month as u64);
+        totals.octet_sum = totals.octet_sum.wrapping_add(month as u64);
         rest = following;
     }
     totals

@@ -5,7 +5,7 @@
 #include <stdint.h>
 
 typedef struct {
-    uint64_t elements, contents, first_octets;
+    uint64_t elements, contents, octet_sum;
 } totals;
 
 typedef struct {
@@ -17,7 +17,7 @@ static inline void pass(totals *reported, const uint8_t *contents, size_t length
 {
     reported->elements++;
     reported->contents += length;
-    reported->first_octets += length ? contents[0] : 0;
+    reported->octet_sum += length ? contents[0] : 0;
 }
 
 totals mbedtls_walk(const uint8_t *octets, size_t length)
@@ -77,7 +77,7 @@ static int read_key(unsigned char **at, const unsigned char *end, totals *report
     *at += algorithm;
     if (mbedtls_asn1_get_tag(at, identifier_end, &month, 0x04) || month != 1 || **at > 11)
         return 1;
-    reported->first_octets += *(*at)++;
+    reported->octet_sum += *(*at)++;
     if (*at != identifier_end || mbedtls_asn1_get_tag(at, key_end, &own, 0x04))
         return 1;
     *at += own;

@@ -70,7 +70,7 @@ pub fn pass(totals: &mut Totals, contents: &[u8]) {
     totals.elements = totals.elements.wrapping_add(1);
     totals.contents = totals.contents.wrapping_add(contents.len() as u64);
     let first = contents.first().copied().unwrap_or(0);
-    totals.first_octets = totals.first_octets.wrapping_add(first as u64);
+    totals.octet_sum = totals.octet_sum.wrapping_add(first as u64);
 }
 
 /// With a function that calls itself for each nested part.
@@ -193,7 +193,7 @@ fn decode_by_index(bytes: &[u8]) -> Totals {
         let octets = octets.end - octets.start;
         totals.elements = totals.elements.wrapping_add(1);
         totals.contents = totals.contents.wrapping_add((algorithm + octets) as u64);
-        totals.first_octets = totals.first_octets.wrapping_add(month as u64);
+        totals.octet_sum = totals.octet_sum.wrapping_add(month as u64);
         at = key.end;
     }
     totals

@@ -109,7 +109,7 @@ fn try_decode(bytes: &[u8], totals: &mut Totals) -> Result<(), Error> {
         let len = algorithm.0.len() + octets.0.len();
         totals.elements = totals.elements.wrapping_add(1);
         totals.contents = totals.contents.wrapping_add(len as u64);
-        totals.first_octets = totals.first_octets.wrapping_add(month.0 as u64);
+        totals.octet_sum = totals.octet_sum.wrapping_add(month.0 as u64);
     }
     Ok(())
 }

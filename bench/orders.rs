@@ -52,7 +52,7 @@ fn compare_by_hand(bytes: &[u8]) -> Totals {
         totals.elements = totals.elements.wrapping_add(1);
         totals.contents = totals.contents.wrapping_add(contents.len() as u64);
         let less = (element < upcoming) as u64;
-        totals.first_octets = totals.first_octets.wrapping_add(less);
+        totals.octet_sum = totals.octet_sum.wrapping_add(less);
         (upcoming, rest) = (element, following);
     }
     totals
@@ -62,7 +62,7 @@ fn reported(elements: u64, octets: &[u8]) -> Totals {
     Totals {
         elements,
         contents: octets.len() as u64,
-        first_octets: octets.last().copied().unwrap_or(0) as u64,
+        octet_sum: octets.last().copied().unwrap_or(0) as u64,
     }
 }
 

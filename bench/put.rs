@@ -118,7 +118,7 @@ pub fn pass(totals: &mut Totals, octets: &[u8]) {
     totals.elements = totals.elements.wrapping_add(1);
     totals.contents = totals.contents.wrapping_add(octets.len() as u64);
     let last = octets.last().copied().unwrap_or(0);
-    totals.first_octets = totals.first_octets.wrapping_add(last as u64);
+    totals.octet_sum = totals.octet_sum.wrapping_add(last as u64);
 }
 
 #[inline(never)]
@@ -154,6 +154,6 @@ pub fn to_vec(numbers: &[u64]) -> Totals {
         totals.elements = totals.elements.wrapping_add(1);
     }
     totals.contents = out.len() as u64;
-    totals.first_octets = out.last().copied().unwrap_or(0) as u64;
+    totals.octet_sum = out.last().copied().unwrap_or(0) as u64;
     totals
 }

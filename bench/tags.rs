@@ -43,7 +43,7 @@ fn walk(bytes: &[u8], mut read: impl FnMut(&Element) -> u64) -> Totals {
         totals.elements = totals.elements.wrapping_add(1);
         let len = element.end - element.start;
         totals.contents = totals.contents.wrapping_add(len as u64);
-        totals.first_octets = totals.first_octets.wrapping_add(read(&element));
+        totals.octet_sum = totals.octet_sum.wrapping_add(read(&element));
         at = element.end;
     }
     totals
@@ -76,7 +76,7 @@ fn count_by_hand(bytes: &[u8]) -> Totals {
         0
     });
     Totals {
-        first_octets: mixed(&counts),
+        octet_sum: mixed(&counts),
         ..totals
     }
 }

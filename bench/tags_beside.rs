@@ -24,7 +24,7 @@ fn try_pass(
         let contents = reader.read_slice(header.length())?;
         totals.elements = totals.elements.wrapping_add(1);
         totals.contents = totals.contents.wrapping_add(contents.len() as u64);
-        totals.first_octets = totals.first_octets.wrapping_add(read(&header, contents));
+        totals.octet_sum = totals.octet_sum.wrapping_add(read(&header, contents));
     }
     Ok(())
 }
@@ -49,7 +49,7 @@ pub fn count(bytes: &[u8]) -> Totals {
         0
     });
     Totals {
-        first_octets: mixed(&counts),
+        octet_sum: mixed(&counts),
         ..totals
     }
 }

@@ -162,6 +162,6 @@ pub fn to_vec(numbers: &[u64]) -> Totals {
         totals.elements = totals.elements.wrapping_add(1);
     }
     totals.contents = out.len() as u64;
-    totals.first_octets = out.last().copied().unwrap_or(0) as u64;
+    totals.octet_sum = out.last().copied().unwrap_or(0) as u64;
     totals
 }

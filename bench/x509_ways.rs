@@ -51,7 +51,7 @@ pub fn read_by_hand(bytes: &[u8]) -> Totals {
         let first = one.serial_number.first().copied().unwrap_or(0);
         totals.elements = totals.elements.wrapping_add(1);
         totals.contents = totals.contents.wrapping_add(one.signature.len() as u64);
-        totals.first_octets = totals.first_octets.wrapping_add(first as u64);
+        totals.octet_sum = totals.octet_sum.wrapping_add(first as u64);
         black_box(&one);
     }
     totals

@@ -8,7 +8,7 @@ use x509::Certificate;
 
 /// Decodes one certificate from `octets`, then writes it `times` times, each time to the start of
 /// `out`. Stops at the first error. Returns the number of writes in `elements`, the total number of
-/// octets written in `contents`, and the sum of the last octet of each write in `first_octets`.
+/// octets written in `contents`, and the sum of the last octet of each write in `octet_sum`.
 #[unsafe(no_mangle)]
 pub extern "C" fn der_bench_certificate_to_slice(
     alloc: Global,
@@ -21,7 +21,7 @@ pub extern "C" fn der_bench_certificate_to_slice(
 
 /// Decodes one certificate from `octets`, then writes it `times` times, each time into a new
 /// vector. Stops at the first error. Returns the number of writes in `elements`, the total number
-/// of octets written in `contents`, and the sum of the last octet of each vector in `first_octets`.
+/// of octets written in `contents`, and the sum of the last octet of each vector in `octet_sum`.
 #[unsafe(no_mangle)]
 pub extern "C" fn der_bench_certificate_to_der(alloc: Global, octets: &[u8], times: u64) -> Totals {
     to_der::<Certificate<'_>>(alloc, octets, times)
@@ -29,7 +29,7 @@ pub extern "C" fn der_bench_certificate_to_der(alloc: Global, octets: &[u8], tim
 
 /// Decodes one public key from `octets`, then writes it `times` times, each time to the start of
 /// `out`. Stops at the first error. Returns the number of writes in `elements`, the total number of
-/// octets written in `contents`, and the sum of the last octet of each write in `first_octets`.
+/// octets written in `contents`, and the sum of the last octet of each write in `octet_sum`.
 #[unsafe(no_mangle)]
 pub extern "C" fn der_bench_public_key_to_slice(
     alloc: Global,
@@ -42,7 +42,7 @@ pub extern "C" fn der_bench_public_key_to_slice(
 
 /// Decodes one public key from `octets`, then writes it `times` times, each time into a new vector.
 /// Stops at the first error. Returns the number of writes in `elements`, the total number of octets
-/// written in `contents`, and the sum of the last octet of each vector in `first_octets`.
+/// written in `contents`, and the sum of the last octet of each vector in `octet_sum`.
 #[unsafe(no_mangle)]
 pub extern "C" fn der_bench_public_key_to_der(alloc: Global, octets: &[u8], times: u64) -> Totals {
     to_der::<SubjectPublicKeyInfoRef<'_>>(alloc, octets, times)

@@ -29,7 +29,7 @@ impl<'a> Counted for KeyInfo<'a> {
 
 /// Decodes keys in sequence from `bytes` until the octets end or there is an error. Returns the
 /// number of keys in `elements`, the number of octets of their algorithms and keys in `contents`,
-/// and the sum of their months in `first_octets`.
+/// and the sum of their months in `octet_sum`.
 #[unsafe(no_mangle)]
 pub extern "C" fn der_bench_decode(alloc: Global, bytes: &[u8]) -> Totals {
     decode_each::<KeyInfo<'_>>(alloc, bytes, EncodingRules::Der)

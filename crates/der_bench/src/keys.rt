@@ -80,7 +80,7 @@ pub extern "C" fn der_bench_put_keys(
 /// Writes each key in `wanted` to the start of the same array, until all are written or there is an
 /// error. The algorithm and the key octets of each key are the first octets of `borrowed`. Returns
 /// the number of keys in `elements`, the number of octets written in `contents`, and the sum of the
-/// last octet of each written key in `first_octets`.
+/// last octet of each written key in `octet_sum`.
 #[unsafe(no_mangle)]
 pub extern "C" fn der_bench_keys_to_slice(wanted: &[WantedKey], borrowed: &[u8]) -> Totals {
     let mut totals = Totals::none();
@@ -100,7 +100,7 @@ pub extern "C" fn der_bench_keys_to_slice(wanted: &[WantedKey], borrowed: &[u8])
 /// Writes each key in `wanted` into a new vector, until all are written or there is an error. The
 /// algorithm and the key octets of each key are the first octets of `borrowed`. Returns the number
 /// of keys in `elements`, the number of octets written in `contents`, and the sum of the last octet
-/// of each written key in `first_octets`.
+/// of each written key in `octet_sum`.
 #[unsafe(no_mangle)]
 pub extern "C" fn der_bench_keys_to_der(
     alloc: Global,

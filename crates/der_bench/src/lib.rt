@@ -29,7 +29,7 @@ pub struct Totals {
     /// The number of contents octets of these elements.
     pub contents: u64,
     /// The sum of the first contents octet of each of these elements.
-    pub first_octets: u64,
+    pub octet_sum: u64,
 }
 
 impl Totals {
@@ -37,7 +37,7 @@ impl Totals {
         Totals {
             elements: 0,
             contents: 0,
-            first_octets: 0,
+            octet_sum: 0,
         }
     }
 
@@ -46,7 +46,7 @@ impl Totals {
     fn pass(&mut self, contents: usize, first: u64) {
         self.elements = self.elements.wrapping_add(1);
         self.contents = self.contents.wrapping_add(contents as u64);
-        self.first_octets = self.first_octets.wrapping_add(first);
+        self.octet_sum = self.octet_sum.wrapping_add(first);
     }
 
     // Sets the octets of contents to those that were written.

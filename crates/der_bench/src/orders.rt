@@ -7,7 +7,7 @@ use std::cmp::Ordering;
 
 /// Decodes OCTET STRINGs in sequence from `bytes` and compares each, from the second on, with the
 /// preceding one, until the octets end or there is an error. Returns the number of comparisons in
-/// `elements`, and in `first_octets` the number of OCTET STRINGs that are less than the preceding
+/// `elements`, and in `octet_sum` the number of OCTET STRINGs that are less than the preceding
 /// one. `contents` counts the contents octets of all but the first.
 #[unsafe(no_mangle)]
 pub extern "C" fn der_bench_orders(alloc: Global, bytes: &[u8]) -> Totals {

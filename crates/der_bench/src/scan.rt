@@ -19,7 +19,7 @@ pub extern "C" fn der_bench_scan(bytes: &[u8]) -> Totals {
 /// of two octets, which are skipped, and contents of indefinite length. The contents are measured
 /// octet by octet, with the scan for readers that return no slices. Returns the number of messages
 /// in `elements`, the number of contents octets with the end-of-contents octets in `contents`, and
-/// the sum of their first octets in `first_octets`.
+/// the sum of their first octets in `octet_sum`.
 #[unsafe(no_mangle)]
 pub extern "C" fn der_bench_scan_by_octets(bytes: &[u8]) -> Totals {
     let mut totals = Totals::none();

@@ -7,7 +7,7 @@ use std::alloc::Global;
 
 /// Decodes OCTET STRINGs in sequence from `bytes`, sorts them, and writes them as one SET OF.
 /// Returns the number of OCTET STRINGs in `elements`, the number of octets of the SET OF in
-/// `contents`, and its last octet in `first_octets`. All three are 0 on an error.
+/// `contents`, and its last octet in `octet_sum`. All three are 0 on an error.
 #[unsafe(no_mangle)]
 pub extern "C" fn der_bench_sorted(alloc: Global, bytes: &[u8]) -> Totals {
     let mut elements = Vec::new(alloc);
@@ -21,7 +21,7 @@ pub extern "C" fn der_bench_sorted(alloc: Global, bytes: &[u8]) -> Totals {
 }
 
 /// Reads one SET OF OCTET STRING from `bytes`. Returns 1 in `elements`, the number of contents
-/// octets of the SET OF in `contents`, and the last of these octets in `first_octets`. All three
+/// octets of the SET OF in `contents`, and the last of these octets in `octet_sum`. All three
 /// are 0 on an error.
 #[unsafe(no_mangle)]
 pub extern "C" fn der_bench_set(alloc: Global, bytes: &[u8]) -> Totals {
@@ -52,6 +52,6 @@ fn reported(elements: u64, octets: &[u8]) -> Totals {
     Totals {
         elements,
         contents: octets.len() as u64,
-        first_octets: octets.last().copied().unwrap_or(0) as u64,
+        octet_sum: octets.last().copied().unwrap_or(0) as u64,
     }
 }

@@ -3,7 +3,7 @@ use crate::Totals;
 use der::{Reader, ReaderExt, SliceReader, decode_header};
 
 /// Reads the elements in `bytes` one after the other, without those inside them, until the octets
-/// end or there is an error. Counts the elements and their contents octets; `first_octets` is the
+/// end or there is an error. Counts the elements and their contents octets; `octet_sum` is the
 /// sum of the tag numbers.
 #[unsafe(no_mangle)]
 pub extern "C" fn der_bench_numbers(bytes: &[u8]) -> Totals {
@@ -29,7 +29,7 @@ pub extern "C" fn der_bench_numbers(bytes: &[u8]) -> Totals {
 
 /// Reads the elements in `bytes` one after the other, without those inside them, until the octets
 /// end or there is an error. Counts the elements and their contents octets. Also counts the
-/// elements in a table of 256 counts, by the low octet of the tag number. `first_octets` is
+/// elements in a table of 256 counts, by the low octet of the tag number. `octet_sum` is
 /// computed from that table; it is 0 on an error.
 #[unsafe(no_mangle)]
 pub extern "C" fn der_bench_counts(bytes: &[u8]) -> Totals {
@@ -53,7 +53,7 @@ pub extern "C" fn der_bench_counts(bytes: &[u8]) -> Totals {
         let low = (header.tag().number().0 % 256) as usize;
         counts[low] = counts[low].wrapping_add(1);
     }
-    totals.first_octets = mixed(&counts);
+    totals.octet_sum = mixed(&counts);
     totals
 }
 

@@ -70,7 +70,7 @@ pub extern "C" fn der_bench_put_elements(numbers: &[u64], out: &mut [u8]) -> Tot
 
 /// For each number in `numbers`, writes an OCTET STRING of its eight octets into a new array, until
 /// all are written or there is an error. Returns the number of OCTET STRINGs in `elements`, the
-/// number of octets written in `contents`, and the sum of the last octet of each in `first_octets`.
+/// number of octets written in `contents`, and the sum of the last octet of each in `octet_sum`.
 #[unsafe(no_mangle)]
 pub extern "C" fn der_bench_to_slice(numbers: &[u64]) -> Totals {
     let mut totals = Totals::none();
@@ -94,7 +94,7 @@ pub(crate) fn last_of(octets: &[u8]) -> u8 {
 /// For each number in `numbers`, writes an OCTET STRING of its eight octets into a new vector,
 /// until all are written or there is an error. Returns the number of OCTET STRINGs in `elements`,
 /// the number of octets written in `contents`, and the sum of the last octet of each in
-/// `first_octets`.
+/// `octet_sum`.
 #[unsafe(no_mangle)]
 pub extern "C" fn der_bench_to_der(alloc: Global, numbers: &[u64]) -> Totals {
     let mut totals = Totals::none();
@@ -110,7 +110,7 @@ pub extern "C" fn der_bench_to_der(alloc: Global, numbers: &[u64]) -> Totals {
 /// For each number in `numbers`, appends an OCTET STRING of its eight octets to the same vector,
 /// which grows. Stops at the first error. Returns the number of OCTET STRINGs in `elements`. If all
 /// are written, returns the length of the vector in `contents` and its last octet in
-/// `first_octets`; otherwise both are 0.
+/// `octet_sum`; otherwise both are 0.
 #[unsafe(no_mangle)]
 pub extern "C" fn der_bench_to_vec(alloc: Global, numbers: &[u64]) -> Totals {
     let mut totals = Totals::none();
@@ -122,7 +122,7 @@ pub extern "C" fn der_bench_to_vec(alloc: Global, numbers: &[u64]) -> Totals {
         totals.pass(0, 0);
     }
     totals.contents = out.len() as u64;
-    totals.first_octets = out.as_slice().last().copied().unwrap_or(0) as u64;
+    totals.octet_sum = out.as_slice().last().copied().unwrap_or(0) as u64;
     totals
 }
 

@@ -98,9 +98,9 @@ fn first_in<'a>(octets: &'a [u8], whole: &PlacedElement<'a>) -> Result<PlacedEle
 fn next_in<'a>(
     octets: &'a [u8],
     whole: &PlacedElement<'a>,
-    next: &PlacedElement<'a>,
+    previous: &PlacedElement<'a>,
 ) -> Result<PlacedElement<'a>, Error> {
-    PlacedElement::read(octets, next.end, whole.contents_end, EncodingRules::Der)
+    PlacedElement::read(octets, previous.end, whole.contents_end, EncodingRules::Der)
 }
 
 fn is_tagged(element: &PlacedElement<'_>, tag: Tag) -> bool {
