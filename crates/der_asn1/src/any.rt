@@ -12,8 +12,8 @@ use der::{
 };
 use std::alloc::Global;
 
-/// An element of any tag: its tag, and its contents borrowed from the input. It represents ANY in
-/// older modules, and the value of an open type.
+/// An element of any tag: its tag, and its contents borrowed from the input. Used for the type ANY
+/// of older ASN.1 modules, and for values of an open type.
 #[derive(Clone, Copy)]
 pub struct AnyRef<'a> {
     /// The tag of the element.

@@ -14,7 +14,8 @@ enum Stage {
     Other,
 }
 
-/// An iterator over the arcs of an OBJECT IDENTIFIER: the numbers of which it consists.
+/// An iterator over the arcs of an OBJECT IDENTIFIER. The arcs are the numbers that make up the
+/// OBJECT IDENTIFIER, such as 1, 2 and 840 of `1.2.840`.
 #[derive(Drop)]
 pub struct Arcs<'a> {
     octets: &'a [u8],

@@ -8,8 +8,9 @@ use crate::checked::Checked;
 use crate::grammar::ContentsGrammar;
 use der::{FixedTag, Tag};
 
-/// Describes the contents of a BIT STRING: an octet with the number of unused bits, then the octets
-/// of the bits. The unused bits, at the end of the last octet, are zero (X.690 8.6.2, 11.2.1).
+/// Describes the contents of a BIT STRING: one octet that gives the number of unused bits, then the
+/// octets that hold the bits. The unused bits are the last bits of the last octet; they must be
+/// zero (X.690 8.6.2, 11.2.1).
 pub struct BitStringGrammar;
 
 /// A BIT STRING borrowed from the input. The first contents octet is the number of unused bits.

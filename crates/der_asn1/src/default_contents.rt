@@ -9,8 +9,8 @@ use crate::explicit::Explicit;
 use crate::grammar::ContentsGrammar;
 use der::Reader;
 
-/// Types with a default value, which an absent DEFAULT field has. The contents octets of a value
-/// decide whether it is the default.
+/// Types with a default value: the value of a DEFAULT field that is absent. Whether a value is the
+/// default is decided by its contents octets.
 ///
 /// Ghost member (for proofs only): `default_contents` says which octets are the contents of the
 /// default value.

@@ -14,7 +14,7 @@ use std::alloc::Global;
 pub trait DefaultValue: Sized {
     ghost is_default: { Self → Bool };
 
-    /// The default value, which an absent DEFAULT field has.
+    /// The default value: the value of a DEFAULT field that is absent.
     fn default_value() -> Self
         ensures { is_default result ≡ true };
 
@@ -47,6 +47,9 @@ fn is_written_default<R: Reader, T: HasDefault<R>>(rules: EncodingRules, value: 
 #[derive(Drop)]
 pub struct Defaulted<T>(pub T);
 
+/// Takes the default value, and reads nothing, if no octets are left or if no value of `T` may
+/// begin with the next tag.
+///
 /// # Errors
 ///
 /// - The errors of [`ReaderExt::peek_tag`], if octets are left that do not begin with a tag; the

@@ -10,8 +10,8 @@ use crate::integer::IntegerGrammar;
 use crate::integer_number::IntegerNumber;
 use der::{FixedTag, Tag};
 
-/// Describes the contents of an ENUMERATED: the contents of an INTEGER with the same number (X.690
-/// 8.4).
+/// Describes the contents of an ENUMERATED: the number of the enumeration item, encoded as the
+/// contents of an INTEGER (X.690 8.4).
 pub struct EnumeratedGrammar;
 
 /// An ENUMERATED borrowed from the input.

@@ -13,9 +13,10 @@ use der::{
 };
 use std::alloc::Global;
 
-/// Types whose elements may be the contents of another element, as EXPLICIT tagging makes them. A
-/// reader allows 64 levels of nesting; the two elements take one each, so the contents of the value
-/// may nest at most 62 levels deep under DER.
+/// Types that can be tagged EXPLICIT (see [`Explicit`]): the element of a value becomes the
+/// contents of an outer element. A reader allows 64 levels of nesting. The outer element and the
+/// element of the value take one level each, so the contents of the value may nest at most 62
+/// levels deep under DER.
 ///
 /// Ghost member (for proofs only): `nestable` proves that the contents nest at most 62 levels deep.
 pub trait Nestable: ReadValue {
@@ -62,7 +63,7 @@ impl<T: ReadValue + FixedTag, const N: u32> ReadValue for Explicit<T, N> {
 
 /// # Errors
 ///
-/// The errors of decoding the inner element, which is that of the value, as by
+/// The errors of decoding the inner element (the element of the value of type `T`), as by
 /// [`decode_tlv`](der::decode_tlv).
 impl<R: Reader, T: DecodeValue<R> + FixedTag, const N: u32> DecodeValue<R> for Explicit<T, N> {
     type Error = <T as DecodeValue<R>>::Error;
@@ -93,7 +94,7 @@ impl<T: WrittenValue + FixedTag, const N: u32> WrittenValue for Explicit<T, N> {
 
 /// # Errors
 ///
-/// The errors of encoding the inner element, which is that of the value.
+/// The errors of encoding the inner element (the element of the value of type `T`).
 impl<T: EncodeValue + FixedTag, const N: u32> EncodeValue for Explicit<T, N> {
     ghost value_size = { λ v. element_size T.tag_is (T.value_size v.0) };
 

@@ -9,8 +9,8 @@ use crate::time_octets::{TimeOctets, generalized_from};
 use crate::time_of::TimeOf;
 use der::{FixedTag, Tag};
 
-/// Describes the contents of a GeneralizedTime: YYYYMMDDHHMMSSZ, of the years 0 to 9999, without a
-/// fraction of a second (X.690 11.7; RFC 5280, 4.1.2.5.2).
+/// Describes the contents of a GeneralizedTime: the format YYYYMMDDHHMMSSZ, for the years 0 to
+/// 9999, without a fraction of a second (X.690 11.7; RFC 5280, 4.1.2.5.2).
 #[derive(Clone, Copy)]
 pub struct GeneralizedTimeFormat;
 

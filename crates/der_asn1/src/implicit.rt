@@ -15,8 +15,8 @@ use der::{
 };
 use std::alloc::Global;
 
-/// A value whose own tag is replaced by the context-specific tag number `N` (X.690 8.14.3). The new
-/// tag is constructed if and only if the value's own tag is.
+/// A value whose own tag is replaced by the context-specific tag with the number `N` (X.690
+/// 8.14.3). The new tag is constructed if and only if the value's own tag is constructed.
 #[derive(Clone, Copy, Drop)]
 pub struct Implicit<T, const N: u32>(pub T);
 

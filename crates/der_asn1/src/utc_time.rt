@@ -9,8 +9,8 @@ use crate::time_octets::{TimeOctets, utc_from};
 use crate::time_of::TimeOf;
 use der::{FixedTag, Tag};
 
-/// Describes the contents of a UTCTime: YYMMDDHHMMSSZ, of the years 1950 to 2049 (X.690 11.8; RFC
-/// 5280, 4.1.2.5.1).
+/// Describes the contents of a UTCTime: the format YYMMDDHHMMSSZ, for the years 1950 to 2049 (X.690
+/// 11.8; RFC 5280, 4.1.2.5.1).
 #[derive(Clone, Copy)]
 pub struct UtcTimeFormat;
 

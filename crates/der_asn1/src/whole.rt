@@ -6,8 +6,9 @@ ghost use Rattle.der.specs.Prelude.{Der, ElementRead, element_octets};
 use der::{DecodeBytes, DecodeValue, Lawful, SliceReader};
 use std::alloc::Global;
 
-/// Decodes the value whose encoding is all of `octets`. Unless an allocation fails, this succeeds
-/// exactly if `octets` are the encoding of a valid value.
+/// Decodes the value whose DER encoding is all of `octets`. Unless an allocation fails, this
+/// succeeds exactly if `octets` are the encoding of a valid value. [`Lawful`] guarantees that: it
+/// says that reading is the inverse of writing.
 ///
 /// # Errors
 ///

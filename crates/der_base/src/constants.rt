@@ -67,22 +67,22 @@ fn class_private() -> u8
     CLASS_PRIVATE
 }
 
-/// Returns the constant; the contract states that the default [`Length`] is the definite length 0.
+/// Returns the default [`Length`]; the contract states that it is the definite length 0.
 fn default_length() -> Length
     ensures { result ≡ definite_length 0 }
 {
     Length::default()
 }
 
-/// Returns the constant; the contract states that the default [`TagMode`] is explicit tagging.
+/// Returns the default [`TagMode`]; the contract states that it is explicit tagging.
 fn default_mode() -> TagMode
     ensures { result ≡ Explicit }
 {
     TagMode::default()
 }
 
-/// Returns the constant; the contract states that the default [`EncodingRules`] are the
-/// Distinguished Encoding Rules.
+/// Returns the default [`EncodingRules`]; the contract states that they are the Distinguished
+/// Encoding Rules.
 fn default_rules() -> EncodingRules
     ensures { result ≡ Der }
 {

@@ -37,7 +37,7 @@ impl EncodingRules {
 ///
 /// # Errors
 ///
-/// - `EncodingRules` without a position, for any other text.
+/// - An error of the kind `EncodingRules`, without a position, for any other text.
 impl FromStr for EncodingRules {
     type Err = Error;
 

@@ -6,9 +6,10 @@ use spki::SubjectPublicKeyInfoRef;
 use std::alloc::Global;
 use x509::Certificate;
 
-/// Decodes one certificate from `octets`, then writes it `times` times, each time to the start of
-/// `out`. Stops at the first error. Returns the number of writes in `elements`, the total number of
-/// octets written in `contents`, and the sum of the last octet of each write in `octet_sum`.
+/// Decodes one certificate from `octets`, then writes this certificate `times` times, each time to
+/// the start of `out`. Stops at the first error; the result then covers the writes before it. In
+/// the result, `elements` is the number of writes, `contents` is the total number of octets
+/// written, headers included, and `octet_sum` is the sum of the last octets of all writes.
 #[unsafe(no_mangle)]
 pub extern "C" fn der_bench_certificate_to_slice(
     alloc: Global,
@@ -19,17 +20,19 @@ pub extern "C" fn der_bench_certificate_to_slice(
     to_slice::<Certificate<'_>>(alloc, octets, times, out)
 }
 
-/// Decodes one certificate from `octets`, then writes it `times` times, each time into a new
-/// vector. Stops at the first error. Returns the number of writes in `elements`, the total number
-/// of octets written in `contents`, and the sum of the last octet of each vector in `octet_sum`.
+/// Decodes one certificate from `octets`, then writes this certificate `times` times, each time
+/// into a new vector. Stops at the first error; the result then covers the writes before it. In the
+/// result, `elements` is the number of writes, `contents` is the total number of octets written,
+/// headers included, and `octet_sum` is the sum of the last octets of all writes.
 #[unsafe(no_mangle)]
 pub extern "C" fn der_bench_certificate_to_der(alloc: Global, octets: &[u8], times: u64) -> Totals {
     to_der::<Certificate<'_>>(alloc, octets, times)
 }
 
-/// Decodes one public key from `octets`, then writes it `times` times, each time to the start of
-/// `out`. Stops at the first error. Returns the number of writes in `elements`, the total number of
-/// octets written in `contents`, and the sum of the last octet of each write in `octet_sum`.
+/// Decodes one public key from `octets`, then writes this public key `times` times, each time to
+/// the start of `out`. Stops at the first error; the result then covers the writes before it. In
+/// the result, `elements` is the number of writes, `contents` is the total number of octets
+/// written, headers included, and `octet_sum` is the sum of the last octets of all writes.
 #[unsafe(no_mangle)]
 pub extern "C" fn der_bench_public_key_to_slice(
     alloc: Global,
@@ -40,9 +43,10 @@ pub extern "C" fn der_bench_public_key_to_slice(
     to_slice::<SubjectPublicKeyInfoRef<'_>>(alloc, octets, times, out)
 }
 
-/// Decodes one public key from `octets`, then writes it `times` times, each time into a new vector.
-/// Stops at the first error. Returns the number of writes in `elements`, the total number of octets
-/// written in `contents`, and the sum of the last octet of each vector in `octet_sum`.
+/// Decodes one public key from `octets`, then writes this public key `times` times, each time into
+/// a new vector. Stops at the first error; the result then covers the writes before it. In the
+/// result, `elements` is the number of writes, `contents` is the total number of octets written,
+/// headers included, and `octet_sum` is the sum of the last octets of all writes.
 #[unsafe(no_mangle)]
 pub extern "C" fn der_bench_public_key_to_der(alloc: Global, octets: &[u8], times: u64) -> Totals {
     to_der::<SubjectPublicKeyInfoRef<'_>>(alloc, octets, times)

@@ -27,9 +27,9 @@ impl<'a> Counted for KeyInfo<'a> {
     }
 }
 
-/// Decodes keys in sequence from `bytes` until the octets end or there is an error. Returns the
-/// number of keys in `elements`, the number of octets of their algorithms and keys in `contents`,
-/// and the sum of their months in `octet_sum`.
+/// Decodes keys in sequence from `bytes` until the octets end or there is an error. In the result,
+/// `elements` is the number of keys, `contents` is the total number of contents octets of their
+/// algorithm and key fields, and `octet_sum` is the sum of the numbers of their months.
 #[unsafe(no_mangle)]
 pub extern "C" fn der_bench_decode(alloc: Global, bytes: &[u8]) -> Totals {
     decode_each::<KeyInfo<'_>>(alloc, bytes, EncodingRules::Der)

@@ -5,9 +5,13 @@ use spki::SubjectPublicKeyInfoRef;
 use std::alloc::Global;
 use x509::Certificate;
 
-/// Reads one value from `octets` and writes it again. The value is a certificate if `kind` is 0, a
-/// public key if it is 1, and a private key otherwise (2). Returns 0 if reading fails, 1 if the
-/// octets written equal `octets`, and 2 if writing fails or writes other octets.
+/// Reads one value from `octets` and writes this value into a new vector. The value is a
+/// certificate if `kind` is 0, a public key if `kind` is 1, and a private key for any other `kind`.
+/// Returns:
+///
+/// - 0 if reading fails;
+/// - 1 if the octets written equal `octets`;
+/// - 2 if writing fails or writes other octets.
 #[unsafe(no_mangle)]
 pub extern "C" fn der_bench_reads_back(alloc: Global, kind: u8, octets: &[u8]) -> u8 {
     match kind {

@@ -2,22 +2,24 @@
 use crate::Totals;
 use der::{Header, Length, SliceWriter, Tag, TagNumber};
 
-/// A header to write.
+/// A header that a benchmark writes.
 #[repr(C)]
 pub struct Wanted {
-    /// The tag number.
+    /// The tag number. If `class` is 0, only the numbers of some universal tags that occur in
+    /// certificates are known; any other number gives the tag NULL.
     pub number: u32,
-    /// The length of the contents.
+    /// The length that the header gives for the contents.
     pub length: u32,
-    /// The class: 0 universal, 1 application, 2 context-specific, 3 private.
+    /// The class: 0 is universal, 1 application, 2 context-specific, and any other number private.
     pub class: u8,
-    /// Not 0 if the contents are constructed.
+    /// 0 if the contents are primitive, any other number if they are constructed. Ignored if
+    /// `class` is 0.
     pub constructed: u8,
 }
 
-/// Writes the headers in `wanted` in sequence to `out` until all are written or there is an error.
-/// Returns the number of headers in `elements`. If all are written, returns the number of octets
-/// written in `contents`; otherwise `contents` is 0.
+/// Writes the headers in `wanted`, without contents, in sequence to `out` until all are written or
+/// there is an error. In the result, `elements` is the number of headers written; `contents` is the
+/// number of octets written if all are written, and 0 otherwise; and `octet_sum` is 0.
 #[unsafe(no_mangle)]
 pub extern "C" fn der_bench_put_headers(wanted: &[Wanted], out: &mut [u8]) -> Totals {
     let mut totals = Totals::none();
@@ -32,10 +34,11 @@ pub extern "C" fn der_bench_put_headers(wanted: &[Wanted], out: &mut [u8]) -> To
     totals.written(writer.finish())
 }
 
-/// For each length in `lengths`, writes four headers with this length to `out`. Their tags are
-/// constants: SEQUENCE, INTEGER, OBJECT IDENTIFIER and context-specific 3. Stops at the first
-/// error. Returns the number of lengths whose headers are written in `elements`. If all are
-/// written, returns the number of octets written in `contents`; otherwise `contents` is 0.
+/// For each length in `lengths`, writes four headers with this length, without contents, in
+/// sequence to `out`. Their tags are constants: SEQUENCE, INTEGER, OBJECT IDENTIFIER and
+/// context-specific 3. Stops at the first error. In the result, `elements` is the number of lengths
+/// for which all four headers are written; `contents` is the number of octets written if all are
+/// written, and 0 otherwise; and `octet_sum` is 0.
 #[unsafe(no_mangle)]
 pub extern "C" fn der_bench_put_known(lengths: &[u32], out: &mut [u8]) -> Totals {
     let mut totals = Totals::none();

@@ -8,15 +8,15 @@ use der_uses::key_info::KeyInfo;
 use der_uses::my_octets::Borrowed;
 use std::alloc::Global;
 
-/// A key to write. Its algorithm and its key octets are each the first octets of one slice that all
-/// keys share.
+/// A key that a benchmark writes. Its algorithm octets and its key octets both start at the front
+/// of the slice `borrowed` that the functions below get; this type gives their numbers.
 #[repr(C)]
 pub struct WantedKey {
-    /// The number of octets of the key's algorithm.
+    /// The number of algorithm octets.
     pub algorithm: u32,
-    /// The number of octets of the key.
+    /// The number of key octets.
     pub key: u32,
-    /// The month of the key's algorithm, below 12.
+    /// The number of the month in the key's algorithm. A number above 11 is an error.
     pub month: u8,
 }
 
@@ -35,9 +35,9 @@ fn key_of<'a>(wanted: &WantedKey, borrowed: &'a [u8]) -> Option<KeyInfo<'a>> {
 }
 
 /// Computes the length of the encoding of each key in `wanted`, and stops at the first error. The
-/// octets of the algorithm and those of the key both start at the front of `borrowed`; `WantedKey`
-/// has their numbers. In the result, [`Totals::elements`] is the number of keys, and
-/// [`Totals::contents`] the sum of their lengths.
+/// algorithm octets and the key octets of each key both start at the front of `borrowed`; the key
+/// gives their numbers. In the result, `elements` is the number of keys, `contents` is the sum of
+/// the lengths of their encodings, headers included, and `octet_sum` is 0.
 #[unsafe(no_mangle)]
 pub extern "C" fn der_bench_count_keys(wanted: &[WantedKey], borrowed: &[u8]) -> Totals {
     let mut totals = Totals::none();
@@ -54,9 +54,9 @@ pub extern "C" fn der_bench_count_keys(wanted: &[WantedKey], borrowed: &[u8]) ->
 }
 
 /// Writes the keys in `wanted` in sequence to `out` until all are written or there is an error. The
-/// algorithm and the key octets of each key are the first octets of `borrowed`. Returns the number
-/// of keys in `elements`. If all are written, returns the number of octets written in `contents`;
-/// otherwise `contents` is 0.
+/// algorithm octets and the key octets of each key both start at the front of `borrowed`; the key
+/// gives their numbers. In the result, `elements` is the number of keys written; `contents` is the
+/// number of octets written if all are written, and 0 otherwise; and `octet_sum` is 0.
 #[unsafe(no_mangle)]
 pub extern "C" fn der_bench_put_keys(
     wanted: &[WantedKey],
@@ -77,10 +77,11 @@ pub extern "C" fn der_bench_put_keys(
     totals.written(writer.finish())
 }
 
-/// Writes each key in `wanted` to the start of the same array, until all are written or there is an
-/// error. The algorithm and the key octets of each key are the first octets of `borrowed`. Returns
-/// the number of keys in `elements`, the number of octets written in `contents`, and the sum of the
-/// last octet of each written key in `octet_sum`.
+/// Writes each key in `wanted` to the start of the same array of 1024 octets, over the key before,
+/// until all are written or there is an error. The algorithm octets and the key octets of each key
+/// both start at the front of `borrowed`; the key gives their numbers. In the result, `elements` is
+/// the number of keys written, `contents` is the total number of octets written, headers included,
+/// and `octet_sum` is the sum of the last octets of the written keys.
 #[unsafe(no_mangle)]
 pub extern "C" fn der_bench_keys_to_slice(wanted: &[WantedKey], borrowed: &[u8]) -> Totals {
     let mut totals = Totals::none();
@@ -98,9 +99,10 @@ pub extern "C" fn der_bench_keys_to_slice(wanted: &[WantedKey], borrowed: &[u8])
 }
 
 /// Writes each key in `wanted` into a new vector, until all are written or there is an error. The
-/// algorithm and the key octets of each key are the first octets of `borrowed`. Returns the number
-/// of keys in `elements`, the number of octets written in `contents`, and the sum of the last octet
-/// of each written key in `octet_sum`.
+/// algorithm octets and the key octets of each key both start at the front of `borrowed`; the key
+/// gives their numbers. In the result, `elements` is the number of keys written, `contents` is the
+/// total number of octets written, headers included, and `octet_sum` is the sum of the last octets
+/// of the written keys.
 #[unsafe(no_mangle)]
 pub extern "C" fn der_bench_keys_to_der(
     alloc: Global,

@@ -20,15 +20,17 @@ mod writing;
 
 use der::{EncodingRules, Error, Reader, ReaderExt, SliceReader, decode_header};
 
-/// Counts of what a measured function read or wrote. The comment of a function says where a field
-/// counts something else.
+/// What a benchmark function read or wrote, in numbers. If a function uses a field to count
+/// something else than the field's comment says, the function's comment says so.
 #[repr(C)]
 pub struct Totals {
     /// The number of elements that were read or written.
     pub elements: u64,
-    /// The number of contents octets of these elements.
+    /// The total number of contents octets of the elements counted in `elements`, without their
+    /// headers.
     pub contents: u64,
-    /// The sum of the first contents octet of each of these elements.
+    /// The sum of the first contents octets of the elements counted in `elements`. An element
+    /// without contents adds 0.
     pub octet_sum: u64,
 }
 
@@ -59,9 +61,10 @@ impl Totals {
     }
 }
 
-/// Reads the elements in `bytes` one after the other, without those inside them, until the octets
-/// end or there is an error. Counts the elements, their contents octets and the first octet of
-/// each.
+/// Reads the elements in `bytes` one after the other, without entering their contents, until the
+/// octets end or there is an error. In the result, `elements` is the number of elements, `contents`
+/// is the total number of their contents octets, and `octet_sum` is the sum of their first contents
+/// octets.
 #[unsafe(no_mangle)]
 pub extern "C" fn der_bench_walk(bytes: &[u8]) -> Totals {
     walk(bytes, EncodingRules::Der)

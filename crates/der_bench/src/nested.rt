@@ -11,8 +11,10 @@ use der::{
 const LEVELS: u8 = 64;
 
 /// Reads the elements in `bytes`, and the elements inside constructed ones, until the octets end or
-/// there is an error. `elements` counts all of them; `contents` counts only the contents octets of
-/// primitive elements. Constructed contents are entered with the function `read_nested`.
+/// there is an error. Enters constructed contents with the function `read_nested`. A constructed
+/// element inside 64 others is read like a primitive one. In the result, `elements` is the number
+/// of all elements, constructed ones included. `contents` and `octet_sum` cover only the primitive
+/// elements: the total number of their contents octets, and the sum of their first contents octets.
 #[unsafe(no_mangle)]
 pub extern "C" fn der_bench_nested(bytes: &[u8]) -> Totals {
     let mut totals = Totals::none();
@@ -23,8 +25,10 @@ pub extern "C" fn der_bench_nested(bytes: &[u8]) -> Totals {
 }
 
 /// Reads the elements in `bytes`, and the elements inside constructed ones, until the octets end or
-/// there is an error. `elements` counts all of them; `contents` counts only the contents octets of
-/// primitive elements. Constructed contents are entered with the function `read_value`.
+/// there is an error. Enters constructed contents with the function `read_value`. A constructed
+/// element inside 64 others is read like a primitive one. In the result, `elements` is the number
+/// of all elements, constructed ones included. `contents` and `octet_sum` cover only the primitive
+/// elements: the total number of their contents octets, and the sum of their first contents octets.
 #[unsafe(no_mangle)]
 pub extern "C" fn der_bench_values(bytes: &[u8]) -> Totals {
     let mut totals = Totals::none();
@@ -96,9 +100,11 @@ fn walk_values(reader: &mut SliceReader<'_>, levels: u8, totals: &mut Totals) ->
 }
 
 /// Reads the elements in `bytes`, and the elements inside constructed ones, until the octets end or
-/// there is an error. `elements` counts all of them; `contents` counts only the contents octets of
-/// primitive elements. A loop enters constructed contents with `enter_nested` and leaves them with
-/// `leave_nested`, without closures or recursion.
+/// there is an error. A loop enters constructed contents with `enter_nested` and leaves them with
+/// `leave_nested`, without closures or recursion. A constructed element inside 64 others is read
+/// like a primitive one. In the result, `elements` is the number of all elements, constructed ones
+/// included. `contents` and `octet_sum` cover only the primitive elements: the total number of
+/// their contents octets, and the sum of their first contents octets.
 #[unsafe(no_mangle)]
 pub extern "C" fn der_bench_halves(bytes: &[u8]) -> Totals {
     let mut totals = Totals::none();

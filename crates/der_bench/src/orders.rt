@@ -6,9 +6,10 @@ use std::alloc::Global;
 use std::cmp::Ordering;
 
 /// Decodes OCTET STRINGs in sequence from `bytes` and compares each, from the second on, with the
-/// preceding one, until the octets end or there is an error. Returns the number of comparisons in
-/// `elements`, and in `octet_sum` the number of OCTET STRINGs that are less than the preceding
-/// one. `contents` counts the contents octets of all but the first.
+/// preceding one, until the octets end or there is an error. In the result, `elements` is the
+/// number of comparisons, `contents` is the total number of contents octets of all OCTET STRINGs
+/// but the first, and `octet_sum` is the number of OCTET STRINGs that are less than the preceding
+/// one.
 #[unsafe(no_mangle)]
 pub extern "C" fn der_bench_orders(alloc: Global, bytes: &[u8]) -> Totals {
     let mut totals = Totals::none();

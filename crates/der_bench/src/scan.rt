@@ -7,19 +7,21 @@ use std::marker::Brand;
 use std::sync::ledger::{Blank, Ledger};
 
 /// Reads messages (elements) in sequence from `bytes` under the Basic Encoding Rules until the
-/// octets end or there is an error. Where a length is indefinite, a scan finds the end of the
-/// contents. Returns the number of messages in `elements` and the number of their contents octets,
-/// with the end-of-contents octets, in `contents`.
+/// octets end or there is an error. If a length is indefinite, a scan finds the end of the
+/// contents. In the result, `elements` is the number of messages, `contents` is the total number of
+/// their contents octets, end-of-contents octets included, and `octet_sum` is the sum of their
+/// first contents octets.
 #[unsafe(no_mangle)]
 pub extern "C" fn der_bench_scan(bytes: &[u8]) -> Totals {
     walk(bytes, EncodingRules::Ber)
 }
 
-/// Scans messages in sequence until the octets end or there is an error. Each message has a header
-/// of two octets, which are skipped, and contents of indefinite length. The contents are measured
-/// octet by octet, with the scan for readers that return no slices. Returns the number of messages
-/// in `elements`, the number of contents octets with the end-of-contents octets in `contents`, and
-/// the sum of their first octets in `octet_sum`.
+/// Scans the messages (elements) in `bytes` in sequence until the octets end or there is an error.
+/// Each message must have a header of two octets, which are skipped, and contents of indefinite
+/// length. The length of the contents is found octet by octet, with the scan for readers that
+/// return no slices. In the result, `elements` is the number of messages, `contents` is the total
+/// number of their contents octets, end-of-contents octets included, and `octet_sum` is the sum of
+/// their first contents octets.
 #[unsafe(no_mangle)]
 pub extern "C" fn der_bench_scan_by_octets(bytes: &[u8]) -> Totals {
     let mut totals = Totals::none();

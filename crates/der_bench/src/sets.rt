@@ -5,9 +5,9 @@ use der::{ReaderExt, SliceReader};
 use der_uses::set_of::{set_of_contents, set_of_der};
 use std::alloc::Global;
 
-/// Decodes OCTET STRINGs in sequence from `bytes`, sorts them, and writes them as one SET OF.
-/// Returns the number of OCTET STRINGs in `elements`, the number of octets of the SET OF in
-/// `contents`, and its last octet in `octet_sum`. All three are 0 on an error.
+/// Decodes OCTET STRINGs in sequence from `bytes`, sorts them, and writes them as one SET OF. In
+/// the result, `elements` is the number of OCTET STRINGs, `contents` is the number of octets of the
+/// SET OF, header included, and `octet_sum` is its last octet. All three are 0 on an error.
 #[unsafe(no_mangle)]
 pub extern "C" fn der_bench_sorted(alloc: Global, bytes: &[u8]) -> Totals {
     let mut elements = Vec::new(alloc);
@@ -20,9 +20,9 @@ pub extern "C" fn der_bench_sorted(alloc: Global, bytes: &[u8]) -> Totals {
     }
 }
 
-/// Reads one SET OF OCTET STRING from `bytes`. Returns 1 in `elements`, the number of contents
-/// octets of the SET OF in `contents`, and the last of these octets in `octet_sum`. All three
-/// are 0 on an error.
+/// Reads one SET OF OCTET STRING from `bytes`. In the result, `elements` is 1, `contents` is the
+/// number of contents octets of the SET OF, and `octet_sum` is the last of these octets, or 0 if
+/// there are none. All three are 0 on an error.
 #[unsafe(no_mangle)]
 pub extern "C" fn der_bench_set(alloc: Global, bytes: &[u8]) -> Totals {
     match set_of_contents(alloc, bytes) {

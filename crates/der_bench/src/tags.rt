@@ -2,9 +2,9 @@
 use crate::Totals;
 use der::{Reader, ReaderExt, SliceReader, decode_header};
 
-/// Reads the elements in `bytes` one after the other, without those inside them, until the octets
-/// end or there is an error. Counts the elements and their contents octets; `octet_sum` is the
-/// sum of the tag numbers.
+/// Reads the elements in `bytes` one after the other, without entering their contents, until the
+/// octets end or there is an error. In the result, `elements` is the number of elements, `contents`
+/// is the total number of their contents octets, and `octet_sum` is the sum of their tag numbers.
 #[unsafe(no_mangle)]
 pub extern "C" fn der_bench_numbers(bytes: &[u8]) -> Totals {
     let mut totals = Totals::none();
@@ -27,10 +27,11 @@ pub extern "C" fn der_bench_numbers(bytes: &[u8]) -> Totals {
     totals
 }
 
-/// Reads the elements in `bytes` one after the other, without those inside them, until the octets
-/// end or there is an error. Counts the elements and their contents octets. Also counts the
-/// elements in a table of 256 counts, by the low octet of the tag number. `octet_sum` is
-/// computed from that table; it is 0 on an error.
+/// Reads the elements in `bytes` one after the other, without entering their contents, until the
+/// octets end or there is an error. Also counts them in a table of 256 counts, by the low octet of
+/// their tag numbers. In the result, `elements` is the number of elements, and `contents` is the
+/// total number of their contents octets. `octet_sum` is a number computed from the table, or 0
+/// after an error.
 #[unsafe(no_mangle)]
 pub extern "C" fn der_bench_counts(bytes: &[u8]) -> Totals {
     let mut counts = [0u64; 256];

@@ -51,10 +51,10 @@ impl Eight {
     }
 }
 
-/// For each number in `numbers`, writes an OCTET STRING of its eight octets, in sequence to `out`,
-/// until all are written or there is an error. Returns the number of OCTET STRINGs in `elements`.
-/// If all are written, returns the number of octets written in `contents`; otherwise `contents` is
-/// 0.
+/// For each number in `numbers`, writes an OCTET STRING of the eight octets of the number, in
+/// sequence to `out`, until all are written or there is an error. In the result, `elements` is the
+/// number of OCTET STRINGs written; `contents` is the number of octets written if all are written,
+/// and 0 otherwise; and `octet_sum` is 0.
 #[unsafe(no_mangle)]
 pub extern "C" fn der_bench_put_elements(numbers: &[u64], out: &mut [u8]) -> Totals {
     let mut totals = Totals::none();
@@ -68,9 +68,10 @@ pub extern "C" fn der_bench_put_elements(numbers: &[u64], out: &mut [u8]) -> Tot
     totals.written(writer.finish())
 }
 
-/// For each number in `numbers`, writes an OCTET STRING of its eight octets into a new array, until
-/// all are written or there is an error. Returns the number of OCTET STRINGs in `elements`, the
-/// number of octets written in `contents`, and the sum of the last octet of each in `octet_sum`.
+/// For each number in `numbers`, writes an OCTET STRING of the eight octets of the number into a
+/// new array, until all are written or there is an error. In the result, `elements` is the number
+/// of OCTET STRINGs written, `contents` is the total number of octets written, headers included,
+/// and `octet_sum` is the sum of the last octets of the OCTET STRINGs.
 #[unsafe(no_mangle)]
 pub extern "C" fn der_bench_to_slice(numbers: &[u64]) -> Totals {
     let mut totals = Totals::none();
@@ -91,10 +92,10 @@ pub(crate) fn last_of(octets: &[u8]) -> u8 {
     octets.last().copied().unwrap_or(0)
 }
 
-/// For each number in `numbers`, writes an OCTET STRING of its eight octets into a new vector,
-/// until all are written or there is an error. Returns the number of OCTET STRINGs in `elements`,
-/// the number of octets written in `contents`, and the sum of the last octet of each in
-/// `octet_sum`.
+/// For each number in `numbers`, writes an OCTET STRING of the eight octets of the number into a
+/// new vector, until all are written or there is an error. In the result, `elements` is the number
+/// of OCTET STRINGs written, `contents` is the total number of octets written, headers included,
+/// and `octet_sum` is the sum of the last octets of the OCTET STRINGs.
 #[unsafe(no_mangle)]
 pub extern "C" fn der_bench_to_der(alloc: Global, numbers: &[u64]) -> Totals {
     let mut totals = Totals::none();
@@ -107,10 +108,10 @@ pub extern "C" fn der_bench_to_der(alloc: Global, numbers: &[u64]) -> Totals {
     totals
 }
 
-/// For each number in `numbers`, appends an OCTET STRING of its eight octets to the same vector,
-/// which grows. Stops at the first error. Returns the number of OCTET STRINGs in `elements`. If all
-/// are written, returns the length of the vector in `contents` and its last octet in
-/// `octet_sum`; otherwise both are 0.
+/// For each number in `numbers`, appends an OCTET STRING of the eight octets of the number to one
+/// vector, which grows. Stops at the first error. In the result, `elements` is the number of OCTET
+/// STRINGs written. If all are written, `contents` is the length of the vector, and `octet_sum` is
+/// its last octet, or 0 if it is empty; otherwise both are 0.
 #[unsafe(no_mangle)]
 pub extern "C" fn der_bench_to_vec(alloc: Global, numbers: &[u64]) -> Totals {
     let mut totals = Totals::none();
@@ -126,10 +127,11 @@ pub extern "C" fn der_bench_to_vec(alloc: Global, numbers: &[u64]) -> Totals {
     totals
 }
 
-/// For each number in `numbers`, writes a SEQUENCE of four OCTET STRINGs to `out`, each with the
-/// eight octets of the number. Calls `sequence` with a closure that is inlined. Stops at the first
-/// error. Returns the number of SEQUENCEs in `elements`. If all are written, returns the number of
-/// octets written in `contents`; otherwise `contents` is 0.
+/// For each number in `numbers`, writes a SEQUENCE of four equal OCTET STRINGs, each of the eight
+/// octets of the number, in sequence to `out`. Calls `sequence` with a closure that is inlined.
+/// Stops at the first error. In the result, `elements` is the number of SEQUENCEs written;
+/// `contents` is the number of octets written if all are written, and 0 otherwise; and `octet_sum`
+/// is 0.
 #[unsafe(no_mangle)]
 pub extern "C" fn der_bench_put_sequences(numbers: &[u64], out: &mut [u8]) -> Totals {
     let mut totals = Totals::none();
@@ -145,10 +147,11 @@ pub extern "C" fn der_bench_put_sequences(numbers: &[u64], out: &mut [u8]) -> To
     totals.written(writer.finish())
 }
 
-/// For each number in `numbers`, writes a SEQUENCE of four OCTET STRINGs to `out`, each with the
-/// eight octets of the number. Calls `sequence` with a closure that calls a function that is not
-/// inlined. Stops at the first error. Returns the number of SEQUENCEs in `elements`. If all are
-/// written, returns the number of octets written in `contents`; otherwise `contents` is 0.
+/// For each number in `numbers`, writes a SEQUENCE of four equal OCTET STRINGs, each of the eight
+/// octets of the number, in sequence to `out`. Calls `sequence` with a closure that calls a
+/// function that is not inlined. Stops at the first error. In the result, `elements` is the number
+/// of SEQUENCEs written; `contents` is the number of octets written if all are written, and 0
+/// otherwise; and `octet_sum` is 0.
 #[unsafe(no_mangle)]
 pub extern "C" fn der_bench_call_sequences(numbers: &[u64], out: &mut [u8]) -> Totals {
     let mut totals = Totals::none();

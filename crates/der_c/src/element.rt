@@ -18,13 +18,14 @@ use der_core::{Header, Reader, decode_header};
 pub struct DerElement<'a> {
     /// The contents octets, without end-of-contents octets.
     pub contents: &'a [u8],
-    /// The tag: the first octet of its identifier, plus 256 times its number if that is 31 or more.
+    /// The tag as a word: the first octet of its identifier, plus 256 times the tag number if the
+    /// number is 31 or more.
     pub tag: u64,
     /// The position at which the header begins.
     pub start: u32,
     /// The position at which the contents begin.
     pub contents_start: u32,
-    /// Whether the identifier has the constructed bit.
+    /// Whether the constructed bit of the identifier is set.
     pub constructed: bool,
     /// Whether the length was read in the indefinite form.
     pub indefinite: bool,

@@ -5,7 +5,7 @@ ghost use Rattle.der_c.specs.ErrorCode.{error_code, kind_code, tag_code, coded a
 use crate::tag::{first_octet, number_in_long_form, tag_of};
 use der_base::{Error, ErrorKind, Length, Tag};
 
-/// An error as a C struct of 16 octets, which fit in two registers. Kind 0 is no error.
+/// An error, or no error if `kind` is 0. A C struct of 16 octets, which fit in two registers.
 #[repr(C)]
 #[derive(Clone, Copy)]
 pub struct DerError {
@@ -137,9 +137,9 @@ pub(crate) fn c_error(error: Error) -> DerError
     }
 }
 
-/// Converts a [`DerError`] back to an error that [`c_error`] converts to `code`; `None` if there is
-/// none, and for the kind `Utf8` (20). Errors that convert to the same [`DerError`] have the same
-/// text.
+/// Returns an error that [`c_error`] converts to `code`. Returns `None` if there is no such error,
+/// or if the kind of `code` is `Utf8` (20). Errors that convert to the same [`DerError`] have the
+/// same text.
 pub(crate) fn known_error(code: DerError) -> Option<Error>
     ensures { IfSome result (λ e. error_code e ≡ code) }
 {

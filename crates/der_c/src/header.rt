@@ -14,11 +14,12 @@ use der_core::{Header, decode_header};
 #[repr(C)]
 #[derive(Clone, Copy)]
 pub struct DerHeader {
-    /// The tag: the first octet of its identifier, plus 256 times its number if that is 31 or more.
+    /// The tag as a word: the first octet of its identifier, plus 256 times the tag number if the
+    /// number is 31 or more.
     pub tag: u64,
     /// The number of contents octets, including the end-of-contents octets of an indefinite length.
     pub length: u32,
-    /// Whether the identifier has the constructed bit.
+    /// Whether the constructed bit of the identifier is set.
     pub constructed: bool,
     /// Whether the length was read in the indefinite form.
     pub indefinite: bool,

@@ -5,7 +5,7 @@ ghost use Rattle.der_c.specs.TagWord.{IsTagWord, NoTagWord, said_tag, tag_octet,
 
 use der_base::{Class, Tag, TagNumber};
 
-/// The tag that [`word_of`] converts to `word`; `None` if there is none.
+/// The tag that [`word_of`] converts to `word`; `None` if there is no such tag.
 #[inline(always)]
 pub(crate) fn tag_of_word(word: u64) -> Option<Tag>
     ensures is { IfSome result (λ t. IsTagWord word t) }
@@ -24,8 +24,8 @@ pub(crate) fn tag_of_word(word: u64) -> Option<Tag>
 }
 
 /// The tag whose identifier begins with `octet`. If the low five bits of `octet` are all set (long
-/// form), the tag number is `long`; otherwise they are the tag number and `long` is ignored. `None`
-/// if `octet` is of class UNIVERSAL and begins no universal tag.
+/// form), the tag number is `long`. Otherwise the low five bits are the tag number, and `long` is
+/// ignored. `None` if the class of `octet` is UNIVERSAL and no universal tag begins with `octet`.
 pub(crate) fn tag_of(octet: u8, long: u32) -> Option<Tag>
     ensures { result ≡ said_tag octet long }
 {

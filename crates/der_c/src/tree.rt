@@ -18,7 +18,8 @@ use der_core::Reader;
 #[repr(C)]
 #[derive(Clone, Copy)]
 pub struct DerNode {
-    /// The tag: the first octet of its identifier, plus 256 times its number if that is 31 or more.
+    /// The tag as a word: the first octet of its identifier, plus 256 times the tag number if the
+    /// number is 31 or more.
     pub tag: u64,
     /// The position at which the header begins.
     pub start: u32,
@@ -26,9 +27,9 @@ pub struct DerNode {
     pub contents_start: u32,
     /// The position at which the contents end.
     pub end: u32,
-    /// How many elements of the tree contain this element.
+    /// The number of elements of the tree that enclose this one; 0 for an outermost element.
     pub depth: u8,
-    /// Whether the identifier has the constructed bit.
+    /// Whether the constructed bit of the identifier is set.
     pub constructed: bool,
     /// Whether the length was read in the indefinite form.
     pub indefinite: bool,
@@ -36,13 +37,13 @@ pub struct DerNode {
 
 /// Reads into `nodes` all elements that are left in `reader`, and all elements inside constructed
 /// ones. Each element comes before the elements inside it. Sets `count` to the number of elements
-/// read. The elements inside an element are read only if fewer than 32 other elements enclose it;
-/// otherwise it is one node, whatever its contents.
+/// read. If 32 other elements enclose an element, the elements inside it are not read: it is one
+/// node, whatever its contents.
 ///
 /// After an error `reader` has failed. Fails with:
 ///
 /// - the errors of [`der_read_element`](crate::der_read_element);
-/// - `Overlength` without a position, if there are more elements than nodes.
+/// - `Overlength` without a position, if there are more elements than `nodes` has places.
 #[unsafe(no_mangle)]
 pub extern "C" fn der_read_tree(
     reader: &mut DerReader<'_>,

@@ -40,8 +40,8 @@ fn position_clone(position: &Position) -> Result<Position, AllocError>
     position.clone()
 }
 
-/// States the result of comparing two values of an [`Orderly`] type: if it is no error, it is the
-/// byte order of their encodings (X.690 11.6). It is no error if the headers of both values can be
+/// States that comparing two values of an [`Orderly`] type returns the byte order of their
+/// encodings (X.690 11.6) or an error. It returns no error if the headers of both values can be
 /// computed.
 fn encodings_are_compared<T: Orderly>(value: &T, other: &T) -> Result<Ordering, Error>
     ensures ok { IfOk result (λ o. o
@@ -54,9 +54,9 @@ fn encodings_are_compared<T: Orderly>(value: &T, other: &T) -> Result<Ordering, 
     value.der_cmp(other)
 }
 
-/// States the result of comparing two slices of values of an [`Orderly`] type: if it is no error,
-/// it is the byte order of the joined encodings of `these` and of `those`. It is no error if the
-/// header of every value in both slices can be computed.
+/// States that comparing two slices of values of an [`Orderly`] type returns an error or the byte
+/// order of two lists of octets: the joined encodings of `these` and those of `those`. It returns
+/// no error if the header of every value in both slices can be computed.
 fn joined_encodings_are_compared<T: Orderly>(these: &[T], those: &[T]) -> Result<Ordering, Error>
     ensures ok { IfOk result (λ o. o ≡ byte_order (joined_elements T.tag_of T.contents these.now)
         (joined_elements T.tag_of T.contents those.now)) }

@@ -77,15 +77,15 @@ pub trait Decode<R: Reader>: Sized + Drop {
 
     /// Decodes a value from the next octets of the reader and consumes them.
     ///
-    /// Suppose that the reader is reliable (see [`Reader`]), has not failed, and has
-    /// `decode_levels` levels of nesting left. If its next octets are a value, the result is this
-    /// value or an error that reports a failed allocation.
+    /// Suppose that the reader is reliable (see [`Reader`]), has not failed, and has at least as
+    /// many levels of nesting left as the ghost member `decode_levels` says. If the reader's next
+    /// octets are a value, the result is this value or an error that reports a failed allocation.
     ///
     /// # Errors
     ///
     /// - An error that reports a failed allocation, if the type allocates.
-    /// - The errors of the type: `decode_answers` specifies them, their positions, and whether the
-    ///   reader is then failed.
+    /// - The errors of the type: the ghost member `decode_answers` specifies them, their positions,
+    ///   and whether the reader is then failed.
     fn decode(alloc: Global, reader: &mut R) -> Result<Self, Self::Error>
         ensures same { Same (R.state reader.old) (R.state reader.new) }
         ensures ok { IfOk result (λ v. (R.state reader.old).failed ≡ false
@@ -108,8 +108,8 @@ pub trait DecodeBytes<'a>: Decode<SliceReader<'a>> {
     /// # Errors
     ///
     /// - `Overflow` without a position, if there are more than 4294967295 octets.
-    /// - Those of the type, as by [`Decode::decode`] at the start of the octets.
-    /// - `Failed` at the reader's position, if the type returns a value but leaves its reader
+    /// - The errors of the type, as by [`Decode::decode`] with a reader at the start of the octets.
+    /// - `Failed` at the reader's position, if decoding the value succeeds but leaves the reader
     ///   failed.
     /// - `TrailingData` at the reader's position, if octets are left after the value.
     final fn from_der(
@@ -130,8 +130,8 @@ pub trait DecodeBytes<'a>: Decode<SliceReader<'a>> {
     /// # Errors
     ///
     /// - `Overflow` without a position, if there are more than 4294967295 octets.
-    /// - Those of the type, as by [`Decode::decode`] at the start of the octets.
-    /// - `Failed` at the reader's position, if the type returns a value but leaves its reader
+    /// - The errors of the type, as by [`Decode::decode`] with a reader at the start of the octets.
+    /// - `Failed` at the reader's position, if decoding the value succeeds but leaves the reader
     ///   failed.
     /// - `TrailingData` at the reader's position, if octets are left after the value.
     final fn from_ber(
@@ -153,8 +153,8 @@ pub trait DecodeBytes<'a>: Decode<SliceReader<'a>> {
     /// # Errors
     ///
     /// - `Overflow` without a position, if there are more than 4294967295 octets.
-    /// - Those of the type, as by [`Decode::decode`] at the start of the octets.
-    /// - `Failed` at the reader's position, if the type returns a value but leaves its reader
+    /// - The errors of the type, as by [`Decode::decode`] with a reader at the start of the octets.
+    /// - `Failed` at the reader's position, if decoding the value succeeds but leaves the reader
     ///   failed.
     final fn from_der_partial(
         alloc: Global,

@@ -76,8 +76,10 @@ pub trait Encode {
     /// After an error the contents of the buffer are unspecified.
     ///
     /// - Those of the type, as by [`Encode::encode`].
-    /// - `Overflow` at the number of octets written, if the next write would exceed 4294967295.
-    /// - `Overlength` at the requested end of the first write for which there is no space.
+    /// - `Overflow` at the position after the octets written, if the next write would end after
+    ///   position 4294967295.
+    /// - `Overlength` at the position where the first write that does not fit into the buffer would
+    ///   end.
     #[inline(always)]
     final fn encode_to_slice<'b>(&self, buf: &'b mut [u8]) -> Result<&'b [u8], Error>
         ensures ok { IfOk result (λ r. r.now ≡ Self.encoding self.now) }
@@ -91,7 +93,7 @@ pub trait Encode {
         writer.finish()
     }
 
-    /// Appends the value's encoding to `out`, and returns the number of its octets.
+    /// Appends the value's encoding to `out`, and returns the number of octets appended.
     ///
     /// # Errors
     ///

@@ -25,7 +25,7 @@ impl<'a, T> EncodeRef<'a, T> {
 ///
 /// # Errors
 ///
-/// Those of that value, with the same positions and states.
+/// Those of that value, with the same positions; the writer is left in the same state.
 impl<'a, T: Encode> Encode for EncodeRef<'a, T> {
     ghost encoding = { λ v. T.encoding v.0.now };
 

@@ -37,8 +37,8 @@ pub struct Header {
 impl Header {
     ghost use Rattle.der_core.specs.Header.{header_sans_eoc};
 
-    /// Creates a header with this tag and length. Its constructed bit is set if that of `tag` is,
-    /// or if `length` was read in the indefinite form.
+    /// Creates a header with the tag `tag` and the length `length`. Its constructed bit is set if
+    /// that of `tag` is, or if `length` was read in the indefinite form.
     pub fn new(tag: Tag, length: Length) -> Self
         ensures { head_of result ≡ head tag length
             ((label tag).constructed || is_indefinite length) }
@@ -72,7 +72,7 @@ impl Header {
         self.constructed
     }
 
-    /// A copy of the header with another length; tag and constructed bit are kept.
+    /// A copy of the header with the length `length`; tag and constructed bit are kept.
     pub fn with_length(&self, length: Length) -> Self
         ensures { head_of result ≡ head (head_of self.now).tag length
             (head_of self.now).constructed }
@@ -209,25 +209,25 @@ impl<R: Reader> Decode<R> for Header {
     ///
     /// # Errors
     ///
-    /// After all but `Failed`, `Overflow` and the errors of a scan, the reader is at the error's
-    /// position and failed.
+    /// After all but `Failed`, `Overflow` and the errors of the scan for the end of an indefinite
+    /// length, the reader is at the error's position and failed.
     ///
     /// - `Failed` at the reader's position, if the reader had already failed; the reader is
     ///   unchanged.
     /// - `Overflow` without a position, if an octet is missing at position 4294967295; the reader
     ///   is there and has not failed.
     /// - `Incomplete` at the end, if an octet is missing at any other position.
-    /// - `TagUnknown` with the octet, after a first octet that begins no tag.
-    /// - `TagNumberInvalid` after octet `0x1F` if it is the first, or after an octet with which no
-    ///   tag number continues (X.690 8.1.2.4).
-    /// - `IndefiniteLength` after octet `0x80` as the first length octet: under the Distinguished
-    ///   Encoding Rules; and under the Basic Encoding Rules if the identifier is primitive and a
-    ///   body follows.
-    /// - `NestingDepth` and the other errors of the scan after octet `0x80`, as by
+    /// - `TagUnknown` with the first octet, at the position after it, if it begins no tag.
+    /// - `TagNumberInvalid` at the position after the first octet if this is `0x1F`, or after an
+    ///   octet with which no tag number continues (X.690 8.1.2.4).
+    /// - `IndefiniteLength` at the position after the first length octet, if this is `0x80`: under
+    ///   the Distinguished Encoding Rules; and under the Basic Encoding Rules if the identifier is
+    ///   primitive and a body follows.
+    /// - `NestingDepth` and the other errors of the scan that follows octet `0x80`, as by
     ///   [`decode_indefinite_length`](crate::decode_indefinite_length), under the Basic Encoding
     ///   Rules; the reader is after octet `0x80` and has not failed.
-    /// - `Length` with the tag, after the length octets if fewer would suffice, or after the first
-    ///   of them if it announces more than four.
+    /// - `Length` with the tag, at the position after the length octets if fewer would suffice, or
+    ///   after the first of them if it announces more than four.
     #[inline(always)]
     fn decode(_alloc: Global, reader: &mut R) -> Result<Header, Error>
         ensures { Decodes HeaderNext (HeaderFault BodyFault) R.reliable (R.state reader.old)

@@ -16,8 +16,9 @@ ghost use Rattle.der_core.specs.Lawful.{IsDefinite, IsDefiniteHeader, PassesEnco
 use crate::decode::Lawful;
 use std::marker::PhantomData;
 
-/// States what a reader decodes, if it is reliable (see [`Reader`](crate::Reader)) and has not
-/// failed: if its next octets are an identifier, tag, length or header, decoding returns it.
+/// States that decoding an identifier, a tag, a length or a header returns it, if the next octets
+/// of the reader are this identifier, tag, length or header. The reader must be reliable (see
+/// [`Reader`](crate::Reader)) and must not have failed.
 
 fn next_values_are_decoded()
     ensures identifiers { Accepts IdentifierNext IdentifierFault }

@@ -157,21 +157,21 @@ impl<R: Reader> Decode<R> for Length {
     ///
     /// # Errors
     ///
-    /// After all but `Failed`, `Overflow` and the errors of a scan, the reader is at the error's
-    /// position and failed.
+    /// After all but `Failed`, `Overflow` and the errors of the scan for the end of an indefinite
+    /// length, the reader is at the error's position and failed.
     ///
     /// - `Failed` at the reader's position, if the reader had already failed; the reader is
     ///   unchanged.
     /// - `Overflow` without a position, if an octet is missing at position 4294967295; the reader
     ///   is there and has not failed.
     /// - `Incomplete` at the end, if an octet is missing at any other position.
-    /// - `IndefiniteLength` after octet `0x80` if it is the first, under the Distinguished Encoding
-    ///   Rules.
+    /// - `IndefiniteLength` at the position after the first octet, if this is `0x80`, under the
+    ///   Distinguished Encoding Rules.
     /// - `TagUnknown`, `TagNumberInvalid`, `Length`, `NestingDepth` and the other errors of the
-    ///   scan after octet `0x80`, as by [`decode_indefinite_length`], under the Basic Encoding
-    ///   Rules; the reader is after octet `0x80` and has not failed.
-    /// - `Overlength` after the length octets if fewer would suffice, or after the first of them if
-    ///   it announces more than four.
+    ///   scan that follows octet `0x80`, as by [`decode_indefinite_length`], under the Basic
+    ///   Encoding Rules; the reader is after octet `0x80` and has not failed.
+    /// - `Overlength` at the position after the length octets if fewer would suffice, or after the
+    ///   first of them if it announces more than four.
     #[inline(always)]
     fn decode(_alloc: Global, reader: &mut R) -> Result<Length, Error>
         ensures { Decodes LengthNext (LengthFault BodyFault Overlength) R.reliable

@@ -43,8 +43,8 @@ impl<'a> Octets for &'a [u8] {
 /// A reader of octets: an input, the end up to which it may be read, a position, and whether the
 /// reader has failed.
 ///
-/// A reader is reliable if each of its functions fails exactly when, and with the error and
-/// position that, its contract specifies. Any other reader may fail at every call; only its `Ok`
+/// A reader is reliable if its functions fail exactly in the cases that their contracts specify,
+/// with the specified errors and positions. Any other reader may fail at every call; only its `Ok`
 /// results are specified. A reader that keeps no failed state never counts as failed, even where
 /// the list of errors of a function says that the reader is then failed. If several errors of such
 /// a list apply, the first of them is returned.
@@ -102,10 +102,10 @@ pub trait Reader: Sized + Drop {
     ///   unchanged.
     /// - `Failed` at the reader's position, if the reader had already failed; the reader is
     ///   unchanged.
-    /// - `Overflow` without a position, if fewer octets are left and the sum of position and length
-    ///   exceeds 4294967295; the reader is unchanged.
-    /// - `Incomplete` at the reader's position, if fewer octets are left; the reader is then
-    ///   failed.
+    /// - `Overflow` without a position, if fewer octets are left than requested and the sum of
+    ///   position and requested number exceeds 4294967295; the reader is unchanged.
+    /// - `Incomplete` at the reader's position, if fewer octets are left and that sum does not
+    ///   exceed 4294967295; the reader is then failed.
     fn read_slice(&mut self, len: Length) -> Result<Self::Borrowed, Error>
         ensures same { Same (state self.old) (state self.new) }
         ensures exact { Meets reliable (read_slice_outcome (number len)) (state self.old)
@@ -125,10 +125,10 @@ pub trait Reader: Sized + Drop {
     ///   is unchanged.
     /// - `Failed` at the reader's position, if the reader had already failed; the reader is
     ///   unchanged.
-    /// - `Overflow` without a position, if fewer octets are left and the sum of position and length
-    ///   exceeds 4294967295; the reader is unchanged.
-    /// - `Incomplete` at the reader's position, if fewer octets are left; the reader is then
-    ///   failed.
+    /// - `Overflow` without a position, if fewer octets are left than requested and the sum of
+    ///   position and requested number exceeds 4294967295; the reader is unchanged.
+    /// - `Incomplete` at the reader's position, if fewer octets are left and that sum does not
+    ///   exceed 4294967295; the reader is then failed.
     fn read_into(&mut self, buf: &mut [u8]) -> Result<(), Error>
         ensures same { Same (state self.old) (state self.new) }
         ensures exact { Meets reliable (read_into_outcome (length buf.old)) (state self.old)
@@ -158,8 +158,8 @@ pub trait Reader: Sized + Drop {
             → map_ok Self.Borrowed.octets result ≡ Err
             (error_at CannotRead (reader_position (state self.now))) };
 
-    /// Returns a reader in the same state. Reading from it leaves this reader unchanged. Allocates
-    /// nothing.
+    /// Returns another reader in the same state as this one. Reading from the other reader leaves
+    /// this one unchanged. Allocates nothing.
     fn fork(&self) -> Self
         ensures { state result ≡ state self.now };
 
@@ -170,10 +170,10 @@ pub trait Reader: Sized + Drop {
     ///
     /// - `Failed` at the reader's position, if the reader had already failed; the reader is
     ///   unchanged.
-    /// - `Overflow` without a position, if fewer octets are left and the sum of position and length
-    ///   exceeds 4294967295; the reader is unchanged.
-    /// - `Incomplete` at the reader's position, if fewer octets are left; the reader is then
-    ///   failed.
+    /// - `Overflow` without a position, if fewer octets are left than requested and the sum of
+    ///   position and requested number exceeds 4294967295; the reader is unchanged.
+    /// - `Incomplete` at the reader's position, if fewer octets are left and that sum does not
+    ///   exceed 4294967295; the reader is then failed.
     /// - `OutOfMemory` without a position, if the allocation fails; the reader is unchanged.
     fn read_vec_in<A: Allocator>(&mut self, alloc: A, len: Length) -> Result<Vec<u8, A>, Error>
         ensures same { Same (state self.old) (state self.new) }
@@ -188,10 +188,10 @@ pub trait Reader: Sized + Drop {
     ///
     /// - `Failed` at the reader's position, if the reader had already failed; the reader is
     ///   unchanged.
-    /// - `Overflow` without a position, if fewer octets are left and the sum of position and length
-    ///   exceeds 4294967295; the reader is unchanged.
-    /// - `Incomplete` at the reader's position, if fewer octets are left; the reader is then
-    ///   failed.
+    /// - `Overflow` without a position, if fewer octets are left than requested and the sum of
+    ///   position and requested number exceeds 4294967295; the reader is unchanged.
+    /// - `Incomplete` at the reader's position, if fewer octets are left and that sum does not
+    ///   exceed 4294967295; the reader is then failed.
     /// - `OutOfMemory` without a position, if the allocation fails; the reader is unchanged.
     final fn read_vec(&mut self, alloc: Global, len: Length) -> Result<Vec<u8>, Error>
         ensures same { Same (Self.state self.old) (Self.state self.new) }
@@ -202,17 +202,19 @@ pub trait Reader: Sized + Drop {
     }
 
     /// Skips `amount` octets. A definite length of zero skips none, even on a failed reader. Octets
-    /// are skipped in steps of sixteen. If fewer than `amount` are left, the reader skips all steps
-    /// for which sixteen octets are left, and fails at the next step.
+    /// are skipped in steps of sixteen; the last step may be shorter. If fewer than `amount` octets
+    /// are left, the reader skips all steps for which sixteen octets are left, and fails at the
+    /// next step.
     ///
     /// # Errors
     ///
     /// - `Failed` at the reader's position, if the reader had already failed; the reader is
     ///   unchanged.
-    /// - `Overflow` without a position, if fewer octets are left and the end of the next step would
-    ///   exceed 4294967295; the reader is after the whole steps and has not failed.
-    /// - `Incomplete` at the position after the whole steps, if fewer octets are left; the reader
-    ///   is there and failed.
+    /// - `Overflow` without a position, if fewer than `amount` octets are left and the end of the
+    ///   step that fails would exceed 4294967295; the reader is after the whole steps and has not
+    ///   failed.
+    /// - `Incomplete` at the position after the whole steps, if fewer than `amount` octets are left
+    ///   and that end does not exceed 4294967295; the reader is there and failed.
     fn drain(&mut self, amount: Length) -> Result<(), Error>
         ensures same { Same (state self.old) (state self.new) }
         ensures exact { Meets reliable (drain_outcome amount) (state self.old) result
@@ -237,7 +239,8 @@ pub trait Reader: Sized + Drop {
     ///
     /// - `Overflow` without a position, if the end of the part would exceed 4294967295; the reader
     ///   is unchanged.
-    /// - `Incomplete` at the end, if the part would exceed the end; the reader is unchanged.
+    /// - `Incomplete` at the reader's end, if the part would go beyond this end, but not beyond
+    ///   4294967295; the reader is unchanged.
     /// - `NestingDepth` at the reader's position, if the part would be nested in 64 others; the
     ///   reader is then failed.
     fn enter_nested(&mut self, len: Length) -> Result<Resumption, Error>

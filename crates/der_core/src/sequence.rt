@@ -11,13 +11,14 @@ use crate::header::Header;
 use crate::reader::Reader;
 use std::alloc::Global;
 
-/// Types whose values consist of fields, given as one value of the type `F`, such as nested pairs.
+/// Types whose values can be built from their fields. One value of the type `F` holds all the
+/// fields, for example the nested pair `(A, (B, C))` for three fields.
 ///
 /// Ghost member (for proofs only): `fields` returns the fields of a value.
 pub trait FromFields<F>: Sized + Drop {
     ghost fields: { Self → F };
 
-    /// The value whose fields are `members`.
+    /// Builds the value whose fields are `members`.
     fn from_fields(members: F) -> Self
         ensures { Self.fields result ≡ members };
 }

@@ -294,9 +294,9 @@ impl<R: Reader> Decode<R> for Tag {
     /// - `Overflow` without a position, if an octet is missing at position 4294967295; the reader
     ///   is there and has not failed.
     /// - `Incomplete` at the end, if an octet is missing at any other position.
-    /// - `TagUnknown` with the octet, after a first octet that begins no tag.
-    /// - `TagNumberInvalid` after octet `0x1F` if it is the first, or after an octet with which no
-    ///   tag number continues (X.690 8.1.2.4).
+    /// - `TagUnknown` with the first octet, at the position after it, if it begins no tag.
+    /// - `TagNumberInvalid` at the position after the first octet if this is `0x1F`, or after an
+    ///   octet with which no tag number continues (X.690 8.1.2.4).
     #[inline(always)]
     fn decode(_alloc: Global, reader: &mut R) -> Result<Tag, Error>
         ensures { Decodes TagNext IdentifierFault R.reliable (R.state reader.old) result

@@ -10,10 +10,10 @@ pub use slice::SliceWriter;
 /// A writer of octets: the octets written, the octets of its buffer after them, the space that is
 /// left, and whether the writer has failed.
 ///
-/// A writer that has not failed accepts every write that fits into its space. A writer is reliable
-/// if each of its functions fails exactly when, and with the error and position that, its contract
-/// specifies. A writer that guarantees nothing counts as failed. If several errors of a function's
-/// list apply, the first of them is returned.
+/// A writer that has not failed accepts every write that fits into its space. A writer that does
+/// not guarantee this must count as failed. A writer is reliable if its functions fail exactly in
+/// the cases that their contracts specify, with the specified errors and positions. If several
+/// errors of a function's list apply, the first of them is returned.
 ///
 /// Ghost members (for proofs only):
 ///
@@ -37,9 +37,10 @@ pub trait Writer {
     ///
     /// - `Failed` at the writer's position, if the writer had already failed; the writer is
     ///   unchanged.
-    /// - `Overflow` at the writer's position, if the end would exceed 4294967295; the writer is
-    ///   then failed.
-    /// - `Overlength` at the requested end, if there is no space; the writer is then failed.
+    /// - `Overflow` at the writer's position, if `octets` would end after position 4294967295; the
+    ///   writer is then failed.
+    /// - `Overlength` at the position where `octets` would end, if they do not fit into the space;
+    ///   the writer is then failed.
     fn write(&mut self, octets: &[u8]) -> Result<(), Error>
         ensures kept { Keeps (state self.old) (state self.new) }
         ensures ok { Appends (state self.old) octets.now result (state self.new) }

@@ -4,7 +4,7 @@ ghost use Rattle.std.specs.Prelude.{true, false, []};
 use der::{Error, ErrorKind, Writer};
 use std::alloc::Global;
 
-/// A writer into a vector, which counts the calls of `write`.
+/// A writer that appends to a vector and counts the calls of its method `write`.
 #[derive(Drop)]
 pub struct Counter {
     /// The octets written so far.

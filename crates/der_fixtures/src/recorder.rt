@@ -3,8 +3,8 @@ ghost use Rattle.std.specs.Prelude.{◌+◌, ◌*◌, ◌%◌, ◌^◌, fold};
 
 use std::hash::{Hash, Hasher};
 
-/// A hasher that keeps the octets it gets as a number. In base 256 the digits of this number are a
-/// 1 and then the octets. There is room for 15 octets; with more, the first digits are lost.
+/// A hasher that keeps all octets it gets in one number. In base 256 the digits of this number are
+/// a 1 and then the octets. There is room for 15 octets; with more, the first digits are lost.
 #[derive(Drop)]
 struct Recorder(u128);
 
@@ -24,7 +24,7 @@ impl Hasher for Recorder {
     }
 }
 
-/// The octets that `value` gives to a hasher, as a number. In base 256 the digits of this number
+/// The octets that `value` gives to a hasher, as one number. In base 256 the digits of this number
 /// are a 1 and then the octets. There is room for 15 octets; with more, the first digits are lost.
 pub fn recorded<T: Hash>(value: &T) -> u128 {
     let mut recorder = Recorder(1);

@@ -12,7 +12,8 @@ pub struct SlicingReader<'a> {
     inner: SliceReader<'a>,
 }
 
-/// A [`SlicingReader`] at the start of `octets`, under the Basic Encoding Rules.
+/// A [`SlicingReader`] at the start of `octets`, under the Basic Encoding Rules. Fails if there are
+/// more than 4294967295 octets.
 pub fn ber_slicing(octets: &[u8]) -> Result<SlicingReader<'_>, Error>
     ensures { IfOk result (λ r. (slice_state r.inner).rules ≡ Ber) }
 {

@@ -5,8 +5,8 @@ ghost use Rattle.der.specs.Prelude.{indefinite_length};
 use der::{EncodingRules, Error, Length, ReaderExt, SliceReader, Turns};
 use std::sync::ledger::{Blank, Ledger};
 
-/// Scans three NULLs and the end-of-contents octets, and returns the number of these octets: 8.
-/// Adds 4 to `turns`, one for each NULL and one for the end-of-contents octets.
+/// Scans three NULLs and the end-of-contents octets, and returns their number of octets: 8. Adds 4
+/// to `turns` (see [`Turns`]), one for each NULL and one for the end-of-contents octets.
 pub fn scan_nulls<L: Ledger>(turns: &mut Turns<L>) -> Result<Length, Error>
     ensures answer { result ≡ Ok (indefinite_length 8) }
     ensures turned { turns.new ≡ turns.old + 4 }
@@ -16,8 +16,8 @@ pub fn scan_nulls<L: Ledger>(turns: &mut Turns<L>) -> Result<Length, Error>
     reader.scan_indefinite(turns)
 }
 
-/// Scans three NULLs and the end-of-contents octets, and returns the number of these octets: 8.
-/// Creates the counter of turns (see [`Turns`]), which starts at 0, from `blank`.
+/// Scans three NULLs and the end-of-contents octets, and returns their number of octets: 8. Makes a
+/// new counter of turns (see [`Turns`]) from `blank`, which starts at 0, and counts in it.
 pub fn scan_nulls_counted<L: Ledger>(blank: Blank) -> Result<Length, Error>
     requires name { blank.name ≡ L.name }
     requires parts { blank.parts ≡ L.parts }

@@ -3,18 +3,20 @@ use der::Error;
 use std::fmt::{Debug, Display};
 use std::io;
 
-/// Prints a line with `call`, the name of a call, and with `value`, its result, in debug format.
+/// Prints a line with `call` and `value`. `call` is the name of a call, and `value` is its result,
+/// which is printed in debug format.
 pub fn print_value<T: Debug + Drop>(rt: &impl Print, call: &str, value: T) -> io::Result<()> {
     println!(rt; "{call}: {value:?}")
 }
 
-/// Prints a line with `call`, the name of a call, and with `value`, its result, as text.
+/// Prints a line with `call` and `value`. `call` is the name of a call, and `value` is its result,
+/// which is printed as text.
 pub fn print_text<T: Display + Drop>(rt: &impl Print, call: &str, value: T) -> io::Result<()> {
     println!(rt; "{call}: {value}")
 }
 
-/// Prints a line with `call`, the name of a call, and with `answer`, its result: the value in debug
-/// format, or the error as text.
+/// Prints a line with `call` and `answer`. `call` is the name of a call, and `answer` is its
+/// result: a value, which is printed in debug format, or an error, which is printed as text.
 pub fn print_result<T: Debug + Drop>(
     rt: &impl Print,
     call: &str,

@@ -117,7 +117,8 @@ fn write_serial_number(text: &mut String, number: &IntRef<'_>) -> Result<(), All
     }
 }
 
-/// Writes a line with `oid`, the identifier of a signature algorithm.
+/// Writes a line with `oid`, the identifier of a signature algorithm. `offsets` must be at the
+/// start of its AlgorithmIdentifier element, and moves past it.
 pub fn write_signature_algorithm(
     text: &mut String,
     oid: &ObjectIdentifierRef<'_>,
@@ -129,7 +130,8 @@ pub fn write_signature_algorithm(
     text.push('\n')
 }
 
-/// Writes a line with the number of octets of `signature`. The octets are not written.
+/// Writes a line with the number of octets of `signature`, not with the octets themselves.
+/// `offsets` must be at the start of the element of `signature`, and moves past it.
 pub fn write_signature(
     text: &mut String,
     signature: &BitStringRef<'_>,
@@ -140,8 +142,8 @@ pub fn write_signature(
     writeln!(text, "Signature Value: {signature_len} octets")
 }
 
-/// Writes a line with the unique identifier `id` in hexadecimal, or nothing if it is absent. `of`
-/// is the word for its owner: `Issuer` or `Subject`.
+/// Writes a line with the unique identifier `id` in hexadecimal, or nothing if `id` is absent. `of`
+/// names the owner of the identifier: `Issuer` or `Subject`.
 fn write_unique_id<const N: u32>(
     text: &mut String,
     of: &str,

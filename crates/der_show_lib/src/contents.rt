@@ -12,9 +12,9 @@ const SHOWN_OCTETS: usize = 32;
 
 /// Writes the contents of an element with the tag `tag`:
 ///
-/// - of an object identifier its name, if it is known, and the numbers that it consists of;
-/// - of a string or a time its text, unchanged;
-/// - of anything else the first 32 octets in hexadecimal, and `..` if there are more.
+/// - for an object identifier, its name, if known, and its arcs (the numbers it consists of);
+/// - for a string or a time that [`shown_text`] accepts, its text, unchanged;
+/// - for anything else, the first 32 octets in hexadecimal, and `..` if there are more.
 pub fn write_contents(text: &mut String, tag: Tag, contents: &[u8]) -> Result<(), AllocError> {
     if tag == Tag::ObjectIdentifier {
         if let Some(oid) = ObjectIdentifierRef::new(contents) {

@@ -15,8 +15,9 @@ use std::alloc::Global;
 use x509::{CertReq, Certificate};
 
 /// Decodes the octets as the type `shape`, and writes one line per field. If they do not decode,
-/// writes instead one line with the innermost field that fails, and returns the error of this
-/// field. `has_offsets` says whether each line begins with the offset of its element.
+/// writes instead one line with the path of the innermost field that fails to decode, and returns
+/// the error of this field. `has_offsets` says whether the line of a field begins with the offset
+/// of its element.
 pub fn write_fields(
     alloc: Global,
     text: &mut String,

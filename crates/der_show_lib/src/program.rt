@@ -64,8 +64,8 @@ fn read_octets<R: Files + Input + AllocGlobal>(rt: &R, file: Option<&str>) -> io
     }
 }
 
-/// The text to print for `octets`, and the exit status. The status is 0 if the octets are accepted.
-/// Otherwise it is 1, and the text ends with an error line. Fails if an allocation fails.
+/// Returns the text to print for `octets`, and the exit status. The status is 0 if the octets are
+/// accepted. Otherwise it is 1, and the text ends with an error line. Fails if an allocation fails.
 fn view(alloc: Global, octets: &[u8], options: Options) -> Result<(String, u8), AllocError> {
     let mut text = String::new(alloc);
     match write_view(alloc, &mut text, octets, options) {

@@ -17,7 +17,7 @@ const ELLIPTIC_CURVE: &[u8] = &[0x2a, 0x86, 0x48, 0xce, 0x3d, 0x02, 0x01];
 
 /// Writes the lines of a public key: its algorithm, its size, and its curve if it has one.
 ///
-/// `offsets` must be at the element of the key.
+/// `offsets` must be at the start of the key's SubjectPublicKeyInfo element.
 pub fn write_public_key(
     text: &mut String,
     key: &SubjectPublicKeyInfoRef<'_>,
@@ -38,9 +38,10 @@ pub fn write_public_key(
     write_curve(text, &key.algorithm, &mut parameters)
 }
 
-/// The nominal size in bits of the public key `key`, whose own octets are `octets`: the number of
-/// bits of the modulus of an RSA key, or of the order of a named curve. `None` if the algorithm or
-/// the curve is not known here, or the RSA key has no modulus that can be read.
+/// The nominal size in bits of the public key `key`: the number of bits of the modulus of an RSA
+/// key, or of the order of a named curve. `octets` are the octets of its BIT STRING, without the
+/// count of unused bits. `None` if this function does not know the algorithm or the curve, or if
+/// the RSA key has no modulus that can be read.
 fn key_bits(key: &SubjectPublicKeyInfoRef<'_>, octets: &[u8]) -> Option<u64> {
     let algorithm = key.algorithm.oid.octets();
     if algorithm == RSA {
@@ -65,11 +66,11 @@ fn curve_bits(curve: &[u8]) -> Option<u64> {
     }
 }
 
-/// Writes a line with the parameters, if the algorithm is id-ecPublicKey and has parameters;
+/// Writes a line with the parameters of `algorithm`, if it is id-ecPublicKey and has parameters;
 /// otherwise writes nothing. The parameters are written as a curve if they are an object
 /// identifier, and in hexadecimal if not.
 ///
-/// `offsets` must be at the element of the algorithm.
+/// `offsets` must be at the start of the AlgorithmIdentifier element of `algorithm`.
 pub fn write_curve(
     text: &mut String,
     algorithm: &AlgorithmIdentifierRef<'_>,
@@ -98,7 +99,7 @@ pub fn write_curve(
 }
 
 /// The number of bits of the modulus of an RSA key. `octets` must begin with an RSAPublicKey (RFC
-/// 8017, A.1.1).
+/// 8017, A.1.1). Fails if the modulus cannot be read.
 fn modulus_bits(octets: &[u8]) -> Result<u64, Error> {
     let mut reader = SliceReader::new(octets)?;
     let key = decode_header(&mut reader)?;
@@ -108,8 +109,8 @@ fn modulus_bits(octets: &[u8]) -> Result<u64, Error> {
     Ok(bit_count(reader.read_slice(modulus.length())?))
 }
 
-/// The number of bits of the natural number with the digits `octets` in base 256, without leading
-/// zero bits. `octets` may begin with at most one zero octet.
+/// The number of bits, without leading zero bits, of the natural number whose digits in base 256
+/// are `octets`. `octets` must not begin with more than one zero octet.
 fn bit_count(octets: &[u8]) -> u64 {
     match octets {
         [0, rest @ ..] => bits_from_first(rest),

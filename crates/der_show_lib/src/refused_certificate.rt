@@ -11,7 +11,7 @@ use der_asn1::{
 use x509::{Extension, Extensions, TbsCertificate, Time, Validity, Version};
 
 /// Searches a certificate for the innermost field that fails to decode. `search` must be at the
-/// start of the certificate, and keeps what it finds.
+/// start of the certificate, and records the error, the path and the offset of this field.
 pub fn search_certificate(search: &mut Search<'_>) {
     let _found = search.enter(Tag::Sequence)
         && (search_signed(search)

@@ -50,7 +50,8 @@ pub fn search_key(search: &mut Search<'_>, name: &str) -> bool {
 }
 
 /// Searches a SubjectPublicKeyInfo that fails to decode for the innermost field that fails.
-/// `search` must be at the start of the SubjectPublicKeyInfo, and keeps what it finds.
+/// `search` must be at the start of the SubjectPublicKeyInfo, and records the error, the path and
+/// the offset of this field.
 pub fn search_public_key(search: &mut Search<'_>) {
     let _found = search.enter(Tag::Sequence)
         && (search_algorithm(search, "algorithm") || search_bits(search, "subjectPublicKey"));

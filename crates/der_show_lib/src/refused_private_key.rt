@@ -7,7 +7,7 @@ use der_asn1::{Implicit, OctetStringRef, Optional};
 use pkcs8::{PrivateKeyAttributes, Version};
 
 /// Searches a private key for the innermost field that fails to decode. `search` must be at the
-/// start of the private key, and keeps what it finds.
+/// start of the private key, and records the error, the path and the offset of this field.
 pub fn search_private_key(search: &mut Search<'_>) {
     let _found = search.enter(Tag::Sequence)
         && (search.is_refused::<Version<'_>>("version")

@@ -9,7 +9,7 @@ use der_asn1::{AnyRef, Implicit};
 use x509::{Attribute, AttributeValues, Attributes, CertReqInfo, CertReqVersion};
 
 /// Searches a certification request for the innermost field that fails to decode. `search` must be
-/// at the start of the request, and keeps what it finds.
+/// at the start of the request, and records the error, the path and the offset of this field.
 pub fn search_request(search: &mut Search<'_>) {
     let _found = search.enter(Tag::Sequence)
         && (search_info(search)

@@ -24,7 +24,8 @@ pub struct Search<'a> {
 }
 
 impl<'a> Search<'a> {
-    /// A walk that starts at the first element of `octets`, which failed to decode with `error`.
+    /// A walk that starts at the first element of `octets`. `error` is the error with which
+    /// `octets` failed to decode. Fails if there are more than 4294967295 octets.
     pub fn new(alloc: Global, octets: &'a [u8], error: Error) -> Result<Self, Error> {
         let reader = SliceReader::new(octets)?;
         Ok(Search {
@@ -37,9 +38,9 @@ impl<'a> Search<'a> {
         })
     }
 
-    /// Whether the next field fails to decode as a `T`. If it decodes, the walk skips it. If it
-    /// fails, the walk stays at this field, keeps its error and its offset, and adds `name` to the
-    /// path.
+    /// Whether the next field fails to decode as a `T`. If the field decodes, the walk skips it. If
+    /// not, the walk stays at this field, keeps the field's error and offset, and adds `name` to
+    /// the path.
     pub fn is_refused<T: Decode<SliceReader<'a>, Error = Error>>(&mut self, name: &str) -> bool {
         if self.passes::<T>() {
             return false;
@@ -52,8 +53,9 @@ impl<'a> Search<'a> {
     }
 
     /// Whether an item of a SEQUENCE OF fails to decode as a `T`. The walk must be at the start of
-    /// the contents of the list. At the first item that fails it stays, keeps the error and the
-    /// offset, and adds the item's index to the path. If no item fails, the walk skips the list.
+    /// the contents of the SEQUENCE OF. If an item fails, the walk stays at the first one that
+    /// does, keeps its error and its offset, and adds its index to the path. If no item fails, the
+    /// walk skips the whole SEQUENCE OF.
     pub fn is_item_refused<T: Decode<SliceReader<'a>, Error = Error>>(&mut self) -> bool {
         for at in 0..u32::from(self.reader.remaining_len()) {
             if self.reader.is_finished() {
@@ -68,11 +70,13 @@ impl<'a> Search<'a> {
     }
 
     /// Whether a member of a SET OF fails to decode as a `T`. The walk must be at the start of the
-    /// contents of the SET OF, and stays at the first member that fails.
+    /// contents of the SET OF. If a member fails, the walk stays at the first one that does, keeps
+    /// its error and its offset, and adds its index to the path.
     ///
-    /// If no member fails, the SET OF was refused because its members are out of order. The
-    /// position of this error is counted from the start of the contents. This function changes it
-    /// in `self.error`, so that it is counted from the start of the input.
+    /// If no member fails, the SET OF was refused because its members are out of order.
+    /// `self.error` is then the error for this, with a position counted from the start of the
+    /// contents. This function changes the position, so that it is counted from the start of the
+    /// input.
     pub fn is_member_refused<T: Decode<SliceReader<'a>, Error = Error>>(&mut self) -> bool {
         let order = self.error_from_here();
         if self.is_item_refused::<T>() {
@@ -91,9 +95,9 @@ impl<'a> Search<'a> {
         }
     }
 
-    /// The error found so far, `self.error`, whose position is counted from the position of the
-    /// walk. In the result the position is counted from the start of the input. An error without a
-    /// position is returned unchanged.
+    /// Returns the error found so far, `self.error`, with its position counted from the start of
+    /// the input. In `self.error` itself the position must be counted from the position of the
+    /// walk. An error without a position is returned unchanged.
     fn error_from_here(&self) -> Error {
         let Some(position) = self.error.position() else {
             return self.error;
@@ -104,8 +108,8 @@ impl<'a> Search<'a> {
         }
     }
 
-    /// Whether the next field decodes as a `T`. If it does, the walk skips it. If it fails, the
-    /// walk stays at this field, and keeps its error and its offset.
+    /// Whether the next field decodes as a `T`. If the field decodes, the walk skips it. If not,
+    /// the walk stays at this field, and keeps the field's error and offset.
     fn passes<T: Decode<SliceReader<'a>, Error = Error>>(&mut self) -> bool {
         let next = self.reader.fork();
         match self.reader.decode::<T>(self.alloc) {

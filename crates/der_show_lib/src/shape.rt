@@ -57,8 +57,9 @@ fn find_shape(octets: &[u8]) -> Result<Option<Shape>, Error> {
     }
 }
 
-/// Whether the element `signed` is expected to be the signed part of a certificate or of a request.
-/// This follows from the elements inside it. `None` if it is neither. `octets` are the whole input.
+/// Whether the element `signed` is expected to be the signed part of a certificate or of a request,
+/// judged by the elements inside `signed`. `None` if it is neither. `octets` are the whole input.
+/// Fails if an element that this depends on cannot be read.
 fn find_signed_shape(octets: &[u8], signed: &PlacedElement<'_>) -> Result<Option<Shape>, Error> {
     let first = first_in(octets, signed)?;
     if first.header.tag() == context_tag() {
@@ -88,13 +89,15 @@ fn context_tag() -> Tag {
 }
 
 /// Reads the first element in the contents of the element `whole`. `octets` are the whole input.
+/// Fails if these contents are empty or the element cannot be read.
 fn first_in<'a>(octets: &'a [u8], whole: &PlacedElement<'a>) -> Result<PlacedElement<'a>, Error> {
     let start = whole.contents_start;
     PlacedElement::read(octets, start, whole.contents_end, EncodingRules::Der)
 }
 
-/// Reads the element that comes after `next`, which must be an element in the contents of the
-/// element `whole`. `octets` are the whole input.
+/// Reads the element that follows `previous` in the contents of the element `whole`. `previous`
+/// must be in these contents; the call fails if it is the last element there. `octets` are the
+/// whole input.
 fn next_in<'a>(
     octets: &'a [u8],
     whole: &PlacedElement<'a>,

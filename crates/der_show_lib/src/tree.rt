@@ -11,7 +11,7 @@ use std::fmt::Write;
 /// The greatest number of elements that may enclose another element.
 const MAX_DEPTH: usize = 64;
 
-/// A constructed element whose contents are being printed.
+/// A constructed element whose contents are being written.
 #[derive(Clone, Copy)]
 struct Part {
     // Where its contents end.
@@ -21,7 +21,7 @@ struct Part {
 }
 
 /// Writes one line per element of the octets, each before the lines of the elements inside it.
-/// Stops at the first error.
+/// Stops at the first error and returns it; the lines written before stay in `text`.
 pub fn write_tree(
     alloc: Global,
     text: &mut String,
@@ -48,9 +48,9 @@ pub fn write_tree(
     Ok(())
 }
 
-/// `around` holds the elements that enclose `position`, the innermost last. Removes each of them
-/// whose contents end at `position`, and moves `position` to the end of this element. Returns the
-/// position reached, where the next element begins or the octets end.
+/// `around` holds the elements that enclose `position`, the innermost last. As long as the contents
+/// of the last one end at `position`, removes this element and moves `position` to its end. Returns
+/// the final `position`, where the next element begins or the octets end.
 fn climb(around: &mut Vec<Part>, mut position: u32) -> u32 {
     for _ in 0..=MAX_DEPTH {
         match around.last() {

@@ -26,8 +26,8 @@ fn words_of(alloc: Global, line: &str) -> Result<Vec<String>, AllocError> {
         .try_collect(alloc)
 }
 
-/// Runs the program on each row of `rows`, which has the words of a command line, the expected exit
-/// status and the expected text. Fails if the status or the text is another one.
+/// Runs the program once for each row of `rows`. A row has the words of a command line, the
+/// expected exit status and the expected text. Fails if a run gives another status or another text.
 fn replay(rt: &(impl Abort + AllocGlobal), rows: &[(&str, u8, &str)]) -> Result<(), Fail> {
     for (line, status, text) in rows {
         let words = words_of(rt.alloc(), line)?;

@@ -8,8 +8,8 @@ use std::alloc::{AllocError, Allocator};
 /// What the program prints for a command line, and how it ends.
 #[derive(Drop)]
 pub enum Answer<A: Allocator> {
-    /// The command succeeded. These lines are printed: of a header, an element, an order or joined
-    /// octets.
+    /// The command succeeded. This text is printed: the lines that describe a header, or one line
+    /// with an element, an order or joined octets.
     Printed(String<A>),
     /// The octets are not accepted, for the reason in this line.
     Refused(String<A>),

@@ -39,7 +39,8 @@ pub fn run_tool<W: Output>(alloc: Global, given: io::Result<Args>, out: &mut W) 
     }
 }
 
-/// The arguments after the name of the program.
+/// The arguments after the first one, which is the name of the program. Fails if an allocation
+/// fails.
 fn words_of(alloc: Global, mut arguments: Args) -> Result<Vec<String>, AllocError>
     ensures { IfOk result (λ words. AreWordsOf arguments (texts words.items)) }
 {

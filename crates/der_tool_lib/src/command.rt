@@ -4,16 +4,17 @@ ghost use Rattle.der_tool_lib.specs.ToolCommand.{IsHex, IsName, IsCommand, texts
 
 use der::EncodingRules;
 
-/// A command of the program, which the words of the command line request.
+/// What the words of the command line ask the program to do.
 #[derive(Clone, Copy)]
 pub enum ToolCommand<'a> {
-    /// `head [--ber] HEX`: the header at the front of the octets `hex`.
+    /// `head [--ber] HEX`: prints the header at the front of the octets that `hex` spells.
     Head { rules: EncodingRules, hex: &'a str },
-    /// `tlv [--ber] HEX`: the whole element at the front of the octets `hex`.
+    /// `tlv [--ber] HEX`: prints the whole element at the front of the octets that `hex` spells.
     Tlv { rules: EncodingRules, hex: &'a str },
-    /// `order HEX HEX`: the order of two whole elements, `first` and `second`, by their encodings.
+    /// `order HEX HEX`: prints the order of two whole elements, which `first` and `second` spell,
+    /// by their encodings.
     Order { first: &'a str, second: &'a str },
-    /// `join HEX`: the joined segments of `hex`, which is a whole OCTET STRING under BER.
+    /// `join HEX`: prints the joined segments of the OCTET STRING under BER that `hex` spells.
     Join { hex: &'a str },
 }
 
@@ -61,8 +62,8 @@ impl<'a> ToolCommand<'a> {
         }
     }
 
-    /// The command `head` or `tlv` under the rules `rules`. `None` if `name` is neither of these,
-    /// or `hex` is not octets in hexadecimal.
+    /// The command `head` or `tlv`, as `name` says, with `rules` and `hex`. `None` if `name` is
+    /// neither of these words, or `hex` is not octets in hexadecimal.
     fn named(name: &str, rules: EncodingRules, hex: &'a str) -> Option<Self>
         ensures found { IsSome result ↔ (IsName name.now × IsHex hex.now) }
         ensures words { IfSome result (λ c. words_under rules name.now hex.now ≡ words_of c) }
@@ -89,7 +90,7 @@ impl<'a> ToolCommand<'a> {
         }
     }
 
-    /// The command `join` with the text `hex`. `None` if it is not octets in hexadecimal.
+    /// The command `join` with the text `hex`. `None` if `hex` is not octets in hexadecimal.
     fn joining(hex: &'a str) -> Option<Self>
         ensures found { IsSome result ↔ IsHex hex.now }
         ensures words { IfSome result (λ c. join_words hex.now ≡ words_of c) }

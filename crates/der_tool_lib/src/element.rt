@@ -22,16 +22,18 @@ pub struct Element<'a> {
 }
 
 impl<'a> Element<'a> {
-    /// Reads the octets as exactly one element under DER.
+    /// Reads `octets` as exactly one element under DER.
     ///
     /// # Errors
     ///
-    /// - `Overflow` without a position if there are more than 4294967295 octets.
+    /// - `Overflow` without a position, if there are more than 4294967295 octets.
     /// - `Incomplete`, `Overflow`, `TagUnknown`, `TagNumberInvalid`, `IndefiniteLength` and
-    ///   `Length` for the header, as by [`decode_header`].
-    /// - `Overflow` without a position if the contents end after octet 4294967295.
-    /// - `Incomplete` at the end if the contents are truncated.
-    /// - `TrailingData` after the contents if octets are left.
+    ///   `Length`, if the header is not accepted, as by [`decode_header`].
+    /// - `Overflow` without a position, if the lengths of the header and of the contents add up to
+    ///   more than 4294967295.
+    /// - `Incomplete` at the end of `octets`, if this sum is not greater but the contents are
+    ///   truncated.
+    /// - `TrailingData` at the end of the contents, if octets are left after them.
     pub fn from_octets(octets: &'a [u8]) -> Result<Self, Error>
         ensures whole { IfOk result (λ e. IsWholeElement octets.now) }
         ensures ok { IfOk result (λ e. element_octets e.tag (contents_of e) ≡ octets.now) }

@@ -59,8 +59,8 @@ fn yes_or_no(answer: bool) -> &'static str
     if answer { "yes" } else { "no" }
 }
 
-/// The text to print after a length: ` indefinite` if the length was read in the indefinite form,
-/// otherwise the empty text.
+/// ` indefinite` if `indefinite` is true, that is, if a length was read in the indefinite form;
+/// otherwise the empty text. This is printed after the length.
 fn indefinite_suffix(indefinite: bool) -> &'static str
     ensures { result.now ≡ text.indefinite_suffix indefinite }
 {

@@ -72,8 +72,8 @@ fn answer<A: Allocator + Copy>(global: Global, alloc: A, words: &[String]) -> An
     }
 }
 
-/// The answer to `command`. The texts in `command` must be even numbers of hexadecimal digits.
-/// Fails only if an allocation fails.
+/// The answer to `command`. Each text in `command` must consist of an even number of hexadecimal
+/// digits. Fails only if an allocation fails.
 fn fulfil<A: Allocator + Copy>(
     global: Global,
     alloc: A,
@@ -94,8 +94,8 @@ fn fulfil<A: Allocator + Copy>(
     }
 }
 
-/// The octets that the text `hex` spells. `hex` must be an even number of hexadecimal digits. Fails
-/// only if an allocation fails.
+/// The octets that the text `hex` spells. `hex` must consist of an even number of hexadecimal
+/// digits. Fails only if an allocation fails.
 fn octets_of<A: Allocator>(alloc: A, hex: &str) -> Result<Vec<u8, A>, AllocError>
     requires { IsHex hex.now }
     ensures { IfOk result (λ octets. decode_of hex.now ≡ Ok octets.items) }

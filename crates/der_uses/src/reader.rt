@@ -24,8 +24,8 @@ impl<'a> CopyingReader<'a> {
         CopyingReader { inner, reads: 0 }
     }
 
-    /// A reader that continues at the position of `inner`. It makes one read fail: the one with the
-    /// number `reads`, counted from 1. If `reads` is 0, it makes none fail.
+    /// A reader that continues at the position of `inner`. It makes its read with the number
+    /// `reads`, counted from 1, fail. If `reads` is 0, it makes no read fail.
     pub fn failing(inner: SliceReader<'a>, reads: u32) -> Self
         ensures inner { result.inner ≡ inner.entry }
     {

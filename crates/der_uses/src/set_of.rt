@@ -90,10 +90,10 @@ fn write_all(elements: &[BorrowedOctets<'_>], out: &mut Vec<u8>) -> Result<(), E
 /// # Errors
 ///
 /// - `Overflow` without a position if there are more than 4294967295 octets.
-/// - Those of the header, as by [`Header::decode`](der::Decode::decode).
+/// - The errors of decoding the header, as by [`Header::decode`](der::Decode::decode).
 /// - `TagUnexpected` without a position if the tag of the header is not that of a SET.
 /// - `Overflow` and `Incomplete` if the contents are truncated, as by [`Reader::enter_nested`].
-/// - Those of an element, as by [`ReaderExt::decode`].
+/// - The errors of decoding an element, as by [`ReaderExt::decode`].
 /// - `SetOrdering` at the position of the first element whose encoding is smaller than that of the
 ///   element before it (X.690 11.6). Equal elements may follow each other.
 /// - `TrailingData` at the position after the SET if octets are left.

@@ -70,7 +70,8 @@ impl Lawful for Version {
 /// # Errors
 ///
 /// - `Failed`, `Overflow` and `Incomplete`, as by [`ReaderExt::read_byte`].
-/// - `Value` after an octet that is no version; the reader has failed then.
+/// - `Value` at the position after the octet, if the octet is no version; the reader has failed
+///   then.
 impl<R: Reader> DecodeValue<R> for Version {
     type Error = Error;
 

@@ -7,7 +7,7 @@ ghost use Rattle.der_asn1.specs.Forms.{octets_form};
 use der::{FixedTag, Tag};
 use der_asn1::{Checked, ContentsGrammar};
 
-/// The grammar of the contents of [`PrivateKeyAttributes`]: all octets match it.
+/// The grammar of the contents of [`PrivateKeyAttributes`]: any octets match it.
 pub struct PrivateKeyAttributesGrammar;
 
 /// The attributes of a private key, borrowed from the input as octets that are not checked.

@@ -20,9 +20,9 @@ fn number_of(octets: &[u8]) -> u8
 }
 
 impl TbsCertificate<'_> {
-    /// Whether the fields are allowed in the version: unique identifiers must be absent in version
-    /// 1, and extensions in versions 1 and 2 (RFC 5280, 4.1.2.1, 4.1.2.8, 4.1.2.9). Decoding does
-    /// not check this.
+    /// Whether the version allows the fields that are present: unique identifiers must be absent in
+    /// version 1, and extensions must be absent in versions 1 and 2 (RFC 5280, 4.1.2.1, 4.1.2.8,
+    /// 4.1.2.9). Decoding does not check this.
     pub fn has_fields_of_version(&self) -> bool
         ensures { (result ≡ true) ↔ MatchesCertificateVersion self.now }
     {

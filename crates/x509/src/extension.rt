@@ -18,7 +18,8 @@ use std::alloc::Global;
 pub struct Extension<'a> {
     /// The type of the extension, as an object identifier.
     pub extn_id: ObjectIdentifierRef<'a>,
-    /// Whether an application that does not know the extension must reject the certificate.
+    /// Whether an application that does not know the extension must reject the certificate. The
+    /// default is false.
     pub critical: Defaulted<BooleanRef<'a>>,
     /// The encoding of the extension's value, which is not checked.
     pub extn_value: OctetStringRef<'a>,

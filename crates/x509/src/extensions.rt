@@ -51,7 +51,7 @@ impl<'a> ReadValue for Extensions<'a> {
 ///
 /// # Errors
 ///
-/// Those of the list, as by `decode_value` of [`SequenceOf`].
+/// The errors of `decode_value` of [`SequenceOf`].
 impl<'a, R: Reader<Borrowed = &'a [u8]>> DecodeValue<R> for Extensions<'a> {
     type Error = Error;
 
@@ -81,7 +81,7 @@ impl<'a> WrittenValue for Extensions<'a> {
 ///
 /// # Errors
 ///
-/// Those of the list, as by `value_len` and `encode_value` of [`SequenceOf`].
+/// The errors of `value_len` and `encode_value` of [`SequenceOf`].
 impl<'a> EncodeValue for Extensions<'a> {
     ghost value_size = { λ v. ⟦<SequenceOf<'a, Extension<'a>> as EncodeValue>⟧.value_size v.items };
 

@@ -52,7 +52,7 @@ impl<'a> ReadValue for Name<'a> {
 ///
 /// # Errors
 ///
-/// Those of the list, as by `decode_value` of [`SequenceOf`].
+/// The errors of `decode_value` of [`SequenceOf`].
 impl<'a, R: Reader<Borrowed = &'a [u8]>> DecodeValue<R> for Name<'a> {
     type Error = Error;
 
@@ -82,7 +82,7 @@ impl<'a> WrittenValue for Name<'a> {
 ///
 /// # Errors
 ///
-/// Those of the list, as by `value_len` and `encode_value` of [`SequenceOf`].
+/// The errors of `value_len` and `encode_value` of [`SequenceOf`].
 impl<'a> EncodeValue for Name<'a> {
     ghost value_size = { λ v.
         ⟦<SequenceOf<'a, RelativeDistinguishedName<'a>> as EncodeValue>⟧.value_size v.levels };

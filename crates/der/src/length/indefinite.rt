@@ -14,17 +14,18 @@ use der_base::{Error, ErrorKind, Length, Tag};
 use der_core::{Header, Reader, ReaderExt, close_value, decode_header};
 use std::alloc::Global;
 
-/// Joins segments (X.690 8.7.3) into a new vector, from the position of the reader up to its end.
-/// The segments are elements with the tag `inner_tag`, in sequence. A primitive segment contributes
-/// its contents. Under the Basic Encoding Rules a segment may be constructed, of definite or
-/// indefinite length. A constructed segment contributes the joined segments inside it. It is
-/// entered as a nested part; the depth is at most 64. `length` is the length of the element that
-/// contains the segments. The end-of-contents octets of that element are not read.
+/// Reads segments (X.690 8.7.3) from the reader's position up to its end, and joins them into a new
+/// vector. The segments are elements with the tag `inner_tag`, one after the other. A primitive
+/// segment contributes its contents. Under the Basic Encoding Rules, a segment may also be
+/// constructed, of definite or indefinite length; it contributes the joined segments inside it. A
+/// constructed segment is entered as a nested part; at most 64 parts may be nested. `length` is the
+/// length of the element that contains the segments. The end-of-contents octets of that element are
+/// not read.
 ///
 /// # Errors
 ///
-/// - `IndefiniteLength` at the reader's position, if `length` is definite and the rules are the
-///   Distinguished Encoding Rules; the reader has failed then.
+/// - `IndefiniteLength` at the reader's position, if `length` is not indefinite and the rules are
+///   the Distinguished Encoding Rules; the reader has failed then.
 /// - `OutOfMemory` without a position, if the allocation of `length` octets fails; the reader is
 ///   unchanged.
 /// - The errors of decoding a segment's header, as by [`Header::decode`](der_core::Header).
@@ -35,16 +36,17 @@ use std::alloc::Global;
 ///   header and has not failed.
 /// - `Overflow`, `Incomplete` and `NestingDepth` if a constructed segment cannot be entered, as by
 ///   [`Reader::enter_nested`]; the reader is after the segment's header.
-/// - `Overflow` without a position, if fewer octets are left than a primitive segment has, and the
-///   end of the segment would exceed 4294967295; the reader is after the segment's header and has
-///   not failed.
-/// - `Incomplete` at the reader's position, if fewer octets are left than a primitive segment has;
-///   the reader is after the segment's header and has failed.
+/// - `Overflow` without a position, if fewer octets are left than the contents of a primitive
+///   segment have, and the position of their end would exceed 4294967295; the reader is after the
+///   segment's header and has not failed.
+/// - `Incomplete` at the reader's position, if fewer octets are left than the contents of a
+///   primitive segment have, and the position of their end would not exceed 4294967295; the reader
+///   is after the segment's header and has failed.
 /// - `OutOfMemory` without a position, if the allocation of a primitive segment's octets fails; the
 ///   reader is after the segment's header and has not failed.
 ///
 /// If reading the segments inside a constructed segment fails, the reader stays where that reading
-/// stopped. The end and the depth of the reader are restored.
+/// stopped, but its end and its depth are again those of the part around that segment.
 pub fn read_constructed_vec<R: Reader>(
     alloc: Global,
     reader: &mut R,

@@ -46,9 +46,8 @@ impl<'a> ReadValue for StringCow<'a> {
     ghost takes_valid = { λ t rules h octets taken. taken.0 };
 }
 
-/// Borrows the contents from the input as a text. Takes only the length from the header, and
-/// ignores its tag. Fails if the reader cannot return slices: an owned text, too, is copied from a
-/// slice of the input.
+/// Borrows the contents from the input as a text, so the result is always `Borrowed`. Takes only
+/// the length from the header, and ignores its tag. Fails if the reader cannot return slices.
 ///
 /// # Errors
 ///

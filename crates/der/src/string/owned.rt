@@ -45,7 +45,7 @@ impl StringOwned {
     /// # Errors
     ///
     /// - `Utf8` without a position, if `bytes` are not UTF-8.
-    /// - `Overflow` without a position, if there are more than 4294967295 octets.
+    /// - `Overflow` without a position, if `bytes` are UTF-8 but more than 4294967295 octets.
     /// - `OutOfMemory` without a position, if allocation fails.
     pub fn from_bytes(alloc: Global, bytes: &[u8]) -> Result<Self, Error>
         ensures exact { AnswersOrLacks (checked_text bytes.now)

@@ -41,7 +41,7 @@ impl<'a> StringRef<'a> {
     /// # Errors
     ///
     /// - `Utf8` without a position, if `bytes` are not UTF-8.
-    /// - `Overflow` without a position, if there are more than 4294967295 octets.
+    /// - `Overflow` without a position, if `bytes` are UTF-8 but more than 4294967295 octets.
     pub fn from_bytes(bytes: &'a [u8]) -> Result<Self, Error>
         ensures exact { map_ok (λ t. t.text.now) result ≡ checked_text bytes.now }
     {

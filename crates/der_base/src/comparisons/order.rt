@@ -32,7 +32,8 @@ fn tag_number_ordering(a: TagNumber, b: TagNumber) -> Ordering
     a.cmp(&b)
 }
 
-/// Calls `Ord::cmp`; the contract states that classes are ordered by their numbers.
+/// Calls `Ord::cmp`; the contract states that classes are ordered by the number in their two class
+/// bits: UNIVERSAL is the least, then APPLICATION, CONTEXT-SPECIFIC and PRIVATE.
 fn class_ordering(a: Class, b: Class) -> Ordering
     ensures { result ≡ nat_cmp (class_number a) (class_number b) }
 {

@@ -36,7 +36,8 @@ fn tag_number_partial_ordering(a: TagNumber, b: TagNumber) -> Option<Ordering>
 }
 
 /// Calls `PartialOrd::partial_cmp`; the contract states that any two values can be compared, and
-/// that classes are ordered by their numbers.
+/// that classes are ordered by the number in their two class bits: UNIVERSAL is the least, then
+/// APPLICATION, CONTEXT-SPECIFIC and PRIVATE.
 fn class_partial_ordering(a: Class, b: Class) -> Option<Ordering>
     ensures { result ≡ Some (nat_cmp (class_number a) (class_number b)) }
 {

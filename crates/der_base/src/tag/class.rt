@@ -22,13 +22,13 @@ pub const CLASS_PRIVATE: u8 = 0xC0;
 /// The class of a tag (X.690 8.1.2.2, table 1).
 #[derive(Clone, Copy, Debug, PartialEq, Eq, PartialOrd, Ord)]
 pub enum Class {
-    /// A type with the same meaning in all applications.
+    /// The class UNIVERSAL: the tag has the same meaning in all applications.
     Universal,
-    /// A type of one application.
+    /// The class APPLICATION: the meaning of the tag is specific to an application.
     Application,
-    /// A type whose meaning depends on the context.
+    /// The class CONTEXT-SPECIFIC: the meaning of the tag depends on the context.
     ContextSpecific,
-    /// A type of one enterprise.
+    /// The class PRIVATE: the meaning of the tag is specific to an enterprise.
     Private,
 }
 

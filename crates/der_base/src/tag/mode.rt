@@ -19,7 +19,7 @@ pub enum TagMode {
 ///
 /// # Errors
 ///
-/// - `TagModeUnknown` without a position, for any other text.
+/// - An error of the kind `TagModeUnknown`, without a position, for any other text.
 impl FromStr for TagMode {
     type Err = Error;
 

@@ -9,8 +9,8 @@ use crate::element::DerElement;
 use crate::reader::DerReader;
 use crate::tree::around::{Around, LEVELS};
 
-/// Leaves, from the innermost outwards, each nested part whose end the reader has reached. Changes
-/// nothing if the reader is before the end of the innermost part.
+/// Leaves, from the innermost outwards, each nested part whose end the reader has reached, and
+/// removes it from `around`. Changes nothing if the reader is before the end of the innermost part.
 #[inline(always)]
 pub(crate) fn climb(reader: &mut DerReader<'_>, around: &mut Around)
     requires parts { AreAround around.old (reader_state reader.old) }
@@ -39,8 +39,9 @@ fn leave(reader: &mut DerReader<'_>, around: &mut Around)
     reader.end = around.ends[level];
 }
 
-/// Moves `reader` into the contents of `element`, which must have been read by `reader`, if
+/// Moves `reader` to the start of the contents of `element`, and adds `element` to `around`, if
 /// `element` is constructed and fewer than 32 other elements enclose it. Otherwise changes nothing.
+/// `element` must have been read by `reader`.
 #[inline(always)]
 pub(crate) fn look_into(reader: &mut DerReader<'_>, around: &mut Around, element: &DerElement<'_>)
     requires parts { AreAround around.old (reader_state reader.old) }

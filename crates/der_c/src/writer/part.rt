@@ -56,9 +56,9 @@ fn begin_slowly(writer: &mut DerWriter<'_>, tag: u64, start: &mut usize) -> DerE
 /// After an error nothing is moved, and the writer has failed. Fails with:
 ///
 /// - `Failed` at the writer's position, if the writer had already failed;
-/// - `Overlength` without a position, if nothing is written before `start`, or if `start` is after
-///   the octets written;
-/// - `Overlength` and `Overflow`, if there is no space for the longer length.
+/// - `Overlength` without a position, if `start` is 0 or exceeds the number of octets written;
+/// - `Overlength` or `Overflow`, as by [`der_write`](crate::der_write), if the length needs more
+///   octets and there is no space for them.
 #[unsafe(no_mangle)]
 pub extern "C" fn der_end(writer: &mut DerWriter<'_>, start: usize) -> DerError
     ensures { EndsElement start (writer_state writer.old) result (writer_state writer.new) }

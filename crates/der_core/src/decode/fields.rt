@@ -12,7 +12,7 @@ use crate::reader::Reader;
 use std::alloc::Global;
 
 /// Decodes the first member of the pair, and then the second. To decode three fields, nest the
-/// pairs: a pair of one field and another pair.
+/// pairs, as in `(A, (B, C))`.
 ///
 /// # Errors
 ///
@@ -37,7 +37,7 @@ impl<R: Reader, A: Decode<R>, B: Decode<R, Error = <A as Decode<R>>::Error>> Dec
 }
 
 /// Decodes a value from the contents that the reader is inside, by [`Decode::decode`]. The contents
-/// are accepted as a value if they are entirely one value; the header is ignored. A pair is decoded
+/// are accepted as a value if they are entirely one value; `header` is ignored. A pair is decoded
 /// as its members in sequence. This function has the contract of
 /// [`DecodeValue::decode_value`](crate::DecodeValue::decode_value), so an implementation of that
 /// function can call it.

@@ -60,14 +60,15 @@ pub trait DecodeValue<R: Reader>: ReadValue + Drop {
     /// unread, or leaves the reader failed, the contents do not count as accepted.
     ///
     /// Suppose that the reader is reliable (see [`Reader`]), has not failed, is inside a nested
-    /// part, and has `value_levels` levels of nesting left. If the contents are accepted as a
-    /// value, the result is a value or an error that reports a failed allocation.
+    /// part, and has at least as many levels of nesting left as the ghost member `value_levels`
+    /// says. If the contents are accepted as a value, the result is a value or an error that
+    /// reports a failed allocation.
     ///
     /// # Errors
     ///
     /// - An error that reports a failed allocation, if the type allocates.
-    /// - The errors of the type: `decode_value_answers` specifies them, their positions, and
-    ///   whether the reader is then failed.
+    /// - The errors of the type: the ghost member `decode_value_answers` specifies them, their
+    ///   positions, and whether the reader is then failed.
     fn decode_value(alloc: Global, reader: &mut R, header: Header) -> Result<Self, Self::Error>
         ensures same { Same (R.state reader.old) (R.state reader.new) }
         ensures sound { TakesContents Self.takes (head_of header) (R.state reader.old) result
@@ -79,7 +80,8 @@ pub trait DecodeValue<R: Reader>: ReadValue + Drop {
         ensures exact { R.reliable ≡ true → decode_value_answers (head_of header)
             (R.state reader.old) result (R.state reader.new) };
 
-    /// Does nothing. Code calls this for its contract, which states that `self` is a valid value.
+    /// Does nothing when it runs. Proofs use its contract, which states that `self` is a valid
+    /// value.
     fn is_value(&self)
         ensures { Self.valid self.now };
 }

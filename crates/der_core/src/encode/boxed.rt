@@ -13,7 +13,7 @@ impl<T: WrittenValue> WrittenValue for Box<T> {
 ///
 /// # Errors
 ///
-/// Those of the value, with the same positions and states.
+/// Those of the value, with the same positions; the writer is left in the same state.
 impl<T: EncodeValue> EncodeValue for Box<T> {
     ghost value_size = { λ v. T.value_size v.value };
 

@@ -6,8 +6,8 @@ use crate::encode::Encode;
 use crate::writer::Writer;
 use der_base::{Error, Length};
 
-/// Writes the first member of the pair, and then the second. To write three fields, nest the pairs:
-/// a pair of one field and another pair.
+/// Writes the first member of the pair, and then the second. To write three fields, nest the pairs,
+/// as in `(A, (B, C))`.
 ///
 /// # Errors
 ///

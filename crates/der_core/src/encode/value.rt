@@ -11,7 +11,8 @@ use crate::tag::fixed::Tagged;
 use crate::writer::{SliceWriter, Writer};
 use der_base::{Error, Length};
 
-/// The meaning of a value when it is written. The trait has no functions.
+/// Types whose values stand for contents octets when they are written. The trait has no functions:
+/// it only specifies these octets.
 ///
 /// Ghost members (for proofs only):
 ///
@@ -145,8 +146,10 @@ pub trait EncodeValue: WrittenValue {
 /// After an error the contents of the buffer are unspecified.
 ///
 /// - Those of the type, as by [`EncodeValue::encode_value`].
-/// - `Overflow` at the number of octets written, if the next write would exceed 4294967295.
-/// - `Overlength` at the requested end of the first write for which there is no space.
+/// - `Overflow` at the position after the octets written, if the next write would end after
+///   position 4294967295.
+/// - `Overlength` at the position where the first write that does not fit into the buffer would
+///   end.
 pub fn encode_value_to_slice<'a, T: EncodeValue>(
     buf: &'a mut [u8],
     value: &T,

@@ -33,8 +33,8 @@ pub fn to_der_in<T: Encode, A: Allocator>(alloc: A, value: &T) -> Result<Vec<u8,
     Ok(out)
 }
 
-/// Appends the value's encoding to a vector of any allocator, and returns the number of its octets.
-/// [`Encode::encode_to_vec`] is this function for the global allocator.
+/// Appends the value's encoding to a vector of any allocator, and returns the number of octets
+/// appended. [`Encode::encode_to_vec`] is this function for the global allocator.
 ///
 /// # Errors
 ///

@@ -29,7 +29,7 @@ impl<'a, T: WrittenValue> WrittenValue for EncodeValueRef<'a, T> {
 ///
 /// # Errors
 ///
-/// Those of that value, with the same positions and states.
+/// Those of that value, with the same positions; the writer is left in the same state.
 impl<'a, T: EncodeValue> EncodeValue for EncodeValueRef<'a, T> {
     ghost value_size = { λ v. T.value_size v.0.now };
 

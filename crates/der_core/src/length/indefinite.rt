@@ -48,12 +48,12 @@ enum Part {
 ///   reader is where the missing octets were to be read, and has not failed.
 /// - `Incomplete` at the end, if no octet is left, or only half an end-of-contents, a truncated
 ///   identifier, or an identifier without a complete length.
-/// - `IndefiniteLength` after a zero octet and a nonzero octet, and after octet `0x80` if the
-///   identifier before it is primitive.
+/// - `IndefiniteLength` at the position after a nonzero octet that follows a zero octet in place of
+///   an identifier, and after a length octet `0x80` if the identifier before it is primitive.
 /// - `TagUnknown` and `TagNumberInvalid` for an identifier, as by [`Tag::decode`](crate::Decode).
-/// - `NestingDepth` after octet `0x80`, if 64 bodies are open.
-/// - `Length` with the tag, after the length octets if fewer would suffice, or after the first of
-///   them if it announces more than four.
+/// - `NestingDepth` at the position after a length octet `0x80`, if 64 bodies are open.
+/// - `Length` with the tag, at the position after the length octets if fewer would suffice, or
+///   after the first of them if it announces more than four.
 /// - `Incomplete` for contents that are truncated, as by [`Reader::drain`].
 pub fn decode_indefinite_length<R: Reader, L: Ledger>(
     reader: &mut R,

@@ -25,7 +25,7 @@ impl<L: Ledger> Model for Turns<L> {
 impl<L: Ledger> Turns<L> {
     ghost use Rattle.std.specs.Prelude.{◌≡◌, ◌+◌};
 
-    /// A counter at zero.
+    /// A counter at zero, kept in the ledger `L` (see `std::sync::ledger`) that `blank` opens.
     ///
     /// The caller must ensure that `blank` is not shared, and that its name is the name of the
     /// ledger `L`.

@@ -240,8 +240,8 @@ pub trait ReaderExt: Reader {
     /// - `Overflow` without a position, if the number of octets of header and contents exceeds
     ///   4294967295, or if fewer octets are left and the sum of position and this number exceeds
     ///   4294967295; the reader is unchanged.
-    /// - `Incomplete` at the position before the header, if the contents are not all available; the
-    ///   reader is then failed.
+    /// - `Incomplete` at the position before the header, if the contents are not all available and
+    ///   neither the number nor the sum above exceeds 4294967295; the reader is then failed.
     final fn tlv_bytes(&mut self) -> Result<Self::Borrowed, Error>
         ensures same { Same (Self.state self.old) (Self.state self.new) }
         ensures exact { IsBinding Self.reliable result
@@ -255,7 +255,7 @@ pub trait ReaderExt: Reader {
         self.read_slice(len)
     }
 
-    /// Decodes a value by [`Decode::decode`] of its type `T`. After every error the reader is
+    /// Decodes a value of the type `T` by [`Decode::decode`]. After every error the reader is
     /// failed.
     ///
     /// # Errors

@@ -99,7 +99,8 @@ impl Position {
     /// After each the position is unchanged. If several apply, the first is returned.
     ///
     /// - `Overflow` without a position, if the new position would exceed 4294967295.
-    /// - `Incomplete` at the old position, if the new one would be after the end.
+    /// - `Incomplete` at the old position, if the new one would be after the end, but not after
+    ///   4294967295.
     pub fn advance(&mut self, amount: Length) -> Result<Length, Error>
         ensures { Moves (advance_outcome (number amount)) (position_place self.old) result
             (position_place self.new) }
@@ -131,7 +132,7 @@ impl Position {
     ///
     /// - `NestingDepth` at the position, if the part would be nested in 64 others.
     /// - `Overflow` without a position, if the end of the part would exceed 4294967295.
-    /// - `Incomplete` at the end, if the part would exceed the end.
+    /// - `Incomplete` at the end, if the part would go beyond this end, but not beyond 4294967295.
     pub fn split_nested(&mut self, len: Length) -> Result<Resumption, Error>
         ensures { Moves (split_nested_outcome (number len)) (position_place self.old)
             (map_ok outer_place result)
@@ -245,7 +246,7 @@ impl Resumption {
         Length::new(self.end)
     }
 
-    /// The number of nested parts that enclose this one.
+    /// The depth after the nested part is left: the number of nested parts that enclose that part.
     pub fn depth(&self) -> u8
         ensures { result ≡ outer_depth self.now }
     {

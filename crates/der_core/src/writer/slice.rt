@@ -66,12 +66,12 @@ impl<'a> SliceWriter<'a> {
         Length::new(self.position)
     }
 
-    /// Returns an error of the kind `kind` at the writer's position, as an `Err`. The writer is
-    /// then failed.
+    /// Returns `Err` with an error of the kind `kind` at the writer's position. The writer is then
+    /// failed.
     ///
     /// # Errors
     ///
-    /// - `kind` at the writer's position, always.
+    /// - An error of the kind `kind` at the writer's position, on every call.
     pub fn error<T>(&mut self, kind: ErrorKind) -> Result<T, Error>
         ensures at_position { result ≡ Err
             (error_at kind (writer_position (slice_writer_state self.old))) }
@@ -145,14 +145,15 @@ impl<'a> SliceWriter<'a> {
     /// - `Failed` at the writer's position, if the writer had already failed; the writer is
     ///   unchanged.
     /// - `Overflow` at the position of the write, if the header, or the contents after it, would
-    ///   exceed 4294967295.
-    /// - `Overlength` at the requested end, if there is no space for the header, or for the
-    ///   contents after it; the octets of the header that were written remain.
+    ///   end after position 4294967295.
+    /// - `Overlength` at the position where the header or the contents would end, if there is no
+    ///   space for the header, or for the contents after it; the octets of the header that were
+    ///   written remain.
     /// - The error of `f`, unchanged.
     /// - `Failed` at the position within the contents, if `f` returns `Ok` but leaves its writer
     ///   failed.
-    /// - `Length` with the tag SEQUENCE at the position after the contents, if `f` does not fill
-    ///   them.
+    /// - `Length` with the tag SEQUENCE at the position after the contents, if `f` writes fewer
+    ///   than `len` octets.
     #[inline(always)]
     pub fn sequence<F: FnOnce(&mut SliceWriter<'a>) -> Result<(), Error>>(
         &mut self,

@@ -2,8 +2,9 @@
 //! definitions, which was compared with the Rust crate `der` 0.8.3 on 131 million inputs.
 use super::USAGE;
 
-/// Samples of the command `head`, and of words that are not a command. Each row has the words of a
-/// command line, separated by single blanks, the expected exit status, and the expected text.
+/// Samples of the command `head`, and of command lines that have no valid command. Each row has the
+/// words of a command line, separated by single blanks, the expected exit status, and the expected
+/// text.
 pub const CASES: [(&str, u8, &str); 78] = [
     (
         "head BF8FFFFFFF7F84FFFFFFFF",

@@ -7,10 +7,10 @@ use std::test::Fail;
 
 const REFUSED: &str = "error: out of memory\n";
 
-/// Runs the command of `line` on heaps of growing sizes, so that first the first allocation fails,
-/// then the next one, and at last none. Each run must print `text` with the exit status `status`,
-/// or the line of a failed allocation with the status 1. Returns how many runs printed the line of
-/// a failed allocation.
+/// Runs the command in `line` repeatedly, each time on a larger heap. On the smallest heaps an
+/// early allocation fails, on larger ones a later allocation, and on the largest none. Each run
+/// must print `text` with the exit status `status`, or the line that reports a failed allocation
+/// with the status 1. Returns how many runs printed the line that reports a failed allocation.
 fn refuse_in_turn(
     rt: &(impl Abort + AllocGlobal),
     line: &str,

@@ -85,7 +85,7 @@ impl<'a> ReadValue for AttributeValues<'a> {
 /// # Errors
 ///
 /// - `Failed`, `Overflow` and `Incomplete`, as by [`Reader::read_slice`].
-/// - Those of the elements, with positions counted from the beginning of the contents.
+/// - The errors of reading an element, with positions counted from the beginning of the contents.
 /// - `SetOrdering` at the start of the first element whose encoding is smaller than that of the
 ///   element before it, also counted from the beginning of the contents.
 impl<'a, R: Reader<Borrowed = &'a [u8]>> DecodeValue<R> for AttributeValues<'a> {
@@ -115,7 +115,7 @@ impl<'a> WrittenValue for AttributeValues<'a> {
 /// # Errors
 ///
 /// - `Overflow` if the contents have more than 4294967295 octets.
-/// - The writer's errors, as by [`Writer::write`].
+/// - The errors of [`Writer::write`].
 impl<'a> EncodeValue for AttributeValues<'a> {
     ghost value_size = { λ v. contents_size v.octets.now };
 

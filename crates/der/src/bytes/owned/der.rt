@@ -32,8 +32,8 @@ impl ReadValue for BytesOwned {
 ///
 /// # Errors
 ///
-/// `Failed`, `Overflow`, `Incomplete` and `OutOfMemory`, as by [`Reader::read_vec`]. If a
-/// [`SliceReader`](der_core::SliceReader) returns `OutOfMemory`, it is still before the contents.
+/// `Failed`, `Overflow`, `Incomplete` and `OutOfMemory`, as by [`Reader::read_vec`]. After
+/// `OutOfMemory`, a [`SliceReader`](der_core::SliceReader) is still before the contents.
 impl<R: Reader> DecodeValue<R> for BytesOwned {
     type Error = Error;
 

@@ -18,9 +18,9 @@ use std::alloc::Global;
 
 impl BytesOwned {
     /// Decodes the contents after `header` into an owned byte string. If `header` is primitive,
-    /// copies the contents. If `header` is constructed and the rules are the Basic Encoding Rules,
-    /// the contents are segments with the tag `inner_tag`, and this function joins the segments
-    /// (X.690 8.7.3). A segment may itself consist of segments.
+    /// copies the contents. If `header` is constructed and the reader's rules are the Basic
+    /// Encoding Rules, the contents must be segments: elements with the tag `inner_tag` (X.690
+    /// 8.7.3). Their contents are joined. A segment may itself consist of segments.
     ///
     /// # Errors
     ///
