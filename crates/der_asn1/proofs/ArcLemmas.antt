@@ -1,7 +1,7 @@
 -- Lemmas on decoding the arcs of an OBJECT IDENTIFIER.
-use Rattle.std.proofs.Common.{◌≡◌, ℕ, suc, ◌+◌, ◌-◌, ◌*◌, ◌%◌, ◌<◌, ◌≤◌, ◌==◌, ◌&&◌, Bool, true, false, Option, Some, List, [], ◌∷◌, ◌++◌, length, drop, map, refl, sym, ap, subst, ◌∙◌, nat_lt, if◌then◌else◌, slice_index_or, ⊎_elim, append_assoc, add-one, arith}
+use Rattle.std.proofs.Common.{◌≡◌, ℕ, suc, ◌+◌, ◌-◌, ◌*◌, ◌<◌, ◌≤◌, ◌==◌, ◌&&◌, Bool, true, false, Option, List, [], ◌∷◌, ◌++◌, length, drop, map, refl, sym, ap, ◌∙◌, nat_lt, if◌then◌else◌, slice_index_or, ⊎_elim, append_assoc, add-one, arith}
 use Rattle.std.proofs.Math.Seq.{drop-cons}
-use Rattle.std.proofs.lemmas.List.{drop_all, map-append}
+use Rattle.std.proofs.lemmas.List.{map-append}
 use Rattle.std.specs.Int.Digits.{digits_of, AllBelowBase}
 use Rattle.std.specs.List.{flat_map}
 use Rattle.der.proofs.DigitLemmas.{digits_positive, digits_of_push}
@@ -9,7 +9,7 @@ use Rattle.std.proofs.lemmas.Bool.{cases_lt, lt-ltb, le-ltb, ne_eqb, eq-eqb, eqb
 use Rattle.der.specs.Length.{digits}
 use Rattle.der.specs.Tag.{continuation_octets}
 use Rattle.der_asn1.specs.Forms.{ends_subidentifiers, oid_form}
-use Rattle.der_asn1.specs.Arcs.{subidentifiers, subidentifier_value, IsFirstNumber, subidentifier_octets, oid_octets, arcs_of, first_arc}
+use Rattle.der_asn1.specs.Arcs.{subidentifiers, subidentifier_value, subidentifier_octets, oid_octets, arcs_of, first_arc}
 
 -- the digits read so far have the value n, and the rest of the octets continues it
 pub record IsReadingSubidentifier (octets : List ℕ) (number : Option ℕ) (at : ℕ) : Type 0 where

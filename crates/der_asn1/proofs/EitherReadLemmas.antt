@@ -1,13 +1,12 @@
 -- Lemmas on reading a CHOICE of two types.
-use Rattle.std.proofs.Common.{◌≡◌, ℕ, ◌+◌, ◌≤◌, ◌⊎◌, inl, inr, ◌||◌, max, Bool, true, false, Ok, Err, List, refl, sym, ap, subst, arith}
+use Rattle.std.proofs.Common.{◌≡◌, ℕ, ◌+◌, ◌≤◌, inl, inr, ◌||◌, Bool, true, false, Ok, Err, List, refl, subst, arith}
 use Rattle.der.specs.HeaderGrammar.{TagNext}
 use Rattle.der.specs.Tag.{IdentifierFault}
 use Rattle.der.specs.Prelude.{Tag, Error, EncodingRules, ReaderState, rest_of, fields_levels}
 use Rattle.der.proofs.HeaderLemmas.{one_tag, tag_grammar}
 use Rattle.der.specs.Decode.{Passes, Peeks, ReadsOrLacks}
-use Rattle.der.specs.ReaderState.{advanced_state}
 use Rattle.der.proofs.DecodeLemmas.{not_refused, lacks_only, read_on}
-use Rattle.der_asn1.specs.Follow.{TagIn, NoTagIn, other, either_tags}
+use Rattle.der_asn1.specs.Follow.{TagIn, other, either_tags}
 use Rattle.der_asn1.specs.Either.{EitherNext}
 use Rattle.der_asn1.specs.EitherLaws.{either_begins}
 use Rattle.der_asn1.specs.declared.either.Either.{Either}

@@ -1,12 +1,10 @@
 -- Lemmas on reading elements of one type in sequence.
-use Rattle.std.proofs.Common.{◌≡◌, ℕ, ◌+◌, ◌-◌, ◌<◌, ◌≤◌, Bool, true, false, Ok, Err, inl, inr, List, [], ◌∷◌, ◌++◌, length, refl, sym, ap, subst, ◌∙◌, length-append, nat_le, take, arith}
+use Rattle.std.proofs.Common.{◌≡◌, ℕ, ◌+◌, ◌-◌, ◌≤◌, Bool, true, false, Ok, Err, inl, inr, List, [], ◌∷◌, ◌++◌, length, refl, sym, ap, subst, ◌∙◌, nat_le, take, arith}
 use Rattle.std.proofs.lemmas.Grind.{not_there}
 use Rattle.std.proofs.lemmas.List.{take_all}
 use Rattle.der.specs.Outcome.{Gives}
 use Rattle.der.specs.Reader.{read_slice_outcome}
 use Rattle.der.specs.HeaderGrammar.{Head}
-use Rattle.der.specs.Tag.{tag_octets}
-use Rattle.der.specs.Length.{length_octets}
 use Rattle.der.specs.Prelude.{Tag}
 use Rattle.der.specs.Prelude.{EncodingRules}
 use Rattle.der.specs.Prelude.{Der}
@@ -20,7 +18,6 @@ use Rattle.der.specs.LawfulLemmas.{elements_are_encodings, passed_encodings}
 use Rattle.der.proofs.StateLemmas.{length-rest, rest_after}
 use Rattle.der.specs.SliceReader.{slice_state}
 use Rattle.der.specs.Prelude.{SliceReader}
-use Rattle.der_asn1.proofs.OptionalReadLemmas.{rest_at_end, tag_some}
 use Rattle.der_asn1.specs.SequenceOf.{IsListOf, IsAtItem, AllValid, joined_encodings}
 
 -- a list that is not empty: its first element and the rest

@@ -1,6 +1,5 @@
 -- Lemmas on reading elements in ascending order.
-use Rattle.std.proofs.Common.{◌≡◌, ℕ, ◌-◌, List, [], ◌∷◌, ◌++◌, length, refl, sym, ap, subst, ◌∙◌, take, length-append, arith}
-use Rattle.std.proofs.Math.Seq.{take-append_seam}
+use Rattle.std.proofs.Common.{◌≡◌, ℕ, ◌-◌, List, [], ◌∷◌, ◌++◌, length, refl, sym, ap, subst, ◌∙◌, arith}
 use Rattle.der.specs.Prelude.{Tag, element_octets, IsBefore, ReaderState, rest_of, Reads, Der}
 use Rattle.der.specs.ReaderState.{initial_state}
 use Rattle.der.proofs.DelimitedLemmas.{element_front, elements_delimited}

@@ -1,6 +1,6 @@
 -- CHOICE of two types (X.690 8.13): an element of one of them, decided by its tag (`EitherNext`),
 -- and the possible results of reading and writing one (`EitherRead`, `EitherWritten`).
-use Rattle.std.specs.Prelude.{◌≡◌, ℕ, true, List, Option, Some, None, Result, Ok, Err}
+use Rattle.std.specs.Prelude.{◌≡◌, ℕ, true, List, None, Result, Ok, Err}
 use Rattle.der.specs.Prelude.{Tag, EncodingRules, Error, error_at, Length, WriterAnswer, map_ok}
 use Rattle.der.specs.Prelude.{ReaderState, reader_position}
 use Rattle.der.specs.ErrorKinds.{TagUnexpected}

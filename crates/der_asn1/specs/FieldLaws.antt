@@ -1,7 +1,7 @@
 -- Laws of fields and their composition: `FieldLaws` and `SomeLaws` collect the laws of a field;
 -- `element_laws`, `choice_laws` and `optional_laws` make them, `pair_laws` composes two of them,
 -- and `contents_laws` concludes that a type is lawful.
-use Rattle.std.proofs.Common.{inl, ℕ, ◌^◌, ◌<◌, ◌≤◌, List, ◌++◌, length, drop, Option, Some, None}
+use Rattle.std.proofs.Common.{ℕ, ◌^◌, ◌<◌, ◌≤◌, List, ◌++◌, length, drop, Option, Some, None}
 use Rattle.der.specs.Prelude.{Head, Tag, EncodingRules, Der, ElementNext, element_octets}
 use Rattle.der.specs.Prelude.{FieldsNext, TakesWhole, IsLawful}
 use Rattle.der.specs.Tag.{label}

@@ -1,7 +1,7 @@
 -- Tags, lengths and headers at the start of octets: there is at most one, none if there is a fault,
 -- and at most one fault.
-use Rattle.std.proofs.Common.{◌≡◌, ℕ, ◌+◌, ◌^◌, ◌<◌, ◌≤◌, Bool, true, false, List, ◌∷◌, ◌++◌, length, refl, sym, ap, ◌∙◌, subst, append_assoc, length-append, arith}
-use Rattle.der_base.specs.Length.{is_indefinite, definite_length, indefinite_length, length_octets, number}
+use Rattle.std.proofs.Common.{◌≡◌, ℕ, ◌+◌, ◌^◌, ◌<◌, Bool, true, false, List, ◌∷◌, ◌++◌, length, refl, sym, ap, ◌∙◌, subst, append_assoc}
+use Rattle.der_base.specs.Length.{is_indefinite, definite_length, indefinite_length, length_octets}
 use Rattle.der_base.specs.Tag.{IsIdentifier, IdentifierFault}
 use Rattle.der_base.specs.Body.{Body}
 use Rattle.der_base.specs.Error.{Refusal, refusal}
@@ -12,10 +12,10 @@ use Rattle.der_base.specs.declared.tag.Tag.{Tag}
 use Rattle.der_base.specs.declared.error.ErrorKind.{ErrorKind}
 use Rattle.der_base.specs.declared.error.ErrorKind.TheVariants.{IndefiniteLength, Length as IncorrectLength}
 use Rattle.der_base.specs.declared.encoding_rules.EncodingRules.{EncodingRules}
-use Rattle.der_base.specs.declared.encoding_rules.EncodingRules.TheVariants.{Ber, Der}
+use Rattle.der_base.specs.declared.encoding_rules.EncodingRules.TheVariants.{Ber}
 use Rattle.der_base.proofs.TagLemmas.{tag_front}
 use Rattle.der_base.proofs.IdentifierLemmas.{identifier_front, no_identifier_fault, one_identifier_fault}
-use Rattle.der_base.proofs.LengthLemmas.{length_front, length_definite, no_definite_fault, no_open_fault, one_length_fault, length_octets_some, length_octets_few}
+use Rattle.der_base.proofs.LengthLemmas.{length_front, length_definite, no_definite_fault, no_open_fault, one_length_fault}
 use Rattle.der_base.proofs.BodyLemmas.{body_front}
 
 -- no header with a definite length is a proper prefix of another

@@ -1,11 +1,10 @@
 -- Identifiers at the start of octets, and why octets do not begin with one.
 use Rattle.std.proofs.Common.{◌≡◌, ◌≢◌, ℕ, ◌+◌, ◌%◌, ◌^◌, ◌<◌, ◌≤◌, ◌⊎◌, Bool, true, false, Some, None, List, [], ◌∷◌, ◌++◌, length, refl, sym, ap, ◌∙◌, subst, ⊎_elim, append_assoc, append-nil, length-append, arith}
-use Rattle.std.proofs.lemmas.Bool.{cases_lt, cases_eq, ne_eqb}
+use Rattle.std.proofs.lemmas.Bool.{cases_lt, cases_eq}
 use Rattle.std.specs.Int.Digits.{AllBelowBase}
 use Rattle.der_base.specs.Length.{digits}
 use Rattle.der_base.specs.Tag.{label, leading_octet, tag_octets, universal_tag, is_constructed, other_tag, continuation_octets, IsIdentifier, of_tag, of_segments, IsCutIdentifier, identifier_kind, IdentifierFault, cut, refused}
 use Rattle.der_base.specs.Error.{Refusal, refusal, end_refusal}
-use Rattle.der_base.specs.declared.error.ErrorKind.TheVariants.{TagNumberInvalid, TagUnknown}
 use Rattle.der_base.specs.declared.encoding_rules.EncodingRules.{EncodingRules}
 use Rattle.der_base.specs.declared.encoding_rules.EncodingRules.TheVariants.{Ber, Der}
 use Rattle.der_base.specs.declared.tag.Tag.{Tag}

@@ -1,7 +1,7 @@
 -- Lengths: their octets, what a decoder reads of them, and why octets do not begin with one.
-use Rattle.std.proofs.Common.{◌≡◌, ◌≢◌, ℕ, max, ◌+◌, ◌-◌, ◌^◌, ◌<◌, ◌≤◌, ◌⊎◌, false, List, [], ◌∷◌, ◌++◌, length, get_or, refl, sym, ap, ◌∙◌, subst, ⊎_elim, length-append, arith}
+use Rattle.std.proofs.Common.{◌≡◌, ◌≢◌, ℕ, max, ◌+◌, ◌-◌, ◌^◌, ◌<◌, ◌≤◌, false, List, [], ◌∷◌, ◌++◌, length, get_or, refl, sym, ap, ◌∙◌, subst, ⊎_elim, length-append, arith}
 use Rattle.std.proofs.lemmas.Bool.{cases_lt, lt-ltb, le-ltb}
-use Rattle.std.proofs.lemmas.Int.Digits.{length-digits_of-le, first_digits_of, number_digits_of, number_lt, same_from_digits_of, all_below_base_digits_of}
+use Rattle.std.proofs.lemmas.Int.Digits.{length-digits_of-le, first_digits_of, number_digits_of, number_lt, same_from_digits_of}
 use Rattle.std.specs.Int.Digits.{digits_of, number_from_digits, AllBelowBase}
 use Rattle.der_base.specs.Length.{definite_length, digits, length_octets}
 use Rattle.der_base.specs.Error.{Refusal, refusal, end_refusal}

@@ -20,7 +20,7 @@ use Rattle.der_core.specs.Decode.{Passes, Decodes, IsRefusedBy, at_fault, has_fa
 use Rattle.der_core.specs.AfterFirstOctet.{IsIndefiniteForm, RefusesIndefinite, RefusesLongLength, Stops}
 use Rattle.der_core.specs.Scan.{ScansNext}
 use Rattle.der_core.proofs.DecodeLemmas.{decoded_ok, decoded_err}
-use Rattle.der_core.proofs.StateLemmas.{reads_none, reads_on, position_on, failed_on, rules_on, stops_on, same_trans, error_stops, ByteRefused, byte_failed, byte_cut}
+use Rattle.der_core.proofs.StateLemmas.{reads_on, position_on, failed_on, rules_on, stops_on, same_trans, error_stops, ByteRefused, byte_failed, byte_cut}
 
 -- some octets of a length were read, which are digits of the number so far
 pub record DigitsSoFar (a b : ReaderState) (i value : ℕ) : Type 0 where

@@ -1,5 +1,5 @@
 -- How reading proceeds.
-use Rattle.std.proofs.Common.{◌≡◌, ℕ, ◌+◌, ◌-◌, ◌≤◌, Bool, true, false, IsTrue, Ok, Err, List, [], ◌∷◌, ◌++◌, length, take, drop, refl, sym, ap, ◌∙◌, subst, append_assoc, length-append, length-take, length-take-le, length-drop, drop-drop, add-zero, arith}
+use Rattle.std.proofs.Common.{◌≡◌, ℕ, ◌+◌, ◌-◌, ◌≤◌, Bool, true, false, Ok, Err, List, [], ◌∷◌, ◌++◌, length, take, drop, refl, sym, ap, ◌∙◌, subst, append_assoc, length-append, length-take, length-take-le, length-drop, drop-drop, add-zero, arith}
 use Rattle.std.proofs.lemmas.List.{drop-take}
 use Rattle.der_base.specs.Error.{error_at, Refusal, refusal, end_refusal, missing_refusal}
 use Rattle.der_base.specs.declared.error.Error.{Error}

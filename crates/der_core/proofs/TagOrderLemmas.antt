@@ -12,7 +12,7 @@ use Rattle.der_base.specs.Order.{byte_order, AreApart}
 use Rattle.der_base.specs.Tag.{label, leading_octet, tag_octets}
 use Rattle.der_base.specs.declared.tag.Tag.{Tag}
 use Rattle.der_base.proofs.OrderLemmas.{order_parts, digits_order, same_octets, equal_octets}
-use Rattle.der_base.proofs.TagLemmas.{label_small, tag_front, tag_begins}
+use Rattle.der_base.proofs.TagLemmas.{tag_front, tag_begins}
 use Rattle.der_core.specs.DerOrd.{six_octets}
 use Rattle.der_core.specs.Encode.{high_digits}
 use Rattle.der_core.proofs.EncodeLemmas.{high_push, length_high_digits, tag_spelled}

@@ -20,11 +20,11 @@ use Rattle.der.specs.Prelude.{SliceReader}
 use Rattle.der.proofs.ContentsLemmas.{After, definite, after_eoc, value_ran, rest_inside, closes_ok}
 use Rattle.der.proofs.ElementLemmas.{entered_part}
 use Rattle.der.proofs.LawfulLemmas.{elements_are_encodings, passed_encodings}
-use Rattle.der.proofs.StateLemmas.{length-rest, position_on, reads_none, reads_on, reads_front, rules_on, failed_on}
+use Rattle.der.proofs.StateLemmas.{length-rest, position_on, reads_none, reads_on, reads_front, failed_on}
 use Rattle.der.specs.BorrowedOctets.{borrowed_octets, borrowed_lawful}
 use Rattle.der.specs.Octets.{IsCounted, TakesOctets, BorrowedOctetsRead}
 use Rattle.der.specs.declared.example.borrowed_octets.BorrowedOctets.{BorrowedOctets}
-use Rattle.der_uses.specs.AscendingStrings.{string_octets, joined_strings, MayFollow, set_octets, StringsAscend, IsReady, PassesStrings, ReadsAscending, OrderAnswer, ascending, falling}
+use Rattle.der_uses.specs.AscendingStrings.{string_octets, joined_strings, MayFollow, set_octets, StringsAscend, PassesStrings, ReadsAscending, OrderAnswer, ascending, falling}
 
 -- the state of every reader of a slice is sound
 pub slice_sound : (r : SliceReader) → IsSound (slice_state r)
