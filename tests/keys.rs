@@ -7,3 +7,4 @@ mod names;
 mod private_keys;
 mod public_keys;
 mod requests;
+mod tags;

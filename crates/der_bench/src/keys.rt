@@ -5,7 +5,7 @@ use der::example::MyByteMonth;
 use der::{Encode, SliceWriter};
 use der_uses::algorithm_identifier::AlgorithmIdentifier;
 use der_uses::key_info::KeyInfo;
-use der_uses::my_octets::Borrowed;
+use der_uses::my_octets::MyOctets;
 use std::alloc::Global;
 
 /// A key that a benchmark writes. Its algorithm octets and its key octets both start at the front
@@ -27,10 +27,10 @@ fn key_of<'a>(wanted: &WantedKey, borrowed: &'a [u8]) -> Option<KeyInfo<'a>> {
     let month = MyByteMonth::new(wanted.month)?;
     Some(KeyInfo {
         algorithm: AlgorithmIdentifier {
-            algorithm: Borrowed { octets: algorithm },
+            algorithm: MyOctets { octets: algorithm },
             month,
         },
-        key: Borrowed { octets: key },
+        key: MyOctets { octets: key },
     })
 }
 

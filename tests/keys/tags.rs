@@ -1,0 +1,64 @@
+//! The constants of the types of keys and certificates, which no clause can name, and the functions
+//! that return the same. The tags are those of the ASN.1 modules.
+use crate::checks::holds;
+use crate::fixtures::constants::tags_agree;
+use der::{FixedTag, Tag};
+use pkcs8::{PrivateKeyAttributes, PrivateKeyAttributesGrammar, PrivateKeyInfo, PrivateKeyVersionGrammar};
+use spki::{AlgorithmIdentifierRef, SubjectPublicKeyInfoRef};
+use x509::{
+    Attribute, AttributeTypeAndValue, AttributeValues, CertReq, CertReqInfo, CertReqVersion,
+    CertReqVersionGrammar, Certificate, CertificateVersionGrammar, Extension, Extensions, Name,
+    RelativeDistinguishedName, TbsCertificate, Validity,
+};
+
+// RFC 5280, 4.1: all SEQUENCEs, except a version.
+#[test]
+fn types_of_certificates_report_equal_tags(rt: HostRuntime) {
+    holds(&rt, tags_agree::<Certificate>(Tag::Sequence, true));
+    holds(&rt, tags_agree::<TbsCertificate>(Tag::Sequence, true));
+    holds(&rt, tags_agree::<Validity>(Tag::Sequence, true));
+    holds(&rt, tags_agree::<Extensions>(Tag::Sequence, true));
+    holds(&rt, tags_agree::<Extension>(Tag::Sequence, true));
+    holds(&rt, tags_agree::<x509::Version>(Tag::Integer, false));
+}
+
+// RFC 5280, 4.1.2.4: a name is a SEQUENCE of SETs of SEQUENCEs.
+#[test]
+fn types_of_names_report_equal_tags(rt: HostRuntime) {
+    holds(&rt, tags_agree::<Name>(Tag::Sequence, true));
+    holds(&rt, tags_agree::<RelativeDistinguishedName>(Tag::Set, true));
+    holds(&rt, tags_agree::<AttributeTypeAndValue>(Tag::Sequence, true));
+}
+
+// RFC 2986, 4.
+#[test]
+fn types_of_requests_report_equal_tags(rt: HostRuntime) {
+    holds(&rt, tags_agree::<CertReq>(Tag::Sequence, true));
+    holds(&rt, tags_agree::<CertReqInfo>(Tag::Sequence, true));
+    holds(&rt, tags_agree::<CertReqVersion>(Tag::Integer, false));
+    holds(&rt, tags_agree::<Attribute>(Tag::Sequence, true));
+    holds(&rt, tags_agree::<AttributeValues>(Tag::Set, true));
+}
+
+// RFC 5280, 4.1.1.2 and 4.1.2.7; RFC 5958, 2, whose attributes are tagged IMPLICIT where they occur.
+#[test]
+fn types_of_keys_report_equal_tags(rt: HostRuntime) {
+    holds(&rt, tags_agree::<AlgorithmIdentifierRef>(Tag::Sequence, true));
+    holds(&rt, tags_agree::<SubjectPublicKeyInfoRef>(Tag::Sequence, true));
+    holds(&rt, tags_agree::<PrivateKeyInfo>(Tag::Sequence, true));
+    holds(&rt, tags_agree::<pkcs8::Version>(Tag::Integer, false));
+    holds(&rt, tags_agree::<PrivateKeyAttributes>(Tag::Set, true));
+}
+
+// Whether the constant and the function of the grammar give this tag.
+fn tag_is<G: FixedTag>(tag: Tag) -> bool {
+    G::TAG == tag && G::fixed_tag() == tag
+}
+
+#[test]
+fn grammars_report_equal_tags(rt: HostRuntime) {
+    holds(&rt, tag_is::<CertificateVersionGrammar>(Tag::Integer));
+    holds(&rt, tag_is::<CertReqVersionGrammar>(Tag::Integer));
+    holds(&rt, tag_is::<PrivateKeyVersionGrammar>(Tag::Integer));
+    holds(&rt, tag_is::<PrivateKeyAttributesGrammar>(Tag::Set));
+}
