@@ -1,8 +1,8 @@
 //! ASN.1 DER: tags, lengths, headers, readers and writers of the Distinguished Encoding Rules
-//! (ITU-T X.690), after the crate `der`.
+//! (ITU-T X.690). The library is modelled on the Rust crate `der` 0.8.3.
 //!
-//! This crate re-exports all of `der_base` and `der_core`, whose `specs/` state what each function
-//! returns, and adds byte strings, texts, and the module [`example`].
+//! This crate re-exports all of `der_base` and `der_core`. It adds byte strings, texts, and the
+//! module [`example`]. The `specs/` of each crate define the words that its contracts use.
 #![tactic(auto)]
 
 mod bytes;

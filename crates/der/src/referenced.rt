@@ -8,7 +8,7 @@ use der_base::{Error, ErrorKind};
 use std::alloc::Global;
 use std::boxed::BoxedSlice;
 
-/// A copy of the octets in a new box.
+/// Copies `bytes` into a new box in memory of `alloc`.
 ///
 /// # Errors
 ///

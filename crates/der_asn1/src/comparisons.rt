@@ -1,5 +1,6 @@
-//! States the results of the derived comparisons. Each function calls one of them and its contract
-//! states the result; nothing else uses these functions.
+//! The results of the comparisons that `derive` generates. Each function here calls one such
+//! comparison, and the contract of the function states the result of this comparison. Nothing calls
+//! the functions of this module.
 ghost use Rattle.std.specs.Prelude.{◌≡◌, ◌↔◌, IsTrue, Some};
 ghost use Rattle.der_asn1.specs.Times.{time_order};
 

@@ -47,8 +47,8 @@ fn is_written_default<R: Reader, T: HasDefault<R>>(rules: EncodingRules, value: 
 #[derive(Drop)]
 pub struct Defaulted<T>(pub T);
 
-/// Takes the default value, and reads nothing, if no octets are left or if no value of `T` may
-/// begin with the next tag.
+/// If no octets are left, or if no value of `T` may begin with the next tag, reads nothing and
+/// returns the default value. In all other cases decodes a value of `T`.
 ///
 /// # Errors
 ///

@@ -9,9 +9,11 @@ use der::{DecodeValue, Header, Reader, decode_header, read_value};
 use std::alloc::Global;
 
 /// Decodes an element with any tag that `T` accepts: its header, its contents, and after an
-/// indefinite length the end-of-contents octets. Types without a fixed tag, such as ANY and CHOICE,
-/// implement `decode` by calling this function. The ghost member `takes` of `T`, which is for
+/// indefinite length the end-of-contents octets. The ghost member `takes` of `T`, which is for
 /// proofs only, says which tags `T` accepts.
+///
+/// For implementors: a type without a fixed tag, such as ANY, implements `decode` by calling this
+/// function.
 ///
 /// # Errors
 ///

@@ -1,5 +1,5 @@
-//! SEQUENCE OF, borrowed from the input. Decoding checks all elements, so that iteration cannot
-//! fail on their encodings.
+//! SEQUENCE OF, borrowed from the input. Decoding checks the encodings of all elements. A later
+//! iteration over the elements can fail only if an allocation fails.
 ghost use Rattle.std.specs.Prelude.{◌≡◌, ◌^◌, ◌<◌, ◌≤◌, false, [], None, length, IfOk, OnOk, IsErrAnd, IfSome, ⊤};
 ghost use Rattle.std.proofs.Common.{arith};
 ghost use Rattle.der.specs.Prelude.{Sequence, element_octets, rest_of, Reads, slice_state, error_of_kind};
@@ -271,8 +271,10 @@ impl<'a, T: Lawful> SequenceOf<'a, T> {
 }
 
 impl<'a, T: Lawful + DecodeValue<SliceReader<'a>>> Items<'a, T> {
-    /// The next element; `None` after the last one. If decoding a `T` allocates, `None` can also
-    /// mean that decoding failed; the iteration then stays before that element.
+    /// Returns the next element, or `None` after the last one.
+    ///
+    /// If decoding a `T` allocates, `None` can also mean that the next element could not be
+    /// decoded. The next call then tries the same element again.
     pub fn next(&mut self, alloc: Global) -> Option<T>
         ensures some { IfSome result (λ v. T.valid v
             × Reads (slice_state self.old.reader) (slice_state self.new.reader)

@@ -1,5 +1,5 @@
-//! SET OF, borrowed from the input. Decoding checks all elements and their order, so that iteration
-//! cannot fail on their encodings.
+//! SET OF, borrowed from the input. Decoding checks the encodings of all elements and their order.
+//! A later iteration over the elements can fail only if an allocation fails.
 ghost use Rattle.std.specs.Prelude.{◌≡◌, ◌^◌, ◌<◌, ◌≤◌, ◌↔◌, false, true, [], length, IfOk, OnOk, IsErrAnd, ⊤};
 ghost use Rattle.std.proofs.Common.{arith};
 ghost use Rattle.der.specs.Prelude.{Set as SetTag, rest_of, Reads, slice_state, IsBefore, error_of_kind};
@@ -98,7 +98,8 @@ fn check_set<'a, T: Lawful + DecodeValue<SliceReader<'a>>>(
 }
 
 /// A SET OF borrowed from the input. Its contents have been checked: they are encodings of values
-/// of `T`, one after the other and in ascending order.
+/// of `T`, one after the other. No encoding is less than the one before it, compared octet by octet
+/// (X.690 11.6).
 pub struct SetOf<'a, T: Lawful> {
     elements: SequenceOf<'a, T>,
     ghost short: { length elements.octets.now < 2 ^ 32 },
@@ -147,8 +148,8 @@ impl<'a, T: Lawful> ReadValue for SetOf<'a, T> {
 }
 
 /// Borrows the contents from the input, and checks every element in them once. The elements must be
-/// encoded under DER, also if the reader reads BER. Their encodings must be in ascending order,
-/// also under BER; equal encodings may follow each other.
+/// encoded under DER, also if the reader reads BER. Also under BER, the encodings must be in
+/// ascending order, compared octet by octet; equal encodings may follow each other.
 ///
 /// # Errors
 ///
@@ -219,8 +220,9 @@ impl<'a, T: Lawful> Nestable for SetOf<'a, T> {
 }
 
 impl<'a, T: Lawful + DecodeValue<SliceReader<'a>>> SetOf<'a, T> {
-    /// Wraps `octets` as the contents of a SET OF. Checks that they are encodings of values of `T`,
-    /// one after the other and in ascending order.
+    /// Wraps `octets` as the contents of a SET OF. Checks that `octets` are encodings of values of
+    /// `T`, one after the other, and that no encoding is less than the one before it, compared
+    /// octet by octet.
     ///
     /// # Errors
     ///
@@ -229,7 +231,7 @@ impl<'a, T: Lawful + DecodeValue<SliceReader<'a>>> SetOf<'a, T> {
     ///   [`decode_tlv`](der::decode_tlv).
     /// - `Failed` at the position after an element, if decoding a `T` returns a value but leaves
     ///   the reader failed.
-    /// - `SetOrdering` at the start of the first element whose encoding is smaller than that of the
+    /// - `SetOrdering` at the start of the first element whose encoding is less than that of the
     ///   element before it.
     pub fn new(
         alloc: Global,

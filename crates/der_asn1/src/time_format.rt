@@ -30,7 +30,7 @@ pub trait TimeFormat: FixedTag {
         ensures same { IfSome result (λ v. (holds v ≡ true) × (contents_of v ≡ octets.now)) };
 
     /// The contents octets of `time` in this format. The caller must ensure that `time` can be
-    /// written in it.
+    /// written in this format (see [`TimeFormat::can_hold`]).
     fn to_contents(time: &DateTime) -> TimeOctets
         requires { holds time.now ≡ true }
         ensures octets { drop result.start result.octets ≡ contents_of time.now }

@@ -1,4 +1,4 @@
-//! The encoding rules.
+//! The rules under which values are encoded: BER or DER.
 ghost use Rattle.std.specs.Prelude.{◌≡◌, ◌↔◌, IsTrue, Some};
 ghost use Rattle.der_base.specs.declared.encoding_rules.EncodingRules.TheVariants.{Ber, Der};
 
@@ -9,8 +9,9 @@ use std::str::FromStr;
 /// The encoding rules under which a reader reads.
 #[derive(Clone, Copy, Debug, Default, PartialEq, Eq, PartialOrd, Ord)]
 pub enum EncodingRules {
-    /// The Basic Encoding Rules, as far as this library supports them: lengths in the fewest
-    /// octets, the indefinite form, and OCTET STRINGs in segments.
+    /// The Basic Encoding Rules, as far as this library supports them. A length may have the
+    /// indefinite form, and an OCTET STRING may be in segments. A definite length must have the
+    /// fewest octets, as under the Distinguished Encoding Rules.
     Ber,
     /// The Distinguished Encoding Rules.
     #[default]

@@ -1,4 +1,4 @@
-//! Errors.
+//! The type [`Error`], its kinds, and their printed messages.
 ghost use Rattle.std.specs.Prelude.{◌≡◌, Option, Some, None};
 ghost use Rattle.der_base.specs.declared.error.ErrorKind.TheVariants.{Overflow, Utf8};
 
@@ -11,8 +11,9 @@ pub use std::str::Utf8Error;
 /// A result whose error is [`Error`].
 pub type Result<T> = std::result::Result<T, Error>;
 
-/// An error of reading or writing: its kind, and its position if one is known. Positions count
-/// octets from the start of the input or of the output.
+/// An error of a call of this library: its kind, and its position if one is known. The position of
+/// an error in reading counts octets from the start of the input. The position of an error in
+/// writing counts octets from the start of the output.
 #[derive(Clone, Copy, Debug, PartialEq, Eq)]
 pub struct Error {
     kind: ErrorKind,
@@ -33,8 +34,8 @@ impl Error {
     }
 
     /// The error of an input that has `actual_len` octets and needs one more. The kind is
-    /// `Incomplete`, or `Overflow` if the required number of octets would exceed 4294967295. The
-    /// position is `actual_len`, the end of the input.
+    /// `Incomplete`, and its field `expected_len` is `actual_len` plus one. If that sum exceeds
+    /// 4294967295, the kind is `Overflow`. The position is `actual_len`, the end of the input.
     pub fn incomplete(actual_len: Length) -> Self
         ensures { result ≡ error_at_end actual_len }
     {
@@ -97,23 +98,25 @@ impl From<Utf8Error> for Error {
     }
 }
 
-/// The kinds of error.
+/// What went wrong.
 #[derive(Clone, Copy, Debug, PartialEq, Eq)]
 pub enum ErrorKind {
-    /// A value is not a date or time.
+    /// A value is not a valid date or time, or not a valid part of one, such as a month.
     DateTime,
-    /// A text is not the name of encoding rules.
+    /// A text is not the name of encoding rules. The names are `ber`, `BER`, `der` and `DER`.
     EncodingRules,
-    /// The reader or writer had already failed.
+    /// The reader or writer was already failed before the call, because an earlier call failed.
     Failed,
-    /// The input ends too early.
+    /// The input, or the nested part that is being read, ends too early. Both fields count octets
+    /// from the start of the input.
     Incomplete {
-        /// The number of octets that the whole input would need.
+        /// The position up to which octets are required. Octets after it may be required too.
         expected_len: Length,
-        /// The number of octets that the input has.
+        /// The position where the input or nested part ends.
         actual_len: Length,
     },
-    /// An indefinite length where none is allowed, or one that is not closed correctly.
+    /// An indefinite length occurs where none is allowed, or is not closed by two end-of-contents
+    /// octets. Or a definite length occurs where only an indefinite one is allowed.
     IndefiniteLength,
     /// The length of an element is not encoded as required, or is not the number of its contents
     /// octets.
@@ -121,7 +124,7 @@ pub enum ErrorKind {
         /// The element's tag.
         tag: Tag,
     },
-    /// Elements are nested too deeply.
+    /// Elements are nested more deeply than this library supports.
     NestingDepth,
     /// A value is not encoded canonically.
     Noncanonical {
@@ -132,14 +135,15 @@ pub enum ErrorKind {
     OidMalformed,
     /// A SET OF contains an element twice.
     SetDuplicate,
-    /// The elements of a SET OF are not in order.
+    /// The elements of a SET OF are not in ascending order of their encodings (X.690 11.6).
     SetOrdering,
-    /// A number of octets exceeds 4294967295 or the greatest `usize`.
+    /// A number is too great, such as a number of octets that exceeds 4294967295. Or a difference
+    /// of lengths is below zero.
     Overflow,
-    /// An encoded length has more octets than it needs or may have, or a write needs more space
-    /// than there is.
+    /// A length was read without a tag, and is encoded in more octets than it needs or in more than
+    /// five. Or a write needs more space than there is.
     Overlength,
-    /// The reader does not support the requested operation.
+    /// The reader does not support the requested operation, such as returning slices of its input.
     Reader,
     /// A text is not the name of a tagging mode.
     TagModeUnknown,
@@ -154,12 +158,12 @@ pub enum ErrorKind {
     },
     /// No universal tag has the identifier octet that was read.
     TagUnknown {
-        /// The identifier octet.
+        /// The identifier octet that was read.
         byte: u8,
     },
-    /// Octets are left where the input should end.
+    /// Octets are left where the input, or the contents of an element, should end.
     TrailingData {
-        /// The number of octets that were read.
+        /// The number of octets that were read since the start of the input.
         decoded: Length,
         /// The number of octets that are left.
         remaining: Length,

@@ -1,4 +1,4 @@
-//! Numbers of octets.
+//! The type [`Length`], a number of octets.
 ghost use Rattle.std.specs.Prelude.{◌≡◌, ◌↔◌, IsTrue, Bool, true, false, Some};
 
 mod arithmetic;
@@ -9,8 +9,11 @@ use crate::error::{ErrorKind, Result};
 use std::fmt;
 
 /// A number of octets, up to 4294967295, with a flag: whether the length was read in the indefinite
-/// form (X.690 8.1.3.6). Two lengths are equal if their numbers and their flags are equal. Lengths
-/// are ordered by the number and then by the flag, the definite length first.
+/// form (X.690 8.1.3.6). A length that a reader reads in the indefinite form counts the contents
+/// and the two end-of-contents octets.
+///
+/// Two lengths are equal if their numbers and their flags are equal. Lengths are ordered by their
+/// numbers. If the numbers are equal, a definite length is less than an indefinite one.
 #[derive(Clone, Copy, Default, PartialEq, Eq, PartialOrd, Ord, Hash)]
 pub struct Length {
     inner: u32,
@@ -87,9 +90,10 @@ impl Length {
         self.indefinite
     }
 
-    /// The length without the two end-of-contents octets, which an indefinite length counts (X.690
-    /// 8.1.5). An indefinite length becomes smaller by 2, but not less than 0, and stays flagged as
-    /// indefinite. A definite length is returned unchanged.
+    /// The length of the contents without the two end-of-contents octets, which an indefinite
+    /// length counts (X.690 8.1.5). For an indefinite length, returns a length that is smaller by
+    /// 2, but not less than 0, and is still flagged as indefinite. Returns a definite length
+    /// unchanged.
     pub const fn sans_eoc(self) -> Self
         ensures { result ≡ sans_eoc self }
     {

@@ -1,7 +1,9 @@
-//! The basic values of the Distinguished Encoding Rules, after the crate `der`: lengths, tags,
-//! classes, encoding rules and errors, with their printed texts. Nothing here allocates.
+//! The basic values of the Distinguished Encoding Rules: lengths, tags, classes, encoding rules and
+//! errors, with their printed texts. They are modelled on those of the Rust crate `der` 0.8.3.
+//! Nothing here allocates.
 //!
-//! The definitions of the standard, ITU-T X.690, are in `specs/`, separate from the code.
+//! The definitions that the contracts use, from the standard ITU-T X.690, are in `specs/`, separate
+//! from the code.
 #![tactic(auto)]
 
 mod comparisons;

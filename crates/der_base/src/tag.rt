@@ -1,4 +1,4 @@
-//! Tags.
+//! The tags of elements (X.690 8.1.2), and their classes, numbers and tagging modes.
 ghost use Rattle.std.specs.Prelude.{◌≡◌, ◌≢◌, ◌≤◌, ◌↔◌, length, IsTrue, Bool, true, false, Some, Ok, Err};
 ghost use Rattle.der_base.specs.Text.{form_text};
 
@@ -14,7 +14,8 @@ use std::fmt;
 
 /// The tag of an element: a class, whether the contents are constructed, and a number (X.690
 /// 8.1.2). The derived order compares the variants first. For equal variants it compares the
-/// constructed bits, then the numbers. This differs from the order of the identifier octets.
+/// constructed bits, then the numbers. This order is not the lexicographic order of the identifier
+/// octets.
 #[derive(Clone, Copy, PartialEq, Eq, PartialOrd, Ord, Hash)]
 pub enum Tag {
     /// `BOOLEAN`, tag number 1.
@@ -89,7 +90,8 @@ impl Tag {
     ghost use Rattle.der_base.specs.Class.{class_number};
     ghost use Rattle.der_base.specs.Error.{unexpected_tag};
 
-    /// The class of the tag.
+    /// The class of the tag. It is UNIVERSAL for every variant except `Application`,
+    /// `ContextSpecific` and `Private`.
     pub const fn class(self) -> Class
         ensures { class_number result ≡ (label self).class }
     {
@@ -101,7 +103,8 @@ impl Tag {
         }
     }
 
-    /// The number of the tag.
+    /// The number of the tag. For a universal tag it is fixed by the variant. For a tag of another
+    /// class it is the field `number`.
     #[inline(always)]
     pub const fn number(self) -> TagNumber
         ensures { result.0 ≡ (label self).number }
@@ -162,8 +165,8 @@ impl Tag {
         }
     }
 
-    /// The number of identifier octets (X.690 8.1.2), 1 to 6: one for tag numbers up to 30,
-    /// otherwise one plus the number of base-128 digits of the tag number.
+    /// The number of identifier octets (X.690 8.1.2), 1 to 6. A tag number up to 30 needs one
+    /// octet. A greater tag number needs one octet, and one more for each of its base-128 digits.
     pub const fn octet_count(self) -> u32
         ensures octets { result ≡ length (tag_octets self) }
         ensures most { result ≤ 6 }
@@ -216,7 +219,8 @@ impl Tag {
     ///
     /// # Errors
     ///
-    /// - `TagUnexpected` with both tags, without a position, if the two tags differ.
+    /// - `TagUnexpected` without a position, if the two tags differ. Its field `expected` is the
+    ///   tag `expected`, and its field `actual` is this tag.
     pub fn assert_eq(self, expected: Tag) -> Result<Tag>
         ensures expected_tag { self ≡ expected → result ≡ Ok self }
         ensures other_tag { self ≢ expected → result ≡ Err (unexpected_tag expected self) }
@@ -229,7 +233,7 @@ impl Tag {
     }
 
     /// The error kind `Length` with this tag. It reports that the length of an element with this
-    /// tag is not encoded as required.
+    /// tag is not encoded as required, or is not the number of its contents octets.
     pub const fn length_error(self) -> ErrorKind
         ensures { result ≡ ErrorKind.Length self }
     {
@@ -264,8 +268,8 @@ impl Tag {
     }
 }
 
-/// Prints the name of a universal tag. Prints the class, number and form (primitive or constructed)
-/// of another tag.
+/// Prints a universal tag as its name, such as `SEQUENCE`. Prints a tag of another class as its
+/// class, number and form (primitive or constructed), such as `PRIVATE [5] (primitive)`.
 impl fmt::Display for Tag {
     ghost use Rattle.der_base.specs.Text.{tag_text};
 

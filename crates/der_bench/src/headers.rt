@@ -18,8 +18,9 @@ pub struct Wanted {
 }
 
 /// Writes the headers in `wanted`, without contents, in sequence to `out` until all are written or
-/// there is an error. In the result, `elements` is the number of headers written; `contents` is the
-/// number of octets written if all are written, and 0 otherwise; and `octet_sum` is 0.
+/// there is an error. In the result, `elements` is the number of headers written, and `octet_sum`
+/// is 0. If all headers are written, `contents` is the number of octets written. After an error
+/// `contents` is 0.
 #[unsafe(no_mangle)]
 pub extern "C" fn der_bench_put_headers(wanted: &[Wanted], out: &mut [u8]) -> Totals {
     let mut totals = Totals::none();
@@ -34,11 +35,12 @@ pub extern "C" fn der_bench_put_headers(wanted: &[Wanted], out: &mut [u8]) -> To
     totals.written(writer.finish())
 }
 
-/// For each length in `lengths`, writes four headers with this length, without contents, in
-/// sequence to `out`. Their tags are constants: SEQUENCE, INTEGER, OBJECT IDENTIFIER and
-/// context-specific 3. Stops at the first error. In the result, `elements` is the number of lengths
-/// for which all four headers are written; `contents` is the number of octets written if all are
-/// written, and 0 otherwise; and `octet_sum` is 0.
+/// For each length in `lengths`, writes four headers with this length to `out`, one after the other
+/// and without contents. The tags of the four headers are constants: SEQUENCE, INTEGER, OBJECT
+/// IDENTIFIER and context-specific 3. Stops at the first error. In the result, `elements` is the
+/// number of lengths for which all four headers are written, and `octet_sum` is 0. If the headers
+/// for all lengths are written, `contents` is the number of octets written. After an error
+/// `contents` is 0.
 #[unsafe(no_mangle)]
 pub extern "C" fn der_bench_put_known(lengths: &[u32], out: &mut [u8]) -> Totals {
     let mut totals = Totals::none();

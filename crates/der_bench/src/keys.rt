@@ -8,8 +8,9 @@ use der_uses::key_info::KeyInfo;
 use der_uses::my_octets::MyOctets;
 use std::alloc::Global;
 
-/// A key that a benchmark writes. Its algorithm octets and its key octets both start at the front
-/// of the slice `borrowed` that the functions below get; this type gives their numbers.
+/// A key that a benchmark writes. The functions below have a parameter `borrowed`, a slice. The
+/// first octets of this slice are the algorithm octets of the key, and they are also its key
+/// octets; the fields `algorithm` and `key` give their numbers.
 #[repr(C)]
 pub struct WantedKey {
     /// The number of algorithm octets.
@@ -35,9 +36,10 @@ fn key_of<'a>(wanted: &WantedKey, borrowed: &'a [u8]) -> Option<KeyInfo<'a>> {
 }
 
 /// Computes the length of the encoding of each key in `wanted`, and stops at the first error. The
-/// algorithm octets and the key octets of each key both start at the front of `borrowed`; the key
-/// gives their numbers. In the result, `elements` is the number of keys, `contents` is the sum of
-/// the lengths of their encodings, headers included, and `octet_sum` is 0.
+/// algorithm octets of a key are the first [`WantedKey::algorithm`] octets of `borrowed`; its key
+/// octets are the first [`WantedKey::key`] octets of `borrowed`. In the result, `elements` is the
+/// number of keys, `contents` is the sum of the lengths of their encodings, headers included, and
+/// `octet_sum` is 0.
 #[unsafe(no_mangle)]
 pub extern "C" fn der_bench_count_keys(wanted: &[WantedKey], borrowed: &[u8]) -> Totals {
     let mut totals = Totals::none();
@@ -53,10 +55,11 @@ pub extern "C" fn der_bench_count_keys(wanted: &[WantedKey], borrowed: &[u8]) ->
     totals
 }
 
-/// Writes the keys in `wanted` in sequence to `out` until all are written or there is an error. The
-/// algorithm octets and the key octets of each key both start at the front of `borrowed`; the key
-/// gives their numbers. In the result, `elements` is the number of keys written; `contents` is the
-/// number of octets written if all are written, and 0 otherwise; and `octet_sum` is 0.
+/// Writes the keys in `wanted`, one after the other, to `out` until all are written or there is an
+/// error. The algorithm octets of a key are the first [`WantedKey::algorithm`] octets of
+/// `borrowed`; its key octets are the first [`WantedKey::key`] octets of `borrowed`. In the result,
+/// `elements` is the number of keys written, and `octet_sum` is 0. If all keys are written,
+/// `contents` is the number of octets written. After an error `contents` is 0.
 #[unsafe(no_mangle)]
 pub extern "C" fn der_bench_put_keys(
     wanted: &[WantedKey],
@@ -77,11 +80,12 @@ pub extern "C" fn der_bench_put_keys(
     totals.written(writer.finish())
 }
 
-/// Writes each key in `wanted` to the start of the same array of 1024 octets, over the key before,
-/// until all are written or there is an error. The algorithm octets and the key octets of each key
-/// both start at the front of `borrowed`; the key gives their numbers. In the result, `elements` is
-/// the number of keys written, `contents` is the total number of octets written, headers included,
-/// and `octet_sum` is the sum of the last octets of the written keys.
+/// Writes each key in `wanted` to the start of one array of 1024 octets, until all are written or
+/// there is an error. Each key overwrites the key before it. The algorithm octets of a key are the
+/// first [`WantedKey::algorithm`] octets of `borrowed`; its key octets are the first
+/// [`WantedKey::key`] octets of `borrowed`. In the result, `elements` is the number of keys
+/// written, `contents` is the total number of octets written, headers included, and `octet_sum` is
+/// the sum of the last octets of the written keys.
 #[unsafe(no_mangle)]
 pub extern "C" fn der_bench_keys_to_slice(wanted: &[WantedKey], borrowed: &[u8]) -> Totals {
     let mut totals = Totals::none();
@@ -99,10 +103,10 @@ pub extern "C" fn der_bench_keys_to_slice(wanted: &[WantedKey], borrowed: &[u8])
 }
 
 /// Writes each key in `wanted` into a new vector, until all are written or there is an error. The
-/// algorithm octets and the key octets of each key both start at the front of `borrowed`; the key
-/// gives their numbers. In the result, `elements` is the number of keys written, `contents` is the
-/// total number of octets written, headers included, and `octet_sum` is the sum of the last octets
-/// of the written keys.
+/// algorithm octets of a key are the first [`WantedKey::algorithm`] octets of `borrowed`; its key
+/// octets are the first [`WantedKey::key`] octets of `borrowed`. In the result, `elements` is the
+/// number of keys written, `contents` is the total number of octets written, headers included, and
+/// `octet_sum` is the sum of the last octets of the written keys.
 #[unsafe(no_mangle)]
 pub extern "C" fn der_bench_keys_to_der(
     alloc: Global,

@@ -7,7 +7,8 @@ use std::alloc::Global;
 
 /// Decodes OCTET STRINGs in sequence from `bytes`, sorts them, and writes them as one SET OF. In
 /// the result, `elements` is the number of OCTET STRINGs, `contents` is the number of octets of the
-/// SET OF, header included, and `octet_sum` is its last octet. All three are 0 on an error.
+/// SET OF, header included, and `octet_sum` is the last octet of the SET OF. After an error all
+/// three are 0.
 #[unsafe(no_mangle)]
 pub extern "C" fn der_bench_sorted(alloc: Global, bytes: &[u8]) -> Totals {
     let mut elements = Vec::new(alloc);

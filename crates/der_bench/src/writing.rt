@@ -51,10 +51,10 @@ impl Eight {
     }
 }
 
-/// For each number in `numbers`, writes an OCTET STRING of the eight octets of the number, in
-/// sequence to `out`, until all are written or there is an error. In the result, `elements` is the
-/// number of OCTET STRINGs written; `contents` is the number of octets written if all are written,
-/// and 0 otherwise; and `octet_sum` is 0.
+/// For each number in `numbers`, writes an OCTET STRING of the eight octets of the number to `out`.
+/// Writes the OCTET STRINGs one after the other, until all are written or there is an error. In the
+/// result, `elements` is the number of OCTET STRINGs written, and `octet_sum` is 0. If all are
+/// written, `contents` is the number of octets written. After an error `contents` is 0.
 #[unsafe(no_mangle)]
 pub extern "C" fn der_bench_put_elements(numbers: &[u64], out: &mut [u8]) -> Totals {
     let mut totals = Totals::none();
@@ -111,7 +111,8 @@ pub extern "C" fn der_bench_to_der(alloc: Global, numbers: &[u64]) -> Totals {
 /// For each number in `numbers`, appends an OCTET STRING of the eight octets of the number to one
 /// vector, which grows. Stops at the first error. In the result, `elements` is the number of OCTET
 /// STRINGs written. If all are written, `contents` is the length of the vector, and `octet_sum` is
-/// its last octet, or 0 if it is empty; otherwise both are 0.
+/// the last octet of the vector, or 0 if the vector is empty. After an error `contents` and
+/// `octet_sum` are 0.
 #[unsafe(no_mangle)]
 pub extern "C" fn der_bench_to_vec(alloc: Global, numbers: &[u64]) -> Totals {
     let mut totals = Totals::none();
@@ -127,11 +128,11 @@ pub extern "C" fn der_bench_to_vec(alloc: Global, numbers: &[u64]) -> Totals {
     totals
 }
 
-/// For each number in `numbers`, writes a SEQUENCE of four equal OCTET STRINGs, each of the eight
-/// octets of the number, in sequence to `out`. Calls `sequence` with a closure that is inlined.
-/// Stops at the first error. In the result, `elements` is the number of SEQUENCEs written;
-/// `contents` is the number of octets written if all are written, and 0 otherwise; and `octet_sum`
-/// is 0.
+/// For each number in `numbers`, writes to `out` a SEQUENCE of four equal OCTET STRINGs, each of
+/// the eight octets of the number. Writes the SEQUENCEs one after the other, each with a call of
+/// [`SliceWriter::sequence`] and a closure. The closure is inlined. Stops at the first error. In
+/// the result, `elements` is the number of SEQUENCEs written, and `octet_sum` is 0. If all are
+/// written, `contents` is the number of octets written. After an error `contents` is 0.
 #[unsafe(no_mangle)]
 pub extern "C" fn der_bench_put_sequences(numbers: &[u64], out: &mut [u8]) -> Totals {
     let mut totals = Totals::none();
@@ -147,11 +148,12 @@ pub extern "C" fn der_bench_put_sequences(numbers: &[u64], out: &mut [u8]) -> To
     totals.written(writer.finish())
 }
 
-/// For each number in `numbers`, writes a SEQUENCE of four equal OCTET STRINGs, each of the eight
-/// octets of the number, in sequence to `out`. Calls `sequence` with a closure that calls a
-/// function that is not inlined. Stops at the first error. In the result, `elements` is the number
-/// of SEQUENCEs written; `contents` is the number of octets written if all are written, and 0
-/// otherwise; and `octet_sum` is 0.
+/// For each number in `numbers`, writes to `out` a SEQUENCE of four equal OCTET STRINGs, each of
+/// the eight octets of the number. Writes the SEQUENCEs one after the other, each with a call of
+/// [`SliceWriter::sequence`] and a closure. The closure calls a function that is not inlined. Stops
+/// at the first error. In the result, `elements` is the number of SEQUENCEs written, and
+/// `octet_sum` is 0. If all are written, `contents` is the number of octets written. After an error
+/// `contents` is 0.
 #[unsafe(no_mangle)]
 pub extern "C" fn der_bench_call_sequences(numbers: &[u64], out: &mut [u8]) -> Totals {
     let mut totals = Totals::none();

@@ -7,15 +7,15 @@ use der_base::Error;
 use der_core::{Reader, SliceReader, decode_header};
 use std::cmp::Ordering;
 
-/// Compares two whole elements under the Distinguished Encoding Rules by their octets, in the order
-/// of the elements of a SET OF (X.690 11.6). Sets `order` to -1, 0 or 1 if `first` is less than,
-/// equal to or greater than `second`.
+/// Compares the encodings of two elements, `first` and `second`, octet by octet. This is the order
+/// of the elements of a SET OF (X.690 11.6). Sets `order` to -1 if `first` is less than `second`,
+/// to 0 if they are equal, and to 1 if `first` is greater than `second`.
 ///
-/// Fails if one of them is not exactly one element; `order` is unchanged then. `first` is checked
-/// before `second`. The errors are:
+/// Each of `first` and `second` must be exactly one element under the Distinguished Encoding Rules.
+/// `first` is checked before `second`. A call that fails leaves `order` unchanged. Fails with:
 ///
 /// - the errors of `der_read_element`;
-/// - `Overflow` without a position, if there are more than 4294967295 octets;
+/// - `Overflow` without a position, if the checked argument has more than 4294967295 octets;
 /// - `TrailingData`, if octets follow the element.
 #[unsafe(no_mangle)]
 pub extern "C" fn der_compare(first: &[u8], second: &[u8], order: &mut i32) -> DerError

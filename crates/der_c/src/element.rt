@@ -74,10 +74,10 @@ fn read_element_contents<'a>(
     }
 }
 
-/// Reads an element: its header, its contents, and the end-of-contents octets of an indefinite
-/// length.
+/// Reads the next element into `element`: its header, its contents, and the end-of-contents octets
+/// of an indefinite length.
 ///
-/// Fails with:
+/// A call that fails may change `element`. Fails with:
 ///
 /// - the errors of [`der_read_header`](crate::der_read_header);
 /// - `Incomplete` or `Overflow`, if octets of the contents are missing.
@@ -93,10 +93,10 @@ pub extern "C" fn der_read_element<'a>(
     read_element(reader, element)
 }
 
-/// Consumes an element: its header, its contents, and the end-of-contents octets of an indefinite
-/// length.
+/// Consumes the next element and returns nothing of it: its header, its contents, and the
+/// end-of-contents octets of an indefinite length.
 ///
-/// Fails like [`der_read_element`].
+/// Fails with the errors of [`der_read_element`].
 #[unsafe(no_mangle)]
 pub extern "C" fn der_skip(reader: &mut DerReader<'_>) -> DerError
     ensures same { Same (reader_state reader.old) (reader_state reader.new) }
@@ -161,9 +161,10 @@ fn unexpected(expected: u64, actual: u64) -> DerError
     }
 }
 
-/// Reads an element with the tag `tag`.
+/// Reads the next element into `element`. The tag of this element must be `tag`, a word as in
+/// [`DerElement::tag`].
 ///
-/// Fails with:
+/// A call that fails may change `element`. Fails with:
 ///
 /// - the errors of [`der_read_element`];
 /// - `TagUnexpected` without a position, if the next element has another tag; `reader` is unchanged
@@ -214,9 +215,10 @@ fn expect_slowly<'a>(reader: &mut DerReader<'a>, tag: u64, element: &mut DerElem
     }
 }
 
-/// Consumes an element with the tag `tag`, and makes `inside` a reader of its contents.
+/// Consumes the next element, and makes `inside` a reader of its contents. The tag of this element
+/// must be `tag`, a word as in [`DerElement::tag`].
 ///
-/// Every error leaves `inside` unchanged. Fails with:
+/// A call that fails leaves `inside` unchanged. Fails with:
 ///
 /// - the errors of [`der_expect`];
 /// - `NestingDepth`, if the element is inside 64 others.
@@ -295,7 +297,7 @@ fn enter<'a>(reader: &mut DerReader<'a>, header: Header, inside: &mut DerReader<
 /// Makes `inside` a reader of the contents of `element`. `element` must have been read by `reader`
 /// or by a copy of `reader`.
 ///
-/// Every error leaves `inside` unchanged. Fails with:
+/// A call that fails leaves `inside` unchanged. Fails with:
 ///
 /// - `Reader` without a position, if `element` does not lie in the octets of `reader`;
 /// - `Failed` without a position, if `reader` has failed;

@@ -19,18 +19,22 @@ pub struct DerError {
     pub actual: u8,
     /// The position of the error, in octets; 0 if it is not known.
     pub position: u32,
-    /// Depends on the kind of the error; 0 for kinds without such a number:
+    /// A number whose meaning depends on the kind of the error. It is 0 for all kinds that are not
+    /// listed here:
     ///
-    /// - `Incomplete`: the number of octets that was expected.
-    /// - `TrailingData`: the number of octets that was read.
+    /// - `Incomplete`: the number of octets that the whole input would need.
+    /// - `TrailingData`: the number of octets that were read.
     /// - `TagUnknown`: the octet that begins no tag.
-    /// - `TagUnexpected`: the number of the expected tag if that is 31 or more, otherwise 0.
+    /// - `TagUnexpected`: the number of the expected tag, if that number is 31 or more. It is 0 if
+    ///   the number is below 31, or if the error names no expected tag.
     pub first: u32,
-    /// Depends on the kind of the error; 0 for kinds without such a number:
+    /// A number whose meaning depends on the kind of the error. It is 0 for all kinds that are not
+    /// listed here:
     ///
-    /// - `Incomplete`: the number of octets that there are.
+    /// - `Incomplete`: the number of octets that the input has.
     /// - `TrailingData`: the number of octets that are left.
-    /// - Kinds with a tag that was found: its number if that is 31 or more, otherwise 0.
+    /// - Kinds with a tag that was found: the number of this tag if that is 31 or more, and 0 if it
+    ///   is below 31.
     pub second: u32,
 }
 

@@ -42,7 +42,7 @@ fn c_header(header: Header) -> DerHeader
 /// Reads a header, as `der_core::decode_header` does, and stores it in `header`.
 ///
 /// Fails with `Failed`, `Overflow`, `Incomplete`, `TagUnknown`, `TagNumberInvalid`,
-/// `IndefiniteLength`, `Length` and `NestingDepth`. After an error `header` is unchanged.
+/// `IndefiniteLength`, `Length` and `NestingDepth`. A call that fails leaves `header` unchanged.
 #[unsafe(no_mangle)]
 pub extern "C" fn der_read_header(reader: &mut DerReader<'_>, header: &mut DerHeader) -> DerError
     ensures same { Same (reader_state reader.old) (reader_state reader.new) }

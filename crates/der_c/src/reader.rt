@@ -87,8 +87,9 @@ fn missing_octets(position: usize, count: u32, end: u32) -> Error
     kind.at(Length::new(position as u32))
 }
 
-/// A reliable reader: it fails exactly where [`Reader`] says. It keeps a failed state, and returns
-/// slices of its input, as `SliceReader` does.
+/// A reliable reader: its methods fail exactly in the cases that [`Reader`] specifies, with the
+/// errors that it specifies. Like `SliceReader`, this reader stays failed after an error that makes
+/// it fail, and [`Reader::read_slice`] returns slices of its input.
 impl<'a> Reader for DerReader<'a> {
     ghost use Rattle.std.proofs.Common.{rules};
     ghost use Rattle.der_c.specs.CReader.{reader_state};

@@ -13,10 +13,11 @@ use std::marker::Brand;
 use std::sync::ledger::{Blank, Ledger};
 
 /// Consumes indefinite-length contents and the end-of-contents octets that close them (X.690
-/// 8.1.3.6), and sets `count` to the number of all these octets. Before the call, `reader` must be
-/// just after the length octet `0x80`; after the call it is just after the end-of-contents octets.
+/// 8.1.3.6). Sets `count` to the number of octets consumed, end-of-contents octets included. Before
+/// the call, `reader` must be just after the length octet `0x80`; after the call it is just after
+/// the end-of-contents octets.
 ///
-/// Every error leaves `count` unchanged. Fails with:
+/// A call that fails leaves `count` unchanged. Fails with:
 ///
 /// - the errors of `der_core::decode_indefinite_length`;
 /// - `EncodingRules` without a position, if `reader` does not read under the Basic Encoding Rules;

@@ -103,7 +103,8 @@ pub(crate) fn first_octet(tag: Tag) -> u8
     class + form + low
 }
 
-/// The number of a tag if it needs the long form (31 or more), else 0.
+/// The number of `tag`, if the number is 31 or more and so needs the long form of the identifier.
+/// Returns 0 if the number is below 31.
 #[inline(always)]
 pub(crate) fn number_in_long_form(tag: Tag) -> u32
     ensures { result ≡ long_number tag }

@@ -37,10 +37,10 @@ pub struct DerNode {
 
 /// Reads into `nodes` all elements that are left in `reader`, and all elements inside constructed
 /// ones. Each element comes before the elements inside it. Sets `count` to the number of elements
-/// read. If 32 other elements enclose an element, the elements inside it are not read: it is one
-/// node, whatever its contents.
+/// read, also if the call fails. If 32 other elements enclose an element, the elements inside it
+/// are not read: it is one node, whatever its contents.
 ///
-/// After an error `reader` has failed. Fails with:
+/// A call that fails makes `reader` a failed reader. Fails with:
 ///
 /// - the errors of [`der_read_element`](crate::der_read_element);
 /// - `Overlength` without a position, if there are more elements than `nodes` has places.

@@ -27,8 +27,8 @@ pub use value::{DecodeValue, ReadValue, decode_tlv};
 /// Ghost members (for proofs only):
 ///
 /// - `out_of_memory` says whether an error reports that an allocation failed.
-/// - `carries` is a property that implementors prove: a converted error reports a failed allocation
-///   exactly if the original [`Error`] did.
+/// - `carries` is a property that implementors prove: the error to which an [`Error`] is converted
+///   reports a failed allocation exactly if the [`Error`] does.
 pub trait DecodeError: From<Error> + Drop {
     ghost out_of_memory: { Self → Bool };
 
@@ -55,9 +55,9 @@ impl DecodeError for Error {
 ///
 /// Ghost members (for proofs only):
 ///
-/// - `is_next` says with which values a list of octets begins under given encoding rules, and how
-///   many octets each of them takes up. Its argument is all remaining octets, since an indefinite
-///   length depends on what follows.
+/// - `is_next` says whether a list of octets begins with a value under given encoding rules, and
+///   how many octets the value takes up. The list has all octets that remain, because the octets
+///   after an indefinite length determine where the contents end.
 /// - `decode_levels` is the number of nesting levels that decoding requires under given encoding
 ///   rules.
 /// - `allocates` says whether decoding allocates.

@@ -55,8 +55,8 @@ pub trait Encode {
     ///
     /// # Errors
     ///
-    /// After each, octets written earlier remain; the ghost member `encode_answers` specifies the
-    /// state of the writer.
+    /// Whatever the error, the octets that were written before the call remain. The ghost member
+    /// `encode_answers` specifies the state in which the call leaves the writer.
     ///
     /// - The errors of the type, which `encode_answers` also specifies.
     /// - `Failed`, `Overflow` and `Overlength` of the writer, as by [`Writer::write`].
@@ -97,7 +97,8 @@ pub trait Encode {
     ///
     /// # Errors
     ///
-    /// After each, the vector has its previous contents. If several apply, the first is returned.
+    /// A call that fails leaves the contents of the vector as they were before the call. If several
+    /// errors apply, the first in this list is returned.
     ///
     /// - Those of [`Encode::encoded_len`], including `Overflow` without a position for more than
     ///   4294967295 octets.
@@ -198,8 +199,9 @@ pub fn encoded_len_tlv<T: EncodeValue + Tagged>(value: &T) -> Result<Length, Err
 ///
 /// - Those of [`EncodeValue::value_len`]; the writer is unchanged.
 /// - `Failed`, `Overflow` and `Overlength` of the writer at the header, as by [`Writer::write`];
-///   the octets of earlier writes remain.
-/// - Those of [`EncodeValue::encode_value`]; octets written earlier remain.
+///   the octets of the header that were written before the error remain.
+/// - Those of [`EncodeValue::encode_value`]; the header and the contents octets that were written
+///   before the error remain.
 #[inline(always)]
 pub fn encode_tlv<T: EncodeValue + Tagged, W: Writer>(
     value: &T,

@@ -25,7 +25,8 @@ impl<'a, T> EncodeRef<'a, T> {
 ///
 /// # Errors
 ///
-/// Those of that value, with the same positions; the writer is left in the same state.
+/// Those of writing that value, with the same positions. The writer is left in the state in which
+/// writing that value leaves it.
 impl<'a, T: Encode> Encode for EncodeRef<'a, T> {
     ghost encoding = { λ v. T.encoding v.0.now };
 

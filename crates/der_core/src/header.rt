@@ -58,7 +58,11 @@ impl Header {
         self.tag
     }
 
-    /// The length of the contents.
+    /// The length of the contents. In a header from [`Header::decode`], a length that was read in
+    /// the indefinite form also counts the two end-of-contents octets ([`Length::sans_eoc`]
+    /// subtracts them). In the header that
+    /// [`DecodeValue::decode_value`](crate::DecodeValue::decode_value) gets, the length does not
+    /// count them.
     pub fn length(&self) -> Length
         ensures { result ≡ (head_of self.now).length }
     {
@@ -217,17 +221,20 @@ impl<R: Reader> Decode<R> for Header {
     /// - `Overflow` without a position, if an octet is missing at position 4294967295; the reader
     ///   is there and has not failed.
     /// - `Incomplete` at the end, if an octet is missing at any other position.
-    /// - `TagUnknown` with the first octet, at the position after it, if it begins no tag.
+    /// - `TagUnknown`, which holds the first octet, at the position after this octet, if no tag
+    ///   begins with it.
     /// - `TagNumberInvalid` at the position after the first octet if this is `0x1F`, or after an
     ///   octet with which no tag number continues (X.690 8.1.2.4).
-    /// - `IndefiniteLength` at the position after the first length octet, if this is `0x80`: under
-    ///   the Distinguished Encoding Rules; and under the Basic Encoding Rules if the identifier is
-    ///   primitive and a body follows.
+    /// - `IndefiniteLength` at the position after the first length octet, if this octet is `0x80`
+    ///   and the reader uses the Distinguished Encoding Rules. Also at that position, if the reader
+    ///   uses the Basic Encoding Rules, the octet is `0x80`, the identifier is primitive, and the
+    ///   scan finds a complete body.
     /// - `NestingDepth` and the other errors of the scan that follows octet `0x80`, as by
     ///   [`decode_indefinite_length`](crate::decode_indefinite_length), under the Basic Encoding
     ///   Rules; the reader is after octet `0x80` and has not failed.
-    /// - `Length` with the tag, at the position after the length octets if fewer would suffice, or
-    ///   after the first of them if it announces more than four.
+    /// - `Length`, which holds the tag, at the position after the length octets if fewer length
+    ///   octets would suffice, or after the first length octet if it announces more than four
+    ///   others.
     #[inline(always)]
     fn decode(_alloc: Global, reader: &mut R) -> Result<Header, Error>
         ensures { Decodes HeaderNext (HeaderFault BodyFault) R.reliable (R.state reader.old)
@@ -319,7 +326,7 @@ fn encode_long_header<W: Writer>(tag: Tag, len: Length, writer: &mut W) -> Resul
 /// # Errors
 ///
 /// [`Encode::encoded_len`] never fails. [`Encode::encode`] returns the writer's errors, as by
-/// [`Writer::write`]; the octets of earlier writes remain.
+/// [`Writer::write`]; the octets that it wrote before the error remain.
 impl Encode for Header {
     ghost encoding = { λ h. header_octets (head_of h).tag (number (head_of h).length) };
 

@@ -16,9 +16,9 @@ ghost use Rattle.der_core.specs.Lawful.{IsDefinite, IsDefiniteHeader, PassesEnco
 use crate::decode::Lawful;
 use std::marker::PhantomData;
 
-/// States that decoding an identifier, a tag, a length or a header returns it, if the next octets
-/// of the reader are this identifier, tag, length or header. The reader must be reliable (see
-/// [`Reader`](crate::Reader)) and must not have failed.
+/// States that if the next octets of the reader are an identifier, a tag, a length or a header,
+/// decoding it succeeds and returns it. The reader must be reliable (see [`Reader`](crate::Reader))
+/// and must not have failed.
 
 fn next_values_are_decoded()
     ensures identifiers { Accepts IdentifierNext IdentifierFault }
@@ -28,8 +28,9 @@ fn next_values_are_decoded()
 {}
 
 /// States that, under DER, tags, lengths, headers and `PhantomData` (whose encoding is empty) are
-/// read from exactly their encodings. Tag numbers and lengths have 32 bits. For octets whose number
-/// a [`Length`](crate::Length) can represent:
+/// read from exactly their encodings. The values meant here are tags with numbers below 2^32,
+/// definite lengths, and headers with definite lengths. For every list of at most 4294967295
+/// octets:
 ///
 /// - The octets begin with a value exactly if they begin with the encoding of that value.
 /// - The octets are entirely one value exactly if they are the encoding of that value.
@@ -46,15 +47,16 @@ fn grammars_read_encodings<T>()
 {}
 
 /// States that, under DER, elements of a [`Lawful`] type are read from exactly the encodings of
-/// valid values. For octets whose number a [`Length`](crate::Length) can represent:
+/// valid values. For every list of at most 4294967295 octets:
 ///
 /// - The octets begin with an element of the type exactly if they begin with the encoding of a
 ///   valid value.
 /// - The octets are entirely one element of the type exactly if they are the encoding of a valid
 ///   value.
 ///
-/// A reader that has decoded such an element has consumed the encoding. An encoding is read back,
-/// whatever follows it.
+/// A reader that has decoded an element of the type has consumed the encoding of the value that it
+/// returned. The encoding of a valid value is read back as a value with the same contents, whatever
+/// octets follow it.
 fn lawful_types_read_encodings<T: Lawful>()
     ensures front { ReadsEncodings (ElementNext T.tag_is T.takes) T.valid
         (λ v. element_octets T.tag_is (T.contents v)) }

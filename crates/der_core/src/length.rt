@@ -170,8 +170,8 @@ impl<R: Reader> Decode<R> for Length {
     /// - `TagUnknown`, `TagNumberInvalid`, `Length`, `NestingDepth` and the other errors of the
     ///   scan that follows octet `0x80`, as by [`decode_indefinite_length`], under the Basic
     ///   Encoding Rules; the reader is after octet `0x80` and has not failed.
-    /// - `Overlength` at the position after the length octets if fewer would suffice, or after the
-    ///   first of them if it announces more than four.
+    /// - `Overlength` at the position after the length octets if fewer length octets would suffice,
+    ///   or after the first length octet if it announces more than four others.
     #[inline(always)]
     fn decode(_alloc: Global, reader: &mut R) -> Result<Length, Error>
         ensures { Decodes LengthNext (LengthFault BodyFault Overlength) R.reliable
@@ -182,13 +182,14 @@ impl<R: Reader> Decode<R> for Length {
 }
 
 /// Writes the length in the definite form, in the fewest octets (X.690 8.1.3, 10.1). A length below
-/// 128 is one octet. A greater one is an octet with the number of its base-256 digits, then these
-/// digits in one write. Whether the length was read in the indefinite form is ignored.
+/// 128 is written as one octet. For a greater length, the first octet is 128 plus the number of
+/// base-256 digits of the length; one further write has these digits. Whether the length was read
+/// in the indefinite form is ignored.
 ///
 /// # Errors
 ///
 /// [`Encode::encoded_len`] never fails. [`Encode::encode`] returns the writer's errors, as by
-/// [`Writer::write`]; the octets of earlier writes remain.
+/// [`Writer::write`]; the octets that it wrote before the error remain.
 impl Encode for Length {
     ghost encoding = { λ l. length_octets (number l) };
 
@@ -214,8 +215,8 @@ impl Encode for Length {
     }
 }
 
-/// Compares the numbers, which is also the order of their octets (X.690 8.1.3). Whether a length
-/// was read in the indefinite form is ignored. Never fails.
+/// Compares the numbers. The encodings of the lengths (X.690 8.1.3), compared octet by octet, have
+/// the same order. Whether a length was read in the indefinite form is ignored. Never fails.
 impl DerOrd for Length {
     ghost order = { λ l k. Ok (nat_cmp (number l) (number k)) };
 

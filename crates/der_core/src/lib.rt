@@ -1,5 +1,6 @@
 //! Readers and writers of the Distinguished Encoding Rules, decoding and encoding of tags, lengths
-//! and headers, and orders of values by their encodings, after the crate `der`.
+//! and headers, and orders of values by their encodings. The crate is modelled on the Rust crate
+//! `der`.
 //!
 //! The meaning of readers and writers, and the result of each of their functions, are specified in
 //! `specs/`; the grammar of ITU-T X.690 is in the crate `der_base`.

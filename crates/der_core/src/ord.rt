@@ -20,19 +20,20 @@ pub use items::{iter_cmp, iter_cmp_owned};
 use std::cmp::Ordering;
 pub use value::{OrdIsValueOrd, Orderly, ValueOrd};
 
-/// Types whose values are compared by octets, as the elements of a SET OF are sorted (X.690 11.6).
+/// Types whose values are compared by their octets, as X.690 11.6 compares the elements of a SET OF
+/// by their encodings.
 ///
 /// Ghost members (for proofs only):
 ///
 /// - `order` is the exact result of [`DerOrd::der_cmp`], errors included.
 /// - `octets` is the octets by which a value is ordered.
-/// - `by_octets` is a condition on two values. If it holds, the result of comparing them, if it is
-///   no error, is the byte order of their `octets`.
+/// - `by_octets` is a condition on two values. If it holds and comparing the two values succeeds,
+///   the result is the lexicographic order of their `octets`, compared octet by octet.
 /// - `has_header` is a condition on one value: the beginning of its `octets` (for an element, its
-///   header) can be computed. If it holds for both values, and `by_octets` holds for the two,
-///   comparing them is no error.
-/// - `delimits` is a condition under which the `octets` of several values can be separated after
-///   they are joined; `delimited` is the proof of this from the condition.
+///   header) can be computed. If it holds for each of two values, and `by_octets` holds for the
+///   two, comparing them succeeds.
+/// - `delimits` is a condition on the type: if the `octets` of several values are joined, they can
+///   be separated again. `delimited` is the proof that the condition has this meaning.
 pub trait DerOrd {
     ghost order: { Self → Self → Compared };
 

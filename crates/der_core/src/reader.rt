@@ -27,7 +27,7 @@ pub use value::{close_value, read_eoc, read_value};
 pub trait Octets: Drop {
     ghost octets: { Self → List ℕ };
 
-    /// These octets as a slice.
+    /// The octets that the reader returned, as a slice.
     fn as_slice(&self) -> &[u8]
         ensures { result.now ≡ octets self.now };
 }
@@ -44,10 +44,13 @@ impl<'a> Octets for &'a [u8] {
 /// reader has failed.
 ///
 /// A reader is reliable if its functions fail exactly in the cases that their contracts specify,
-/// with the specified errors and positions. Any other reader may fail at every call; only its `Ok`
-/// results are specified. A reader that keeps no failed state never counts as failed, even where
-/// the list of errors of a function says that the reader is then failed. If several errors of such
-/// a list apply, the first of them is returned.
+/// with the specified errors and positions. If several errors in the list of a function apply, a
+/// reliable reader returns the first of them. A reader that is not reliable may fail at any call;
+/// only its `Ok` results are specified.
+///
+/// A reader may keep no failed state, which means that it does not remember that it has failed.
+/// Such a reader counts as not failed at all times, even where the list of errors of a function
+/// says that the reader is then failed.
 ///
 /// Ghost members (for proofs only):
 ///
@@ -55,10 +58,11 @@ impl<'a> Octets for &'a [u8] {
 ///   it keeps a failed state; see `specs/ReaderState.antt`.
 /// - `reliable` says whether the reader is reliable, as described above.
 /// - `reads_slices` says whether the reader can return slices.
-/// - `sound_state` is a property of every state, which implementors prove: the position is within
-///   the end, and the end within the input of at most 4294967295 octets; the depth is at most 64;
-///   and only a reader that keeps a failed state fails.
-/// - `reading_slices` is a property that implementors prove: a reliable reader returns slices.
+/// - `sound_state` is a property of every state, which implementors prove: the position is not
+///   after the end, and the end is not after the end of the input, which has at most 4294967295
+///   octets; the depth is at most 64; and only a reader that keeps a failed state is ever failed.
+/// - `reading_slices` is a property that implementors prove: every reliable reader can return
+///   slices.
 pub trait Reader: Sized + Drop {
     /// The octets that [`Reader::read_slice`] returns; for a [`SliceReader`] a slice of its input.
     type Borrowed: Octets;
@@ -82,7 +86,8 @@ pub trait Reader: Sized + Drop {
         ensures { result ≡ (state self.now).rules };
 
     /// The end up to which the input may be read. Inside a nested part (see
-    /// [`Reader::enter_nested`]) this is the end of that part, otherwise the length of the input.
+    /// [`Reader::enter_nested`]) this is the end of that part. Outside all nested parts it is the
+    /// length of the input.
     fn input_len(&self) -> Length
         ensures { result ≡ definite_length (state self.now).end };
 
@@ -90,7 +95,8 @@ pub trait Reader: Sized + Drop {
     fn position(&self) -> Length
         ensures { result ≡ definite_length (state self.now).position };
 
-    /// Whether the reader has failed; always false for one that keeps no failed state.
+    /// Whether the reader has failed. The result is always `false` for a reader that keeps no
+    /// failed state (see [`Reader`]).
     fn is_failed(&self) -> bool
         ensures { result ≡ (state self.now).failed };
 
@@ -119,7 +125,7 @@ pub trait Reader: Sized + Drop {
     ///
     /// # Errors
     ///
-    /// After each the buffer is unchanged.
+    /// A call that fails leaves the buffer unchanged.
     ///
     /// - `Overflow` without a position, if the buffer is longer than 4294967295 octets; the reader
     ///   is unchanged.
@@ -201,10 +207,10 @@ pub trait Reader: Sized + Drop {
         self.read_vec_in(alloc, len)
     }
 
-    /// Skips `amount` octets. A definite length of zero skips none, even on a failed reader. Octets
-    /// are skipped in steps of sixteen; the last step may be shorter. If fewer than `amount` octets
-    /// are left, the reader skips all steps for which sixteen octets are left, and fails at the
-    /// next step.
+    /// Skips `amount` octets. If `amount` is zero and was not read in the indefinite form, the
+    /// function does nothing and returns `Ok`, even if the reader has failed. Octets are skipped in
+    /// steps of sixteen; the last step may be shorter. If fewer than `amount` octets are left, the
+    /// reader skips all steps for which sixteen octets are left, and fails at the next step.
     ///
     /// # Errors
     ///

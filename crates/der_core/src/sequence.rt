@@ -23,14 +23,18 @@ pub trait FromFields<F>: Sized + Drop {
         ensures { Self.fields result ≡ members };
 }
 
-/// Decodes a value from all of the contents that the reader is inside: the contents are its fields
-/// in sequence. This function has the contract of
+/// Decodes the fields `F` from the start of the contents that the reader is inside, one field after
+/// the other, and builds the value from them. Ignores `header`. If octets are left after the
+/// fields, it leaves them unread and returns `Ok`; the caller must report them, as
+/// [`decode_tlv`](crate::decode_tlv) does.
+///
+/// This function has the contract of
 /// [`DecodeValue::decode_value`](crate::DecodeValue::decode_value), so an implementation of that
 /// function can call it.
 ///
 /// # Errors
 ///
-/// Those of the fields, in sequence, as by [`Decode::decode`].
+/// Those of the first field that fails to decode, as by [`Decode::decode`].
 #[inline(always)]
 pub fn decode_sequence<R: Reader, F: Decode<R>, T: FromFields<F>>(
     alloc: Global,

@@ -294,7 +294,8 @@ impl<R: Reader> Decode<R> for Tag {
     /// - `Overflow` without a position, if an octet is missing at position 4294967295; the reader
     ///   is there and has not failed.
     /// - `Incomplete` at the end, if an octet is missing at any other position.
-    /// - `TagUnknown` with the first octet, at the position after it, if it begins no tag.
+    /// - `TagUnknown`, which holds the first octet, at the position after this octet, if no tag
+    ///   begins with it.
     /// - `TagNumberInvalid` at the position after the first octet if this is `0x1F`, or after an
     ///   octet with which no tag number continues (X.690 8.1.2.4).
     #[inline(always)]
@@ -311,7 +312,7 @@ impl<R: Reader> Decode<R> for Tag {
 /// # Errors
 ///
 /// [`Encode::encoded_len`] never fails. [`Encode::encode`] returns the writer's errors, as by
-/// [`Writer::write`]; the octets of earlier writes remain.
+/// [`Writer::write`]; the octets that it wrote before the error remain.
 impl Encode for Tag {
     ghost encoding = { tag_octets };
 

@@ -7,22 +7,25 @@ pub mod slice;
 use der_base::Error;
 pub use slice::SliceWriter;
 
-/// A writer of octets: the octets written, the octets of its buffer after them, the space that is
-/// left, and whether the writer has failed.
+/// A writer of octets. It has the octets written so far, the octets that follow them in its buffer,
+/// and the space that is left for further writes. It may have failed.
 ///
-/// A writer that has not failed accepts every write that fits into its space. A writer that does
-/// not guarantee this must count as failed. A writer is reliable if its functions fail exactly in
-/// the cases that their contracts specify, with the specified errors and positions. If several
-/// errors of a function's list apply, the first of them is returned.
+/// A writer is reliable if its functions fail exactly in the cases that their contracts specify,
+/// with the specified errors and positions. If several errors in the list of a function apply, a
+/// reliable writer returns the first of them.
+///
+/// Implementors must ensure that a writer that has not failed accepts every write that fits into
+/// its space. If an implementor cannot ensure this for a writer, the `state` of that writer must
+/// have `failed` set from the start.
 ///
 /// Ghost members (for proofs only):
 ///
 /// - `state` is the meaning of the writer; see `specs/Writer.antt`. It has the `octets` written,
 ///   the octets `following` them in the buffer, `start` and `stop` of the part of the buffer that
 ///   may be written, the `capacity` of the buffer, whether the writer has `failed`, and a
-///   `reference`, the identity of the buffer. A writer without a buffer starts with `start` 0,
-///   chooses its own `stop`, has an empty `following`, and any `capacity` and `reference`, as long
-///   as these do not change.
+///   `reference`, the identity of the buffer. If a writer has no buffer, `start` is 0 and
+///   `following` is empty, and the implementor chooses values of `stop`, `capacity` and `reference`
+///   that never change.
 /// - `reliable` says whether the writer is reliable, as described above.
 pub trait Writer {
     ghost state: { Self → WriterState };
@@ -33,7 +36,7 @@ pub trait Writer {
     ///
     /// # Errors
     ///
-    /// After each nothing is written and the position is unchanged.
+    /// A call that fails writes nothing and leaves the position unchanged.
     ///
     /// - `Failed` at the writer's position, if the writer had already failed; the writer is
     ///   unchanged.
@@ -48,8 +51,10 @@ pub trait Writer {
         ensures exact { reliable ≡ true
             → Writes (write_outcome octets.now (state self.old)) result (state self.new) };
 
-    /// Whether a write of `_count` octets is known to succeed. If true, a header is written with
-    /// one write, otherwise piece by piece. The default returns `false`, which promises nothing.
+    /// Whether the writer knows that a write of `_count` octets will succeed. If the result is
+    /// `true`, a short header may be written with one write instead of piece by piece. The result
+    /// `false` states nothing: the write may still succeed. The default implementation always
+    /// returns `false`.
     fn has_space(&self, _count: usize) -> bool
         ensures { result ≡ true → HasSpace (state self.now) _count }
     {

@@ -1,5 +1,5 @@
-//! A type with its own tag over octets that are borrowed if the reader returns slices: it is
-//! lawful.
+//! A lawful type that wraps octets and has a tag of its own. The octets are borrowed if the reader
+//! returns slices.
 ghost use Rattle.std.specs.Prelude.{◌≡◌, false};
 ghost use Rattle.std.proofs.Common.{arith};
 ghost use Rattle.der.specs.Prelude.{OctetString};

@@ -6,8 +6,8 @@ ghost use Rattle.der.specs.Encode.{ThenAnswer};
 
 use der::{Encode, Error, ErrorKind, Length, Writer};
 
-/// A value whose `encode` writes the octet `0xAA` and then fails with `Overflow`. If this write
-/// fails, `encode` returns the error of the writer.
+/// A value whose `encode` writes the octet `0xAA` and then fails with `Overflow`. If the writer
+/// refuses the octet, `encode` returns the writer's error instead.
 #[derive(Clone, Copy)]
 pub struct HalfWritten;
 

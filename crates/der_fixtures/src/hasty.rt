@@ -8,9 +8,9 @@ use std::alloc::Global;
 /// A careless type: an OCTET STRING of one octet. `decode_value` reads this octet, and then tries
 /// to read a second one.
 ///
-/// - If the reader has failed then, as it does at the end of the contents, `decode_value` returns
-///   the value all the same.
-/// - If the reader has not failed, `decode_value` fails with `Overlength`.
+/// - If the reader is failed after the second read, `decode_value` returns `Ok` with the value.
+///   This happens if the contents have one octet and the reader keeps a failed state.
+/// - If the reader is not failed after the second read, `decode_value` fails with `Overlength`.
 ///
 /// So the contract accepts no contents as a value of this type.
 #[derive(Clone, Copy)]

@@ -1,4 +1,4 @@
-//! What the clauses of writing say of a type of one octet.
+//! What the contracts of the encoding functions state for a type with one contents octet.
 ghost use Rattle.std.specs.Prelude.{◌≡◌, [], ◌∷◌, ◌++◌, IfOk, OnErr, OnOk};
 ghost use Rattle.der.specs.Prelude.{definite_length};
 
@@ -14,8 +14,8 @@ pub fn month_der(alloc: Global, month: &MyByteMonth) -> Result<Vec<u8>, Error>
     month.to_der(alloc)
 }
 
-/// Appends the encoding of `month` to `out`, and returns the number of octets of the encoding.
-/// After an error `out` is unchanged.
+/// Appends the encoding of `month` to `out`, and returns the number of octets of the encoding. A
+/// call that fails leaves `out` unchanged.
 pub fn append_month(out: &mut Vec<u8>, month: &MyByteMonth) -> Result<Length, Error>
     ensures count { IfOk result (λ n. n ≡ definite_length 3) }
     ensures ok { OnOk result (out.new.items ≡ out.old.items ++ (4 ∷ 1 ∷ month.now.number ∷ [])) }

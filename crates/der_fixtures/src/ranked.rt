@@ -8,11 +8,12 @@ use std::cmp::Ordering;
 /// A value without contents octets. Its fields are the results of its methods.
 #[derive(Clone, Copy)]
 pub struct Ranked {
-    /// The result of `tag`.
+    /// The tag that the method [`Tagged::tag`] returns.
     pub tag: Tag,
-    /// The result of `value_len`: `Ok` for the length 0, or the error that it returns.
+    /// What the method [`EncodeValue::value_len`] returns: the length 0 if this is `Ok`, and the
+    /// error if this is an `Err`.
     pub size: Result<(), Error>,
-    /// The result of `value_cmp` with any other value.
+    /// What the method [`ValueOrd::value_cmp`] returns, whatever the other value is.
     pub order: Result<Ordering, Error>,
 }
 

@@ -3,8 +3,9 @@ ghost use Rattle.std.specs.Prelude.{◌+◌, ◌*◌, ◌%◌, ◌^◌, fold};
 
 use std::hash::{Hash, Hasher};
 
-/// A hasher that keeps all octets it gets in one number. In base 256 the digits of this number are
-/// a 1 and then the octets. There is room for 15 octets; with more, the first digits are lost.
+/// A hasher that keeps all octets it gets in one number. In base 256, the first digit of this
+/// number is 1, and the octets are the digits after it. The number can hold 15 octets; with more
+/// octets, its first digits are lost.
 #[derive(Drop)]
 struct Recorder(u128);
 
@@ -24,8 +25,9 @@ impl Hasher for Recorder {
     }
 }
 
-/// The octets that `value` gives to a hasher, as one number. In base 256 the digits of this number
-/// are a 1 and then the octets. There is room for 15 octets; with more, the first digits are lost.
+/// The octets that `value` gives to a hasher, as one number. In base 256, the first digit of this
+/// number is 1, and the octets are the digits after it. The number can hold 15 octets; with more
+/// octets, its first digits are lost.
 pub fn recorded<T: Hash>(value: &T) -> u128 {
     let mut recorder = Recorder(1);
     value.hash(&mut recorder);

@@ -1,6 +1,7 @@
-//! Calls that allocate with the global allocator, in sequence. Each prints a line with its result:
-//! the value, or that an allocation failed and all else is as the function documents.
-//! `.ci/refused_memory` runs this program with each allocation failing in turn.
+//! Calls that allocate with the global allocator, one after the other. For each call a line with
+//! its result is printed: the value that it returns, or, if an allocation failed, that it failed
+//! and that everything else is as the documentation of the function says. `.ci/refused_memory` runs
+//! this program many times, and in each run one of the allocations fails.
 use der::example::{BorrowedOctets, JoinedOctets, MyByteMonth, OwnedText};
 use der::{
     BytesCow, BytesOwned, BytesRef, Decode, DecodeValue, Encode, EncodingRules, Error, ErrorKind,

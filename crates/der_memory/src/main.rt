@@ -1,7 +1,8 @@
-//! Calls that allocate nothing, in groups, and then, after a line `allocating`, calls that
-//! allocate. Each prints a line with its result. Before the line `allocating`, only what runs just
-//! before a line `prepared` may allocate. `.ci/refused_memory` counts the requests, and makes each
-//! fail in turn.
+//! Groups of calls that allocate nothing; then a line `allocating`; then calls that allocate. For
+//! each call a line with its result is printed. Before the line `allocating`, memory is allocated
+//! only to prepare for calls, and each time the next line printed is `prepared`.
+//! `.ci/refused_memory` counts the requests for memory. For each request after the line
+//! `allocating` it runs the program once and makes this request fail.
 #![tactic(auto)]
 
 mod allocating;

@@ -1,4 +1,4 @@
-//! Orders of values, and of lists of them.
+//! Comparisons of values, and of lists of values.
 use crate::print::print_result;
 use der::example::BorrowedOctets;
 use der::{BytesRef, DerOrd, Error, Header, Length, Tag, ValueOrd, iter_cmp, iter_cmp_owned};

@@ -1,5 +1,6 @@
-//! Prints what a file of DER or BER holds: the fields of a certificate, request or key, one per
-//! line, or the field that failed; and for anything else one line per element.
+//! Prints what a file of DER or BER holds. For a certificate, a request or a key, it prints the
+//! fields, one per line, or the field that failed to decode. For anything else it prints one line
+//! per element.
 #![tactic(auto)]
 
 use der_show_lib::run_show;

@@ -101,8 +101,9 @@ fn write_parties(
     text.push('\n')
 }
 
-/// Writes a serial number in hexadecimal. A positive number is written without a leading zero
-/// octet, a negative one as `(Negative)` and then its octets in two's complement.
+/// Writes a serial number in hexadecimal. If the first of several octets is zero, which only shows
+/// that the number is not negative, this octet is left out. A negative number is written as
+/// `(Negative)` and then its octets in two's complement.
 fn write_serial_number(text: &mut String, number: &IntRef<'_>) -> Result<(), AllocError> {
     match number.octets() {
         [0, second, rest @ ..] => {
@@ -118,7 +119,8 @@ fn write_serial_number(text: &mut String, number: &IntRef<'_>) -> Result<(), All
 }
 
 /// Writes a line with `oid`, the identifier of a signature algorithm. `offsets` must be at the
-/// start of its AlgorithmIdentifier element, and moves past it.
+/// start of the AlgorithmIdentifier element that contains `oid`. The call moves `offsets` past this
+/// element.
 pub fn write_signature_algorithm(
     text: &mut String,
     oid: &ObjectIdentifierRef<'_>,
@@ -130,8 +132,9 @@ pub fn write_signature_algorithm(
     text.push('\n')
 }
 
-/// Writes a line with the number of octets of `signature`, not with the octets themselves.
-/// `offsets` must be at the start of the element of `signature`, and moves past it.
+/// Writes a line with the number of octets that hold the bits of `signature`, but not these octets
+/// themselves. `offsets` must be at the start of the element of `signature`. The call moves
+/// `offsets` past this element.
 pub fn write_signature(
     text: &mut String,
     signature: &BitStringRef<'_>,

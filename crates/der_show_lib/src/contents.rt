@@ -27,8 +27,13 @@ pub fn write_contents(text: &mut String, tag: Tag, contents: &[u8]) -> Result<()
     }
 }
 
-/// The contents as text, if `tag` is that of a string or a time, and the contents are UTF-8 without
-/// control characters, so that they fit on a line. Otherwise `None`.
+/// Returns the contents as text if both conditions hold:
+///
+/// - `tag` is that of a UTF8String, PrintableString, IA5String, VisibleString, NumericString,
+///   UTCTime or GeneralizedTime;
+/// - the contents are UTF-8 without control characters, so that they fit on a line.
+///
+/// Returns `None` in all other cases.
 pub fn shown_text(tag: Tag, contents: &[u8]) -> Option<&str> {
     match tag {
         Tag::Utf8String

@@ -21,7 +21,7 @@ pub struct PlacedElement<'a> {
 
 impl<'a> PlacedElement<'a> {
     /// Reads the element that begins at position `start` of `octets`. Fails if the element cannot
-    /// be read under `rules`, or does not end at position `end` or before.
+    /// be read under `rules`, or if it ends after position `end`.
     pub fn read(
         octets: &'a [u8],
         start: u32,

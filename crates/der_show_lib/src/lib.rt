@@ -1,5 +1,6 @@
-//! What the program `der_show` prints for a file: the fields of a certificate, a request or a key,
-//! one per line, or the field that failed; and for any other DER or BER one line per element.
+//! What the program `der_show` prints for a file. For a certificate, a request or a key, it prints
+//! the fields, one per line, or the field that failed to decode. For any other DER or BER it prints
+//! one line per element.
 #![tactic(auto)]
 
 mod certificate;

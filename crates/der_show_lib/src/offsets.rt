@@ -4,9 +4,9 @@ use der::{Error, Reader, ReaderExt, SliceReader, decode_header};
 use std::alloc::AllocError;
 use std::fmt::Write;
 
-/// A walk over the elements of octets that were already decoded. The walk is always before one
-/// element, the next one. Before the line of this element it writes the offset of the element's
-/// header, if offsets were requested.
+/// A walk over the elements of octets that were already decoded. The element that begins at the
+/// position of the walk is called the next element. If offsets were requested, the walk writes the
+/// offset of the header of the next element, before the caller writes the line of this element.
 #[derive(Drop)]
 pub struct Offsets<'a> {
     // At the element of the next line.
@@ -50,16 +50,16 @@ impl<'a> Offsets<'a> {
         write!(text, "{:>5}: ", u32::from(self.reader.position()))
     }
 
-    /// Writes the offset of the next element, if offsets were requested. In any case moves to the
-    /// first element inside it.
+    /// Writes the offset of the next element, if offsets were requested. Then moves to the first
+    /// element inside the next element, whether or not offsets were requested.
     pub fn put_around(&mut self, text: &mut String) -> Result<(), AllocError> {
         self.show(text)?;
         self.enter();
         Ok(())
     }
 
-    /// Writes the offset of the next element, if offsets were requested. In any case moves past the
-    /// whole element.
+    /// Writes the offset of the next element, if offsets were requested. Then moves past this whole
+    /// element, whether or not offsets were requested.
     pub fn put(&mut self, text: &mut String) -> Result<(), AllocError> {
         self.show(text)?;
         self.pass();

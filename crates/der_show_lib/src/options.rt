@@ -5,7 +5,7 @@ use der::EncodingRules;
 /// The options of the command line.
 #[derive(Clone, Copy)]
 pub struct Options {
-    /// The encoding rules of the octets: BER with the option `--ber`, otherwise DER.
+    /// The encoding rules of the octets: BER if the option `--ber` is given, and DER if it is not.
     pub rules: EncodingRules,
     /// Whether each line begins with the offset of its element: the option `--offsets`.
     pub has_offsets: bool,

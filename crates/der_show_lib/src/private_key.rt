@@ -10,7 +10,7 @@ use std::alloc::AllocError;
 use std::fmt::Write;
 
 /// Writes one line per field of a private key. The octets of the key itself are not written, only
-/// their number.
+/// their number. `offsets` must be at the start of the octets that the key was read from.
 pub fn write_private_key(
     text: &mut String,
     key: &PrivateKeyInfo<'_>,

@@ -12,13 +12,15 @@ use std::{fs, io};
 
 const USAGE: &str = "usage: der_show [--offsets] [--tree] [--ber] [FILE]\n";
 
-/// Runs the program: reads the file that the arguments name, or standard input if they name none,
-/// prints its fields or its elements to `out`, and returns the exit status. `given` are the
-/// arguments; the first one is the name of the program. The status is:
+/// Runs the program with the arguments `given`, of which the first one is the name of the program.
+/// Reads the file that the other arguments name, or standard input if they name no file. Prints the
+/// fields or the elements of what was read to `out`, and returns the exit status:
 ///
 /// - 0 on success;
-/// - 1 if the octets are not accepted or cannot be read, an allocation fails or the output fails;
-/// - 2 if `given` is an error, or the other arguments are not a command; the usage is printed then.
+/// - 1 if the input cannot be read, if its octets are not accepted, if an allocation fails, or if
+///   writing to `out` fails;
+/// - 2 if `given` is an error, or if the arguments after the program's name are not a command. In
+///   both cases the usage is printed.
 pub fn run_show<R: Files + Input + AllocGlobal, W: Write>(
     rt: &R,
     given: io::Result<Args>,

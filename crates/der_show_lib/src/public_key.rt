@@ -39,9 +39,9 @@ pub fn write_public_key(
 }
 
 /// The nominal size in bits of the public key `key`: the number of bits of the modulus of an RSA
-/// key, or of the order of a named curve. `octets` are the octets of its BIT STRING, without the
-/// count of unused bits. `None` if this function does not know the algorithm or the curve, or if
-/// the RSA key has no modulus that can be read.
+/// key, or of the order of a named curve. `octets` are the octets of the BIT STRING of `key`,
+/// without its first octet, the count of unused bits. Returns `None` if this function does not know
+/// the algorithm or the curve, or if the modulus of an RSA key cannot be read.
 fn key_bits(key: &SubjectPublicKeyInfoRef<'_>, octets: &[u8]) -> Option<u64> {
     let algorithm = key.algorithm.oid.octets();
     if algorithm == RSA {
@@ -66,9 +66,10 @@ fn curve_bits(curve: &[u8]) -> Option<u64> {
     }
 }
 
-/// Writes a line with the parameters of `algorithm`, if it is id-ecPublicKey and has parameters;
-/// otherwise writes nothing. The parameters are written as a curve if they are an object
-/// identifier, and in hexadecimal if not.
+/// Writes a line with the parameters of `algorithm`, if `algorithm` is id-ecPublicKey and has
+/// parameters. Writes nothing for any other `algorithm`. Parameters that are an object identifier
+/// are written as the name and the arcs of a curve. Any other parameters are written in
+/// hexadecimal, but at most their first 32 octets.
 ///
 /// `offsets` must be at the start of the AlgorithmIdentifier element of `algorithm`.
 pub fn write_curve(

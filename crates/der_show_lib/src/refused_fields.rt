@@ -1,7 +1,9 @@
 //! Fields that occur in several formats, with the names of RFC 5280, 4.1.
 //!
-//! A function of this module and its neighbours that returns `bool` returns whether the next field
-//! fails. It searches inside a field that fails, and skips one that does not.
+//! In this module and in the other modules `refused_*`, a function that returns `bool` returns true
+//! if the next field fails to decode. It then searches the parts of this field, if there are any,
+//! for the innermost one that fails. If the field decodes, the function skips the field and returns
+//! false.
 
 use crate::search::Search;
 use der::Tag;

@@ -16,9 +16,9 @@ pub enum Shape {
     PrivateKey,
 }
 
-/// The type that `octets` are expected to have, or `None` if it is none of the types below. It
-/// follows from the tags of the elements in the SEQUENCE that the octets begin with. An *algorithm*
-/// is a SEQUENCE that begins with an OBJECT IDENTIFIER.
+/// The type that `octets` are expected to have, or `None` if it is none of the types below. The
+/// type follows from the tags of the elements in the SEQUENCE that the octets begin with. An
+/// *algorithm* is a SEQUENCE that begins with an OBJECT IDENTIFIER.
 ///
 /// - A public key: an algorithm and a BIT STRING.
 /// - A private key: an INTEGER, an algorithm and an OCTET STRING.
@@ -27,7 +27,8 @@ pub enum Shape {
 /// - A request: a SEQUENCE, an algorithm and a BIT STRING. The SEQUENCE begins with an INTEGER, a
 ///   SEQUENCE that is empty or begins with a SET, and another SEQUENCE.
 ///
-/// Nothing else is checked: neither the inside of other elements nor what follows.
+/// Nothing else is checked: not the contents of the other elements, and not the elements or octets
+/// after the listed ones.
 pub fn shape_of(octets: &[u8]) -> Option<Shape> {
     match find_shape(octets) {
         Ok(shape) => shape,

@@ -8,11 +8,11 @@ use crate::tree::write_tree;
 use der::EncodingRules;
 use std::alloc::Global;
 
-/// Writes to `text` what is printed for `octets`:
+/// Writes to `text` what is printed for `octets`.
 ///
-/// - the fields, or the field that fails to decode, if the octets are expected to be a certificate,
-///   a request or a key (see [`shape_of`]), are read under DER, and the option `is_tree` is false;
-/// - the elements, in all other cases.
+/// Writes the fields, or the field that fails to decode, if all three conditions hold: the octets
+/// are expected to be a certificate, a request or a key (see [`shape_of`]); they are read under
+/// DER; and the option `is_tree` is false. Writes the elements in all other cases.
 pub fn write_view(
     alloc: Global,
     text: &mut String,

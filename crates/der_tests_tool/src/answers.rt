@@ -1,4 +1,5 @@
-//! What the contracts do not say: that calls succeed, and the exact words and texts.
+//! Tests of what the contracts do not state: that calls succeed, and which words and texts the
+//! program reads and prints.
 mod arguments;
 mod ber;
 mod ber_cases;

@@ -1,4 +1,4 @@
-//! Tests of what the program prints, from outside like `main`.
+//! Tests of what the program prints. They call the library of the program, as its `main` does.
 #![tactic(auto)]
 
 #[cfg(test)]

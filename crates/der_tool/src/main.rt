@@ -1,5 +1,10 @@
-//! Prints the header, or the whole element, at the start of DER or BER octets in hexadecimal, the
-//! order of two elements, or the joined segments of an OCTET STRING.
+//! A program that reads octets in hexadecimal. The first word after the name of the program is the
+//! name of a command:
+//!
+//! - `head` prints the header at the start of DER or BER octets;
+//! - `tlv` prints the whole element at the start of DER or BER octets;
+//! - `order` prints the order of two DER elements;
+//! - `join` prints the joined segments of a BER OCTET STRING.
 #![tactic(auto)]
 
 use der_tool_lib::run_tool;

@@ -11,11 +11,12 @@ pub enum Answer<A: Allocator> {
     /// The command succeeded. This text is printed: the lines that describe a header, or one line
     /// with an element, an order or joined octets.
     Printed(String<A>),
-    /// The octets are not accepted, for the reason in this line.
+    /// The octets are not accepted, or the command `join` could not allocate memory for the joined
+    /// segments. This line is printed, and states the reason.
     Refused(String<A>),
-    /// An allocation failed.
+    /// Another allocation failed. The line `error: out of memory` is printed.
     OutOfMemory,
-    /// The words of the command line are not a command, so the usage is printed.
+    /// The words of the command line are not a command. The usage is printed.
     Usage,
 }
 
@@ -52,7 +53,8 @@ impl<A: Allocator> Answer<A> {
     }
 }
 
-/// The line that reports `error`. Fails if an allocation fails.
+/// The line that the program prints for `error`: `error: `, the error as `Display` prints it, and a
+/// line feed. Fails if an allocation fails.
 pub fn error_line<A: Allocator>(alloc: A, error: Error) -> Result<String<A>, AllocError>
     ensures { IfOk result (λ s. PrintsError error (string_bytes s)) }
 {

@@ -14,12 +14,13 @@ use std::io;
 /// status. The first argument is the name of the program; the others are the words of a command.
 /// The status is:
 ///
-/// - 0 on success;
-/// - 1 if the octets are not accepted, an allocation fails or the output fails;
-/// - 2 if the words are not a command.
+/// - 0 if the command succeeded and its result was printed;
+/// - 1 if the octets are not accepted, an allocation failed, or the output failed;
+/// - 2 if the words are not a command and the usage was printed.
 ///
-/// If `given` is an error of the kind `InvalidData`, an argument is not text, so the words are not
-/// a command. If it is any other error, an allocation failed.
+/// If `given` is an error of the kind `InvalidData`, an argument is not text. Then the words are
+/// not a command, so the usage is printed. If `given` is any other error, an allocation failed, so
+/// `error: out of memory` is printed.
 pub fn run_tool<W: Output>(alloc: Global, given: io::Result<Args>, out: &mut W) -> u8
     ensures answers { (result ≡ 1)
         ⊎ WritesToArguments given result (W.contents out.old) (W.contents out.new) }

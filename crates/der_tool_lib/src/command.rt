@@ -7,14 +7,17 @@ use der::EncodingRules;
 /// What the words of the command line ask the program to do.
 #[derive(Clone, Copy)]
 pub enum ToolCommand<'a> {
-    /// `head [--ber] HEX`: prints the header at the front of the octets that `hex` spells.
+    /// `head [--ber] HEX`: prints the header at the start of the octets that `hex` spells. The
+    /// rules are BER if `--ber` is present, and DER if it is absent.
     Head { rules: EncodingRules, hex: &'a str },
-    /// `tlv [--ber] HEX`: prints the whole element at the front of the octets that `hex` spells.
+    /// `tlv [--ber] HEX`: prints the whole element at the start of the octets that `hex` spells.
+    /// The rules are BER if `--ber` is present, and DER if it is absent.
     Tlv { rules: EncodingRules, hex: &'a str },
-    /// `order HEX HEX`: prints the order of two whole elements, which `first` and `second` spell,
-    /// by their encodings.
+    /// `order HEX HEX`: prints the order of two whole elements under DER, which `first` and
+    /// `second` spell. It is the lexicographic order of their encodings.
     Order { first: &'a str, second: &'a str },
-    /// `join HEX`: prints the joined segments of the OCTET STRING under BER that `hex` spells.
+    /// `join HEX`: prints the octets of the OCTET STRING that `hex` spells under BER. If they are
+    /// in segments, the segments are joined.
     Join { hex: &'a str },
 }
 
@@ -63,7 +66,7 @@ impl<'a> ToolCommand<'a> {
     }
 
     /// The command `head` or `tlv`, as `name` says, with `rules` and `hex`. `None` if `name` is
-    /// neither of these words, or `hex` is not octets in hexadecimal.
+    /// neither `head` nor `tlv`, or if `hex` is not an even number of hexadecimal digits.
     fn named(name: &str, rules: EncodingRules, hex: &'a str) -> Option<Self>
         ensures found { IsSome result ↔ (IsName name.now × IsHex hex.now) }
         ensures words { IfSome result (λ c. words_under rules name.now hex.now ≡ words_of c) }
@@ -76,8 +79,8 @@ impl<'a> ToolCommand<'a> {
         }
     }
 
-    /// The command `order` with the texts `first` and `second`. `None` if one of them is not octets
-    /// in hexadecimal.
+    /// The command `order` with the texts `first` and `second`. `None` if one of them is not an
+    /// even number of hexadecimal digits.
     fn ordering(first: &'a str, second: &'a str) -> Option<Self>
         ensures found { IsSome result ↔ (IsHex first.now × IsHex second.now) }
         ensures words { IfSome result (λ c. order_words first.now second.now ≡ words_of c) }
@@ -90,7 +93,8 @@ impl<'a> ToolCommand<'a> {
         }
     }
 
-    /// The command `join` with the text `hex`. `None` if `hex` is not octets in hexadecimal.
+    /// The command `join` with the text `hex`. `None` if `hex` is not an even number of hexadecimal
+    /// digits.
     fn joining(hex: &'a str) -> Option<Self>
         ensures found { IsSome result ↔ IsHex hex.now }
         ensures words { IfSome result (λ c. join_words hex.now ≡ words_of c) }

@@ -31,8 +31,8 @@ impl<'a> Element<'a> {
     ///   `Length`, if the header is not accepted, as by [`decode_header`].
     /// - `Overflow` without a position, if the lengths of the header and of the contents add up to
     ///   more than 4294967295.
-    /// - `Incomplete` at the end of `octets`, if this sum is not greater but the contents are
-    ///   truncated.
+    /// - `Incomplete` at the end of `octets`, if the contents are truncated, and that sum does not
+    ///   exceed 4294967295.
     /// - `TrailingData` at the end of the contents, if octets are left after them.
     pub fn from_octets(octets: &'a [u8]) -> Result<Self, Error>
         ensures whole { IfOk result (λ e. IsWholeElement octets.now) }
@@ -93,7 +93,8 @@ impl<'a> EncodeValue for Element<'a> {
     }
 }
 
-/// Compares the contents octet by octet. Never fails.
+/// Compares the contents octets of two elements in lexicographic order. Does not compare their
+/// tags. Never fails.
 impl<'a> ValueOrd for Element<'a> {
     ghost value_order = { octets_order contents_of };
 

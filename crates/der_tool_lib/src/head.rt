@@ -59,15 +59,15 @@ fn yes_or_no(answer: bool) -> &'static str
     if answer { "yes" } else { "no" }
 }
 
-/// ` indefinite` if `indefinite` is true, that is, if a length was read in the indefinite form;
-/// otherwise the empty text. This is printed after the length.
+/// The text that `head` prints directly after a length. It is ` indefinite` if `indefinite` is
+/// true: the length was read in the indefinite form. It is the empty text if `indefinite` is false.
 fn indefinite_suffix(indefinite: bool) -> &'static str
     ensures { result.now ≡ text.indefinite_suffix indefinite }
 {
     if indefinite { " indefinite" } else { "" }
 }
 
-/// The octets in lower-case hexadecimal, or a dash if there are none.
+/// The octets in lower-case hexadecimal, or a dash if there are none. Fails if an allocation fails.
 pub fn octets_text<A: Allocator>(alloc: A, octets: &[u8]) -> Result<String<A>, AllocError>
     ensures { IfOk result (λ s. string_bytes s ≡ text.octets_text octets.now) }
 {

@@ -10,9 +10,10 @@ use der::example::JoinedOctets;
 use der::{DecodeBytes, Error};
 use std::alloc::{AllocError, Allocator, Global};
 
-/// The answer to the command `join`: a line with the joined segments of the OCTET STRING in
-/// `octets`, or an error line if they are not one. The segments are joined in memory of `global`.
-/// Fails if an allocation with `alloc` fails.
+/// The answer to the command `join`. If `octets` are exactly one OCTET STRING under BER, it is a
+/// line with the joined segments. If they are not, it is an error line. The segments are joined in
+/// memory of `global`; if that memory cannot be allocated, the answer is also an error line. Fails
+/// if an allocation with `alloc` fails.
 pub fn answer_join<A: Allocator + Copy>(
     global: Global,
     alloc: A,

@@ -1,6 +1,9 @@
-//! The commands of the program `der_tool`: print the header, or the whole element, at the start of
-//! DER or BER octets in hexadecimal, the order of two elements, or the joined segments of an OCTET
-//! STRING.
+//! The commands of the program `der_tool`. Each reads octets that are given in hexadecimal:
+//!
+//! - `head` prints the header at the start of DER or BER octets;
+//! - `tlv` prints the whole element at the start of DER or BER octets;
+//! - `order` prints the order of two DER elements;
+//! - `join` prints the joined segments of a BER OCTET STRING.
 #![tactic(auto)]
 
 mod answer;

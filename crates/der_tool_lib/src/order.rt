@@ -38,7 +38,8 @@ fn compare(first: &[u8], second: &[u8]) -> Result<Ordering, Error>
     first.der_cmp(&second)
 }
 
-/// The line that is printed for an ordering: `less`, `equal` or `greater`.
+/// The line that `order` prints: `less`, `equal` or `greater`, as the first element compares to the
+/// second.
 fn order_line(ordering: Ordering) -> &'static str
     ensures { result.now ≡ text.order_line ordering }
 {

@@ -19,9 +19,9 @@ use std::io;
 /// Runs the command that `words` request, prints its result to `out`, and returns the exit status.
 /// If the output fails, what `out` has received is unspecified. The status is:
 ///
-/// - 0 on success;
-/// - 1 if the octets are not accepted, an allocation fails or the output fails;
-/// - 2 if the words are not a command.
+/// - 0 if the command succeeded and its result was printed;
+/// - 1 if the octets are not accepted, an allocation failed, or the output failed;
+/// - 2 if the words are not a command and the usage was printed.
 pub fn run<W: Output>(alloc: Global, words: &[String], out: &mut W) -> u8
     ensures answers { (result ≡ 1)
         ⊎ WritesAnswer (texts words.now) result (W.contents out.old) (W.contents out.new) }
@@ -35,7 +35,7 @@ pub fn run<W: Output>(alloc: Global, words: &[String], out: &mut W) -> u8
 /// Fails only if the output fails. Makes all its allocations before it calls `out`.
 ///
 /// Octets and lines are allocated with `alloc`, so that a test can make their allocation fail.
-/// Segments are joined in memory of `global`, as in the library.
+/// Segments are joined in memory of `global`, because the library joins them only there.
 pub fn respond<A: Allocator + Copy, W: Output>(
     global: Global,
     alloc: A,
@@ -62,7 +62,7 @@ pub fn say<A: Allocator, W: Output>(answer: &Answer<A>, out: &mut W) -> io::Resu
 }
 
 /// The answer to `words`: the result of the command that they request, or the usage if they are not
-/// a command. A failed allocation is an answer too.
+/// a command. If an allocation with `alloc` fails, the answer is [`Answer::OutOfMemory`].
 fn answer<A: Allocator + Copy>(global: Global, alloc: A, words: &[String]) -> Answer<A>
     ensures { Answers (texts words.now) (status_of result) (text_of result) }
 {

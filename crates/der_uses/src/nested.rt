@@ -3,8 +3,8 @@ ghost use Rattle.der.specs.Prelude.{Same, slice_state};
 
 use der::{Error, Reader, ReaderExt, SliceReader, Tag, decode_header};
 
-/// The number of elements directly inside the SEQUENCE at the front of `octets`. Elements inside
-/// these are not counted. Fails if `octets` begin with another element.
+/// The number of elements directly inside the SEQUENCE at the front of `octets`. Elements that are
+/// nested deeper are not counted. Fails if the first element in `octets` is not a SEQUENCE.
 pub fn count_of_elements(octets: &[u8]) -> Result<usize, Error> {
     let mut reader = SliceReader::new(octets)?;
     let header = decode_header(&mut reader)?;

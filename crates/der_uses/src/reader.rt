@@ -17,15 +17,18 @@ pub struct CopyingReader<'a> {
 }
 
 impl<'a> CopyingReader<'a> {
-    /// A reader that continues at the position of `inner`. It makes none of its reads fail.
+    /// A reader that continues at the position of `inner`. Its copying reads fail only where those
+    /// of `inner` would fail; see [`CopyingReader::failing`] for a reader in which one more read
+    /// fails.
     pub fn new(inner: SliceReader<'a>) -> Self
         ensures inner { result.inner ≡ inner.entry }
     {
         CopyingReader { inner, reads: 0 }
     }
 
-    /// A reader that continues at the position of `inner`. It makes its read with the number
-    /// `reads`, counted from 1, fail. If `reads` is 0, it makes no read fail.
+    /// A reader that continues at the position of `inner`. Its reads are counted from 1, and the
+    /// read with the number `reads` fails even where that of `inner` would succeed. If `reads` is
+    /// 0, this applies to no read, as in [`CopyingReader::new`].
     pub fn failing(inner: SliceReader<'a>, reads: u32) -> Self
         ensures inner { result.inner ≡ inner.entry }
     {

@@ -13,7 +13,8 @@ use der::{
 use std::alloc::Global;
 use std::cmp::Ordering;
 
-/// Sorts `elements` in place by their encodings, and returns the encoding of the SET OF them.
+/// Sorts `elements` in place by their encodings, and returns the encoding of the SET OF that
+/// contains the sorted elements.
 ///
 /// # Errors
 ///

@@ -21,7 +21,8 @@ pub struct PrivateKeyInfo<'a> {
     pub version: Version<'a>,
     /// The algorithm of the key.
     pub private_key_algorithm: AlgorithmIdentifierRef<'a>,
-    /// The octets of the private key, in a format given by its algorithm; they are not checked.
+    /// The octets of the private key, which are not checked. The algorithm of the key determines
+    /// their format.
     pub private_key: OctetStringRef<'a>,
     /// Further information about the key, if present. Its contents are not checked.
     pub attributes: Optional<Implicit<PrivateKeyAttributes<'a>, 0>>,

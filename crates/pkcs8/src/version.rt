@@ -7,7 +7,8 @@ ghost use Rattle.pkcs8.specs.PrivateKeyVersion.{is_private_key_version};
 use der::{FixedTag, Tag};
 use der_asn1::{Checked, ContentsGrammar};
 
-/// The grammar of the contents of a [`Version`]: one octet, 0 for version 1 or 1 for version 2.
+/// The grammar of the contents of a [`Version`]: one octet, which is 0 for version 1 and 1 for
+/// version 2.
 pub struct PrivateKeyVersionGrammar;
 
 /// The version of a private key, borrowed from the input.

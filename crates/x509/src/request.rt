@@ -79,7 +79,7 @@ impl<'a> ReadValue for CertReq<'a> {
     ghost takes_valid = { ⟦<CertReq<'a> as Described>⟧.element.holds refl };
 }
 
-/// Decodes the fields in sequence.
+/// Decodes the fields one after the other.
 ///
 /// # Errors
 ///
@@ -108,11 +108,11 @@ impl<'a> WrittenValue for CertReq<'a> {
     ghost writable = { ⟦<CertReq<'a> as Described>⟧.element.valid };
 }
 
-/// Writes the fields in sequence.
+/// Writes the fields one after the other.
 ///
 /// # Errors
 ///
-/// - The error of the first field that fails.
+/// - The error of the first field that fails to encode.
 /// - `Overflow` without a position from [`EncodeValue::value_len`], if the fields together have
 ///   more than 4294967295 octets.
 impl<'a> EncodeValue for CertReq<'a> {

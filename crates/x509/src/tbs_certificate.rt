@@ -148,7 +148,7 @@ impl<'a> ReadValue for TbsCertificate<'a> {
     ghost takes_valid = { ⟦<TbsCertificate<'a> as Described>⟧.element.holds refl };
 }
 
-/// Decodes the fields in sequence.
+/// Decodes the fields one after the other.
 ///
 /// # Errors
 ///
@@ -190,11 +190,11 @@ impl<'a> WrittenValue for TbsCertificate<'a> {
     ghost writable = { ⟦<TbsCertificate<'a> as Described>⟧.element.valid };
 }
 
-/// Writes the fields in sequence.
+/// Writes the fields one after the other.
 ///
 /// # Errors
 ///
-/// - The error of the first field that fails.
+/// - The error of the first field that fails to encode.
 /// - `Overflow` without a position from [`EncodeValue::value_len`], if the fields together have
 ///   more than 4294967295 octets.
 impl<'a> EncodeValue for TbsCertificate<'a> {

@@ -68,7 +68,7 @@ impl ReadValue for Validity {
     ghost takes_valid = { ⟦<Validity as Described>⟧.element.holds refl };
 }
 
-/// Decodes the fields in sequence.
+/// Decodes the fields one after the other.
 ///
 /// # Errors
 ///
@@ -102,11 +102,11 @@ impl WrittenValue for Validity {
     ghost writable = { ⟦<Validity as Described>⟧.element.valid };
 }
 
-/// Writes the fields in sequence.
+/// Writes the fields one after the other.
 ///
 /// # Errors
 ///
-/// - The error of the first field that fails.
+/// - The error of the first field that fails to encode.
 /// - `Overflow` without a position from [`EncodeValue::value_len`], if the fields together have
 ///   more than 4294967295 octets.
 impl EncodeValue for Validity {

@@ -1,4 +1,5 @@
-//! Byte strings that are borrowed from the input if the reader allows it.
+//! Byte strings that are borrowed or owned. Reading borrows the octets if the reader can return
+//! slices of its input, and copies them if it cannot.
 ghost use Rattle.std.specs.Prelude.{◌≡◌, ◌↔◌, false, true, IfOk, IsOk};
 ghost use Rattle.der_core.specs.DecodeValue.{TakesContents};
 ghost use Rattle.der_core.specs.Header.{head_of};
@@ -14,9 +15,9 @@ use std::alloc::Global;
 /// A byte string of at most 4294967295 octets, borrowed or owned.
 #[derive(Debug, Drop)]
 pub enum BytesCow<'a> {
-    /// Borrowed octets.
+    /// Octets that are borrowed, for example from a reader's input.
     Borrowed(BytesRef<'a>),
-    /// Owned octets.
+    /// Octets that this value owns, in memory of its own.
     Owned(BytesOwned),
 }
 
@@ -45,14 +46,14 @@ impl<'a> ReadValue for BytesCow<'a> {
     ghost takes_valid = { λ b rules h octets taken. taken.0 };
 }
 
-/// Borrows the contents if the reader can return slices of its input, and copies the contents
-/// otherwise. Takes only the length from the header, and ignores its tag.
+/// If the reader can return slices of its input, borrows the contents. If the reader cannot, copies
+/// the contents. Takes only the length from the header, and ignores its tag.
 ///
 /// # Errors
 ///
 /// - If the reader can return slices: `Failed`, `Overflow` and `Incomplete`, as by
 ///   [`Reader::read_slice`].
-/// - If it cannot: the errors of [`Reader::read_vec`].
+/// - If the reader cannot: the errors of [`Reader::read_vec`].
 impl<'a, R: Reader<Borrowed = &'a [u8]>> DecodeValue<R> for BytesCow<'a> {
     type Error = Error;
 

@@ -17,7 +17,7 @@ mod parts;
 /// An owned byte string of at most 4294967295 octets.
 ///
 /// The derived order puts shorter strings first; strings of equal length are compared octet by
-/// octet.
+/// octet. The order of [`DerOrd`](der_core::DerOrd) is another one: it is lexicographic.
 #[derive(Debug, Drop, PartialEq, Eq, PartialOrd, Ord, Hash)]
 pub struct BytesOwned {
     length: Length,

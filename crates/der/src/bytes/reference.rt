@@ -69,8 +69,8 @@ impl<'a> BytesRef<'a> {
     /// # Errors
     ///
     /// - `Incomplete`, as by [`Error::incomplete`], if the byte string has fewer octets than
-    ///   `length`. The position and `actual_len` are the number of octets of the byte string;
-    ///   `expected_len` is one more.
+    ///   `length`. The position and `actual_len` are the number of octets of the byte string.
+    ///   `expected_len` is that number plus one, not `length`.
     pub fn prefix(&self, length: Length) -> Result<Self, Error>
         ensures exact { map_ok (λ b. b.bytes.now) result
             ≡ prefix_of (number length) self.now.bytes.now }

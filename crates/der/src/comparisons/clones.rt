@@ -1,4 +1,4 @@
-//! A clone is the same value, without allocating.
+//! A clone has the same octets as the original. Cloning allocates nothing.
 ghost use Rattle.std.specs.Prelude.{◌≡◌, Ok};
 ghost use Rattle.der_core.specs.Outcome.{map_ok};
 ghost use Rattle.der.specs.BytesRef.{reference_octets};

@@ -15,8 +15,8 @@ use der_core::{
 use std::alloc::Global;
 use std::cmp::Ordering;
 
-/// An OCTET STRING that owns its octets. The contents of a constructed encoding are segments;
-/// decoding joins them.
+/// An OCTET STRING that owns its octets. If its encoding is constructed, the contents are segments,
+/// and decoding joins them. Its octets are always written as a primitive encoding.
 #[derive(Debug, Drop)]
 pub struct JoinedOctets {
     /// The contents octets, with all segments joined.
@@ -45,8 +45,9 @@ impl ReadValue for JoinedOctets {
     ghost takes_valid = { λ v rules h octets taken. taken.0 };
 }
 
-/// If the encoding is primitive, copies the contents. If the encoding is constructed, joins the
-/// segments, including segments inside segments.
+/// If the header is primitive, copies the contents. If the header is constructed and the reader's
+/// rules are the Basic Encoding Rules, joins the segments, including segments inside segments.
+/// Under the Distinguished Encoding Rules, a constructed header is an error.
 ///
 /// # Errors
 ///

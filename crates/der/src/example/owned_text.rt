@@ -18,7 +18,7 @@ use std::cmp::Ordering;
 /// A UTF8String that owns its text.
 #[derive(Debug, Drop)]
 pub struct OwnedText {
-    /// The text.
+    /// The contents of the UTF8String, as a text.
     pub text: StringOwned,
 }
 

@@ -1,4 +1,5 @@
-//! Contents in segments (X.690 8.7.3); a segment may itself consist of segments.
+//! Reading of contents that consist of segments (X.690 8.7.3). A segment may itself consist of
+//! segments.
 ghost use Rattle.std.specs.Prelude.{◌≡◌, ◌+◌, ◌^◌, ◌<◌, ◌⊎◌, ℕ, List, true, false, IfOk, IfErr, IsOk, OnOk, IsErrAnd};
 ghost use Rattle.der_base.specs.Error.{error_of_kind, missing_refusal};
 ghost use Rattle.der_base.specs.Length.{number};
@@ -14,13 +15,15 @@ use der_base::{Error, ErrorKind, Length, Tag};
 use der_core::{Header, Reader, ReaderExt, close_value, decode_header};
 use std::alloc::Global;
 
-/// Reads segments (X.690 8.7.3) from the reader's position up to its end, and joins them into a new
-/// vector. The segments are elements with the tag `inner_tag`, one after the other. A primitive
-/// segment contributes its contents. Under the Basic Encoding Rules, a segment may also be
-/// constructed, of definite or indefinite length; it contributes the joined segments inside it. A
-/// constructed segment is entered as a nested part; at most 64 parts may be nested. `length` is the
-/// length of the element that contains the segments. The end-of-contents octets of that element are
-/// not read.
+/// Reads segments (X.690 8.7.3) from the reader's position up to the reader's end, and joins them
+/// into a new vector. The segments are elements with the tag `inner_tag`, one after the other. A
+/// primitive segment contributes its contents. Under the Basic Encoding Rules, a segment may also
+/// be constructed, of definite or indefinite length. A constructed segment contributes the joined
+/// segments inside it. It is entered as a nested part, and at most 64 parts may be nested.
+///
+/// `length` is the length of the element that contains the segments. It does not limit what is
+/// read. If `length` is indefinite, the end-of-contents octets of that element must be after the
+/// reader's end, and this function does not read them.
 ///
 /// # Errors
 ///
@@ -45,8 +48,8 @@ use std::alloc::Global;
 /// - `OutOfMemory` without a position, if the allocation of a primitive segment's octets fails; the
 ///   reader is after the segment's header and has not failed.
 ///
-/// If reading the segments inside a constructed segment fails, the reader stays where that reading
-/// stopped, but its end and its depth are again those of the part around that segment.
+/// If an error occurs inside a constructed segment, the reader stays at the position where the
+/// error left it. The reader's end and depth are again those from before that segment was entered.
 pub fn read_constructed_vec<R: Reader>(
     alloc: Global,
     reader: &mut R,

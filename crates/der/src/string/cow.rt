@@ -1,4 +1,4 @@
-//! Texts that are borrowed from the input if the reader allows it.
+//! Texts that are borrowed or owned. Reading borrows the text from the input.
 ghost use Rattle.std.specs.Prelude.{◌≡◌, ◌↔◌, false, true, IfOk, IsOk};
 ghost use Rattle.der_core.specs.DecodeValue.{TakesContents};
 ghost use Rattle.der_core.specs.Header.{head_of};
@@ -15,9 +15,9 @@ use std::alloc::Global;
 /// A text of at most 4294967295 octets, borrowed or owned.
 #[derive(Debug, Drop)]
 pub enum StringCow<'a> {
-    /// A borrowed text.
+    /// A text that is borrowed, for example from a reader's input.
     Borrowed(StringRef<'a>),
-    /// An owned text.
+    /// A text that this value owns, in memory of its own.
     Owned(StringOwned),
 }
 
@@ -52,7 +52,8 @@ impl<'a> ReadValue for StringCow<'a> {
 /// # Errors
 ///
 /// - `Failed`, `Overflow` and `Incomplete`, as by [`Reader::read_slice`].
-/// - The error `Reader`, if the reader cannot return slices.
+/// - `Reader` at the reader's position, if the reader cannot return slices of its input; the reader
+///   is unchanged.
 /// - `Utf8` without a position, if the contents are not UTF-8; the reader is after the contents and
 ///   has not failed.
 impl<'a, R: Reader<Borrowed = &'a [u8]>> DecodeValue<R> for StringCow<'a> {

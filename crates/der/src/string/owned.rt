@@ -96,7 +96,7 @@ impl StringOwned {
         self.as_bytes_ref().len()
     }
 
-    /// Whether the text is empty.
+    /// Whether the text has no octets.
     pub fn is_empty(&self) -> bool
         ensures { IsTrue result ↔ (string_bytes self.now.inner ≡ []) }
     {

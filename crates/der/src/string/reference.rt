@@ -84,7 +84,7 @@ impl<'a> StringRef<'a> {
         Length::new(self.text.len() as u32)
     }
 
-    /// Whether the text is empty.
+    /// Whether the text has no octets.
     pub fn is_empty(&self) -> bool
         ensures { IsTrue result ↔ (self.now.text.now ≡ []) }
     {

@@ -58,7 +58,8 @@ fn rules_equality(a: EncodingRules, b: EncodingRules) -> bool
 }
 
 /// Calls `==`; the contract states that kinds of error compare as equal if and only if they are the
-/// same variant with the same fields: lengths, tags, octet or error of the standard library.
+/// same variant and their fields are equal. The fields are lengths, tags, an octet or a UTF-8
+/// error.
 fn error_kind_equality(a: ErrorKind, b: ErrorKind) -> bool
     ensures { IsTrue result ↔ (a ≡ b) }
 {

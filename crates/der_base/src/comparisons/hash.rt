@@ -17,9 +17,9 @@ fn length_hash<H: Hasher>(length: Length, state: &mut H)
     length.hash(state);
 }
 
-/// Calls `Hash::hash`; the contract states that equal lengths hash equally: if `a` equals `b`, and
-/// `state` and `other` are the same before, they are the same after. The number of octets and the
-/// flag for the indefinite form are both compared and hashed.
+/// Hashes `a` with the hasher `state` and `b` with the hasher `other`, and returns whether `a`
+/// equals `b`. The contract states that equal lengths hash equally: if `a` equals `b`, and the two
+/// hashers are equal before the call, then the two hashers are equal after the call.
 fn equal_lengths_hash_equally<H: Hasher>(a: Length, b: Length, state: &mut H, other: &mut H) -> bool
     ensures { IsTrue result → state.old ≡ other.old → state.new ≡ other.new }
 {

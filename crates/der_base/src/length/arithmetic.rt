@@ -8,14 +8,17 @@ use crate::length::Length;
 use std::ops::{Add, Sub};
 
 impl Length {
-    /// The sum of `self` and `rhs` as a definite length; 4294967295 if the sum is greater.
+    /// Adds the numbers of octets of `self` and `rhs`. The result is a definite length, whether or
+    /// not the operands are. If the sum exceeds 4294967295, the result is 4294967295.
     pub const fn saturating_add(self, rhs: Self) -> Self
         ensures { result ≡ definite_length (saturated_number (number self + number rhs)) }
     {
         Length::new(self.inner.saturating_add(rhs.inner))
     }
 
-    /// The definite length `self` minus `rhs`; zero if `rhs` is greater.
+    /// Subtracts the number of octets of `rhs` from that of `self`. The result is a definite
+    /// length, whether or not the operands are. If `rhs` has the greater number, the result is
+    /// zero.
     pub const fn saturating_sub(self, rhs: Self) -> Self
         ensures { result ≡ definite_length (number self - number rhs) }
     {
@@ -23,7 +26,8 @@ impl Length {
     }
 }
 
-/// The sum as a definite length.
+/// Adds the numbers of octets of two lengths. The sum is a definite length, whether or not the
+/// operands are.
 ///
 /// # Errors
 ///
@@ -38,7 +42,8 @@ impl Add for Length {
     }
 }
 
-/// The sum as a definite length.
+/// Adds a number of octets to a length. The sum is a definite length, whether or not the length on
+/// the left is.
 ///
 /// # Errors
 ///
@@ -53,7 +58,8 @@ impl Add<u8> for Length {
     }
 }
 
-/// The sum as a definite length.
+/// Adds a number of octets to a length. The sum is a definite length, whether or not the length on
+/// the left is.
 ///
 /// # Errors
 ///
@@ -68,7 +74,8 @@ impl Add<u16> for Length {
     }
 }
 
-/// The sum as a definite length.
+/// Adds a number of octets to a length. The sum is a definite length, whether or not the length on
+/// the left is.
 ///
 /// # Errors
 ///
@@ -86,7 +93,8 @@ impl Add<u32> for Length {
     }
 }
 
-/// The sum as a definite length.
+/// Adds a number of octets to a length. The sum is a definite length, whether or not the length on
+/// the left is.
 ///
 /// # Errors
 ///
@@ -101,7 +109,8 @@ impl Add<usize> for Length {
     }
 }
 
-/// The difference as a definite length.
+/// Subtracts the number of octets of the right length from that of the left one. The difference is
+/// a definite length, whether or not the operands are.
 ///
 /// # Errors
 ///
@@ -119,11 +128,12 @@ impl Sub for Length {
     }
 }
 
-/// Adds a length to the length in the result on the left. The sum is a definite length.
+/// Adds a length to the length in the `Result` on the left. The sum is a definite length, whether
+/// or not the operands are.
 ///
 /// # Errors
 ///
-/// - The error of the left operand, unchanged.
+/// - The error on the left, unchanged, if the left operand is an `Err`.
 /// - `Overflow` without a position, if the sum exceeds 4294967295.
 impl Add<Length> for Result<Length> {
     type Output = Self;
@@ -135,12 +145,12 @@ impl Add<Length> for Result<Length> {
     }
 }
 
-/// Subtracts a length from the length in the result on the left. The difference is a definite
-/// length.
+/// Subtracts a length from the length in the `Result` on the left. The difference is a definite
+/// length, whether or not the operands are.
 ///
 /// # Errors
 ///
-/// - The error of the left operand, unchanged.
+/// - The error on the left, unchanged, if the left operand is an `Err`.
 /// - `Overflow` without a position, if the difference is below zero.
 impl Sub<Length> for Result<Length> {
     type Output = Self;

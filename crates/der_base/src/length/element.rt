@@ -8,9 +8,10 @@ use crate::length::Length;
 use crate::tag::Tag;
 
 impl Length {
-    /// The number of octets of a whole element with the tag `tag` and contents of the length
-    /// `self`. The number counts the identifier octets (X.690 8.1.2), the length octets (8.1.3) and
-    /// the contents. The result is a definite length.
+    /// The number of octets of a whole element that has the tag `tag`, `self` contents octets and a
+    /// definite length. It counts the identifier octets (X.690 8.1.2), the length octets (8.1.3)
+    /// and the contents octets. The result is a definite length. If `self` is indefinite, its
+    /// number of octets is used as if it were definite.
     ///
     /// # Errors
     ///
@@ -21,9 +22,10 @@ impl Length {
         Length::new(tag.octet_count() + self.octet_count()) + self
     }
 
-    /// The number of octets that encode the length (X.690 8.1.3, 10.1), 1 to 5: one for lengths up
-    /// to 127, otherwise one plus the number of base-256 digits. A length that was read in the
-    /// indefinite form counts as a definite one.
+    /// The number of octets that encode the length in the definite form (X.690 8.1.3, 10.1), 1 to
+    /// 5. A length up to 127 needs one octet. A greater length needs one octet, and one more for
+    /// each of its base-256 digits. If `self` is indefinite, its number of octets is used as if it
+    /// were definite.
     pub const fn octet_count(self) -> u32
         ensures octets { result ≡ length (length_octets (number self)) }
         ensures some { 1 ≤ result }

@@ -3,20 +3,20 @@ ghost use Rattle.std.specs.Prelude.{◌≡◌, ◌*◌, ◌/◌, Some};
 
 use std::fmt;
 
-/// `0x00`: the class bits (the two highest) of the first identifier octet of a universal tag. The
-/// other bits are 0.
+/// `0x00`: the class UNIVERSAL in the two highest bits, where the first identifier octet has it.
+/// The six other bits of this constant are 0.
 pub const CLASS_UNIVERSAL: u8 = 0x00;
 
-/// `0x40`: the class bits (the two highest) of the first identifier octet of an application tag.
-/// The other bits are 0.
+/// `0x40`: the class APPLICATION in the two highest bits, where the first identifier octet has it.
+/// The six other bits of this constant are 0.
 pub const CLASS_APPLICATION: u8 = 0x40;
 
-/// `0x80`: the class bits (the two highest) of the first identifier octet of a context-specific
-/// tag. The other bits are 0.
+/// `0x80`: the class CONTEXT-SPECIFIC in the two highest bits, where the first identifier octet has
+/// it. The six other bits of this constant are 0.
 pub const CLASS_CONTEXT_SPECIFIC: u8 = 0x80;
 
-/// `0xC0`: the class bits (the two highest) of the first identifier octet of a private tag. The
-/// other bits are 0.
+/// `0xC0`: the class PRIVATE in the two highest bits, where the first identifier octet has it. The
+/// six other bits of this constant are 0.
 pub const CLASS_PRIVATE: u8 = 0xC0;
 
 /// The class of a tag (X.690 8.1.2.2, table 1).

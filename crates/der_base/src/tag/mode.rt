@@ -5,13 +5,15 @@ use crate::error::{Error, ErrorKind, Result};
 use std::fmt;
 use std::str::FromStr;
 
-/// Whether an additional tag encloses the tag of a value or replaces it (X.690 8.14).
+/// How an additional tag is applied to a value that already has a tag (X.690 8.14). The default is
+/// explicit tagging.
 #[derive(Clone, Copy, Debug, Default, PartialEq, Eq, PartialOrd, Ord)]
 pub enum TagMode {
-    /// The additional tag encloses the tag of the value.
+    /// The element of the value, with its own tag, is the contents of an element with the
+    /// additional tag.
     #[default]
     Explicit,
-    /// The additional tag replaces the tag of the value.
+    /// The element of the value has the additional tag instead of its own.
     Implicit,
 }
 

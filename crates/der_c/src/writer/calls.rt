@@ -49,8 +49,8 @@ pub extern "C" fn der_writer_finish(writer: &DerWriter<'_>) -> DerError
 
 /// Writes `octets` unchanged.
 ///
-/// Fails with `Failed`, `Overflow` and `Overlength`, as `der_core::Writer::write` does. After an
-/// error nothing is written, and the writer has failed.
+/// A call that fails writes nothing, and `writer` has failed after it. Fails with `Failed`,
+/// `Overflow` and `Overlength`, as `der_core::Writer::write` does.
 #[unsafe(no_mangle)]
 pub extern "C" fn der_write(writer: &mut DerWriter<'_>, octets: &[u8]) -> DerError
     ensures { WritesOctets octets.now (writer_state writer.old) result (writer_state writer.new) }
@@ -60,8 +60,8 @@ pub extern "C" fn der_write(writer: &mut DerWriter<'_>, octets: &[u8]) -> DerErr
 
 /// Writes the header of an element with the tag `tag` and `length` octets of contents.
 ///
-/// After an error the writer has failed; octets of the header that were already written remain.
-/// Fails with:
+/// After a call that fails, `writer` has failed. Such a call may have written the first octets of
+/// the header; they remain. Fails with:
 ///
 /// - `TagNumberInvalid` without a position, if `tag` is not a valid tag word (the first octet of
 ///   the identifier, plus 256 times the tag number if that is 31 or more);
@@ -88,9 +88,11 @@ fn header_slowly(writer: &mut DerWriter<'_>, tag: u64, length: u32) -> DerError
     code(header.encode(writer))
 }
 
-/// Writes an element: its header and its contents.
+/// Writes an element: a header with the tag `tag`, a word as [`der_write_header`] takes it, and
+/// then `contents`.
 ///
-/// Fails with:
+/// After a call that fails, `writer` has failed. Such a call may have written the header or its
+/// first octets; they remain. Fails with:
 ///
 /// - `Overflow` without a position, if there are more than 4294967295 octets of contents;
 /// - the errors of [`der_write_header`] and [`der_write`].
@@ -131,7 +133,7 @@ fn element_slowly(writer: &mut DerWriter<'_>, tag: u64, contents: &[u8]) -> DerE
 /// Sets `count` to the number of octets of a whole element, header and contents, with the tag `tag`
 /// and `length` octets of contents.
 ///
-/// Every error leaves `count` unchanged. Fails with:
+/// A call that fails leaves `count` unchanged. Fails with:
 ///
 /// - `TagNumberInvalid` without a position, if `tag` is not a valid tag word (the first octet of
 ///   the identifier, plus 256 times the tag number if that is 31 or more);

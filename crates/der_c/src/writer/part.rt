@@ -15,9 +15,9 @@ use der_core::{Encode, Header};
 /// and sets `start` to the position at which its contents begin. All octets that are written after
 /// this call and before [`der_end`] are its contents.
 ///
-/// Fails with `TagNumberInvalid`, `Failed`, `Overflow` and `Overlength`, as
-/// [`der_write_header`](crate::der_write_header) does. After an error `start` is unchanged, and the
-/// writer has failed.
+/// A call that fails leaves `start` unchanged, and `writer` has failed after it. Fails with
+/// `TagNumberInvalid`, `Failed`, `Overflow` and `Overlength`, as
+/// [`der_write_header`](crate::der_write_header) does.
 #[unsafe(no_mangle)]
 pub extern "C" fn der_begin(writer: &mut DerWriter<'_>, tag: u64, start: &mut usize) -> DerError
     ensures { BeginsElement tag (writer_state writer.old) result start.old start.new
@@ -49,11 +49,12 @@ fn begin_slowly(writer: &mut DerWriter<'_>, tag: u64, start: &mut usize) -> DerE
     }
 }
 
-/// Ends the element whose contents begin at `start`, as set by [`der_begin`]. Writes the length of
-/// the contents into the octet just before them. If the contents have 128 octets or more, their
-/// length needs more octets, and the contents are moved to make space.
+/// Ends the element whose contents begin at `start`. `start` must be the number that [`der_begin`]
+/// stored for this element. Writes the length of the contents into the octet just before them. If
+/// the contents have 128 octets or more, their length needs more octets, and the contents are moved
+/// to make space.
 ///
-/// After an error nothing is moved, and the writer has failed. Fails with:
+/// A call that fails moves and writes nothing, and `writer` has failed after it. Fails with:
 ///
 /// - `Failed` at the writer's position, if the writer had already failed;
 /// - `Overlength` without a position, if `start` is 0 or exceeds the number of octets written;

@@ -36,9 +36,12 @@ impl<R: Reader, A: Decode<R>, B: Decode<R, Error = <A as Decode<R>>::Error>> Dec
     }
 }
 
-/// Decodes a value from the contents that the reader is inside, by [`Decode::decode`]. The contents
-/// are accepted as a value if they are entirely one value; `header` is ignored. A pair is decoded
-/// as its members in sequence. This function has the contract of
+/// Decodes a value from the start of the contents that the reader is inside, by [`Decode::decode`].
+/// Ignores `header`. If octets are left after the value, it leaves them unread and returns `Ok`;
+/// the caller must report them, as [`decode_tlv`](crate::decode_tlv) does. A pair is decoded as its
+/// first member and then its second.
+///
+/// This function has the contract of
 /// [`DecodeValue::decode_value`](crate::DecodeValue::decode_value), so an implementation of that
 /// function can call it.
 ///

@@ -55,14 +55,19 @@ pub trait DecodeValue<R: Reader>: ReadValue + Drop {
     ghost decode_value_answers: { Head → ReaderState → AResult Self Self.Error → ReaderState
         → Type 0 };
 
-    /// Decodes a value from the contents that the reader is inside; `header` is the header before
-    /// them, with their length. If the function returns `Ok` but leaves some of the contents
-    /// unread, or leaves the reader failed, the contents do not count as accepted.
+    /// Decodes a value from the contents that the reader is inside. `header` is the header before
+    /// the contents; its length is the number of contents octets, and does not count
+    /// end-of-contents octets.
+    ///
+    /// The contents are accepted only if the function returns `Ok`, has read all of them, and
+    /// leaves the reader not failed. If it returns `Ok`, the caller must check the other two
+    /// conditions.
     ///
     /// Suppose that the reader is reliable (see [`Reader`]), has not failed, is inside a nested
     /// part, and has at least as many levels of nesting left as the ghost member `value_levels`
-    /// says. If the contents are accepted as a value, the result is a value or an error that
-    /// reports a failed allocation.
+    /// says. If the ghost member `takes` holds for the contents and some value, the function reads
+    /// all of the contents and returns `Ok`, or it returns an error that reports a failed
+    /// allocation.
     ///
     /// # Errors
     ///

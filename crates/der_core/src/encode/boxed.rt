@@ -13,7 +13,8 @@ impl<T: WrittenValue> WrittenValue for Box<T> {
 ///
 /// # Errors
 ///
-/// Those of the value, with the same positions; the writer is left in the same state.
+/// Those of writing the contents of that value, with the same positions. The writer is left in the
+/// state in which writing them leaves it.
 impl<T: EncodeValue> EncodeValue for Box<T> {
     ghost value_size = { λ v. T.value_size v.value };
 

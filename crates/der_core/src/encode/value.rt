@@ -123,8 +123,8 @@ pub trait EncodeValue: WrittenValue {
     ///
     /// # Errors
     ///
-    /// After each, octets written earlier remain; the ghost member `encode_value_answers` specifies
-    /// the state of the writer.
+    /// Whatever the error, the octets that were written before the call remain. The ghost member
+    /// `encode_value_answers` specifies the state in which the call leaves the writer.
     ///
     /// - The errors of the type, which `encode_value_answers` also specifies.
     /// - `Failed`, `Overflow` and `Overlength` of the writer, as by [`Writer::write`].

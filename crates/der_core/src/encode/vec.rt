@@ -38,7 +38,8 @@ pub fn to_der_in<T: Encode, A: Allocator>(alloc: A, value: &T) -> Result<Vec<u8,
 ///
 /// # Errors
 ///
-/// After each, the vector has its previous contents. If several apply, the first is returned.
+/// A call that fails leaves the contents of the vector as they were before the call. If several
+/// errors apply, the first in this list is returned.
 ///
 /// - Those of [`Encode::encoded_len`], including `Overflow` without a position for more than
 ///   4294967295 octets.

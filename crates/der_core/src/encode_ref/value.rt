@@ -29,7 +29,8 @@ impl<'a, T: WrittenValue> WrittenValue for EncodeValueRef<'a, T> {
 ///
 /// # Errors
 ///
-/// Those of that value, with the same positions; the writer is left in the same state.
+/// Those of writing the contents of that value, with the same positions. The writer is left in the
+/// state in which writing them leaves it.
 impl<'a, T: EncodeValue> EncodeValue for EncodeValueRef<'a, T> {
     ghost value_size = { λ v. T.value_size v.0.now };
 

@@ -44,16 +44,18 @@ enum Part {
 /// After all but `Failed` and `Overflow`, the reader is at the error's position and failed.
 ///
 /// - `Failed` at the reader's position, if the reader had already failed; the reader is unchanged.
-/// - `Overflow` without a position, if `Incomplete` would report a length above 4294967295; the
-///   reader is where the missing octets were to be read, and has not failed.
-/// - `Incomplete` at the end, if no octet is left, or only half an end-of-contents, a truncated
-///   identifier, or an identifier without a complete length.
-/// - `IndefiniteLength` at the position after a nonzero octet that follows a zero octet in place of
-///   an identifier, and after a length octet `0x80` if the identifier before it is primitive.
+/// - `Overflow` without a position, in place of each `Incomplete` below whose `expected_len` would
+///   exceed 4294967295; the reader is at the position of the read that fails, and has not failed.
+/// - `Incomplete` at the reader's end, if the octets end before an identifier, after the first
+///   octet of an end-of-contents, inside an identifier, or before the end of a length.
+/// - `IndefiniteLength` in two cases: at the position after a nonzero octet that follows a zero
+///   octet, if the zero octet is where an identifier may begin; and at the position after a length
+///   octet `0x80`, if the identifier before it is primitive.
 /// - `TagUnknown` and `TagNumberInvalid` for an identifier, as by [`Tag::decode`](crate::Decode).
-/// - `NestingDepth` at the position after a length octet `0x80`, if 64 bodies are open.
-/// - `Length` with the tag, at the position after the length octets if fewer would suffice, or
-///   after the first of them if it announces more than four.
+/// - `NestingDepth` at the position after a length octet `0x80`, if it would open a 65th body
+///   inside the 64 bodies that are open. The body that the call scans is the first of them.
+/// - `Length`, which holds the tag, at the position after the length octets if fewer length octets
+///   would suffice, or after the first length octet if it announces more than four others.
 /// - `Incomplete` for contents that are truncated, as by [`Reader::drain`].
 pub fn decode_indefinite_length<R: Reader, L: Ledger>(
     reader: &mut R,

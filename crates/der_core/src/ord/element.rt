@@ -10,13 +10,14 @@ use crate::tag::fixed::Tagged;
 use der_base::Error;
 use std::cmp::Ordering;
 
-/// Compares the elements of two values: first their tags in byte order; if they are equal, the
-/// lengths of the contents; if these are equal too, the contents by [`ValueOrd::value_cmp`].
-/// Allocates nothing.
+/// Compares the elements of two values in three steps: first the identifier octets of their tags,
+/// octet by octet; if these are equal, the lengths of the contents; if these are also equal, the
+/// contents by [`ValueOrd::value_cmp`]. Allocates nothing.
 ///
 /// # Errors
 ///
-/// - Those of [`EncodeValue::header`] of `value`, then those of `other`.
+/// - The error of [`EncodeValue::header`] of `value`. If there is none, the error of
+///   [`EncodeValue::header`] of `other`.
 /// - Those of [`ValueOrd::value_cmp`], if the headers are equal.
 #[inline(always)]
 pub fn der_cmp_tlv<T: EncodeValue + ValueOrd + Tagged>(

@@ -11,8 +11,9 @@ pub use owned::iter_cmp_owned;
 use std::cmp::Ordering;
 
 /// Compares the values to which the references from `a` and `b` refer, pair by pair. The first pair
-/// that is unequal or whose comparison fails decides. If there is none, the iterator that ends
-/// first is the smaller; if both end at once, they are equal. Only the iterators may allocate.
+/// whose values are unequal, or whose comparison fails, decides the result. If there is no such
+/// pair, the iterator that ends first is the smaller; if both end at once, they are equal. This
+/// function itself allocates nothing, but the iterators may.
 ///
 /// # Errors
 ///

@@ -7,7 +7,7 @@ use der_base::Error;
 use std::cmp::Ordering;
 use std::marker::PhantomData;
 
-/// All values of `PhantomData` are equal. Never fails.
+/// Returns `Ordering::Equal` for any two values. Never fails.
 impl<T> ValueOrd for PhantomData<T> {
     ghost value_order = { λ _ _. Ok Equal };
 
@@ -16,8 +16,9 @@ impl<T> ValueOrd for PhantomData<T> {
     }
 }
 
-/// All values of `PhantomData` are equal. Never fails. Their encoding is empty, so joined encodings
-/// of several values cannot be separated again: the ghost member `delimits` does not hold.
+/// Returns `Ordering::Equal` for any two values. Never fails. The encoding of each value is empty,
+/// so joined encodings of several values cannot be separated again: the ghost member `delimits`
+/// does not hold.
 impl<T> DerOrd for PhantomData<T> {
     ghost order = { λ _ _. Ok Equal };
 

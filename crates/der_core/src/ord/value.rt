@@ -24,10 +24,10 @@ pub trait ValueOrd {
         ensures { result ≡ value_order self.now other.now };
 }
 
-/// Types whose [`ValueOrd::value_cmp`] orders contents of equal length by their octets: for two
-/// values with equal tags and contents of equal length, it returns the byte order of the contents.
-/// So [`DerOrd::der_cmp`](crate::DerOrd::der_cmp) of any two values is the byte order of their
-/// encodings, if it is no error.
+/// Types whose [`ValueOrd::value_cmp`] compares contents of equal length octet by octet: for two
+/// values with equal tags and contents of equal length, it returns the lexicographic order of the
+/// contents. So if [`DerOrd::der_cmp`](crate::DerOrd::der_cmp) of any two values succeeds, its
+/// result is the lexicographic order of their encodings.
 ///
 /// Ghost member (for proofs only): `orderly` is this property of [`ValueOrd::value_cmp`], which
 /// implementors prove.
@@ -35,9 +35,9 @@ pub trait Orderly: EncodeValue + Tagged + ValueOrd {
     ghost orderly: { IsOrderly Self.tag_of Self.contents Self.value_order };
 }
 
-/// Types whose `Ord` orders contents of equal length by their octets: for two values with contents
-/// of equal length, it is the byte order of the contents. [`ValueOrd`] compares values of such a
-/// type by their `Ord`.
+/// Types whose `Ord` compares contents of equal length octet by octet: for two values with contents
+/// of equal length, it returns the lexicographic order of the contents. A type that implements this
+/// trait also implements [`ValueOrd`], whose `value_cmp` then compares by `Ord`.
 ///
 /// Ghost member (for proofs only): `orders_contents` is this property of `Ord`, which implementors
 /// prove.

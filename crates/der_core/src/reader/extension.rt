@@ -212,9 +212,10 @@ pub trait ReaderExt: Reader {
     }
 
     /// Scans the next indefinite-length body and returns its number of octets, including its
-    /// end-of-contents octets (X.690 8.1.3.6); the reader does not move. `turns`, which exists only
-    /// for proofs, counts each identifier and each end-of-contents in the scan. If
-    /// [`Reader::remaining`] returns the octets, they are scanned by an index, and none is read.
+    /// end-of-contents octets (X.690 8.1.3.6). The reader does not move. `turns`, which exists only
+    /// for proofs, counts each identifier and each end-of-contents (two zero octets) in the scan.
+    /// If [`Reader::remaining`] returns `Ok`, the function scans the octets that it returns. If
+    /// [`Reader::remaining`] fails, the function scans a fork of the reader (see [`Reader::fork`]).
     ///
     /// The caller must ensure that the reader uses the Basic Encoding Rules.
     ///

@@ -63,7 +63,7 @@ impl Position {
     }
 
     /// The end up to which the input may be read. Inside a nested part this is the end of that
-    /// part, otherwise the length of the input.
+    /// part. Outside all nested parts it is the length of the input.
     pub fn input_len(&self) -> Length
         ensures { result ≡ definite_length (position_place self.now).end }
     {

@@ -98,8 +98,9 @@ impl<'a> SliceReader<'a> {
     }
 }
 
-/// A reliable reader: it fails exactly as [`Reader`] specifies, keeps a failed state, and returns
-/// slices, so it never fails with the error kind `Reader`.
+/// A reliable reader: its functions fail exactly as the trait [`Reader`] specifies. It remembers
+/// that it has failed. It can return slices, so it never fails with the error kind
+/// [`ErrorKind::Reader`] (operation not supported).
 impl<'a> Reader for SliceReader<'a> {
     ghost use Rattle.std.proofs.Common.{rules};
     ghost use Rattle.der_core.specs.SliceReader.{slice_state};

@@ -14,8 +14,10 @@ pub trait FixedTag {
     /// The tag of every value of the type.
     const TAG: Tag;
 
-    /// Returns `Self::TAG`, the tag of every value. Generic code calls this, because it cannot name
-    /// the constant in a contract. The implementor must ensure that the result is `Self::TAG`.
+    /// Returns `Self::TAG`, the tag of every value. Generic code calls this function, because it
+    /// cannot name the constant in a contract.
+    ///
+    /// The implementor must ensure that the result is `Self::TAG`.
     fn fixed_tag() -> Tag
         ensures { result ≡ tag_is };
 }
@@ -50,7 +52,7 @@ impl<T: FixedTag> Tagged for T {
     }
 }
 
-/// Types whose tag determines whether their contents are constructed.
+/// Types whose values all have tags with the constructed bit, or all have tags without it.
 ///
 /// Ghost member (for proofs only): `constructed` says whether the tag has the constructed bit.
 pub trait IsConstructed {
@@ -60,8 +62,9 @@ pub trait IsConstructed {
     const CONSTRUCTED: bool;
 
     /// Returns `Self::CONSTRUCTED`: whether the tag has the constructed bit. Generic code calls
-    /// this, because it cannot name the constant in a contract. The implementor must ensure that
-    /// the result is `Self::CONSTRUCTED`.
+    /// this function, because it cannot name the constant in a contract.
+    ///
+    /// The implementor must ensure that the result is `Self::CONSTRUCTED`.
     fn has_constructed_bit() -> bool
         ensures { result ≡ constructed };
 }

@@ -10,7 +10,7 @@ use crate::reader::{Reader, ReaderExt};
 use crate::tag::decode_with_constructed_bit;
 use der_base::{Class, Error, Tag, TagNumber};
 
-/// Adds functions that take a reader to the type `Tag`. Only `Tag` implements this trait.
+/// Functions of the type `Tag` that take a reader. Only `Tag` implements this trait.
 pub trait TagPeek: Sized {
     /// The next tag, decoded without moving the reader.
     ///

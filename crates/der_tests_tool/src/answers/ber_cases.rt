@@ -1,5 +1,6 @@
-//! A sample of the words with `--ber`, with their output. It was made by an independent model of
-//! the definitions, which was compared with the Rust crate `der` 0.8.3 on 131 million inputs.
+//! A sample of command lines with the option `--ber`, and their output. The output was made by an
+//! independent model of the definitions. That model was compared with the Rust crate `der` 0.8.3 on
+//! 131 million inputs.
 use super::USAGE;
 
 /// Samples with the option `--ber`. Each row has the words of a command line, separated by single

@@ -1,5 +1,6 @@
-//! A sample of many words with their output. It was made by an independent model of the
-//! definitions, which was compared with the Rust crate `der` 0.8.3 on 131 million inputs.
+//! A sample of command lines with many different words, and their output. The output was made by an
+//! independent model of the definitions. That model was compared with the Rust crate `der` 0.8.3 on
+//! 131 million inputs.
 use super::USAGE;
 
 /// Samples of the command `head`, and of command lines that have no valid command. Each row has the

@@ -1,6 +1,6 @@
-//! A sample of the words of `join` with their output. It was made by an independent model of the
-//! definitions, which was compared with the Rust crate `der` 0.8.3 on 131 million inputs, except
-//! for segments inside a segment, which that crate does not join.
+//! A sample of command lines with the command `join`, and their output. The output was made by an
+//! independent model of the definitions. That model was compared with the Rust crate `der` 0.8.3 on
+//! 131 million inputs, except for segments inside a segment, which that crate does not join.
 
 /// Samples of the command `join`. Each row has the words of a command line, separated by single
 /// blanks, the expected exit status, and the expected text.

@@ -67,7 +67,8 @@ impl io::Write for Choppy {
     }
 }
 
-/// A writer whose `flush` fails. `write` accepts all octets if `takes` is true, and otherwise none.
+/// A writer whose `flush` fails. If `takes` is true, `write` accepts all octets. If `takes` is
+/// false, `write` accepts no octet, but returns `Ok`.
 #[derive(Drop)]
 struct Broken {
     takes: bool,

@@ -79,15 +79,15 @@ impl<'a> ReadValue for AttributeValues<'a> {
 }
 
 /// Borrows the contents from the input, and checks every element in them once. Elements are read
-/// under DER, even if the reader reads under BER. Their encodings must be in ascending order; equal
-/// ones may follow each other.
+/// under DER, even if the reader reads under BER. Their encodings must be in ascending order,
+/// compared octet by octet; equal encodings may follow each other.
 ///
 /// # Errors
 ///
 /// - `Failed`, `Overflow` and `Incomplete`, as by [`Reader::read_slice`].
 /// - The errors of reading an element, with positions counted from the beginning of the contents.
-/// - `SetOrdering` at the start of the first element whose encoding is smaller than that of the
-///   element before it, also counted from the beginning of the contents.
+/// - `SetOrdering` at the start of the first element whose encoding is less than that of the
+///   element before it. This position is also counted from the beginning of the contents.
 impl<'a, R: Reader<Borrowed = &'a [u8]>> DecodeValue<R> for AttributeValues<'a> {
     type Error = Error;
 
@@ -114,8 +114,9 @@ impl<'a> WrittenValue for AttributeValues<'a> {
 ///
 /// # Errors
 ///
-/// - `Overflow` if the contents have more than 4294967295 octets.
-/// - The errors of [`Writer::write`].
+/// - `value_len` returns `Overflow` without a position, if the contents have more than 4294967295
+///   octets.
+/// - `encode_value` returns the errors of [`Writer::write`].
 impl<'a> EncodeValue for AttributeValues<'a> {
     ghost value_size = { λ v. contents_size v.octets.now };
 

@@ -81,7 +81,7 @@ impl<'a> ReadValue for CertReqInfo<'a> {
     ghost takes_valid = { ⟦<CertReqInfo<'a> as Described>⟧.element.holds refl };
 }
 
-/// Decodes the fields in sequence.
+/// Decodes the fields one after the other.
 ///
 /// # Errors
 ///
@@ -111,11 +111,11 @@ impl<'a> WrittenValue for CertReqInfo<'a> {
     ghost writable = { ⟦<CertReqInfo<'a> as Described>⟧.element.valid };
 }
 
-/// Writes the fields in sequence.
+/// Writes the fields one after the other.
 ///
 /// # Errors
 ///
-/// - The error of the first field that fails.
+/// - The error of the first field that fails to encode.
 /// - `Overflow` without a position from [`EncodeValue::value_len`], if the fields together have
 ///   more than 4294967295 octets.
 impl<'a> EncodeValue for CertReqInfo<'a> {

@@ -87,7 +87,8 @@ impl EncodeValue for BytesOwned {
     }
 }
 
-/// Compares only the octets, not a header, in lexicographic order. Never fails.
+/// Compares the octets of two byte strings in lexicographic order. A byte string has no header, so
+/// no header is compared. Never fails.
 impl DerOrd for BytesOwned {
     ghost order = { octets_order owned_octets };
 

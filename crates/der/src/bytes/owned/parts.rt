@@ -19,8 +19,9 @@ use std::alloc::Global;
 impl BytesOwned {
     /// Decodes the contents after `header` into an owned byte string. If `header` is primitive,
     /// copies the contents. If `header` is constructed and the reader's rules are the Basic
-    /// Encoding Rules, the contents must be segments: elements with the tag `inner_tag` (X.690
-    /// 8.7.3). Their contents are joined. A segment may itself consist of segments.
+    /// Encoding Rules, all octets up to the reader's end must be segments: elements with the tag
+    /// `inner_tag` (X.690 8.7.3). Their contents are joined. A segment may itself consist of
+    /// segments.
     ///
     /// # Errors
     ///

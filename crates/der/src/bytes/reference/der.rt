@@ -31,7 +31,8 @@ impl<'a> ReadValue for BytesRef<'a> {
 /// # Errors
 ///
 /// - `Failed`, `Overflow` and `Incomplete`, as by [`Reader::read_slice`].
-/// - The error `Reader`, if the reader cannot return slices.
+/// - `Reader` at the reader's position, if the reader cannot return slices of its input; the reader
+///   is unchanged.
 impl<'a, R: Reader<Borrowed = &'a [u8]>> DecodeValue<R> for BytesRef<'a> {
     type Error = Error;
 
@@ -80,7 +81,8 @@ impl<'a> EncodeValue for BytesRef<'a> {
     }
 }
 
-/// Compares only the octets, not a header, in lexicographic order. Never fails.
+/// Compares the octets of two byte strings in lexicographic order. A byte string has no header, so
+/// no header is compared. Never fails.
 impl<'a> DerOrd for BytesRef<'a> {
     ghost order = { octets_order reference_octets };
 

@@ -29,7 +29,8 @@ impl ReadValue for StringOwned {
 /// # Errors
 ///
 /// - `Failed`, `Overflow` and `Incomplete`, as by [`Reader::read_slice`].
-/// - The error `Reader`, if the reader cannot return slices.
+/// - `Reader` at the reader's position, if the reader cannot return slices of its input; the reader
+///   is unchanged.
 /// - `Utf8` without a position, if the contents are not UTF-8; the reader is after the contents and
 ///   has not failed.
 /// - `OutOfMemory` without a position, if allocation fails; the reader is after the contents and

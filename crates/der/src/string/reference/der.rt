@@ -30,7 +30,8 @@ impl<'a> ReadValue for StringRef<'a> {
 /// # Errors
 ///
 /// - `Failed`, `Overflow` and `Incomplete`, as by [`Reader::read_slice`].
-/// - The error `Reader`, if the reader cannot return slices.
+/// - `Reader` at the reader's position, if the reader cannot return slices of its input; the reader
+///   is unchanged.
 /// - `Utf8` without a position, if the contents are not UTF-8; the reader is after the contents and
 ///   has not failed.
 impl<'a, R: Reader<Borrowed = &'a [u8]>> DecodeValue<R> for StringRef<'a> {

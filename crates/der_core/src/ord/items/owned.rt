@@ -7,9 +7,10 @@ use crate::ord::DerOrd;
 use der_base::Error;
 use std::cmp::Ordering;
 
-/// Compares the values that `a` and `b` return, pair by pair. The first pair that is unequal or
-/// whose comparison fails decides. If there is none, the iterator that ends first is the smaller;
-/// if both end at once, they are equal. Only the iterators may allocate.
+/// Compares the values that `a` and `b` return, pair by pair. The first pair whose values are
+/// unequal, or whose comparison fails, decides the result. If there is no such pair, the iterator
+/// that ends first is the smaller; if both end at once, they are equal. This function itself
+/// allocates nothing, but the iterators may.
 ///
 /// # Errors
 ///
