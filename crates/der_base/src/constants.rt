@@ -1,5 +1,5 @@
-//! States the values of constants and defaults. Each function returns one of them and its contract
-//! states the value; nothing else uses these functions.
+//! The values of constants and defaults. Each function here returns one of them, and the contract
+//! of the function states its value. Nothing calls the functions of this module.
 ghost use Rattle.std.specs.Prelude.{◌≡◌};
 ghost use Rattle.der_base.specs.Length.{definite_length};
 ghost use Rattle.der_base.specs.declared.encoding_rules.EncodingRules.TheVariants.{Der};

@@ -76,7 +76,8 @@ impl Length {
         Ok(Length::new(value as u32))
     }
 
-    /// Whether the number of octets is zero, for a definite or an indefinite length.
+    /// Whether the number of octets is zero. A length that a reader reads in the indefinite form is
+    /// never zero, even if the contents are empty: it counts the two end-of-contents octets.
     pub const fn is_zero(self) -> bool
         ensures { IsTrue result ↔ (number self ≡ 0) }
     {

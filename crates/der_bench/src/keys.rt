@@ -13,9 +13,11 @@ use std::alloc::Global;
 /// octets; the fields `algorithm` and `key` give their numbers.
 #[repr(C)]
 pub struct WantedKey {
-    /// The number of algorithm octets.
+    /// The number of algorithm octets: how many octets, from the start of `borrowed`, are the
+    /// contents of the key's algorithm.
     pub algorithm: u32,
-    /// The number of key octets.
+    /// The number of key octets: how many octets, from the start of `borrowed`, are the contents of
+    /// the key.
     pub key: u32,
     /// The number of the month in the key's algorithm. A number above 11 is an error.
     pub month: u8,

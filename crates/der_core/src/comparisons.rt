@@ -1,6 +1,6 @@
-//! States the results of derived comparisons and clones, and of comparisons of [`Orderly`] types.
-//! Each function here calls one comparison or one clone, and its contract states the result.
-//! Nothing else uses these functions.
+//! The results of comparisons and clones that `derive` generates, and of comparisons of [`Orderly`]
+//! types. Each function here calls one comparison or one clone, and the contract of the function
+//! states the result. Nothing calls the functions of this module.
 ghost use Rattle.std.specs.Prelude.{◌≡◌, ◌↔◌, IsTrue, Ok, IsOk, IsOkAnd, IfOk};
 ghost use Rattle.std.specs.List.{AllByRecursion};
 ghost use Rattle.der_base.specs.Order.{byte_order};
@@ -40,9 +40,9 @@ fn position_clone(position: &Position) -> Result<Position, AllocError>
     position.clone()
 }
 
-/// States the result of comparing two values of an [`Orderly`] type: the lexicographic order of
-/// their encodings, compared octet by octet (X.690 11.6), or an error. If the headers of both
-/// values can be computed, the result is not an error.
+/// Calls [`DerOrd::der_cmp`] on two values of an [`Orderly`] type. The contract states that the
+/// result is the lexicographic order of their encodings, compared octet by octet (X.690 11.6), or
+/// an error. If the headers of both values can be computed, the result is not an error.
 fn encodings_are_compared<T: Orderly>(value: &T, other: &T) -> Result<Ordering, Error>
     ensures ok { IfOk result (λ o. o
         ≡ byte_order (element_octets (T.tag_of value.now) (T.contents value.now))
@@ -54,11 +54,11 @@ fn encodings_are_compared<T: Orderly>(value: &T, other: &T) -> Result<Ordering, 
     value.der_cmp(other)
 }
 
-/// States the result of comparing two slices of values of an [`Orderly`] type: an error, or the
-/// lexicographic order of two lists of octets, compared octet by octet. The first list is the
-/// joined encodings of the values in `these`, and the second list is the joined encodings of the
-/// values in `those`. If the header of every value in both slices can be computed, the result is
-/// not an error.
+/// Calls [`iter_cmp`] on two slices of values of an [`Orderly`] type. The contract states that the
+/// result is an error, or the lexicographic order of two lists of octets, compared octet by octet.
+/// The first list is the joined encodings of the values in `these`, and the second list is the
+/// joined encodings of the values in `those`. If the header of every value in both slices can be
+/// computed, the result is not an error.
 fn joined_encodings_are_compared<T: Orderly>(these: &[T], those: &[T]) -> Result<Ordering, Error>
     ensures ok { IfOk result (λ o. o ≡ byte_order (joined_elements T.tag_of T.contents these.now)
         (joined_elements T.tag_of T.contents those.now)) }

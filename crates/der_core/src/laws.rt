@@ -16,10 +16,9 @@ ghost use Rattle.der_core.specs.Lawful.{IsDefinite, IsDefiniteHeader, PassesEnco
 use crate::decode::Lawful;
 use std::marker::PhantomData;
 
-/// States that if the next octets of the reader are an identifier, a tag, a length or a header,
-/// decoding it succeeds and returns it. The reader must be reliable (see [`Reader`](crate::Reader))
-/// and must not have failed.
-
+/// Does nothing; the contract states that if the next octets of the reader are an identifier, a
+/// tag, a length or a header, decoding it succeeds and returns it. The reader must be reliable (see
+/// [`Reader`](crate::Reader)) and must not have failed.
 fn next_values_are_decoded()
     ensures identifiers { Accepts IdentifierNext IdentifierFault }
     ensures tags { Accepts TagNext IdentifierFault }
@@ -27,8 +26,8 @@ fn next_values_are_decoded()
     ensures headers { Accepts HeaderNext (HeaderFault BodyFault) }
 {}
 
-/// States that, under DER, tags, lengths, headers and `PhantomData` (whose encoding is empty) are
-/// read from exactly their encodings. The values meant here are tags with numbers below 2^32,
+/// Does nothing; the contract states that, under DER, tags, lengths, headers and `PhantomData`
+/// (whose encoding is empty) are read from exactly their encodings. The values meant here are tags with numbers below 2^32,
 /// definite lengths, and headers with definite lengths. For every list of at most 4294967295
 /// octets:
 ///
@@ -46,8 +45,8 @@ fn grammars_read_encodings<T>()
         (λ _. []) }
 {}
 
-/// States that, under DER, elements of a [`Lawful`] type are read from exactly the encodings of
-/// valid values. For every list of at most 4294967295 octets:
+/// Does nothing; the contract states that, under DER, elements of a [`Lawful`] type are read from
+/// exactly the encodings of valid values. For every list of at most 4294967295 octets:
 ///
 /// - The octets begin with an element of the type exactly if they begin with the encoding of a
 ///   valid value.
@@ -67,8 +66,9 @@ fn lawful_types_read_encodings<T: Lawful>()
     ensures written { ReadsWritten T.tag_is T.takes T.valid T.contents }
 {}
 
-/// States that no encoded element is a proper prefix of another. So the padding with zero octets,
-/// by which X.690 11.6 compares encodings of different lengths, never decides a comparison.
+/// Does nothing; the contract states that no encoded element is a proper prefix of another. X.690
+/// 11.6 pads the shorter of two encodings with zero octets to compare them. So this padding never
+/// decides a comparison.
 fn padding_never_decides()
     ensures apart { NoElementBeginsAnother }
     ensures padded { PaddingNeverDecides }
