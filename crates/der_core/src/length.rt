@@ -29,7 +29,8 @@ use std::cmp::Ordering;
 // the length octet of the indefinite form
 pub(crate) const INDEFINITE: u8 = 0x80;
 
-/// Decodes a length (X.690 8.1.3, 10.1) without an allocator. [`Length::decode`] is this function.
+/// Decodes a length (X.690 8.1.3, 10.1). Does the same as [`Length::decode`], but takes no
+/// allocator, because decoding a length allocates nothing.
 ///
 /// # Errors
 ///

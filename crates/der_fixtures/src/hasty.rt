@@ -12,7 +12,9 @@ use std::alloc::Global;
 ///   This happens if the contents have one octet and the reader keeps a failed state.
 /// - If the reader is not failed after the second read, `decode_value` fails with `Overlength`.
 ///
-/// So the contract accepts no contents as a value of this type.
+/// An `Ok` thus always comes with a failed reader, and such an `Ok` does not count as decoding a
+/// value. So the ghost member `takes` says that no octets, not even zero octets, are the contents
+/// of a value of this type.
 #[derive(Clone, Copy)]
 pub struct Hasty {
     /// The contents octet.

@@ -48,11 +48,10 @@ pub fn write_tree(
     Ok(())
 }
 
-/// `around` holds the elements that enclose `position`, the innermost last. If the contents of the
-/// innermost element end at `position`, removes this element from `around` and moves `position` to
-/// the end of this element. Repeats this until the contents of the innermost element left do not
-/// end at `position`, or no element is left. Returns the final `position`, where the next element
-/// begins or the octets end.
+/// Leaves the elements whose contents end at `position`. `around` holds the elements that enclose
+/// `position`, the innermost last. While the contents of the last element in `around` end at
+/// `position`, removes this element and moves `position` past its end-of-contents octets, if it has
+/// any. Returns the final `position`, where the next element begins or the octets end.
 fn climb(around: &mut Vec<Part>, mut position: u32) -> u32 {
     for _ in 0..=MAX_DEPTH {
         match around.last() {

@@ -237,12 +237,12 @@ pub trait ReaderExt: Reader {
     ///
     /// # Errors
     ///
+    /// The size is here the number of octets of the element: header and contents together, with any
+    /// end-of-contents octets. If several errors apply, the first is returned.
+    ///
     /// - Those of the header, as by [`ReaderExt::peek_header`]; the reader is unchanged.
-    /// - `Overflow` without a position, if the number of octets of header and contents exceeds
-    ///   4294967295, or if fewer octets are left and the sum of position and this number exceeds
-    ///   4294967295; the reader is unchanged.
-    /// - `Incomplete` at the position before the header, if the contents are not all available and
-    ///   neither the number nor the sum above exceeds 4294967295; the reader is then failed.
+    /// - `Overflow` without a position, if the size exceeds 4294967295; the reader is unchanged.
+    /// - Those of [`Reader::read_slice`] for the octets of this size.
     final fn tlv_bytes(&mut self) -> Result<Self::Borrowed, Error>
         ensures same { Same (Self.state self.old) (Self.state self.new) }
         ensures exact { IsBinding Self.reliable result
