@@ -1,5 +1,6 @@
-//! Contracts of the derived comparisons, hashes and clones. Each function calls one of them, and
-//! its contract states the result; nothing else uses these functions.
+//! The results of the comparisons, hashes and clones that `derive` generates. Each function here
+//! calls one generated function, and its contract states the result. Nothing calls the functions of
+//! this module.
 mod clones;
 mod equality;
 mod hash;

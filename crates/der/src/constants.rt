@@ -1,11 +1,11 @@
-//! Contracts of constants. Each function returns one constant, and its contract states the value;
-//! nothing else uses these functions.
+//! The values of constants. Each function here returns a constant, and its contract states the
+//! value of the constant. Nothing calls the functions of this module.
 ghost use Rattle.std.specs.Prelude.{◌≡◌, []};
 ghost use Rattle.der.specs.BytesRef.{reference_octets};
 
 use crate::bytes::BytesRef;
 
-/// Returns the constant; the contract states that `BytesRef::EMPTY` has no octets.
+/// Returns [`BytesRef::EMPTY`]; the contract states that it has no octets.
 fn empty() -> BytesRef<'static>
     ensures { reference_octets result ≡ [] }
 {

@@ -1,5 +1,5 @@
-//! Properties that follow from the contracts. Each function does nothing; its contract is the
-//! property, and nothing else uses the function.
+//! Properties that follow from the contracts. Each function does nothing; its contract is a
+//! property. Nothing calls the functions of this module.
 ghost use Rattle.std.specs.Prelude.{◌≡◌, ℕ, ◌≤◌, List};
 ghost use Rattle.der_base.specs.declared.tag.Tag.{Tag};
 ghost use Rattle.der.specs.Joined.{Joined};

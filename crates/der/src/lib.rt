@@ -1,5 +1,6 @@
-//! ASN.1 DER: tags, lengths, headers, readers and writers of the Distinguished Encoding Rules
-//! (ITU-T X.690). The library is modelled on the Rust crate `der` 0.8.3.
+//! Reading and writing of ASN.1 DER: tags, lengths, headers, readers and writers of the
+//! Distinguished Encoding Rules (ITU-T X.690). The library is modelled on the Rust crate `der`
+//! 0.8.3.
 //!
 //! This crate re-exports all of `der_base` and `der_core`. It adds byte strings, texts, and the
 //! module [`example`]. The `specs/` of each crate define the words that its contracts use.

@@ -66,9 +66,11 @@ impl<'a, R: Reader<Borrowed = &'a [u8]>> DecodeValue<R> for AnyRef<'a> {
     }
 }
 
+/// Decodes the next element, whatever its tag.
+///
 /// # Errors
 ///
-/// The errors of [`decode_element`] for an element of any tag.
+/// The errors of [`decode_element`].
 impl<'a, R: Reader<Borrowed = &'a [u8]>> Decode<R> for AnyRef<'a> {
     type Error = Error;
 
@@ -92,6 +94,8 @@ impl<'a> WrittenValue for AnyRef<'a> {
     ghost writable = { IsAny };
 }
 
+/// Writes the contents octets unchanged.
+///
 /// # Errors
 ///
 /// - `value_len` returns `Overflow` without a position, if there are more than 4294967295 contents

@@ -8,9 +8,10 @@ use crate::checked::Checked;
 use crate::grammar::ContentsGrammar;
 use der::{FixedTag, Tag};
 
-/// Describes the contents of a BIT STRING: one octet that gives the number of unused bits, then the
-/// octets that hold the bits. The unused bits are the last bits of the last octet; they must be
-/// zero (X.690 8.6.2, 11.2.1).
+/// Describes the contents of a BIT STRING: one octet that gives the number of unused bits, from 0
+/// to 7, then the octets that hold the bits. The unused bits are the last bits of the last octet;
+/// they must be zero (X.690 8.6.2, 11.2.1). If no octets hold bits, the number of unused bits must
+/// be 0.
 pub struct BitStringGrammar;
 
 /// A BIT STRING borrowed from the input. The first contents octet is the number of unused bits.

@@ -41,7 +41,7 @@ impl ContentsGrammar for BooleanGrammar {
 }
 
 impl<'a> Checked<'a, BooleanGrammar> {
-    /// Whether the value is true.
+    /// Whether the BOOLEAN is true: its contents octet is `0xFF`.
     pub fn is_true(&self) -> bool
         ensures { (result ≡ true) ↔ (self.now.octets.now ≡ 255 ∷ []) }
     {

@@ -102,7 +102,7 @@ impl<'a, F: ContentsGrammar> ReadValue for Checked<'a, F> {
 }
 
 /// Borrows the contents from the input and checks them. The check is as strict under BER as under
-/// DER. Takes only the length from the header, and ignores its tag.
+/// DER. Only the length in the header is used; the tag in the header is ignored.
 ///
 /// # Errors
 ///
@@ -134,6 +134,8 @@ impl<'a, F: ContentsGrammar> WrittenValue for Checked<'a, F> {
     ghost writable = { HasCheckedContents F.grammar (λ v. v.octets.now) };
 }
 
+/// Writes the contents octets unchanged.
+///
 /// # Errors
 ///
 /// - `value_len` returns `Overflow` without a position, if there are more than 4294967295 contents

@@ -5,7 +5,7 @@ ghost use Rattle.der_asn1.specs.Times.{is_date_time, is_leap_year, days_of};
 /// A date of the Gregorian calendar with a time of day, in UTC.
 #[derive(Clone, Copy, Debug, PartialEq, Eq, PartialOrd, Ord)]
 pub struct DateTime {
-    /// The year.
+    /// The year, from 0 to 9999.
     pub year: u16,
     /// The month, from 1 to 12.
     pub month: u8,
@@ -20,8 +20,8 @@ pub struct DateTime {
 }
 
 impl DateTime {
-    /// Whether the date exists, its year is below 10000, and the time of day exists. A time with
-    /// second 60, a leap second, is not valid.
+    /// Whether the date exists, the year is below 10000, and the time of day exists. Second 60, a
+    /// leap second, does not exist here.
     pub fn is_valid(&self) -> bool
         ensures { result ≡ is_date_time self.now }
     {

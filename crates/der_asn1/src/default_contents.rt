@@ -9,8 +9,8 @@ use crate::explicit::Explicit;
 use crate::grammar::ContentsGrammar;
 use der::Reader;
 
-/// Types with a default value: the value of a DEFAULT field that is absent. Whether a value is the
-/// default is decided by its contents octets.
+/// Types that describe an ASN.1 type with a default value, which is the value of a DEFAULT field
+/// that is absent. The contents octets of a value decide whether the value is the default.
 ///
 /// Ghost member (for proofs only): `default_contents` says which octets are the contents of the
 /// default value.

@@ -10,7 +10,7 @@ use std::alloc::Global;
 
 /// Types that have a default value: the value of a DEFAULT field that is absent.
 ///
-/// Ghost member (for proofs only): `is_default` says of each value whether it is the default.
+/// Ghost member (for proofs only): `is_default` says which values are the default.
 pub trait DefaultValue: Sized {
     ghost is_default: { Self → Bool };
 
@@ -18,7 +18,7 @@ pub trait DefaultValue: Sized {
     fn default_value() -> Self
         ensures { is_default result ≡ true };
 
-    /// Whether the value is the default.
+    /// Whether `self` is the default value.
     fn has_default(&self) -> bool
         ensures { result ≡ is_default self.now };
 }
@@ -47,14 +47,15 @@ fn is_written_default<R: Reader, T: HasDefault<R>>(rules: EncodingRules, value: 
 #[derive(Drop)]
 pub struct Defaulted<T>(pub T);
 
-/// If no octets are left, or if no value of `T` may begin with the next tag, reads nothing and
-/// returns the default value. In all other cases decodes a value of `T`.
+/// Decodes a value of `T`, or returns the default value without moving the reader if the field is
+/// absent. The field is absent if no octets are left, or if no value of `T` may begin with the next
+/// tag.
 ///
 /// # Errors
 ///
-/// - The errors of [`ReaderExt::peek_tag`], if octets are left that do not begin with a tag; the
+/// - The errors of [`ReaderExt::peek_tag`], if octets are left but the next tag cannot be read; the
 ///   reader is unchanged.
-/// - The errors of decoding the value.
+/// - The errors of decoding the value, if a value may begin with the next tag.
 /// - `Noncanonical` with the tag of the value, at the position after the value, if the value is the
 ///   default and the rules are DER; the reader has failed then.
 impl<R: Reader, T: HasDefault<R>> Decode<R> for Defaulted<T> {
@@ -86,7 +87,7 @@ impl<R: Reader, T: HasDefault<R>> Decode<R> for Defaulted<T> {
     }
 }
 
-/// Writes no octets if the value is the default.
+/// Writes the value, or no octets if the value is the default.
 ///
 /// # Errors
 ///

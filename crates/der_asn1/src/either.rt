@@ -20,9 +20,12 @@ pub enum Either<A, B> {
     Second(B),
 }
 
+/// Decodes a value of the first type if a value of this type may begin with the next tag. If not,
+/// decodes a value of the second type.
+///
 /// # Errors
 ///
-/// - The errors of [`Tag::peek`], if the next octets do not begin with a tag; the reader is
+/// - The errors of [`ReaderExt::peek_tag`], if the next tag cannot be read; the reader is
 ///   unchanged.
 /// - `TagUnexpected` without an expected tag, at the reader's position, if no value of either type
 ///   begins with the next tag; the reader has failed then.
@@ -59,6 +62,8 @@ impl<R: Reader, A: Choice<R>, B: Choice<R> + Decode<R, Error = <A as Decode<R>>:
     }
 }
 
+/// Writes the value, whichever of the two types it has.
+///
 /// # Errors
 ///
 /// The errors of encoding the value.

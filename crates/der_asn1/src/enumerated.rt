@@ -38,7 +38,7 @@ impl ContentsGrammar for EnumeratedGrammar {
 }
 
 impl<'a> EnumeratedRef<'a> {
-    /// The number of the enumeration item; `None` if it does not fit in the type `N`.
+    /// The number of the enumeration item; `None` if this number does not fit in the type `N`.
     pub fn to_number<N: IntegerNumber>(&self) -> Option<N>
         ensures some { IsSome result ↔ (N.grammar self.now.octets.now ≡ true) }
         ensures same { IfSome result (λ v. N.contents_of v ≡ self.now.octets.now) }

@@ -61,6 +61,8 @@ impl<T: ReadValue + FixedTag, const N: u32> ReadValue for Explicit<T, N> {
     ghost takes_valid = { explicit_holds (λ v. v.0) T.takes_valid };
 }
 
+/// Decodes the inner element, which is all of the contents of the outer element.
+///
 /// # Errors
 ///
 /// The errors of decoding the inner element (the element of the value of type `T`), as by
@@ -92,6 +94,8 @@ impl<T: WrittenValue + FixedTag, const N: u32> WrittenValue for Explicit<T, N> {
     ghost writable = { λ v. T.writable v.0 };
 }
 
+/// Writes the inner element as the contents of the outer element.
+///
 /// # Errors
 ///
 /// The errors of encoding the inner element (the element of the value of type `T`).

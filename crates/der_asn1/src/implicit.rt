@@ -52,6 +52,8 @@ impl<T: ReadValue + FixedTag, const N: u32> ReadValue for Implicit<T, N> {
         octets taken };
 }
 
+/// Decodes the contents as those of a value of type `T`.
+///
 /// # Errors
 ///
 /// The errors of [`DecodeValue::decode_value`] for the type `T`.
@@ -82,9 +84,11 @@ impl<T: WrittenValue, const N: u32> WrittenValue for Implicit<T, N> {
     ghost writable = { λ v. T.writable v.0 };
 }
 
+/// Writes the contents of the wrapped value of type `T`.
+///
 /// # Errors
 ///
-/// The errors of `value_len` and `encode_value` for the wrapped value of type `T`.
+/// The errors of `value_len` and `encode_value` for the wrapped value.
 impl<T: EncodeValue, const N: u32> EncodeValue for Implicit<T, N> {
     ghost value_size = { λ v. T.value_size v.0 };
 

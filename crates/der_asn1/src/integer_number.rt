@@ -10,7 +10,7 @@ use crate::grammar::ContentsGrammar;
 use crate::integer::IntegerGrammar;
 use crate::integer_octets::{IntegerOctets, turned_octet};
 
-/// Numbers that are encoded as an INTEGER (X.690 8.3).
+/// Types of numbers that are encoded as an INTEGER (X.690 8.3): `u8`, `u32`, `u64` and `i64`.
 ///
 /// Ghost members (for proofs only): `grammar` says which octets are the INTEGER contents of a
 /// number of this type; `contents_of` gives the contents octets of each number.
@@ -25,7 +25,7 @@ pub trait IntegerNumber: Copy {
         ensures some { IsSome result ↔ (grammar octets.now ≡ true) }
         ensures same { IfSome result (λ v. contents_of v ≡ octets.now) };
 
-    /// The contents octets of the INTEGER that encodes the number.
+    /// The contents octets of the INTEGER that encodes `self`.
     fn to_contents(self) -> IntegerOctets
         ensures octets { drop result.start result.octets ≡ contents_of self }
         ensures formed { grammar (contents_of self) ≡ true };

@@ -24,7 +24,7 @@ pub struct IntegerOf<N: IntegerNumber> {
 }
 
 impl<'a> IntRef<'a> {
-    /// The number that the INTEGER encodes; `None` if it does not fit in the type `N`.
+    /// The number that the INTEGER encodes; `None` if this number does not fit in the type `N`.
     pub fn to_number<N: IntegerNumber>(&self) -> Option<N>
         ensures some { IsSome result ↔ (N.grammar self.now.octets.now ≡ true) }
         ensures same { IfSome result (λ v. N.contents_of v ≡ self.now.octets.now) }
@@ -64,8 +64,9 @@ impl<N: IntegerNumber> ReadValue for IntegerOf<N> {
 /// # Errors
 ///
 /// - The errors of reading the contents, as by [`Reader::read_slice`].
-/// - `Value` with the tag INTEGER, at the position after the contents, if the contents are not the
-///   shortest or the number is not in the range of `N`; the reader has failed then.
+/// - `Value` with the tag INTEGER, at the position after the contents, if no number of type `N` has
+///   these contents: they are empty or not the shortest, or their number is out of the range of
+///   `N`. The reader has failed then.
 impl<'a, N: IntegerNumber, R: Reader<Borrowed = &'a [u8]>> DecodeValue<R> for IntegerOf<N> {
     type Error = Error;
 
@@ -90,6 +91,8 @@ impl<N: IntegerNumber> WrittenValue for IntegerOf<N> {
     ghost writable = { HasCheckedContents N.grammar (λ v. N.contents_of v.number) };
 }
 
+/// Writes the number in the fewest octets.
+///
 /// # Errors
 ///
 /// `value_len` never fails. `encode_value` returns the errors of [`Writer::write`].

@@ -13,10 +13,12 @@ use std::alloc::Global;
 #[derive(Clone, Copy, Drop)]
 pub struct Optional<T>(pub Option<T>);
 
+/// Decodes a value of `T`, or returns `None` without moving the reader if the field is absent.
+///
 /// # Errors
 ///
-/// - The errors of [`Tag::peek`], if octets are left that do not begin with a tag; the reader is
-///   unchanged.
+/// - The errors of [`ReaderExt::peek_tag`], if octets are left but the next tag cannot be read; the
+///   reader is unchanged.
 /// - The errors of decoding the value, if a value may begin with the next tag.
 impl<R: Reader, T: Choice<R>> Decode<R> for Optional<T> {
     type Error = <T as Decode<R>>::Error;
@@ -44,7 +46,7 @@ impl<R: Reader, T: Choice<R>> Decode<R> for Optional<T> {
     }
 }
 
-/// Writes no octets for `None`.
+/// Writes the value, or no octets for `None`.
 ///
 /// # Errors
 ///

@@ -161,6 +161,8 @@ impl<'a, T: Lawful> WrittenValue for SequenceOf<'a, T> {
     ghost writable = { HasOctetsWith (AreElements T.tag_is T.valid T.contents) (λ v. v.octets.now) };
 }
 
+/// Writes the contents octets unchanged.
+///
 /// # Errors
 ///
 /// - `value_len` returns `Overflow` without a position, if there are more than 4294967295 contents
@@ -202,8 +204,8 @@ pub struct Items<'a, T: Lawful> {
 }
 
 impl<'a, T: Lawful + DecodeValue<SliceReader<'a>>> SequenceOf<'a, T> {
-    /// Wraps `octets` as the contents of a SEQUENCE OF. Checks that they are encodings of values of
-    /// `T`, one after the other.
+    /// Wraps `octets` as the contents of a SEQUENCE OF. Checks that `octets` are DER encodings of
+    /// values of `T`, one after the other.
     ///
     /// # Errors
     ///

@@ -98,8 +98,8 @@ fn check_set<'a, T: Lawful + DecodeValue<SliceReader<'a>>>(
 }
 
 /// A SET OF borrowed from the input. Its contents have been checked: they are encodings of values
-/// of `T`, one after the other. No encoding is less than the one before it, compared octet by octet
-/// (X.690 11.6).
+/// of `T`, one after the other. No encoding is less than the encoding before it, compared octet by
+/// octet (X.690 11.6).
 pub struct SetOf<'a, T: Lawful> {
     elements: SequenceOf<'a, T>,
     ghost short: { length elements.octets.now < 2 ^ 32 },
@@ -147,9 +147,9 @@ impl<'a, T: Lawful> ReadValue for SetOf<'a, T> {
         (λ v. v.elements.octets.now) };
 }
 
-/// Borrows the contents from the input, and checks every element in them once. The elements must be
-/// encoded under DER, also if the reader reads BER. Also under BER, the encodings must be in
-/// ascending order, compared octet by octet; equal encodings may follow each other.
+/// Borrows the contents from the input, and checks every element in them once. Even if the reader
+/// reads BER, the elements must be encoded under DER, and their encodings must be in ascending
+/// order, compared octet by octet. Equal encodings may follow each other.
 ///
 /// # Errors
 ///
@@ -189,6 +189,8 @@ impl<'a, T: Lawful> WrittenValue for SetOf<'a, T> {
         (λ v. v.elements.octets.now) };
 }
 
+/// Writes the contents octets unchanged.
+///
 /// # Errors
 ///
 /// - `value_len` returns `Overflow` without a position, if there are more than 4294967295 contents
@@ -220,9 +222,9 @@ impl<'a, T: Lawful> Nestable for SetOf<'a, T> {
 }
 
 impl<'a, T: Lawful + DecodeValue<SliceReader<'a>>> SetOf<'a, T> {
-    /// Wraps `octets` as the contents of a SET OF. Checks that `octets` are encodings of values of
-    /// `T`, one after the other, and that no encoding is less than the one before it, compared
-    /// octet by octet.
+    /// Wraps `octets` as the contents of a SET OF. Checks that `octets` are DER encodings of values
+    /// of `T`, one after the other, and that no encoding is less than the encoding before it,
+    /// compared octet by octet.
     ///
     /// # Errors
     ///

@@ -6,9 +6,9 @@ ghost use Rattle.der_asn1.specs.Times.{utc_reading, two_at, utc_year, time_from}
 
 use crate::date_time::DateTime;
 
-/// The contents octets of a time. Those of a GeneralizedTime begin with the four digits of the
-/// year, those of a UTCTime with the last two digits of the year. After the year come two digits
-/// each for month, day, hour, minute and second, and the letter Z.
+/// The contents octets of a GeneralizedTime or of a UTCTime. A GeneralizedTime begins with the four
+/// digits of the year, a UTCTime with the last two digits of the year. After the year come two
+/// digits each for month, day, hour, minute and second, and the letter Z.
 #[derive(Drop)]
 pub struct TimeOctets {
     octets: [u8; 15],

@@ -37,7 +37,7 @@ impl<F: TimeFormat> Clone for TimeOf<F> {
 impl<F: TimeFormat> Copy for TimeOf<F> {}
 
 impl<F: TimeFormat> TimeOf<F> {
-    /// Wraps `time`; `None` if `time` cannot be written in the format `F`.
+    /// The value for `time`; `None` if `time` cannot be written in the format `F`.
     pub fn new(time: DateTime) -> Option<Self>
         ensures some { IsSome result ↔ (F.holds time ≡ true) }
         ensures same { IfSome result (λ v. v.time ≡ time) }
@@ -52,7 +52,7 @@ impl<F: TimeFormat> TimeOf<F> {
         }
     }
 
-    /// The date with its time of day.
+    /// The time, as a date with a time of day.
     pub fn date_time(&self) -> DateTime
         ensures value { result ≡ self.now.time }
         ensures held { F.holds result ≡ true }
@@ -93,8 +93,8 @@ impl<F: TimeFormat> ReadValue for TimeOf<F> {
 /// # Errors
 ///
 /// - The errors of reading the contents, as by [`Reader::read_slice`].
-/// - `Value` with the tag of the type, at the position after the contents, if they are not the
-///   contents of a time in the format `F`; the reader has failed then.
+/// - `Value` with the tag of the type, at the position after the contents, if the contents are not
+///   those of a time in the format `F`; the reader has failed then.
 impl<'a, F: TimeFormat, R: Reader<Borrowed = &'a [u8]>> DecodeValue<R> for TimeOf<F> {
     type Error = Error;
 
@@ -123,6 +123,8 @@ impl<F: TimeFormat> WrittenValue for TimeOf<F> {
     ghost writable = { HasCheckedContents F.grammar (λ v. F.contents_of v.time) };
 }
 
+/// Writes the time in the format `F`.
+///
 /// # Errors
 ///
 /// `value_len` never fails. `encode_value` returns the errors of [`Writer::write`].

@@ -6,9 +6,10 @@ ghost use Rattle.der.specs.Prelude.{Der, ElementRead, element_octets};
 use der::{DecodeBytes, DecodeValue, Lawful, SliceReader};
 use std::alloc::Global;
 
-/// Decodes the value whose DER encoding is all of `octets`. Unless an allocation fails, this
-/// succeeds exactly if `octets` are the encoding of a valid value. [`Lawful`] guarantees that: it
-/// says that reading is the inverse of writing.
+/// Decodes the value whose DER encoding is all of `octets`. If there are at most 4294967295 octets
+/// and no allocation fails, decoding succeeds exactly if `octets` are the encoding of a valid
+/// value. This holds because `T` is [`Lawful`]: the contents of a lawful type are read as they are
+/// written.
 ///
 /// # Errors
 ///

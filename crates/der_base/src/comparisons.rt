@@ -1,5 +1,5 @@
 //! The results of the comparisons, hashes and clones that `derive` generates. Each function here
-//! calls one of them, and the contract of the function states the result. Nothing calls the
+//! calls one generated function, or two, and its contract states the result. Nothing calls the
 //! functions of this module.
 mod clones;
 mod equality;

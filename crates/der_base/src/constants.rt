@@ -1,5 +1,5 @@
-//! The values of constants and defaults. Each function here returns one of them, and the contract
-//! of the function states its value. Nothing calls the functions of this module.
+//! The values of constants and defaults. Each function here returns a constant or a default, and
+//! its contract states which value that is. Nothing calls the functions of this module.
 ghost use Rattle.std.specs.Prelude.{◌≡◌};
 ghost use Rattle.der_base.specs.Length.{definite_length};
 ghost use Rattle.der_base.specs.declared.encoding_rules.EncodingRules.TheVariants.{Der};
@@ -11,56 +11,54 @@ use crate::tag::{
     CLASS_APPLICATION, CLASS_CONTEXT_SPECIFIC, CLASS_PRIVATE, CLASS_UNIVERSAL, TagMode,
 };
 
-/// Returns the constant; the contract states that [`Length::ZERO`] is a definite length of zero
-/// octets.
+/// Returns [`Length::ZERO`]; the contract states that it is the definite length of zero octets.
 fn zero() -> Length
     ensures { result ≡ definite_length 0 }
 {
     Length::ZERO
 }
 
-/// Returns the constant; the contract states that [`Length::ONE`] is a definite length of one
-/// octet.
+/// Returns [`Length::ONE`]; the contract states that it is the definite length of one octet.
 fn one() -> Length
     ensures { result ≡ definite_length 1 }
 {
     Length::ONE
 }
 
-/// Returns the constant; the contract states that [`Length::MAX`] is the greatest definite length,
-/// 4294967295 octets.
+/// Returns [`Length::MAX`]; the contract states that it is the greatest definite length, 4294967295
+/// octets.
 fn max() -> Length
     ensures { result ≡ definite_length 4294967295 }
 {
     Length::MAX
 }
 
-/// Returns the constant; the contract states that [`CLASS_UNIVERSAL`] is `0x00`: in an identifier
-/// octet of class UNIVERSAL bits 8 and 7 are both 0 (X.690 8.1.2.2, table 1).
+/// Returns [`CLASS_UNIVERSAL`]; the contract states that it is `0x00`: in an identifier octet of
+/// class UNIVERSAL bits 8 and 7 are both 0 (X.690 8.1.2.2, table 1).
 fn class_universal() -> u8
     ensures { result ≡ 0x00 }
 {
     CLASS_UNIVERSAL
 }
 
-/// Returns the constant; the contract states that [`CLASS_APPLICATION`] is `0x40`: in an identifier
-/// octet of class APPLICATION bit 8 is 0 and bit 7 is 1 (X.690 8.1.2.2, table 1).
+/// Returns [`CLASS_APPLICATION`]; the contract states that it is `0x40`: in an identifier octet of
+/// class APPLICATION bit 8 is 0 and bit 7 is 1 (X.690 8.1.2.2, table 1).
 fn class_application() -> u8
     ensures { result ≡ 0x40 }
 {
     CLASS_APPLICATION
 }
 
-/// Returns the constant; the contract states that [`CLASS_CONTEXT_SPECIFIC`] is `0x80`: in an
-/// identifier octet of class CONTEXT-SPECIFIC bit 8 is 1 and bit 7 is 0 (X.690 8.1.2.2, table 1).
+/// Returns [`CLASS_CONTEXT_SPECIFIC`]; the contract states that it is `0x80`: in an identifier
+/// octet of class CONTEXT-SPECIFIC bit 8 is 1 and bit 7 is 0 (X.690 8.1.2.2, table 1).
 fn class_context_specific() -> u8
     ensures { result ≡ 0x80 }
 {
     CLASS_CONTEXT_SPECIFIC
 }
 
-/// Returns the constant; the contract states that [`CLASS_PRIVATE`] is `0xC0`: in an identifier
-/// octet of class PRIVATE bits 8 and 7 are both 1 (X.690 8.1.2.2, table 1).
+/// Returns [`CLASS_PRIVATE`]; the contract states that it is `0xC0`: in an identifier octet of
+/// class PRIVATE bits 8 and 7 are both 1 (X.690 8.1.2.2, table 1).
 fn class_private() -> u8
     ensures { result ≡ 0xC0 }
 {

@@ -19,14 +19,14 @@ pub enum EncodingRules {
 }
 
 impl EncodingRules {
-    /// Whether these are the Basic Encoding Rules.
+    /// Whether the rules are the Basic Encoding Rules.
     pub const fn is_ber(self) -> bool
         ensures { IsTrue result ↔ (self ≡ Ber) }
     {
         matches!(self, EncodingRules::Ber)
     }
 
-    /// Whether these are the Distinguished Encoding Rules.
+    /// Whether the rules are the Distinguished Encoding Rules.
     pub const fn is_der(self) -> bool
         ensures { IsTrue result ↔ (self ≡ Der) }
     {
@@ -34,11 +34,12 @@ impl EncodingRules {
     }
 }
 
-/// Parses `ber`, `BER`, `der` and `DER`.
+/// Parses the name of encoding rules: `ber`, `BER`, `der` or `DER`.
 ///
 /// # Errors
 ///
-/// - An error of the kind `EncodingRules`, without a position, for any other text.
+/// - An error of the kind `EncodingRules`, without a position, if the text is none of these four
+///   names.
 impl FromStr for EncodingRules {
     type Err = Error;
 

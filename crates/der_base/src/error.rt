@@ -11,9 +11,9 @@ pub use std::str::Utf8Error;
 /// A result whose error is [`Error`].
 pub type Result<T> = std::result::Result<T, Error>;
 
-/// An error of a call of this library: its kind, and its position if one is known. The position of
-/// an error in reading counts octets from the start of the input. The position of an error in
-/// writing counts octets from the start of the output.
+/// An error of a call of this library: its kind, and its position if the position is known. The
+/// position of an error in reading counts octets from the start of the input. The position of an
+/// error in writing counts octets from the start of the output.
 #[derive(Clone, Copy, Debug, PartialEq, Eq)]
 pub struct Error {
     kind: ErrorKind,
@@ -34,8 +34,9 @@ impl Error {
     }
 
     /// The error of an input that has `actual_len` octets and needs one more. The kind is
-    /// `Incomplete`, and its field `expected_len` is `actual_len` plus one. If that sum exceeds
-    /// 4294967295, the kind is `Overflow`. The position is `actual_len`, the end of the input.
+    /// `Incomplete`, and the field `expected_len` is `actual_len` plus one. If that sum exceeds
+    /// 4294967295, the kind is `Overflow` instead. The position is `actual_len`, the end of the
+    /// input.
     pub fn incomplete(actual_len: Length) -> Self
         ensures { result ≡ error_at_end actual_len }
     {
@@ -49,14 +50,15 @@ impl Error {
         }
     }
 
-    /// The kind of the error.
+    /// The kind of the error: what went wrong.
     pub const fn kind(self) -> ErrorKind
         ensures { result ≡ kind_of self }
     {
         self.kind
     }
 
-    /// The position of the error; `None` if it is not known.
+    /// The position of the error, counted in octets from the start of the input or output; `None`
+    /// if the position is not known.
     pub const fn position(self) -> Option<Length>
         ensures { result ≡ position_of self }
     {
@@ -98,14 +100,14 @@ impl From<Utf8Error> for Error {
     }
 }
 
-/// What went wrong.
+/// The kind of an [`Error`]: what went wrong.
 #[derive(Clone, Copy, Debug, PartialEq, Eq)]
 pub enum ErrorKind {
     /// A value is not a valid date or time, or not a valid part of one, such as a month.
     DateTime,
     /// A text is not the name of encoding rules. The names are `ber`, `BER`, `der` and `DER`.
     EncodingRules,
-    /// The reader or writer was already failed before the call, because an earlier call failed.
+    /// The reader or writer had already failed, in an earlier call.
     Failed,
     /// The input, or the nested part that is being read, ends too early. Both fields count octets
     /// from the start of the input.
@@ -118,7 +120,7 @@ pub enum ErrorKind {
     /// An indefinite length occurs where none is allowed, or is not closed by two end-of-contents
     /// octets. Or a definite length occurs where only an indefinite one is allowed.
     IndefiniteLength,
-    /// The length of an element is not encoded as required, or is not the number of its contents
+    /// The length of an element is not encoded as required, or differs from the number of contents
     /// octets.
     Length {
         /// The element's tag.
@@ -140,8 +142,8 @@ pub enum ErrorKind {
     /// A number is too great, such as a number of octets that exceeds 4294967295. Or a difference
     /// of lengths is below zero.
     Overflow,
-    /// A length was read without a tag, and is encoded in more octets than it needs or in more than
-    /// five. Or a write needs more space than there is.
+    /// A length that was read without a tag is encoded in more octets than it needs, or in more
+    /// than five octets. Or a write needs more space than the output has.
     Overlength,
     /// The reader does not support the requested operation, such as returning slices of its input.
     Reader,
@@ -165,7 +167,7 @@ pub enum ErrorKind {
     TrailingData {
         /// The number of octets that were read since the start of the input.
         decoded: Length,
-        /// The number of octets that are left.
+        /// The number of unread octets, up to the end of the input or of the contents.
         remaining: Length,
     },
     /// A text is not UTF-8.
@@ -200,8 +202,8 @@ impl ErrorKind {
     }
 }
 
-/// Prints the message of the kind. Lengths and tags in the message are printed by their own
-/// `Display`.
+/// Prints the message of the kind. A length, a tag or a UTF-8 error in the message is printed by
+/// its own `Display`.
 impl fmt::Display for ErrorKind {
     ghost use Rattle.der_base.specs.Text.{kind_text};
 
@@ -251,7 +253,8 @@ impl fmt::Display for ErrorKind {
     }
 }
 
-/// Prints the message of the kind, followed by the position if it is known.
+/// Prints the message of the kind, and then ` at DER byte ` and the position, if the position is
+/// known.
 impl fmt::Display for Error {
     ghost use Rattle.der_base.specs.Text.{error_text};
 

@@ -1,6 +1,6 @@
-//! Laws of the octets of tags, lengths, headers and indefinite-length bodies. Each function does
-//! nothing; its contract is the law, which `specs/Laws.antt` or `specs/OrderLaws.antt` states.
-//! Nothing else uses these functions.
+//! Laws of the octets of tags, lengths, headers and indefinite-length contents, and of the order of
+//! encodings. Each function does nothing; its contract is a law that `specs/Laws.antt` or
+//! `specs/OrderLaws.antt` defines. Nothing calls the functions of this module.
 ghost use Rattle.der_base.specs.ScanGrammar.{BodyNext, BodyFault};
 ghost use Rattle.der_base.specs.HeaderGrammar.{IdentifierNext, TagNext, LengthNext, LengthFault, HeadNext, HeaderFault};
 ghost use Rattle.der_base.specs.Order.{byte_order};

@@ -52,7 +52,8 @@ impl Length {
         }
     }
 
-    /// A length of `value` octets that was read in the indefinite form.
+    /// A length of `value` octets that is flagged as read in the indefinite form. As in a length
+    /// that a reader reads, `value` counts the contents and the two end-of-contents octets.
     pub const fn new_indefinite(value: u32) -> Self
         ensures { result ≡ indefinite_length value }
     {
@@ -106,7 +107,7 @@ impl Length {
     }
 }
 
-/// Prints the number of octets in decimal.
+/// Prints the number of octets in decimal, without the flag for the indefinite form.
 impl fmt::Display for Length {
     ghost use Rattle.der_base.specs.Text.{length_text};
 

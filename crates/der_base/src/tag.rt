@@ -13,9 +13,10 @@ pub use number::TagNumber;
 use std::fmt;
 
 /// The tag of an element: a class, whether the contents are constructed, and a number (X.690
-/// 8.1.2). The derived order compares the variants first. For equal variants it compares the
-/// constructed bits, then the numbers. This order is not the lexicographic order of the identifier
-/// octets.
+/// 8.1.2). The derived order compares two tags by their variants, in the order in which the
+/// variants are declared. The derived order compares tags of the same variant by `constructed`,
+/// where `false` is less than `true`. If `constructed` is also equal, `number` decides. The derived
+/// order is not the lexicographic order of the identifier octets.
 #[derive(Clone, Copy, PartialEq, Eq, PartialOrd, Ord, Hash)]
 pub enum Tag {
     /// `BOOLEAN`, tag number 1.
@@ -66,21 +67,21 @@ pub enum Tag {
     Application {
         /// Whether the contents are constructed.
         constructed: bool,
-        /// The tag number.
+        /// The tag number, up to 4294967295.
         number: TagNumber,
     },
     /// A tag of class CONTEXT-SPECIFIC: its meaning depends on the context.
     ContextSpecific {
         /// Whether the contents are constructed.
         constructed: bool,
-        /// The tag number.
+        /// The tag number, up to 4294967295.
         number: TagNumber,
     },
     /// A tag of class PRIVATE.
     Private {
         /// Whether the contents are constructed.
         constructed: bool,
-        /// The tag number.
+        /// The tag number, up to 4294967295.
         number: TagNumber,
     },
 }
@@ -103,8 +104,8 @@ impl Tag {
         }
     }
 
-    /// The number of the tag. For a universal tag it is fixed by the variant. For a tag of another
-    /// class it is the field `number`.
+    /// The number of the tag. The variant of a universal tag determines the number. A tag of
+    /// another class has it in the field `number`.
     #[inline(always)]
     pub const fn number(self) -> TagNumber
         ensures { result.0 ≡ (label self).number }
@@ -151,8 +152,9 @@ impl Tag {
         }
     }
 
-    /// Whether the contents are constructed. This is true for `Sequence` and `Set`, and false for
-    /// the other universal tags. For a tag of another class it is the field `constructed`.
+    /// Whether the contents are constructed. The result is true for `Sequence` and `Set`, and false
+    /// for the other universal tags. For a tag of another class, the result is the field
+    /// `constructed`.
     pub const fn is_constructed(self) -> bool
         ensures { result ≡ (label self).constructed }
     {
@@ -219,8 +221,8 @@ impl Tag {
     ///
     /// # Errors
     ///
-    /// - `TagUnexpected` without a position, if the two tags differ. Its field `expected` is the
-    ///   tag `expected`, and its field `actual` is this tag.
+    /// - `TagUnexpected` without a position, if this tag differs from `expected`. The error's field
+    ///   `expected` is the tag `expected`, and the error's field `actual` is this tag.
     pub fn assert_eq(self, expected: Tag) -> Result<Tag>
         ensures expected_tag { self ≡ expected → result ≡ Ok self }
         ensures other_tag { self ≢ expected → result ≡ Err (unexpected_tag expected self) }
@@ -233,7 +235,7 @@ impl Tag {
     }
 
     /// The error kind `Length` with this tag. It reports that the length of an element with this
-    /// tag is not encoded as required, or is not the number of its contents octets.
+    /// tag is not encoded as required, or differs from the number of contents octets.
     pub const fn length_error(self) -> ErrorKind
         ensures { result ≡ ErrorKind.Length self }
     {
@@ -249,8 +251,8 @@ impl Tag {
     }
 
     /// The error kind `TagUnexpected` with this tag as the tag that was found. If `expected` is
-    /// `Some`, it is the tag that was expected. If `expected` is `None`, this tag is not allowed
-    /// where it occurs.
+    /// `Some(tag)`, then `tag` was expected. If `expected` is `None`, this tag is not allowed where
+    /// it occurs.
     pub const fn unexpected_error(self, expected: Option<Self>) -> ErrorKind
         ensures { result ≡ ErrorKind.TagUnexpected expected self }
     {

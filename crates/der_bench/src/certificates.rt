@@ -22,10 +22,10 @@ impl<'a> Counted for Certificate<'a> {
     }
 }
 
-/// Decodes certificates in sequence from `bytes` until the octets end or there is an error. In the
-/// result, `elements` is the number of certificates, `contents` is the total number of contents
-/// octets of their signatures, and `octet_sum` is the sum of the first contents octets of their
-/// serial numbers.
+/// Decodes the certificates in `bytes`, one after the other, until the octets end or there is an
+/// error. In the result, `elements` is the number of certificates, `contents` is the total number
+/// of contents octets of their signatures, and `octet_sum` is the sum of the first contents octets
+/// of their serial numbers.
 #[unsafe(no_mangle)]
 pub extern "C" fn der_bench_certificates(alloc: Global, bytes: &[u8]) -> Totals {
     decode_each::<Certificate<'_>>(alloc, bytes, EncodingRules::Der)

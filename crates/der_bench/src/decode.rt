@@ -1,5 +1,5 @@
-//! Decoding of values in sequence: of a SEQUENCE type with another inside it, and of any type that
-//! implements `Counted`.
+//! Decoding of values, one after the other: of a SEQUENCE type with another SEQUENCE inside it, and
+//! of any type that implements `Counted`.
 use crate::Totals;
 use der::{Decode, EncodingRules, Error, ReaderExt, SliceReader};
 use der_uses::key_info::KeyInfo;
@@ -27,9 +27,10 @@ impl<'a> Counted for KeyInfo<'a> {
     }
 }
 
-/// Decodes keys in sequence from `bytes` until the octets end or there is an error. In the result,
-/// `elements` is the number of keys, `contents` is the total number of contents octets of their
-/// algorithm and key fields, and `octet_sum` is the sum of the numbers of their months.
+/// Decodes the keys ([`KeyInfo`]) in `bytes`, one after the other, until the octets end or there is
+/// an error. In the result, `elements` is the number of keys, `contents` is the total number of
+/// contents octets of their algorithm and key fields, and `octet_sum` is the sum of the numbers of
+/// their months.
 #[unsafe(no_mangle)]
 pub extern "C" fn der_bench_decode(alloc: Global, bytes: &[u8]) -> Totals {
     decode_each::<KeyInfo<'_>>(alloc, bytes, EncodingRules::Der)

@@ -12,15 +12,15 @@ pub struct Wanted {
     pub length: u32,
     /// The class: 0 is universal, 1 application, 2 context-specific, and any other number private.
     pub class: u8,
-    /// 0 if the contents are primitive, any other number if they are constructed. Ignored if
-    /// `class` is 0.
+    /// Whether the tag is constructed: 0 for a primitive tag, any other number for a constructed
+    /// tag. Ignored if `class` is 0.
     pub constructed: u8,
 }
 
-/// Writes the headers in `wanted`, without contents, in sequence to `out` until all are written or
-/// there is an error. In the result, `elements` is the number of headers written, and `octet_sum`
-/// is 0. If all headers are written, `contents` is the number of octets written. After an error
-/// `contents` is 0.
+/// Writes the headers in `wanted`, without contents, to `out`, one after the other, until all are
+/// written or there is an error. In the result, `elements` is the number of headers written, and
+/// `octet_sum` is 0. If all headers are written, `contents` is the number of octets written. After
+/// an error `contents` is 0.
 #[unsafe(no_mangle)]
 pub extern "C" fn der_bench_put_headers(wanted: &[Wanted], out: &mut [u8]) -> Totals {
     let mut totals = Totals::none();

@@ -1,4 +1,4 @@
-//! Keys that are written, each as a whole value: a SEQUENCE with another inside it.
+//! Keys that are written, each as a whole value: a SEQUENCE with another SEQUENCE inside it.
 use crate::Totals;
 use crate::writing::last_of;
 use der::example::MyByteMonth;
@@ -8,16 +8,16 @@ use der_uses::key_info::KeyInfo;
 use der_uses::my_octets::MyOctets;
 use std::alloc::Global;
 
-/// A key that a benchmark writes. The functions below have a parameter `borrowed`, a slice. The
-/// first octets of this slice are the algorithm octets of the key, and they are also its key
-/// octets; the fields `algorithm` and `key` give their numbers.
+/// A key that a benchmark writes. The octets of the key come from the slice `borrowed`, which is a
+/// parameter of the functions below. The first `algorithm` octets of this slice are the algorithm
+/// octets of the key, and the first `key` octets of the same slice are its key octets.
 #[repr(C)]
 pub struct WantedKey {
     /// The number of algorithm octets: how many octets, from the start of `borrowed`, are the
-    /// contents of the key's algorithm.
+    /// contents of the field `algorithm` inside the key's algorithm.
     pub algorithm: u32,
     /// The number of key octets: how many octets, from the start of `borrowed`, are the contents of
-    /// the key.
+    /// the field `key` of the key.
     pub key: u32,
     /// The number of the month in the key's algorithm. A number above 11 is an error.
     pub month: u8,

@@ -1,7 +1,7 @@
 //! The functions whose speed `bench/` measures: walks over elements, decoding of keys,
 //! certificates, byte strings and texts, comparison of elements, reading of messages with
-//! indefinite lengths, and writing; and those with which `tools/real_files` reads files and writes
-//! them back.
+//! indefinite lengths, and writing. Also the functions with which `tools/real_files` reads files
+//! and writes them back.
 #![tactic(auto)]
 
 mod again;
@@ -20,8 +20,8 @@ mod writing;
 
 use der::{EncodingRules, Error, Reader, ReaderExt, SliceReader, decode_header};
 
-/// What a benchmark function read or wrote, in numbers. If a function uses a field to count
-/// something else than the field's comment says, the function's comment says so.
+/// What a benchmark function read or wrote, in numbers. The comments here describe what most
+/// functions put into the fields. The comment of a function says what that function puts into them.
 #[repr(C)]
 pub struct Totals {
     /// The number of elements that were read or written.

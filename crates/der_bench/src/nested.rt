@@ -1,4 +1,4 @@
-//! Walks over elements, and over those inside them.
+//! Walks over elements, and over the elements inside them.
 ghost use Rattle.std.specs.Prelude.{◌≡◌, length};
 ghost use Rattle.der.specs.Prelude.{Same, slice_state};
 

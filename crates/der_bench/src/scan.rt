@@ -6,20 +6,20 @@ use der::{EncodingRules, SliceReader, Turns, decode_indefinite_length};
 use std::marker::Brand;
 use std::sync::ledger::{Blank, Ledger};
 
-/// Reads messages (elements) in sequence from `bytes` under the Basic Encoding Rules until the
-/// octets end or there is an error. If a length is indefinite, a scan finds the end of the
-/// contents. In the result, `elements` is the number of messages, `contents` is the total number of
-/// their contents octets, end-of-contents octets included, and `octet_sum` is the sum of their
-/// first contents octets.
+/// Reads the messages (elements) in `bytes` under the Basic Encoding Rules, one after the other,
+/// until the octets end or there is an error. If a length is indefinite, a scan finds the end of
+/// the contents. In the result, `elements` is the number of messages, `contents` is the total
+/// number of their contents octets, end-of-contents octets included, and `octet_sum` is the sum of
+/// their first contents octets.
 #[unsafe(no_mangle)]
 pub extern "C" fn der_bench_scan(bytes: &[u8]) -> Totals {
     walk(bytes, EncodingRules::Ber)
 }
 
-/// Scans the messages (elements) in `bytes` in sequence until the octets end or there is an error.
-/// Each message must have a header of two octets, which are skipped, and contents of indefinite
-/// length. The length of the contents is found octet by octet, with the scan for readers that
-/// return no slices. In the result, `elements` is the number of messages, `contents` is the total
+/// Scans the messages (elements) in `bytes`, one after the other, until the octets end or there is
+/// an error. Each message must have a header of two octets, which are skipped, and contents of
+/// indefinite length. The scan for readers that return no slices finds the length of the contents,
+/// octet by octet. In the result, `elements` is the number of messages, `contents` is the total
 /// number of their contents octets, end-of-contents octets included, and `octet_sum` is the sum of
 /// their first contents octets.
 #[unsafe(no_mangle)]

@@ -1,14 +1,14 @@
-//! A SET OF OCTET STRING that is sorted and written, and one that is read.
+//! A SET OF OCTET STRING that is sorted and written, and a SET OF OCTET STRING that is read.
 use crate::Totals;
 use der::example::BorrowedOctets;
 use der::{ReaderExt, SliceReader};
 use der_uses::set_of::{set_of_contents, set_of_der};
 use std::alloc::Global;
 
-/// Decodes OCTET STRINGs in sequence from `bytes`, sorts them, and writes them as one SET OF. In
-/// the result, `elements` is the number of OCTET STRINGs, `contents` is the number of octets of the
-/// SET OF, header included, and `octet_sum` is the last octet of the SET OF. After an error all
-/// three are 0.
+/// Decodes the OCTET STRINGs in `bytes`, one after the other, sorts them, and writes them as one
+/// SET OF. In the result, `elements` is the number of OCTET STRINGs, `contents` is the number of
+/// octets of the SET OF, header included, and `octet_sum` is the last octet of the SET OF. After an
+/// error all three are 0.
 #[unsafe(no_mangle)]
 pub extern "C" fn der_bench_sorted(alloc: Global, bytes: &[u8]) -> Totals {
     let mut elements = Vec::new(alloc);
@@ -23,7 +23,7 @@ pub extern "C" fn der_bench_sorted(alloc: Global, bytes: &[u8]) -> Totals {
 
 /// Reads one SET OF OCTET STRING from `bytes`. In the result, `elements` is 1, `contents` is the
 /// number of contents octets of the SET OF, and `octet_sum` is the last of these octets, or 0 if
-/// there are none. All three are 0 on an error.
+/// the SET OF is empty. After an error all three are 0.
 #[unsafe(no_mangle)]
 pub extern "C" fn der_bench_set(alloc: Global, bytes: &[u8]) -> Totals {
     match set_of_contents(alloc, bytes) {

@@ -28,10 +28,10 @@ pub extern "C" fn der_bench_numbers(bytes: &[u8]) -> Totals {
 }
 
 /// Reads the elements in `bytes` one after the other, without entering their contents, until the
-/// octets end or there is an error. Also counts them in a table of 256 counts, by the low octet of
-/// their tag numbers. In the result, `elements` is the number of elements, and `contents` is the
-/// total number of their contents octets. `octet_sum` is a number computed from the table, or 0
-/// after an error.
+/// octets end or there is an error. Also counts the elements in a table of 256 counts, by the low
+/// octet of their tag numbers. In the result, `elements` is the number of elements, and `contents`
+/// is the total number of their contents octets. `octet_sum` is a number computed from the table,
+/// or 0 after an error.
 #[unsafe(no_mangle)]
 pub extern "C" fn der_bench_counts(bytes: &[u8]) -> Totals {
     let mut counts = [0u64; 256];

@@ -1,4 +1,4 @@
-//! Writing of OCTET STRINGs of eight octets, and of SEQUENCEs of four of them.
+//! Writing of OCTET STRINGs of eight octets, and of SEQUENCEs that each hold four OCTET STRINGs.
 ghost use Rattle.std.specs.Prelude.{Ok};
 ghost use Rattle.der.specs.Prelude.{definite_length, OctetString, slice_writer_state, Keeps, Writes, write_outcome};
 

@@ -7,9 +7,9 @@ use der_base::Error;
 use der_core::{Reader, SliceReader, decode_header};
 use std::cmp::Ordering;
 
-/// Compares the encodings of two elements, `first` and `second`, octet by octet. This is the order
-/// of the elements of a SET OF (X.690 11.6). Sets `order` to -1 if `first` is less than `second`,
-/// to 0 if they are equal, and to 1 if `first` is greater than `second`.
+/// Compares the encodings of two elements, `first` and `second`, octet by octet, as the elements of
+/// a SET OF are ordered (X.690 11.6). Sets `order` to -1 if `first` is less than `second`, to 0 if
+/// they are equal, and to 1 if `first` is greater than `second`.
 ///
 /// Each of `first` and `second` must be exactly one element under the Distinguished Encoding Rules.
 /// `first` is checked before `second`. A call that fails leaves `order` unchanged. Fails with:

@@ -12,7 +12,7 @@ use crate::tag::word_of;
 use der_base::{ErrorKind, Length};
 use der_core::{Header, Reader, decode_header};
 
-/// An element: a header and its contents.
+/// An element: a header and its contents. Positions are in octets from the start of the input.
 #[repr(C)]
 #[derive(Clone, Copy)]
 pub struct DerElement<'a> {
@@ -93,7 +93,7 @@ pub extern "C" fn der_read_element<'a>(
     read_element(reader, element)
 }
 
-/// Consumes the next element and returns nothing of it: its header, its contents, and the
+/// Consumes the next element and stores nothing of it. Consumes the header, the contents, and the
 /// end-of-contents octets of an indefinite length.
 ///
 /// Fails with the errors of [`der_read_element`].
@@ -220,8 +220,11 @@ fn expect_slowly<'a>(reader: &mut DerReader<'a>, tag: u64, element: &mut DerElem
 ///
 /// A call that fails leaves `inside` unchanged. Fails with:
 ///
-/// - the errors of [`der_expect`];
-/// - `NestingDepth`, if the element is inside 64 others.
+/// - the errors of [`der_read_header`](crate::der_read_header);
+/// - `TagUnexpected` without a position, if the next element has another tag; `reader` is unchanged
+///   then;
+/// - `Overflow`, `Incomplete` and `NestingDepth`, if the contents cannot be entered, as by
+///   `der_core::Reader::enter_nested`.
 #[unsafe(no_mangle)]
 pub extern "C" fn der_enter<'a>(
     reader: &mut DerReader<'a>,
@@ -301,7 +304,7 @@ fn enter<'a>(reader: &mut DerReader<'a>, header: Header, inside: &mut DerReader<
 ///
 /// - `Reader` without a position, if `element` does not lie in the octets of `reader`;
 /// - `Failed` without a position, if `reader` has failed;
-/// - `NestingDepth` at the position of the contents, if `element` is inside 64 others.
+/// - `NestingDepth` at the start of the contents, if `reader` is inside 64 nested elements.
 #[unsafe(no_mangle)]
 pub extern "C" fn der_open<'a>(
     reader: &DerReader<'a>,

@@ -5,26 +5,27 @@ ghost use Rattle.der_c.specs.ErrorCode.{error_code, kind_code, tag_code, coded a
 use crate::tag::{first_octet, number_in_long_form, tag_of};
 use der_base::{Error, ErrorKind, Length, Tag};
 
-/// An error, or no error if `kind` is 0. A C struct of 16 octets, which fit in two registers.
+/// An error, or no error if `kind` is 0. A struct of 16 octets for C, which fits in two registers.
 #[repr(C)]
 #[derive(Clone, Copy)]
 pub struct DerError {
-    /// The number of the error kind; 0 if there is no error.
+    /// The number of the error kind, as listed in `bindings/c/der.h`; 0 if there is no error.
     pub kind: u8,
     /// Whether the position of the error is known. If not, `position` is 0.
     pub has_position: bool,
-    /// The first octet of the tag that was expected; 0 if there is none.
+    /// The first octet of the identifier of the expected tag; 0 if the error names no expected tag.
     pub expected: u8,
-    /// The first octet of the tag that was found; 0 if there is none.
+    /// The first octet of the identifier of the tag that was found; 0 if the error names no such
+    /// tag.
     pub actual: u8,
-    /// The position of the error, in octets; 0 if it is not known.
+    /// The position of the error in the input, in octets; 0 if this position is not known.
     pub position: u32,
     /// A number whose meaning depends on the kind of the error. It is 0 for all kinds that are not
     /// listed here:
     ///
     /// - `Incomplete`: the number of octets that the whole input would need.
     /// - `TrailingData`: the number of octets that were read.
-    /// - `TagUnknown`: the octet that begins no tag.
+    /// - `TagUnknown`: the octet that was read, with which no tag begins.
     /// - `TagUnexpected`: the number of the expected tag, if that number is 31 or more. It is 0 if
     ///   the number is below 31, or if the error names no expected tag.
     pub first: u32,
@@ -33,8 +34,8 @@ pub struct DerError {
     ///
     /// - `Incomplete`: the number of octets that the input has.
     /// - `TrailingData`: the number of octets that are left.
-    /// - Kinds with a tag that was found: the number of this tag if that is 31 or more, and 0 if it
-    ///   is below 31.
+    /// - Kinds with a tag that was found: the number of this tag if the number is 31 or more. It is
+    ///   0 if the number is below 31.
     pub second: u32,
 }
 

@@ -17,7 +17,8 @@ pub struct DerHeader {
     /// The tag as a word: the first octet of its identifier, plus 256 times the tag number if the
     /// number is 31 or more.
     pub tag: u64,
-    /// The number of contents octets, including the end-of-contents octets of an indefinite length.
+    /// The number of contents octets. Includes the two end-of-contents octets if the length was
+    /// read in the indefinite form.
     pub length: u32,
     /// Whether the constructed bit of the identifier is set.
     pub constructed: bool,

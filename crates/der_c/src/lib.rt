@@ -1,8 +1,8 @@
 //! The readers and writers of `der_core` for programs in C, and in any language that calls C: see
 //! `bindings/c/der.h`.
 //!
-//! No function allocates. The caller only ensures that a pointer and a length describe octets, and
-//! that a struct was made by the functions here.
+//! No function allocates. The caller must ensure only that each pointer and length describe octets,
+//! and that each struct was made by the functions here.
 #![tactic(auto)]
 
 mod compare;

@@ -88,8 +88,9 @@ fn missing_octets(position: usize, count: u32, end: u32) -> Error
 }
 
 /// A reliable reader: its methods fail exactly in the cases that [`Reader`] specifies, with the
-/// errors that it specifies. Like `SliceReader`, this reader stays failed after an error that makes
-/// it fail, and [`Reader::read_slice`] returns slices of its input.
+/// errors that [`Reader`] specifies. Once an error has made this reader a failed reader, it stays
+/// failed. [`Reader::read_slice`] returns slices of the reader's input. `SliceReader` does the
+/// same.
 impl<'a> Reader for DerReader<'a> {
     ghost use Rattle.std.proofs.Common.{rules};
     ghost use Rattle.der_c.specs.CReader.{reader_state};

@@ -26,7 +26,8 @@ impl fmt::Write for Text<'_> {
 
 /// Writes the text of `error` to the start of `text`. If `text` is too short, writes only as many
 /// octets of the error's text as fit. Adds no final zero octet. Returns how many octets were
-/// written. If `error` is no error (its kind is 0), the text is `no error`.
+/// written. The text is `no error` if the kind of `error` is 0 or `Utf8` (20), or if no error has
+/// the C form `error`.
 #[unsafe(no_mangle)]
 pub extern "C" fn der_error_text(error: DerError, text: &mut [u8]) -> usize
     ensures { WritesErrorText error text.old result text.new }

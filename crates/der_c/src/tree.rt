@@ -25,9 +25,9 @@ pub struct DerNode {
     pub start: u32,
     /// The position at which the contents begin.
     pub contents_start: u32,
-    /// The position at which the contents end.
+    /// The position at which the contents end, before any end-of-contents octets.
     pub end: u32,
-    /// The number of elements of the tree that enclose this one; 0 for an outermost element.
+    /// The number of elements of the tree that enclose this element; 0 for an outermost element.
     pub depth: u8,
     /// Whether the constructed bit of the identifier is set.
     pub constructed: bool,
@@ -36,9 +36,9 @@ pub struct DerNode {
 }
 
 /// Reads into `nodes` all elements that are left in `reader`, and all elements inside constructed
-/// ones. Each element comes before the elements inside it. Sets `count` to the number of elements
-/// read, also if the call fails. If 32 other elements enclose an element, the elements inside it
-/// are not read: it is one node, whatever its contents.
+/// elements. Each element comes before the elements inside it. Sets `count` to the number of nodes
+/// stored, also if the call fails. If 32 other elements enclose a constructed element, the elements
+/// inside it are not read: the constructed element is one node, whatever its contents.
 ///
 /// A call that fails makes `reader` a failed reader. Fails with:
 ///

@@ -1,4 +1,4 @@
-//! The results of comparisons and clones that `derive` generates, and of comparisons of [`Orderly`]
+//! The results of `==` and `clone` for types of this crate, and of comparisons of [`Orderly`]
 //! types. Each function here calls one comparison or one clone, and the contract of the function
 //! states the result. Nothing calls the functions of this module.
 ghost use Rattle.std.specs.Prelude.{◌≡◌, ◌↔◌, IsTrue, Ok, IsOk, IsOkAnd, IfOk};

@@ -78,8 +78,9 @@ pub trait Decode<R: Reader>: Sized + Drop {
     /// Decodes a value from the next octets of the reader and consumes them.
     ///
     /// Suppose that the reader is reliable (see [`Reader`]), has not failed, and has at least as
-    /// many levels of nesting left as the ghost member `decode_levels` says. If the reader's next
-    /// octets are a value, the result is this value or an error that reports a failed allocation.
+    /// many of its 64 levels of nesting left as the ghost member `decode_levels` says. If the
+    /// reader's next octets are a value, the result is this value or an error that reports a failed
+    /// allocation.
     ///
     /// # Errors
     ///
@@ -103,7 +104,7 @@ pub trait Decode<R: Reader>: Sized + Drop {
 
 /// Decoding from octets in memory, for every type that is decoded from a [`SliceReader`].
 pub trait DecodeBytes<'a>: Decode<SliceReader<'a>> {
-    /// Decodes a value from all of the octets under the Distinguished Encoding Rules.
+    /// Decodes a value that takes up all octets of `bytes`, under the Distinguished Encoding Rules.
     ///
     /// # Errors
     ///
@@ -125,7 +126,7 @@ pub trait DecodeBytes<'a>: Decode<SliceReader<'a>> {
         decode_whole(alloc, bytes, EncodingRules::Der)
     }
 
-    /// Decodes a value from all of the octets under the Basic Encoding Rules.
+    /// Decodes a value that takes up all octets of `bytes`, under the Basic Encoding Rules.
     ///
     /// # Errors
     ///
@@ -147,8 +148,8 @@ pub trait DecodeBytes<'a>: Decode<SliceReader<'a>> {
         decode_whole(alloc, bytes, EncodingRules::Ber)
     }
 
-    /// Decodes a value from the start of the octets under the Distinguished Encoding Rules; returns
-    /// it and the octets after it.
+    /// Decodes a value from the start of `bytes` under the Distinguished Encoding Rules. Returns
+    /// the value and the octets after the value.
     ///
     /// # Errors
     ///

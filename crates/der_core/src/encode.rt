@@ -44,7 +44,7 @@ pub trait Encode {
     ///
     /// # Errors
     ///
-    /// - `Overflow` without a position, if an element has more than 4294967295 octets.
+    /// - `Overflow` without a position, if the encoding has more than 4294967295 octets.
     /// - The errors of the type, which the ghost member `size` specifies.
     fn encoded_len(&self) -> Result<Length, Error>
         ensures ok { Counts (encoding self.now) result }
@@ -182,7 +182,7 @@ impl<T: EncodeValue + Tagged> Encode for T {
 /// # Errors
 ///
 /// - Those of [`EncodeValue::value_len`].
-/// - `Overflow` without a position, if there are more than 4294967295 octets.
+/// - `Overflow` without a position, if the element has more than 4294967295 octets.
 #[inline(always)]
 pub fn encoded_len_tlv<T: EncodeValue + Tagged>(value: &T) -> Result<Length, Error>
     ensures ok { Counts (element_octets (T.tag_of value.now) (T.contents value.now)) result }

@@ -37,8 +37,9 @@ pub struct Header {
 impl Header {
     ghost use Rattle.der_core.specs.Header.{header_sans_eoc};
 
-    /// Creates a header with the tag `tag` and the length `length`. Its constructed bit is set if
-    /// that of `tag` is, or if `length` was read in the indefinite form.
+    /// Creates a header with the tag `tag` and the length `length`. The constructed bit of the
+    /// header is set if `tag` has the constructed bit, or if `length` was read in the indefinite
+    /// form.
     pub fn new(tag: Tag, length: Length) -> Self
         ensures { head_of result ≡ head tag length
             ((label tag).constructed || is_indefinite length) }
@@ -51,7 +52,7 @@ impl Header {
         }
     }
 
-    /// The tag.
+    /// The tag of the element.
     pub fn tag(&self) -> Tag
         ensures { result ≡ (head_of self.now).tag }
     {
@@ -96,8 +97,8 @@ impl Header {
     }
 }
 
-/// Decodes a header (X.690 8.1.2, 8.1.3, 10.1) without an allocator. [`Header::decode`] is this
-/// function.
+/// Decodes a header (X.690 8.1.2, 8.1.3, 10.1). Does the same as [`Header::decode`], but takes no
+/// allocator, because decoding a header allocates nothing.
 ///
 /// # Errors
 ///
@@ -223,8 +224,9 @@ impl<R: Reader> Decode<R> for Header {
     /// - `Incomplete` at the end, if an octet is missing at any other position.
     /// - `TagUnknown`, which holds the first octet, at the position after this octet, if no tag
     ///   begins with it.
-    /// - `TagNumberInvalid` at the position after the first octet if this is `0x1F`, or after an
-    ///   octet with which no tag number continues (X.690 8.1.2.4).
+    /// - `TagNumberInvalid` in two cases: at the position after the first octet, if this octet is
+    ///   `0x1F`; and at the position after a later octet, if no tag number continues with that
+    ///   octet (X.690 8.1.2.4).
     /// - `IndefiniteLength` at the position after the first length octet, if this octet is `0x80`
     ///   and the reader uses the Distinguished Encoding Rules. Also at that position, if the reader
     ///   uses the Basic Encoding Rules, the octet is `0x80`, the identifier is primitive, and the
@@ -232,9 +234,9 @@ impl<R: Reader> Decode<R> for Header {
     /// - `NestingDepth` and the other errors of the scan that follows octet `0x80`, as by
     ///   [`decode_indefinite_length`](crate::decode_indefinite_length), under the Basic Encoding
     ///   Rules; the reader is after octet `0x80` and has not failed.
-    /// - `Length`, which holds the tag, at the position after the length octets if fewer length
-    ///   octets would suffice, or after the first length octet if it announces more than four
-    ///   others.
+    /// - `Length`, which holds the tag, in two cases: at the position after the length octets, if
+    ///   fewer length octets would suffice; and at the position after the first length octet, if
+    ///   this octet announces more than four others.
     #[inline(always)]
     fn decode(_alloc: Global, reader: &mut R) -> Result<Header, Error>
         ensures { Decodes HeaderNext (HeaderFault BodyFault) R.reliable (R.state reader.old)
@@ -365,8 +367,9 @@ impl Encode for Header {
     }
 }
 
-/// Compares the tags, then the lengths. The constructed bit of the header, and whether its length
-/// was read in the indefinite form, are ignored. Never fails.
+/// Compares two headers: first the identifier octets of their tags, octet by octet; if the
+/// identifier octets are equal, the lengths as numbers. The constructed bit of the header, and
+/// whether its length was read in the indefinite form, are ignored. Never fails.
 impl DerOrd for Header {
     ghost order = { λ h g. Ok (byte_order
         (header_octets (head_of h).tag (number (head_of h).length))

@@ -16,9 +16,9 @@ ghost use Rattle.der_core.specs.Lawful.{IsDefinite, IsDefiniteHeader, PassesEnco
 use crate::decode::Lawful;
 use std::marker::PhantomData;
 
-/// Does nothing; the contract states that if the next octets of the reader are an identifier, a
-/// tag, a length or a header, decoding it succeeds and returns it. The reader must be reliable (see
-/// [`Reader`](crate::Reader)) and must not have failed.
+/// Does nothing; the contract states that if the next octets of a reader are an identifier, a tag,
+/// a length or a header, decoding that value succeeds and returns it. The reader must be reliable
+/// (see [`Reader`](crate::Reader)) and must not have failed.
 fn next_values_are_decoded()
     ensures identifiers { Accepts IdentifierNext IdentifierFault }
     ensures tags { Accepts TagNext IdentifierFault }
@@ -27,9 +27,9 @@ fn next_values_are_decoded()
 {}
 
 /// Does nothing; the contract states that, under DER, tags, lengths, headers and `PhantomData`
-/// (whose encoding is empty) are read from exactly their encodings. The values meant here are tags with numbers below 2^32,
-/// definite lengths, and headers with definite lengths. For every list of at most 4294967295
-/// octets:
+/// (whose encoding is empty) are read from exactly their encodings. The values meant here are tags
+/// with numbers below 2^32, definite lengths, and headers with definite lengths. For every list of
+/// at most 4294967295 octets:
 ///
 /// - The octets begin with a value exactly if they begin with the encoding of that value.
 /// - The octets are entirely one value exactly if they are the encoding of that value.
@@ -66,9 +66,9 @@ fn lawful_types_read_encodings<T: Lawful>()
     ensures written { ReadsWritten T.tag_is T.takes T.valid T.contents }
 {}
 
-/// Does nothing; the contract states that no encoded element is a proper prefix of another. X.690
-/// 11.6 pads the shorter of two encodings with zero octets to compare them. So this padding never
-/// decides a comparison.
+/// Does nothing; the contract states that no encoded element is a proper prefix of another: two
+/// different encodings differ at a position where both have an octet. To compare two encodings,
+/// X.690 11.6 pads the shorter with zero octets. The padding never decides the comparison.
 fn padding_never_decides()
     ensures apart { NoElementBeginsAnother }
     ensures padded { PaddingNeverDecides }

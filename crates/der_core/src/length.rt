@@ -166,13 +166,14 @@ impl<R: Reader> Decode<R> for Length {
     /// - `Overflow` without a position, if an octet is missing at position 4294967295; the reader
     ///   is there and has not failed.
     /// - `Incomplete` at the end, if an octet is missing at any other position.
-    /// - `IndefiniteLength` at the position after the first octet, if this is `0x80`, under the
-    ///   Distinguished Encoding Rules.
+    /// - `IndefiniteLength` at the position after the first octet, if this octet is `0x80` and the
+    ///   reader uses the Distinguished Encoding Rules.
     /// - `TagUnknown`, `TagNumberInvalid`, `Length`, `NestingDepth` and the other errors of the
     ///   scan that follows octet `0x80`, as by [`decode_indefinite_length`], under the Basic
     ///   Encoding Rules; the reader is after octet `0x80` and has not failed.
-    /// - `Overlength` at the position after the length octets if fewer length octets would suffice,
-    ///   or after the first length octet if it announces more than four others.
+    /// - `Overlength` in two cases: at the position after the length octets, if fewer length octets
+    ///   would suffice; and at the position after the first length octet, if this octet announces
+    ///   more than four others.
     #[inline(always)]
     fn decode(_alloc: Global, reader: &mut R) -> Result<Length, Error>
         ensures { Decodes LengthNext (LengthFault BodyFault Overlength) R.reliable
@@ -184,8 +185,8 @@ impl<R: Reader> Decode<R> for Length {
 
 /// Writes the length in the definite form, in the fewest octets (X.690 8.1.3, 10.1). A length below
 /// 128 is written as one octet. For a greater length, the first octet is 128 plus the number of
-/// base-256 digits of the length; one further write has these digits. Whether the length was read
-/// in the indefinite form is ignored.
+/// base-256 digits of the length; one further write appends all these digits. Whether the length
+/// was read in the indefinite form is ignored.
 ///
 /// # Errors
 ///
@@ -216,8 +217,9 @@ impl Encode for Length {
     }
 }
 
-/// Compares the numbers. The encodings of the lengths (X.690 8.1.3), compared octet by octet, have
-/// the same order. Whether a length was read in the indefinite form is ignored. Never fails.
+/// Compares two lengths as numbers. The encodings of the lengths (X.690 8.1.3), compared octet by
+/// octet, have the same order. Whether a length was read in the indefinite form is ignored. Never
+/// fails.
 impl DerOrd for Length {
     ghost order = { λ l k. Ok (nat_cmp (number l) (number k)) };
 

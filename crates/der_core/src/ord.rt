@@ -47,7 +47,7 @@ pub trait DerOrd {
 
     ghost delimited: { delimits → AreDelimited octets };
 
-    /// Compares this value with `other`. Allocates nothing.
+    /// Compares this value with `other` in the order that [`DerOrd`] describes. Allocates nothing.
     ///
     /// # Errors
     ///

@@ -48,14 +48,15 @@ impl<'a> Octets for &'a [u8] {
 /// reliable reader returns the first of them. A reader that is not reliable may fail at any call;
 /// only its `Ok` results are specified.
 ///
-/// A reader may keep no failed state, which means that it does not remember that it has failed.
-/// Such a reader counts as not failed at all times, even where the list of errors of a function
-/// says that the reader is then failed.
+/// Some readers keep no failed state: they do not remember that they have failed. A reader that
+/// keeps no failed state counts as not failed at all times, even where the list of errors of a
+/// function says that the reader is then failed.
 ///
 /// Ghost members (for proofs only):
 ///
-/// - `state` is the meaning of the reader: input, rules, end, position, depth, failed, and whether
-///   it keeps a failed state; see `specs/ReaderState.antt`.
+/// - `state` is the meaning of the reader: input, rules, end, position, depth, whether the reader
+///   has failed, and whether the reader remembers that it has failed (keeps a failed state); see
+///   `specs/ReaderState.antt`.
 /// - `reliable` says whether the reader is reliable, as described above.
 /// - `reads_slices` says whether the reader can return slices.
 /// - `sound_state` is a property of every state, which implementors prove: the position is not
@@ -64,7 +65,8 @@ impl<'a> Octets for &'a [u8] {
 /// - `reading_slices` is a property that implementors prove: every reliable reader can return
 ///   slices.
 pub trait Reader: Sized + Drop {
-    /// The octets that [`Reader::read_slice`] returns; for a [`SliceReader`] a slice of its input.
+    /// The type of the octets that [`Reader::read_slice`] and [`Reader::remaining`] return. For a
+    /// [`SliceReader`] this type is a slice of the input.
     type Borrowed: Octets;
 
     ghost state: { Self → ReaderState };
@@ -76,8 +78,10 @@ pub trait Reader: Sized + Drop {
     /// Whether the reader can return slices.
     const CAN_READ_SLICE: bool;
 
-    /// Whether the reader can return slices: `Self::CAN_READ_SLICE`. Generic code calls this,
-    /// because it cannot name the constant in a contract.
+    /// Whether the reader can return slices: `Self::CAN_READ_SLICE`. Generic code calls this
+    /// function, because it cannot name the constant in a contract.
+    ///
+    /// The implementor must ensure that the result is `Self::CAN_READ_SLICE`.
     fn can_return_slices() -> bool
         ensures { result ≡ reads_slices };
 
@@ -85,9 +89,9 @@ pub trait Reader: Sized + Drop {
     fn encoding_rules(&self) -> EncodingRules
         ensures { result ≡ (state self.now).rules };
 
-    /// The end up to which the input may be read. Inside a nested part (see
-    /// [`Reader::enter_nested`]) this is the end of that part. Outside all nested parts it is the
-    /// length of the input.
+    /// The end up to which the input may be read, in octets from the start of the input. Inside a
+    /// nested part (see [`Reader::enter_nested`]) this is the end of that part. Outside all nested
+    /// parts it is the length of the input.
     fn input_len(&self) -> Length
         ensures { result ≡ definite_length (state self.now).end };
 
@@ -141,8 +145,8 @@ pub trait Reader: Sized + Drop {
             (map_ok (λ _. buf.new) result) (state self.new) }
         ensures kept { OnErr result (buf.new ≡ buf.old) };
 
-    /// Returns an error of the kind `kind` at the reader's position. Also marks the reader failed,
-    /// if it keeps a failed state.
+    /// Returns an error of the kind `kind` at the reader's position. The reader is then failed,
+    /// unless it keeps no failed state (see [`Reader`]).
     fn error(&mut self, kind: ErrorKind) -> Error
         ensures same { Same (state self.old) (state self.new) }
         ensures at_position { result ≡ error_at kind (reader_position (state self.old)) }
@@ -226,7 +230,8 @@ pub trait Reader: Sized + Drop {
         ensures exact { Meets reliable (drain_outcome amount) (state self.old) result
             (state self.new) };
 
-    /// Ends reading and consumes the reader.
+    /// Ends reading: checks that the reader has not failed and that no octets are left. Consumes
+    /// the reader.
     ///
     /// # Errors
     ///
@@ -238,8 +243,8 @@ pub trait Reader: Sized + Drop {
 
     /// Enters a nested part that consists of the next `len` octets. Returns the reader's end and
     /// depth from before the call, for [`Reader::leave_nested`]. Until the part is left, only its
-    /// octets may be read, and the depth is one greater than before. A failed reader also enters
-    /// the part.
+    /// octets may be read, and the depth is one greater than before. That the reader has failed is
+    /// no error here: a failed reader enters the part too.
     ///
     /// # Errors
     ///
@@ -257,8 +262,8 @@ pub trait Reader: Sized + Drop {
     /// Leaves a nested part: restores the reader's end and depth to those in `resumption`.
     ///
     /// The caller must ensure that the end in `resumption` is neither before the position nor after
-    /// the end of the input, and that the depth in it is at most 64. What [`Reader::enter_nested`]
-    /// returned satisfies this.
+    /// the end of the input, and that the depth in `resumption` is at most 64. What
+    /// [`Reader::enter_nested`] returned for this part satisfies both conditions.
     fn leave_nested(&mut self, resumption: Resumption)
         requires { CanLeave (state self.old) (outer_end resumption) (outer_depth resumption) }
         ensures { state self.new ≡ resumed_state (state self.old) (outer_end resumption)

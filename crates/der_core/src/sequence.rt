@@ -1,4 +1,4 @@
-//! Types that consist of fields in sequence.
+//! Types whose values are built from fields that are decoded one after the other.
 ghost use Rattle.std.specs.Prelude.{◌≡◌, ◌+◌, ◌≤◌, true};
 ghost use Rattle.der_core.specs.DecodeValue.{ContentsNext, EndsOrLacks, TakesContents};
 ghost use Rattle.der_core.specs.Fields.{TakesWhole};
@@ -25,7 +25,7 @@ pub trait FromFields<F>: Sized + Drop {
 
 /// Decodes the fields `F` from the start of the contents that the reader is inside, one field after
 /// the other, and builds the value from them. Ignores `header`. If octets are left after the
-/// fields, it leaves them unread and returns `Ok`; the caller must report them, as
+/// fields, the function leaves them unread and returns `Ok`; the caller must report them, as
 /// [`decode_tlv`](crate::decode_tlv) does.
 ///
 /// This function has the contract of

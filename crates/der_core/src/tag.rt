@@ -296,8 +296,9 @@ impl<R: Reader> Decode<R> for Tag {
     /// - `Incomplete` at the end, if an octet is missing at any other position.
     /// - `TagUnknown`, which holds the first octet, at the position after this octet, if no tag
     ///   begins with it.
-    /// - `TagNumberInvalid` at the position after the first octet if this is `0x1F`, or after an
-    ///   octet with which no tag number continues (X.690 8.1.2.4).
+    /// - `TagNumberInvalid` in two cases: at the position after the first octet, if this octet is
+    ///   `0x1F`; and at the position after a later octet, if no tag number continues with that
+    ///   octet (X.690 8.1.2.4).
     #[inline(always)]
     fn decode(_alloc: Global, reader: &mut R) -> Result<Tag, Error>
         ensures { Decodes TagNext IdentifierFault R.reliable (R.state reader.old) result
@@ -371,8 +372,8 @@ fn encode_high_digits<W: Writer>(number: u32, writer: &mut W) -> Result<(), Erro
     writer.write_byte(128 + (number % 128) as u8)
 }
 
-/// Compares the identifier octets (X.690 8.1.2). This order differs from that of the tag numbers,
-/// and from the `Ord` of tags. Never fails.
+/// Compares the identifier octets of two tags, octet by octet (X.690 8.1.2). This order differs
+/// from that of the tag numbers, and from the `Ord` of tags. Never fails.
 impl DerOrd for Tag {
     ghost order = { λ t u. Ok (byte_order (tag_octets t) (tag_octets u)) };
 

@@ -1,7 +1,8 @@
 //! Calls that allocate with the global allocator, one after the other. For each call a line with
-//! its result is printed: the value that it returns, or, if an allocation failed, that it failed
-//! and that everything else is as the documentation of the function says. `.ci/refused_memory` runs
-//! this program many times, and in each run one of the allocations fails.
+//! its result is printed. If no allocation failed, the line has the value that the call returns. If
+//! an allocation failed, the line has `out of memory`, but only if the call left the reader or the
+//! vector as the documentation of the function says. `.ci/refused_memory` runs this program many
+//! times, and in each run one of the allocations fails.
 use der::example::{BorrowedOctets, JoinedOctets, MyByteMonth, OwnedText};
 use der::{
     BytesCow, BytesOwned, BytesRef, Decode, DecodeValue, Encode, EncodingRules, Error, ErrorKind,

@@ -1,4 +1,4 @@
-//! Values that are decoded from slices without allocating.
+//! Calls that decode values from slices without allocating.
 use crate::print::print_result;
 use der::example::{BorrowedOctets, MyByteMonth};
 use der::{

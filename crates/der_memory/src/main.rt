@@ -1,8 +1,9 @@
-//! Groups of calls that allocate nothing; then a line `allocating`; then calls that allocate. For
-//! each call a line with its result is printed. Before the line `allocating`, memory is allocated
-//! only to prepare for calls, and each time the next line printed is `prepared`.
-//! `.ci/refused_memory` counts the requests for memory. For each request after the line
-//! `allocating` it runs the program once and makes this request fail.
+//! A program that prints a line with the result of each of its calls. The program makes calls that
+//! allocate nothing, prints a line `allocating`, and then makes calls that allocate. Before the
+//! line `allocating`, memory is allocated only to prepare for calls; after each such preparation
+//! the program prints a line `prepared`. `.ci/refused_memory` counts the requests for memory. For
+//! each request after the line `allocating` the script runs the program once and makes that request
+//! fail.
 #![tactic(auto)]
 
 mod allocating;

@@ -1,4 +1,4 @@
-//! Readers of slices, without `read_vec`, and their positions.
+//! Calls of readers over slices, except `read_vec`, and calls of `Position` and `Turns`.
 ghost use Rattle.std.specs.Prelude.{◌≡◌, IfOk};
 ghost use Rattle.der.specs.Prelude.{Ber, slice_state};
 

@@ -1,4 +1,4 @@
-//! Errors of calls that may allocate, but that allocate nothing before these errors.
+//! Calls of functions that can allocate. Each of these calls fails before it allocates.
 use crate::print::print_result;
 use crate::zeros::Zeros;
 use der::example::OwnedText;

@@ -1,4 +1,5 @@
-//! Byte strings and texts, borrowed, and in memory that was allocated before.
+//! Calls with byte strings and texts that are borrowed, or that own memory allocated before the
+//! calls.
 use crate::print::{print_result, print_text, print_value};
 use der::{BytesOwned, BytesRef, Encode, Error, Length, StringOwned, StringRef, box_to_ref};
 use std::alloc::Global;

@@ -1,4 +1,5 @@
-//! Values and their texts.
+//! Calls of the types in `der_base`: lengths, tags, classes, tagging modes, encoding rules and
+//! errors.
 use crate::print::{print_result, print_text, print_value};
 use der::{Class, EncodingRules, Error, ErrorKind, Length, Tag, TagMode, TagNumber};
 use std::io;

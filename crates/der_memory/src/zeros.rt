@@ -1,4 +1,4 @@
-//! A type with contents of any length.
+//! A type with contents of any length, for calls that fail to write.
 ghost use Rattle.std.specs.Prelude.{◌≡◌, Ok, Err, replicate};
 ghost use Rattle.der.specs.Prelude.{definite_length, error_of_kind, OctetString};
 ghost use Rattle.der.specs.ErrorKinds.{Overlength};

@@ -36,8 +36,8 @@ pub fn write_certificate(
     write_warnings(text, certificate, offsets)
 }
 
-/// Checks two rules that decoding does not check, and writes a warning line for each one that the
-/// certificate breaks.
+/// Writes the warning lines of a certificate. Checks two rules that decoding does not check, and
+/// writes one line for each rule that the certificate breaks.
 fn write_warnings(
     text: &mut String,
     certificate: &Certificate<'_>,

@@ -7,12 +7,12 @@ use std::alloc::AllocError;
 use std::fmt::Write;
 use std::str;
 
-/// If contents are not text, at most this number of their octets is printed.
+/// The greatest number of octets that [`write_first_octets`] writes.
 const SHOWN_OCTETS: usize = 32;
 
 /// Writes the contents of an element with the tag `tag`:
 ///
-/// - for an object identifier, its name, if known, and its arcs (the numbers it consists of);
+/// - for a valid object identifier, its name, if known, and its arcs (the numbers it consists of);
 /// - for a string or a time that [`shown_text`] accepts, its text, unchanged;
 /// - for anything else, the first 32 octets in hexadecimal, and `..` if there are more.
 pub fn write_contents(text: &mut String, tag: Tag, contents: &[u8]) -> Result<(), AllocError> {

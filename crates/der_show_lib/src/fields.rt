@@ -14,10 +14,10 @@ use spki::SubjectPublicKeyInfoRef;
 use std::alloc::Global;
 use x509::{CertReq, Certificate};
 
-/// Decodes the octets as the type `shape`, and writes one line per field. If they do not decode,
-/// writes instead one line with the path of the innermost field that fails to decode, and returns
-/// the error of this field. `has_offsets` says whether the line of a field begins with the offset
-/// of its element.
+/// Decodes the octets as the type `shape`, and writes one line per field. If the octets do not
+/// decode, writes one line with the path of the innermost field that fails to decode, and returns
+/// the error of this field. Fails with `OutOfMemory` if an allocation fails. `has_offsets` says
+/// whether the line of a field begins with the offset of its element.
 pub fn write_fields(
     alloc: Global,
     text: &mut String,
@@ -32,8 +32,8 @@ pub fn write_fields(
     }
 }
 
-/// Decodes the octets as the type `shape`, and writes one line per field. If they do not decode,
-/// writes nothing and returns the error.
+/// Decodes the octets as the type `shape`, and writes one line per field. If the octets do not
+/// decode, writes nothing and returns the error.
 fn write_accepted(
     alloc: Global,
     text: &mut String,

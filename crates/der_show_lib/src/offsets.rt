@@ -16,8 +16,8 @@ pub struct Offsets<'a> {
 }
 
 impl<'a> Offsets<'a> {
-    /// A walk that starts before the first element of `octets`. `is_shown` says whether it writes
-    /// offsets.
+    /// A walk that starts before the first element of `octets`. `is_shown` says whether the walk
+    /// writes offsets. Fails if there are more than 4294967295 octets.
     pub fn new(octets: &'a [u8], is_shown: bool) -> Result<Self, Error> {
         let reader = SliceReader::new(octets)?;
         Ok(Offsets { reader, is_shown })
@@ -31,7 +31,8 @@ impl<'a> Offsets<'a> {
         }
     }
 
-    /// Moves past the header of the next element. The first element inside it is then the next one.
+    /// Moves past the header of the next element. The next element is then the first element inside
+    /// the contents that follow this header.
     pub fn enter(&mut self) {
         let _header = decode_header(&mut self.reader);
     }

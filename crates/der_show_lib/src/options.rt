@@ -2,7 +2,7 @@
 
 use der::EncodingRules;
 
-/// The options of the command line.
+/// The options of the command line: how to read the octets, and how to print them.
 #[derive(Clone, Copy)]
 pub struct Options {
     /// The encoding rules of the octets: BER if the option `--ber` is given, and DER if it is not.

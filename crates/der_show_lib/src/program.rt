@@ -13,12 +13,12 @@ use std::{fs, io};
 const USAGE: &str = "usage: der_show [--offsets] [--tree] [--ber] [FILE]\n";
 
 /// Runs the program with the arguments `given`, of which the first one is the name of the program.
-/// Reads the file that the other arguments name, or standard input if they name no file. Prints the
-/// fields or the elements of what was read to `out`, and returns the exit status:
+/// Reads the file that the other arguments name, or standard input if none of them names a file.
+/// Prints the fields or the elements of what was read to `out`, and returns the exit status:
 ///
 /// - 0 on success;
-/// - 1 if the input cannot be read, if its octets are not accepted, if an allocation fails, or if
-///   writing to `out` fails;
+/// - 1 if the input cannot be read, if its octets are not accepted, if an allocation fails, or in
+///   any case if writing to `out` fails;
 /// - 2 if `given` is an error, or if the arguments after the program's name are not a command. In
 ///   both cases the usage is printed.
 pub fn run_show<R: Files + Input + AllocGlobal, W: Write>(
@@ -67,7 +67,8 @@ fn read_octets<R: Files + Input + AllocGlobal>(rt: &R, file: Option<&str>) -> io
 }
 
 /// Returns the text to print for `octets`, and the exit status. The status is 0 if the octets are
-/// accepted. Otherwise it is 1, and the text ends with an error line. Fails if an allocation fails.
+/// accepted. If they are not accepted, the status is 1, and the text ends with an error line. Fails
+/// if an allocation fails.
 fn view(alloc: Global, octets: &[u8], options: Options) -> Result<(String, u8), AllocError> {
     let mut text = String::new(alloc);
     match write_view(alloc, &mut text, octets, options) {

@@ -11,8 +11,9 @@ use der::Error;
 use std::alloc::{AllocError, Global};
 use std::fmt::Write;
 
-/// Reports `octets`, which failed to decode as the type `shape` with `error`. Searches for the
-/// innermost field that fails, and writes a line with its path and offset. Always fails:
+/// Reports why `octets` failed to decode as the type `shape`; `error` is the error of decoding
+/// them. Searches for the innermost field that fails, and writes a line with the path and the
+/// offset of this field. Always fails:
 ///
 /// - with the error of the innermost field that fails;
 /// - with `error` if no field fails;

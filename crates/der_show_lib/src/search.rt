@@ -11,13 +11,15 @@ pub struct Search<'a> {
     alloc: Global,
     // At the next field.
     reader: SliceReader<'a>,
-    /// The error of the innermost failing field found so far. Its position is counted from the
-    /// start of the whole input.
+    /// The error of the innermost failing field found so far, or the error passed to
+    /// [`Search::new`] if no field has failed yet. When the search ends, the position of the error
+    /// is counted from the start of the whole input.
     pub error: Error,
     /// The path of the innermost failing field found so far: the names of the fields around it and
     /// its own name, separated by dots. An item of a list is written as its index, from `[0]` on.
     pub path: String,
-    /// The offset in the input of the innermost failing field found so far.
+    /// The offset in the input of the innermost failing field found so far, or 0 if no field has
+    /// failed yet.
     pub start: u32,
     /// Whether an allocation failed, so that the path is not complete.
     pub lacks_memory: bool,
@@ -73,10 +75,10 @@ impl<'a> Search<'a> {
     /// contents of the SET OF. If a member fails, the walk stays at the first one that does, keeps
     /// its error and its offset, and adds its index to the path.
     ///
-    /// If no member fails, the SET OF was refused because its members are out of order.
-    /// `self.error` is then the error for this, with a position counted from the start of the
-    /// contents. This function changes the position, so that it is counted from the start of the
-    /// input.
+    /// The SET OF must have failed to decode, with the error `self.error`. If no member fails, the
+    /// members are out of order, and the position of `self.error` is counted from the start of the
+    /// contents of the SET OF. This function then replaces the position by the one that is counted
+    /// from the start of the input.
     pub fn is_member_refused<T: Decode<SliceReader<'a>, Error = Error>>(&mut self) -> bool {
         let order = self.error_from_here();
         if self.is_item_refused::<T>() {

@@ -3,22 +3,22 @@
 use crate::element::PlacedElement;
 use der::{EncodingRules, Error, Length, Tag, TagNumber};
 
-/// The type that octets are expected to have. They may still fail to decode as this type.
+/// The type that octets are expected to have. The octets may still fail to decode as this type.
 #[derive(Clone, Copy)]
 pub enum Shape {
     /// A certificate (RFC 5280, 4.1).
     Certificate,
-    /// A request for a certificate (RFC 2986, 4).
+    /// A request for a certificate: a CertificationRequest (RFC 2986, 4).
     Request,
-    /// A public key (RFC 5280, 4.1).
+    /// A public key: a SubjectPublicKeyInfo (RFC 5280, 4.1).
     PublicKey,
-    /// A private key (RFC 5208, 5; RFC 5958, 2).
+    /// A private key: a PrivateKeyInfo (RFC 5208, 5) or a OneAsymmetricKey (RFC 5958, 2).
     PrivateKey,
 }
 
-/// The type that `octets` are expected to have, or `None` if it is none of the types below. The
-/// type follows from the tags of the elements in the SEQUENCE that the octets begin with. An
-/// *algorithm* is a SEQUENCE that begins with an OBJECT IDENTIFIER.
+/// The type that `octets` are expected to have, judged by the tags of the elements in the SEQUENCE
+/// that the octets begin with. `None` if these elements match none of the types below, or if one of
+/// them cannot be read. An *algorithm* is a SEQUENCE that begins with an OBJECT IDENTIFIER.
 ///
 /// - A public key: an algorithm and a BIT STRING.
 /// - A private key: an INTEGER, an algorithm and an OCTET STRING.
@@ -58,9 +58,9 @@ fn find_shape(octets: &[u8]) -> Result<Option<Shape>, Error> {
     }
 }
 
-/// Whether the element `signed` is expected to be the signed part of a certificate or of a request,
-/// judged by the elements inside `signed`. `None` if it is neither. `octets` are the whole input.
-/// Fails if an element that this depends on cannot be read.
+/// The type whose signed part `signed` is expected to be, a certificate or a request, judged by the
+/// elements inside `signed`. `None` if these elements match neither type. `octets` are the whole
+/// input. Fails if an element that the result depends on cannot be read.
 fn find_signed_shape(octets: &[u8], signed: &PlacedElement<'_>) -> Result<Option<Shape>, Error> {
     let first = first_in(octets, signed)?;
     if first.header.tag() == context_tag() {
@@ -97,8 +97,8 @@ fn first_in<'a>(octets: &'a [u8], whole: &PlacedElement<'a>) -> Result<PlacedEle
 }
 
 /// Reads the element that follows `previous` in the contents of the element `whole`. `previous`
-/// must be in these contents; the call fails if it is the last element there. `octets` are the
-/// whole input.
+/// must be in these contents. `octets` are the whole input. Fails if `previous` is the last element
+/// of the contents, or if the element after `previous` cannot be read.
 fn next_in<'a>(
     octets: &'a [u8],
     whole: &PlacedElement<'a>,

@@ -65,8 +65,8 @@ fn climb(around: &mut Vec<Part>, mut position: u32) -> u32 {
     position
 }
 
-/// `around` holds the elements that enclose the next one, the innermost last. Adds `element`, which
-/// must be constructed.
+/// Adds `element`, which must be constructed, to `around`. `around` holds the elements that enclose
+/// the next element of the walk, the innermost last.
 ///
 /// Fails with:
 ///
@@ -87,8 +87,8 @@ fn enter(around: &mut Vec<Part>, element: &PlacedElement<'_>) -> Result<(), Fail
     }
 }
 
-/// Writes the line of an element in the words of `openssl asn1parse`. `depth` is the number of
-/// elements that enclose it.
+/// Writes the line of `element` in the words of `openssl asn1parse`. `depth` is the number of
+/// elements that enclose `element`.
 fn write_line(
     text: &mut String,
     element: &PlacedElement<'_>,

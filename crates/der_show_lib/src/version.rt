@@ -3,8 +3,8 @@
 use std::alloc::AllocError;
 use std::fmt::Write;
 
-/// Writes a line with the number of a version. `octets` are the contents of the version's INTEGER,
-/// whose first octet must be this number minus 1. Writes nothing if there are no octets.
+/// Writes a line with a version number. `octets` are the contents of the version's INTEGER; their
+/// first octet must be the version number minus 1. Writes nothing if there are no octets.
 pub fn write_version(text: &mut String, octets: &[u8]) -> Result<(), AllocError> {
     let [version, ..] = octets else {
         return Ok(());

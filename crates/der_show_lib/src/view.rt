@@ -13,6 +13,9 @@ use std::alloc::Global;
 /// Writes the fields, or the field that fails to decode, if all three conditions hold: the octets
 /// are expected to be a certificate, a request or a key (see [`shape_of`]); they are read under
 /// DER; and the option `is_tree` is false. Writes the elements in all other cases.
+///
+/// Fails with an error of decoding, if the octets are not accepted, and with `OutOfMemory`, if an
+/// allocation fails.
 pub fn write_view(
     alloc: Global,
     text: &mut String,

@@ -8,15 +8,16 @@ use std::alloc::{AllocError, Allocator};
 /// What the program prints for a command line, and how it ends.
 #[derive(Drop)]
 pub enum Answer<A: Allocator> {
-    /// The command succeeded. This text is printed: the lines that describe a header, or one line
-    /// with an element, an order or joined octets.
+    /// The command succeeded. The field is the printed text: the lines that describe a header, or
+    /// one line with an element, an order or joined octets.
     Printed(String<A>),
     /// The octets are not accepted, or the command `join` could not allocate memory for the joined
-    /// segments. This line is printed, and states the reason.
+    /// segments. The field is the printed line, which states the reason.
     Refused(String<A>),
-    /// Another allocation failed. The line `error: out of memory` is printed.
+    /// An allocation failed, other than that of the command `join` for the joined segments. The
+    /// line `error: out of memory` is printed.
     OutOfMemory,
-    /// The words of the command line are not a command. The usage is printed.
+    /// The words of the command line are not a command. The usage of the program is printed.
     Usage,
 }
 

@@ -11,16 +11,17 @@ use std::env::Args;
 use std::io;
 
 /// Runs the program on the arguments `given`, prints the answer to `out`, and returns the exit
-/// status. The first argument is the name of the program; the others are the words of a command.
-/// The status is:
+/// status. The first argument is the name of the program; the other arguments are the words of a
+/// command. If the output fails, the status is 1, and what `out` has received is unspecified. If
+/// the output does not fail, the status is:
 ///
-/// - 0 if the command succeeded and its result was printed;
-/// - 1 if the octets are not accepted, an allocation failed, or the output failed;
-/// - 2 if the words are not a command and the usage was printed.
+/// - 0 if the command succeeded;
+/// - 1 if the octets are not accepted or an allocation failed;
+/// - 2 if the words are not a command.
 ///
-/// If `given` is an error of the kind `InvalidData`, an argument is not text. Then the words are
-/// not a command, so the usage is printed. If `given` is any other error, an allocation failed, so
-/// `error: out of memory` is printed.
+/// If `given` is an error of the kind `InvalidData`, an argument is not text; the usage is printed,
+/// as for words that are not a command. If `given` is any other error, an allocation failed; the
+/// line `error: out of memory` is printed.
 pub fn run_tool<W: Output>(alloc: Global, given: io::Result<Args>, out: &mut W) -> u8
     ensures answers { (result ≡ 1)
         ⊎ WritesToArguments given result (W.contents out.old) (W.contents out.new) }

@@ -13,18 +13,18 @@ pub enum ToolCommand<'a> {
     /// `tlv [--ber] HEX`: prints the whole element at the start of the octets that `hex` spells.
     /// The rules are BER if `--ber` is present, and DER if it is absent.
     Tlv { rules: EncodingRules, hex: &'a str },
-    /// `order HEX HEX`: prints the order of two whole elements under DER, which `first` and
-    /// `second` spell. It is the lexicographic order of their encodings.
+    /// `order HEX HEX`: prints how two whole elements under DER, which `first` and `second` spell,
+    /// compare in the lexicographic order of their encodings.
     Order { first: &'a str, second: &'a str },
-    /// `join HEX`: prints the octets of the OCTET STRING that `hex` spells under BER. If they are
-    /// in segments, the segments are joined.
+    /// `join HEX`: prints the octets of the OCTET STRING that `hex` spells under BER. If the OCTET
+    /// STRING is in segments, prints the joined segments.
     Join { hex: &'a str },
 }
 
 impl<'a> ToolCommand<'a> {
     ghost use Rattle.der_tool_lib.specs.ToolCommand.{words_of, words_under, order_words, join_words, two, three, SpellsOctets};
 
-    /// The command that these words request, or `None` if they are not a command.
+    /// The command that `words` request, or `None` if `words` are not a command.
     pub fn parse(words: &'a [String]) -> Option<Self>
         ensures found { IsSome result ↔ IsCommand (texts words.now) }
         ensures words { IfSome result (λ c. texts words.now ≡ words_of c) }
@@ -37,7 +37,8 @@ impl<'a> ToolCommand<'a> {
         }
     }
 
-    /// The command that the words `name` and `hex` request, or `None` if they are not a command.
+    /// The command that the two words `name` and `hex` request, or `None` if the two words are not
+    /// a command.
     fn of_two(name: &str, hex: &'a str) -> Option<Self>
         ensures found { IsSome result ↔ IsCommand (two name.now hex.now) }
         ensures words { IfSome result (λ c. two name.now hex.now ≡ words_of c) }
@@ -50,7 +51,8 @@ impl<'a> ToolCommand<'a> {
         }
     }
 
-    /// The command that these three words request, or `None` if they are not a command.
+    /// The command that the words `first`, `second` and `third` request, or `None` if the three
+    /// words are not a command.
     fn of_three(first: &'a str, second: &'a str, third: &'a str) -> Option<Self>
         ensures found { IsSome result ↔ IsCommand (three first.now second.now third.now) }
         ensures words { IfSome result (λ c. three first.now second.now third.now ≡ words_of c) }
@@ -108,7 +110,7 @@ impl<'a> ToolCommand<'a> {
     }
 }
 
-/// Whether the text consists of hexadecimal digits, and their number is even.
+/// Whether `text` consists of an even number of hexadecimal digits; true if `text` is empty.
 fn is_hex(text: &str) -> bool
     ensures { IsTrue result ↔ IsHex text.now }
 {

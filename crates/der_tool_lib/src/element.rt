@@ -14,7 +14,7 @@ use der::{
 };
 use std::cmp::Ordering;
 
-/// An element of any tag: its tag and its contents (X.690 8.1.1).
+/// An element of any tag under DER: the tag and the contents (X.690 8.1.1).
 #[derive(Clone, Copy)]
 pub struct Element<'a> {
     tag: Tag,
@@ -26,14 +26,13 @@ impl<'a> Element<'a> {
     ///
     /// # Errors
     ///
-    /// - `Overflow` without a position, if there are more than 4294967295 octets.
+    /// - `Overflow` without a position, if `octets` are more than 4294967295 octets.
     /// - `Incomplete`, `Overflow`, `TagUnknown`, `TagNumberInvalid`, `IndefiniteLength` and
     ///   `Length`, if the header is not accepted, as by [`decode_header`].
-    /// - `Overflow` without a position, if the lengths of the header and of the contents add up to
-    ///   more than 4294967295.
-    /// - `Incomplete` at the end of `octets`, if the contents are truncated, and that sum does not
-    ///   exceed 4294967295.
-    /// - `TrailingData` at the end of the contents, if octets are left after them.
+    /// - `Overflow` without a position, if the contents would end after position 4294967295.
+    /// - `Incomplete` at the end of `octets`, if the contents would end after the end of `octets`,
+    ///   but not after position 4294967295.
+    /// - `TrailingData` at the end of the contents, if octets are left after the contents.
     pub fn from_octets(octets: &'a [u8]) -> Result<Self, Error>
         ensures whole { IfOk result (λ e. IsWholeElement octets.now) }
         ensures ok { IfOk result (λ e. element_octets e.tag (contents_of e) ≡ octets.now) }

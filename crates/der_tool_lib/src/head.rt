@@ -23,7 +23,8 @@ pub fn answer_head<A: Allocator + Copy>(
     }
 }
 
-/// Reads the header at the start of `octets`. Returns this header, and the octets after it.
+/// Reads the header at the start of `octets`. Returns this header, and the octets after this
+/// header.
 fn read_head(rules: EncodingRules, octets: &[u8]) -> Result<(Header, &[u8]), Error>
     ensures ok { IfOk result (λ p. IsHeaderRead rules octets.now (head_of p.0) p.1.now) }
     ensures err { IfErr result (IsRefusedFor rules octets.now) }
@@ -35,7 +36,7 @@ fn read_head(rules: EncodingRules, octets: &[u8]) -> Result<(Header, &[u8]), Err
 }
 
 /// The four lines that `head` prints: one each for the tag, the constructed bit, the length, and
-/// `rest`, the octets after the header.
+/// `rest`, the octets after the header. Fails if an allocation fails.
 fn header_lines<A: Allocator + Copy>(
     alloc: A,
     header: &Header,
@@ -59,15 +60,16 @@ fn yes_or_no(answer: bool) -> &'static str
     if answer { "yes" } else { "no" }
 }
 
-/// The text that `head` prints directly after a length. It is ` indefinite` if `indefinite` is
-/// true: the length was read in the indefinite form. It is the empty text if `indefinite` is false.
+/// The text that `head` prints directly after a length. The text is ` indefinite` if `indefinite`
+/// is true: the length was read in the indefinite form. The text is empty if `indefinite` is false.
 fn indefinite_suffix(indefinite: bool) -> &'static str
     ensures { result.now ≡ text.indefinite_suffix indefinite }
 {
     if indefinite { " indefinite" } else { "" }
 }
 
-/// The octets in lower-case hexadecimal, or a dash if there are none. Fails if an allocation fails.
+/// The octets in lower-case hexadecimal, or a dash if there are no octets. Fails if an allocation
+/// fails.
 pub fn octets_text<A: Allocator>(alloc: A, octets: &[u8]) -> Result<String<A>, AllocError>
     ensures { IfOk result (λ s. string_bytes s ≡ text.octets_text octets.now) }
 {

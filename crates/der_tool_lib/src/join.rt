@@ -10,10 +10,10 @@ use der::example::JoinedOctets;
 use der::{DecodeBytes, Error};
 use std::alloc::{AllocError, Allocator, Global};
 
-/// The answer to the command `join`. If `octets` are exactly one OCTET STRING under BER, it is a
-/// line with the joined segments. If they are not, it is an error line. The segments are joined in
-/// memory of `global`; if that memory cannot be allocated, the answer is also an error line. Fails
-/// if an allocation with `alloc` fails.
+/// The answer to the command `join`. If `octets` are exactly one OCTET STRING under BER, the answer
+/// is a line with the joined segments. If `octets` are anything else, the answer is an error line.
+/// The segments are joined in memory of `global`; if an allocation with `global` fails, the answer
+/// is also an error line. Fails if an allocation with `alloc` fails.
 pub fn answer_join<A: Allocator + Copy>(
     global: Global,
     alloc: A,
@@ -27,7 +27,8 @@ pub fn answer_join<A: Allocator + Copy>(
     }
 }
 
-/// Reads the octets as exactly one OCTET STRING under BER, and returns its joined segments.
+/// Reads `octets` as exactly one OCTET STRING under BER, and returns its contents, with all
+/// segments joined.
 fn read_joined(global: Global, octets: &[u8]) -> Result<JoinedOctets, Error>
     ensures ok { IfOk result (λ j. IsJoined octets.now (joined_octets j)) }
     ensures err { IfErr result (NotJoined octets.now) }
@@ -35,7 +36,8 @@ fn read_joined(global: Global, octets: &[u8]) -> Result<JoinedOctets, Error>
     JoinedOctets::from_ber(global, octets)
 }
 
-/// A line with the octets in lower-case hexadecimal, or with a dash if there are none.
+/// A line with the octets in lower-case hexadecimal, or with a dash if there are no octets. Fails
+/// if an allocation fails.
 fn octets_line<A: Allocator + Copy>(alloc: A, octets: &[u8]) -> Result<String<A>, AllocError>
     ensures { IfOk result (λ s. string_bytes s ≡ text.octets_line octets.now) }
 {

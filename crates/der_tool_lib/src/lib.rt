@@ -1,4 +1,4 @@
-//! The commands of the program `der_tool`. Each reads octets that are given in hexadecimal:
+//! The commands of the program `der_tool`. Each command reads octets that are given in hexadecimal:
 //!
 //! - `head` prints the header at the start of DER or BER octets;
 //! - `tlv` prints the whole element at the start of DER or BER octets;

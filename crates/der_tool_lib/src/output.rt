@@ -4,7 +4,8 @@ ghost use Rattle.std.specs.Io.KnownBytes.{Appends};
 
 use std::io;
 
-/// An output of the program: it writes a whole text, or fails. Every `io::Write` is an `Output`.
+/// An output that the program prints to. An output writes a whole text, or fails. Every `io::Write`
+/// is an `Output`.
 pub trait Output {
     // The octets that were written, where they are known.
     ghost contents: { Self → Option (List ℕ) };

@@ -16,12 +16,13 @@ use hex::FromHexError;
 use std::alloc::{AllocError, Allocator, Global};
 use std::io;
 
-/// Runs the command that `words` request, prints its result to `out`, and returns the exit status.
-/// If the output fails, what `out` has received is unspecified. The status is:
+/// Runs the command that `words` request, prints the answer to `out`, and returns the exit status.
+/// If the output fails, the status is 1, and what `out` has received is unspecified. If the output
+/// does not fail, the status is:
 ///
-/// - 0 if the command succeeded and its result was printed;
-/// - 1 if the octets are not accepted, an allocation failed, or the output failed;
-/// - 2 if the words are not a command and the usage was printed.
+/// - 0 if the command succeeded;
+/// - 1 if the octets are not accepted or an allocation failed;
+/// - 2 if the words are not a command; the usage is printed.
 pub fn run<W: Output>(alloc: Global, words: &[String], out: &mut W) -> u8
     ensures answers { (result ≡ 1)
         ⊎ WritesAnswer (texts words.now) result (W.contents out.old) (W.contents out.new) }
@@ -31,8 +32,9 @@ pub fn run<W: Output>(alloc: Global, words: &[String], out: &mut W) -> u8
     respond(alloc, alloc, words, out).unwrap_or(1)
 }
 
-/// Runs the command that `words` request, prints its result to `out`, and returns the exit status.
-/// Fails only if the output fails. Makes all its allocations before it calls `out`.
+/// Runs the command that `words` request, prints the answer to `out`, and returns the exit status:
+/// 0, 1 or 2, as by [`run`]. Fails only if the output fails. Makes all allocations before the first
+/// call of `out`.
 ///
 /// Octets and lines are allocated with `alloc`, so that a test can make their allocation fail.
 /// Segments are joined in memory of `global`, because the library joins them only there.
@@ -61,8 +63,8 @@ pub fn say<A: Allocator, W: Output>(answer: &Answer<A>, out: &mut W) -> io::Resu
     Ok(answer.status())
 }
 
-/// The answer to `words`: the result of the command that they request, or the usage if they are not
-/// a command. If an allocation with `alloc` fails, the answer is [`Answer::OutOfMemory`].
+/// The answer to `words`: the result of the command that they request, or the usage if `words` are
+/// not a command. If an allocation with `alloc` fails, the answer is [`Answer::OutOfMemory`].
 fn answer<A: Allocator + Copy>(global: Global, alloc: A, words: &[String]) -> Answer<A>
     ensures { Answers (texts words.now) (status_of result) (text_of result) }
 {
@@ -73,7 +75,7 @@ fn answer<A: Allocator + Copy>(global: Global, alloc: A, words: &[String]) -> An
 }
 
 /// The answer to `command`. Each text in `command` must consist of an even number of hexadecimal
-/// digits. Fails only if an allocation fails.
+/// digits. Fails only if an allocation with `alloc` fails.
 fn fulfil<A: Allocator + Copy>(
     global: Global,
     alloc: A,

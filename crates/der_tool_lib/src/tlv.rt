@@ -22,8 +22,8 @@ pub fn answer_tlv<A: Allocator + Copy>(
     }
 }
 
-/// Reads the element at the start of `octets`, and returns all of its octets: those of its header
-/// and of its contents.
+/// Reads the element at the start of `octets`, and returns all octets of the element: the header,
+/// the contents and, after an indefinite length, the two end-of-contents octets.
 fn read_element(rules: EncodingRules, octets: &[u8]) -> Result<&[u8], Error>
     ensures ok { IfOk result (λ e. IsFirstElement rules octets.now e.now) }
     ensures err { IfErr result (NoElement rules octets.now) }
@@ -32,7 +32,7 @@ fn read_element(rules: EncodingRules, octets: &[u8]) -> Result<&[u8], Error>
     reader.tlv_bytes()
 }
 
-/// A line with the octets of an element in lower-case hexadecimal.
+/// A line with the octets of an element in lower-case hexadecimal. Fails if an allocation fails.
 fn element_line<A: Allocator + Copy>(alloc: A, element: &[u8]) -> Result<String<A>, AllocError>
     ensures { IfOk result (λ s. string_bytes s ≡ text.element_line element.now) }
 {

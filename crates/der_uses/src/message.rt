@@ -20,8 +20,8 @@ pub fn first_message(octets: &[u8]) -> Result<(Header, &[u8]), Error>
 }
 
 /// The number of octets of the indefinite-length contents at the front of `octets`, end-of-contents
-/// octets included. For n octets, whatever they are, the scan adds at most n/2 + 1 to `turns`, a
-/// counter that exists only in contracts (see [`Turns`]).
+/// octets included. If `octets` has n octets, the scan adds at most n/2 + 1 to `turns`, a counter
+/// that exists only in contracts (see [`Turns`]).
 pub fn indefinite_len<L: Ledger>(octets: &[u8], turns: &mut Turns<L>) -> Result<Length, Error>
     ensures { turns.new ≤ turns.old + (length octets.now / 2 + 1) }
 {

@@ -28,7 +28,7 @@ impl<'a> CopyingReader<'a> {
 
     /// A reader that continues at the position of `inner`. Its reads are counted from 1, and the
     /// read with the number `reads` fails even where that of `inner` would succeed. If `reads` is
-    /// 0, this applies to no read, as in [`CopyingReader::new`].
+    /// 0, no read has that number, and the reader is the same as from [`CopyingReader::new`].
     pub fn failing(inner: SliceReader<'a>, reads: u32) -> Self
         ensures inner { result.inner ≡ inner.entry }
     {

@@ -93,7 +93,7 @@ impl<'a> ReadValue for PrivateKeyInfo<'a> {
     ghost takes_valid = { ⟦<PrivateKeyInfo<'a> as Described>⟧.element.holds refl };
 }
 
-/// Decodes the fields in sequence.
+/// Decodes the fields one after the other, in the order of their declaration.
 ///
 /// # Errors
 ///
@@ -128,11 +128,11 @@ impl<'a> WrittenValue for PrivateKeyInfo<'a> {
     ghost writable = { ⟦<PrivateKeyInfo<'a> as Described>⟧.element.valid };
 }
 
-/// Writes the fields in sequence.
+/// Writes the fields one after the other, in the order of their declaration.
 ///
 /// # Errors
 ///
-/// - The error of the first field that fails.
+/// - The error of the first field whose length cannot be computed, or that cannot be written.
 /// - `Overflow` without a position from [`EncodeValue::value_len`], if the fields together have
 ///   more than 4294967295 octets.
 impl<'a> EncodeValue for PrivateKeyInfo<'a> {

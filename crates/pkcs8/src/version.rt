@@ -11,7 +11,7 @@ use der_asn1::{Checked, ContentsGrammar};
 /// version 2.
 pub struct PrivateKeyVersionGrammar;
 
-/// The version of a private key, borrowed from the input.
+/// The version of the format of a private key, 1 or 2, borrowed from the input.
 pub type Version<'a> = Checked<'a, PrivateKeyVersionGrammar>;
 
 impl FixedTag for PrivateKeyVersionGrammar {

@@ -64,7 +64,7 @@ impl<'a> ReadValue for AlgorithmIdentifierRef<'a> {
     ghost takes_valid = { ⟦<AlgorithmIdentifierRef<'a> as Described>⟧.element.holds refl };
 }
 
-/// Decodes the fields in sequence.
+/// Decodes the object identifier, and then the parameters if present.
 ///
 /// # Errors
 ///
@@ -95,11 +95,11 @@ impl<'a> WrittenValue for AlgorithmIdentifierRef<'a> {
     ghost writable = { ⟦<AlgorithmIdentifierRef<'a> as Described>⟧.element.valid };
 }
 
-/// Writes the fields in sequence.
+/// Writes the object identifier, and then the parameters if present.
 ///
 /// # Errors
 ///
-/// - The error of the first field that fails.
+/// - The error of the first field whose length cannot be computed, or that cannot be written.
 /// - `Overflow` without a position from [`EncodeValue::value_len`], if the fields together have
 ///   more than 4294967295 octets.
 impl<'a> EncodeValue for AlgorithmIdentifierRef<'a> {

@@ -67,7 +67,7 @@ impl<'a> ReadValue for SubjectPublicKeyInfoRef<'a> {
     ghost takes_valid = { ⟦<SubjectPublicKeyInfoRef<'a> as Described>⟧.element.holds refl };
 }
 
-/// Decodes the fields in sequence.
+/// Decodes the algorithm, and then the key.
 ///
 /// # Errors
 ///
@@ -96,11 +96,11 @@ impl<'a> WrittenValue for SubjectPublicKeyInfoRef<'a> {
     ghost writable = { ⟦<SubjectPublicKeyInfoRef<'a> as Described>⟧.element.valid };
 }
 
-/// Writes the fields in sequence.
+/// Writes the algorithm, and then the key.
 ///
 /// # Errors
 ///
-/// - The error of the first field that fails.
+/// - The error of the first field whose length cannot be computed, or that cannot be written.
 /// - `Overflow` without a position from [`EncodeValue::value_len`], if the fields together have
 ///   more than 4294967295 octets.
 impl<'a> EncodeValue for SubjectPublicKeyInfoRef<'a> {

@@ -46,14 +46,15 @@ impl<'a> ReadValue for BytesCow<'a> {
     ghost takes_valid = { λ b rules h octets taken. taken.0 };
 }
 
-/// If the reader can return slices of its input, borrows the contents. If the reader cannot, copies
-/// the contents. Takes only the length from the header, and ignores its tag.
+/// Reads the contents as a byte string. If the reader can return slices of its input, the contents
+/// are borrowed. If the reader cannot return slices, the contents are copied. Takes only the length
+/// from the header, and ignores the header's tag.
 ///
 /// # Errors
 ///
 /// - If the reader can return slices: `Failed`, `Overflow` and `Incomplete`, as by
 ///   [`Reader::read_slice`].
-/// - If the reader cannot: the errors of [`Reader::read_vec`].
+/// - If the reader cannot return slices: the errors of [`Reader::read_vec`].
 impl<'a, R: Reader<Borrowed = &'a [u8]>> DecodeValue<R> for BytesCow<'a> {
     type Error = Error;
 
@@ -88,6 +89,8 @@ impl<'a> WrittenValue for BytesCow<'a> {
     ghost writable = { λ b. IsCounted (cow_octets b) };
 }
 
+/// Writes the octets of the byte string as the contents.
+///
 /// # Errors
 ///
 /// `value_len` never fails. `encode_value` returns the errors of [`Writer::write`].

@@ -16,8 +16,9 @@ mod parts;
 
 /// An owned byte string of at most 4294967295 octets.
 ///
-/// The derived order puts shorter strings first; strings of equal length are compared octet by
-/// octet. The order of [`DerOrd`](der_core::DerOrd) is another one: it is lexicographic.
+/// In the derived order, a shorter byte string is smaller; byte strings of equal length are
+/// compared octet by octet. The order of [`DerOrd`](der_core::DerOrd) differs from the derived
+/// order: it is lexicographic.
 #[derive(Debug, Drop, PartialEq, Eq, PartialOrd, Ord, Hash)]
 pub struct BytesOwned {
     length: Length,
@@ -27,7 +28,7 @@ pub struct BytesOwned {
 }
 
 impl BytesOwned {
-    /// Wraps the octets in `inner`, without allocating.
+    /// Wraps the octets in the box `inner`, without allocating.
     ///
     /// # Errors
     ///
@@ -42,7 +43,7 @@ impl BytesOwned {
         }
     }
 
-    /// Copies `bytes` into an owned byte string.
+    /// Copies `bytes` into an owned byte string, in memory of `alloc`.
     ///
     /// # Errors
     ///
@@ -69,7 +70,7 @@ impl BytesOwned {
         BytesOwned::new(bytes.into_boxed_slice())
     }
 
-    /// Copies the octets of a borrowed byte string into an owned one.
+    /// Copies the borrowed byte string `bytes` into an owned byte string, in memory of `alloc`.
     ///
     /// # Errors
     ///
@@ -105,14 +106,14 @@ impl BytesOwned {
         BytesRef::counted(self.as_slice())
     }
 
-    /// The octets, borrowed as a [`BytesRef`]; the same as [`BytesOwned::as_bytes_ref`].
+    /// The octets, borrowed as a [`BytesRef`]. Returns what [`BytesOwned::as_bytes_ref`] returns.
     pub fn owned_to_ref(&self) -> BytesRef<'_>
         ensures { result.bytes.now ≡ boxed_slice_items self.now.inner }
     {
         self.as_bytes_ref()
     }
 
-    /// The number of octets.
+    /// The number of octets of the byte string.
     pub fn len(&self) -> Length
         ensures { result ≡ definite_length (count (boxed_slice_items self.now.inner)) }
     {
@@ -133,7 +134,7 @@ impl BytesOwned {
         self.inner
     }
 
-    /// An owned byte string with a copy of the octets.
+    /// An owned copy of the byte string, in memory of `alloc`.
     ///
     /// # Errors
     ///
@@ -147,7 +148,7 @@ impl BytesOwned {
 }
 
 impl<'a> BytesRef<'a> {
-    /// An owned byte string with a copy of the octets.
+    /// An owned copy of the byte string, in memory of `alloc`.
     ///
     /// # Errors
     ///

@@ -21,7 +21,7 @@ impl<'a> BytesRef<'a> {
     /// The byte string of zero octets.
     pub const EMPTY: BytesRef<'static> = BytesRef { bytes: &[] };
 
-    /// Wraps the octets in `bytes`.
+    /// Wraps the octets in `bytes`, without copying them.
     ///
     /// # Errors
     ///
@@ -50,7 +50,7 @@ impl<'a> BytesRef<'a> {
         self.bytes
     }
 
-    /// The number of octets.
+    /// The number of octets of the byte string.
     pub const fn len(&self) -> Length
         ensures { result ≡ definite_length (length self.now.bytes.now) }
     {
@@ -70,7 +70,7 @@ impl<'a> BytesRef<'a> {
     ///
     /// - `Incomplete`, as by [`Error::incomplete`], if the byte string has fewer octets than
     ///   `length`. The position and `actual_len` are the number of octets of the byte string.
-    ///   `expected_len` is that number plus one, not `length`.
+    ///   `expected_len` is `actual_len` plus one, not `length`.
     pub fn prefix(&self, length: Length) -> Result<Self, Error>
         ensures exact { map_ok (λ b. b.bytes.now) result
             ≡ prefix_of (number length) self.now.bytes.now }

@@ -1,4 +1,4 @@
-//! Two values are equal if and only if they have the same octets.
+//! What `==` returns: true if and only if the two values have the same octets.
 ghost use Rattle.std.specs.Prelude.{◌≡◌, ◌↔◌, IsTrue};
 ghost use Rattle.der.specs.BytesOwned.{owned_octets};
 ghost use Rattle.der.specs.BytesRef.{reference_octets};

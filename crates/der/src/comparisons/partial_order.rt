@@ -1,4 +1,5 @@
-//! The derived partial orders return the same as the total orders.
+//! The derived partial orders of byte strings and texts. Each compares any two values, and agrees
+//! with the total order.
 ghost use Rattle.std.specs.Prelude.{◌≡◌, Some};
 ghost use Rattle.der_base.specs.Order.{byte_order};
 ghost use Rattle.der.specs.OctetsOrder.{counted_order};
@@ -12,7 +13,8 @@ use crate::string::{StringOwned, StringRef};
 use std::cmp::Ordering;
 
 /// Calls `PartialOrd::partial_cmp`; the contract states that any two values can be compared, and
-/// that the order is lexicographic: octet by octet, and a proper prefix is smaller.
+/// that `a` and `b` are compared in lexicographic order: octet by octet, and a proper prefix is
+/// smaller.
 fn bytes_ref_partial_ordering(a: &BytesRef<'_>, b: &BytesRef<'_>) -> Option<Ordering>
     ensures { result ≡ Some (byte_order (reference_octets a.now) (reference_octets b.now)) }
 {
@@ -20,7 +22,7 @@ fn bytes_ref_partial_ordering(a: &BytesRef<'_>, b: &BytesRef<'_>) -> Option<Orde
 }
 
 /// Calls `PartialOrd::partial_cmp`; the contract states that any two values can be compared: a
-/// shorter string is smaller, and strings of equal length are compared octet by octet.
+/// shorter byte string is smaller, and byte strings of equal length are compared octet by octet.
 fn bytes_owned_partial_ordering(a: &BytesOwned, b: &BytesOwned) -> Option<Ordering>
     ensures { result ≡ Some (counted_order (owned_octets a.now) (owned_octets b.now)) }
 {
@@ -28,7 +30,8 @@ fn bytes_owned_partial_ordering(a: &BytesOwned, b: &BytesOwned) -> Option<Orderi
 }
 
 /// Calls `PartialOrd::partial_cmp`; the contract states that any two values can be compared, and
-/// that the order is lexicographic: octet by octet, and a proper prefix is smaller.
+/// that `a` and `b` are compared in lexicographic order: octet by octet, and a proper prefix is
+/// smaller.
 fn string_ref_partial_ordering(a: &StringRef<'_>, b: &StringRef<'_>) -> Option<Ordering>
     ensures { result ≡ Some (byte_order (reference_text a.now) (reference_text b.now)) }
 {
@@ -36,7 +39,8 @@ fn string_ref_partial_ordering(a: &StringRef<'_>, b: &StringRef<'_>) -> Option<O
 }
 
 /// Calls `PartialOrd::partial_cmp`; the contract states that any two values can be compared, and
-/// that the order is lexicographic: octet by octet, and a proper prefix is smaller.
+/// that `a` and `b` are compared in lexicographic order: octet by octet, and a proper prefix is
+/// smaller.
 fn string_owned_partial_ordering(a: &StringOwned, b: &StringOwned) -> Option<Ordering>
     ensures { result ≡ Some (byte_order (owned_text a.now) (owned_text b.now)) }
 {

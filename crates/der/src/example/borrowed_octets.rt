@@ -15,7 +15,7 @@ use der_core::{
 use std::alloc::Global;
 use std::cmp::Ordering;
 
-/// An OCTET STRING whose octets are borrowed.
+/// An OCTET STRING whose contents octets are borrowed, for example from a reader's input.
 #[derive(Clone, Copy, Debug)]
 pub struct BorrowedOctets<'a> {
     /// The contents octets of the OCTET STRING.
@@ -46,7 +46,8 @@ impl<'a> ReadValue for BorrowedOctets<'a> {
     ghost takes_valid = { λ b rules h octets taken. taken.0 };
 }
 
-/// Borrows the contents from the input. Takes only the length from the header, and ignores its tag.
+/// Borrows the contents from the input. Takes only the length from the header, and ignores the
+/// header's tag.
 ///
 /// # Errors
 ///
@@ -70,6 +71,8 @@ impl<'a> WrittenValue for BorrowedOctets<'a> {
     ghost writable = { λ b. IsCounted (borrowed_octets b) };
 }
 
+/// Writes the octets unchanged as the contents.
+///
 /// # Errors
 ///
 /// `value_len` never fails. `encode_value` returns the errors of [`Writer::write`].
@@ -93,7 +96,7 @@ impl<'a> Lawful for BorrowedOctets<'a> {
     ghost lawful = { borrowed_lawful };
 }
 
-/// Compares the contents octets in lexicographic order. Never fails.
+/// Compares the contents octets of two values in lexicographic order. Never fails.
 impl<'a> ValueOrd for BorrowedOctets<'a> {
     ghost value_order = { octets_order borrowed_octets };
 

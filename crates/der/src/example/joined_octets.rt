@@ -16,7 +16,7 @@ use std::alloc::Global;
 use std::cmp::Ordering;
 
 /// An OCTET STRING that owns its octets. If its encoding is constructed, the contents are segments,
-/// and decoding joins them. Its octets are always written as a primitive encoding.
+/// and decoding joins them. The octets are always written as a primitive encoding.
 #[derive(Debug, Drop)]
 pub struct JoinedOctets {
     /// The contents octets, with all segments joined.
@@ -45,9 +45,10 @@ impl ReadValue for JoinedOctets {
     ghost takes_valid = { λ v rules h octets taken. taken.0 };
 }
 
-/// If the header is primitive, copies the contents. If the header is constructed and the reader's
-/// rules are the Basic Encoding Rules, joins the segments, including segments inside segments.
-/// Under the Distinguished Encoding Rules, a constructed header is an error.
+/// Reads the contents into an owned byte string. If the header is primitive, copies the contents.
+/// If the header is constructed and the reader's rules are the Basic Encoding Rules, joins the
+/// segments, including segments inside segments. Under the Distinguished Encoding Rules, a
+/// constructed header is an error.
 ///
 /// # Errors
 ///
@@ -71,6 +72,8 @@ impl WrittenValue for JoinedOctets {
     ghost writable = { λ v. IsCounted (joined_octets v) };
 }
 
+/// Writes the joined octets as the contents of a primitive encoding.
+///
 /// # Errors
 ///
 /// `value_len` never fails. `encode_value` returns the errors of [`Writer::write`].
@@ -92,7 +95,7 @@ impl Lawful for JoinedOctets {
     ghost lawful = { joined_lawful };
 }
 
-/// Compares the joined octets in lexicographic order. Never fails.
+/// Compares the joined octets of two values in lexicographic order. Never fails.
 impl ValueOrd for JoinedOctets {
     ghost value_order = { octets_order joined_octets };
 

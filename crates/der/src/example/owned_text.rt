@@ -44,8 +44,8 @@ impl ReadValue for OwnedText {
     ghost takes_valid = { λ t rules h octets taken. taken.0 };
 }
 
-/// Copies the contents into an owned text. Takes only the length from the header, and ignores its
-/// tag.
+/// Copies the contents into an owned text. Takes only the length from the header, and ignores the
+/// header's tag.
 ///
 /// # Errors
 ///
@@ -69,6 +69,8 @@ impl WrittenValue for OwnedText {
     ghost writable = { λ t. IsText (owned_text_octets t) };
 }
 
+/// Writes the octets of the text as the contents.
+///
 /// # Errors
 ///
 /// `value_len` never fails. `encode_value` returns the errors of [`Writer::write`].

@@ -19,37 +19,38 @@ use std::alloc::Global;
 /// into a new vector. The segments are elements with the tag `inner_tag`, one after the other. A
 /// primitive segment contributes its contents. Under the Basic Encoding Rules, a segment may also
 /// be constructed, of definite or indefinite length. A constructed segment contributes the joined
-/// segments inside it. It is entered as a nested part, and at most 64 parts may be nested.
+/// segments inside it. Each constructed segment is entered as a nested part, and at most 64 parts
+/// may be nested.
 ///
-/// `length` is the length of the element that contains the segments. It does not limit what is
-/// read. If `length` is indefinite, the end-of-contents octets of that element must be after the
-/// reader's end, and this function does not read them.
+/// `length` is the length of the element that contains the segments. Memory for `length` octets is
+/// allocated before the first segment is read. `length` does not limit what is read. If `length` is
+/// indefinite, the end-of-contents octets of that element must be after the reader's end, and this
+/// function does not read them.
 ///
 /// # Errors
 ///
-/// - `IndefiniteLength` at the reader's position, if `length` is not indefinite and the rules are
-///   the Distinguished Encoding Rules; the reader has failed then.
+/// - Under the Distinguished Encoding Rules, `IndefiniteLength` at the reader's position, if
+///   `length` is definite; the reader has failed.
 /// - `OutOfMemory` without a position, if the allocation of `length` octets fails; the reader is
 ///   unchanged.
 /// - The errors of decoding a segment's header, as by [`Header::decode`](der_core::Header).
 /// - `TagUnexpected` without a position, if a segment has a tag other than `inner_tag`; the reader
 ///   is after the segment's header and has not failed.
-/// - `Noncanonical` with the segment's tag, at the last octet of the segment's header, if a segment
-///   is constructed and the rules are the Distinguished Encoding Rules; the reader is after the
+/// - Under the Distinguished Encoding Rules, `Noncanonical` with the segment's tag, at the last
+///   octet of the segment's header, if a segment is constructed; the reader is after the segment's
 ///   header and has not failed.
-/// - `Overflow`, `Incomplete` and `NestingDepth` if a constructed segment cannot be entered, as by
+/// - `Overflow`, `Incomplete` and `NestingDepth`, if a constructed segment cannot be entered, as by
 ///   [`Reader::enter_nested`]; the reader is after the segment's header.
-/// - `Overflow` without a position, if fewer octets are left than the contents of a primitive
-///   segment have, and the position of their end would exceed 4294967295; the reader is after the
-///   segment's header and has not failed.
-/// - `Incomplete` at the reader's position, if fewer octets are left than the contents of a
-///   primitive segment have, and the position of their end would not exceed 4294967295; the reader
-///   is after the segment's header and has failed.
+/// - `Overflow` without a position, if the contents of a primitive segment would end after position
+///   4294967295; the reader is after the segment's header and has not failed.
+/// - `Incomplete` at the reader's position, if the contents of a primitive segment would end after
+///   the reader's end, but not after position 4294967295; the reader is after the segment's header
+///   and has failed.
 /// - `OutOfMemory` without a position, if the allocation of a primitive segment's octets fails; the
 ///   reader is after the segment's header and has not failed.
 ///
-/// If an error occurs inside a constructed segment, the reader stays at the position where the
-/// error left it. The reader's end and depth are again those from before that segment was entered.
+/// If an error occurs inside a constructed segment, the reader's position is as stated above for
+/// that error. The reader's end and depth are again those from before that segment was entered.
 pub fn read_constructed_vec<R: Reader>(
     alloc: Global,
     reader: &mut R,

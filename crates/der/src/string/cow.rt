@@ -46,8 +46,9 @@ impl<'a> ReadValue for StringCow<'a> {
     ghost takes_valid = { λ t rules h octets taken. taken.0 };
 }
 
-/// Borrows the contents from the input as a text, so the result is always `Borrowed`. Takes only
-/// the length from the header, and ignores its tag. Fails if the reader cannot return slices.
+/// Borrows the contents from the input as a text. A successful result is always
+/// [`StringCow::Borrowed`]. Takes only the length from the header, and ignores the header's tag.
+/// Fails if the reader cannot return slices of its input.
 ///
 /// # Errors
 ///
@@ -92,6 +93,8 @@ impl<'a> WrittenValue for StringCow<'a> {
     ghost writable = { λ t. IsText (cow_text t) };
 }
 
+/// Writes the octets of the text as the contents.
+///
 /// # Errors
 ///
 /// `value_len` never fails. `encode_value` returns the errors of [`Writer::write`].

@@ -24,7 +24,7 @@ pub struct StringOwned {
 }
 
 impl StringOwned {
-    /// Wraps `inner`, without allocating.
+    /// Wraps the text `inner` in a [`StringOwned`], without allocating.
     ///
     /// # Errors
     ///
@@ -39,13 +39,13 @@ impl StringOwned {
         }
     }
 
-    /// Copies `bytes` into an owned text. Allocates only after it has checked that `bytes` are
-    /// UTF-8 and are at most 4294967295 octets.
+    /// Copies `bytes` into an owned text, in memory of `alloc`. Before it allocates, the function
+    /// checks that `bytes` are UTF-8 and at most 4294967295 octets.
     ///
     /// # Errors
     ///
-    /// - `Utf8` without a position, if `bytes` are not UTF-8.
-    /// - `Overflow` without a position, if `bytes` are UTF-8 but more than 4294967295 octets.
+    /// - `Utf8` without a position, if `bytes` are not UTF-8, whatever their number.
+    /// - `Overflow` without a position, if the text in `bytes` has more than 4294967295 octets.
     /// - `OutOfMemory` without a position, if allocation fails.
     pub fn from_bytes(alloc: Global, bytes: &[u8]) -> Result<Self, Error>
         ensures exact { AnswersOrLacks (checked_text bytes.now)
@@ -61,7 +61,7 @@ impl StringOwned {
         self.inner.as_str()
     }
 
-    /// The octets of the text.
+    /// The octets of the text, as a slice.
     pub fn as_bytes(&self) -> &[u8]
         ensures { result.now ≡ string_bytes self.now.inner }
     {
@@ -82,7 +82,7 @@ impl StringOwned {
         StringRef::counted(self.as_str())
     }
 
-    /// The text, borrowed as a [`StringRef`]; the same as [`StringOwned::as_string_ref`].
+    /// The text, borrowed as a [`StringRef`]. Returns what [`StringOwned::as_string_ref`] returns.
     pub fn owned_to_ref(&self) -> StringRef<'_>
         ensures { result.text.now ≡ string_bytes self.now.inner }
     {
@@ -103,7 +103,7 @@ impl StringOwned {
         self.as_bytes_ref().is_empty()
     }
 
-    /// An owned copy of the text.
+    /// An owned copy of the text, in memory of `alloc`.
     ///
     /// # Errors
     ///
@@ -117,7 +117,7 @@ impl StringOwned {
 }
 
 impl<'a> StringRef<'a> {
-    /// An owned copy of the text.
+    /// An owned copy of the text, in memory of `alloc`.
     ///
     /// # Errors
     ///

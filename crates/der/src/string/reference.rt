@@ -22,7 +22,7 @@ pub struct StringRef<'a> {
 }
 
 impl<'a> StringRef<'a> {
-    /// Wraps `text`.
+    /// Wraps `text` in a [`StringRef`], without copying it.
     ///
     /// # Errors
     ///
@@ -36,12 +36,12 @@ impl<'a> StringRef<'a> {
         }
     }
 
-    /// Wraps the octets in `bytes` as a text.
+    /// Wraps the octets in `bytes` as a text, without copying them.
     ///
     /// # Errors
     ///
-    /// - `Utf8` without a position, if `bytes` are not UTF-8.
-    /// - `Overflow` without a position, if `bytes` are UTF-8 but more than 4294967295 octets.
+    /// - `Utf8` without a position, if `bytes` are not UTF-8, whatever their number.
+    /// - `Overflow` without a position, if the text in `bytes` has more than 4294967295 octets.
     pub fn from_bytes(bytes: &'a [u8]) -> Result<Self, Error>
         ensures exact { map_ok (λ t. t.text.now) result ≡ checked_text bytes.now }
     {
@@ -63,7 +63,7 @@ impl<'a> StringRef<'a> {
         self.text
     }
 
-    /// The octets of the text.
+    /// The octets of the text, as a slice.
     pub const fn as_bytes(&self) -> &'a [u8]
         ensures { result.now ≡ self.now.text.now }
     {

@@ -1,4 +1,4 @@
-//! A clone is the same value; cloning allocates nothing.
+//! What `Clone` returns: a clone equals the original, and cloning allocates nothing.
 ghost use Rattle.std.specs.Prelude.{◌≡◌, Ok};
 
 use crate::encoding_rules::EncodingRules;

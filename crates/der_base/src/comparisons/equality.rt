@@ -1,4 +1,4 @@
-//! Two values compare equal exactly if they are the same value.
+//! What `==` returns: true if and only if the two values are the same value.
 ghost use Rattle.std.specs.Prelude.{◌≡◌, ◌↔◌, IsTrue};
 ghost use Rattle.der_base.specs.Length.{number, is_indefinite};
 
@@ -67,7 +67,7 @@ fn error_kind_equality(a: ErrorKind, b: ErrorKind) -> bool
 }
 
 /// Calls `==`; the contract states that errors compare as equal if and only if they have the same
-/// kind, and both have the same position or both have none.
+/// kind, and they have the same position or both have no position.
 fn error_equality(a: Error, b: Error) -> bool
     ensures { IsTrue result ↔ (a ≡ b) }
 {

@@ -8,7 +8,7 @@ use crate::length::Length;
 use crate::tag::{Tag, TagNumber};
 use std::hash::{Hash, Hasher};
 
-/// Calls `Hash::hash`; the contract states that a [`Length`] is hashed in two parts: first its
+/// Calls `Hash::hash`; the contract states that a [`Length`] is hashed in two parts: first the
 /// number of octets, then the flag for the indefinite form.
 fn length_hash<H: Hasher>(length: Length, state: &mut H)
     ensures { state.new
@@ -36,7 +36,8 @@ fn tag_number_hash<H: Hasher>(number: TagNumber, state: &mut H)
 }
 
 /// Calls `Hash::hash`; the contract states that a [`Tag`] is hashed as the index of its variant in
-/// the declaration, followed by its constructed bit and its number if the variant has these fields.
+/// the declaration. If the variant has the fields `constructed` and `number`, they are hashed after
+/// the index, in this order.
 fn tag_hash<H: Hasher>(tag: Tag, state: &mut H)
     ensures { state.new ≡ fold H.write state.old (tag_writes tag) }
 {

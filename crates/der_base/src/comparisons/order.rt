@@ -1,4 +1,5 @@
-//! The derived total orders.
+//! The derived total orders of lengths, tags, tag numbers, classes, tagging modes and encoding
+//! rules.
 ghost use Rattle.std.specs.Prelude.{◌≡◌};
 ghost use Rattle.std.specs.Ordering.{nat_cmp};
 ghost use Rattle.der_base.specs.Class.{class_number};

@@ -1,4 +1,4 @@
-//! The derived partial orders agree with the total ones.
+//! The derived partial orders. Each compares any two values, and agrees with the total order.
 ghost use Rattle.std.specs.Prelude.{◌≡◌, Some};
 ghost use Rattle.std.specs.Ordering.{nat_cmp};
 ghost use Rattle.der_base.specs.Class.{class_number};

@@ -8,17 +8,17 @@ use crate::length::Length;
 use std::ops::{Add, Sub};
 
 impl Length {
-    /// Adds the numbers of octets of `self` and `rhs`. The result is a definite length, whether or
-    /// not the operands are. If the sum exceeds 4294967295, the result is 4294967295.
+    /// Adds the numbers of octets of `self` and `rhs`. The result is a definite length, even if an
+    /// operand is indefinite. If the sum exceeds 4294967295, the result is 4294967295.
     pub const fn saturating_add(self, rhs: Self) -> Self
         ensures { result ≡ definite_length (saturated_number (number self + number rhs)) }
     {
         Length::new(self.inner.saturating_add(rhs.inner))
     }
 
-    /// Subtracts the number of octets of `rhs` from that of `self`. The result is a definite
-    /// length, whether or not the operands are. If `rhs` has the greater number, the result is
-    /// zero.
+    /// Subtracts the number of octets of `rhs` from the number of octets of `self`. The result is a
+    /// definite length, even if an operand is indefinite. If `rhs` has more octets than `self`, the
+    /// result is zero octets.
     pub const fn saturating_sub(self, rhs: Self) -> Self
         ensures { result ≡ definite_length (number self - number rhs) }
     {
@@ -26,8 +26,8 @@ impl Length {
     }
 }
 
-/// Adds the numbers of octets of two lengths. The sum is a definite length, whether or not the
-/// operands are.
+/// Adds the numbers of octets of two lengths. The sum is a definite length, even if an operand is
+/// indefinite.
 ///
 /// # Errors
 ///
@@ -42,8 +42,8 @@ impl Add for Length {
     }
 }
 
-/// Adds a number of octets to a length. The sum is a definite length, whether or not the length on
-/// the left is.
+/// Adds a number of octets to a length. The sum is a definite length, even if the length on the
+/// left is indefinite.
 ///
 /// # Errors
 ///
@@ -58,8 +58,8 @@ impl Add<u8> for Length {
     }
 }
 
-/// Adds a number of octets to a length. The sum is a definite length, whether or not the length on
-/// the left is.
+/// Adds a number of octets to a length. The sum is a definite length, even if the length on the
+/// left is indefinite.
 ///
 /// # Errors
 ///
@@ -74,8 +74,8 @@ impl Add<u16> for Length {
     }
 }
 
-/// Adds a number of octets to a length. The sum is a definite length, whether or not the length on
-/// the left is.
+/// Adds a number of octets to a length. The sum is a definite length, even if the length on the
+/// left is indefinite.
 ///
 /// # Errors
 ///
@@ -93,8 +93,8 @@ impl Add<u32> for Length {
     }
 }
 
-/// Adds a number of octets to a length. The sum is a definite length, whether or not the length on
-/// the left is.
+/// Adds a number of octets to a length. The sum is a definite length, even if the length on the
+/// left is indefinite.
 ///
 /// # Errors
 ///
@@ -109,8 +109,8 @@ impl Add<usize> for Length {
     }
 }
 
-/// Subtracts the number of octets of the right length from that of the left one. The difference is
-/// a definite length, whether or not the operands are.
+/// Subtracts the number of octets of the right length from the number of octets of the left length.
+/// The difference is a definite length, even if an operand is indefinite.
 ///
 /// # Errors
 ///
@@ -128,8 +128,8 @@ impl Sub for Length {
     }
 }
 
-/// Adds a length to the length in the `Result` on the left. The sum is a definite length, whether
-/// or not the operands are.
+/// Adds a length to the length in the `Result` on the left. The sum is a definite length, even if
+/// an operand is indefinite.
 ///
 /// # Errors
 ///
@@ -146,7 +146,7 @@ impl Add<Length> for Result<Length> {
 }
 
 /// Subtracts a length from the length in the `Result` on the left. The difference is a definite
-/// length, whether or not the operands are.
+/// length, even if an operand is indefinite.
 ///
 /// # Errors
 ///

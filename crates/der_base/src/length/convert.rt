@@ -33,7 +33,8 @@ impl From<u32> for Length {
     }
 }
 
-/// Converts a length, definite or indefinite, to its number of octets.
+/// Converts a length to its number of octets. The number of a length that a reader read in the
+/// indefinite form counts the contents and the two end-of-contents octets.
 impl From<Length> for u32 {
     ghost from_gives = { λ l n. n ≡ number l };
 
@@ -46,7 +47,7 @@ impl From<Length> for u32 {
 ///
 /// # Errors
 ///
-/// - `Overflow` without a position, if the number exceeds 4294967295.
+/// - `Overflow` without a position, if the number of octets exceeds 4294967295.
 impl TryFrom<usize> for Length {
     type Error = Error;
 
@@ -57,7 +58,8 @@ impl TryFrom<usize> for Length {
     }
 }
 
-/// Converts a length, definite or indefinite, to its number of octets.
+/// Converts a length to its number of octets. The number of a length that a reader read in the
+/// indefinite form counts the contents and the two end-of-contents octets.
 ///
 /// # Errors
 ///

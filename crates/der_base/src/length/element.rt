@@ -9,9 +9,9 @@ use crate::tag::Tag;
 
 impl Length {
     /// The number of octets of a whole element that has the tag `tag`, `self` contents octets and a
-    /// definite length. It counts the identifier octets (X.690 8.1.2), the length octets (8.1.3)
-    /// and the contents octets. The result is a definite length. If `self` is indefinite, its
-    /// number of octets is used as if it were definite.
+    /// definite length. The number counts the identifier octets (X.690 8.1.2), the length octets
+    /// (X.690 8.1.3) and the contents octets. The result is a definite length. An indefinite `self`
+    /// gives the same result as the definite length of as many octets.
     ///
     /// # Errors
     ///
@@ -24,8 +24,8 @@ impl Length {
 
     /// The number of octets that encode the length in the definite form (X.690 8.1.3, 10.1), 1 to
     /// 5. A length up to 127 needs one octet. A greater length needs one octet, and one more for
-    /// each of its base-256 digits. If `self` is indefinite, its number of octets is used as if it
-    /// were definite.
+    /// each of its base-256 digits. An indefinite `self` gives the same result as the definite
+    /// length of as many octets.
     pub const fn octet_count(self) -> u32
         ensures octets { result ≡ length (length_octets (number self)) }
         ensures some { 1 ≤ result }

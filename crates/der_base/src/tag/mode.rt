@@ -13,15 +13,16 @@ pub enum TagMode {
     /// additional tag.
     #[default]
     Explicit,
-    /// The element of the value has the additional tag instead of its own.
+    /// The element of the value has the additional tag instead of the value's own tag.
     Implicit,
 }
 
-/// Parses `EXPLICIT`, `explicit`, `IMPLICIT` and `implicit`.
+/// Parses the name of a tagging mode: `EXPLICIT`, `explicit`, `IMPLICIT` or `implicit`.
 ///
 /// # Errors
 ///
-/// - An error of the kind `TagModeUnknown`, without a position, for any other text.
+/// - An error of the kind `TagModeUnknown`, without a position, if the text is none of these four
+///   names.
 impl FromStr for TagMode {
     type Err = Error;
 

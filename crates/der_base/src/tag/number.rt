@@ -26,8 +26,8 @@ impl TagNumber {
         self.0
     }
 
-    /// The tag of class APPLICATION with this number. `constructed` says whether its contents are
-    /// constructed.
+    /// The tag of class APPLICATION with this number. `constructed` says whether the contents of an
+    /// element with this tag are constructed.
     pub const fn application(self, constructed: bool) -> Tag
         ensures { result ≡ Tag.Application constructed self }
     {
@@ -37,8 +37,8 @@ impl TagNumber {
         }
     }
 
-    /// The tag of class CONTEXT-SPECIFIC with this number. `constructed` says whether its contents
-    /// are constructed.
+    /// The tag of class CONTEXT-SPECIFIC with this number. `constructed` says whether the contents
+    /// of an element with this tag are constructed.
     pub const fn context_specific(self, constructed: bool) -> Tag
         ensures { result ≡ Tag.ContextSpecific constructed self }
     {
@@ -48,8 +48,8 @@ impl TagNumber {
         }
     }
 
-    /// The tag of class PRIVATE with this number. `constructed` says whether its contents are
-    /// constructed.
+    /// The tag of class PRIVATE with this number. `constructed` says whether the contents of an
+    /// element with this tag are constructed.
     pub const fn private(self, constructed: bool) -> Tag
         ensures { result ≡ Tag.Private constructed self }
     {

@@ -39,9 +39,9 @@ fn leave(reader: &mut DerReader<'_>, around: &mut Around)
     reader.end = around.ends[level];
 }
 
-/// If `element` is constructed and fewer than 32 other elements enclose it, moves `reader` to the
-/// start of the contents of `element`, and adds `element` to `around`. In all other cases changes
-/// nothing. `element` must be the element that `reader` has just read.
+/// Enters the contents of `element`, which must be the element that `reader` has just read: moves
+/// `reader` to the start of these contents, and adds `element` to `around`. Changes nothing if
+/// `element` is primitive, or if 32 other elements enclose it.
 #[inline(always)]
 pub(crate) fn look_into(reader: &mut DerReader<'_>, around: &mut Around, element: &DerElement<'_>)
     requires parts { AreAround around.old (reader_state reader.old) }

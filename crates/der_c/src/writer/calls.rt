@@ -14,7 +14,7 @@ use der_base::{Error, ErrorKind, Length};
 use der_core::{Encode, Header, Writer};
 
 /// Makes `writer` a writer into `octets`, from their start. `writer` writes at most 4294967295
-/// octets.
+/// octets, even if there are more `octets`.
 #[unsafe(no_mangle)]
 pub extern "C" fn der_writer_init<'a>(octets: &'a mut [u8], writer: &mut DerWriter<'a>)
     ensures { writer_state writer.new ≡ fresh_state octets.old octets.entry.ghost_name }
@@ -36,7 +36,8 @@ pub extern "C" fn der_written(writer: &DerWriter<'_>) -> usize
 
 /// Succeeds if `writer` has not failed.
 ///
-/// Fails with `Failed` at the position of `writer`, if `writer` has failed.
+/// Fails with `Failed` at the position of `writer`, the number of octets written, if `writer` has
+/// failed.
 #[unsafe(no_mangle)]
 pub extern "C" fn der_writer_finish(writer: &DerWriter<'_>) -> DerError
     ensures { result ≡ answer_code (finished_answer (writer_state writer.now)) }

@@ -56,7 +56,7 @@ fn begin_slowly(writer: &mut DerWriter<'_>, tag: u64, start: &mut usize) -> DerE
 ///
 /// A call that fails moves and writes nothing, and `writer` has failed after it. Fails with:
 ///
-/// - `Failed` at the writer's position, if the writer had already failed;
+/// - `Failed` at the position of `writer`, if `writer` had already failed;
 /// - `Overlength` without a position, if `start` is 0 or exceeds the number of octets written;
 /// - `Overlength` or `Overflow`, as by [`der_write`](crate::der_write), if the length needs more
 ///   octets and there is no space for them.

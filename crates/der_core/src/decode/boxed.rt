@@ -25,8 +25,8 @@ impl<T: ReadValue> ReadValue for Box<T> {
 /// # Errors
 ///
 /// - The errors of [`DecodeValue::decode_value`] of the value.
-/// - `OutOfMemory` without a position, if the allocation fails; the reader is after the contents
-///   and has not failed.
+/// - `OutOfMemory` without a position, if the allocation fails; the reader is in the state in which
+///   decoding the value leaves it.
 impl<R: Reader, T: DecodeValue<R>> DecodeValue<R> for Box<T> {
     type Error = <T as DecodeValue<R>>::Error;
 

@@ -1,4 +1,4 @@
-//! Decoding of fields in sequence.
+//! Decoding of pairs of fields, the first member before the second.
 ghost use Rattle.std.specs.Prelude.{◌≡◌, ◌||◌, ℕ, ◌+◌, ◌≤◌, ◌⊎◌, true, false, IfOk, IsOk, IsErrAnd};
 ghost use Rattle.der_core.specs.ReaderState.{Same, rest_of};
 ghost use Rattle.der_core.specs.Decode.{Passes, ReadsOrLacks};
@@ -16,7 +16,8 @@ use std::alloc::Global;
 ///
 /// # Errors
 ///
-/// Those of the first member; if it is decoded, those of the second.
+/// Those of decoding the first member. If the first member is decoded, those of decoding the
+/// second.
 impl<R: Reader, A: Decode<R>, B: Decode<R, Error = <A as Decode<R>>::Error>> Decode<R> for (A, B) {
     type Error = <A as Decode<R>>::Error;
 
@@ -37,9 +38,9 @@ impl<R: Reader, A: Decode<R>, B: Decode<R, Error = <A as Decode<R>>::Error>> Dec
 }
 
 /// Decodes a value from the start of the contents that the reader is inside, by [`Decode::decode`].
-/// Ignores `header`. If octets are left after the value, it leaves them unread and returns `Ok`;
-/// the caller must report them, as [`decode_tlv`](crate::decode_tlv) does. A pair is decoded as its
-/// first member and then its second.
+/// Ignores `header`. If octets are left after the value, the function leaves them unread and
+/// returns `Ok`; the caller must report them, as [`decode_tlv`](crate::decode_tlv) does. A pair is
+/// decoded as its first member and then its second.
 ///
 /// This function has the contract of
 /// [`DecodeValue::decode_value`](crate::DecodeValue::decode_value), so an implementation of that

@@ -64,10 +64,10 @@ pub trait DecodeValue<R: Reader>: ReadValue + Drop {
     /// conditions.
     ///
     /// Suppose that the reader is reliable (see [`Reader`]), has not failed, is inside a nested
-    /// part, and has at least as many levels of nesting left as the ghost member `value_levels`
-    /// says. If the ghost member `takes` holds for the contents and some value, the function reads
-    /// all of the contents and returns `Ok`, or it returns an error that reports a failed
-    /// allocation.
+    /// part, and has at least as many of its 64 levels of nesting left as the ghost member
+    /// `value_levels` says. If the ghost member `takes` holds for the contents and some value, the
+    /// function reads all of the contents and returns `Ok`, or it returns an error that reports a
+    /// failed allocation.
     ///
     /// # Errors
     ///
@@ -85,15 +85,14 @@ pub trait DecodeValue<R: Reader>: ReadValue + Drop {
         ensures exact { R.reliable ≡ true → decode_value_answers (head_of header)
             (R.state reader.old) result (R.state reader.new) };
 
-    /// Does nothing when it runs. Proofs use its contract, which states that `self` is a valid
-    /// value.
+    /// Does nothing; the contract states, for use in proofs, that `self` is a valid value.
     fn is_value(&self)
         ensures { Self.valid self.now };
 }
 
 /// Decodes the whole element of a value (X.690 8.1.1): a header with the type's tag, the contents,
-/// and the end-of-contents octets if the length is indefinite. This is [`Decode::decode`] of every
-/// type that implements [`DecodeValue`] and [`FixedTag`].
+/// and the end-of-contents octets if the length is indefinite. [`Decode::decode`] calls this
+/// function for every type that implements [`DecodeValue`] and [`FixedTag`].
 ///
 /// # Errors
 ///

@@ -1,4 +1,4 @@
-//! Encoding of fields in sequence.
+//! Encoding of pairs of fields, the first member before the second.
 ghost use Rattle.std.specs.Prelude.{◌≡◌, ◌++◌};
 ghost use Rattle.der_core.specs.Fields.{fields_size, FieldsWritten};
 
@@ -11,9 +11,9 @@ use der_base::{Error, Length};
 ///
 /// # Errors
 ///
-/// Those of the first member; if it is written, those of the second. [`Encode::encoded_len`] also
-/// fails with `Overflow` without a position, if the two members together have more than 4294967295
-/// octets.
+/// Those of the first member. If there is no error of the first member, those of the second.
+/// [`Encode::encoded_len`] also fails with `Overflow` without a position, if the two members
+/// together have more than 4294967295 octets.
 impl<A: Encode, B: Encode> Encode for (A, B) {
     ghost encoding = { λ v. A.encoding v.0 ++ B.encoding v.1 };
 

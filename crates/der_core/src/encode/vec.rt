@@ -11,7 +11,7 @@ use der_base::{Error, ErrorKind, Length};
 use std::alloc::Allocator;
 
 /// Returns the value's encoding in a new vector, whose memory is that of the allocator `alloc`.
-/// [`Encode::to_der`] is this function with the global allocator.
+/// [`Encode::to_der`] calls this function with the global allocator.
 ///
 /// # Errors
 ///
@@ -34,7 +34,7 @@ pub fn to_der_in<T: Encode, A: Allocator>(alloc: A, value: &T) -> Result<Vec<u8,
 }
 
 /// Appends the value's encoding to a vector of any allocator, and returns the number of octets
-/// appended. [`Encode::encode_to_vec`] is this function for the global allocator.
+/// appended. [`Encode::encode_to_vec`] calls this function for a vector of the global allocator.
 ///
 /// # Errors
 ///

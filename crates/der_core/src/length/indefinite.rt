@@ -52,10 +52,11 @@ enum Part {
 ///   octet, if the zero octet is where an identifier may begin; and at the position after a length
 ///   octet `0x80`, if the identifier before it is primitive.
 /// - `TagUnknown` and `TagNumberInvalid` for an identifier, as by [`Tag::decode`](crate::Decode).
-/// - `NestingDepth` at the position after a length octet `0x80`, if it would open a 65th body
-///   inside the 64 bodies that are open. The body that the call scans is the first of them.
-/// - `Length`, which holds the tag, at the position after the length octets if fewer length octets
-///   would suffice, or after the first length octet if it announces more than four others.
+/// - `NestingDepth` at the position after a length octet `0x80`, if this octet would open a 65th
+///   body inside the 64 bodies that are open. The body that the call scans is the first of them.
+/// - `Length`, which holds the tag, in two cases: at the position after the length octets, if fewer
+///   length octets would suffice; and at the position after the first length octet, if this octet
+///   announces more than four others.
 /// - `Incomplete` for contents that are truncated, as by [`Reader::drain`].
 pub fn decode_indefinite_length<R: Reader, L: Ledger>(
     reader: &mut R,

@@ -11,9 +11,11 @@ pub use owned::iter_cmp_owned;
 use std::cmp::Ordering;
 
 /// Compares the values to which the references from `a` and `b` refer, pair by pair. The first pair
-/// whose values are unequal, or whose comparison fails, decides the result. If there is no such
-/// pair, the iterator that ends first is the smaller; if both end at once, they are equal. This
-/// function itself allocates nothing, but the iterators may.
+/// whose values are unequal, or whose comparison fails, decides the result. If no pair decides, the
+/// result is `Less` if only `b` has further values, `Greater` if only `a` has further values, and
+/// `Equal` if both have ended. This function itself allocates nothing, but the iterators may.
+///
+/// The caller must ensure that `next` may be called on both iterators, and that both iterators end.
 ///
 /// # Errors
 ///

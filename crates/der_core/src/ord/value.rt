@@ -36,8 +36,8 @@ pub trait Orderly: EncodeValue + Tagged + ValueOrd {
 }
 
 /// Types whose `Ord` compares contents of equal length octet by octet: for two values with contents
-/// of equal length, it returns the lexicographic order of the contents. A type that implements this
-/// trait also implements [`ValueOrd`], whose `value_cmp` then compares by `Ord`.
+/// of equal length, `Ord` returns the lexicographic order of the contents. A type that implements
+/// this trait also implements [`ValueOrd`], whose `value_cmp` then compares by `Ord`.
 ///
 /// Ghost member (for proofs only): `orders_contents` is this property of `Ord`, which implementors
 /// prove.

@@ -52,7 +52,8 @@ pub trait ReaderExt: Reader {
         Ok(octet[0])
     }
 
-    /// The number of octets read since the start of the input. It equals [`Reader::position`].
+    /// The number of octets read since the start of the input. The result is that of
+    /// [`Reader::position`].
     final fn offset(&self) -> Length
         ensures { result ≡ definite_length (Self.state self.now).position }
     {
@@ -79,12 +80,12 @@ pub trait ReaderExt: Reader {
     /// part are an error.
     ///
     /// The caller must ensure that the end in `outer` is neither before the position nor after the
-    /// end of the input, and that the depth in it is at most 64. What [`Reader::enter_nested`]
-    /// returned satisfies this.
+    /// end of the input, and that the depth in `outer` is at most 64. What [`Reader::enter_nested`]
+    /// returned for this part satisfies both conditions.
     ///
     /// # Errors
     ///
-    /// After each the reader has the end and the depth in `outer`.
+    /// After each of these errors the reader has the end and the depth in `outer`.
     ///
     /// - The error in `answer`, unchanged; the reader does not move.
     /// - `TrailingData` at the reader's position, if octets are left in the part; the reader is
@@ -122,9 +123,10 @@ pub trait ReaderExt: Reader {
         Ok(value)
     }
 
-    /// Calls `f` to read a nested part that consists of the next `len` octets, and returns its
-    /// result. While `f` runs, the end of this reader is the end of the part, and its depth is one
-    /// greater. Octets of the part that `f` leaves unread are an error.
+    /// Reads a nested part that consists of the next `len` octets: calls `f` with this reader
+    /// inside the part, and returns the result of `f`. While `f` runs, the end of this reader is
+    /// the end of the part, and the depth of this reader is one greater than before. Octets of the
+    /// part that `f` leaves unread are an error.
     ///
     /// The caller must ensure two things:
     ///
@@ -214,8 +216,9 @@ pub trait ReaderExt: Reader {
     /// Scans the next indefinite-length body and returns its number of octets, including its
     /// end-of-contents octets (X.690 8.1.3.6). The reader does not move. `turns`, which exists only
     /// for proofs, counts each identifier and each end-of-contents (two zero octets) in the scan.
-    /// If [`Reader::remaining`] returns `Ok`, the function scans the octets that it returns. If
-    /// [`Reader::remaining`] fails, the function scans a fork of the reader (see [`Reader::fork`]).
+    /// If [`Reader::remaining`] succeeds, the function scans the octets that [`Reader::remaining`]
+    /// returns. If [`Reader::remaining`] fails, the function scans a fork of the reader (see
+    /// [`Reader::fork`]).
     ///
     /// The caller must ensure that the reader uses the Basic Encoding Rules.
     ///
@@ -233,16 +236,18 @@ pub trait ReaderExt: Reader {
         scan_next_body(self, turns)
     }
 
-    /// Returns the octets of the next whole element, header and contents, without copying them.
+    /// Returns the octets of the next whole element, without copying them: header, contents and any
+    /// end-of-contents octets.
     ///
     /// # Errors
     ///
-    /// The size is here the number of octets of the element: header and contents together, with any
-    /// end-of-contents octets. If several errors apply, the first is returned.
+    /// If several errors apply, the first in this list is returned. The size of the element is the
+    /// number of its octets: header, contents and any end-of-contents octets together.
     ///
     /// - Those of the header, as by [`ReaderExt::peek_header`]; the reader is unchanged.
-    /// - `Overflow` without a position, if the size exceeds 4294967295; the reader is unchanged.
-    /// - Those of [`Reader::read_slice`] for the octets of this size.
+    /// - `Overflow` without a position, if the size of the element exceeds 4294967295; the reader
+    ///   is unchanged.
+    /// - Those of [`Reader::read_slice`], called with the size of the element.
     final fn tlv_bytes(&mut self) -> Result<Self::Borrowed, Error>
         ensures same { Same (Self.state self.old) (Self.state self.new) }
         ensures exact { IsBinding Self.reliable result
@@ -295,9 +300,9 @@ pub trait ReaderExt: Reader {
     }
 
     /// Reads a SEQUENCE (X.690 8.9). Calls `f` with this reader inside the contents, and returns
-    /// its result. Contents octets that `f` leaves unread are an error.
+    /// the result of `f`. Contents octets that `f` leaves unread are an error.
     ///
-    /// The caller must ensure two things, whatever header of a SEQUENCE is next:
+    /// The caller must ensure two things for every header with the tag SEQUENCE that may be next:
     ///
     /// - The requirements of `f` hold for this reader inside the contents. The caller may assume
     ///   that the contents do not exceed the end and are nested in fewer than 64 parts.

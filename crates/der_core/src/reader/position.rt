@@ -19,7 +19,7 @@ pub struct Position {
     ghost counted: { position < 2 ^ 32 },
 }
 
-/// Cloning copies position, end and depth; it allocates nothing.
+/// A clone has the same position, end and depth. Cloning never fails and allocates nothing.
 impl Clone for Position {
     ghost use Rattle.std.specs.Prelude.{⊤};
 
@@ -62,8 +62,9 @@ impl Position {
         Length::new(self.position as u32)
     }
 
-    /// The end up to which the input may be read. Inside a nested part this is the end of that
-    /// part. Outside all nested parts it is the length of the input.
+    /// The end up to which the input may be read, in octets from the start of the input. Inside a
+    /// nested part this is the end of that part. Outside all nested parts it is the length of the
+    /// input.
     pub fn input_len(&self) -> Length
         ensures { result ≡ definite_length (position_place self.now).end }
     {
@@ -96,11 +97,12 @@ impl Position {
     ///
     /// # Errors
     ///
-    /// After each the position is unchanged. If several apply, the first is returned.
+    /// After each of these errors the position is unchanged. If several apply, the first in this
+    /// list is returned.
     ///
     /// - `Overflow` without a position, if the new position would exceed 4294967295.
-    /// - `Incomplete` at the old position, if the new one would be after the end, but not after
-    ///   4294967295.
+    /// - `Incomplete` at the old position, if the new position would be after the end, but not
+    ///   after 4294967295.
     pub fn advance(&mut self, amount: Length) -> Result<Length, Error>
         ensures { Moves (advance_outcome (number amount)) (position_place self.old) result
             (position_place self.new) }
@@ -128,7 +130,8 @@ impl Position {
     ///
     /// # Errors
     ///
-    /// After each the position is unchanged. If several apply, the first is returned.
+    /// After each of these errors the position is unchanged. If several apply, the first in this
+    /// list is returned.
     ///
     /// - `NestingDepth` at the position, if the part would be nested in 64 others.
     /// - `Overflow` without a position, if the end of the part would exceed 4294967295.
@@ -227,8 +230,8 @@ impl Resumption {
     ghost use Rattle.der_core.specs.Resumption.{outer_end, outer_depth};
 
     /// Makes a `Resumption` from the end `input_len` and the depth `depth` that a reader had before
-    /// it entered a nested part. It is for readers that keep end and depth themselves, without a
-    /// [`Position`].
+    /// it entered a nested part. Readers that keep end and depth themselves, without a
+    /// [`Position`], call this function.
     pub fn new(input_len: Length, depth: u8) -> Self
         ensures end { outer_end result ≡ number input_len }
         ensures depth { outer_depth result ≡ depth }

@@ -54,12 +54,12 @@ pub(crate) fn read_zero_octet<R: Reader>(reader: &mut R) -> Result<(), Error>
 /// then read.
 ///
 /// The caller must ensure that the end in `outer` is neither before the position nor after the end
-/// of the input, and that the depth in it is at most 64. What [`Reader::enter_nested`] returned
-/// satisfies this.
+/// of the input, and that the depth in `outer` is at most 64. What [`Reader::enter_nested`]
+/// returned for these contents satisfies both conditions.
 ///
 /// # Errors
 ///
-/// After each the reader has the end and the depth in `outer`.
+/// After each of these errors the reader has the end and the depth in `outer`.
 ///
 /// - The error in `answer`, unchanged; the reader does not move.
 /// - `TrailingData` at the reader's position, if octets are left in the contents; the reader is
@@ -95,8 +95,9 @@ pub fn close_value<R: Reader, T: Drop, E: From<Error> + Drop>(
 ///
 /// The caller must ensure two things:
 ///
-/// - The requirements of `f` hold for this reader inside the contents and that header. The caller
-///   may assume that the contents do not exceed the end and are nested in fewer than 64 parts.
+/// - The requirements of `f` hold for this reader inside the contents, and for the header that `f`
+///   gets. The caller may assume that the contents do not exceed the end and are nested in fewer
+///   than 64 parts.
 /// - `f` leaves the reader's input, rules, end and depth unchanged. It does not move the reader
 ///   backwards, and a failed reader stays failed.
 ///

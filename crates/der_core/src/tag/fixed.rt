@@ -39,7 +39,7 @@ impl<T: FixedTag> FixedTag for Box<T> {
 pub trait Tagged {
     ghost tag_of: { Self → ATag };
 
-    /// The value's tag.
+    /// The tag with which this value is encoded.
     fn tag(&self) -> Tag
         ensures { result ≡ tag_of self.now };
 }
@@ -54,15 +54,16 @@ impl<T: FixedTag> Tagged for T {
 
 /// Types whose values all have tags with the constructed bit, or all have tags without it.
 ///
-/// Ghost member (for proofs only): `constructed` says whether the tag has the constructed bit.
+/// Ghost member (for proofs only): `constructed` says whether the tags of the values have the
+/// constructed bit.
 pub trait IsConstructed {
     ghost constructed: { Bool };
 
-    /// Whether the tag has the constructed bit.
+    /// Whether the tags of the type's values have the constructed bit.
     const CONSTRUCTED: bool;
 
-    /// Returns `Self::CONSTRUCTED`: whether the tag has the constructed bit. Generic code calls
-    /// this function, because it cannot name the constant in a contract.
+    /// Returns `Self::CONSTRUCTED`: whether the tags of the type's values have the constructed bit.
+    /// Generic code calls this function, because it cannot name the constant in a contract.
     ///
     /// The implementor must ensure that the result is `Self::CONSTRUCTED`.
     fn has_constructed_bit() -> bool

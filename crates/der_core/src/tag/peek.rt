@@ -33,7 +33,8 @@ pub trait TagPeek: Sized {
         expected_tag_number: TagNumber,
     ) -> Result<bool, Error>;
 
-    /// Decodes a tag (X.690 8.1.2) and returns it with the constructed bit of its identifier.
+    /// Decodes a tag (X.690 8.1.2). Returns the tag, and whether its identifier has the constructed
+    /// bit.
     ///
     /// # Errors
     ///

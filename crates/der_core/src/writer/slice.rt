@@ -97,7 +97,7 @@ impl<'a> SliceWriter<'a> {
         Ok(&bytes[..end])
     }
 
-    /// Writes the encoding of a value.
+    /// Writes the encoding of `value`.
     ///
     /// # Errors
     ///
@@ -127,7 +127,7 @@ impl<'a> SliceWriter<'a> {
         Ok(())
     }
 
-    /// Writes the header of a SEQUENCE (X.690 8.9) and lets `f` write its contents. `f` gets this
+    /// Writes the header of a SEQUENCE (X.690 8.9) and lets `f` write the contents. `f` gets this
     /// writer limited to the next `len` octets, with position 0 at the first of them, and not
     /// failed. Afterwards the writer has its previous limits again, whatever `f` returned.
     ///
@@ -139,8 +139,8 @@ impl<'a> SliceWriter<'a> {
     ///
     /// # Errors
     ///
-    /// After each the writer is failed; if `f` was called, the position is after the contents. If
-    /// several apply, the first is returned.
+    /// After each of these errors the writer is failed; if `f` was called, the position is after
+    /// the contents. If several apply, the first is returned.
     ///
     /// - `Failed` at the writer's position, if the writer had already failed; the writer is
     ///   unchanged.

@@ -1,4 +1,4 @@
-//! Arguments as the system passes them.
+//! Tests of the program on arguments as the system passes them.
 use super::USAGE;
 use super::writers::Tally;
 use der_tool_lib::run_tool;
@@ -6,8 +6,8 @@ use std::env::FillError;
 use std::rt::Env;
 use std::{env, io};
 
-/// An environment of a process, with these arguments and without variables. Arguments are octets,
-/// which need not be text.
+/// An environment of a process, without variables. The field holds the arguments, each as octets
+/// that need not be text.
 #[derive(Drop)]
 struct Fixed<'a>(&'a [&'a [u8]]);
 

@@ -1,4 +1,4 @@
-//! Octets that are read under the Basic Encoding Rules.
+//! Tests of commands that read octets under the Basic Encoding Rules.
 use super::{USAGE, replay};
 use std::test::Fail;
 

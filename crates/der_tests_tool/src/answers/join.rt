@@ -1,4 +1,4 @@
-//! An OCTET STRING, and its joined segments.
+//! Tests of the command `join`: an OCTET STRING, and its joined segments.
 use super::{USAGE, replay};
 use std::test::Fail;
 
@@ -61,13 +61,14 @@ fn refuses_what_is_no_octet_string(rt: HostRuntime) -> Result<(), Fail> {
     replay(&rt, &rows)
 }
 
-/// 64 OCTET STRINGs of definite lengths, each inside the one before it, in hexadecimal.
+/// 64 OCTET STRINGs of definite lengths, nested in one another, in hexadecimal. The innermost is
+/// empty.
 const DEEPEST: &str = "247e247c247a24782476247424722470246e246c246a24682466246424622460\
     245e245c245a24582456245424522450244e244c244a24482446244424422440\
     243e243c243a24382436243424322430242e242c242a24282426242424222420\
     241e241c241a24182416241424122410240e240c240a24082406240424022400";
 
-/// 64 headers of OCTET STRINGs of indefinite lengths, in hexadecimal.
+/// 64 headers of constructed OCTET STRINGs of indefinite lengths, in hexadecimal.
 const OPENED: &str = "2480248024802480248024802480248024802480248024802480248024802480\
     2480248024802480248024802480248024802480248024802480248024802480\
     2480248024802480248024802480248024802480248024802480248024802480\

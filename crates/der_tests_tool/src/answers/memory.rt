@@ -1,4 +1,4 @@
-//! Allocations that fail.
+//! Tests of commands whose allocations fail.
 use super::{USAGE, words_of};
 use der_tool_lib::respond;
 use linked_list_allocator::LocalHeap;
@@ -9,8 +9,8 @@ const REFUSED: &str = "error: out of memory\n";
 
 /// Runs the command in `line` repeatedly, each time on a larger heap. On the smallest heaps an
 /// early allocation fails, on larger ones a later allocation, and on the largest none. Each run
-/// must print `text` with the exit status `status`, or the line that reports a failed allocation
-/// with the status 1. Returns how many runs printed the line that reports a failed allocation.
+/// must return `status` and print `text`, or return the status 1 and print [`REFUSED`]. Returns how
+/// many runs printed [`REFUSED`].
 fn refuse_in_turn(
     rt: &(impl Abort + AllocGlobal),
     line: &str,

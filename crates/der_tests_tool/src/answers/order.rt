@@ -1,4 +1,4 @@
-//! Two elements, and their order.
+//! Tests of the command `order`: two elements, and how they compare.
 use super::{USAGE, replay};
 use std::test::Fail;
 

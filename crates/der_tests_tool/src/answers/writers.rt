@@ -1,4 +1,4 @@
-//! Writers that fail, and an output that never does.
+//! Writers that fail, and an output that never fails.
 ghost use Rattle.std.specs.Prelude.{true, None};
 
 use super::{USAGE, words_of};
@@ -43,8 +43,8 @@ const ROWS: [(&str, u8, &str); 13] = [
     ("order --ber 3000 3000", 2, USAGE),
 ];
 
-/// A writer that accepts one octet per call of `write`. After `calls` calls, each further call
-/// fails.
+/// A writer that accepts one octet per call of `write`. The field `calls` is the number of calls
+/// that may still succeed. When `calls` is 0, each call fails.
 #[derive(Drop)]
 struct Choppy {
     taken: Vec<u8>,
@@ -120,7 +120,8 @@ fn a_writer_that_takes_nothing_or_keeps_it_is_status_1(rt: HostRuntime) -> Resul
     Ok(())
 }
 
-/// An output that counts the octets it gets, and never fails. The field is the count.
+/// An output that counts the octets it gets, and never fails. The field is the number of octets so
+/// far.
 #[derive(Drop)]
 pub struct Tally(pub usize);
 

@@ -18,9 +18,9 @@ use der::{
 use der_asn1::Described;
 use std::alloc::{AllocError, Global};
 
-/// The values of an attribute, borrowed from the input: a SET OF elements of any tags. It has been
-/// checked that the contents are elements in ascending order of their encodings. The contents of
-/// the elements are not checked.
+/// The values of an attribute, borrowed from the input: a SET OF elements of any tags. Decoding
+/// checks that the contents of the SET OF are elements in ascending order of their encodings. It
+/// does not check the contents of these elements.
 pub struct AttributeValues<'a> {
     octets: &'a [u8],
     ghost short: { length octets.now < 2 ^ 32 },
@@ -78,16 +78,18 @@ impl<'a> ReadValue for AttributeValues<'a> {
     ghost takes_valid = { octets_with_accepts_valid AreValues (λ v. v.octets.now) };
 }
 
-/// Borrows the contents from the input, and checks every element in them once. Elements are read
-/// under DER, even if the reader reads under BER. Their encodings must be in ascending order,
-/// compared octet by octet; equal encodings may follow each other.
+/// Borrows the contents from the input, and checks every element in them once. Even if the reader
+/// reads BER, the elements are read under DER. Their encodings must be in ascending order, compared
+/// octet by octet. Equal encodings may follow each other.
 ///
 /// # Errors
 ///
 /// - `Failed`, `Overflow` and `Incomplete`, as by [`Reader::read_slice`].
-/// - The errors of reading an element, with positions counted from the beginning of the contents.
+/// - The errors of decoding the first element that cannot be decoded, with positions counted from
+///   the beginning of the contents; the reader is after the contents and has not failed.
 /// - `SetOrdering` at the start of the first element whose encoding is less than that of the
-///   element before it. This position is also counted from the beginning of the contents.
+///   element before it. This position is also counted from the beginning of the contents; the
+///   reader is after the contents and has not failed.
 impl<'a, R: Reader<Borrowed = &'a [u8]>> DecodeValue<R> for AttributeValues<'a> {
     type Error = Error;
 

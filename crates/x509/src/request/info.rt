@@ -24,7 +24,8 @@ pub struct CertReqInfo<'a> {
     pub subject: Name<'a>,
     /// The public key of the requested certificate.
     pub public_key: SubjectPublicKeyInfoRef<'a>,
-    /// Further information about the subject, or further requests, such as extensions.
+    /// The attributes of the request: further information about the subject, or further requests,
+    /// such as the extensions that the certificate should have.
     pub attributes: Implicit<Attributes<'a>, 0>,
 }
 

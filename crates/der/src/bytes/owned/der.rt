@@ -28,12 +28,12 @@ impl ReadValue for BytesOwned {
 }
 
 /// Copies the contents into an owned byte string. Takes only the length from the header, and
-/// ignores its tag.
+/// ignores the header's tag.
 ///
 /// # Errors
 ///
 /// `Failed`, `Overflow`, `Incomplete` and `OutOfMemory`, as by [`Reader::read_vec`]. After
-/// `OutOfMemory`, a [`SliceReader`](der_core::SliceReader) is still before the contents.
+/// `OutOfMemory`, the reader is unchanged: it is before the contents.
 impl<R: Reader> DecodeValue<R> for BytesOwned {
     type Error = Error;
 
@@ -70,6 +70,8 @@ impl WrittenValue for BytesOwned {
     ghost writable = { λ b. IsCounted (owned_octets b) };
 }
 
+/// Writes the octets of the byte string as the contents.
+///
 /// # Errors
 ///
 /// `value_len` never fails. `encode_value` returns the errors of [`Writer::write`].

@@ -20,16 +20,16 @@ impl BytesOwned {
     /// Decodes the contents after `header` into an owned byte string. If `header` is primitive,
     /// copies the contents. If `header` is constructed and the reader's rules are the Basic
     /// Encoding Rules, all octets up to the reader's end must be segments: elements with the tag
-    /// `inner_tag` (X.690 8.7.3). Their contents are joined. A segment may itself consist of
-    /// segments.
+    /// `inner_tag` (X.690 8.7.3). The contents of the segments are joined. A segment may itself
+    /// consist of segments.
     ///
     /// # Errors
     ///
     /// - After a primitive header, the errors of [`Reader::read_vec`].
     /// - After a constructed header, under the Basic Encoding Rules, the errors of
     ///   [`read_constructed_vec`].
-    /// - `Noncanonical` with the header's tag, at the last octet of the header, if the header is
-    ///   constructed and the rules are the Distinguished Encoding Rules; the reader is unchanged.
+    /// - After a constructed header, under the Distinguished Encoding Rules, `Noncanonical` with
+    ///   the header's tag, at the last octet of the header; the reader is unchanged.
     pub fn decode_value_parts<R: Reader>(
         alloc: Global,
         reader: &mut R,

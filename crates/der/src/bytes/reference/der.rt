@@ -26,7 +26,8 @@ impl<'a> ReadValue for BytesRef<'a> {
     ghost takes_valid = { λ b rules h octets taken. taken.0 };
 }
 
-/// Borrows the contents from the input. Takes only the length from the header, and ignores its tag.
+/// Borrows the contents from the input. Takes only the length from the header, and ignores the
+/// header's tag.
 ///
 /// # Errors
 ///
@@ -64,6 +65,8 @@ impl<'a> WrittenValue for BytesRef<'a> {
     ghost writable = { λ b. IsCounted (reference_octets b) };
 }
 
+/// Writes the octets of the byte string as the contents.
+///
 /// # Errors
 ///
 /// `value_len` never fails. `encode_value` returns the errors of [`Writer::write`].

@@ -36,12 +36,12 @@ impl ReadValue for MyByteMonth {
     ghost takes_valid = { λ month rules h octets taken. taken.0 };
 }
 
-/// Reads one octet, and ignores the header.
+/// Reads a month from one octet. Ignores the header, also its length.
 ///
 /// # Errors
 ///
 /// - `Failed`, `Overflow` and `Incomplete`, as by [`ReaderExt::read_byte`].
-/// - `DateTime` at the position after the octet, if its value is 12 or more; the reader is after
+/// - `DateTime` at the position after the octet, if the octet is 12 or more; the reader is after
 ///   the octet and has failed.
 impl<R: Reader> DecodeValue<R> for MyByteMonth {
     type Error = Error;
@@ -65,6 +65,8 @@ impl WrittenValue for MyByteMonth {
     ghost writable = { IsMonth };
 }
 
+/// Writes the number of the month as one octet.
+///
 /// # Errors
 ///
 /// `value_len` never fails. `encode_value` returns the errors of [`Writer::write`].

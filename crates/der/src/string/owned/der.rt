@@ -23,8 +23,8 @@ impl ReadValue for StringOwned {
     ghost takes_valid = { λ t rules h octets taken. taken.0 };
 }
 
-/// Reads the contents as a slice of the input, and copies them into an owned text. Takes only the
-/// length from the header, and ignores its tag.
+/// Reads the contents as a slice of the input, and copies the slice into an owned text. Takes only
+/// the length from the header, and ignores the header's tag.
 ///
 /// # Errors
 ///
@@ -61,6 +61,8 @@ impl WrittenValue for StringOwned {
     ghost writable = { λ t. IsText (owned_text t) };
 }
 
+/// Writes the octets of the text as the contents.
+///
 /// # Errors
 ///
 /// `value_len` never fails. `encode_value` returns the errors of [`Writer::write`].

@@ -25,7 +25,7 @@ impl<'a> ReadValue for StringRef<'a> {
 }
 
 /// Borrows the contents from the input as a text. Takes only the length from the header, and
-/// ignores its tag.
+/// ignores the header's tag.
 ///
 /// # Errors
 ///
@@ -65,6 +65,8 @@ impl<'a> WrittenValue for StringRef<'a> {
     ghost writable = { λ t. IsText (reference_text t) };
 }
 
+/// Writes the octets of the text as the contents.
+///
 /// # Errors
 ///
 /// `value_len` never fails. `encode_value` returns the errors of [`Writer::write`].

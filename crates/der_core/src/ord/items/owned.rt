@@ -8,9 +8,11 @@ use der_base::Error;
 use std::cmp::Ordering;
 
 /// Compares the values that `a` and `b` return, pair by pair. The first pair whose values are
-/// unequal, or whose comparison fails, decides the result. If there is no such pair, the iterator
-/// that ends first is the smaller; if both end at once, they are equal. This function itself
-/// allocates nothing, but the iterators may.
+/// unequal, or whose comparison fails, decides the result. If no pair decides, the result is `Less`
+/// if only `b` has further values, `Greater` if only `a` has further values, and `Equal` if both
+/// have ended. This function itself allocates nothing, but the iterators may.
+///
+/// The caller must ensure that `next` may be called on both iterators, and that both iterators end.
 ///
 /// # Errors
 ///
