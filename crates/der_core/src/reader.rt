@@ -153,7 +153,8 @@ pub trait Reader: Sized + Drop {
         ensures failed { state self.new ≡ stopped_state (state self.old)
             (state self.old).position };
 
-    /// Returns the remaining octets, up to the end, without copying them; the reader does not move.
+    /// Returns the octets from the reader's position up to its end, without copying them. Inside a
+    /// nested part, this is the end of that part. The reader does not move.
     ///
     /// # Errors
     ///
@@ -211,20 +212,23 @@ pub trait Reader: Sized + Drop {
         self.read_vec_in(alloc, len)
     }
 
-    /// Skips `amount` octets. If `amount` is zero and was not read in the indefinite form, the
-    /// function does nothing and returns `Ok`, even if the reader has failed. Octets are skipped in
-    /// steps of sixteen; the last step may be shorter. If fewer than `amount` octets are left, the
-    /// reader skips all steps for which sixteen octets are left, and fails at the next step.
+    /// Skips `amount` octets. If `amount` is [`Length::ZERO`], the call does nothing and returns
+    /// `Ok`, even if the reader has failed.
+    ///
+    /// If the reader has not failed, but fewer than `amount` octets are left, the call returns an
+    /// error, but first moves the reader past as many whole blocks of sixteen octets as are left.
+    /// After these blocks it asks for the rest of `amount`, or for sixteen octets if the rest is
+    /// longer. Below, the requested end is where the octets that it asks for would end.
     ///
     /// # Errors
     ///
     /// - `Failed` at the reader's position, if the reader had already failed; the reader is
     ///   unchanged.
-    /// - `Overflow` without a position, if fewer than `amount` octets are left and the end of the
-    ///   step that fails would exceed 4294967295; the reader is after the whole steps and has not
-    ///   failed.
-    /// - `Incomplete` at the position after the whole steps, if fewer than `amount` octets are left
-    ///   and that end does not exceed 4294967295; the reader is there and failed.
+    /// - `Overflow` without a position, if fewer than `amount` octets are left and the requested
+    ///   end exceeds 4294967295; the reader is then after the whole blocks, and has not failed.
+    /// - `Incomplete` at the position after the whole blocks, if fewer than `amount` octets are
+    ///   left and the requested end does not exceed 4294967295; the reader is then at this
+    ///   position, and has failed.
     fn drain(&mut self, amount: Length) -> Result<(), Error>
         ensures same { Same (state self.old) (state self.new) }
         ensures exact { Meets reliable (drain_outcome amount) (state self.old) result
