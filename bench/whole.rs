@@ -21,7 +21,7 @@ type Making = fn(&[WantedKey], &[u8]) -> Totals;
 type Putting = fn(&[WantedKey], &[u8], &mut [u8]) -> Totals;
 
 /// The number of octets that keys borrow from: the most that one key needs.
-const LENT: usize = 512;
+const BORROWED: usize = 512;
 
 /// Keys whose sizes are below `bound`, about `size` octets together.
 fn wanted_keys(bound: u64, size: usize) -> Vec<WantedKey> {
@@ -97,7 +97,7 @@ fn print_row_putting(bound: u64, size: usize, borrowed: &[u8]) {
 
 fn main() {
     let mut numbers = Numbers(0x2545_F491_4F6C_DD1D);
-    let borrowed: Vec<u8> = (0..LENT).map(|_| numbers.next() as u8).collect();
+    let borrowed: Vec<u8> = (0..BORROWED).map(|_| numbers.next() as u8).collect();
     for size in SIZES {
         for bound in [33, 513] {
             making!("counted", count_keys, count, bound, size, &borrowed);

@@ -2,7 +2,7 @@
 //! that return the same. The tags are those of the ASN.1 modules.
 use crate::checks::holds;
 use crate::fixtures::constants::tags_agree;
-use der::{FixedTag, Tag};
+use der::Tag;
 use pkcs8::{PrivateKeyAttributes, PrivateKeyAttributesGrammar, PrivateKeyInfo, PrivateKeyVersionGrammar};
 use spki::{AlgorithmIdentifierRef, SubjectPublicKeyInfoRef};
 use x509::{
@@ -50,15 +50,10 @@ fn types_of_keys_report_equal_tags(rt: HostRuntime) {
     holds(&rt, tags_agree::<PrivateKeyAttributes>(Tag::Set, true));
 }
 
-// Whether the constant and the function of the grammar give this tag.
-fn tag_is<G: FixedTag>(tag: Tag) -> bool {
-    G::TAG == tag && G::fixed_tag() == tag
-}
-
 #[test]
 fn grammars_report_equal_tags(rt: HostRuntime) {
-    holds(&rt, tag_is::<CertificateVersionGrammar>(Tag::Integer));
-    holds(&rt, tag_is::<CertReqVersionGrammar>(Tag::Integer));
-    holds(&rt, tag_is::<PrivateKeyVersionGrammar>(Tag::Integer));
-    holds(&rt, tag_is::<PrivateKeyAttributesGrammar>(Tag::Set));
+    holds(&rt, tags_agree::<CertificateVersionGrammar>(Tag::Integer, false));
+    holds(&rt, tags_agree::<CertReqVersionGrammar>(Tag::Integer, false));
+    holds(&rt, tags_agree::<PrivateKeyVersionGrammar>(Tag::Integer, false));
+    holds(&rt, tags_agree::<PrivateKeyAttributesGrammar>(Tag::Set, true));
 }
