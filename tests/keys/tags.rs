@@ -1,7 +1,7 @@
 //! The constants of the types of keys and certificates, which no clause can name, and the functions
 //! that return the same. The tags are those of the ASN.1 modules.
 use crate::checks::holds;
-use crate::fixtures::constants::tags_agree;
+use crate::fixtures::constants::{grammar_tags_agree, tags_agree};
 use der::Tag;
 use pkcs8::{PrivateKeyAttributes, PrivateKeyAttributesGrammar, PrivateKeyInfo, PrivateKeyVersionGrammar};
 use spki::{AlgorithmIdentifierRef, SubjectPublicKeyInfoRef};
@@ -52,8 +52,8 @@ fn types_of_keys_report_equal_tags(rt: HostRuntime) {
 
 #[test]
 fn grammars_report_equal_tags(rt: HostRuntime) {
-    holds(&rt, tags_agree::<CertificateVersionGrammar>(Tag::Integer, false));
-    holds(&rt, tags_agree::<CertReqVersionGrammar>(Tag::Integer, false));
-    holds(&rt, tags_agree::<PrivateKeyVersionGrammar>(Tag::Integer, false));
-    holds(&rt, tags_agree::<PrivateKeyAttributesGrammar>(Tag::Set, true));
+    holds(&rt, grammar_tags_agree::<CertificateVersionGrammar>(Tag::Integer));
+    holds(&rt, grammar_tags_agree::<CertReqVersionGrammar>(Tag::Integer));
+    holds(&rt, grammar_tags_agree::<PrivateKeyVersionGrammar>(Tag::Integer));
+    holds(&rt, grammar_tags_agree::<PrivateKeyAttributesGrammar>(Tag::Set));
 }

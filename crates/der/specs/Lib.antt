@@ -53,6 +53,7 @@ pub use Rattle.der_core.specs.SliceWriter
 pub use Rattle.der_core.specs.Encode
 pub use Rattle.der_core.specs.WrittenSequence
 pub use Rattle.der_core.specs.Lawful
+pub use Rattle.der_core.specs.ElementSpec
 pub use Rattle.der_core.specs.Fields
 pub use Rattle.der_core.specs.DerOrd
 pub use Rattle.der_core.specs.Items

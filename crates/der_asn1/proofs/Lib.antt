@@ -4,6 +4,8 @@ pub mod EitherReadLemmas
 pub mod SequenceOfLemmas
 pub mod IntegerLemmas
 pub mod IntegerReadLemmas
+pub mod RangeLemmas
+pub mod EnumerationLemmas
 pub mod TimeLemmas
 pub mod SetOfLemmas
 pub mod ArcLemmas

@@ -1,23 +1,20 @@
--- Lemmas on reading elements of one type in sequence.
-use Rattle.std.proofs.Common.{◌≡◌, ℕ, ◌+◌, ◌-◌, ◌≤◌, Bool, true, false, Ok, Err, inl, inr, List, [], ◌∷◌, ◌++◌, length, refl, sym, ap, subst, ◌∙◌, nat_le, take, arith}
+-- Lemmas on reading items in sequence.
+use Rattle.std.proofs.Common.{◌≡◌, ℕ, ◌+◌, ◌-◌, ◌<◌, ◌≤◌, Bool, true, false, Ok, Err, inl, inr, List, [], ◌∷◌, ◌++◌, length, refl, sym, ap, subst, ◌∙◌, nat_le, take, arith}
 use Rattle.std.proofs.lemmas.Grind.{not_there}
 use Rattle.std.proofs.lemmas.List.{take_all}
 use Rattle.der.specs.Outcome.{Gives}
 use Rattle.der.specs.Reader.{read_slice_outcome}
-use Rattle.der.specs.HeaderGrammar.{Head}
-use Rattle.der.specs.Prelude.{Tag}
-use Rattle.der.specs.Prelude.{EncodingRules}
-use Rattle.der.specs.Prelude.{Der}
+use Rattle.der.specs.Prelude.{Tag, EncodingRules, Der}
 use Rattle.der.specs.Decode.{Passes, ReadsOrLacks, SucceedsOrLacks}
-use Rattle.der.specs.Element.{ElementNext, element_levels}
 use Rattle.der.specs.Encode.{element_octets}
-use Rattle.der.specs.Lawful.{IsLawful}
 use Rattle.der.specs.ReaderState.{ReaderState, rest_of, advanced_state, initial_state, IsSound, Reads}
 use Rattle.der.proofs.DecodeLemmas.{lacks_only, read_on, rest-beginning}
-use Rattle.der.specs.LawfulLemmas.{elements_are_encodings, passed_encodings}
+use Rattle.der.specs.LawfulLemmas.{passed_encodings}
 use Rattle.der.proofs.StateLemmas.{length-rest, rest_after}
 use Rattle.der.specs.SliceReader.{slice_state}
 use Rattle.der.specs.Prelude.{SliceReader}
+use Rattle.der.proofs.DelimitedLemmas.{element_front, elements_delimited}
+use Rattle.der_asn1.specs.Item.{DecodesItems, IsElement, IsItem, ItemSpec}
 use Rattle.der_asn1.specs.SequenceOf.{IsListOf, IsAtItem, AllValid, joined_encodings}
 
 -- a list that is not empty: its first element and the rest
@@ -38,41 +35,63 @@ uncons {A} {valid} {encoding} {octets} l some = go l.items l.are_valid l.joined
 pub cons : {A : Type 0} {valid : A → Type 0} {encoding : A → List ℕ} (v : A) {octets others : List ℕ} → valid v → octets ≡ encoding v ++ others → IsListOf valid encoding others → IsListOf valid encoding octets
 cons {encoding = encoding} v is e l = record { items = v ∷ l.items; are_valid = (is, l.are_valid); joined = e ∙ ap (λ x. encoding v ++ x) l.joined }
 
-module _ {A : Type 0} {tag : Tag} {takes : A → EncodingRules → Head → List ℕ → Type 0} {valid : A → Type 0} {contents : A → List ℕ} {levels : EncodingRules → ℕ} (laws : IsLawful tag takes valid contents levels) (s : ReaderState) (sound : IsSound s) (at : IsAtItem s) where
-  -- an element that was read
-  pub item_passed : (v : A) (t : ReaderState) → Passes (ElementNext tag takes v) s t → valid v × Reads s t (element_octets tag (contents v))
-  item_passed v t passed = passed_encodings (elements_are_encodings laws) s t v at.der passed
+-- an element has at least one octet
+element_some : (tag : Tag) (contents : List ℕ) → 1 ≤ length (element_octets tag contents)
+element_some tag contents = go (element_octets tag contents) (λ e. (elements_delimited (λ (c : List ℕ). tag) (λ c. c)).some contents e)
+  where
+    go : (l : List ℕ) → (l ≡ [] → ⊥) → 1 ≤ length l
+    go [] some = absurd (some refl)
+    go (o ∷ l) some = omega arith
 
-  module _ (l : IsListOf valid (λ v. element_octets tag (contents v)) (rest_of s)) (some : rest_of s ≡ [] → ⊥) where
-    pub first : IsCons valid (λ v. element_octets tag (contents v)) (rest_of s)
+-- one element at the start of two divisions of the same octets
+pub same_front : (a b x y : List ℕ) → IsElement a → IsElement b → a ++ x ≡ b ++ y → (a ≡ b) × (x ≡ y)
+same_front a b x y one two e =
+    let f = element_front one.tag two.tag one.contents two.contents x y (ap (λ z. z ++ x) (sym one.whole) ∙ e ∙ ap (λ z. z ++ y) two.whole) in
+    (one.whole ∙ ap (λ z. element_octets z one.contents) f.0 ∙ ap (element_octets two.tag) f.1 ∙ sym two.whole, f.2)
+
+module _ {A : Type 0} {Decoded : A → EncodingRules → List ℕ → ℕ → Type 0} {decoded_levels : EncodingRules → ℕ} {decoded_allocates : Bool} {item : ItemSpec A} (laws : IsItem item) (decodes : DecodesItems Decoded decoded_levels decoded_allocates item) (s : ReaderState) (sound : IsSound s) (at : IsAtItem s) where
+  -- an item that was read
+  pub item_passed : (v : A) (t : ReaderState) → Passes (Decoded v) s t → item.valid v × Reads s t (item.octets v)
+  item_passed v t passed =
+      passed_encodings laws.reads s t v at.der
+      (record {
+        octets = passed.octets;
+        working = passed.working;
+        next = subst (λ r. item.next v r (rest_of s) passed.octets) (sym at.der) (decodes.only v (rest_of s) passed.octets (subst (λ r. Decoded v r (rest_of s) passed.octets) at.der passed.next));
+        there = passed.there;
+        leaves = passed.leaves;
+      })
+
+  -- after the first item of a list is the rest of the list
+  pub item_keeps : (v : A) (t : ReaderState) → item.valid v → Reads s t (item.octets v) → IsListOf item.valid item.octets (rest_of s) → (rest_of s ≡ [] → ⊥) → IsListOf item.valid item.octets (rest_of t)
+  item_keeps v t is r l some =
+      let first = uncons l some in
+      let same = same_front (item.octets v) (item.octets first.first) (rest_of t) first.others (laws.element v is) (laws.element first.first first.is_valid) (sym r.split ∙ first.split) in
+      subst (IsListOf item.valid item.octets) (sym same.1) first.list
+
+  module _ (l : IsListOf item.valid item.octets (rest_of s)) (some : rest_of s ≡ [] → ⊥) where
+    first : IsCons item.valid item.octets (rest_of s)
     first = uncons l some
 
-    -- the first element of the list is next
-    pub item_next : ElementNext tag takes first.first s.rules (rest_of s) (length (element_octets tag (contents first.first)))
+    -- the first item of the list is next
+    item_next : Decoded first.first s.rules (rest_of s) (length (item.octets first.first))
     item_next =
-        subst (λ r. ElementNext tag takes first.first r (rest_of s) (length (element_octets tag (contents first.first)))) (sym at.der)
-        ((elements_are_encodings laws).every (rest_of s) first.first (length (element_octets tag (contents first.first))) (omega (arith, length-rest s sound, sound.in_input, sound.addressable)) (record { is_valid = first.is_valid; following = first.others; split = first.split; whole = refl }))
+        subst (λ r. Decoded first.first r (rest_of s) (length (item.octets first.first))) (sym at.der)
+        (decodes.every first.first (rest_of s) (length (item.octets first.first))
+        (laws.reads.every (rest_of s) first.first (length (item.octets first.first)) (omega (arith, length-rest s sound, sound.in_input, sound.addressable)) (record { is_valid = first.is_valid; following = first.others; split = first.split; whole = refl })))
 
-    pub deep_enough : s.depth + element_levels levels s.rules ≤ 64
-    deep_enough = omega (arith, laws.shallow, at.outside, ap levels at.der)
+    deep_enough : s.depth + decoded_levels s.rules ≤ 64
+    deep_enough = omega (arith, laws.shallow, decodes.same_levels, at.outside, ap decoded_levels at.der)
 
-    module _ {E : Type 0} (oom : E → Bool) (allocates : Bool) (t : ReaderState) where
+    module _ {E : Type 0} (oom : E → Bool) (t : ReaderState) where
       -- the only possible error is an allocation failure
-      pub item_lacks : (e : E) → ((v : A) (m : ℕ) → s.failed ≡ false → ElementNext tag takes v s.rules (rest_of s) m → s.depth + element_levels levels s.rules ≤ 64 → ReadsOrLacks {A = A} oom allocates s m (Err e) t) → SucceedsOrLacks {A = A} oom allocates (Err e)
-      item_lacks e owed = inr (lacks_only A oom s t _ (owed first.first (length (element_octets tag (contents first.first))) at.working item_next deep_enough))
+      pub item_lacks : (e : E) → ((v : A) (m : ℕ) → s.failed ≡ false → Decoded v s.rules (rest_of s) m → s.depth + decoded_levels s.rules ≤ 64 → ReadsOrLacks {A = A} oom decoded_allocates s m (Err e) t) → SucceedsOrLacks {A = A} oom item.allocates (Err e)
+      item_lacks e owed = subst (λ b. SucceedsOrLacks {A = A} oom b (Err e)) decodes.same_memory (inr (lacks_only A oom s t _ (owed first.first (length (item.octets first.first)) at.working item_next deep_enough)))
 
-      module _ (a : A) (owed : (v : A) (m : ℕ) → s.failed ≡ false → ElementNext tag takes v s.rules (rest_of s) m → s.depth + element_levels levels s.rules ≤ 64 → ReadsOrLacks oom allocates s m (Ok a) t) where
-        there : t ≡ advanced_state s (length (element_octets tag (contents first.first)))
-        there = read_on E oom s (length (element_octets tag (contents first.first))) a (owed first.first (length (element_octets tag (contents first.first))) at.working item_next deep_enough)
-
-        -- the reader has not failed, and the rest of the list is next
-        pub item_working : t.failed ≡ false
-        item_working = ap (λ (x : ReaderState). x.failed) there ∙ at.working
-
-        pub item_keeps : IsListOf valid (λ v. element_octets tag (contents v)) (rest_of t)
-        item_keeps =
-            let left : rest_of t ≡ first.others = ap rest_of there ∙ rest_after s (element_octets tag (contents first.first)) first.others first.split in
-            subst (IsListOf valid (λ v. element_octets tag (contents v))) (sym left) first.list
+      -- the reader has not failed
+      pub item_working : (a : A) → ((v : A) (m : ℕ) → s.failed ≡ false → Decoded v s.rules (rest_of s) m → s.depth + decoded_levels s.rules ≤ 64 → ReadsOrLacks oom decoded_allocates s m (Ok a) t) → t.failed ≡ false
+      item_working a owed =
+          ap (λ (x : ReaderState). x.failed) (read_on E oom s (length (item.octets first.first)) a (owed first.first (length (item.octets first.first)) at.working item_next deep_enough)) ∙ at.working
 
 pub slice_sound : (r : SliceReader) → IsSound (slice_state r)
 slice_sound r = record { ordered = r.ordered; in_input = r.in_input; addressable = r.addressable; shallow = r.shallow; failure_kept = λ failed. refl }
@@ -93,18 +112,27 @@ pub record IsWalking {A : Type 0} (valid : A → Type 0) (encoding : A → List 
   pub back : IsListOf valid encoding (rest_of s) → IsListOf valid encoding octets
   pub on : IsListOf valid encoding octets → IsListOf valid encoding (rest_of s)
 
-pub begins_walking : {A : Type 0} (valid : A → Type 0) (encoding : A → List ℕ) (octets : List ℕ) (s : ReaderState) → s ≡ initial_state Der octets → IsWalking valid encoding octets s
-begins_walking valid encoding octets s e =
-    let left : rest_of s ≡ octets = ap rest_of e ∙ rest-beginning Der octets in
-    record {
-      at = record { der = ap (λ (x : ReaderState). x.rules) e; working = ap (λ (x : ReaderState). x.failed) e; outside = ap (λ (x : ReaderState). x.depth) e };
-      back = subst (IsListOf valid encoding) left;
-      on = subst (IsListOf valid encoding) (sym left);
-    }
+pub begins_walking : {A : Type 0} (valid : A → Type 0) (encoding : A → List ℕ) (s : ReaderState) → IsAtItem s → IsWalking valid encoding (rest_of s) s
+begins_walking valid encoding s at = record { at = at; back = λ l. l; on = λ l. l }
+
+-- a reader at the start of an input
+pub starts_at_item : (octets : List ℕ) (s : ReaderState) → s ≡ initial_state Der octets → IsAtItem s
+starts_at_item octets s e =
+    record { der = ap (λ (x : ReaderState). x.rules) e; working = ap (λ (x : ReaderState). x.failed) e; outside = ap (λ (x : ReaderState). x.depth) e }
+
+pub starts_before : (octets : List ℕ) (s : ReaderState) → s ≡ initial_state Der octets → rest_of s ≡ octets
+starts_before octets s e = ap rest_of e ∙ rest-beginning Der octets
 
 pub iterating_continues : {A : Type 0} {valid : A → Type 0} {encoding : A → List ℕ} {octets : List ℕ} {s t : ReaderState} (v : A) → IsWalking valid encoding octets s → valid v → Reads s t (encoding v)
     → (IsListOf valid encoding (rest_of s) → IsListOf valid encoding (rest_of t)) → IsWalking valid encoding octets t
 iterating_continues v w is r keeps = record { at = still_at_item w.at r; back = λ l. w.back (cons v is r.split l); on = λ l. keeps (w.on l) }
+
+-- an item takes up octets, so that a walk ends
+pub item_progresses : (s t : ReaderState) (octets : List ℕ) → IsElement octets → Reads s t octets → s.position < t.position
+item_progresses s t octets is r =
+    let some : 1 ≤ length octets = subst (λ x. 1 ≤ length x) (sym is.whole) (element_some is.tag is.contents) in
+    let there : t.position ≡ s.position + length octets = ap (λ (x : ReaderState). x.position) r.state in
+    omega (arith, some, there)
 
 -- an allocation failure occurs only for a type that allocates
 pub lacks_takes : {E : Type 0} (oom : E → Bool) (takes : Bool) (e : E) → SucceedsOrLacks {A = E} oom takes (Err e) → (takes ≡ true) × (oom e ≡ true)

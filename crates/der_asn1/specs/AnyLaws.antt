@@ -1,18 +1,20 @@
 -- The laws of an element of any tag.
-use Rattle.std.proofs.Common.{[], ◌∷◌, None}
+use Rattle.std.proofs.Common.{[], ◌∷◌, None, refl}
 use Rattle.der.specs.Prelude.{element_octets}
 use Rattle.der_asn1.specs.AnyElement.{AnyElementNext}
+use Rattle.der_asn1.specs.AnyElementLemmas.{choices_are_encodings, choices_start}
 use Rattle.der_asn1.specs.AnyRef.{IsAny, TakesAny, any_contents, any_lawful}
-use Rattle.der_asn1.specs.FieldLaws.{SomeLaws, choice_laws}
-use Rattle.der_asn1.specs.Follow.{Anything, any_tag}
-use Rattle.der_asn1.specs.SetLaws.{DecidedByTagLaws, decided_by_tag_of}
+use Rattle.der_asn1.specs.Follow.{any_tag}
+use Rattle.der_asn1.specs.SetLaws.{DecidedByTagLaws}
 
-abbrev pub any_laws : SomeLaws (AnyElementNext TakesAny) IsAny
+pub any_element_decided_by_tag : DecidedByTagLaws any_tag (None ∷ []) (AnyElementNext TakesAny)
+    IsAny
     (λ v. element_octets v.tag (any_contents v))
-any_laws = choice_laws any_tag any_lawful (λ v is. tt) (λ v rules h octets taken. taken.numbered)
-
-pub any_element_decided_by_tag : DecidedByTagLaws any_tag (None ∷ []) [] Anything
-    (AnyElementNext TakesAny) IsAny
-    (λ v. element_octets v.tag (any_contents v))
-any_element_decided_by_tag = decided_by_tag_of any_tag (None ∷ []) [] any_laws any_laws.some
-    (λ t h. tt) (λ t h. h)
+any_element_decided_by_tag =
+    record {
+      reads = choices_are_encodings any_lawful;
+      starts = choices_start any_lawful any_tag (λ v is. tt);
+      among = λ t h. tt;
+      element = λ v is. record { tag = v.tag; contents = any_contents v; whole = refl };
+      holds = λ v rules octets m e. e.element.taken.numbered;
+    }

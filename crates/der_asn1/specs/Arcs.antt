@@ -49,18 +49,29 @@ arcs_at stage.Other octets = subidentifiers 0 octets
 abbrev pub arcs_left : Arcs → List ℕ
 arcs_left a = arcs_at a.stage a.octets.now
 
--- an arc, if it fits in 32 bits
-abbrev pub arc_in_32_bits : ℕ → Option ℕ
-arc_in_32_bits n = if nat_lt n (2 ^ 32) then Some n else None
-
-abbrev pub arc_items : Arcs → List (Option ℕ)
-arc_items a = map arc_in_32_bits (arcs_left a)
-
--- the value of a subidentifier, if it is below 2 ^ 63
+-- the value of a subidentifier, if it fits in 128 bits
 abbrev pub subidentifier_value : ℕ → Option ℕ
-subidentifier_value n = if nat_lt n (2 ^ 63) then Some n else None
+subidentifier_value n = if nat_lt n (2 ^ 128) then Some n else None
 
--- the first subidentifier, if it is below 2 ^ 63, and the other ones
+-- the second arc, if the first subidentifier, which encodes it, fits in 128 bits
+abbrev pub second_item : ℕ → Option ℕ
+second_item n = if nat_lt n (2 ^ 128) then Some (n - 40 * first_arc n) else None
+
+-- the arcs of the values of subidentifiers, as far as those fit in 128 bits
+abbrev pub items_of : List ℕ → List (Option ℕ)
+items_of [] = []
+items_of (n ∷ ns) = Some (first_arc n) ∷ second_item n ∷ map subidentifier_value ns
+
+abbrev pub items_at : Stage → List ℕ → List (Option ℕ)
+items_at stage.First octets = items_of (subidentifiers 0 octets)
+items_at stage.Second octets = drop 1 (items_of (subidentifiers 0 octets))
+items_at stage.Other octets = map subidentifier_value (subidentifiers 0 octets)
+
+-- the arcs that remain, as far as they fit in 128 bits
+abbrev pub arc_items : Arcs → List (Option ℕ)
+arc_items a = items_at a.stage a.octets.now
+
+-- the first subidentifier, if it fits in 128 bits, and the other ones
 abbrev pub IsFirstNumber : List ℕ → Option ℕ → List ℕ → Type 0
 IsFirstNumber [] a others = ⊥
 IsFirstNumber (n ∷ ns) a others = (a ≡ subidentifier_value n) × (others ≡ ns)

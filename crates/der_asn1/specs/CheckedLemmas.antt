@@ -1,11 +1,10 @@
--- Lemmas on reading checked octets.
+-- Lemmas on values at the start of the same octets.
 use Rattle.std.proofs.Common.{◌≡◌, ℕ, Bool, List, ◌++◌, length, drop, sym, ap, subst, ◌∙◌}
 use Rattle.der.specs.Prelude.{Head, number, Tag, EncodingRules, ElementNext}
-use Rattle.der.specs.Prelude.{TakesWhole}
+use Rattle.der.specs.Element.{head_sans_eoc}
 use Rattle.der.specs.Arithmetic.{sans_eoc}
 use Rattle.der_base.proofs.DigitLemmas.{same_length_front}
 use Rattle.der_base.proofs.HeaderLemmas.{one_header}
-use Rattle.der_asn1.specs.Checked.{AcceptsCheckedContents}
 
 -- two elements at the start of the same octets have the same contents
 one_contents : {A B : Type 0} {tag : Tag} {takes : A → EncodingRules → Head → List ℕ → Type 0}
@@ -22,24 +21,14 @@ one_contents {octets = octets} one two =
     (same_length_front one.contents two.contents (one.eoc ++ one.following)
     (two.eoc ++ two.following) size split).0
 
--- two values with checked contents at the start of the same octets have the same contents
-pub one_form : {A : Type 0} {tag : Tag} {grammar : List ℕ → Bool} {contents : A → List ℕ} {v w : A}
-    {rules : EncodingRules} {octets : List ℕ} {m n : ℕ}
-    → ElementNext tag (AcceptsCheckedContents grammar contents) v rules octets m
-    → ElementNext tag (AcceptsCheckedContents grammar contents) w rules octets n
-    → contents v ≡ contents w
-one_form one two = one.taken.1 ∙ one_contents one two ∙ sym two.taken.1
-
--- the same for values inside an element with an EXPLICIT tag
-pub one_explicit_form : {A B : Type 0} {outer tag : Tag} {grammar : List ℕ → Bool}
-    {contents : A → List ℕ} (f : B → A) {v w : B} {rules : EncodingRules} {octets : List ℕ}
-    {m n : ℕ} → ElementNext outer
-    (λ b. TakesWhole (ElementNext tag (AcceptsCheckedContents grammar contents)) (f b)) v rules
-    octets m
-    → ElementNext outer
-    (λ b. TakesWhole (ElementNext tag (AcceptsCheckedContents grammar contents)) (f b)) w
-    rules octets n → contents (f v) ≡ contents (f w)
-one_explicit_form {tag = tag} {grammar} {contents} f {w = w} {rules} one two =
-    one_form one.taken (subst
-    (λ x. ElementNext tag (AcceptsCheckedContents grammar contents) (f w) rules x (length x))
-    (sym (one_contents one two)) two.taken)
+-- what contents decide is the same for two values at the start of the same octets
+pub one_element : {A : Type 0} {tag : Tag} {takes : A → EncodingRules → Head → List ℕ → Type 0}
+    {f : A → Bool} → ((v w : A) (rules : EncodingRules) (h : Head) (octets : List ℕ)
+    → takes v rules h octets → takes w rules h octets → f v ≡ f w) → {v w : A}
+    {rules : EncodingRules} {octets : List ℕ} {m n : ℕ} → ElementNext tag takes v rules octets m
+    → ElementNext tag takes w rules octets n → f v ≡ f w
+one_element {takes = takes} decided {v = v} {w} {rules} one two =
+    decided v w rules (head_sans_eoc one.says) one.contents one.taken
+    (subst (λ h. takes w rules (head_sans_eoc h) one.contents)
+    (sym (one_header one.next two.next).0)
+    (subst (λ x. takes w rules (head_sans_eoc two.says) x) (sym (one_contents one two)) two.taken))

@@ -28,11 +28,6 @@ abbrev pub either_encoding : {A B : Type 0} → (A → List ℕ) → (B → List
 either_encoding one two (First v) = one v
 either_encoding one two (Second v) = two v
 
-abbrev pub EitherPrecedes : {A B : Type 0} → (A → List ℕ → Type 0) → (B → List ℕ → Type 0)
-    → Either A B → List ℕ → Type 0
-EitherPrecedes one two (First v) following = one v following
-EitherPrecedes one two (Second v) following = two v following
-
 -- the result of reading: an error of the tag, the result of the type whose tag is next, or an error
 -- because the tag belongs to neither
 pub data EitherRead {A B E : Type 0} (one_tags two_tags : Tag → Type 0)

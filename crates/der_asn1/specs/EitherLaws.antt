@@ -1,30 +1,29 @@
 -- The laws of a CHOICE of two types.
 use Rattle.std.proofs.Common.{◌≡◌, inl, inr, ℕ, ◌^◌, ◌<◌, ◌&&◌, Bool, true, List, ◌++◌, length, Option, sym, subst}
 use Rattle.der.specs.Prelude.{Tag, EncodingRules, Der}
-use Rattle.der_asn1.specs.Either.{EitherNext, IsEither, either_encoding, EitherPrecedes}
-use Rattle.der_asn1.specs.Follow.{FieldNext, TagIn, NoTagIn, StartsIn, either_tags}
-use Rattle.der_asn1.specs.FollowLemmas.{fewer_tags, starts_apart, starts_wider}
+use Rattle.der.specs.Lawful.{EncodingNext}
+use Rattle.der_asn1.specs.Either.{EitherNext, IsEither, either_encoding}
+use Rattle.der_asn1.specs.Follow.{TagIn, NoTagIn, StartsIn, either_tags}
+use Rattle.der_asn1.specs.FollowLemmas.{starts_apart, starts_wider}
+use Rattle.der_asn1.specs.Item.{IsElement}
 use Rattle.der_asn1.specs.SetLaws.{DecidedByTagLaws}
 use Rattle.der_asn1.specs.TagSets.{IsIn, are_apart}
 use Rattle.der_asn1.specs.TagSetLemmas.{both_true, sets_apart, in_either}
 use Rattle.der_asn1.specs.declared.either.Either.{Either}
 use Rattle.der_asn1.specs.declared.either.Either.TheVariants.{First, Second}
 
-module _ {A B : Type 0} {one_tags two_tags : Tag → Type 0}
-    {first second one_stops two_stops : List (Option Tag)}
-    {P : A → List ℕ → Type 0} {Q : B → List ℕ → Type 0}
+module _ {A B : Type 0} {one_tags two_tags : Tag → Type 0} {first second : List (Option Tag)}
     {One : A → EncodingRules → List ℕ → ℕ → Type 0} {Two : B → EncodingRules → List ℕ → ℕ → Type 0}
     {is_one : A → Type 0} {is_two : B → Type 0} {one_octets : A → List ℕ} {two_octets : B → List ℕ}
-    (one : DecidedByTagLaws one_tags first one_stops P One is_one one_octets)
-    (two : DecidedByTagLaws two_tags second two_stops Q Two is_two two_octets)
+    (one : DecidedByTagLaws one_tags first One is_one one_octets)
+    (two : DecidedByTagLaws two_tags second Two is_two two_octets)
     (apart : are_apart first second ≡ true) where
   -- no tag belongs to both
   tags_apart : (t : Tag) → one_tags t → two_tags t → ⊥
   tags_apart t a b = sets_apart first second apart t (one.among t a) (two.among t b)
 
   from : (octets : List ℕ) (v : Either A B) (m : ℕ) → EitherNext one_tags One Two v Der octets m
-      → FieldNext (IsEither is_one is_two) (either_encoding one_octets two_octets)
-      (EitherPrecedes P Q) v octets m
+      → EncodingNext (IsEither is_one is_two) (either_encoding one_octets two_octets) v octets m
   from octets (First v) m h =
       let e = one.reads.only octets v m h in
       record {
@@ -32,7 +31,6 @@ module _ {A B : Type 0} {one_tags two_tags : Tag → Type 0}
         following = e.following;
         split = e.split;
         whole = e.whole;
-        precedes = e.precedes;
       }
   from octets (Second v) m h =
       let e = two.reads.only octets v m h.0 in
@@ -41,12 +39,10 @@ module _ {A B : Type 0} {one_tags two_tags : Tag → Type 0}
         following = e.following;
         split = e.split;
         whole = e.whole;
-        precedes = e.precedes;
       }
 
   to : (octets : List ℕ) (v : Either A B) (m : ℕ) → length octets < 2 ^ 32
-      → FieldNext (IsEither is_one is_two) (either_encoding one_octets two_octets)
-      (EitherPrecedes P Q) v octets m
+      → EncodingNext (IsEither is_one is_two) (either_encoding one_octets two_octets) v octets m
       → EitherNext one_tags One Two v Der octets m
   to octets (First v) m short e =
       one.reads.every octets v m short
@@ -55,7 +51,6 @@ module _ {A B : Type 0} {one_tags two_tags : Tag → Type 0}
         following = e.following;
         split = e.split;
         whole = e.whole;
-        precedes = e.precedes;
       })
   to octets (Second v) m short e = (
     two.reads.every octets v m short
@@ -64,7 +59,6 @@ module _ {A B : Type 0} {one_tags two_tags : Tag → Type 0}
           following = e.following;
           split = e.split;
           whole = e.whole;
-          precedes = e.precedes;
         }),
     subst (λ x. NoTagIn one_tags Der x) (sym e.split)
         (starts_apart (two_octets v) e.following tags_apart (two.starts.starts v e.is_valid)),
@@ -79,14 +73,10 @@ module _ {A B : Type 0} {one_tags two_tags : Tag → Type 0}
   among_both t (inl h) = in_either first second t (inl (one.among t h))
   among_both t (inr h) = in_either first second t (inr (two.among t h))
 
-  either_precedes : (v : Either A B) (following : List ℕ) → IsEither is_one is_two v
-      → NoTagIn (IsIn (one_stops ++ two_stops)) Der following → EitherPrecedes P Q v following
-  either_precedes (First v) following is none =
-      one.precedes.precedes v following is
-      (fewer_tags (λ t h. in_either one_stops two_stops t (inl h)) none)
-  either_precedes (Second v) following is none =
-      two.precedes.precedes v following is
-      (fewer_tags (λ t h. in_either one_stops two_stops t (inr h)) none)
+  one_element : (v : Either A B) → IsEither is_one is_two v
+      → IsElement (either_encoding one_octets two_octets v)
+  one_element (First v) is = one.element v is
+  one_element (Second v) is = two.element v is
 
   hold : (v : Either A B) (rules : EncodingRules) (octets : List ℕ) (m : ℕ)
       → EitherNext one_tags One Two v rules octets m → IsEither is_one is_two v
@@ -94,8 +84,6 @@ module _ {A B : Type 0} {one_tags two_tags : Tag → Type 0}
   hold (Second v) rules octets m h = two.holds v rules octets m h.0
 
   both_decided_by_tag : DecidedByTagLaws (either_tags one_tags two_tags) (first ++ second)
-      (one_stops ++ two_stops)
-      (EitherPrecedes P Q)
       (EitherNext one_tags One Two) (IsEither is_one is_two)
       (either_encoding one_octets two_octets)
   both_decided_by_tag =
@@ -103,22 +91,19 @@ module _ {A B : Type 0} {one_tags two_tags : Tag → Type 0}
         reads = record { only = from; every = to };
         starts = record { starts = begin };
         among = among_both;
-        precedes = record { precedes = either_precedes };
+        element = one_element;
         holds = hold;
       }
 
 -- a CHOICE of two alternatives has the laws if both have them and no tag belongs to both
 pub either_decided_by_tag : {A B : Type 0} {one_fits two_fits : Bool}
-    {one_tags two_tags : Tag → Type 0}
-    {first second one_stops two_stops : List (Option Tag)}
-    {P : A → List ℕ → Type 0} {Q : B → List ℕ → Type 0}
+    {one_tags two_tags : Tag → Type 0} {first second : List (Option Tag)}
     {One : A → EncodingRules → List ℕ → ℕ → Type 0} {Two : B → EncodingRules → List ℕ → ℕ → Type 0}
     {is_one : A → Type 0} {is_two : B → Type 0} {one_octets : A → List ℕ} {two_octets : B → List ℕ}
     → (are_apart first second && (one_fits && two_fits)) ≡ true
-    → (one_fits ≡ true → DecidedByTagLaws one_tags first one_stops P One is_one one_octets)
-    → (two_fits ≡ true → DecidedByTagLaws two_tags second two_stops Q Two is_two two_octets)
-    → DecidedByTagLaws (either_tags one_tags two_tags) (first ++ second) (one_stops ++ two_stops)
-    (EitherPrecedes P Q)
+    → (one_fits ≡ true → DecidedByTagLaws one_tags first One is_one one_octets)
+    → (two_fits ≡ true → DecidedByTagLaws two_tags second Two is_two two_octets)
+    → DecidedByTagLaws (either_tags one_tags two_tags) (first ++ second)
     (EitherNext one_tags One Two) (IsEither is_one is_two) (either_encoding one_octets two_octets)
 either_decided_by_tag {one_fits = one_fits} {two_fits} {first = first} {second} e one two =
     let p = both_true (are_apart first second) (one_fits && two_fits) e in

@@ -1,22 +1,18 @@
 -- Laws of fields and their composition: `FieldLaws` and `SomeLaws` collect the laws of a field;
--- `element_laws`, `choice_laws` and `optional_laws` make them, `pair_laws` composes two of them,
--- and `contents_laws` concludes that a type is lawful.
+-- `encoding_laws` and `optional_laws` make them, `pair_laws` composes two of them, and
+-- `contents_laws` concludes that a type is lawful.
 use Rattle.std.proofs.Common.{ℕ, ◌^◌, ◌<◌, ◌≤◌, List, ◌++◌, length, drop, Option, Some, None}
-use Rattle.der.specs.Prelude.{Head, Tag, EncodingRules, Der, ElementNext, element_octets}
+use Rattle.der.specs.Prelude.{Head, Tag, EncodingRules, Der}
 use Rattle.der.specs.Prelude.{FieldsNext, TakesWhole, IsLawful}
 use Rattle.der.specs.Tag.{label}
-use Rattle.der.specs.Element.{head_sans_eoc}
 use Rattle.der.specs.Lawful.{ReadsEncodings}
-use Rattle.der.specs.LawfulLemmas.{elements_are_encodings}
 use Rattle.der_asn1.specs.Follow.{ReadsFields, Anything, Starts, MayStart, PrecedesBut, no_tags}
 use Rattle.der_asn1.specs.Follow.{either_tags, BothPrecede}
 use Rattle.der_asn1.specs.Optional.{OptionNext, IsOptional, option_encoding, OptionPrecedes}
 use Rattle.der_asn1.specs.FollowLemmas.{encodings_are_fields, fields_follow, fields_lawful}
-use Rattle.der_asn1.specs.FollowLemmas.{lawful_starts, anything_precedes, pair_precedes}
+use Rattle.der_asn1.specs.FollowLemmas.{anything_precedes, pair_precedes}
 use Rattle.der_asn1.specs.FollowLemmas.{pair_precedes_absent, pair_may_start, starts_so_may}
 use Rattle.der_asn1.specs.FollowLemmas.{last_of}
-use Rattle.der_asn1.specs.AnyElement.{AnyElementNext, IsLawfulChoice}
-use Rattle.der_asn1.specs.AnyElementLemmas.{choices_are_encodings, choices_start}
 use Rattle.der_asn1.specs.OptionalLemmas.{options_are_fields, option_may_start, option_precedes}
 
 -- the laws of a field: that it is read as it is written, which tags it may begin with, and which
@@ -58,31 +54,6 @@ encoding_laws {valid = valid} {tags = tags} reads some holds =
       };
       some = some;
     }
-
--- the laws of an element of a lawful type
-abbrev pub element_laws : {A : Type 0} {tag : Tag}
-    {takes : A → EncodingRules → Head → List ℕ → Type 0}
-    {valid : A → Type 0} {contents : A → List ℕ} {levels : EncodingRules → ℕ}
-    → IsLawful tag takes valid contents levels
-    → ((v : A) (rules : EncodingRules) (h : Head) (octets : List ℕ) → takes v rules h octets
-    → valid v)
-    → SomeLaws (ElementNext tag takes) valid (λ v. element_octets tag (contents v))
-element_laws lawful takes_valid =
-    encoding_laws (elements_are_encodings lawful) (lawful_starts lawful)
-    (λ v rules octets m e. takes_valid v rules (head_sans_eoc e.says) e.contents e.taken)
-
--- the laws of an element whose value determines its tag
-abbrev pub choice_laws : {A : Type 0} {tag_of : A → Tag}
-    {takes : A → EncodingRules → Head → List ℕ → Type 0}
-    {valid : A → Type 0} {contents : A → List ℕ} (tags : Tag → Type 0)
-    → IsLawfulChoice tag_of takes valid contents → ((v : A) → valid v → tags (tag_of v))
-    → ((v : A) (rules : EncodingRules) (h : Head) (octets : List ℕ) → takes v rules h octets
-    → valid v)
-    → SomeLaws (AnyElementNext takes) valid (λ v. element_octets (tag_of v) (contents v))
-choice_laws tags lawful among takes_valid =
-    encoding_laws (choices_are_encodings lawful) (choices_start lawful tags among)
-    (λ v rules octets m e. takes_valid v rules (head_sans_eoc e.element.says) e.element.contents
-    e.element.taken)
 
 pub option_holds : {A : Type 0} (tags : Tag → Type 0)
     {Next : A → EncodingRules → List ℕ → ℕ → Type 0}

@@ -13,7 +13,13 @@ pub mod CheckedLemmas
 pub mod ContextSpecific
 pub mod Forms
 pub mod Integer
+pub mod NamedBits
+pub mod Ranges
+pub mod Enumeration
+pub mod EqualContents
 pub mod OctetsWith
+pub mod Item
+pub mod Items
 pub mod SequenceOf
 pub mod FieldLaws
 pub mod DefaultLaws
@@ -30,3 +36,4 @@ pub mod Arcs
 pub mod Alphabets
 pub mod ListAnswers
 pub mod Meaning
+pub mod TagClasses

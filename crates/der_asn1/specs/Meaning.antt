@@ -6,6 +6,7 @@ use Rattle.der.specs.Prelude.{Head, Tag, Sequence as SequenceTag, EncodingRules,
 use Rattle.der.specs.Prelude.{element_octets, element_levels, fields_levels, FieldsNext, IsLawful}
 use Rattle.der.specs.Prelude.{TakesWhole}
 use Rattle.der.specs.Tag.{label}
+pub use Rattle.der.specs.ElementSpec.{ElementSpec}
 use Rattle.der_asn1.specs.AnyElement.{AnyElementNext}
 use Rattle.der_asn1.specs.AnyLaws.{any_element_decided_by_tag}
 use Rattle.der_asn1.specs.AnyRef.{IsAny, TakesAny, any_contents}
@@ -13,15 +14,16 @@ use Rattle.der_asn1.specs.Checked.{HasCheckedContents, AcceptsCheckedContents, c
 use Rattle.der_asn1.specs.ContextSpecific.{context_tag, retagged, TakesImplicit, implicit_lawful}
 use Rattle.der_asn1.specs.ContextSpecific.{explicit_lawful, explicit_holds}
 use Rattle.der_asn1.specs.Default.{DefaultNext, IsDefaulted, default_encoding, DefaultPrecedes}
-use Rattle.der_asn1.specs.Either.{EitherNext, IsEither, either_encoding, EitherPrecedes}
+use Rattle.der_asn1.specs.Either.{EitherNext, IsEither, either_encoding}
 use Rattle.der_asn1.specs.EitherLaws.{either_decided_by_tag}
 use Rattle.der_asn1.specs.FieldLaws.{contents_laws, contents_hold}
 use Rattle.der_asn1.specs.Follow.{Anything, BothPrecede, this_tag, any_tag, either_tags}
+use Rattle.der_asn1.specs.Item.{IsItem, ItemSpec, element_is_item, element_item}
 use Rattle.der_asn1.specs.Optional.{OptionNext, IsOptional, option_encoding, OptionPrecedes}
 use Rattle.der_asn1.specs.PairLaws.{pair_set}
 use Rattle.der_asn1.specs.OctetsWith.{AcceptsOctetsWith, HasOctetsWith, octets_with_lawful, octets_with_accepts_valid}
 use Rattle.der_asn1.specs.SetLaws.{SetLaws, DecidedByTagLaws, laws_of, element_decided_by_tag, decided_by_tag_set, pair_stops}
-use Rattle.der_asn1.specs.SetLaws.{optional_set, default_set, seen_set}
+use Rattle.der_asn1.specs.SetLaws.{optional_set, default_set, seen_decided_by_tag, seen_set}
 use Rattle.der_asn1.specs.TagSets.{are_apart}
 use Rattle.der_asn1.specs.TagSetLemmas.{both_true}
 use Rattle.der_asn1.specs.declared.any.AnyRef.{AnyRef}
@@ -45,7 +47,8 @@ pub record FieldSpec (A : Type 0) : Type 1 where
   pub is_compatible : Bool
   pub laws : is_compatible ≡ true → SetLaws always first stops precedes is_next valid encoding
 
--- a field that is never empty, and for which the next tag decides whether it is present
+-- a field that is always one element, and for which the next tag decides whether it is present:
+-- the tags it may begin with (`tags`, and as a list `first`)
 pub record AlternativeSpec (A : Type 0) : Type 1 where
   pub is_next : A → EncodingRules → List ℕ → ℕ → Type 0
   pub valid : A → Type 0
@@ -53,23 +56,8 @@ pub record AlternativeSpec (A : Type 0) : Type 1 where
   pub levels : EncodingRules → ℕ
   pub tags : Tag → Type 0
   pub first : List (Option Tag)
-  pub stops : List (Option Tag)
-  pub precedes : A → List ℕ → Type 0
   pub is_compatible : Bool
-  pub laws : is_compatible ≡ true
-      → DecidedByTagLaws tags first stops precedes is_next valid encoding
-
--- a field with a fixed tag; its type is lawful if `is_compatible` is true
-pub record ElementSpec (A : Type 0) : Type 1 where
-  pub tag : Tag
-  pub takes : A → EncodingRules → Head → List ℕ → Type 0
-  pub valid : A → Type 0
-  pub contents : A → List ℕ
-  pub levels : EncodingRules → ℕ
-  pub is_compatible : Bool
-  pub lawful : is_compatible ≡ true → IsLawful tag takes valid contents levels
-  pub holds : is_compatible ≡ true → (v : A) (rules : EncodingRules) (h : Head) (octets : List ℕ)
-      → takes v rules h octets → valid v
+  pub laws : is_compatible ≡ true → DecidedByTagLaws tags first is_next valid encoding
 
 -- an element as an alternative, decided by its tag
 abbrev pub alternative : {A : Type 0} → ElementSpec A → AlternativeSpec A
@@ -81,8 +69,6 @@ alternative one =
       levels = element_levels one.levels;
       tags = this_tag one.tag;
       first = Some one.tag ∷ [];
-      stops = [];
-      precedes = Anything;
       is_compatible = one.is_compatible;
       laws = λ e. element_decided_by_tag (one.lawful e) (one.holds e);
     }
@@ -97,8 +83,8 @@ field one =
       levels = one.levels;
       always = true;
       first = one.first;
-      stops = one.stops;
-      precedes = one.precedes;
+      stops = [];
+      precedes = Anything;
       is_compatible = one.is_compatible;
       laws = λ e. decided_by_tag_set (one.laws e);
     }
@@ -113,8 +99,6 @@ any_element =
       levels = element_levels (λ _. 0);
       tags = any_tag;
       first = None ∷ [];
-      stops = [];
-      precedes = Anything;
       is_compatible = true;
       laws = λ e. any_element_decided_by_tag;
     }
@@ -129,8 +113,8 @@ optional one =
       levels = one.levels;
       always = false;
       first = one.first;
-      stops = one.first ++ one.stops;
-      precedes = λ v. OptionPrecedes one.tags one.precedes v.0;
+      stops = one.first;
+      precedes = λ v. OptionPrecedes one.tags Anything v.0;
       is_compatible = one.is_compatible;
       laws = λ e. optional_set (one.laws e) (λ v. v.0);
     }
@@ -145,8 +129,8 @@ defaulted is_default one =
       levels = one.levels;
       always = false;
       first = one.first;
-      stops = one.first ++ one.stops;
-      precedes = λ v. DefaultPrecedes one.tags is_default one.precedes v.0;
+      stops = one.first;
+      precedes = λ v. DefaultPrecedes one.tags is_default Anything v.0;
       is_compatible = one.is_compatible;
       laws = λ e. default_set (one.laws e) is_default (λ v. v.0);
     }
@@ -195,10 +179,58 @@ either one two =
       levels = fields_levels one.levels two.levels;
       tags = either_tags one.tags two.tags;
       first = one.first ++ two.first;
-      stops = one.stops ++ two.stops;
-      precedes = EitherPrecedes one.precedes two.precedes;
       is_compatible = are_apart one.first two.first && (one.is_compatible && two.is_compatible);
       laws = λ e. either_decided_by_tag e one.laws two.laws;
+    }
+
+-- an alternative converted to another type, such as nested choices of two to an enum
+abbrev pub choice_of : {A B : Type 0} → AlternativeSpec A → (B → A) → AlternativeSpec B
+choice_of one f =
+    record {
+      is_next = λ b. one.is_next (f b);
+      valid = λ b. one.valid (f b);
+      encoding = λ b. one.encoding (f b);
+      levels = one.levels;
+      tags = one.tags;
+      first = one.first;
+      is_compatible = one.is_compatible;
+      laws = λ e. seen_decided_by_tag f (one.laws e);
+    }
+
+-- an element as an item of a list
+abbrev pub sequence_item : {A : Type 0} → ElementSpec A → ItemSpec A
+sequence_item one =
+    element_item one.tag one.takes one.valid one.contents one.levels false
+
+pub sequence_is_item : {A : Type 0} (one : ElementSpec A) → one.is_compatible ≡ true
+    → IsItem (sequence_item one)
+sequence_is_item one e = element_is_item (one.lawful e) false
+
+-- an alternative as an item of a list
+abbrev pub choice_item : {A : Type 0} → AlternativeSpec A → ItemSpec A
+choice_item one =
+    record {
+      next = one.is_next;
+      valid = one.valid;
+      octets = one.encoding;
+      levels = one.levels;
+      allocates = false;
+    }
+
+-- whether an alternative is an item: `is_compatible` is true, and a reader outside all nested parts
+-- has enough levels for it
+abbrev pub can_be_item : {A : Type 0} → AlternativeSpec A → Bool
+can_be_item one = one.is_compatible && nat_lt (one.levels Der) 65
+
+pub choice_is_item : {A : Type 0} (one : AlternativeSpec A) → can_be_item one ≡ true
+    → IsItem (choice_item one)
+choice_is_item one e =
+    let p = both_true one.is_compatible (nat_lt (one.levels Der) 65) e in
+    let below = ltb-true (one.levels Der) 65 p.1 in
+    record {
+      reads = (one.laws p.0).reads;
+      element = (one.laws p.0).element;
+      shallow = omega (arith, below);
     }
 
 -- whether a tag number is one that the library can represent (below 2 to the 32)

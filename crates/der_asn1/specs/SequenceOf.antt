@@ -1,7 +1,7 @@
--- Elements of one type, in sequence, as in a SEQUENCE OF (X.690 8.10): `IsListOf` for encodings,
--- `AreElements` for elements; `IsAtItem` is a reader that can read them.
+-- Values of one type, in sequence, as in a SEQUENCE OF (X.690 8.10): `IsListOf` for their
+-- encodings; `IsAtItem` is a reader that can read them.
 use Rattle.std.specs.Prelude.{◌≡◌, ℕ, false, List, [], ◌∷◌, ◌++◌}
-use Rattle.der.specs.Prelude.{Tag, Der, ReaderState, element_octets}
+use Rattle.der.specs.Prelude.{Der, ReaderState}
 
 -- all values of a list are valid; below, their encodings in sequence
 abbrev pub AllValid : {A : Type 0} → (A → Type 0) → List A → Type 0
@@ -18,10 +18,6 @@ pub record IsListOf {A : Type 0} (valid : A → Type 0) (encoding : A → List �
   pub items : List A
   pub are_valid : AllValid valid items
   pub joined : octets ≡ joined_encodings encoding items
-
--- octets are the elements of valid values with this tag, in sequence
-abbrev pub AreElements : {A : Type 0} → Tag → (A → Type 0) → (A → List ℕ) → List ℕ → Type 0
-AreElements tag valid contents octets = IsListOf valid (λ v. element_octets tag (contents v)) octets
 
 -- a DER reader that has not failed and is not inside a nested part
 pub record IsAtItem (s : ReaderState) : Type 0 where

@@ -1,19 +1,22 @@
 -- The laws of fields whose tags are decidable sets (`SetLaws`, `DecidedByTagLaws`): a computed
 -- check decides whether fields may follow each other.
-use Rattle.std.proofs.Common.{◌≡◌, ◌⊎◌, inl, inr, ℕ, Bool, true, false}
+use Rattle.std.proofs.Common.{◌≡◌, ◌⊎◌, inl, inr, refl, ℕ, Bool, true, false}
 use Rattle.std.proofs.Common.{if◌then◌else◌, List, [], ◌∷◌, ◌++◌, Option, Some}
 use Rattle.der.specs.Prelude.{Head, Tag, EncodingRules, ElementNext, element_octets}
 use Rattle.der.specs.Prelude.{IsLawful}
+use Rattle.der.specs.Element.{head_sans_eoc}
+use Rattle.der.specs.Lawful.{ReadsEncodings}
+use Rattle.der.specs.LawfulLemmas.{elements_are_encodings}
+use Rattle.der_asn1.specs.Item.{IsElement}
 use Rattle.der_asn1.specs.Default.{DefaultNext, IsDefaulted, default_encoding, DefaultPrecedes}
 use Rattle.der_asn1.specs.DefaultLaws.{default_laws}
 use Rattle.der_asn1.specs.Follow.{Starts, StartsIn, MayStart, PrecedesBut, ReadsFields, Anything}
-use Rattle.der_asn1.specs.Follow.{this_tag, either_tags}
-use Rattle.der_asn1.specs.FollowLemmas.{starts_wider, fewer_tags}
-use Rattle.der_asn1.specs.FieldLaws.{FieldLaws, SomeLaws, element_laws, seen_laws, seen_reads}
+use Rattle.der_asn1.specs.Follow.{no_tags, this_tag, either_tags}
+use Rattle.der_asn1.specs.FollowLemmas.{lawful_starts, starts_wider, fewer_tags}
+use Rattle.der_asn1.specs.FieldLaws.{encoding_laws, FieldLaws, SomeLaws, seen_laws, seen_reads}
 use Rattle.der_asn1.specs.FieldLaws.{optional_laws}
 use Rattle.der_asn1.specs.Optional.{OptionNext, IsOptional, option_encoding, OptionPrecedes}
 use Rattle.der_asn1.specs.TagSets.{IsIn}
-use Rattle.der_asn1.specs.TagSetLemmas.{in_either}
 
 -- a field is read as it is written, begins with a tag of the set `first`, may precede octets that
 -- begin with no tag of the set `stops`, and is never empty if `always` is true
@@ -27,14 +30,14 @@ pub record SetLaws {A : Type 0} (always : Bool) (first stops : List (Option Tag)
   pub holds : (v : A) (rules : EncodingRules) (octets : List ℕ) (m : ℕ) → Next v rules octets m
       → valid v
 
--- a field that is never empty, and for which the next tag decides whether it is present
-pub record DecidedByTagLaws {A : Type 0} (tags : Tag → Type 0) (first stops : List (Option Tag))
-    (Precedes : A → List ℕ → Type 0) (Next : A → EncodingRules → List ℕ → ℕ → Type 0)
-    (valid : A → Type 0) (encoding : A → List ℕ) : Type 0 where
-  pub reads : ReadsFields Next valid encoding Precedes
+-- a field that is always one element, and for which the next tag decides whether it is present
+pub record DecidedByTagLaws {A : Type 0} (tags : Tag → Type 0) (first : List (Option Tag))
+    (Next : A → EncodingRules → List ℕ → ℕ → Type 0) (valid : A → Type 0) (encoding : A → List ℕ)
+    : Type 0 where
+  pub reads : ReadsEncodings Next valid encoding
   pub starts : Starts valid encoding tags
   pub among : (t : Tag) → tags t → IsIn first t
-  pub precedes : PrecedesBut valid Precedes (IsIn stops)
+  pub element : (v : A) → valid v → IsElement (encoding v)
   pub holds : (v : A) (rules : EncodingRules) (octets : List ℕ) (m : ℕ) → Next v rules octets m
       → valid v
 
@@ -90,42 +93,15 @@ module _ {A : Type 0} {Next : A → EncodingRules → List ℕ → ℕ → Type 
         holds = one.holds;
       }
 
-  abbrev pub some_of : {tags : Tag → Type 0} {first stops : List (Option Tag)}
-      {P : A → List ℕ → Type 0} → DecidedByTagLaws tags first stops P Next valid encoding
-      → SomeLaws Next valid encoding
-  some_of {tags} {stops = stops} {P} one =
-      record {
-        laws = record {
-          Precedes = P;
-          tags = tags;
-          stops = IsIn stops;
-          reads = one.reads;
-          starts = may_starts (λ t h. h) (record { starts = λ v is. inr (one.starts.starts v is) });
-          precedes = one.precedes;
-          holds = one.holds;
-        };
-        some = one.starts;
-      }
+  abbrev pub some_of : {tags : Tag → Type 0} {first : List (Option Tag)}
+      → DecidedByTagLaws tags first Next valid encoding → SomeLaws Next valid encoding
+  some_of one = encoding_laws one.reads one.starts one.holds
 
-  pub decided_by_tag_of : (tags : Tag → Type 0) (first stops : List (Option Tag))
-      (one : SomeLaws Next valid encoding) → Starts valid encoding tags
-      → ((t : Tag) → tags t → IsIn first t) → ((t : Tag) → one.laws.stops t → IsIn stops t)
-      → DecidedByTagLaws tags first stops one.laws.Precedes Next valid encoding
-  decided_by_tag_of tags first stops one starts first_in stops_in =
-      record {
-        reads = one.laws.reads;
-        starts = starts;
-        among = first_in;
-        precedes = precedes_fewer stops_in one.laws.precedes;
-        holds = one.laws.holds;
-      }
-
-  pub decided_by_tag_set : {tags : Tag → Type 0} {first stops : List (Option Tag)}
-      {P : A → List ℕ → Type 0}
-      → DecidedByTagLaws tags first stops P Next valid encoding
-      → SetLaws true first stops P Next valid encoding
-  decided_by_tag_set {first = first} {stops} one =
-      set_of true first stops (some_of one).laws one.among (λ t h. h) (λ e. one.starts)
+  pub decided_by_tag_set : {tags : Tag → Type 0} {first : List (Option Tag)}
+      → DecidedByTagLaws tags first Next valid encoding
+      → SetLaws true first [] Anything Next valid encoding
+  decided_by_tag_set {first = first} one =
+      set_of true first [] (some_of one).laws one.among (λ t h. h) (λ e. one.starts)
 
 -- an element of a lawful type
 pub element_decided_by_tag : {A : Type 0} {tag : Tag}
@@ -134,40 +110,76 @@ pub element_decided_by_tag : {A : Type 0} {tag : Tag}
     → IsLawful tag takes valid contents levels
     → ((v : A) (rules : EncodingRules) (h : Head) (octets : List ℕ) → takes v rules h octets
     → valid v)
-    → DecidedByTagLaws (this_tag tag) (Some tag ∷ []) [] Anything (ElementNext tag takes) valid
+    → DecidedByTagLaws (this_tag tag) (Some tag ∷ []) (ElementNext tag takes) valid
     (λ v. element_octets tag (contents v))
-element_decided_by_tag {tag = tag} lawful takes_valid =
-    decided_by_tag_of (this_tag tag) (Some tag ∷ []) [] (element_laws lawful takes_valid)
-    (element_laws lawful takes_valid).some (λ t h. inl h) (λ t h. h)
+element_decided_by_tag {tag = tag} {contents = contents} lawful takes_valid =
+    record {
+      reads = elements_are_encodings lawful;
+      starts = lawful_starts lawful;
+      among = λ t h. inl h;
+      element = λ v is. record { tag = tag; contents = contents v; whole = refl };
+      holds = λ v rules octets m e. takes_valid v rules (head_sans_eoc e.says) e.contents e.taken;
+    }
 
-either_in : (ts us : List (Option Tag)) (f g : Tag → Type 0) → ((t : Tag) → f t → IsIn ts t)
-    → ((t : Tag) → g t → IsIn us t) → (t : Tag) → either_tags f g t → IsIn (ts ++ us) t
-either_in ts us f g one two t (inl h) = in_either ts us t (inl (one t h))
-either_in ts us f g one two t (inr h) = in_either ts us t (inr (two t h))
+-- the tags that must not follow a field which may be absent
+absent_stops : (first : List (Option Tag)) (tags : Tag → Type 0)
+    → ((t : Tag) → tags t → IsIn first t) → (t : Tag) → either_tags tags no_tags t → IsIn first t
+absent_stops first tags among t (inl h) = among t h
+absent_stops first tags among t (inr h) = absurd h
 
 -- an OPTIONAL field and a DEFAULT field, each converted to another type
-module _ {A B : Type 0} {tags : Tag → Type 0} {first stops : List (Option Tag)}
-    {P : A → List ℕ → Type 0}
+module _ {A B : Type 0} {tags : Tag → Type 0} {first : List (Option Tag)}
     {Next : A → EncodingRules → List ℕ → ℕ → Type 0} {valid : A → Type 0} {encoding : A → List ℕ}
-    (one : DecidedByTagLaws tags first stops P Next valid encoding) where
+    (one : DecidedByTagLaws tags first Next valid encoding) where
   pub optional_set : (f : B → Option A)
-      → SetLaws false first (first ++ stops) (λ b. OptionPrecedes tags P (f b))
+      → SetLaws false first first (λ b. OptionPrecedes tags Anything (f b))
       (λ b. OptionNext tags Next (f b)) (λ b. IsOptional valid (f b))
       (λ b. option_encoding encoding (f b))
   optional_set f =
-      set_of false first (first ++ stops) (seen_laws f (optional_laws (some_of one))) one.among
-      (either_in first stops tags (IsIn stops) one.among (λ t h. h))
+      set_of false first first (seen_laws f (optional_laws (some_of one))) one.among
+      (absent_stops first tags one.among)
       (λ e. absurd (let no : false ≡ true = e in cc))
 
   pub default_set : (is_default : A → Bool) (f : B → A)
-      → SetLaws false first (first ++ stops) (λ b. DefaultPrecedes tags is_default P (f b))
+      → SetLaws false first first (λ b. DefaultPrecedes tags is_default Anything (f b))
       (λ b. DefaultNext tags is_default Next (f b)) (λ b. IsDefaulted is_default valid (f b))
       (λ b. default_encoding is_default encoding (f b))
   default_set is_default f =
-      set_of false first (first ++ stops)
-      (seen_laws f (default_laws is_default (some_of one))) one.among
-      (either_in first stops tags (IsIn stops) one.among (λ t h. h))
+      set_of false first first (seen_laws f (default_laws is_default (some_of one))) one.among
+      (absent_stops first tags one.among)
       (λ e. absurd (let no : false ≡ true = e in cc))
+
+-- a field that the next tag decides, converted to another type
+pub seen_decided_by_tag : {A B : Type 0} {tags : Tag → Type 0} {first : List (Option Tag)}
+    {Next : A → EncodingRules → List ℕ → ℕ → Type 0} {valid : A → Type 0} {encoding : A → List ℕ}
+    (f : B → A)
+    → DecidedByTagLaws tags first Next valid encoding
+    → DecidedByTagLaws tags first (λ b. Next (f b)) (λ b. valid (f b)) (λ b. encoding (f b))
+seen_decided_by_tag f one =
+    record {
+      reads =
+          record {
+            only = λ octets b m h.
+                (let e = one.reads.only octets (f b) m h in
+                record {
+                  is_valid = e.is_valid;
+                  following = e.following;
+                  split = e.split;
+                  whole = e.whole;
+                });
+            every = λ octets b m short e. one.reads.every octets (f b) m short
+                (record {
+                  is_valid = e.is_valid;
+                  following = e.following;
+                  split = e.split;
+                  whole = e.whole;
+                });
+          };
+      starts = record { starts = λ b is. one.starts.starts (f b) is };
+      among = one.among;
+      element = λ b is. one.element (f b) is;
+      holds = λ b. one.holds (f b);
+    }
 
 -- a field converted to another type
 pub seen_set : {A B : Type 0} {always : Bool} {first stops : List (Option Tag)}

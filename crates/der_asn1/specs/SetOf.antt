@@ -1,7 +1,7 @@
--- Elements of one type in ascending order of their encodings, as in a SET OF under DER (X.690 8.12,
+-- Values of one type in ascending order of their encodings, as in a SET OF under DER (X.690 8.12,
 -- 11.6): `AreAscending`.
 use Rattle.std.specs.Prelude.{◌≡◌, ℕ, List, [], ◌∷◌}
-use Rattle.der.specs.Prelude.{Tag, element_octets, IsBefore}
+use Rattle.der.specs.Prelude.{IsBefore}
 use Rattle.der_asn1.specs.SequenceOf.{IsListOf}
 
 -- no encoding is smaller than the one before it, and the first is not smaller than `previous`
@@ -17,14 +17,13 @@ pub record IsSetAfter {A : Type 0} (valid : A → Type 0) (encoding : A → List
   pub list : IsListOf valid encoding octets
   pub ascend : EncodingsAscendAfter encoding previous list.items
 
--- octets are the elements of valid values with this tag, in ascending order
-abbrev pub AreAscending : {A : Type 0} → Tag → (A → Type 0) → (A → List ℕ) → List ℕ → Type 0
-AreAscending tag valid contents octets =
-    IsSetAfter valid (λ v. element_octets tag (contents v)) [] octets
+-- octets are the encodings of valid values, in ascending order
+abbrev pub AreAscending : {A : Type 0} → (A → Type 0) → (A → List ℕ) → List ℕ → Type 0
+AreAscending valid encoding octets = IsSetAfter valid encoding [] octets
 
--- octets are the element of a valid value
-pub record IsEncodedElement {A : Type 0} (tag : Tag) (valid : A → Type 0) (contents : A → List ℕ)
-    (octets : List ℕ) : Type 0 where
+-- octets are the encoding of a valid value
+pub record IsEncoded {A : Type 0} (valid : A → Type 0) (encoding : A → List ℕ) (octets : List ℕ)
+    : Type 0 where
   pub value : A
   pub is_valid : valid value
-  pub whole : octets ≡ element_octets tag (contents value)
+  pub whole : octets ≡ encoding value

@@ -4,7 +4,7 @@ ghost use Rattle.der_asn1.specs.Forms.{ends_subidentifiers};
 
 use crate::checked::Checked;
 use crate::object_identifier::ObjectIdentifierGrammar;
-use crate::subidentifier::{first_arc_of, first_subidentifier, narrow, second_arc_of};
+use crate::subidentifier::{first_arc_of, first_subidentifier, second_arc_of};
 
 // Which arc is next.
 #[derive(Clone, Copy)]
@@ -52,19 +52,20 @@ impl<'a> Arcs<'a> {
     }
 }
 
-/// Each item is one arc: its number, or `None` if the number exceeds 4294967295. The iteration
-/// continues after a `None` item.
+/// Each item is one arc: its number, or `None` if the subidentifier that encodes it needs more than
+/// 128 bits. This subidentifier is the number itself; that of a second arc after the first arc 2 is
+/// 80 more. The iteration continues after a `None` item.
 impl<'a> Iterator for Arcs<'a> {
     ghost use Rattle.std.specs.Iterator.{YieldsFirst, item_count};
     ghost use Rattle.der_asn1.specs.Arcs.{arc_items};
 
-    type Item = Option<u32>;
+    type Item = Option<u128>;
 
     ghost next_gives = { YieldsFirst arc_items };
 
     ghost remaining = { item_count arc_items };
 
-    fn next(&mut self) -> Option<Option<u32>> {
+    fn next(&mut self) -> Option<Option<u128>> {
         if self.octets.is_empty() {
             return None;
         }
@@ -81,7 +82,7 @@ impl<'a> Iterator for Arcs<'a> {
             }
             Stage::Other => {
                 self.octets = following;
-                Some(narrow(number))
+                Some(number)
             }
         }
     }

@@ -6,7 +6,7 @@ ghost use Rattle.der_asn1.specs.Forms.{bits_form, has_low_zeros};
 
 use crate::checked::Checked;
 use crate::grammar::ContentsGrammar;
-use der::{FixedTag, Tag};
+use der::Tag;
 
 /// Describes the contents of a BIT STRING: one octet that gives the number of unused bits, from 0
 /// to 7, then the octets that hold the bits. The unused bits are the last bits of the last octet;
@@ -17,7 +17,7 @@ pub struct BitStringGrammar;
 /// A BIT STRING borrowed from the input. The first contents octet is the number of unused bits.
 pub type BitStringRef<'a> = Checked<'a, BitStringGrammar>;
 
-impl FixedTag for BitStringGrammar {
+impl ContentsGrammar for BitStringGrammar {
     ghost tag_is = { BitTag };
 
     const TAG: Tag = Tag::BitString;
@@ -26,9 +26,7 @@ impl FixedTag for BitStringGrammar {
     fn fixed_tag() -> Tag {
         Self::TAG
     }
-}
 
-impl ContentsGrammar for BitStringGrammar {
     ghost grammar = { bits_form };
 
     #[inline(always)]

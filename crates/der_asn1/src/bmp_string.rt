@@ -6,7 +6,7 @@ ghost use Rattle.der_asn1.specs.Alphabets.{bmp_form, is_surrogate};
 
 use crate::checked::Checked;
 use crate::grammar::ContentsGrammar;
-use der::{FixedTag, Tag};
+use der::Tag;
 
 /// Describes the contents of a BMPString: characters of the Basic Multilingual Plane, of two octets
 /// each (X.690 8.23.9).
@@ -15,7 +15,7 @@ pub struct BmpStringGrammar;
 /// A BMPString borrowed from the input.
 pub type BmpStringRef<'a> = Checked<'a, BmpStringGrammar>;
 
-impl FixedTag for BmpStringGrammar {
+impl ContentsGrammar for BmpStringGrammar {
     ghost tag_is = { BmpTag };
 
     const TAG: Tag = Tag::BmpString;
@@ -23,9 +23,7 @@ impl FixedTag for BmpStringGrammar {
     fn fixed_tag() -> Tag {
         Self::TAG
     }
-}
 
-impl ContentsGrammar for BmpStringGrammar {
     ghost grammar = { bmp_form };
 
     fn matches_grammar(octets: &[u8]) -> bool {

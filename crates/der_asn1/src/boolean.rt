@@ -7,7 +7,7 @@ ghost use Rattle.der_asn1.specs.Forms.{boolean_form, is_false};
 use crate::checked::Checked;
 use crate::default_contents::DefaultContents;
 use crate::grammar::ContentsGrammar;
-use der::{FixedTag, Tag};
+use der::Tag;
 
 /// Describes the contents of a BOOLEAN: `0x00` for false, `0xFF` for true (X.690 8.2, 11.1).
 pub struct BooleanGrammar;
@@ -15,7 +15,7 @@ pub struct BooleanGrammar;
 /// A BOOLEAN borrowed from the input.
 pub type BooleanRef<'a> = Checked<'a, BooleanGrammar>;
 
-impl FixedTag for BooleanGrammar {
+impl ContentsGrammar for BooleanGrammar {
     ghost tag_is = { BooleanTag };
 
     const TAG: Tag = Tag::Boolean;
@@ -24,9 +24,7 @@ impl FixedTag for BooleanGrammar {
     fn fixed_tag() -> Tag {
         Self::TAG
     }
-}
 
-impl ContentsGrammar for BooleanGrammar {
     ghost grammar = { boolean_form };
 
     #[inline(always)]

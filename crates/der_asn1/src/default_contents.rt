@@ -1,13 +1,11 @@
 //! Types with a default, by their contents.
 ghost use Rattle.std.specs.Prelude.{◌≡◌, Bool, true, List, ℕ};
-ghost use Rattle.std.proofs.Common.{ap};
-ghost use Rattle.der_asn1.specs.CheckedLemmas.{one_form, one_explicit_form};
+ghost use Rattle.std.proofs.Common.{ap, sym, ◌∙◌};
 
 use crate::checked::Checked;
-use crate::defaulted::{DefaultValue, HasDefault};
-use crate::explicit::Explicit;
+use crate::default_element::DefaultElement;
+use crate::defaulted::DefaultValue;
 use crate::grammar::ContentsGrammar;
-use der::Reader;
 
 /// Types that describe an ASN.1 type with a default value, which is the value of a DEFAULT field
 /// that is absent. The contents octets of a value decide whether the value is the default.
@@ -40,25 +38,6 @@ impl<'a, F: DefaultContents> DefaultValue for Checked<'a, F> {
     }
 }
 
-impl<'a, R: Reader<Borrowed = &'a [u8]>, F: DefaultContents> HasDefault<R> for Checked<'a, F> {
-    ghost reported = { λ v w rules octets m n one two. ap F.default_contents (one_form one two) };
-}
-
-impl<'a, F: DefaultContents, const N: u32> DefaultValue for Explicit<Checked<'a, F>, N> {
-    ghost is_default = { λ v. F.default_contents v.0.octets.now };
-
-    fn default_value() -> Self {
-        Explicit(Checked::default_value())
-    }
-
-    #[inline(always)]
-    fn has_default(&self) -> bool {
-        self.0.has_default()
-    }
-}
-
-impl<'a, R: Reader<Borrowed = &'a [u8]>, F: DefaultContents, const N: u32> HasDefault<R>
-    for Explicit<Checked<'a, F>, N> {
-    ghost reported = { λ v w rules octets m n one two.
-        ap F.default_contents (one_explicit_form (λ e. e.0) one two) };
+impl<'a, F: DefaultContents> DefaultElement for Checked<'a, F> {
+    ghost decided = { λ v w rules h octets one two. ap F.default_contents (one.1 ∙ sym two.1) };
 }

@@ -8,7 +8,7 @@ use crate::checked::Checked;
 use crate::grammar::ContentsGrammar;
 use crate::integer::IntegerGrammar;
 use crate::integer_number::IntegerNumber;
-use der::{FixedTag, Tag};
+use der::Tag;
 
 /// Describes the contents of an ENUMERATED: the number of the enumeration item, encoded as the
 /// contents of an INTEGER (X.690 8.4).
@@ -17,7 +17,7 @@ pub struct EnumeratedGrammar;
 /// An ENUMERATED borrowed from the input.
 pub type EnumeratedRef<'a> = Checked<'a, EnumeratedGrammar>;
 
-impl FixedTag for EnumeratedGrammar {
+impl ContentsGrammar for EnumeratedGrammar {
     ghost tag_is = { EnumeratedTag };
 
     const TAG: Tag = Tag::Enumerated;
@@ -25,9 +25,7 @@ impl FixedTag for EnumeratedGrammar {
     fn fixed_tag() -> Tag {
         Self::TAG
     }
-}
 
-impl ContentsGrammar for EnumeratedGrammar {
     ghost grammar = { integer_form };
 
     fn matches_grammar(octets: &[u8]) -> bool {

@@ -7,7 +7,7 @@ use crate::date_time::DateTime;
 use crate::time_format::TimeFormat;
 use crate::time_octets::{TimeOctets, generalized_from};
 use crate::time_of::TimeOf;
-use der::{FixedTag, Tag};
+use der::Tag;
 
 /// Describes the contents of a GeneralizedTime: the format YYYYMMDDHHMMSSZ, for the years 0 to
 /// 9999, without a fraction of a second (X.690 11.7; RFC 5280, 4.1.2.5.2).
@@ -17,7 +17,7 @@ pub struct GeneralizedTimeFormat;
 /// A GeneralizedTime, as a date with a time of day.
 pub type GeneralizedTime = TimeOf<GeneralizedTimeFormat>;
 
-impl FixedTag for GeneralizedTimeFormat {
+impl TimeFormat for GeneralizedTimeFormat {
     ghost tag_is = { GeneralizedTag };
 
     const TAG: Tag = Tag::GeneralizedTime;
@@ -26,9 +26,7 @@ impl FixedTag for GeneralizedTimeFormat {
     fn fixed_tag() -> Tag {
         Self::TAG
     }
-}
 
-impl TimeFormat for GeneralizedTimeFormat {
     ghost grammar = { generalized_form };
 
     ghost holds = { is_date_time };

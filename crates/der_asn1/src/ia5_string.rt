@@ -5,7 +5,7 @@ ghost use Rattle.der_asn1.specs.Forms.{ia5_form};
 
 use crate::checked::Checked;
 use crate::grammar::ContentsGrammar;
-use der::{FixedTag, Tag};
+use der::Tag;
 
 /// Describes the contents of an IA5String: octets below `0x80` (X.690 8.23, X.680 41).
 pub struct Ia5StringGrammar;
@@ -13,7 +13,7 @@ pub struct Ia5StringGrammar;
 /// An IA5String borrowed from the input.
 pub type Ia5StringRef<'a> = Checked<'a, Ia5StringGrammar>;
 
-impl FixedTag for Ia5StringGrammar {
+impl ContentsGrammar for Ia5StringGrammar {
     ghost tag_is = { Ia5Tag };
 
     const TAG: Tag = Tag::Ia5String;
@@ -21,9 +21,7 @@ impl FixedTag for Ia5StringGrammar {
     fn fixed_tag() -> Tag {
         Self::TAG
     }
-}
 
-impl ContentsGrammar for Ia5StringGrammar {
     ghost grammar = { ia5_form };
 
     fn matches_grammar(octets: &[u8]) -> bool {

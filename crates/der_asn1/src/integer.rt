@@ -6,7 +6,7 @@ ghost use Rattle.der_asn1.specs.Forms.{integer_form};
 
 use crate::checked::Checked;
 use crate::grammar::ContentsGrammar;
-use der::{FixedTag, Tag};
+use der::Tag;
 
 /// Describes the contents of an INTEGER: a number in two's complement, in the fewest octets (X.690
 /// 8.3.2).
@@ -15,7 +15,7 @@ pub struct IntegerGrammar;
 /// An INTEGER borrowed from the input.
 pub type IntRef<'a> = Checked<'a, IntegerGrammar>;
 
-impl FixedTag for IntegerGrammar {
+impl ContentsGrammar for IntegerGrammar {
     ghost tag_is = { IntegerTag };
 
     const TAG: Tag = Tag::Integer;
@@ -24,9 +24,7 @@ impl FixedTag for IntegerGrammar {
     fn fixed_tag() -> Tag {
         Self::TAG
     }
-}
 
-impl ContentsGrammar for IntegerGrammar {
     ghost grammar = { integer_form };
 
     #[inline(always)]

@@ -5,7 +5,7 @@ ghost use Rattle.der_asn1.specs.Forms.{null_form};
 
 use crate::checked::Checked;
 use crate::grammar::ContentsGrammar;
-use der::{FixedTag, Tag};
+use der::Tag;
 
 /// Describes the contents of NULL: no octets (X.690 8.8.2).
 pub struct NullGrammar;
@@ -13,7 +13,7 @@ pub struct NullGrammar;
 /// NULL, borrowed from the input.
 pub type Null<'a> = Checked<'a, NullGrammar>;
 
-impl FixedTag for NullGrammar {
+impl ContentsGrammar for NullGrammar {
     ghost tag_is = { NullTag };
 
     const TAG: Tag = Tag::Null;
@@ -21,9 +21,7 @@ impl FixedTag for NullGrammar {
     fn fixed_tag() -> Tag {
         Self::TAG
     }
-}
 
-impl ContentsGrammar for NullGrammar {
     ghost grammar = { null_form };
 
     fn matches_grammar(octets: &[u8]) -> bool {

@@ -5,7 +5,7 @@ ghost use Rattle.der_asn1.specs.Alphabets.{numeric_form};
 
 use crate::checked::Checked;
 use crate::grammar::ContentsGrammar;
-use der::{FixedTag, Tag};
+use der::Tag;
 
 /// Describes the contents of a NumericString: the digits and the space (X.680 41.2).
 pub struct NumericStringGrammar;
@@ -13,7 +13,7 @@ pub struct NumericStringGrammar;
 /// A NumericString borrowed from the input.
 pub type NumericStringRef<'a> = Checked<'a, NumericStringGrammar>;
 
-impl FixedTag for NumericStringGrammar {
+impl ContentsGrammar for NumericStringGrammar {
     ghost tag_is = { NumericTag };
 
     const TAG: Tag = Tag::NumericString;
@@ -21,9 +21,7 @@ impl FixedTag for NumericStringGrammar {
     fn fixed_tag() -> Tag {
         Self::TAG
     }
-}
 
-impl ContentsGrammar for NumericStringGrammar {
     ghost grammar = { numeric_form };
 
     fn matches_grammar(octets: &[u8]) -> bool {

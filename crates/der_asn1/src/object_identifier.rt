@@ -6,7 +6,7 @@ ghost use Rattle.der_asn1.specs.Forms.{oid_form};
 
 use crate::checked::Checked;
 use crate::grammar::ContentsGrammar;
-use der::{FixedTag, Tag};
+use der::Tag;
 
 /// Describes the contents of an OBJECT IDENTIFIER: one or more subidentifiers, none of which begins
 /// with octet `0x80` (X.690 8.19.2, 8.19.3).
@@ -15,7 +15,7 @@ pub struct ObjectIdentifierGrammar;
 /// An OBJECT IDENTIFIER borrowed from the input.
 pub type ObjectIdentifierRef<'a> = Checked<'a, ObjectIdentifierGrammar>;
 
-impl FixedTag for ObjectIdentifierGrammar {
+impl ContentsGrammar for ObjectIdentifierGrammar {
     ghost tag_is = { OidTag };
 
     const TAG: Tag = Tag::ObjectIdentifier;
@@ -24,9 +24,7 @@ impl FixedTag for ObjectIdentifierGrammar {
     fn fixed_tag() -> Tag {
         Self::TAG
     }
-}
 
-impl ContentsGrammar for ObjectIdentifierGrammar {
     ghost grammar = { oid_form };
 
     #[inline(always)]

@@ -5,7 +5,7 @@ ghost use Rattle.der_asn1.specs.Forms.{octets_form};
 
 use crate::checked::Checked;
 use crate::grammar::ContentsGrammar;
-use der::{FixedTag, Tag};
+use der::Tag;
 
 /// Describes the contents of an OCTET STRING: any octets (X.690 8.7).
 pub struct OctetStringGrammar;
@@ -13,7 +13,7 @@ pub struct OctetStringGrammar;
 /// An OCTET STRING borrowed from the input.
 pub type OctetStringRef<'a> = Checked<'a, OctetStringGrammar>;
 
-impl FixedTag for OctetStringGrammar {
+impl ContentsGrammar for OctetStringGrammar {
     ghost tag_is = { OctetTag };
 
     const TAG: Tag = Tag::OctetString;
@@ -22,9 +22,7 @@ impl FixedTag for OctetStringGrammar {
     fn fixed_tag() -> Tag {
         Self::TAG
     }
-}
 
-impl ContentsGrammar for OctetStringGrammar {
     ghost grammar = { octets_form };
 
     #[inline(always)]

@@ -6,7 +6,7 @@ ghost use Rattle.der_asn1.specs.Forms.{printable_form, is_printable};
 
 use crate::checked::Checked;
 use crate::grammar::ContentsGrammar;
-use der::{FixedTag, Tag};
+use der::Tag;
 
 /// Describes the contents of a PrintableString: letters, digits, space, and `'()+,-./:=?` (X.680
 /// 41.4).
@@ -15,7 +15,7 @@ pub struct PrintableStringGrammar;
 /// A PrintableString borrowed from the input.
 pub type PrintableStringRef<'a> = Checked<'a, PrintableStringGrammar>;
 
-impl FixedTag for PrintableStringGrammar {
+impl ContentsGrammar for PrintableStringGrammar {
     ghost tag_is = { PrintableTag };
 
     const TAG: Tag = Tag::PrintableString;
@@ -23,9 +23,7 @@ impl FixedTag for PrintableStringGrammar {
     fn fixed_tag() -> Tag {
         Self::TAG
     }
-}
 
-impl ContentsGrammar for PrintableStringGrammar {
     ghost grammar = { printable_form };
 
     fn matches_grammar(octets: &[u8]) -> bool {

@@ -5,7 +5,7 @@ ghost use Rattle.der_asn1.specs.Forms.{octets_form};
 
 use crate::checked::Checked;
 use crate::grammar::ContentsGrammar;
-use der::{FixedTag, Tag};
+use der::Tag;
 
 /// Describes the contents of a TeletexString: any octets, because the set of registered character
 /// sets is open (X.690 8.23.5).
@@ -14,7 +14,7 @@ pub struct TeletexStringGrammar;
 /// A TeletexString borrowed from the input.
 pub type TeletexStringRef<'a> = Checked<'a, TeletexStringGrammar>;
 
-impl FixedTag for TeletexStringGrammar {
+impl ContentsGrammar for TeletexStringGrammar {
     ghost tag_is = { TeletexTag };
 
     const TAG: Tag = Tag::TeletexString;
@@ -22,9 +22,7 @@ impl FixedTag for TeletexStringGrammar {
     fn fixed_tag() -> Tag {
         Self::TAG
     }
-}
 
-impl ContentsGrammar for TeletexStringGrammar {
     ghost grammar = { octets_form };
 
     fn matches_grammar(_octets: &[u8]) -> bool {

@@ -1,18 +1,32 @@
 //! Contents of times.
 ghost use Rattle.std.specs.Prelude.{◌≡◌, ◌↔◌, ◌^◌, ◌<◌, ℕ, Bool, true, List, drop, IsSome, IfSome};
+ghost use Rattle.der.specs.Prelude.{Tag as ATag};
 ghost use Rattle.der.specs.Tag.{label};
 
 use crate::date_time::DateTime;
 use crate::time_octets::TimeOctets;
-use der::FixedTag;
+use der::Tag;
 
 /// Types that describe an ASN.1 time type by its tag and by the format of its contents octets.
 ///
-/// Ghost members (for proofs only): `grammar` says which octets are the contents of a time in this
-/// format; `holds` says which times can be written in this format; `contents_of` gives the contents
-/// octets of each time; `numbered` proves that the number of the tag fits in 32 bits.
-pub trait TimeFormat: FixedTag {
+/// Ghost members (for proofs only): `tag_is` is the tag; `grammar` says which octets are the
+/// contents of a time in this format; `holds` says which times can be written in this format;
+/// `contents_of` gives the contents octets of each time; `numbered` proves that the number of the
+/// tag fits in 32 bits.
+pub trait TimeFormat {
     ghost use Rattle.der_asn1.specs.declared.date_time.DateTime.{DateTime};
+
+    ghost tag_is: { ATag };
+
+    /// The tag of the type.
+    const TAG: Tag;
+
+    /// Returns `Self::TAG`. Generic code calls this function, because it cannot name the constant
+    /// in a contract.
+    ///
+    /// The implementor must ensure that the result is `Self::TAG`.
+    fn fixed_tag() -> Tag
+        ensures { result ≡ tag_is };
 
     ghost grammar: { List ℕ → Bool };
 
@@ -37,5 +51,5 @@ pub trait TimeFormat: FixedTag {
         ensures formed { grammar (contents_of time.now) ≡ true };
 
     // The tag number fits in 32 bits.
-    ghost numbered: { (label Self.tag_is).number < 2 ^ 32 };
+    ghost numbered: { (label tag_is).number < 2 ^ 32 };
 }

@@ -7,7 +7,7 @@ use crate::date_time::DateTime;
 use crate::time_format::TimeFormat;
 use crate::time_octets::{TimeOctets, utc_from};
 use crate::time_of::TimeOf;
-use der::{FixedTag, Tag};
+use der::Tag;
 
 /// Describes the contents of a UTCTime: the format YYMMDDHHMMSSZ, for the years 1950 to 2049 (X.690
 /// 11.8; RFC 5280, 4.1.2.5.1).
@@ -17,7 +17,7 @@ pub struct UtcTimeFormat;
 /// A UTCTime, as a date with a time of day.
 pub type UtcTime = TimeOf<UtcTimeFormat>;
 
-impl FixedTag for UtcTimeFormat {
+impl TimeFormat for UtcTimeFormat {
     ghost tag_is = { UtcTag };
 
     const TAG: Tag = Tag::UtcTime;
@@ -26,9 +26,7 @@ impl FixedTag for UtcTimeFormat {
     fn fixed_tag() -> Tag {
         Self::TAG
     }
-}
 
-impl TimeFormat for UtcTimeFormat {
     ghost grammar = { utc_form };
 
     ghost holds = { is_utc_time };

@@ -6,7 +6,7 @@ ghost use Rattle.der.specs.Prelude.{Utf8String as Utf8Tag};
 
 use crate::checked::Checked;
 use crate::grammar::ContentsGrammar;
-use der::{FixedTag, Tag};
+use der::Tag;
 
 /// Describes the contents of a UTF8String: characters of ISO/IEC 10646 in UTF-8, each in the fewest
 /// octets (X.690 8.23.10).
@@ -15,7 +15,7 @@ pub struct Utf8StringGrammar;
 /// A UTF8String borrowed from the input.
 pub type Utf8StringRef<'a> = Checked<'a, Utf8StringGrammar>;
 
-impl FixedTag for Utf8StringGrammar {
+impl ContentsGrammar for Utf8StringGrammar {
     ghost tag_is = { Utf8Tag };
 
     const TAG: Tag = Tag::Utf8String;
@@ -23,9 +23,7 @@ impl FixedTag for Utf8StringGrammar {
     fn fixed_tag() -> Tag {
         Self::TAG
     }
-}
 
-impl ContentsGrammar for Utf8StringGrammar {
     ghost grammar = { is_utf8 };
 
     fn matches_grammar(octets: &[u8]) -> bool {

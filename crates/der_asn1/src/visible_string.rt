@@ -5,7 +5,7 @@ ghost use Rattle.der_asn1.specs.Alphabets.{visible_form};
 
 use crate::checked::Checked;
 use crate::grammar::ContentsGrammar;
-use der::{FixedTag, Tag};
+use der::Tag;
 
 /// Describes the contents of a VisibleString: printing characters of ISO/IEC 646, and space (X.680
 /// 41).
@@ -14,7 +14,7 @@ pub struct VisibleStringGrammar;
 /// A VisibleString borrowed from the input.
 pub type VisibleStringRef<'a> = Checked<'a, VisibleStringGrammar>;
 
-impl FixedTag for VisibleStringGrammar {
+impl ContentsGrammar for VisibleStringGrammar {
     ghost tag_is = { VisibleTag };
 
     const TAG: Tag = Tag::VisibleString;
@@ -22,9 +22,7 @@ impl FixedTag for VisibleStringGrammar {
     fn fixed_tag() -> Tag {
         Self::TAG
     }
-}
 
-impl ContentsGrammar for VisibleStringGrammar {
     ghost grammar = { visible_form };
 
     fn matches_grammar(octets: &[u8]) -> bool {

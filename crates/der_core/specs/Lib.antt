@@ -19,6 +19,7 @@ pub mod SliceWriter
 pub mod Encode
 pub mod WrittenSequence
 pub mod Lawful
+pub mod ElementSpec
 pub mod Fields
 pub mod DerOrd
 pub mod Items

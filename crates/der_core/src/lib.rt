@@ -8,8 +8,10 @@
 
 mod comparisons;
 pub mod decode;
+mod described;
 pub mod encode;
 pub mod encode_ref;
+mod from_fields;
 pub mod header;
 mod laws;
 mod length;
@@ -22,11 +24,13 @@ pub mod writer;
 pub use decode::{
     Decode, DecodeBytes, DecodeError, DecodeValue, Lawful, ReadValue, decode_contents, decode_tlv,
 };
+pub use described::Described;
 pub use encode::{
     Encode, EncodeValue, WrittenValue, encode_tlv, encode_to_vec_in, encode_value_to_slice,
     encoded_len_tlv, to_der_in,
 };
 pub use encode_ref::{EncodeRef, EncodeValueRef};
+pub use from_fields::{FromFields, decode_fields, decode_sequence, decode_wrapped};
 pub use header::{Header, decode_header};
 pub use length::decode_length;
 pub use length::indefinite::decode_indefinite_length;
@@ -35,7 +39,7 @@ pub use ord::{DerOrd, OrdIsValueOrd, Orderly, ValueOrd, der_cmp_tlv, iter_cmp, i
 pub use reader::{
     Octets, Position, Reader, ReaderExt, Resumption, SliceReader, close_value, read_eoc, read_value,
 };
-pub use sequence::{FromFields, decode_sequence};
+pub use sequence::Sequence;
 pub use tag::TagPeek;
 pub use tag::fixed::{FixedTag, IsConstructed, Tagged};
 pub use writer::{SliceWriter, Writer};

@@ -1,58 +1,78 @@
-//! Types whose values are built from fields that are decoded one after the other.
-ghost use Rattle.std.specs.Prelude.{◌≡◌, ◌+◌, ◌≤◌, true};
-ghost use Rattle.der_core.specs.DecodeValue.{ContentsNext, EndsOrLacks, TakesContents};
-ghost use Rattle.der_core.specs.Fields.{TakesWhole};
-ghost use Rattle.der_core.specs.Header.{head_of};
-ghost use Rattle.der_core.specs.Outcome.{map_ok};
-ghost use Rattle.der_core.specs.ReaderState.{Same};
+//! SEQUENCEs.
+ghost use Rattle.std.specs.Prelude.{◌≡◌, Bool, false};
+ghost use Rattle.std.proofs.Common.{subst, sym};
+ghost use Rattle.der_base.specs.declared.tag.Tag.TheVariants.{Sequence as SequenceTag};
+ghost use Rattle.der_core.specs.ElementSpec.{ElementSpec, IsSequence};
+ghost use Rattle.der_core.specs.Lawful.{IsLawful};
 
-use crate::decode::{Decode, decode_contents};
-use crate::header::Header;
-use crate::reader::Reader;
-use std::alloc::Global;
+use crate::decode::{Lawful, ReadValue};
+use crate::described::Described;
+use crate::encode::WrittenValue;
+use crate::tag::fixed::FixedTag;
+use der_base::Tag;
 
-/// Types whose values can be built from their fields. One value of the type `F` holds all the
-/// fields, for example the nested pair `(A, (B, C))` for three fields.
+/// SEQUENCEs (X.690 8.9). A type that implements this trait has the tag SEQUENCE, is [`Described`]
+/// and is [`Lawful`]. Its fields are decoded and written one after the other:
+/// [`decode_sequence`](crate::decode_sequence) decodes them, and
+/// [`field_refs!`](crate::field_refs) lists them for writing.
 ///
-/// Ghost member (for proofs only): `fields` returns the fields of a value.
-pub trait FromFields<F>: Sized + Drop {
-    ghost fields: { Self → F };
-
-    /// Builds the value whose fields are `members`.
-    fn from_fields(members: F) -> Self
-        ensures { Self.fields result ≡ members };
-}
-
-/// Decodes the fields `F` from the start of the contents that the reader is inside, one field after
-/// the other, and builds the value from them. Ignores `header`. If octets are left after the
-/// fields, the function leaves them unread and returns `Ok`; the caller must report them, as
-/// [`decode_tlv`](crate::decode_tlv) does.
+/// Ghost members (for proofs only):
 ///
-/// This function has the contract of
-/// [`DecodeValue::decode_value`](crate::DecodeValue::decode_value), so an implementation of that
-/// function can call it.
+/// - `meaning` is the specification of the type, composed from the specifications of its fields.
+/// - `may_allocate` says whether reading allocates.
+/// - `fits` is a property that implementors prove: the specification is one of a SEQUENCE, and no
+///   field can be mistaken for the field before it. `(refl, refl)` proves it for a type without
+///   parameters.
 ///
 /// # Errors
 ///
-/// Those of the first field that fails to decode, as by [`Decode::decode`].
-#[inline(always)]
-pub fn decode_sequence<R: Reader, F: Decode<R>, T: FromFields<F>>(
-    alloc: Global,
-    reader: &mut R,
-    header: Header,
-) -> Result<T, <F as Decode<R>>::Error>
-    ensures same { Same (R.state reader.old) (R.state reader.new) }
-    ensures sound { TakesContents (λ v. TakesWhole F.is_next (T.fields v)) (head_of header)
-        (R.state reader.old) result (R.state reader.new) }
-    ensures complete { (v : T) → R.reliable ≡ true
-        → ContentsNext (TakesWhole F.is_next (T.fields v)) (head_of header) (R.state reader.old)
-        → (R.state reader.old).depth + F.decode_levels (R.state reader.old).rules ≤ 64
-        → EndsOrLacks F.Error.out_of_memory F.allocates result (R.state reader.new) }
-    ensures exact { R.reliable ≡ true → F.decode_answers (R.state reader.old)
-        (map_ok T.fields result) (R.state reader.new) }
-{
-    match decode_contents::<R, F>(alloc, reader, header) {
-        Ok(fields) => Ok(T::from_fields(fields)),
-        Err(error) => Err(error),
+/// - Decoding a SEQUENCE fails with the error of the first field that fails to decode.
+/// - Writing a SEQUENCE fails with the error of the first field whose length cannot be computed, or
+///   that cannot be written. [`EncodeValue::value_len`](crate::EncodeValue::value_len) also fails
+///   with `Overflow` without a position, if the fields together have more than 4294967295 octets.
+pub trait Sequence: Sized {
+    ghost meaning: { ElementSpec Self };
+
+    ghost may_allocate: { Bool } = { false };
+
+    ghost fits: { IsSequence meaning };
+}
+
+impl<T: Sequence> Described for T {
+    ghost element = { T.meaning };
+}
+
+impl<T: Sequence> FixedTag for T {
+    ghost tag_is = { SequenceTag };
+
+    const TAG: Tag = Tag::Sequence;
+
+    #[inline(always)]
+    fn fixed_tag() -> Tag {
+        Tag::Sequence
     }
+}
+
+impl<T: Sequence> ReadValue for T {
+    ghost valid = { T.meaning.valid };
+
+    ghost takes = { T.meaning.takes };
+
+    ghost value_levels = { T.meaning.levels };
+
+    ghost allocates = { T.may_allocate };
+
+    ghost takes_valid = { T.meaning.holds T.fits.1 };
+}
+
+impl<T: Sequence> WrittenValue for T {
+    ghost contents = { T.meaning.contents };
+
+    ghost writable = { T.meaning.valid };
+}
+
+impl<T: Sequence> Lawful for T {
+    ghost lawful = { subst
+        (λ tag. IsLawful tag T.meaning.takes T.meaning.valid T.meaning.contents T.meaning.levels)
+        T.fits.0 (T.meaning.lawful T.fits.1) };
 }

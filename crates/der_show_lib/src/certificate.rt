@@ -171,11 +171,7 @@ fn write_extensions(
     offsets.put_around(text)?;
     text.push_str("X509v3 extensions:\n")?;
     offsets.enter();
-    let mut items = extensions.items.items();
-    for _ in 0..extensions.items.octets().len() {
-        let Some(extension) = items.next(alloc) else {
-            return Ok(());
-        };
+    for extension in extensions.items.iter(alloc) {
         offsets.put(text)?;
         write_extension(text, &extension)?;
     }

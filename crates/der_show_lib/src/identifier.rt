@@ -22,7 +22,7 @@ pub fn write_identifier(
 }
 
 /// Writes the arcs of an object identifier, which are the numbers that it consists of, separated by
-/// dots. An arc of more than 32 bits is written as `?`.
+/// dots. An arc of more than 128 bits is written as `?`.
 pub fn write_arcs(text: &mut String, oid: &ObjectIdentifierRef<'_>) -> Result<(), AllocError> {
     let mut is_first = true;
     for arc in oid.arcs() {

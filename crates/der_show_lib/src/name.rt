@@ -9,15 +9,11 @@ use x509::{AttributeTypeAndValue, Name, RelativeDistinguishedName};
 /// Writes a distinguished name: its relative distinguished names, the most significant first,
 /// separated by commas.
 pub fn write_name(alloc: Global, text: &mut String, name: &Name<'_>) -> Result<(), AllocError> {
-    let mut levels = name.levels.items();
-    for at in 0..name.levels.octets().len() {
-        let Some(level) = levels.next(alloc) else {
-            return Ok(());
-        };
-        if at > 0 {
-            text.push_str(", ")?;
-        }
+    let mut separator = "";
+    for level in name.levels.iter(alloc) {
+        text.push_str(separator)?;
         write_level(alloc, text, &level)?;
+        separator = ", ";
     }
     Ok(())
 }
@@ -27,15 +23,11 @@ fn write_level(
     text: &mut String,
     level: &RelativeDistinguishedName<'_>,
 ) -> Result<(), AllocError> {
-    let mut attributes = level.items();
-    for at in 0..level.octets().len() {
-        let Some(attribute) = attributes.next(alloc) else {
-            return Ok(());
-        };
-        if at > 0 {
-            text.push_str(" + ")?;
-        }
+    let mut separator = "";
+    for attribute in level.attributes.iter(alloc) {
+        text.push_str(separator)?;
         write_attribute(text, &attribute)?;
+        separator = " + ";
     }
     Ok(())
 }

@@ -43,11 +43,7 @@ fn write_attributes(
 ) -> Result<(), AllocError> {
     offsets.put_around(text)?;
     text.push_str("Attributes:\n")?;
-    let mut items = attributes.items();
-    for _ in 0..attributes.octets().len() {
-        let Some(attribute) = items.next(alloc) else {
-            return Ok(());
-        };
+    for attribute in attributes.iter(alloc) {
         offsets.put(text)?;
         text.push_str("    ")?;
         write_identifier(text, &attribute.oid)?;

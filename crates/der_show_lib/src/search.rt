@@ -76,11 +76,9 @@ impl<'a> Search<'a> {
     /// its error and its offset, and adds its index to the path.
     ///
     /// The SET OF must have failed to decode, with the error `self.error`. If no member fails, the
-    /// members are out of order, and the position of `self.error` is counted from the start of the
-    /// contents of the SET OF. This function then replaces the position by the one that is counted
-    /// from the start of the input.
+    /// members are out of order, and the function keeps this error.
     pub fn is_member_refused<T: Decode<SliceReader<'a>, Error = Error>>(&mut self) -> bool {
-        let order = self.error_from_here();
+        let order = self.error;
         if self.is_item_refused::<T>() {
             return true;
         }
@@ -94,19 +92,6 @@ impl<'a> Search<'a> {
         match decode_header(&mut self.reader) {
             Ok(header) => header.tag() == tag && self.reader.enter_nested(header.length()).is_ok(),
             Err(_) => false,
-        }
-    }
-
-    /// Returns the error found so far, `self.error`, with its position counted from the start of
-    /// the input. In `self.error` itself the position must be counted from the position of the
-    /// walk. An error without a position is returned unchanged.
-    fn error_from_here(&self) -> Error {
-        let Some(position) = self.error.position() else {
-            return self.error;
-        };
-        match self.reader.position() + position {
-            Ok(moved) => self.error.kind().at(moved),
-            Err(_) => self.error,
         }
     }
 

@@ -1,7 +1,8 @@
 -- An algorithm and a month, in sequence.
-use Rattle.std.specs.Prelude.{◌≡◌, ℕ, List, ◌++◌, Result}
+use Rattle.std.specs.Prelude.{◌≡◌, ℕ, true, List, ◌++◌, Result}
 use Rattle.std.proofs.Common.{arith}
 use Rattle.der.specs.Prelude.{Head, Length, OctetString, Sequence, Error, EncodingRules, ElementNext, ElementRead, element_levels, WriterAnswer, ElementWritten, element_octets, element_size, FieldsNext, FieldsRead, FieldsWritten, TakesWhole, fields_levels, fields_size, IsLawful, map_ok, ReaderState}
+use Rattle.der.specs.ElementSpec.{ElementSpec}
 use Rattle.der.specs.LawfulLemmas.{contents_lawful, fields_are_encodings, elements_are_encodings}
 use Rattle.der_uses.specs.MyOctets.{IsMyOctets, AcceptsMyOctets, MyOctetsRead, MyOctetsWritten, my_octets_contents, my_octets_size, my_octets_lawful}
 use Rattle.der.specs.MyByteMonth.{IsMonth, TakesMonth, MonthRead, MonthWritten, month_contents, month_size, month_lawful}
@@ -55,3 +56,17 @@ algorithm_lawful =
     contents_lawful Sequence algorithm_levels identifier_fields
     (fields_are_encodings (elements_are_encodings my_octets_lawful)
     (elements_are_encodings month_lawful)) (omega arith) (omega arith)
+
+-- the specification of the SEQUENCE
+abbrev pub algorithm_element : ElementSpec AlgorithmIdentifier
+algorithm_element =
+    record {
+      tag = Sequence;
+      takes = TakesAlgorithm;
+      valid = IsAlgorithm;
+      contents = algorithm_contents;
+      levels = algorithm_levels;
+      is_compatible = true;
+      lawful = λ e. algorithm_lawful;
+      holds = λ e v rules h octets taken. (tt, taken.following.taken.0);
+    }

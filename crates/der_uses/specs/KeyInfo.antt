@@ -1,7 +1,8 @@
 -- A key after the identifier of its algorithm.
-use Rattle.std.specs.Prelude.{◌≡◌, ℕ, List, ◌++◌, Result}
+use Rattle.std.specs.Prelude.{◌≡◌, ℕ, true, List, ◌++◌, Result}
 use Rattle.std.proofs.Common.{arith}
 use Rattle.der.specs.Prelude.{Head, Length, OctetString, Sequence, Error, EncodingRules, ElementNext, ElementRead, element_levels, WriterAnswer, ElementWritten, element_octets, element_size, FieldsNext, FieldsRead, FieldsWritten, TakesWhole, fields_levels, fields_size, IsLawful, map_ok, ReaderState}
+use Rattle.der.specs.ElementSpec.{ElementSpec}
 use Rattle.der.specs.LawfulLemmas.{contents_lawful, fields_are_encodings, elements_are_encodings}
 use Rattle.der_uses.specs.MyOctets.{IsMyOctets, AcceptsMyOctets, MyOctetsRead, MyOctetsWritten, my_octets_contents, my_octets_size, my_octets_lawful}
 use Rattle.der_uses.specs.AlgorithmIdentifier.{IsAlgorithm, TakesAlgorithm, AlgorithmRead, AlgorithmWritten, algorithm_contents, algorithm_levels, algorithm_size, algorithm_lawful}
@@ -53,3 +54,17 @@ key_info_lawful =
     contents_lawful Sequence key_info_levels key_info_fields
     (fields_are_encodings (elements_are_encodings algorithm_lawful)
     (elements_are_encodings my_octets_lawful)) (omega arith) (omega arith)
+
+-- the specification of the SEQUENCE
+abbrev pub key_info_element : ElementSpec KeyInfo
+key_info_element =
+    record {
+      tag = Sequence;
+      takes = TakesKeyInfo;
+      valid = IsKeyInfo;
+      contents = key_info_contents;
+      levels = key_info_levels;
+      is_compatible = true;
+      lawful = λ e. key_info_lawful;
+      holds = λ e v rules h octets taken. ((tt, taken.next.taken.following.taken.0), tt);
+    }

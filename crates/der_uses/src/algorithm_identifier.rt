@@ -1,13 +1,13 @@
 //! A SEQUENCE of two fields, like an algorithm and its parameter in a certificate.
-ghost use Rattle.std.specs.Prelude.{◌≡◌, false};
-ghost use Rattle.der.specs.Prelude.{Sequence};
-ghost use Rattle.der_uses.specs.AlgorithmIdentifier.{IsAlgorithm, TakesAlgorithm, AlgorithmRead, algorithm_contents, algorithm_levels, algorithm_size, AlgorithmWritten, algorithm_lawful};
+ghost use Rattle.std.specs.Prelude.{◌≡◌};
+ghost use Rattle.std.proofs.Common.{refl};
+ghost use Rattle.der_uses.specs.AlgorithmIdentifier.{AlgorithmRead, algorithm_element, algorithm_size, AlgorithmWritten, identifier_fields};
 
 use crate::my_octets::MyOctets;
 use der::example::MyByteMonth;
 use der::{
-    DecodeValue, Encode, EncodeRef, EncodeValue, Error, FixedTag, Header, Lawful, Length,
-    ReadValue, Reader, Tag, Writer, WrittenValue, decode_contents,
+    DecodeValue, Encode, EncodeRef, EncodeValue, Error, FromFields, Header, Length, Reader,
+    Sequence, Writer, decode_sequence,
 };
 use std::alloc::Global;
 
@@ -20,28 +20,18 @@ pub struct AlgorithmIdentifier<'a> {
     pub month: MyByteMonth,
 }
 
-impl<'a> FixedTag for AlgorithmIdentifier<'a> {
-    ghost tag_is = { Sequence };
+impl<'a> FromFields<(MyOctets<'a>, MyByteMonth)> for AlgorithmIdentifier<'a> {
+    ghost fields = { identifier_fields };
 
-    const TAG: Tag = Tag::Sequence;
-
-    fn fixed_tag() -> Tag
-        ensures { result ≡ Sequence }
-    {
-        Self::TAG
+    fn from_fields((algorithm, month): (MyOctets<'a>, MyByteMonth)) -> Self {
+        AlgorithmIdentifier { algorithm, month }
     }
 }
 
-impl<'a> ReadValue for AlgorithmIdentifier<'a> {
-    ghost valid = { IsAlgorithm };
+impl<'a> Sequence for AlgorithmIdentifier<'a> {
+    ghost meaning = { algorithm_element };
 
-    ghost takes = { TakesAlgorithm };
-
-    ghost value_levels = { algorithm_levels };
-
-    ghost allocates = { false };
-
-    ghost takes_valid = { λ v rules h octets taken. (tt, taken.following.taken.0) };
+    ghost fits = { (refl, refl) };
 }
 
 impl<'a, R: Reader<Borrowed = &'a [u8]>> DecodeValue<R> for AlgorithmIdentifier<'a> {
@@ -50,19 +40,10 @@ impl<'a, R: Reader<Borrowed = &'a [u8]>> DecodeValue<R> for AlgorithmIdentifier<
     ghost decode_value_answers = { AlgorithmRead };
 
     fn decode_value(alloc: Global, reader: &mut R, header: Header) -> Result<Self, Error> {
-        let (algorithm, month) = decode_contents::<R, (MyOctets<'a>, MyByteMonth)>(
-            alloc, reader, header,
-        )?;
-        Ok(AlgorithmIdentifier { algorithm, month })
+        decode_sequence::<R, (MyOctets<'a>, MyByteMonth), Self>(alloc, reader, header)
     }
 
     fn is_value(&self) {}
-}
-
-impl<'a> WrittenValue for AlgorithmIdentifier<'a> {
-    ghost contents = { algorithm_contents };
-
-    ghost writable = { IsAlgorithm };
 }
 
 impl<'a> EncodeValue for AlgorithmIdentifier<'a> {
@@ -79,8 +60,4 @@ impl<'a> EncodeValue for AlgorithmIdentifier<'a> {
     fn encode_value<W: Writer>(&self, writer: &mut W) -> Result<(), Error> {
         (EncodeRef(&self.algorithm), EncodeRef(&self.month)).encode(writer)
     }
-}
-
-impl<'a> Lawful for AlgorithmIdentifier<'a> {
-    ghost lawful = { algorithm_lawful };
 }

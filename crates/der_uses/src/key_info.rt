@@ -1,13 +1,14 @@
 //! A SEQUENCE inside another, like a key in a certificate.
-ghost use Rattle.std.specs.Prelude.{◌≡◌, ◌<◌, ◌^◌, false, length, IfOk, IsOk};
-ghost use Rattle.der.specs.Prelude.{Sequence, element_octets};
-ghost use Rattle.der_uses.specs.KeyInfo.{IsKeyInfo, TakesKeyInfo, KeyInfoRead, key_info_contents, key_info_levels, key_info_size, KeyInfoWritten, key_info_lawful};
+ghost use Rattle.std.specs.Prelude.{◌≡◌, ◌<◌, ◌^◌, length, IfOk, IsOk};
+ghost use Rattle.std.proofs.Common.{refl};
+ghost use Rattle.der.specs.Prelude.{Sequence as SequenceTag, element_octets};
+ghost use Rattle.der_uses.specs.KeyInfo.{IsKeyInfo, KeyInfoRead, key_info_contents, key_info_fields, key_info_element, key_info_size, KeyInfoWritten};
 
 use crate::algorithm_identifier::AlgorithmIdentifier;
 use crate::my_octets::MyOctets;
 use der::{
-    DecodeBytes, DecodeValue, Encode, EncodeRef, EncodeValue, Error, FixedTag, Header, Lawful,
-    Length, ReadValue, Reader, Tag, Writer, WrittenValue, decode_contents,
+    DecodeBytes, DecodeValue, Encode, EncodeRef, EncodeValue, Error, FromFields, Header, Length,
+    Reader, Sequence, Writer, decode_sequence,
 };
 use std::alloc::Global;
 
@@ -20,29 +21,18 @@ pub struct KeyInfo<'a> {
     pub key: MyOctets<'a>,
 }
 
-impl<'a> FixedTag for KeyInfo<'a> {
-    ghost tag_is = { Sequence };
+impl<'a> FromFields<(AlgorithmIdentifier<'a>, MyOctets<'a>)> for KeyInfo<'a> {
+    ghost fields = { key_info_fields };
 
-    const TAG: Tag = Tag::Sequence;
-
-    fn fixed_tag() -> Tag
-        ensures { result ≡ Sequence }
-    {
-        Self::TAG
+    fn from_fields((algorithm, key): (AlgorithmIdentifier<'a>, MyOctets<'a>)) -> Self {
+        KeyInfo { algorithm, key }
     }
 }
 
-impl<'a> ReadValue for KeyInfo<'a> {
-    ghost valid = { IsKeyInfo };
+impl<'a> Sequence for KeyInfo<'a> {
+    ghost meaning = { key_info_element };
 
-    ghost takes = { TakesKeyInfo };
-
-    ghost value_levels = { key_info_levels };
-
-    ghost allocates = { false };
-
-    ghost takes_valid = { λ v rules h octets taken.
-        ((tt, taken.next.taken.following.taken.0), tt) };
+    ghost fits = { (refl, refl) };
 }
 
 impl<'a, R: Reader<Borrowed = &'a [u8]>> DecodeValue<R> for KeyInfo<'a> {
@@ -51,19 +41,10 @@ impl<'a, R: Reader<Borrowed = &'a [u8]>> DecodeValue<R> for KeyInfo<'a> {
     ghost decode_value_answers = { KeyInfoRead };
 
     fn decode_value(alloc: Global, reader: &mut R, header: Header) -> Result<Self, Error> {
-        let (algorithm, key) = decode_contents::<R, (AlgorithmIdentifier<'a>, MyOctets<'a>)>(
-            alloc, reader, header,
-        )?;
-        Ok(KeyInfo { algorithm, key })
+        decode_sequence::<R, (AlgorithmIdentifier<'a>, MyOctets<'a>), Self>(alloc, reader, header)
     }
 
     fn is_value(&self) {}
-}
-
-impl<'a> WrittenValue for KeyInfo<'a> {
-    ghost contents = { key_info_contents };
-
-    ghost writable = { IsKeyInfo };
 }
 
 impl<'a> EncodeValue for KeyInfo<'a> {
@@ -82,23 +63,19 @@ impl<'a> EncodeValue for KeyInfo<'a> {
     }
 }
 
-impl<'a> Lawful for KeyInfo<'a> {
-    ghost lawful = { key_info_lawful };
-}
-
 /// Reads the octets as exactly one [`KeyInfo`] under DER.
 pub fn key_info_from_der<'a>(alloc: Global, octets: &'a [u8]) -> Result<KeyInfo<'a>, Error>
     ensures ok { IfOk result (λ v. IsKeyInfo v
-        × (octets.now ≡ element_octets Sequence (key_info_contents v))) }
+        × (octets.now ≡ element_octets SequenceTag (key_info_contents v))) }
     ensures complete { (v : _) → length octets.now < 2 ^ 32 → IsKeyInfo v
-        → octets.now ≡ element_octets Sequence (key_info_contents v) → IsOk result }
+        → octets.now ≡ element_octets SequenceTag (key_info_contents v) → IsOk result }
 {
     KeyInfo::from_der(alloc, octets)
 }
 
 /// Returns the encoding of a [`KeyInfo`] in a new vector.
 pub fn key_info_der(alloc: Global, key: &KeyInfo<'_>) -> Result<Vec<u8>, Error>
-    ensures { IfOk result (λ v. v.items ≡ element_octets Sequence (key_info_contents key.now)) }
+    ensures { IfOk result (λ v. v.items ≡ element_octets SequenceTag (key_info_contents key.now)) }
 {
     key.to_der(alloc)
 }

@@ -4,7 +4,7 @@ ghost use Rattle.std.proofs.Common.{arith};
 ghost use Rattle.der.specs.Prelude.{Set};
 ghost use Rattle.der_asn1.specs.Forms.{octets_form};
 
-use der::{FixedTag, Tag};
+use der::Tag;
 use der_asn1::{Checked, ContentsGrammar};
 
 /// The grammar of the contents of [`PrivateKeyAttributes`]: any octets match it.
@@ -13,19 +13,15 @@ pub struct PrivateKeyAttributesGrammar;
 /// The attributes of a private key, borrowed from the input as octets that are not checked.
 pub type PrivateKeyAttributes<'a> = Checked<'a, PrivateKeyAttributesGrammar>;
 
-impl FixedTag for PrivateKeyAttributesGrammar {
+impl ContentsGrammar for PrivateKeyAttributesGrammar {
     ghost tag_is = { Set };
 
     const TAG: Tag = Tag::Set;
 
-    fn fixed_tag() -> Tag
-        ensures { result ≡ Set }
-    {
+    fn fixed_tag() -> Tag {
         Tag::Set
     }
-}
 
-impl ContentsGrammar for PrivateKeyAttributesGrammar {
     ghost grammar = { octets_form };
 
     fn matches_grammar(_octets: &[u8]) -> bool {

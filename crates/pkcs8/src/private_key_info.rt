@@ -1,14 +1,14 @@
 //! PrivateKeyInfo of RFC 5208, 5, which RFC 5958, 2 calls OneAsymmetricKey.
-ghost use Rattle.std.specs.Prelude.{◌≡◌, false};
+ghost use Rattle.std.specs.Prelude.{◌≡◌};
 ghost use Rattle.std.proofs.Common.{refl};
-ghost use Rattle.der.specs.Prelude.{Sequence, map_ok};
+ghost use Rattle.der.specs.Prelude.{map_ok};
 ghost use Rattle.der_asn1.specs.Meaning.{alternative, field, optional, sequence, two_fields};
 
 use crate::attributes::PrivateKeyAttributes;
 use crate::version::Version;
 use der::{
-    Decode, DecodeValue, Encode, EncodeRef, EncodeValue, Error, FixedTag, FromFields, Header,
-    Lawful, Length, ReadValue, Reader, SliceReader, Tag, Writer, WrittenValue, decode_sequence,
+    Decode, DecodeValue, Encode, EncodeValue, Error, FromFields, Header, Length, Reader, Sequence,
+    SliceReader, Writer, decode_sequence, field_refs,
 };
 use der_asn1::{BitStringRef, Described, Implicit, OctetStringRef, Optional};
 use spki::AlgorithmIdentifierRef;
@@ -59,45 +59,19 @@ impl<'a> FromFields<PrivateKeyInfoFields<'a>> for PrivateKeyInfo<'a> {
     }
 }
 
-impl<'a> Described for PrivateKeyInfo<'a> {
-    ghost element = { sequence (two_fields (two_fields (field (alternative
+impl<'a> Sequence for PrivateKeyInfo<'a> {
+    ghost meaning = { sequence (two_fields (two_fields (field (alternative
         ⟦<Version<'a> as Described>⟧.element))
         (field (alternative ⟦<AlgorithmIdentifierRef<'a> as Described>⟧.element)))
         (two_fields (two_fields (field (alternative ⟦<OctetStringRef<'a> as Described>⟧.element))
         (optional (alternative ⟦<Implicit<PrivateKeyAttributes<'a>, 0> as Described>⟧.element)))
         (optional (alternative ⟦<Implicit<BitStringRef<'a>, 1> as Described>⟧.element))))
         ⟦<PrivateKeyInfo<'a> as FromFields<PrivateKeyInfoFields<'a>>>⟧.fields };
+
+    ghost fits = { (refl, refl) };
 }
 
-impl<'a> FixedTag for PrivateKeyInfo<'a> {
-    ghost tag_is = { Sequence };
-
-    const TAG: Tag = Tag::Sequence;
-
-    fn fixed_tag() -> Tag
-        ensures { result ≡ Sequence }
-    {
-        Tag::Sequence
-    }
-}
-
-impl<'a> ReadValue for PrivateKeyInfo<'a> {
-    ghost valid = { ⟦<PrivateKeyInfo<'a> as Described>⟧.element.valid };
-
-    ghost takes = { ⟦<PrivateKeyInfo<'a> as Described>⟧.element.takes };
-
-    ghost value_levels = { ⟦<PrivateKeyInfo<'a> as Described>⟧.element.levels };
-
-    ghost allocates = { false };
-
-    ghost takes_valid = { ⟦<PrivateKeyInfo<'a> as Described>⟧.element.holds refl };
-}
-
-/// Decodes the fields one after the other, in the order of their declaration.
-///
-/// # Errors
-///
-/// The error of the first field that fails to decode.
+/// Decodes the fields one after the other, with the errors of every [`Sequence`].
 impl<'a, R: Reader<Borrowed = &'a [u8]>> DecodeValue<R> for PrivateKeyInfo<'a> {
     type Error = Error;
 
@@ -122,19 +96,7 @@ impl<'a, R: Reader<Borrowed = &'a [u8]>> DecodeValue<R> for PrivateKeyInfo<'a> {
     }
 }
 
-impl<'a> WrittenValue for PrivateKeyInfo<'a> {
-    ghost contents = { ⟦<PrivateKeyInfo<'a> as Described>⟧.element.contents };
-
-    ghost writable = { ⟦<PrivateKeyInfo<'a> as Described>⟧.element.valid };
-}
-
-/// Writes the fields one after the other, in the order of their declaration.
-///
-/// # Errors
-///
-/// - The error of the first field whose length cannot be computed, or that cannot be written.
-/// - `Overflow` without a position from [`EncodeValue::value_len`], if the fields together have
-///   more than 4294967295 octets.
+/// Writes the fields one after the other, with the errors of every [`Sequence`].
 impl<'a> EncodeValue for PrivateKeyInfo<'a> {
     ghost value_size = { λ v. ⟦<PrivateKeyInfoFields<'a> as Encode>⟧.size
         (⟦<PrivateKeyInfo<'a> as FromFields<PrivateKeyInfoFields<'a>>>⟧.fields v) };
@@ -143,34 +105,24 @@ impl<'a> EncodeValue for PrivateKeyInfo<'a> {
         (⟦<PrivateKeyInfo<'a> as FromFields<PrivateKeyInfoFields<'a>>>⟧.fields v) };
 
     fn value_len(&self) -> Result<Length, Error> {
-        (
+        field_refs!(
+            self,
             (
-                EncodeRef(&self.version),
-                EncodeRef(&self.private_key_algorithm),
-            ),
-            (
-                (EncodeRef(&self.private_key), EncodeRef(&self.attributes)),
-                EncodeRef(&self.public_key),
-            ),
+                (version, private_key_algorithm),
+                ((private_key, attributes), public_key)
+            )
         )
-            .encoded_len()
+        .encoded_len()
     }
 
     fn encode_value<W: Writer>(&self, writer: &mut W) -> Result<(), Error> {
-        (
+        field_refs!(
+            self,
             (
-                EncodeRef(&self.version),
-                EncodeRef(&self.private_key_algorithm),
-            ),
-            (
-                (EncodeRef(&self.private_key), EncodeRef(&self.attributes)),
-                EncodeRef(&self.public_key),
-            ),
+                (version, private_key_algorithm),
+                ((private_key, attributes), public_key)
+            )
         )
-            .encode(writer)
+        .encode(writer)
     }
-}
-
-impl<'a> Lawful for PrivateKeyInfo<'a> {
-    ghost lawful = { ⟦<PrivateKeyInfo<'a> as Described>⟧.element.lawful refl };
 }

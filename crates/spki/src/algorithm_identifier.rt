@@ -1,13 +1,13 @@
 //! AlgorithmIdentifier of RFC 5280, 4.1.1.2.
-ghost use Rattle.std.specs.Prelude.{◌≡◌, false};
+ghost use Rattle.std.specs.Prelude.{◌≡◌};
 ghost use Rattle.std.proofs.Common.{refl};
-ghost use Rattle.der.specs.Prelude.{Sequence, map_ok};
+ghost use Rattle.der.specs.Prelude.{map_ok};
 ghost use Rattle.der_asn1.specs.Meaning.{alternative, any_element, field, optional, sequence};
 ghost use Rattle.der_asn1.specs.Meaning.{two_fields};
 
 use der::{
-    Decode, DecodeValue, Encode, EncodeRef, EncodeValue, Error, FixedTag, FromFields, Header,
-    Lawful, Length, ReadValue, Reader, SliceReader, Tag, Writer, WrittenValue, decode_sequence,
+    Decode, DecodeValue, Encode, EncodeValue, Error, FromFields, Header, Length, Reader, Sequence,
+    SliceReader, Writer, decode_sequence, field_refs,
 };
 use der_asn1::{AnyRef, Described, ObjectIdentifierRef, Optional};
 use std::alloc::Global;
@@ -27,48 +27,21 @@ pub type AlgorithmIdentifierFields<'a> = (ObjectIdentifierRef<'a>, Optional<AnyR
 impl<'a> FromFields<AlgorithmIdentifierFields<'a>> for AlgorithmIdentifierRef<'a> {
     ghost fields = { λ v. (v.oid, v.parameters) };
 
-    fn from_fields(members: AlgorithmIdentifierFields<'a>) -> Self {
-        let (oid, parameters) = members;
+    fn from_fields((oid, parameters): AlgorithmIdentifierFields<'a>) -> Self {
         AlgorithmIdentifierRef { oid, parameters }
     }
 }
 
-impl<'a> Described for AlgorithmIdentifierRef<'a> {
-    ghost element = { sequence (two_fields (field (alternative
+impl<'a> Sequence for AlgorithmIdentifierRef<'a> {
+    ghost meaning = { sequence (two_fields (field (alternative
         ⟦<ObjectIdentifierRef<'a> as Described>⟧.element))
         (optional any_element))
         ⟦<AlgorithmIdentifierRef<'a> as FromFields<AlgorithmIdentifierFields<'a>>>⟧.fields };
+
+    ghost fits = { (refl, refl) };
 }
 
-impl<'a> FixedTag for AlgorithmIdentifierRef<'a> {
-    ghost tag_is = { Sequence };
-
-    const TAG: Tag = Tag::Sequence;
-
-    fn fixed_tag() -> Tag
-        ensures { result ≡ Sequence }
-    {
-        Tag::Sequence
-    }
-}
-
-impl<'a> ReadValue for AlgorithmIdentifierRef<'a> {
-    ghost valid = { ⟦<AlgorithmIdentifierRef<'a> as Described>⟧.element.valid };
-
-    ghost takes = { ⟦<AlgorithmIdentifierRef<'a> as Described>⟧.element.takes };
-
-    ghost value_levels = { ⟦<AlgorithmIdentifierRef<'a> as Described>⟧.element.levels };
-
-    ghost allocates = { false };
-
-    ghost takes_valid = { ⟦<AlgorithmIdentifierRef<'a> as Described>⟧.element.holds refl };
-}
-
-/// Decodes the object identifier, and then the parameters if present.
-///
-/// # Errors
-///
-/// The error of the first field that fails to decode.
+/// Decodes the fields one after the other, with the errors of every [`Sequence`].
 impl<'a, R: Reader<Borrowed = &'a [u8]>> DecodeValue<R> for AlgorithmIdentifierRef<'a> {
     type Error = Error;
 
@@ -89,19 +62,7 @@ impl<'a, R: Reader<Borrowed = &'a [u8]>> DecodeValue<R> for AlgorithmIdentifierR
     }
 }
 
-impl<'a> WrittenValue for AlgorithmIdentifierRef<'a> {
-    ghost contents = { ⟦<AlgorithmIdentifierRef<'a> as Described>⟧.element.contents };
-
-    ghost writable = { ⟦<AlgorithmIdentifierRef<'a> as Described>⟧.element.valid };
-}
-
-/// Writes the object identifier, and then the parameters if present.
-///
-/// # Errors
-///
-/// - The error of the first field whose length cannot be computed, or that cannot be written.
-/// - `Overflow` without a position from [`EncodeValue::value_len`], if the fields together have
-///   more than 4294967295 octets.
+/// Writes the fields one after the other, with the errors of every [`Sequence`].
 impl<'a> EncodeValue for AlgorithmIdentifierRef<'a> {
     ghost value_size = { λ v. ⟦<AlgorithmIdentifierFields<'a> as Encode>⟧.size
         (⟦<AlgorithmIdentifierRef<'a> as FromFields<AlgorithmIdentifierFields<'a>>>⟧.fields v) };
@@ -111,15 +72,11 @@ impl<'a> EncodeValue for AlgorithmIdentifierRef<'a> {
 
     #[inline(always)]
     fn value_len(&self) -> Result<Length, Error> {
-        (EncodeRef(&self.oid), EncodeRef(&self.parameters)).encoded_len()
+        field_refs!(self, (oid, parameters)).encoded_len()
     }
 
     #[inline(always)]
     fn encode_value<W: Writer>(&self, writer: &mut W) -> Result<(), Error> {
-        (EncodeRef(&self.oid), EncodeRef(&self.parameters)).encode(writer)
+        field_refs!(self, (oid, parameters)).encode(writer)
     }
-}
-
-impl<'a> Lawful for AlgorithmIdentifierRef<'a> {
-    ghost lawful = { ⟦<AlgorithmIdentifierRef<'a> as Described>⟧.element.lawful refl };
 }

@@ -1,13 +1,13 @@
 //! SubjectPublicKeyInfo of RFC 5280, 4.1.
-ghost use Rattle.std.specs.Prelude.{◌≡◌, false};
+ghost use Rattle.std.specs.Prelude.{◌≡◌};
 ghost use Rattle.std.proofs.Common.{refl};
-ghost use Rattle.der.specs.Prelude.{Sequence, map_ok};
+ghost use Rattle.der.specs.Prelude.{map_ok};
 ghost use Rattle.der_asn1.specs.Meaning.{alternative, field, sequence, two_fields};
 
 use crate::algorithm_identifier::AlgorithmIdentifierRef;
 use der::{
-    Decode, DecodeValue, Encode, EncodeRef, EncodeValue, Error, FixedTag, FromFields, Header,
-    Lawful, Length, ReadValue, Reader, SliceReader, Tag, Writer, WrittenValue, decode_sequence,
+    Decode, DecodeValue, Encode, EncodeValue, Error, FromFields, Header, Length, Reader, Sequence,
+    SliceReader, Writer, decode_sequence, field_refs,
 };
 use der_asn1::{BitStringRef, Described};
 use std::alloc::Global;
@@ -27,8 +27,7 @@ pub type SubjectPublicKeyInfoFields<'a> = (AlgorithmIdentifierRef<'a>, BitString
 impl<'a> FromFields<SubjectPublicKeyInfoFields<'a>> for SubjectPublicKeyInfoRef<'a> {
     ghost fields = { λ v. (v.algorithm, v.subject_public_key) };
 
-    fn from_fields(members: SubjectPublicKeyInfoFields<'a>) -> Self {
-        let (algorithm, subject_public_key) = members;
+    fn from_fields((algorithm, subject_public_key): SubjectPublicKeyInfoFields<'a>) -> Self {
         SubjectPublicKeyInfoRef {
             algorithm,
             subject_public_key,
@@ -36,42 +35,16 @@ impl<'a> FromFields<SubjectPublicKeyInfoFields<'a>> for SubjectPublicKeyInfoRef<
     }
 }
 
-impl<'a> Described for SubjectPublicKeyInfoRef<'a> {
-    ghost element = { sequence (two_fields (field (alternative
+impl<'a> Sequence for SubjectPublicKeyInfoRef<'a> {
+    ghost meaning = { sequence (two_fields (field (alternative
         ⟦<AlgorithmIdentifierRef<'a> as Described>⟧.element))
         (field (alternative ⟦<BitStringRef<'a> as Described>⟧.element)))
         ⟦<SubjectPublicKeyInfoRef<'a> as FromFields<SubjectPublicKeyInfoFields<'a>>>⟧.fields };
+
+    ghost fits = { (refl, refl) };
 }
 
-impl<'a> FixedTag for SubjectPublicKeyInfoRef<'a> {
-    ghost tag_is = { Sequence };
-
-    const TAG: Tag = Tag::Sequence;
-
-    fn fixed_tag() -> Tag
-        ensures { result ≡ Sequence }
-    {
-        Tag::Sequence
-    }
-}
-
-impl<'a> ReadValue for SubjectPublicKeyInfoRef<'a> {
-    ghost valid = { ⟦<SubjectPublicKeyInfoRef<'a> as Described>⟧.element.valid };
-
-    ghost takes = { ⟦<SubjectPublicKeyInfoRef<'a> as Described>⟧.element.takes };
-
-    ghost value_levels = { ⟦<SubjectPublicKeyInfoRef<'a> as Described>⟧.element.levels };
-
-    ghost allocates = { false };
-
-    ghost takes_valid = { ⟦<SubjectPublicKeyInfoRef<'a> as Described>⟧.element.holds refl };
-}
-
-/// Decodes the algorithm, and then the key.
-///
-/// # Errors
-///
-/// The error of the first field that fails to decode.
+/// Decodes the fields one after the other, with the errors of every [`Sequence`].
 impl<'a, R: Reader<Borrowed = &'a [u8]>> DecodeValue<R> for SubjectPublicKeyInfoRef<'a> {
     type Error = Error;
 
@@ -90,19 +63,7 @@ impl<'a, R: Reader<Borrowed = &'a [u8]>> DecodeValue<R> for SubjectPublicKeyInfo
     }
 }
 
-impl<'a> WrittenValue for SubjectPublicKeyInfoRef<'a> {
-    ghost contents = { ⟦<SubjectPublicKeyInfoRef<'a> as Described>⟧.element.contents };
-
-    ghost writable = { ⟦<SubjectPublicKeyInfoRef<'a> as Described>⟧.element.valid };
-}
-
-/// Writes the algorithm, and then the key.
-///
-/// # Errors
-///
-/// - The error of the first field whose length cannot be computed, or that cannot be written.
-/// - `Overflow` without a position from [`EncodeValue::value_len`], if the fields together have
-///   more than 4294967295 octets.
+/// Writes the fields one after the other, with the errors of every [`Sequence`].
 impl<'a> EncodeValue for SubjectPublicKeyInfoRef<'a> {
     ghost value_size = { λ v. ⟦<SubjectPublicKeyInfoFields<'a> as Encode>⟧.size
         (⟦<SubjectPublicKeyInfoRef<'a> as FromFields<SubjectPublicKeyInfoFields<'a>>>⟧.fields v) };
@@ -112,23 +73,11 @@ impl<'a> EncodeValue for SubjectPublicKeyInfoRef<'a> {
 
     #[inline(always)]
     fn value_len(&self) -> Result<Length, Error> {
-        (
-            EncodeRef(&self.algorithm),
-            EncodeRef(&self.subject_public_key),
-        )
-            .encoded_len()
+        field_refs!(self, (algorithm, subject_public_key)).encoded_len()
     }
 
     #[inline(always)]
     fn encode_value<W: Writer>(&self, writer: &mut W) -> Result<(), Error> {
-        (
-            EncodeRef(&self.algorithm),
-            EncodeRef(&self.subject_public_key),
-        )
-            .encode(writer)
+        field_refs!(self, (algorithm, subject_public_key)).encode(writer)
     }
-}
-
-impl<'a> Lawful for SubjectPublicKeyInfoRef<'a> {
-    ghost lawful = { ⟦<SubjectPublicKeyInfoRef<'a> as Described>⟧.element.lawful refl };
 }

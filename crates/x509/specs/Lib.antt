@@ -1,4 +1,4 @@
-pub mod AttributeValues
 pub mod Checks
 pub mod TbsCertificate
 pub mod CertificateVersion
+pub mod CrlReason

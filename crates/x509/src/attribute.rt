@@ -1,18 +1,16 @@
 //! Attribute of RFC 2986, 4.1.
-ghost use Rattle.std.specs.Prelude.{◌≡◌, false};
+ghost use Rattle.std.specs.Prelude.{◌≡◌};
 ghost use Rattle.std.proofs.Common.{refl};
-ghost use Rattle.der.specs.Prelude.{Sequence, map_ok};
-ghost use Rattle.der_asn1.specs.Meaning.{alternative, field, sequence, two_fields};
-
-mod values;
+ghost use Rattle.der.specs.Prelude.{map_ok};
+ghost use Rattle.der_asn1.specs.Item.{decodes_same};
+ghost use Rattle.der_asn1.specs.Meaning.{sequence_is_item, sequence_item, alternative, field, sequence, two_fields};
 
 use der::{
-    Decode, DecodeValue, Encode, EncodeRef, EncodeValue, Error, FixedTag, FromFields, Header,
-    Lawful, Length, ReadValue, Reader, SliceReader, Tag, Writer, WrittenValue, decode_sequence,
+    Decode, DecodeValue, Encode, EncodeValue, Error, FromFields, Header, Length, Reader, Sequence,
+    SliceReader, Writer, decode_sequence, field_refs,
 };
-use der_asn1::{Described, ObjectIdentifierRef, SetOf};
+use der_asn1::{AnyRef, BorrowedItem, DecodeItem, Described, Item, ObjectIdentifierRef, SetOf};
 use std::alloc::Global;
-pub use values::AttributeValues;
 
 /// An attribute of a certification request, borrowed from the input.
 #[derive(Drop)]
@@ -23,6 +21,10 @@ pub struct Attribute<'a> {
     pub values: AttributeValues<'a>,
 }
 
+/// The values of an attribute: a SET OF elements of any tags, in ascending order of their encodings.
+/// The contents of these elements are not checked.
+pub type AttributeValues<'a> = SetOf<'a, AnyRef<'a>>;
+
 /// The attributes of a certification request, in ascending order of their encodings.
 pub type Attributes<'a> = SetOf<'a, Attribute<'a>>;
 
@@ -32,48 +34,21 @@ pub type AttributeFields<'a> = (ObjectIdentifierRef<'a>, AttributeValues<'a>);
 impl<'a> FromFields<AttributeFields<'a>> for Attribute<'a> {
     ghost fields = { λ v. (v.oid, v.values) };
 
-    fn from_fields(members: AttributeFields<'a>) -> Self {
-        let (oid, values) = members;
+    fn from_fields((oid, values): AttributeFields<'a>) -> Self {
         Attribute { oid, values }
     }
 }
 
-impl<'a> Described for Attribute<'a> {
-    ghost element = { sequence (two_fields (field (alternative
+impl<'a> Sequence for Attribute<'a> {
+    ghost meaning = { sequence (two_fields (field (alternative
         ⟦<ObjectIdentifierRef<'a> as Described>⟧.element))
         (field (alternative ⟦<AttributeValues<'a> as Described>⟧.element)))
         ⟦<Attribute<'a> as FromFields<AttributeFields<'a>>>⟧.fields };
+
+    ghost fits = { (refl, refl) };
 }
 
-impl<'a> FixedTag for Attribute<'a> {
-    ghost tag_is = { Sequence };
-
-    const TAG: Tag = Tag::Sequence;
-
-    fn fixed_tag() -> Tag
-        ensures { result ≡ Sequence }
-    {
-        Tag::Sequence
-    }
-}
-
-impl<'a> ReadValue for Attribute<'a> {
-    ghost valid = { ⟦<Attribute<'a> as Described>⟧.element.valid };
-
-    ghost takes = { ⟦<Attribute<'a> as Described>⟧.element.takes };
-
-    ghost value_levels = { ⟦<Attribute<'a> as Described>⟧.element.levels };
-
-    ghost allocates = { false };
-
-    ghost takes_valid = { ⟦<Attribute<'a> as Described>⟧.element.holds refl };
-}
-
-/// Decodes the fields one after the other.
-///
-/// # Errors
-///
-/// The error of the first field that fails to decode.
+/// Decodes the fields one after the other, with the errors of every [`Sequence`].
 impl<'a, R: Reader<Borrowed = &'a [u8]>> DecodeValue<R> for Attribute<'a> {
     type Error = Error;
 
@@ -91,19 +66,7 @@ impl<'a, R: Reader<Borrowed = &'a [u8]>> DecodeValue<R> for Attribute<'a> {
     }
 }
 
-impl<'a> WrittenValue for Attribute<'a> {
-    ghost contents = { ⟦<Attribute<'a> as Described>⟧.element.contents };
-
-    ghost writable = { ⟦<Attribute<'a> as Described>⟧.element.valid };
-}
-
-/// Writes the fields one after the other.
-///
-/// # Errors
-///
-/// - The error of the first field that fails to encode.
-/// - `Overflow` without a position from [`EncodeValue::value_len`], if the fields together have
-///   more than 4294967295 octets.
+/// Writes the fields one after the other, with the errors of every [`Sequence`].
 impl<'a> EncodeValue for Attribute<'a> {
     ghost value_size = { λ v. ⟦<AttributeFields<'a> as Encode>⟧.size
         (⟦<Attribute<'a> as FromFields<AttributeFields<'a>>>⟧.fields v) };
@@ -112,14 +75,24 @@ impl<'a> EncodeValue for Attribute<'a> {
         (⟦<Attribute<'a> as FromFields<AttributeFields<'a>>>⟧.fields v) };
 
     fn value_len(&self) -> Result<Length, Error> {
-        (EncodeRef(&self.oid), EncodeRef(&self.values)).encoded_len()
+        field_refs!(self, (oid, values)).encoded_len()
     }
 
     fn encode_value<W: Writer>(&self, writer: &mut W) -> Result<(), Error> {
-        (EncodeRef(&self.oid), EncodeRef(&self.values)).encode(writer)
+        field_refs!(self, (oid, values)).encode(writer)
     }
 }
 
-impl<'a> Lawful for Attribute<'a> {
-    ghost lawful = { ⟦<Attribute<'a> as Described>⟧.element.lawful refl };
+impl<'a> Item for Attribute<'a> {
+    ghost item = { sequence_item ⟦<Attribute<'a> as Described>⟧.element };
+}
+
+impl<'a, R: Reader<Borrowed = &'a [u8]>> DecodeItem<R> for Attribute<'a> {
+    ghost is_item = { sequence_is_item ⟦<Attribute<'a> as Described>⟧.element refl };
+
+    ghost decodes_items = { decodes_same (sequence_item ⟦<Attribute<'a> as Described>⟧.element) };
+}
+
+impl<'a> BorrowedItem for Attribute<'a> {
+    ghost borrowed = { refl };
 }

@@ -1,14 +1,15 @@
 //! AttributeTypeAndValue of RFC 5280, 4.1.2.4.
-ghost use Rattle.std.specs.Prelude.{◌≡◌, false};
+ghost use Rattle.std.specs.Prelude.{◌≡◌};
 ghost use Rattle.std.proofs.Common.{refl};
-ghost use Rattle.der.specs.Prelude.{Sequence, map_ok};
-ghost use Rattle.der_asn1.specs.Meaning.{alternative, any_element, field, sequence, two_fields};
+ghost use Rattle.der.specs.Prelude.{map_ok};
+ghost use Rattle.der_asn1.specs.Item.{decodes_same};
+ghost use Rattle.der_asn1.specs.Meaning.{sequence_is_item, sequence_item, alternative, any_element, field, sequence, two_fields};
 
 use der::{
-    Decode, DecodeValue, Encode, EncodeRef, EncodeValue, Error, FixedTag, FromFields, Header,
-    Lawful, Length, ReadValue, Reader, SliceReader, Tag, Writer, WrittenValue, decode_sequence,
+    Decode, DecodeValue, Encode, EncodeValue, Error, FromFields, Header, Length, Reader, Sequence,
+    SliceReader, Writer, decode_sequence, field_refs,
 };
-use der_asn1::{AnyRef, Described, ObjectIdentifierRef};
+use der_asn1::{AnyRef, BorrowedItem, DecodeItem, Described, Item, ObjectIdentifierRef};
 use std::alloc::Global;
 
 /// An attribute of a name, borrowed from the input.
@@ -26,48 +27,21 @@ pub type AttributeTypeAndValueFields<'a> = (ObjectIdentifierRef<'a>, AnyRef<'a>)
 impl<'a> FromFields<AttributeTypeAndValueFields<'a>> for AttributeTypeAndValue<'a> {
     ghost fields = { λ v. (v.oid, v.value) };
 
-    fn from_fields(members: AttributeTypeAndValueFields<'a>) -> Self {
-        let (oid, value) = members;
+    fn from_fields((oid, value): AttributeTypeAndValueFields<'a>) -> Self {
         AttributeTypeAndValue { oid, value }
     }
 }
 
-impl<'a> Described for AttributeTypeAndValue<'a> {
-    ghost element = { sequence (two_fields (field (alternative
+impl<'a> Sequence for AttributeTypeAndValue<'a> {
+    ghost meaning = { sequence (two_fields (field (alternative
         ⟦<ObjectIdentifierRef<'a> as Described>⟧.element))
         (field any_element))
         ⟦<AttributeTypeAndValue<'a> as FromFields<AttributeTypeAndValueFields<'a>>>⟧.fields };
+
+    ghost fits = { (refl, refl) };
 }
 
-impl<'a> FixedTag for AttributeTypeAndValue<'a> {
-    ghost tag_is = { Sequence };
-
-    const TAG: Tag = Tag::Sequence;
-
-    fn fixed_tag() -> Tag
-        ensures { result ≡ Sequence }
-    {
-        Tag::Sequence
-    }
-}
-
-impl<'a> ReadValue for AttributeTypeAndValue<'a> {
-    ghost valid = { ⟦<AttributeTypeAndValue<'a> as Described>⟧.element.valid };
-
-    ghost takes = { ⟦<AttributeTypeAndValue<'a> as Described>⟧.element.takes };
-
-    ghost value_levels = { ⟦<AttributeTypeAndValue<'a> as Described>⟧.element.levels };
-
-    ghost allocates = { false };
-
-    ghost takes_valid = { ⟦<AttributeTypeAndValue<'a> as Described>⟧.element.holds refl };
-}
-
-/// Decodes the fields one after the other.
-///
-/// # Errors
-///
-/// The error of the first field that fails to decode.
+/// Decodes the fields one after the other, with the errors of every [`Sequence`].
 impl<'a, R: Reader<Borrowed = &'a [u8]>> DecodeValue<R> for AttributeTypeAndValue<'a> {
     type Error = Error;
 
@@ -86,19 +60,7 @@ impl<'a, R: Reader<Borrowed = &'a [u8]>> DecodeValue<R> for AttributeTypeAndValu
     }
 }
 
-impl<'a> WrittenValue for AttributeTypeAndValue<'a> {
-    ghost contents = { ⟦<AttributeTypeAndValue<'a> as Described>⟧.element.contents };
-
-    ghost writable = { ⟦<AttributeTypeAndValue<'a> as Described>⟧.element.valid };
-}
-
-/// Writes the fields one after the other.
-///
-/// # Errors
-///
-/// - The error of the first field that fails to encode.
-/// - `Overflow` without a position from [`EncodeValue::value_len`], if the fields together have
-///   more than 4294967295 octets.
+/// Writes the fields one after the other, with the errors of every [`Sequence`].
 impl<'a> EncodeValue for AttributeTypeAndValue<'a> {
     ghost value_size = { λ v. ⟦<AttributeTypeAndValueFields<'a> as Encode>⟧.size
         (⟦<AttributeTypeAndValue<'a> as FromFields<AttributeTypeAndValueFields<'a>>>⟧.fields v) };
@@ -107,14 +69,24 @@ impl<'a> EncodeValue for AttributeTypeAndValue<'a> {
         (⟦<AttributeTypeAndValue<'a> as FromFields<AttributeTypeAndValueFields<'a>>>⟧.fields v) };
 
     fn value_len(&self) -> Result<Length, Error> {
-        (EncodeRef(&self.oid), EncodeRef(&self.value)).encoded_len()
+        field_refs!(self, (oid, value)).encoded_len()
     }
 
     fn encode_value<W: Writer>(&self, writer: &mut W) -> Result<(), Error> {
-        (EncodeRef(&self.oid), EncodeRef(&self.value)).encode(writer)
+        field_refs!(self, (oid, value)).encode(writer)
     }
 }
 
-impl<'a> Lawful for AttributeTypeAndValue<'a> {
-    ghost lawful = { ⟦<AttributeTypeAndValue<'a> as Described>⟧.element.lawful refl };
+impl<'a> Item for AttributeTypeAndValue<'a> {
+    ghost item = { sequence_item ⟦<AttributeTypeAndValue<'a> as Described>⟧.element };
+}
+
+impl<'a, R: Reader<Borrowed = &'a [u8]>> DecodeItem<R> for AttributeTypeAndValue<'a> {
+    ghost is_item = { sequence_is_item ⟦<AttributeTypeAndValue<'a> as Described>⟧.element refl };
+
+    ghost decodes_items = { decodes_same (sequence_item ⟦<AttributeTypeAndValue<'a> as Described>⟧.element) };
+}
+
+impl<'a> BorrowedItem for AttributeTypeAndValue<'a> {
+    ghost borrowed = { refl };
 }

@@ -1,13 +1,13 @@
 //! Certificate of RFC 5280, 4.1.
-ghost use Rattle.std.specs.Prelude.{◌≡◌, false};
+ghost use Rattle.std.specs.Prelude.{◌≡◌};
 ghost use Rattle.std.proofs.Common.{refl};
-ghost use Rattle.der.specs.Prelude.{Sequence, map_ok};
+ghost use Rattle.der.specs.Prelude.{map_ok};
 ghost use Rattle.der_asn1.specs.Meaning.{alternative, field, sequence, two_fields};
 
 use crate::tbs_certificate::TbsCertificate;
 use der::{
-    Decode, DecodeValue, Encode, EncodeRef, EncodeValue, Error, FixedTag, FromFields, Header,
-    Lawful, Length, ReadValue, Reader, SliceReader, Tag, Writer, WrittenValue, decode_sequence,
+    Decode, DecodeValue, Encode, EncodeValue, Error, FromFields, Header, Length, Reader, Sequence,
+    SliceReader, Writer, decode_sequence, field_refs,
 };
 use der_asn1::{BitStringRef, Described};
 use spki::AlgorithmIdentifierRef;
@@ -43,43 +43,17 @@ impl<'a> FromFields<CertificateFields<'a>> for Certificate<'a> {
     }
 }
 
-impl<'a> Described for Certificate<'a> {
-    ghost element = { sequence (two_fields (field (alternative
+impl<'a> Sequence for Certificate<'a> {
+    ghost meaning = { sequence (two_fields (field (alternative
         ⟦<TbsCertificate<'a> as Described>⟧.element))
         (two_fields (field (alternative ⟦<AlgorithmIdentifierRef<'a> as Described>⟧.element))
         (field (alternative ⟦<BitStringRef<'a> as Described>⟧.element))))
         ⟦<Certificate<'a> as FromFields<CertificateFields<'a>>>⟧.fields };
+
+    ghost fits = { (refl, refl) };
 }
 
-impl<'a> FixedTag for Certificate<'a> {
-    ghost tag_is = { Sequence };
-
-    const TAG: Tag = Tag::Sequence;
-
-    fn fixed_tag() -> Tag
-        ensures { result ≡ Sequence }
-    {
-        Tag::Sequence
-    }
-}
-
-impl<'a> ReadValue for Certificate<'a> {
-    ghost valid = { ⟦<Certificate<'a> as Described>⟧.element.valid };
-
-    ghost takes = { ⟦<Certificate<'a> as Described>⟧.element.takes };
-
-    ghost value_levels = { ⟦<Certificate<'a> as Described>⟧.element.levels };
-
-    ghost allocates = { false };
-
-    ghost takes_valid = { ⟦<Certificate<'a> as Described>⟧.element.holds refl };
-}
-
-/// Decodes the fields one after the other.
-///
-/// # Errors
-///
-/// The error of the first field that fails to decode.
+/// Decodes the fields one after the other, with the errors of every [`Sequence`].
 impl<'a, R: Reader<Borrowed = &'a [u8]>> DecodeValue<R> for Certificate<'a> {
     type Error = Error;
 
@@ -98,19 +72,7 @@ impl<'a, R: Reader<Borrowed = &'a [u8]>> DecodeValue<R> for Certificate<'a> {
     }
 }
 
-impl<'a> WrittenValue for Certificate<'a> {
-    ghost contents = { ⟦<Certificate<'a> as Described>⟧.element.contents };
-
-    ghost writable = { ⟦<Certificate<'a> as Described>⟧.element.valid };
-}
-
-/// Writes the fields one after the other.
-///
-/// # Errors
-///
-/// - The error of the first field that fails to encode.
-/// - `Overflow` without a position from [`EncodeValue::value_len`], if the fields together have
-///   more than 4294967295 octets.
+/// Writes the fields one after the other, with the errors of every [`Sequence`].
 impl<'a> EncodeValue for Certificate<'a> {
     ghost value_size = { λ v. ⟦<CertificateFields<'a> as Encode>⟧.size
         (⟦<Certificate<'a> as FromFields<CertificateFields<'a>>>⟧.fields v) };
@@ -119,28 +81,10 @@ impl<'a> EncodeValue for Certificate<'a> {
         (⟦<Certificate<'a> as FromFields<CertificateFields<'a>>>⟧.fields v) };
 
     fn value_len(&self) -> Result<Length, Error> {
-        (
-            EncodeRef(&self.tbs_certificate),
-            (
-                EncodeRef(&self.signature_algorithm),
-                EncodeRef(&self.signature),
-            ),
-        )
-            .encoded_len()
+        field_refs!(self, (tbs_certificate, (signature_algorithm, signature))).encoded_len()
     }
 
     fn encode_value<W: Writer>(&self, writer: &mut W) -> Result<(), Error> {
-        (
-            EncodeRef(&self.tbs_certificate),
-            (
-                EncodeRef(&self.signature_algorithm),
-                EncodeRef(&self.signature),
-            ),
-        )
-            .encode(writer)
+        field_refs!(self, (tbs_certificate, (signature_algorithm, signature))).encode(writer)
     }
-}
-
-impl<'a> Lawful for Certificate<'a> {
-    ghost lawful = { ⟦<Certificate<'a> as Described>⟧.element.lawful refl };
 }

@@ -1,15 +1,17 @@
 //! Extension of RFC 5280, 4.1 and 4.2.
-ghost use Rattle.std.specs.Prelude.{◌≡◌, false};
+ghost use Rattle.std.specs.Prelude.{◌≡◌};
 ghost use Rattle.std.proofs.Common.{refl};
-ghost use Rattle.der.specs.Prelude.{Sequence, map_ok};
-ghost use Rattle.der_asn1.specs.Meaning.{alternative, defaulted, field, sequence, two_fields};
+ghost use Rattle.der.specs.Prelude.{map_ok};
+ghost use Rattle.der_asn1.specs.Item.{decodes_same};
+ghost use Rattle.der_asn1.specs.Meaning.{sequence_is_item, sequence_item, alternative, defaulted, field, sequence, two_fields};
 
 use der::{
-    Decode, DecodeValue, Encode, EncodeRef, EncodeValue, Error, FixedTag, FromFields, Header,
-    Lawful, Length, ReadValue, Reader, SliceReader, Tag, Writer, WrittenValue, decode_sequence,
+    Decode, DecodeValue, Encode, EncodeValue, Error, FromFields, Header, Length, Reader, Sequence,
+    SliceReader, Writer, decode_sequence, field_refs,
 };
 use der_asn1::{
-    BooleanRef, DefaultValue, Defaulted, Described, ObjectIdentifierRef, OctetStringRef,
+    BooleanRef, BorrowedItem, DecodeItem, DefaultValue, Defaulted, Described, Item,
+    ObjectIdentifierRef, OctetStringRef,
 };
 use std::alloc::Global;
 
@@ -34,8 +36,7 @@ pub type ExtensionFields<'a> = (
 impl<'a> FromFields<ExtensionFields<'a>> for Extension<'a> {
     ghost fields = { λ v. (v.extn_id, (v.critical, v.extn_value)) };
 
-    fn from_fields(members: ExtensionFields<'a>) -> Self {
-        let (extn_id, (critical, extn_value)) = members;
+    fn from_fields((extn_id, (critical, extn_value)): ExtensionFields<'a>) -> Self {
         Extension {
             extn_id,
             critical,
@@ -44,44 +45,18 @@ impl<'a> FromFields<ExtensionFields<'a>> for Extension<'a> {
     }
 }
 
-impl<'a> Described for Extension<'a> {
-    ghost element = { sequence (two_fields (field (alternative
+impl<'a> Sequence for Extension<'a> {
+    ghost meaning = { sequence (two_fields (field (alternative
         ⟦<ObjectIdentifierRef<'a> as Described>⟧.element))
         (two_fields (defaulted ⟦<BooleanRef<'a> as DefaultValue>⟧.is_default (alternative
         ⟦<BooleanRef<'a> as Described>⟧.element))
         (field (alternative ⟦<OctetStringRef<'a> as Described>⟧.element))))
         ⟦<Extension<'a> as FromFields<ExtensionFields<'a>>>⟧.fields };
+
+    ghost fits = { (refl, refl) };
 }
 
-impl<'a> FixedTag for Extension<'a> {
-    ghost tag_is = { Sequence };
-
-    const TAG: Tag = Tag::Sequence;
-
-    fn fixed_tag() -> Tag
-        ensures { result ≡ Sequence }
-    {
-        Tag::Sequence
-    }
-}
-
-impl<'a> ReadValue for Extension<'a> {
-    ghost valid = { ⟦<Extension<'a> as Described>⟧.element.valid };
-
-    ghost takes = { ⟦<Extension<'a> as Described>⟧.element.takes };
-
-    ghost value_levels = { ⟦<Extension<'a> as Described>⟧.element.levels };
-
-    ghost allocates = { false };
-
-    ghost takes_valid = { ⟦<Extension<'a> as Described>⟧.element.holds refl };
-}
-
-/// Decodes the fields one after the other.
-///
-/// # Errors
-///
-/// The error of the first field that fails to decode.
+/// Decodes the fields one after the other, with the errors of every [`Sequence`].
 impl<'a, R: Reader<Borrowed = &'a [u8]>> DecodeValue<R> for Extension<'a> {
     type Error = Error;
 
@@ -100,19 +75,7 @@ impl<'a, R: Reader<Borrowed = &'a [u8]>> DecodeValue<R> for Extension<'a> {
     }
 }
 
-impl<'a> WrittenValue for Extension<'a> {
-    ghost contents = { ⟦<Extension<'a> as Described>⟧.element.contents };
-
-    ghost writable = { ⟦<Extension<'a> as Described>⟧.element.valid };
-}
-
-/// Writes the fields one after the other.
-///
-/// # Errors
-///
-/// - The error of the first field that fails to encode.
-/// - `Overflow` without a position from [`EncodeValue::value_len`], if the fields together have
-///   more than 4294967295 octets.
+/// Writes the fields one after the other, with the errors of every [`Sequence`].
 impl<'a> EncodeValue for Extension<'a> {
     ghost value_size = { λ v. ⟦<ExtensionFields<'a> as Encode>⟧.size
         (⟦<Extension<'a> as FromFields<ExtensionFields<'a>>>⟧.fields v) };
@@ -121,22 +84,24 @@ impl<'a> EncodeValue for Extension<'a> {
         (⟦<Extension<'a> as FromFields<ExtensionFields<'a>>>⟧.fields v) };
 
     fn value_len(&self) -> Result<Length, Error> {
-        (
-            EncodeRef(&self.extn_id),
-            (EncodeRef(&self.critical), EncodeRef(&self.extn_value)),
-        )
-            .encoded_len()
+        field_refs!(self, (extn_id, (critical, extn_value))).encoded_len()
     }
 
     fn encode_value<W: Writer>(&self, writer: &mut W) -> Result<(), Error> {
-        (
-            EncodeRef(&self.extn_id),
-            (EncodeRef(&self.critical), EncodeRef(&self.extn_value)),
-        )
-            .encode(writer)
+        field_refs!(self, (extn_id, (critical, extn_value))).encode(writer)
     }
 }
 
-impl<'a> Lawful for Extension<'a> {
-    ghost lawful = { ⟦<Extension<'a> as Described>⟧.element.lawful refl };
+impl<'a> Item for Extension<'a> {
+    ghost item = { sequence_item ⟦<Extension<'a> as Described>⟧.element };
+}
+
+impl<'a, R: Reader<Borrowed = &'a [u8]>> DecodeItem<R> for Extension<'a> {
+    ghost is_item = { sequence_is_item ⟦<Extension<'a> as Described>⟧.element refl };
+
+    ghost decodes_items = { decodes_same (sequence_item ⟦<Extension<'a> as Described>⟧.element) };
+}
+
+impl<'a> BorrowedItem for Extension<'a> {
+    ghost borrowed = { refl };
 }

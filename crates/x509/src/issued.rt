@@ -5,7 +5,7 @@ ghost use Rattle.der.specs.Prelude.{map_ok};
 use crate::name::Name;
 use crate::validity::Validity;
 use crate::version::Version;
-use der::{Decode, Error, Reader, SliceReader};
+use der::{Decode, Error, FromFields, Reader, SliceReader, decode_fields};
 use der_asn1::{Defaulted, Explicit, IntRef};
 use spki::AlgorithmIdentifierRef;
 use std::alloc::Global;
@@ -26,11 +26,26 @@ pub(crate) type IssuedFields<'a> = (
     ((AlgorithmIdentifierRef<'a>, Name<'a>), Validity),
 );
 
+impl<'a> FromFields<IssuedFields<'a>> for Issued<'a> {
+    ghost fields = { λ v. ((v.version, v.serial_number), ((v.signature, v.issuer), v.validity)) };
+
+    fn from_fields(members: IssuedFields<'a>) -> Self {
+        let ((version, serial_number), ((signature, issuer), validity)) = members;
+        Issued {
+            version,
+            serial_number,
+            signature,
+            issuer,
+            validity,
+        }
+    }
+}
+
 impl<'a, R: Reader<Borrowed = &'a [u8]>> Decode<R> for Issued<'a> {
     type Error = Error;
 
     ghost is_next = { λ v. ⟦<IssuedFields<'a> as Decode<SliceReader<'a>>>⟧.is_next
-        ((v.version, v.serial_number), ((v.signature, v.issuer), v.validity)) };
+        (⟦<Issued<'a> as FromFields<IssuedFields<'a>>>⟧.fields v) };
 
     ghost decode_levels = { ⟦<IssuedFields<'a> as Decode<SliceReader<'a>>>⟧.decode_levels };
 
@@ -38,18 +53,9 @@ impl<'a, R: Reader<Borrowed = &'a [u8]>> Decode<R> for Issued<'a> {
 
     ghost decode_answers = { λ s result t.
         ⟦<IssuedFields<'a> as Decode<SliceReader<'a>>>⟧.decode_answers s
-        (map_ok (λ v. ((v.version, v.serial_number), ((v.signature, v.issuer), v.validity))) result)
-        t };
+        (map_ok ⟦<Issued<'a> as FromFields<IssuedFields<'a>>>⟧.fields result) t };
 
     fn decode(alloc: Global, reader: &mut R) -> Result<Self, Error> {
-        let fields = <IssuedFields<'a> as Decode<R>>::decode(alloc, reader)?;
-        let ((version, serial_number), ((signature, issuer), validity)) = fields;
-        Ok(Issued {
-            version,
-            serial_number,
-            signature,
-            issuer,
-            validity,
-        })
+        decode_fields::<R, IssuedFields<'a>, Self>(alloc, reader)
     }
 }

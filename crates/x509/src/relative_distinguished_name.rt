@@ -1,6 +1,118 @@
 //! RelativeDistinguishedName of RFC 5280, 4.1.2.4.
-use crate::attribute_type_and_value::AttributeTypeAndValue;
-use der_asn1::SetOf;
+ghost use Rattle.std.specs.Prelude.{◌≡◌, false};
+ghost use Rattle.std.proofs.Common.{refl};
+ghost use Rattle.der.specs.Prelude.{Set, map_ok};
+ghost use Rattle.der_asn1.specs.Item.{decodes_same};
+ghost use Rattle.der_asn1.specs.Meaning.{renamed, sequence_is_item, sequence_item};
 
-/// The attributes of one level of a name, in ascending order of their encodings.
-pub type RelativeDistinguishedName<'a> = SetOf<'a, AttributeTypeAndValue<'a>>;
+use crate::attribute_type_and_value::AttributeTypeAndValue;
+use der::{
+    DecodeValue, EncodeValue, Error, FixedTag, FromFields, Header, Lawful, Length, ReadValue,
+    Reader, SliceReader, Tag, Writer, WrittenValue, decode_wrapped,
+};
+use der_asn1::{BorrowedItem, DecodeItem, Described, Item, SetOf};
+use std::alloc::Global;
+
+/// One level of a name, borrowed from the input.
+#[derive(Clone, Copy, Drop)]
+pub struct RelativeDistinguishedName<'a> {
+    /// The attributes of the level, in ascending order of their encodings.
+    pub attributes: SetOf<'a, AttributeTypeAndValue<'a>>,
+}
+
+// The set of which a level consists.
+type Attributes<'a> = SetOf<'a, AttributeTypeAndValue<'a>>;
+
+impl<'a> FromFields<Attributes<'a>> for RelativeDistinguishedName<'a> {
+    ghost fields = { λ v. v.attributes };
+
+    fn from_fields(attributes: Attributes<'a>) -> Self {
+        RelativeDistinguishedName { attributes }
+    }
+}
+
+impl<'a> Described for RelativeDistinguishedName<'a> {
+    ghost element = { renamed ⟦<Attributes<'a> as Described>⟧.element (λ v. v.attributes) };
+}
+
+impl<'a> FixedTag for RelativeDistinguishedName<'a> {
+    ghost tag_is = { Set };
+
+    const TAG: Tag = Tag::Set;
+
+    fn fixed_tag() -> Tag
+        ensures { result ≡ Set }
+    {
+        Tag::Set
+    }
+}
+
+impl<'a> ReadValue for RelativeDistinguishedName<'a> {
+    ghost valid = { ⟦<RelativeDistinguishedName<'a> as Described>⟧.element.valid };
+
+    ghost takes = { ⟦<RelativeDistinguishedName<'a> as Described>⟧.element.takes };
+
+    ghost value_levels = { ⟦<RelativeDistinguishedName<'a> as Described>⟧.element.levels };
+
+    ghost allocates = { false };
+
+    ghost takes_valid = { ⟦<RelativeDistinguishedName<'a> as Described>⟧.element.holds refl };
+}
+
+/// Decodes the set of attributes, with the errors of [`SetOf`].
+impl<'a, R: Reader<Borrowed = &'a [u8]>> DecodeValue<R> for RelativeDistinguishedName<'a> {
+    type Error = Error;
+
+    ghost decode_value_answers = { λ h s result t.
+        ⟦<Attributes<'a> as DecodeValue<SliceReader<'a>>>⟧.decode_value_answers h s
+        (map_ok (λ v. v.attributes) result) t };
+
+    fn decode_value(alloc: Global, reader: &mut R, header: Header) -> Result<Self, Error> {
+        decode_wrapped::<R, Attributes<'a>, Self>(alloc, reader, header)
+    }
+
+    fn is_value(&self) {
+        <Attributes<'a> as DecodeValue<R>>::is_value(&self.attributes);
+    }
+}
+
+impl<'a> WrittenValue for RelativeDistinguishedName<'a> {
+    ghost contents = { ⟦<RelativeDistinguishedName<'a> as Described>⟧.element.contents };
+
+    ghost writable = { ⟦<RelativeDistinguishedName<'a> as Described>⟧.element.valid };
+}
+
+/// Writes the set of attributes, with the errors of [`SetOf`].
+impl<'a> EncodeValue for RelativeDistinguishedName<'a> {
+    ghost value_size = { λ v. ⟦<Attributes<'a> as EncodeValue>⟧.value_size v.attributes };
+
+    ghost encode_value_answers = { λ v.
+        ⟦<Attributes<'a> as EncodeValue>⟧.encode_value_answers v.attributes };
+
+    fn value_len(&self) -> Result<Length, Error> {
+        self.attributes.value_len()
+    }
+
+    fn encode_value<W: Writer>(&self, writer: &mut W) -> Result<(), Error> {
+        self.attributes.encode_value(writer)
+    }
+}
+
+impl<'a> Lawful for RelativeDistinguishedName<'a> {
+    ghost lawful = { ⟦<RelativeDistinguishedName<'a> as Described>⟧.element.lawful refl };
+}
+
+impl<'a> Item for RelativeDistinguishedName<'a> {
+    ghost item = { sequence_item ⟦<RelativeDistinguishedName<'a> as Described>⟧.element };
+}
+
+impl<'a, R: Reader<Borrowed = &'a [u8]>> DecodeItem<R> for RelativeDistinguishedName<'a> {
+    ghost is_item = { sequence_is_item ⟦<RelativeDistinguishedName<'a> as Described>⟧.element refl };
+
+    ghost decodes_items = { decodes_same (sequence_item
+        ⟦<RelativeDistinguishedName<'a> as Described>⟧.element) };
+}
+
+impl<'a> BorrowedItem for RelativeDistinguishedName<'a> {
+    ghost borrowed = { refl };
+}

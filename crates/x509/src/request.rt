@@ -1,15 +1,15 @@
 //! CertificationRequest of RFC 2986, 4.2.
-ghost use Rattle.std.specs.Prelude.{◌≡◌, false};
+ghost use Rattle.std.specs.Prelude.{◌≡◌};
 ghost use Rattle.std.proofs.Common.{refl};
-ghost use Rattle.der.specs.Prelude.{Sequence, map_ok};
+ghost use Rattle.der.specs.Prelude.{map_ok};
 ghost use Rattle.der_asn1.specs.Meaning.{alternative, field, sequence, two_fields};
 
 mod info;
 mod version;
 
 use der::{
-    Decode, DecodeValue, Encode, EncodeRef, EncodeValue, Error, FixedTag, FromFields, Header,
-    Lawful, Length, ReadValue, Reader, SliceReader, Tag, Writer, WrittenValue, decode_sequence,
+    Decode, DecodeValue, Encode, EncodeValue, Error, FromFields, Header, Length, Reader, Sequence,
+    SliceReader, Writer, decode_sequence, field_refs,
 };
 use der_asn1::{BitStringRef, Described};
 pub use info::{CertReqInfo, CertReqInfoFields};
@@ -37,8 +37,7 @@ pub type CertReqFields<'a> = (
 impl<'a> FromFields<CertReqFields<'a>> for CertReq<'a> {
     ghost fields = { λ v. (v.info, (v.algorithm, v.signature)) };
 
-    fn from_fields(members: CertReqFields<'a>) -> Self {
-        let (info, (algorithm, signature)) = members;
+    fn from_fields((info, (algorithm, signature)): CertReqFields<'a>) -> Self {
         CertReq {
             info,
             algorithm,
@@ -47,43 +46,17 @@ impl<'a> FromFields<CertReqFields<'a>> for CertReq<'a> {
     }
 }
 
-impl<'a> Described for CertReq<'a> {
-    ghost element = { sequence (two_fields (field (alternative
+impl<'a> Sequence for CertReq<'a> {
+    ghost meaning = { sequence (two_fields (field (alternative
         ⟦<CertReqInfo<'a> as Described>⟧.element))
         (two_fields (field (alternative ⟦<AlgorithmIdentifierRef<'a> as Described>⟧.element))
         (field (alternative ⟦<BitStringRef<'a> as Described>⟧.element))))
         ⟦<CertReq<'a> as FromFields<CertReqFields<'a>>>⟧.fields };
+
+    ghost fits = { (refl, refl) };
 }
 
-impl<'a> FixedTag for CertReq<'a> {
-    ghost tag_is = { Sequence };
-
-    const TAG: Tag = Tag::Sequence;
-
-    fn fixed_tag() -> Tag
-        ensures { result ≡ Sequence }
-    {
-        Tag::Sequence
-    }
-}
-
-impl<'a> ReadValue for CertReq<'a> {
-    ghost valid = { ⟦<CertReq<'a> as Described>⟧.element.valid };
-
-    ghost takes = { ⟦<CertReq<'a> as Described>⟧.element.takes };
-
-    ghost value_levels = { ⟦<CertReq<'a> as Described>⟧.element.levels };
-
-    ghost allocates = { false };
-
-    ghost takes_valid = { ⟦<CertReq<'a> as Described>⟧.element.holds refl };
-}
-
-/// Decodes the fields one after the other.
-///
-/// # Errors
-///
-/// The error of the first field that fails to decode.
+/// Decodes the fields one after the other, with the errors of every [`Sequence`].
 impl<'a, R: Reader<Borrowed = &'a [u8]>> DecodeValue<R> for CertReq<'a> {
     type Error = Error;
 
@@ -102,19 +75,7 @@ impl<'a, R: Reader<Borrowed = &'a [u8]>> DecodeValue<R> for CertReq<'a> {
     }
 }
 
-impl<'a> WrittenValue for CertReq<'a> {
-    ghost contents = { ⟦<CertReq<'a> as Described>⟧.element.contents };
-
-    ghost writable = { ⟦<CertReq<'a> as Described>⟧.element.valid };
-}
-
-/// Writes the fields one after the other.
-///
-/// # Errors
-///
-/// - The error of the first field that fails to encode.
-/// - `Overflow` without a position from [`EncodeValue::value_len`], if the fields together have
-///   more than 4294967295 octets.
+/// Writes the fields one after the other, with the errors of every [`Sequence`].
 impl<'a> EncodeValue for CertReq<'a> {
     ghost value_size = { λ v. ⟦<CertReqFields<'a> as Encode>⟧.size
         (⟦<CertReq<'a> as FromFields<CertReqFields<'a>>>⟧.fields v) };
@@ -123,22 +84,10 @@ impl<'a> EncodeValue for CertReq<'a> {
         (⟦<CertReq<'a> as FromFields<CertReqFields<'a>>>⟧.fields v) };
 
     fn value_len(&self) -> Result<Length, Error> {
-        (
-            EncodeRef(&self.info),
-            (EncodeRef(&self.algorithm), EncodeRef(&self.signature)),
-        )
-            .encoded_len()
+        field_refs!(self, (info, (algorithm, signature))).encoded_len()
     }
 
     fn encode_value<W: Writer>(&self, writer: &mut W) -> Result<(), Error> {
-        (
-            EncodeRef(&self.info),
-            (EncodeRef(&self.algorithm), EncodeRef(&self.signature)),
-        )
-            .encode(writer)
+        field_refs!(self, (info, (algorithm, signature))).encode(writer)
     }
-}
-
-impl<'a> Lawful for CertReq<'a> {
-    ghost lawful = { ⟦<CertReq<'a> as Described>⟧.element.lawful refl };
 }

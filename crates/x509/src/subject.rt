@@ -4,7 +4,7 @@ ghost use Rattle.der.specs.Prelude.{map_ok};
 
 use crate::extensions::Extensions;
 use crate::name::Name;
-use der::{Decode, Error, Reader, SliceReader};
+use der::{Decode, Error, FromFields, Reader, SliceReader, decode_fields};
 use der_asn1::{BitStringRef, Explicit, Implicit, Optional};
 use spki::SubjectPublicKeyInfoRef;
 use std::alloc::Global;
@@ -31,16 +31,32 @@ pub(crate) type SubjectFields<'a> = (
     ),
 );
 
+impl<'a> FromFields<SubjectFields<'a>> for Subject<'a> {
+    ghost fields = { λ v. (
+      (v.subject, v.subject_public_key_info),
+      ((v.issuer_unique_id, v.subject_unique_id), v.extensions),
+    ) };
+
+    fn from_fields(members: SubjectFields<'a>) -> Self {
+        let (
+            (subject, subject_public_key_info),
+            ((issuer_unique_id, subject_unique_id), extensions),
+        ) = members;
+        Subject {
+            subject,
+            subject_public_key_info,
+            issuer_unique_id,
+            subject_unique_id,
+            extensions,
+        }
+    }
+}
+
 impl<'a, R: Reader<Borrowed = &'a [u8]>> Decode<R> for Subject<'a> {
     type Error = Error;
 
-    ghost is_next = { λ v. ⟦<SubjectFields<'a> as Decode<SliceReader<'a>>>⟧.is_next (
-      (v.subject, v.subject_public_key_info),
-      (
-        (v.issuer_unique_id, v.subject_unique_id),
-        v.extensions,
-      ),
-    ) };
+    ghost is_next = { λ v. ⟦<SubjectFields<'a> as Decode<SliceReader<'a>>>⟧.is_next
+        (⟦<Subject<'a> as FromFields<SubjectFields<'a>>>⟧.fields v) };
 
     ghost decode_levels = { ⟦<SubjectFields<'a> as Decode<SliceReader<'a>>>⟧.decode_levels };
 
@@ -48,29 +64,9 @@ impl<'a, R: Reader<Borrowed = &'a [u8]>> Decode<R> for Subject<'a> {
 
     ghost decode_answers = { λ s result t.
         ⟦<SubjectFields<'a> as Decode<SliceReader<'a>>>⟧.decode_answers s
-        (map_ok (λ v. (
-          (v.subject, v.subject_public_key_info),
-          (
-            (
-              v.issuer_unique_id,
-              v.subject_unique_id,
-            ),
-            v.extensions,
-          ),
-        )) result) t };
+        (map_ok ⟦<Subject<'a> as FromFields<SubjectFields<'a>>>⟧.fields result) t };
 
     fn decode(alloc: Global, reader: &mut R) -> Result<Self, Error> {
-        let fields = <SubjectFields<'a> as Decode<R>>::decode(alloc, reader)?;
-        let (
-            (subject, subject_public_key_info),
-            ((issuer_unique_id, subject_unique_id), extensions),
-        ) = fields;
-        Ok(Subject {
-            subject,
-            subject_public_key_info,
-            issuer_unique_id,
-            subject_unique_id,
-            extensions,
-        })
+        decode_fields::<R, SubjectFields<'a>, Self>(alloc, reader)
     }
 }

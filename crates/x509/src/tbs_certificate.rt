@@ -1,22 +1,20 @@
 //! TBSCertificate of RFC 5280, 4.1.
-ghost use Rattle.std.specs.Prelude.{◌≡◌, false};
+ghost use Rattle.std.specs.Prelude.{◌≡◌};
 ghost use Rattle.std.proofs.Common.{refl};
-ghost use Rattle.der.specs.Prelude.{Sequence, map_ok};
+ghost use Rattle.der.specs.Prelude.{map_ok};
 ghost use Rattle.der_asn1.specs.Meaning.{alternative, defaulted, field, optional, seen, sequence};
 ghost use Rattle.der_asn1.specs.Meaning.{two_fields};
 ghost use Rattle.x509.specs.TbsCertificate.{halves};
-ghost use Rattle.x509.specs.declared.issued.Issued.{Issued};
-ghost use Rattle.x509.specs.declared.subject.Subject.{Subject};
 
 use crate::extensions::Extensions;
-use crate::issued::Issued;
+use crate::issued::{Issued, IssuedFields};
 use crate::name::Name;
-use crate::subject::Subject;
+use crate::subject::{Subject, SubjectFields};
 use crate::validity::Validity;
 use crate::version::Version;
 use der::{
-    Decode, DecodeValue, Encode, EncodeRef, EncodeValue, Error, FixedTag, FromFields, Header,
-    Lawful, Length, ReadValue, Reader, SliceReader, Tag, Writer, WrittenValue, decode_sequence,
+    Decode, DecodeValue, Encode, EncodeValue, Error, FromFields, Header, Length, Reader, Sequence,
+    SliceReader, Writer, decode_sequence, field_refs,
 };
 use der_asn1::{
     BitStringRef, DefaultValue, Defaulted, Described, Explicit, Implicit, IntRef, Optional,
@@ -52,28 +50,12 @@ pub struct TbsCertificate<'a> {
 }
 
 /// The fields of a [`TbsCertificate`] as nested pairs, in the order in which they are encoded.
-pub type TbsCertificateFields<'a> = (
-    (
-        (Defaulted<Explicit<Version<'a>, 0>>, IntRef<'a>),
-        ((AlgorithmIdentifierRef<'a>, Name<'a>), Validity),
-    ),
-    (
-        (Name<'a>, SubjectPublicKeyInfoRef<'a>),
-        (
-            (
-                Optional<Implicit<BitStringRef<'a>, 1>>,
-                Optional<Implicit<BitStringRef<'a>, 2>>,
-            ),
-            Optional<Explicit<Extensions<'a>, 3>>,
-        ),
-    ),
-);
+pub type TbsCertificateFields<'a> = (IssuedFields<'a>, SubjectFields<'a>);
 
 impl<'a> FromFields<(Issued<'a>, Subject<'a>)> for TbsCertificate<'a> {
     ghost fields = { halves };
 
-    fn from_fields(members: (Issued<'a>, Subject<'a>)) -> Self {
-        let (issued, subject) = members;
+    fn from_fields((issued, subject): (Issued<'a>, Subject<'a>)) -> Self {
         TbsCertificate {
             version: issued.version,
             serial_number: issued.serial_number,
@@ -89,15 +71,9 @@ impl<'a> FromFields<(Issued<'a>, Subject<'a>)> for TbsCertificate<'a> {
     }
 }
 
-impl<'a> Described for TbsCertificate<'a> {
-    ghost element = { sequence (two_fields
-        (seen (λ (h : Issued). (
-          (h.version, h.serial_number),
-          (
-            (h.signature, h.issuer),
-            h.validity,
-          ),
-        ))
+impl<'a> Sequence for TbsCertificate<'a> {
+    ghost meaning = { sequence (two_fields
+        (seen ⟦<Issued<'a> as FromFields<IssuedFields<'a>>>⟧.fields
         (two_fields (two_fields (defaulted ⟦<Explicit<Version<'a>, 0> as DefaultValue>⟧.is_default
         (alternative ⟦<Explicit<Version<'a>, 0> as Described>⟧.element))
         (field (alternative ⟦<IntRef<'a> as Described>⟧.element)))
@@ -105,16 +81,7 @@ impl<'a> Described for TbsCertificate<'a> {
         ⟦<AlgorithmIdentifierRef<'a> as Described>⟧.element))
         (field (alternative ⟦<Name<'a> as Described>⟧.element)))
         (field (alternative ⟦<Validity as Described>⟧.element)))))
-        (seen (λ (t : Subject). (
-          (t.subject, t.subject_public_key_info),
-          (
-            (
-              t.issuer_unique_id,
-              t.subject_unique_id,
-            ),
-            t.extensions,
-          ),
-        ))
+        (seen ⟦<Subject<'a> as FromFields<SubjectFields<'a>>>⟧.fields
         (two_fields (two_fields (field (alternative ⟦<Name<'a> as Described>⟧.element))
         (field (alternative ⟦<SubjectPublicKeyInfoRef<'a> as Described>⟧.element)))
         (two_fields (two_fields (optional (alternative
@@ -122,37 +89,11 @@ impl<'a> Described for TbsCertificate<'a> {
         (optional (alternative ⟦<Implicit<BitStringRef<'a>, 2> as Described>⟧.element)))
         (optional (alternative ⟦<Explicit<Extensions<'a>, 3> as Described>⟧.element))))))
         halves };
+
+    ghost fits = { (refl, refl) };
 }
 
-impl<'a> FixedTag for TbsCertificate<'a> {
-    ghost tag_is = { Sequence };
-
-    const TAG: Tag = Tag::Sequence;
-
-    fn fixed_tag() -> Tag
-        ensures { result ≡ Sequence }
-    {
-        Tag::Sequence
-    }
-}
-
-impl<'a> ReadValue for TbsCertificate<'a> {
-    ghost valid = { ⟦<TbsCertificate<'a> as Described>⟧.element.valid };
-
-    ghost takes = { ⟦<TbsCertificate<'a> as Described>⟧.element.takes };
-
-    ghost value_levels = { ⟦<TbsCertificate<'a> as Described>⟧.element.levels };
-
-    ghost allocates = { false };
-
-    ghost takes_valid = { ⟦<TbsCertificate<'a> as Described>⟧.element.holds refl };
-}
-
-/// Decodes the fields one after the other.
-///
-/// # Errors
-///
-/// The error of the first field that fails to decode.
+/// Decodes the fields one after the other, with the errors of every [`Sequence`].
 impl<'a, R: Reader<Borrowed = &'a [u8]>> DecodeValue<R> for TbsCertificate<'a> {
     type Error = Error;
 
@@ -184,101 +125,43 @@ impl<'a, R: Reader<Borrowed = &'a [u8]>> DecodeValue<R> for TbsCertificate<'a> {
     }
 }
 
-impl<'a> WrittenValue for TbsCertificate<'a> {
-    ghost contents = { ⟦<TbsCertificate<'a> as Described>⟧.element.contents };
-
-    ghost writable = { ⟦<TbsCertificate<'a> as Described>⟧.element.valid };
-}
-
-/// Writes the fields one after the other.
-///
-/// # Errors
-///
-/// - The error of the first field that fails to encode.
-/// - `Overflow` without a position from [`EncodeValue::value_len`], if the fields together have
-///   more than 4294967295 octets.
+/// Writes the fields one after the other, with the errors of every [`Sequence`].
 impl<'a> EncodeValue for TbsCertificate<'a> {
     ghost value_size = { λ v. ⟦<TbsCertificateFields<'a> as Encode>⟧.size (
-      (
-        (
-          v.version,
-          v.serial_number,
-        ),
-        ((v.signature, v.issuer), v.validity),
-      ),
-      (
-        (
-          v.subject,
-          v.subject_public_key_info,
-        ),
-        ((v.issuer_unique_id, v.subject_unique_id), v.extensions),
-      ),
+      ⟦<Issued<'a> as FromFields<IssuedFields<'a>>>⟧.fields (halves v).0,
+      ⟦<Subject<'a> as FromFields<SubjectFields<'a>>>⟧.fields (halves v).1,
     ) };
 
     ghost encode_value_answers = { λ v. ⟦<TbsCertificateFields<'a> as Encode>⟧.encode_answers (
-      ((v.version, v.serial_number), ((v.signature, v.issuer), v.validity)),
-      (
-        (
-          v.subject,
-          v.subject_public_key_info,
-        ),
-        ((v.issuer_unique_id, v.subject_unique_id), v.extensions),
-      ),
+      ⟦<Issued<'a> as FromFields<IssuedFields<'a>>>⟧.fields (halves v).0,
+      ⟦<Subject<'a> as FromFields<SubjectFields<'a>>>⟧.fields (halves v).1,
     ) };
 
     fn value_len(&self) -> Result<Length, Error> {
-        (
+        field_refs!(
+            self,
             (
-                (EncodeRef(&self.version), EncodeRef(&self.serial_number)),
+                ((version, serial_number), ((signature, issuer), validity)),
                 (
-                    (EncodeRef(&self.signature), EncodeRef(&self.issuer)),
-                    EncodeRef(&self.validity),
-                ),
-            ),
-            (
-                (
-                    EncodeRef(&self.subject),
-                    EncodeRef(&self.subject_public_key_info),
-                ),
-                (
-                    (
-                        EncodeRef(&self.issuer_unique_id),
-                        EncodeRef(&self.subject_unique_id),
-                    ),
-                    EncodeRef(&self.extensions),
-                ),
-            ),
+                    (subject, subject_public_key_info),
+                    ((issuer_unique_id, subject_unique_id), extensions)
+                )
+            )
         )
-            .encoded_len()
+        .encoded_len()
     }
 
     fn encode_value<W: Writer>(&self, writer: &mut W) -> Result<(), Error> {
-        (
+        field_refs!(
+            self,
             (
-                (EncodeRef(&self.version), EncodeRef(&self.serial_number)),
+                ((version, serial_number), ((signature, issuer), validity)),
                 (
-                    (EncodeRef(&self.signature), EncodeRef(&self.issuer)),
-                    EncodeRef(&self.validity),
-                ),
-            ),
-            (
-                (
-                    EncodeRef(&self.subject),
-                    EncodeRef(&self.subject_public_key_info),
-                ),
-                (
-                    (
-                        EncodeRef(&self.issuer_unique_id),
-                        EncodeRef(&self.subject_unique_id),
-                    ),
-                    EncodeRef(&self.extensions),
-                ),
-            ),
+                    (subject, subject_public_key_info),
+                    ((issuer_unique_id, subject_unique_id), extensions)
+                )
+            )
         )
-            .encode(writer)
+        .encode(writer)
     }
-}
-
-impl<'a> Lawful for TbsCertificate<'a> {
-    ghost lawful = { ⟦<TbsCertificate<'a> as Described>⟧.element.lawful refl };
 }

@@ -1,13 +1,13 @@
 //! Validity of RFC 5280, 4.1.2.5.
-ghost use Rattle.std.specs.Prelude.{◌≡◌, false};
+ghost use Rattle.std.specs.Prelude.{◌≡◌};
 ghost use Rattle.std.proofs.Common.{refl};
-ghost use Rattle.der.specs.Prelude.{Sequence, map_ok};
+ghost use Rattle.der.specs.Prelude.{map_ok};
 ghost use Rattle.der_asn1.specs.Meaning.{alternative, either, field, sequence, two_fields};
 
 use crate::time::Time;
 use der::{
-    Decode, DecodeValue, Encode, EncodeRef, EncodeValue, Error, FixedTag, FromFields, Header,
-    Lawful, Length, ReadValue, Reader, SliceReader, Tag, Writer, WrittenValue, decode_sequence,
+    Decode, DecodeValue, Encode, EncodeValue, Error, FromFields, Header, Length, Reader, Sequence,
+    SliceReader, Writer, decode_sequence, field_refs,
 };
 use der_asn1::{Described, Either, GeneralizedTime, UtcTime};
 use std::alloc::Global;
@@ -27,8 +27,7 @@ pub type ValidityFields = (Time, Time);
 impl FromFields<ValidityFields> for Validity {
     ghost fields = { λ v. (v.not_before, v.not_after) };
 
-    fn from_fields(members: ValidityFields) -> Self {
-        let (not_before, not_after) = members;
+    fn from_fields((not_before, not_after): ValidityFields) -> Self {
         Validity {
             not_before,
             not_after,
@@ -36,43 +35,17 @@ impl FromFields<ValidityFields> for Validity {
     }
 }
 
-impl Described for Validity {
-    ghost element = { sequence (two_fields (field (either (alternative
+impl Sequence for Validity {
+    ghost meaning = { sequence (two_fields (field (either (alternative
         ⟦<UtcTime as Described>⟧.element) (alternative ⟦<GeneralizedTime as Described>⟧.element)))
         (field (either (alternative ⟦<UtcTime as Described>⟧.element) (alternative
         ⟦<GeneralizedTime as Described>⟧.element))))
         ⟦<Validity as FromFields<ValidityFields>>⟧.fields };
+
+    ghost fits = { (refl, refl) };
 }
 
-impl FixedTag for Validity {
-    ghost tag_is = { Sequence };
-
-    const TAG: Tag = Tag::Sequence;
-
-    fn fixed_tag() -> Tag
-        ensures { result ≡ Sequence }
-    {
-        Tag::Sequence
-    }
-}
-
-impl ReadValue for Validity {
-    ghost valid = { ⟦<Validity as Described>⟧.element.valid };
-
-    ghost takes = { ⟦<Validity as Described>⟧.element.takes };
-
-    ghost value_levels = { ⟦<Validity as Described>⟧.element.levels };
-
-    ghost allocates = { false };
-
-    ghost takes_valid = { ⟦<Validity as Described>⟧.element.holds refl };
-}
-
-/// Decodes the fields one after the other.
-///
-/// # Errors
-///
-/// The error of the first field that fails to decode.
+/// Decodes the fields one after the other, with the errors of every [`Sequence`].
 impl<'a, R: Reader<Borrowed = &'a [u8]>> DecodeValue<R> for Validity {
     type Error = Error;
 
@@ -96,19 +69,7 @@ impl<'a, R: Reader<Borrowed = &'a [u8]>> DecodeValue<R> for Validity {
     }
 }
 
-impl WrittenValue for Validity {
-    ghost contents = { ⟦<Validity as Described>⟧.element.contents };
-
-    ghost writable = { ⟦<Validity as Described>⟧.element.valid };
-}
-
-/// Writes the fields one after the other.
-///
-/// # Errors
-///
-/// - The error of the first field that fails to encode.
-/// - `Overflow` without a position from [`EncodeValue::value_len`], if the fields together have
-///   more than 4294967295 octets.
+/// Writes the fields one after the other, with the errors of every [`Sequence`].
 impl EncodeValue for Validity {
     ghost value_size = { λ v. ⟦<ValidityFields as Encode>⟧.size
         (⟦<Validity as FromFields<ValidityFields>>⟧.fields v) };
@@ -117,14 +78,10 @@ impl EncodeValue for Validity {
         (⟦<Validity as FromFields<ValidityFields>>⟧.fields v) };
 
     fn value_len(&self) -> Result<Length, Error> {
-        (EncodeRef(&self.not_before), EncodeRef(&self.not_after)).encoded_len()
+        field_refs!(self, (not_before, not_after)).encoded_len()
     }
 
     fn encode_value<W: Writer>(&self, writer: &mut W) -> Result<(), Error> {
-        (EncodeRef(&self.not_before), EncodeRef(&self.not_after)).encode(writer)
+        field_refs!(self, (not_before, not_after)).encode(writer)
     }
-}
-
-impl Lawful for Validity {
-    ghost lawful = { ⟦<Validity as Described>⟧.element.lawful refl };
 }

@@ -4,7 +4,7 @@ ghost use Rattle.std.proofs.Common.{arith};
 ghost use Rattle.der.specs.Prelude.{Integer};
 ghost use Rattle.x509.specs.CertificateVersion.{is_version_1, is_certificate_version};
 
-use der::{FixedTag, Tag};
+use der::Tag;
 use der_asn1::{Checked, ContentsGrammar, DefaultContents};
 
 /// The grammar of the contents of a [`Version`]: one octet, which is 0, 1 or 2 for version 1, 2 or
@@ -14,19 +14,15 @@ pub struct CertificateVersionGrammar;
 /// The version of a certificate, borrowed from the input; version 1 is the default.
 pub type Version<'a> = Checked<'a, CertificateVersionGrammar>;
 
-impl FixedTag for CertificateVersionGrammar {
+impl ContentsGrammar for CertificateVersionGrammar {
     ghost tag_is = { Integer };
 
     const TAG: Tag = Tag::Integer;
 
-    fn fixed_tag() -> Tag
-        ensures { result ≡ Integer }
-    {
+    fn fixed_tag() -> Tag {
         Tag::Integer
     }
-}
 
-impl ContentsGrammar for CertificateVersionGrammar {
     ghost grammar = { is_certificate_version };
 
     fn matches_grammar(octets: &[u8]) -> bool {

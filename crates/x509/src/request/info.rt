@@ -1,15 +1,15 @@
 //! CertificationRequestInfo of RFC 2986, 4.1.
-ghost use Rattle.std.specs.Prelude.{◌≡◌, false};
+ghost use Rattle.std.specs.Prelude.{◌≡◌};
 ghost use Rattle.std.proofs.Common.{refl};
-ghost use Rattle.der.specs.Prelude.{Sequence, map_ok};
+ghost use Rattle.der.specs.Prelude.{map_ok};
 ghost use Rattle.der_asn1.specs.Meaning.{alternative, field, sequence, two_fields};
 
 use crate::attribute::Attributes;
 use crate::name::Name;
 use crate::request::version::CertReqVersion;
 use der::{
-    Decode, DecodeValue, Encode, EncodeRef, EncodeValue, Error, FixedTag, FromFields, Header,
-    Lawful, Length, ReadValue, Reader, SliceReader, Tag, Writer, WrittenValue, decode_sequence,
+    Decode, DecodeValue, Encode, EncodeValue, Error, FromFields, Header, Length, Reader, Sequence,
+    SliceReader, Writer, decode_sequence, field_refs,
 };
 use der_asn1::{Described, Implicit};
 use spki::SubjectPublicKeyInfoRef;
@@ -38,8 +38,7 @@ pub type CertReqInfoFields<'a> = (
 impl<'a> FromFields<CertReqInfoFields<'a>> for CertReqInfo<'a> {
     ghost fields = { λ v. ((v.version, v.subject), (v.public_key, v.attributes)) };
 
-    fn from_fields(members: CertReqInfoFields<'a>) -> Self {
-        let ((version, subject), (public_key, attributes)) = members;
+    fn from_fields(((version, subject), (public_key, attributes)): CertReqInfoFields<'a>) -> Self {
         CertReqInfo {
             version,
             subject,
@@ -49,44 +48,18 @@ impl<'a> FromFields<CertReqInfoFields<'a>> for CertReqInfo<'a> {
     }
 }
 
-impl<'a> Described for CertReqInfo<'a> {
-    ghost element = { sequence (two_fields (two_fields (field (alternative
+impl<'a> Sequence for CertReqInfo<'a> {
+    ghost meaning = { sequence (two_fields (two_fields (field (alternative
         ⟦<CertReqVersion<'a> as Described>⟧.element))
         (field (alternative ⟦<Name<'a> as Described>⟧.element)))
         (two_fields (field (alternative ⟦<SubjectPublicKeyInfoRef<'a> as Described>⟧.element))
         (field (alternative ⟦<Implicit<Attributes<'a>, 0> as Described>⟧.element))))
         ⟦<CertReqInfo<'a> as FromFields<CertReqInfoFields<'a>>>⟧.fields };
+
+    ghost fits = { (refl, refl) };
 }
 
-impl<'a> FixedTag for CertReqInfo<'a> {
-    ghost tag_is = { Sequence };
-
-    const TAG: Tag = Tag::Sequence;
-
-    fn fixed_tag() -> Tag
-        ensures { result ≡ Sequence }
-    {
-        Tag::Sequence
-    }
-}
-
-impl<'a> ReadValue for CertReqInfo<'a> {
-    ghost valid = { ⟦<CertReqInfo<'a> as Described>⟧.element.valid };
-
-    ghost takes = { ⟦<CertReqInfo<'a> as Described>⟧.element.takes };
-
-    ghost value_levels = { ⟦<CertReqInfo<'a> as Described>⟧.element.levels };
-
-    ghost allocates = { false };
-
-    ghost takes_valid = { ⟦<CertReqInfo<'a> as Described>⟧.element.holds refl };
-}
-
-/// Decodes the fields one after the other.
-///
-/// # Errors
-///
-/// The error of the first field that fails to decode.
+/// Decodes the fields one after the other, with the errors of every [`Sequence`].
 impl<'a, R: Reader<Borrowed = &'a [u8]>> DecodeValue<R> for CertReqInfo<'a> {
     type Error = Error;
 
@@ -106,19 +79,7 @@ impl<'a, R: Reader<Borrowed = &'a [u8]>> DecodeValue<R> for CertReqInfo<'a> {
     }
 }
 
-impl<'a> WrittenValue for CertReqInfo<'a> {
-    ghost contents = { ⟦<CertReqInfo<'a> as Described>⟧.element.contents };
-
-    ghost writable = { ⟦<CertReqInfo<'a> as Described>⟧.element.valid };
-}
-
-/// Writes the fields one after the other.
-///
-/// # Errors
-///
-/// - The error of the first field that fails to encode.
-/// - `Overflow` without a position from [`EncodeValue::value_len`], if the fields together have
-///   more than 4294967295 octets.
+/// Writes the fields one after the other, with the errors of every [`Sequence`].
 impl<'a> EncodeValue for CertReqInfo<'a> {
     ghost value_size = { λ v. ⟦<CertReqInfoFields<'a> as Encode>⟧.size
         (⟦<CertReqInfo<'a> as FromFields<CertReqInfoFields<'a>>>⟧.fields v) };
@@ -127,22 +88,10 @@ impl<'a> EncodeValue for CertReqInfo<'a> {
         (⟦<CertReqInfo<'a> as FromFields<CertReqInfoFields<'a>>>⟧.fields v) };
 
     fn value_len(&self) -> Result<Length, Error> {
-        (
-            (EncodeRef(&self.version), EncodeRef(&self.subject)),
-            (EncodeRef(&self.public_key), EncodeRef(&self.attributes)),
-        )
-            .encoded_len()
+        field_refs!(self, ((version, subject), (public_key, attributes))).encoded_len()
     }
 
     fn encode_value<W: Writer>(&self, writer: &mut W) -> Result<(), Error> {
-        (
-            (EncodeRef(&self.version), EncodeRef(&self.subject)),
-            (EncodeRef(&self.public_key), EncodeRef(&self.attributes)),
-        )
-            .encode(writer)
+        field_refs!(self, ((version, subject), (public_key, attributes))).encode(writer)
     }
-}
-
-impl<'a> Lawful for CertReqInfo<'a> {
-    ghost lawful = { ⟦<CertReqInfo<'a> as Described>⟧.element.lawful refl };
 }

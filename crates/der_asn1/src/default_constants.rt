@@ -1,0 +1,53 @@
+//! Numbers and truth values as defaults.
+ghost use Rattle.std.specs.Prelude.{◌≡◌, false, [], ◌∷◌};
+ghost use Rattle.der_asn1.specs.Integer.{integer_octets};
+
+use crate::boolean::BooleanRef;
+use crate::checked::Checked;
+use crate::integer_of::IntegerOf;
+use crate::with_default::DefaultOf;
+
+/// The default value `N` of an INTEGER of 8 bits.
+pub struct DefaultU8<const N: u8>;
+
+/// The default value `N` of an INTEGER of 32 bits.
+pub struct DefaultU32<const N: u32>;
+
+/// The default value `N` of an INTEGER of 64 bits.
+pub struct DefaultU64<const N: u64>;
+
+/// The default value of `BOOLEAN DEFAULT TRUE`. The type [`BooleanRef`] itself has the default
+/// false.
+pub struct DefaultTrue;
+
+impl<const N: u8> DefaultOf<IntegerOf<u8>> for DefaultU8<N> {
+    ghost default_contents = { integer_octets false N };
+
+    fn default_value() -> IntegerOf<u8> {
+        IntegerOf { number: N }
+    }
+}
+
+impl<const N: u32> DefaultOf<IntegerOf<u32>> for DefaultU32<N> {
+    ghost default_contents = { integer_octets false N };
+
+    fn default_value() -> IntegerOf<u32> {
+        IntegerOf { number: N }
+    }
+}
+
+impl<const N: u64> DefaultOf<IntegerOf<u64>> for DefaultU64<N> {
+    ghost default_contents = { integer_octets false N };
+
+    fn default_value() -> IntegerOf<u64> {
+        IntegerOf { number: N }
+    }
+}
+
+impl<'a> DefaultOf<BooleanRef<'a>> for DefaultTrue {
+    ghost default_contents = { 255 ∷ [] };
+
+    fn default_value() -> BooleanRef<'a> {
+        Checked::formed(&[0xFF])
+    }
+}

@@ -1,0 +1,114 @@
+//! ENUMERATEDs as numbers of a fixed type.
+ghost use Rattle.std.specs.Prelude.{◌≡◌, ◌<◌, true, false};
+ghost use Rattle.std.proofs.Common.{arith, subst, sym};
+ghost use Rattle.der.specs.Prelude.{Enumerated as EnumeratedTag};
+ghost use Rattle.der_asn1.specs.Checked.{HasCheckedContents, AcceptsCheckedContents, CheckedContentsRead, contents_size};
+ghost use Rattle.der_asn1.specs.Checked.{ContentsWritten, checked_contents_lawful};
+ghost use Rattle.der_asn1.specs.Meaning.{of_form};
+
+use crate::described::Described;
+use crate::explicit::Nestable;
+use crate::integer_number::IntegerNumber;
+use der::{
+    DecodeValue, EncodeValue, Error, FixedTag, Header, Lawful, Length, ReadValue, Reader, Tag,
+    Writer, WrittenValue,
+};
+use std::alloc::Global;
+
+/// An ENUMERATED in the range of a number type: `u8`, `u32`, `u64` or `i64`, or the items of an
+/// enumeration (see [`Enumerated`](crate::Enumerated)).
+#[derive(Clone, Copy)]
+pub struct EnumeratedOf<N: IntegerNumber> {
+    /// The number that the ENUMERATED encodes.
+    pub number: N,
+}
+
+impl<N: IntegerNumber> FixedTag for EnumeratedOf<N> {
+    ghost tag_is = { EnumeratedTag };
+
+    const TAG: Tag = Tag::Enumerated;
+
+    fn fixed_tag() -> Tag
+        ensures { result ≡ EnumeratedTag }
+    {
+        Tag::Enumerated
+    }
+}
+
+impl<N: IntegerNumber> ReadValue for EnumeratedOf<N> {
+    ghost valid = { HasCheckedContents N.grammar (λ v. N.contents_of v.number) };
+
+    ghost takes = { AcceptsCheckedContents N.grammar (λ v. N.contents_of v.number) };
+
+    ghost value_levels = { λ _. 0 };
+
+    ghost allocates = { false };
+
+    ghost takes_valid = { λ v rules h octets taken.
+        subst (λ x. N.grammar x ≡ true) (sym taken.1) taken.0 };
+}
+
+/// Reads the number from the contents. Accepts only the shortest contents for a number, also under
+/// BER (X.690 8.3.2, 8.4).
+///
+/// # Errors
+///
+/// - The errors of reading the contents, as by [`Reader::read_slice`].
+/// - `Value` with the tag ENUMERATED, at the position after the contents, if no number of type `N`
+///   has these contents: they are empty or not the shortest, or their number is not one of `N`. The
+///   reader has failed then.
+impl<'a, N: IntegerNumber, R: Reader<Borrowed = &'a [u8]>> DecodeValue<R> for EnumeratedOf<N> {
+    type Error = Error;
+
+    ghost decode_value_answers = { CheckedContentsRead N.grammar EnumeratedTag (λ v. N.contents_of v.number) };
+
+    fn decode_value(_alloc: Global, reader: &mut R, header: Header) -> Result<Self, Error> {
+        let octets = reader.read_slice(header.length())?;
+        match N::from_contents(octets) {
+            Some(number) => Ok(EnumeratedOf { number }),
+            None => Err(reader.error(Tag::Enumerated.value_error())),
+        }
+    }
+
+    fn is_value(&self) {
+        let _contents = self.number.to_contents();
+    }
+}
+
+impl<N: IntegerNumber> WrittenValue for EnumeratedOf<N> {
+    ghost contents = { λ v. N.contents_of v.number };
+
+    ghost writable = { HasCheckedContents N.grammar (λ v. N.contents_of v.number) };
+}
+
+/// Writes the number in the fewest octets.
+///
+/// # Errors
+///
+/// `value_len` never fails. `encode_value` returns the errors of [`Writer::write`].
+impl<N: IntegerNumber> EncodeValue for EnumeratedOf<N> {
+    ghost value_size = { λ v. contents_size (N.contents_of v.number) };
+
+    ghost encode_value_answers = { λ v. ContentsWritten (N.contents_of v.number) };
+
+    fn value_len(&self) -> Result<Length, Error> {
+        Length::new_usize(self.number.to_contents().as_slice().len())
+    }
+
+    fn encode_value<W: Writer>(&self, writer: &mut W) -> Result<(), Error> {
+        writer.write(self.number.to_contents().as_slice())
+    }
+}
+
+impl<N: IntegerNumber> Lawful for EnumeratedOf<N> {
+    ghost lawful = { checked_contents_lawful EnumeratedTag N.grammar (λ v. N.contents_of v.number)
+        (Prim.omega arith) };
+}
+
+impl<N: IntegerNumber> Nestable for EnumeratedOf<N> {
+    ghost nestable = { Prim.omega arith };
+}
+
+impl<N: IntegerNumber> Described for EnumeratedOf<N> {
+    ghost element = { of_form EnumeratedTag N.grammar (λ v. N.contents_of v.number) };
+}

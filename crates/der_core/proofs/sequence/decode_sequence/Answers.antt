@@ -1,4 +1,0 @@
-use Rattle.der_core.proofs.sequence.decode_sequence.Goals as goal
-
-pub returns-in-Err-clause-complete : goal.returns-in-Err-clause-complete
-returns-in-Err-clause-complete g c v = c.in-Err.ensures.complete (g.T.FromFields.fields v)
