@@ -8,8 +8,8 @@ pub type FirstTwo<'a> = (Option<&'a [u8]>, Option<&'a [u8]>, bool);
 // The contents of the next integer.
 fn next<'a>(alloc: Global, items: &mut Items<'a, IntRef<'a>>) -> Option<&'a [u8]> {
     match items.next(alloc) {
-        Some(item) => Some(item.octets()),
-        None => None,
+        Ok(Some(item)) => Some(item.octets()),
+        Ok(None) | Err(_) => None,
     }
 }
 

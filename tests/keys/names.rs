@@ -18,7 +18,7 @@ static IN_ORDER: [u8; 24] = [
 ];
 
 // The encodings of the attributes are in order (X.690 11.6). If they are not, reading fails at the
-// second, which begins after ten octets of the contents of the SET.
+// second, which begins at octet 14.
 #[test]
 fn attributes_out_of_order_are_refused_where_the_second_begins(rt: HostRuntime) {
     same_at(&rt, "in order", refusal(rt.alloc(), &IN_ORDER), None);
@@ -29,7 +29,7 @@ fn attributes_out_of_order_are_refused_where_the_second_begins(rt: HostRuntime) 
         &rt,
         "out of order",
         refusal(rt.alloc(), &octets),
-        Some(ErrorKind::SetOrdering.at(Length::new(10))),
+        Some(ErrorKind::SetOrdering.at(Length::new(14))),
     );
 }
 

@@ -55,8 +55,7 @@ fn a_request_is_read_and_written_as_it_was(rt: HostRuntime) {
 // (1.2.840.113549.1.9.14).
 fn asked_extensions(alloc: Global, octets: &[u8]) -> Option<usize> {
     let request = CertReq::from_der(alloc, octets).ok()?;
-    let mut attributes = request.info.attributes.0.items();
-    let attribute = attributes.next(alloc)?;
+    let attribute = request.info.attributes.0.iter(alloc).next()?;
     let asks = [0x2A, 0x86, 0x48, 0x86, 0xF7, 0x0D, 0x01, 0x09, 0x0E];
     if attribute.oid.octets() == asks.as_slice() {
         return Some(attribute.values.octets().len());
@@ -79,8 +78,8 @@ fn refusal_with(alloc: Global, place: usize, octet: u8) -> Option<Error> {
     CertReq::from_der(alloc, &octets).err()
 }
 
-// The version's contents are octet 7. The attributes' contents begin at octet 78, and the first
-// attribute's values are an element at octet 91.
+// The version's contents are octet 7. The type of the first attribute ends at octet 91, where its
+// values begin.
 #[test]
 fn a_request_with_another_octet_is_rejected_at_its_position(rt: HostRuntime) {
     let integer = ErrorKind::Value { tag: Tag::Integer };
@@ -103,7 +102,7 @@ fn a_request_with_another_octet_is_rejected_at_its_position(rt: HostRuntime) {
         &rt,
         "an identifier that begins with zeros",
         refusal_with(rt.alloc(), 82, 0x80),
-        Some(oid.at(Length::new(91 - 78))),
+        Some(oid.at(Length::new(91))),
     );
 }
 
@@ -120,7 +119,7 @@ fn value_refusal(alloc: Global, first: u8) -> Option<Error> {
 }
 
 // The values are in the order of their encodings (X.690 11.6). If they are not, reading fails at
-// the second, which begins after three octets of the contents of the SET.
+// the second, which begins at octet 12.
 #[test]
 fn values_out_of_order_are_refused_where_the_second_begins(rt: HostRuntime) {
     same_at(&rt, "in order", value_refusal(rt.alloc(), 1), None);
@@ -128,6 +127,6 @@ fn values_out_of_order_are_refused_where_the_second_begins(rt: HostRuntime) {
         &rt,
         "out of order",
         value_refusal(rt.alloc(), 3),
-        Some(ErrorKind::SetOrdering.at(Length::new(3))),
+        Some(ErrorKind::SetOrdering.at(Length::new(12))),
     );
 }
