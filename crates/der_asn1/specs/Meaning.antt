@@ -374,3 +374,39 @@ explicit n one f =
           (one.holds (both_true one.is_compatible (nat_lt (one.levels Der) 63)
           (both_true (is_small n) (is_shallow one.is_compatible one.levels) e).1).0);
     }
+
+-- laws of an alternative inside an element with a context-specific tag
+module _ {A : Type 0} {is_compatible : Bool} {tags : Tag → Type 0} {first : List (Option Tag)}
+    {Next : A → EncodingRules → List ℕ → ℕ → Type 0} {valid : A → Type 0} {encoding : A → List ℕ}
+    (n : ℕ) (levels : EncodingRules → ℕ)
+    (laws : is_compatible ≡ true → DecidedByTagLaws tags first Next valid encoding) {B : Type 0}
+    (f : B → A) (e : (is_small n && is_shallow is_compatible levels) ≡ true) where
+  inside : DecidedByTagLaws tags first Next valid encoding
+  inside = laws (both_true is_compatible (nat_lt (levels Der) 63)
+      (both_true (is_small n) (is_shallow is_compatible levels) e).1).0
+
+  pub choice_holds : (b : B) (rules : EncodingRules) (h : Head) (octets : List ℕ)
+      → TakesWhole Next (f b) rules h octets → valid (f b)
+  choice_holds b = contents_hold (laws_of (decided_by_tag_set inside)) (f b)
+
+  pub choice_lawful : IsLawful (context_tag true n) (λ b. TakesWhole Next (f b))
+      (λ b. valid (f b)) (λ b. encoding (f b)) levels
+  choice_lawful =
+      let p = both_true (is_small n) (is_shallow is_compatible levels) e in
+      let low = shallow is_compatible levels p.1 in
+      contents_laws (context_tag true n) levels f (laws_of (decided_by_tag_set inside))
+      (omega (arith, low)) (small n p.0)
+
+-- a CHOICE, or an element of any tag, inside an element with a context-specific tag
+abbrev pub explicit_choice : {A B : Type 0} → ℕ → AlternativeSpec A → (B → A) → ElementSpec B
+explicit_choice n one f =
+    record {
+      tag = context_tag true n;
+      takes = λ b. TakesWhole one.is_next (f b);
+      valid = λ b. one.valid (f b);
+      contents = λ b. one.encoding (f b);
+      levels = one.levels;
+      is_compatible = is_small n && is_shallow one.is_compatible one.levels;
+      lawful = choice_lawful n one.levels one.laws f;
+      holds = choice_holds n one.levels one.laws f;
+    }

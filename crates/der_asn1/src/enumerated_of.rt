@@ -1,14 +1,17 @@
 //! ENUMERATEDs as numbers of a fixed type.
 ghost use Rattle.std.specs.Prelude.{◌≡◌, ◌<◌, true, false};
-ghost use Rattle.std.proofs.Common.{arith, subst, sym};
+ghost use Rattle.std.proofs.Common.{arith, refl, subst, sym};
 ghost use Rattle.der.specs.Prelude.{Enumerated as EnumeratedTag};
 ghost use Rattle.der_asn1.specs.Checked.{HasCheckedContents, AcceptsCheckedContents, CheckedContentsRead, contents_size};
 ghost use Rattle.der_asn1.specs.Checked.{ContentsWritten, checked_contents_lawful};
+ghost use Rattle.der_asn1.specs.Item.{decodes_same, element_is_item, element_item};
 ghost use Rattle.der_asn1.specs.Meaning.{of_form};
 
 use crate::described::Described;
 use crate::explicit::Nestable;
 use crate::integer_number::IntegerNumber;
+use crate::item::{DecodeItem, Item};
+use crate::iter::BorrowedItem;
 use der::{
     DecodeValue, EncodeValue, Error, FixedTag, Header, Lawful, Length, ReadValue, Reader, Tag,
     Writer, WrittenValue,
@@ -111,4 +114,23 @@ impl<N: IntegerNumber> Nestable for EnumeratedOf<N> {
 
 impl<N: IntegerNumber> Described for EnumeratedOf<N> {
     ghost element = { of_form EnumeratedTag N.grammar (λ v. N.contents_of v.number) };
+}
+
+impl<N: IntegerNumber> Item for EnumeratedOf<N> {
+    ghost item = { element_item EnumeratedTag (AcceptsCheckedContents N.grammar
+        (λ v. N.contents_of v.number)) (HasCheckedContents N.grammar
+        (λ v. N.contents_of v.number)) (λ v. N.contents_of v.number) (λ _. 0) false };
+}
+
+impl<'a, N: IntegerNumber, R: Reader<Borrowed = &'a [u8]>> DecodeItem<R> for EnumeratedOf<N> {
+    ghost is_item = { element_is_item (checked_contents_lawful EnumeratedTag N.grammar
+        (λ v. N.contents_of v.number) (Prim.omega arith)) false };
+
+    ghost decodes_items = { decodes_same (element_item EnumeratedTag (AcceptsCheckedContents
+        N.grammar (λ v. N.contents_of v.number)) (HasCheckedContents N.grammar
+        (λ v. N.contents_of v.number)) (λ v. N.contents_of v.number) (λ _. 0) false) };
+}
+
+impl<N: IntegerNumber> BorrowedItem for EnumeratedOf<N> {
+    ghost borrowed = { refl };
 }

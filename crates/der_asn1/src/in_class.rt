@@ -2,12 +2,14 @@
 ghost use Rattle.std.specs.Prelude.{◌≡◌, ℕ};
 ghost use Rattle.der.specs.Prelude.{map_ok};
 ghost use Rattle.der_asn1.specs.ContextSpecific.{retagged, TakesImplicit};
+ghost use Rattle.der_asn1.specs.Item.{decodes_same, element_is_item, element_item};
 ghost use Rattle.der_asn1.specs.TagClasses.{class_tag, reclassed, reclassed_lawful, in_class};
 
 use crate::default_element::DefaultElement;
 use crate::defaulted::DefaultValue;
 use crate::described::Described;
 use crate::explicit::Nestable;
+use crate::item::{DecodeItem, Item};
 use der::{
     DecodeValue, EncodeValue, Error, FixedTag, Header, Lawful, Length, ReadValue, Reader, Tag,
     TagNumber, Writer, WrittenValue,
@@ -150,4 +152,18 @@ impl<T: DefaultValue, const PRIVATE: bool> DefaultValue for InClass<T, PRIVATE> 
 impl<T: DefaultElement + FixedTag, const PRIVATE: bool> DefaultElement for InClass<T, PRIVATE> {
     ghost decided = { λ v w rules h octets one two. T.decided v.0 w.0 rules (retagged T.tag_is h)
         octets one two };
+}
+
+impl<T: ReadValue + WrittenValue + FixedTag, const PRIVATE: bool> Item for InClass<T, PRIVATE> {
+    ghost item = { element_item (reclassed PRIVATE T.tag_is) (TakesImplicit T.tag_is T.takes
+        (λ v. v.0)) (λ v. T.valid v.0) (λ v. T.contents v.0) T.value_levels T.allocates };
+}
+
+impl<R: Reader, T: Lawful + DecodeValue<R>, const PRIVATE: bool> DecodeItem<R>
+    for InClass<T, PRIVATE> {
+    ghost is_item = { element_is_item (reclassed_lawful PRIVATE (λ v. v.0) T.lawful) T.allocates };
+
+    ghost decodes_items = { decodes_same (element_item (reclassed PRIVATE T.tag_is)
+        (TakesImplicit T.tag_is T.takes (λ v. v.0)) (λ v. T.valid v.0) (λ v. T.contents v.0)
+        T.value_levels T.allocates) };
 }
