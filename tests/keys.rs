@@ -3,7 +3,9 @@
 
 mod certificates;
 mod first_version;
+mod general_names;
 mod names;
+mod positions;
 mod private_keys;
 mod public_keys;
 mod requests;

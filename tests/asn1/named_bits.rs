@@ -3,50 +3,20 @@ use crate::checks::{holds, same_at};
 use der::{Encode, Error, ErrorKind, Length, Tag};
 use der_asn1::{NamedBitsRef, lawful_from_der};
 use std::alloc::Global;
+use x509::{KeyUsage, KeyUsageBit};
 
-// What a key may be used for.
-#[derive(Clone, Copy)]
-struct KeyUsage<'a>(NamedBitsRef<'a>);
-
-impl<'a> KeyUsage<'a> {
-    fn digital_signature(&self) -> bool {
-        self.0.has_bit(0)
-    }
-
-    fn key_encipherment(&self) -> bool {
-        self.0.has_bit(2)
-    }
-
-    fn key_agreement(&self) -> bool {
-        self.0.has_bit(4)
-    }
-
-    fn key_cert_sign(&self) -> bool {
-        self.0.has_bit(5)
-    }
-
-    fn crl_sign(&self) -> bool {
-        self.0.has_bit(6)
-    }
-
-    fn decipher_only(&self) -> bool {
-        self.0.has_bit(8)
-    }
-}
-
-// The uses in the order of the methods, the number of bits, and whether the value is written exactly
+// The uses with the numbers 0, 2, 4, 5, 6 and 8, the number of bits, and whether the value is written exactly
 // as it was read.
 fn usage(alloc: Global, octets: &[u8]) -> Result<([bool; 6], Option<u64>, bool), Error> {
-    let bits: NamedBitsRef<'_> = lawful_from_der(alloc, octets)?;
+    let bits: KeyUsage<'_> = lawful_from_der(alloc, octets)?;
     let written = bits.to_der(alloc)?;
-    let usage = KeyUsage(bits);
     let uses = [
-        usage.digital_signature(),
-        usage.key_encipherment(),
-        usage.key_agreement(),
-        usage.key_cert_sign(),
-        usage.crl_sign(),
-        usage.decipher_only(),
+        bits.has_bit(KeyUsageBit::DigitalSignature as u32),
+        bits.has_bit(KeyUsageBit::KeyEncipherment as u32),
+        bits.has_bit(KeyUsageBit::KeyAgreement as u32),
+        bits.has_bit(KeyUsageBit::KeyCertSign as u32),
+        bits.has_bit(KeyUsageBit::CrlSign as u32),
+        bits.has_bit(KeyUsageBit::DecipherOnly as u32),
     ];
     Ok((uses, bits.bit_count(), written.as_slice() == octets))
 }

@@ -1,13 +1,13 @@
 //! Certificates.
 use crate::checks::{holds, same_at};
 use der::{DecodeBytes, Encode, Error, ErrorKind, Length, Tag, TagNumber};
-use der_asn1::{DateTime, Either};
+use der_asn1::DateTime;
 use std::alloc::Global;
 use x509::{Certificate, Time};
 
-// Ed25519, version 3, with four extensions: `openssl req -x509 -set_serial 0x4A7B -subj
-// /CN=example.org -addext keyUsage=critical,digitalSignature`.
-static SELF_SIGNED: [u8; 322] = [
+/// Ed25519, version 3, with four extensions: `openssl req -x509 -set_serial 0x4A7B -subj
+/// /CN=example.org -addext keyUsage=critical,digitalSignature`.
+pub static SELF_SIGNED: [u8; 322] = [
     0x30, 0x82, 0x01, 0x3E, 0x30, 0x81, 0xF1, 0xA0, 0x03, 0x02, 0x01, 0x02, 0x02, 0x02, 0x4A, 0x7B,
     0x30, 0x05, 0x06, 0x03, 0x2B, 0x65, 0x70, 0x30, 0x16, 0x31, 0x14, 0x30, 0x12, 0x06, 0x03, 0x55,
     0x04, 0x03, 0x0C, 0x0B, 0x65, 0x78, 0x61, 0x6D, 0x70, 0x6C, 0x65, 0x2E, 0x6F, 0x72, 0x67, 0x30,
@@ -34,8 +34,8 @@ static SELF_SIGNED: [u8; 322] = [
 // The date and the time.
 fn date_time(time: &Time) -> DateTime {
     match time {
-        Either::First(time) => time.date_time(),
-        Either::Second(time) => time.date_time(),
+        Time::UtcTime(time) => time.date_time(),
+        Time::GeneralTime(time) => time.date_time(),
     }
 }
 

@@ -10,14 +10,15 @@ pub use Rattle.der.specs.ElementSpec.{ElementSpec}
 use Rattle.der_asn1.specs.AnyElement.{AnyElementNext}
 use Rattle.der_asn1.specs.AnyLaws.{any_element_decided_by_tag}
 use Rattle.der_asn1.specs.AnyRef.{IsAny, TakesAny, any_contents}
+use Rattle.der_asn1.specs.Begins.{element_begins, any_element_begins}
 use Rattle.der_asn1.specs.Checked.{HasCheckedContents, AcceptsCheckedContents, checked_contents_lawful}
 use Rattle.der_asn1.specs.ContextSpecific.{context_tag, retagged, TakesImplicit, implicit_lawful}
 use Rattle.der_asn1.specs.ContextSpecific.{explicit_lawful, explicit_holds}
 use Rattle.der_asn1.specs.Default.{DefaultNext, IsDefaulted, default_encoding, DefaultPrecedes}
 use Rattle.der_asn1.specs.Either.{EitherNext, IsEither, either_encoding}
-use Rattle.der_asn1.specs.EitherLaws.{either_decided_by_tag}
+use Rattle.der_asn1.specs.EitherLaws.{either_begins, either_decided_by_tag}
 use Rattle.der_asn1.specs.FieldLaws.{contents_laws, contents_hold}
-use Rattle.der_asn1.specs.Follow.{Anything, BothPrecede, this_tag, any_tag, either_tags}
+use Rattle.der_asn1.specs.Follow.{Anything, BothPrecede, TagIn, this_tag, any_tag, either_tags}
 use Rattle.der_asn1.specs.Item.{IsItem, ItemSpec, element_is_item, element_item}
 use Rattle.der_asn1.specs.Optional.{OptionNext, IsOptional, option_encoding, OptionPrecedes}
 use Rattle.der_asn1.specs.PairLaws.{pair_set}
@@ -48,7 +49,7 @@ pub record FieldSpec (A : Type 0) : Type 1 where
   pub laws : is_compatible ≡ true → SetLaws always first stops precedes is_next valid encoding
 
 -- a field that is always one element, and for which the next tag decides whether it is present:
--- the tags it may begin with (`tags`, and as a list `first`)
+-- the tags it may begin with (`tags`, and as a list `first`), with one of which each value begins
 pub record AlternativeSpec (A : Type 0) : Type 1 where
   pub is_next : A → EncodingRules → List ℕ → ℕ → Type 0
   pub valid : A → Type 0
@@ -56,6 +57,8 @@ pub record AlternativeSpec (A : Type 0) : Type 1 where
   pub levels : EncodingRules → ℕ
   pub tags : Tag → Type 0
   pub first : List (Option Tag)
+  pub begins : (v : A) (rules : EncodingRules) (octets : List ℕ) (m : ℕ)
+      → is_next v rules octets m → TagIn tags rules octets
   pub is_compatible : Bool
   pub laws : is_compatible ≡ true → DecidedByTagLaws tags first is_next valid encoding
 
@@ -69,6 +72,7 @@ alternative one =
       levels = element_levels one.levels;
       tags = this_tag one.tag;
       first = Some one.tag ∷ [];
+      begins = λ v rules octets m e. element_begins e;
       is_compatible = one.is_compatible;
       laws = λ e. element_decided_by_tag (one.lawful e) (one.holds e);
     }
@@ -99,6 +103,7 @@ any_element =
       levels = element_levels (λ _. 0);
       tags = any_tag;
       first = None ∷ [];
+      begins = λ v rules octets m e. any_element_begins e;
       is_compatible = true;
       laws = λ e. any_element_decided_by_tag;
     }
@@ -179,6 +184,7 @@ either one two =
       levels = fields_levels one.levels two.levels;
       tags = either_tags one.tags two.tags;
       first = one.first ++ two.first;
+      begins = either_begins one.begins two.begins;
       is_compatible = are_apart one.first two.first && (one.is_compatible && two.is_compatible);
       laws = λ e. either_decided_by_tag e one.laws two.laws;
     }
@@ -193,6 +199,7 @@ choice_of one f =
       levels = one.levels;
       tags = one.tags;
       first = one.first;
+      begins = λ b. one.begins (f b);
       is_compatible = one.is_compatible;
       laws = λ e. seen_decided_by_tag f (one.laws e);
     }

@@ -18,6 +18,7 @@ mod program;
 mod public_key;
 mod refused;
 mod refused_certificate;
+mod refused_field;
 mod refused_fields;
 mod refused_private_key;
 mod refused_request;
@@ -29,6 +30,9 @@ mod tree;
 mod version;
 mod view;
 
+pub use failure::Failure;
 pub use options::Options;
 pub use program::run_show;
+pub use refused_field::{RefusedField, refused_field};
+pub use shape::{Shape, shape_of};
 pub use view::write_view;

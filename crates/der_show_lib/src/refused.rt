@@ -1,11 +1,7 @@
 //! The report on a certificate, a request or a key that is not accepted.
 
 use crate::failure::Failure;
-use crate::refused_certificate::search_certificate;
-use crate::refused_fields::search_public_key;
-use crate::refused_private_key::search_private_key;
-use crate::refused_request::search_request;
-use crate::search::Search;
+use crate::refused_field::{RefusedField, refused_field};
 use crate::shape::Shape;
 use der::Error;
 use std::alloc::{AllocError, Global};
@@ -25,31 +21,18 @@ pub fn refuse(
     shape: Shape,
     error: Error,
 ) -> Result<(), Failure> {
-    let mut search = Search::new(alloc, octets, error)?;
-    search_shape(&mut search, shape);
-    if search.lacks_memory {
-        return Err(Failure::OutOfMemory);
-    }
-    write_refused(text, shape, &search)?;
-    Err(Failure::Refused(search.error))
+    let field = refused_field(alloc, octets, shape, error)?;
+    write_refused(text, shape, &field)?;
+    Err(Failure::Refused(field.error))
 }
 
-fn write_refused(text: &mut String, shape: Shape, search: &Search<'_>) -> Result<(), AllocError> {
+fn write_refused(text: &mut String, shape: Shape, field: &RefusedField) -> Result<(), AllocError> {
     text.push_str(shape_name(shape))?;
     text.push_str(" refused")?;
-    if !search.path.is_empty() {
-        write!(text, ": {} (offset {})", search.path, search.start)?;
+    if !field.path.is_empty() {
+        write!(text, ": {} (offset {})", field.path, field.start)?;
     }
     text.push('\n')
-}
-
-fn search_shape(search: &mut Search<'_>, shape: Shape) {
-    match shape {
-        Shape::Certificate => search_certificate(search),
-        Shape::Request => search_request(search),
-        Shape::PublicKey => search_public_key(search),
-        Shape::PrivateKey => search_private_key(search),
-    }
 }
 
 fn shape_name(shape: Shape) -> &'static str {

@@ -1,6 +1,6 @@
 //! Times of validity.
 
-use der_asn1::{DateTime, Either};
+use der_asn1::DateTime;
 use std::alloc::AllocError;
 use std::fmt::Write;
 use x509::Time;
@@ -8,8 +8,8 @@ use x509::Time;
 /// Writes a time in the form of `Jan  2 03:04:05 2006 GMT`.
 pub fn write_time(text: &mut String, time: &Time) -> Result<(), AllocError> {
     let at = match time {
-        Either::First(short) => short.date_time(),
-        Either::Second(long) => long.date_time(),
+        Time::UtcTime(short) => short.date_time(),
+        Time::GeneralTime(long) => long.date_time(),
     };
     write!(
         text,

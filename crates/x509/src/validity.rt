@@ -2,14 +2,14 @@
 ghost use Rattle.std.specs.Prelude.{◌≡◌};
 ghost use Rattle.std.proofs.Common.{refl};
 ghost use Rattle.der.specs.Prelude.{map_ok};
-ghost use Rattle.der_asn1.specs.Meaning.{alternative, either, field, sequence, two_fields};
+ghost use Rattle.der_asn1.specs.Meaning.{field, sequence, two_fields};
 
 use crate::time::Time;
 use der::{
     Decode, DecodeValue, Encode, EncodeValue, Error, FromFields, Header, Length, Reader, Sequence,
     SliceReader, Writer, decode_sequence, field_refs,
 };
-use der_asn1::{Described, Either, GeneralizedTime, UtcTime};
+use der_asn1::DescribedChoice;
 use std::alloc::Global;
 
 /// The period in which a certificate is valid.
@@ -36,10 +36,8 @@ impl FromFields<ValidityFields> for Validity {
 }
 
 impl Sequence for Validity {
-    ghost meaning = { sequence (two_fields (field (either (alternative
-        ⟦<UtcTime as Described>⟧.element) (alternative ⟦<GeneralizedTime as Described>⟧.element)))
-        (field (either (alternative ⟦<UtcTime as Described>⟧.element) (alternative
-        ⟦<GeneralizedTime as Described>⟧.element))))
+    ghost meaning = { sequence (two_fields (field ⟦<Time as DescribedChoice>⟧.alternative)
+        (field ⟦<Time as DescribedChoice>⟧.alternative))
         ⟦<Validity as FromFields<ValidityFields>>⟧.fields };
 
     ghost fits = { (refl, refl) };
@@ -58,14 +56,8 @@ impl<'a, R: Reader<Borrowed = &'a [u8]>> DecodeValue<R> for Validity {
     }
 
     fn is_value(&self) {
-        match &self.not_before {
-            Either::First(time) => <UtcTime as DecodeValue<R>>::is_value(time),
-            Either::Second(time) => <GeneralizedTime as DecodeValue<R>>::is_value(time),
-        }
-        match &self.not_after {
-            Either::First(time) => <UtcTime as DecodeValue<R>>::is_value(time),
-            Either::Second(time) => <GeneralizedTime as DecodeValue<R>>::is_value(time),
-        }
+        self.not_before.is_value();
+        self.not_after.is_value();
     }
 }
 

@@ -1,0 +1,85 @@
+//! The alternatives of a GeneralName with the tags [3] to [5].
+ghost use Rattle.std.specs.Prelude.{false};
+ghost use Rattle.der.specs.Prelude.{map_ok};
+ghost use Rattle.der_asn1.specs.Meaning.{alternative, choice_of, either};
+
+use crate::name::Name;
+use der::{Decode, Encode, Error, FromFields, Length, Reader, SliceReader, Tag, Writer};
+use der_asn1::{
+    Choice, Described, DescribedChoice, Either, Explicit, Implicit, SequenceRef, decode_choice,
+};
+use std::alloc::Global;
+
+// A name with a tag from [3] to [5].
+#[derive(Clone, Copy, Drop)]
+pub(crate) struct GeneralNamePart2<'a> {
+    pub(crate) choice: Choice2<'a>,
+}
+
+// The alternatives, as nested choices of two.
+pub(crate) type Choice2<'a> = Either<Implicit<SequenceRef<'a>, 3>, Either<Explicit<Name<'a>, 4>,
+    Implicit<SequenceRef<'a>, 5>>>;
+
+impl<'a> FromFields<Choice2<'a>> for GeneralNamePart2<'a> {
+    ghost fields = { λ v. v.choice };
+
+    fn from_fields(choice: Choice2<'a>) -> Self {
+        GeneralNamePart2 { choice }
+    }
+}
+
+impl<'a> DescribedChoice for GeneralNamePart2<'a> {
+    ghost alternative = { choice_of (either (alternative ⟦<Implicit<SequenceRef<'a>, 3> as
+        Described>⟧.element) (either (alternative ⟦<Explicit<Name<'a>, 4> as Described>⟧.element)
+        (alternative ⟦<Implicit<SequenceRef<'a>, 5> as Described>⟧.element))) (λ v. v.choice) };
+}
+
+impl<'a, R: Reader<Borrowed = &'a [u8]>> Decode<R> for GeneralNamePart2<'a> {
+    type Error = Error;
+
+    ghost is_next = { ⟦<GeneralNamePart2<'a> as DescribedChoice>⟧.alternative.is_next };
+
+    ghost decode_levels = { ⟦<GeneralNamePart2<'a> as DescribedChoice>⟧.alternative.levels };
+
+    ghost allocates = { false };
+
+    ghost decode_answers = { λ s result t.
+        ⟦<Choice2<'a> as Decode<SliceReader<'a>>>⟧.decode_answers s
+        (map_ok (λ v. v.choice) result) t };
+
+    #[inline(always)]
+    fn decode(alloc: Global, reader: &mut R) -> Result<Self, Error> {
+        decode_choice::<R, Choice2<'a>, Self>(alloc, reader)
+    }
+}
+
+impl<'a, R: Reader<Borrowed = &'a [u8]>> Choice<R> for GeneralNamePart2<'a> {
+    ghost chooses = { ⟦<GeneralNamePart2<'a> as DescribedChoice>⟧.alternative.tags };
+
+    #[inline(always)]
+    fn can_decode(tag: Tag) -> bool {
+        <Choice2<'a> as Choice<R>>::can_decode(tag)
+    }
+
+    ghost begins = { ⟦<GeneralNamePart2<'a> as DescribedChoice>⟧.alternative.begins };
+}
+
+impl<'a> Encode for GeneralNamePart2<'a> {
+    ghost encoding = { λ v. ⟦<Choice2<'a> as Encode>⟧.encoding v.choice };
+
+    ghost encodable = { λ v. ⟦<Choice2<'a> as Encode>⟧.encodable v.choice };
+
+    ghost size = { λ v. ⟦<Choice2<'a> as Encode>⟧.size v.choice };
+
+    ghost encode_answers = { λ v. ⟦<Choice2<'a> as Encode>⟧.encode_answers v.choice };
+
+    #[inline(always)]
+    fn encoded_len(&self) -> Result<Length, Error> {
+        self.choice.encoded_len()
+    }
+
+    #[inline(always)]
+    fn encode<W: Writer>(&self, writer: &mut W) -> Result<(), Error> {
+        self.choice.encode(writer)
+    }
+}
