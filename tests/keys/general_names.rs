@@ -107,7 +107,7 @@ fn wrong_names_are_refused_where_they_are(rt: HostRuntime) {
         tag: Tag::ObjectIdentifier,
     };
     same_at(&rt, "a zero first", refusal(rt.alloc(), 54, 0x80), Some(identifier.at(Length::new(57))));
-    same_at(&rt, "too long", refusal(rt.alloc(), 58, 0x05), Some(incomplete(64, 62, 59)));
+    same_at(&rt, "too long", refusal(rt.alloc(), 58, 0x05), Some(incomplete(63, 62, 62)));
 }
 
 #[test]

@@ -2,17 +2,18 @@
 use crate::checks::holds_at;
 use crate::keys::certificates::SELF_SIGNED;
 use der::{DecodeBytes, Error, ErrorKind};
-use der_show_lib::{Shape, refused_field};
+use der_show_lib::{Shape, find_refused_field};
 use std::alloc::Global;
 use x509::Certificate;
 
-// The first octets of the elements of the certificate, as `openssl asn1parse` lists them.
-static STARTS: [u32; 43] = [
-    0, 4, 7, 9, 12, 16, 18, 23, 25, 27, 29, 34, 47, 49, 64, 79, 81, 83, 85, 90, 103, 105, 107, 112,
-    147, 149, 151, 153, 158, 182, 184, 189, 215, 217, 222, 225, 232, 234, 239, 242, 248, 250, 255,
+// The first octets of the elements of the certificate, as `openssl asn1parse` lists them, without
+// those inside [0] and [3], which belong to the same field.
+static STARTS: [u32; 41] = [
+    0, 4, 7, 12, 16, 18, 23, 25, 27, 29, 34, 47, 49, 64, 79, 81, 83, 85, 90, 103, 105, 107, 112,
+    147, 151, 153, 158, 182, 184, 189, 215, 217, 222, 225, 232, 234, 239, 242, 248, 250, 255,
 ];
 
-// The start of the innermost element that has this octet.
+// The start of the innermost of them that has this octet.
 fn start_of(place: u32) -> u32 {
     let mut start = 0;
     for next in STARTS {
@@ -40,7 +41,7 @@ fn has_place(alloc: Global, octets: &[u8], error: Error, place: u32) -> bool {
         let at = u32::from(position);
         return start <= at && at <= end;
     }
-    match refused_field(alloc, octets, Shape::Certificate, error) {
+    match find_refused_field(alloc, octets, Shape::Certificate, error) {
         Ok(field) => {
             let found = !field.path.is_empty() && start <= field.start && field.start < end;
             may_lack_position(&error) && (found || place == 0)

@@ -33,6 +33,6 @@ mod view;
 pub use failure::Failure;
 pub use options::Options;
 pub use program::run_show;
-pub use refused_field::{RefusedField, refused_field};
-pub use shape::{Shape, shape_of};
+pub use refused_field::{RefusedField, find_refused_field};
+pub use shape::Shape;
 pub use view::write_view;

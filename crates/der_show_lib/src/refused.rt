@@ -1,7 +1,7 @@
 //! The report on a certificate, a request or a key that is not accepted.
 
 use crate::failure::Failure;
-use crate::refused_field::{RefusedField, refused_field};
+use crate::refused_field::{RefusedField, find_refused_field};
 use crate::shape::Shape;
 use der::Error;
 use std::alloc::{AllocError, Global};
@@ -21,7 +21,7 @@ pub fn refuse(
     shape: Shape,
     error: Error,
 ) -> Result<(), Failure> {
-    let field = refused_field(alloc, octets, shape, error)?;
+    let field = find_refused_field(alloc, octets, shape, error)?;
     write_refused(text, shape, &field)?;
     Err(Failure::Refused(field.error))
 }

@@ -33,7 +33,7 @@ pub struct RefusedField {
 ///
 /// - `OutOfMemory`, if an allocation fails.
 /// - `Refused` with `Overflow` without a position, if there are more than 4294967295 octets.
-pub fn refused_field(
+pub fn find_refused_field(
     alloc: Global,
     octets: &[u8],
     shape: Shape,
