@@ -1,0 +1,70 @@
+//! Orders of values by their contents.
+ghost use Rattle.std.specs.Prelude.{◌≡◌};
+ghost use Rattle.std.proofs.Common.{refl};
+ghost use Rattle.der.specs.OctetsOrder.{octets_order};
+ghost use Rattle.der_asn1.specs.AnyRef.{any_contents};
+
+use crate::any::AnyRef;
+use crate::checked::Checked;
+use crate::grammar::ContentsGrammar;
+use crate::item::Item;
+use crate::sequence_of::SequenceOf;
+use crate::set_of::SetOf;
+use der::{Error, Orderly, ValueOrd};
+use std::cmp::Ordering;
+
+/// Compares the contents octets of two values in lexicographic order. Never fails.
+impl<'a, F: ContentsGrammar> ValueOrd for Checked<'a, F> {
+    ghost value_order = { octets_order (λ v. v.octets.now) };
+
+    #[inline(always)]
+    fn value_cmp(&self, other: &Self) -> Result<Ordering, Error> {
+        Ok(self.octets().cmp(other.octets()))
+    }
+}
+
+impl<'a, F: ContentsGrammar> Orderly for Checked<'a, F> {
+    ghost orderly = { λ _ _ _ _. refl };
+}
+
+/// Compares the contents octets of two elements in lexicographic order. Never fails.
+impl<'a> ValueOrd for AnyRef<'a> {
+    ghost value_order = { octets_order any_contents };
+
+    #[inline(always)]
+    fn value_cmp(&self, other: &Self) -> Result<Ordering, Error> {
+        Ok(self.contents.cmp(other.contents))
+    }
+}
+
+impl<'a> Orderly for AnyRef<'a> {
+    ghost orderly = { λ _ _ _ _. refl };
+}
+
+/// Compares the contents octets of two lists in lexicographic order. Never fails.
+impl<'a, T: Item> ValueOrd for SequenceOf<'a, T> {
+    ghost value_order = { octets_order (λ v. v.octets.now) };
+
+    #[inline(always)]
+    fn value_cmp(&self, other: &Self) -> Result<Ordering, Error> {
+        Ok(self.octets().cmp(other.octets()))
+    }
+}
+
+impl<'a, T: Item> Orderly for SequenceOf<'a, T> {
+    ghost orderly = { λ _ _ _ _. refl };
+}
+
+/// Compares the contents octets of two sets in lexicographic order. Never fails.
+impl<'a, T: Item> ValueOrd for SetOf<'a, T> {
+    ghost value_order = { octets_order (λ v. v.elements.octets.now) };
+
+    #[inline(always)]
+    fn value_cmp(&self, other: &Self) -> Result<Ordering, Error> {
+        Ok(self.octets().cmp(other.octets()))
+    }
+}
+
+impl<'a, T: Item> Orderly for SetOf<'a, T> {
+    ghost orderly = { λ _ _ _ _. refl };
+}

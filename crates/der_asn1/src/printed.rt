@@ -1,0 +1,60 @@
+//! Values as text, for engineers: the name of the ASN.1 type, and the contents octets in
+//! hexadecimal.
+ghost use Rattle.std.specs.Prelude.{Some};
+ghost use Rattle.der.specs.Prelude.{Sequence, Set as SetTag};
+ghost use Rattle.der_asn1.specs.AnyRef.{any_contents};
+ghost use Rattle.der_asn1.specs.Printed.{value_text};
+
+use crate::any::AnyRef;
+use crate::checked::Checked;
+use crate::grammar::ContentsGrammar;
+use crate::hexadecimal::Hexadecimal;
+use crate::item::Item;
+use crate::sequence_of::SequenceOf;
+use crate::set_of::SetOf;
+use der::Tag;
+use std::fmt;
+
+/// Prints the tag as its `Display` does, then in parentheses the contents octets, each as two
+/// upper-case hexadecimal digits, such as `INTEGER(2A)`.
+impl<'a, F: ContentsGrammar> fmt::Debug for Checked<'a, F> {
+    ghost debug_output = { λ v. Some (value_text F.tag_is v.octets.now) };
+
+    fn fmt<W: fmt::Write>(&self, f: &mut fmt::Formatter<W>) -> fmt::Result {
+        let (tag, octets) = (F::fixed_tag(), Hexadecimal(self.octets()));
+        write!(f, "{tag}({octets})")
+    }
+}
+
+/// Prints the tag as its `Display` does, then in parentheses the contents octets, each as two
+/// upper-case hexadecimal digits, such as `INTEGER(2A)`.
+impl<'a> fmt::Debug for AnyRef<'a> {
+    ghost debug_output = { λ v. Some (value_text v.tag (any_contents v)) };
+
+    fn fmt<W: fmt::Write>(&self, f: &mut fmt::Formatter<W>) -> fmt::Result {
+        let (tag, octets) = (self.tag, Hexadecimal(self.contents));
+        write!(f, "{tag}({octets})")
+    }
+}
+
+/// Prints the contents octets, which are the encodings of all items, each octet as two upper-case
+/// hexadecimal digits, such as `SEQUENCE(02012A0500)`.
+impl<'a, T: Item> fmt::Debug for SequenceOf<'a, T> {
+    ghost debug_output = { λ v. Some (value_text Sequence v.octets.now) };
+
+    fn fmt<W: fmt::Write>(&self, f: &mut fmt::Formatter<W>) -> fmt::Result {
+        let (tag, octets) = (Tag::Sequence, Hexadecimal(self.octets()));
+        write!(f, "{tag}({octets})")
+    }
+}
+
+/// Prints the contents octets, which are the encodings of all items, each octet as two upper-case
+/// hexadecimal digits, such as `SET(02012A0500)`.
+impl<'a, T: Item> fmt::Debug for SetOf<'a, T> {
+    ghost debug_output = { λ v. Some (value_text SetTag v.elements.octets.now) };
+
+    fn fmt<W: fmt::Write>(&self, f: &mut fmt::Formatter<W>) -> fmt::Result {
+        let (tag, octets) = (Tag::Set, Hexadecimal(self.octets()));
+        write!(f, "{tag}({octets})")
+    }
+}
