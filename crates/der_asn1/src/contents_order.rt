@@ -6,10 +6,15 @@ ghost use Rattle.der_asn1.specs.AnyRef.{any_contents};
 
 use crate::any::AnyRef;
 use crate::checked::Checked;
+use crate::enumerated_of::EnumeratedOf;
 use crate::grammar::ContentsGrammar;
+use crate::integer_number::IntegerNumber;
+use crate::integer_of::IntegerOf;
 use crate::item::Item;
 use crate::sequence_of::SequenceOf;
 use crate::set_of::SetOf;
+use crate::time_format::TimeFormat;
+use crate::time_of::TimeOf;
 use der::{Error, Orderly, ValueOrd};
 use std::cmp::Ordering;
 
@@ -66,5 +71,47 @@ impl<'a, T: Item> ValueOrd for SetOf<'a, T> {
 }
 
 impl<'a, T: Item> Orderly for SetOf<'a, T> {
+    ghost orderly = { λ _ _ _ _. refl };
+}
+
+/// Compares the contents octets of two values in lexicographic order. Never fails.
+impl<N: IntegerNumber> ValueOrd for IntegerOf<N> {
+    ghost value_order = { octets_order (λ v. N.contents_of v.number) };
+
+    fn value_cmp(&self, other: &Self) -> Result<Ordering, Error> {
+        let (contents, others) = (self.number.to_contents(), other.number.to_contents());
+        Ok(contents.as_slice().cmp(others.as_slice()))
+    }
+}
+
+impl<N: IntegerNumber> Orderly for IntegerOf<N> {
+    ghost orderly = { λ _ _ _ _. refl };
+}
+
+/// Compares the contents octets of two values in lexicographic order. Never fails.
+impl<N: IntegerNumber> ValueOrd for EnumeratedOf<N> {
+    ghost value_order = { octets_order (λ v. N.contents_of v.number) };
+
+    fn value_cmp(&self, other: &Self) -> Result<Ordering, Error> {
+        let (contents, others) = (self.number.to_contents(), other.number.to_contents());
+        Ok(contents.as_slice().cmp(others.as_slice()))
+    }
+}
+
+impl<N: IntegerNumber> Orderly for EnumeratedOf<N> {
+    ghost orderly = { λ _ _ _ _. refl };
+}
+
+/// Compares the contents octets of two values in lexicographic order. Never fails.
+impl<F: TimeFormat> ValueOrd for TimeOf<F> {
+    ghost value_order = { octets_order (λ v. F.contents_of v.time) };
+
+    fn value_cmp(&self, other: &Self) -> Result<Ordering, Error> {
+        let (time, others) = (self.date_time(), other.date_time());
+        Ok(F::to_contents(&time).as_slice().cmp(F::to_contents(&others).as_slice()))
+    }
+}
+
+impl<F: TimeFormat> Orderly for TimeOf<F> {
     ghost orderly = { λ _ _ _ _. refl };
 }

@@ -68,6 +68,7 @@ mod utf8_string;
 mod visible_string;
 mod whole;
 mod with_default;
+mod wrapped_order;
 
 pub use any::AnyRef;
 pub use arcs::Arcs;
