@@ -10,7 +10,7 @@ use crate::integer_octets::IntegerOctets;
 use crate::integer_of::IntegerOf;
 
 /// An item of an enumeration, as the number that an INTEGER or an ENUMERATED encodes.
-#[derive(Clone, Copy)]
+#[derive(Clone, Copy, Debug, PartialEq, Eq)]
 pub struct EnumerationItem<E: Enumeration>(pub E);
 
 /// An ENUMERATED as an item of the enumeration `E` (X.680 20). Reading refuses a number that no item

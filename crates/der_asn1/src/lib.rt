@@ -69,6 +69,7 @@ mod visible_string;
 mod whole;
 mod with_default;
 mod wrapped_order;
+mod wrapped_printed;
 
 pub use any::AnyRef;
 pub use arcs::Arcs;
