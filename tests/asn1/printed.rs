@@ -65,7 +65,8 @@ fn an_element_of_any_tag_has_the_name_of_its_tag(rt: HostRuntime) -> Result<(), 
 #[test]
 fn lists_print_the_encodings_of_their_items(rt: HostRuntime) -> Result<(), Fail> {
     let alloc = rt.alloc();
-    let list: Result<SequenceOf<'_, IntRef<'_>>, Error> = SequenceOf::new(alloc, &[2, 1, 6, 2, 1, 5]);
+    let octets = [2, 1, 6, 2, 1, 5];
+    let list: Result<SequenceOf<'_, IntRef<'_>>, Error> = SequenceOf::new(alloc, &octets);
     prints(&rt, alloc, list.ok(), "Some(SEQUENCE(020106020105))")?;
     let set: Result<SetOf<'_, IntRef<'_>>, Error> = SetOf::new(alloc, &[2, 1, 5, 2, 1, 6]);
     prints(&rt, alloc, set.ok(), "Some(SET(020105020106))")?;

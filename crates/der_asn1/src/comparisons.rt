@@ -12,7 +12,8 @@ use std::cmp::Ordering;
 /// Calls `==`; the contract states that equal elements have the same tag and the same contents
 /// octets.
 fn any_equality<'a>(a: &AnyRef<'a>, b: &AnyRef<'a>) -> bool
-    ensures { IsTrue result ↔ ((a.now.tag ≡ b.now.tag) × (any_contents a.now ≡ any_contents b.now)) }
+    ensures { IsTrue result
+        ↔ ((a.now.tag ≡ b.now.tag) × (any_contents a.now ≡ any_contents b.now)) }
 {
     a == b
 }

@@ -108,7 +108,8 @@ impl<F: TimeFormat> ValueOrd for TimeOf<F> {
 
     fn value_cmp(&self, other: &Self) -> Result<Ordering, Error> {
         let (time, others) = (self.date_time(), other.date_time());
-        Ok(F::to_contents(&time).as_slice().cmp(F::to_contents(&others).as_slice()))
+        let (contents, others) = (F::to_contents(&time), F::to_contents(&others));
+        Ok(contents.as_slice().cmp(others.as_slice()))
     }
 }
 

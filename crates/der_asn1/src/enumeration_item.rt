@@ -42,7 +42,9 @@ impl<E: Enumeration> EnumeratedOf<EnumerationItem<E>> {
     pub fn new(item: E) -> Self
         ensures { result.number.0 ≡ item }
     {
-        EnumeratedOf { number: EnumerationItem(item) }
+        EnumeratedOf {
+            number: EnumerationItem(item),
+        }
     }
 
     /// The item that the ENUMERATED encodes.
@@ -58,7 +60,9 @@ impl<E: Enumeration> IntegerOf<EnumerationItem<E>> {
     pub fn new(item: E) -> Self
         ensures { result.number.0 ≡ item }
     {
-        IntegerOf { number: EnumerationItem(item) }
+        IntegerOf {
+            number: EnumerationItem(item),
+        }
     }
 
     /// The item that the INTEGER encodes.

@@ -14,8 +14,8 @@ use crate::described::Described;
 use crate::item::{DecodeItem, Item};
 use crate::iter::BorrowedItem;
 use der::{
-    DecodeValue, Encode, EncodeValue, Error, FixedTag, FromFields, Header, Lawful, Length, ReadValue,
-    Reader, Tag, TagNumber, Writer, WrittenValue, decode_sequence,
+    DecodeValue, Encode, EncodeValue, Error, FixedTag, FromFields, Header, Lawful, Length,
+    ReadValue, Reader, Tag, TagNumber, Writer, WrittenValue, decode_sequence,
 };
 use std::alloc::Global;
 

@@ -1,7 +1,8 @@
 //! Values as text, for engineers: the name of the ASN.1 type, and the contents octets in
 //! hexadecimal.
 ghost use Rattle.std.specs.Prelude.{Some};
-ghost use Rattle.der.specs.Prelude.{Enumerated as EnumeratedTag, Integer as IntegerTag, Sequence, Set as SetTag};
+ghost use Rattle.der.specs.Prelude.{Enumerated as EnumeratedTag, Integer as IntegerTag, Sequence};
+ghost use Rattle.der.specs.Prelude.{Set as SetTag};
 ghost use Rattle.der_asn1.specs.AnyRef.{any_contents};
 ghost use Rattle.der_asn1.specs.Printed.{value_text};
 
