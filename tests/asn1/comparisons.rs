@@ -2,7 +2,10 @@
 //! X.690 11.6: the identifier octets decide first, then the length, then the contents.
 use crate::checks::{holds_at, same_at};
 use der::{DerOrd, Error, Tag, TagNumber, iter_cmp};
-use der_asn1::{AnyRef, IntRef, OctetStringRef, SequenceOf, SetOf};
+use der_asn1::{
+    AnyRef, Explicit, Implicit, IntRef, IntegerOf, ObjectIdentifierRef, OctetStringRef, SequenceOf,
+    SetOf,
+};
 use std::alloc::Global;
 use std::cmp::Ordering;
 
@@ -97,4 +100,35 @@ fn iterators_of_values_are_compared_pair_by_pair(rt: HostRuntime) {
     same_at(&rt, 0, compare(&one, &two), Ok(Ordering::Less));
     same_at(&rt, 1, compare(&larger, &two), Ok(Ordering::Greater));
     same_at(&rt, 2, compare(&two, &two), Ok(Ordering::Equal));
+}
+
+// The numbers in the order of their encodings: fewer contents octets first, then octet by octet.
+#[test]
+fn tagged_numbers_ascend_as_encoded(rt: HostRuntime) {
+    let ascending = [0i64, 1, 127, -128, -1, 128, 256, -32768];
+    for (i, this) in ascending.iter().enumerate() {
+        for (j, that) in ascending.iter().enumerate() {
+            let (this, that) = (IntegerOf { number: *this }, IntegerOf { number: *that });
+            same_at(&rt, i, this.der_cmp(&that), Ok(i.cmp(&j)));
+            let (outer, other): (Explicit<_, 1>, Explicit<_, 1>) = (Explicit(this), Explicit(that));
+            same_at(&rt, i, outer.der_cmp(&other), Ok(i.cmp(&j)));
+            same_at(&rt, i, outer == other, i == j);
+            let (inner, other): (Implicit<_, 1>, Implicit<_, 1>) = (Implicit(this), Implicit(that));
+            same_at(&rt, i, inner.der_cmp(&other), Ok(i.cmp(&j)));
+            same_at(&rt, i, inner == other, i == j);
+        }
+    }
+}
+
+#[test]
+fn a_clone_of_arcs_goes_on_alone(rt: HostRuntime) {
+    let arcs = ObjectIdentifierRef::new(&[0x2A, 0x86, 0x48]).map(|it| it.arcs());
+    if let Some(mut arcs) = arcs {
+        same_at(&rt, 0, arcs.next(), Some(Some(1)));
+        if let Ok(mut clone) = arcs.clone() {
+            same_at(&rt, 1, clone.next(), Some(Some(2)));
+            same_at(&rt, 2, clone.next(), Some(Some(840)));
+        }
+        same_at(&rt, 3, arcs.next(), Some(Some(2)));
+    }
 }

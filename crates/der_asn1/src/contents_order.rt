@@ -52,7 +52,8 @@ impl<'a, T: Item> ValueOrd for SequenceOf<'a, T> {
 
     #[inline(always)]
     fn value_cmp(&self, other: &Self) -> Result<Ordering, Error> {
-        Ok(self.octets().cmp(other.octets()))
+        let (items, others) = (self.octets(), other.octets());
+        Ok(items.cmp(others))
     }
 }
 
@@ -66,7 +67,8 @@ impl<'a, T: Item> ValueOrd for SetOf<'a, T> {
 
     #[inline(always)]
     fn value_cmp(&self, other: &Self) -> Result<Ordering, Error> {
-        Ok(self.octets().cmp(other.octets()))
+        let (elements, others) = (self.octets(), other.octets());
+        Ok(elements.cmp(others))
     }
 }
 
@@ -79,8 +81,8 @@ impl<N: IntegerNumber> ValueOrd for IntegerOf<N> {
     ghost value_order = { octets_order (λ v. N.contents_of v.number) };
 
     fn value_cmp(&self, other: &Self) -> Result<Ordering, Error> {
-        let (contents, others) = (self.number.to_contents(), other.number.to_contents());
-        Ok(contents.as_slice().cmp(others.as_slice()))
+        let (integer, others) = (self.number.to_contents(), other.number.to_contents());
+        Ok(integer.as_slice().cmp(others.as_slice()))
     }
 }
 
@@ -107,9 +109,9 @@ impl<F: TimeFormat> ValueOrd for TimeOf<F> {
     ghost value_order = { octets_order (λ v. F.contents_of v.time) };
 
     fn value_cmp(&self, other: &Self) -> Result<Ordering, Error> {
-        let (time, others) = (self.date_time(), other.date_time());
-        let (contents, others) = (F::to_contents(&time), F::to_contents(&others));
-        Ok(contents.as_slice().cmp(others.as_slice()))
+        let (this, that) = (self.date_time(), other.date_time());
+        let (time, others) = (F::to_contents(&this), F::to_contents(&that));
+        Ok(time.as_slice().cmp(others.as_slice()))
     }
 }
 

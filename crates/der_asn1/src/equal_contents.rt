@@ -122,7 +122,8 @@ impl<'a, T: Item> PartialEq for SequenceOf<'a, T> {
     ghost laws = { equal_contents-partial (λ v. v.octets.now) };
 
     fn eq(&self, other: &Self) -> bool {
-        self.octets() == other.octets()
+        let (items, others) = (self.octets(), other.octets());
+        items == others
     }
 }
 
@@ -143,7 +144,8 @@ impl<'a, T: Item> PartialEq for SetOf<'a, T> {
     ghost laws = { equal_contents-partial (λ v. v.elements.octets.now) };
 
     fn eq(&self, other: &Self) -> bool {
-        self.octets() == other.octets()
+        let (elements, others) = (self.octets(), other.octets());
+        elements == others
     }
 }
 

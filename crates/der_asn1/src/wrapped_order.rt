@@ -41,7 +41,8 @@ impl<T: ValueOrd, const PRIVATE: bool> ValueOrd for InClass<T, PRIVATE> {
 
     #[inline(always)]
     fn value_cmp(&self, other: &Self) -> Result<Ordering, Error> {
-        self.0.value_cmp(&other.0)
+        let (wrapped, others) = (&self.0, &other.0);
+        wrapped.value_cmp(others)
     }
 }
 
@@ -89,6 +90,7 @@ impl<'a, const N: u32> ValueOrd for ExplicitAny<'a, N> {
 
     #[inline(always)]
     fn value_cmp(&self, other: &Self) -> Result<Ordering, Error> {
-        self.0.der_cmp(&other.0)
+        let (element, others) = (&self.0, &other.0);
+        element.der_cmp(others)
     }
 }

@@ -26,8 +26,8 @@ impl<T: fmt::Debug, const N: u32> fmt::Debug for Explicit<T, N> {
         (T.debug_output v.0) };
 
     fn fmt<W: fmt::Write>(&self, f: &mut fmt::Formatter<W>) -> fmt::Result {
-        let (tag, value) = (<Self as FixedTag>::fixed_tag(), &self.0);
-        write!(f, "{tag}({value:?})")
+        let (outer, value) = (<Self as FixedTag>::fixed_tag(), &self.0);
+        write!(f, "{outer}({value:?})")
     }
 }
 
@@ -38,8 +38,8 @@ impl<'a, const N: u32> fmt::Debug for ExplicitAny<'a, N> {
         (Some (value_text v.0.tag (any_contents v.0))) };
 
     fn fmt<W: fmt::Write>(&self, f: &mut fmt::Formatter<W>) -> fmt::Result {
-        let (tag, value) = (<Self as FixedTag>::fixed_tag(), &self.0);
-        write!(f, "{tag}({value:?})")
+        let (outer, element) = (<Self as FixedTag>::fixed_tag(), &self.0);
+        write!(f, "{outer}({element:?})")
     }
 }
 
@@ -62,8 +62,8 @@ impl<T: fmt::Debug + FixedTag, const PRIVATE: bool> fmt::Debug for InClass<T, PR
         (T.debug_output v.0) };
 
     fn fmt<W: fmt::Write>(&self, f: &mut fmt::Formatter<W>) -> fmt::Result {
-        let (tag, value) = (<Self as FixedTag>::fixed_tag(), &self.0);
-        write!(f, "{tag}({value:?})")
+        let (tag, wrapped) = (<Self as FixedTag>::fixed_tag(), &self.0);
+        write!(f, "{tag}({wrapped:?})")
     }
 }
 
@@ -85,7 +85,8 @@ impl<T: fmt::Debug> fmt::Debug for Optional<T> {
     ghost debug_output = { λ v. debug_option T.debug_output v.0 };
 
     fn fmt<W: fmt::Write>(&self, f: &mut fmt::Formatter<W>) -> fmt::Result {
-        fmt::Debug::fmt(&self.0, f)
+        let Optional(option) = self;
+        fmt::Debug::fmt(option, f)
     }
 }
 
