@@ -4,6 +4,7 @@
 mod alphabets;
 mod arcs;
 mod choices;
+mod comparisons;
 mod constants;
 mod default_values;
 mod defaults;
@@ -13,6 +14,7 @@ mod forms;
 mod lists;
 mod named_bits;
 mod numbers;
+mod printed;
 mod ranges;
 mod sets;
 mod tag_classes;

@@ -172,3 +172,40 @@ fn times_that_a_form_cannot_hold(rt: HostRuntime) {
     holds(&rt, GeneralizedTime::new(time(10000, 28)).is_none());
     holds(&rt, GeneralizedTime::new(time(1900, 29)).is_none());
 }
+
+// The day at midnight, the hour being `hour`.
+fn at(year: u16, month: u8, day: u8, hour: u8) -> DateTime {
+    DateTime {
+        year,
+        month,
+        day,
+        hour,
+        minute: 0,
+        second: 0,
+    }
+}
+
+// A certificate is expired if the time is later than the end of its validity.
+#[test]
+fn an_earlier_time_is_less(rt: HostRuntime) {
+    let noon = at(2024, 3, 1, 12);
+    let ascending = [
+        at(1999, 12, 31, 23),
+        at(2024, 1, 31, 23),
+        at(2024, 2, 29, 23),
+        at(2024, 3, 1, 0),
+        noon,
+        DateTime { second: 59, ..noon },
+        DateTime { minute: 1, ..noon },
+        at(2024, 3, 1, 13),
+        at(2024, 3, 2, 0),
+    ];
+    for (i, this) in ascending.iter().enumerate() {
+        for (j, that) in ascending.iter().enumerate() {
+            same_at(&rt, i, this.cmp(that), i.cmp(&j));
+            same_at(&rt, i, this.partial_cmp(that), Some(i.cmp(&j)));
+            same_at(&rt, i, this < that, i < j);
+            same_at(&rt, i, this == that, i == j);
+        }
+    }
+}

@@ -37,3 +37,4 @@ pub mod Alphabets
 pub mod ListAnswers
 pub mod Meaning
 pub mod TagClasses
+pub mod Printed

@@ -14,7 +14,7 @@ use std::alloc::Global;
 
 /// An element of any tag: its tag, and its contents borrowed from the input. Used for the type ANY
 /// of older ASN.1 modules, and for values of an open type.
-#[derive(Clone, Copy)]
+#[derive(Clone, Copy, PartialEq, Eq)]
 pub struct AnyRef<'a> {
     /// The tag of the element.
     pub tag: Tag,

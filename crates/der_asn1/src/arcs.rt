@@ -5,9 +5,10 @@ ghost use Rattle.der_asn1.specs.Forms.{ends_subidentifiers};
 use crate::checked::Checked;
 use crate::object_identifier::ObjectIdentifierGrammar;
 use crate::subidentifier::{first_arc_of, first_subidentifier, second_arc_of};
+use std::alloc::AllocError;
 
 // Which arc is next.
-#[derive(Clone, Copy)]
+#[derive(Clone, Copy, Debug)]
 enum Stage {
     First,
     Second,
@@ -16,11 +17,27 @@ enum Stage {
 
 /// An iterator over the arcs of an OBJECT IDENTIFIER. The arcs are the numbers that make up the
 /// OBJECT IDENTIFIER, such as 1, 2 and 840 of `1.2.840`.
-#[derive(Drop)]
+#[derive(Debug, Drop)]
 pub struct Arcs<'a> {
     octets: &'a [u8],
     stage: Stage,
     ghost grammar: { ends_subidentifiers true octets.now ≡ true },
+}
+
+/// A clone has the same arcs left; cloning does not allocate.
+impl<'a> Clone for Arcs<'a> {
+    ghost use Rattle.std.specs.Prelude.{⊤};
+
+    ghost is_clone = { λ p q. (q.octets.now ≡ p.octets.now) × (q.stage ≡ p.stage) };
+
+    ghost is_infallible = { λ _. ⊤ };
+
+    fn clone(&self) -> Result<Self, AllocError> {
+        Ok(Arcs {
+            octets: self.octets,
+            stage: self.stage,
+        })
+    }
 }
 
 impl<'a> Checked<'a, ObjectIdentifierGrammar> {

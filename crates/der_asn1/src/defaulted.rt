@@ -44,7 +44,7 @@ fn is_written_default<R: Reader, T: HasDefault<R>>(rules: EncodingRules, value: 
 
 /// A DEFAULT field. If its value is the default, DER requires that the field is absent (X.690
 /// 11.5); BER also allows that the default is encoded (8.9.3).
-#[derive(Drop)]
+#[derive(Clone, Copy, Drop, PartialEq, Eq)]
 pub struct Defaulted<T>(pub T);
 
 /// Decodes a value of `T`, or returns the default value without moving the reader if the field is

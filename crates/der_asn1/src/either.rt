@@ -12,7 +12,7 @@ use std::alloc::Global;
 
 /// A CHOICE of two types, decided by the next tag (X.690 8.13). For more alternatives, nest
 /// choices.
-#[derive(Clone, Copy, Drop)]
+#[derive(Clone, Copy, Drop, PartialEq, Eq)]
 pub enum Either<A, B> {
     /// A value of the first type, whose tags are tried first.
     First(A),

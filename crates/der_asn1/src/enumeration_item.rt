@@ -10,7 +10,7 @@ use crate::integer_octets::IntegerOctets;
 use crate::integer_of::IntegerOf;
 
 /// An item of an enumeration, as the number that an INTEGER or an ENUMERATED encodes.
-#[derive(Clone, Copy)]
+#[derive(Clone, Copy, Debug, PartialEq, Eq)]
 pub struct EnumerationItem<E: Enumeration>(pub E);
 
 /// An ENUMERATED as an item of the enumeration `E` (X.680 20). Reading refuses a number that no item
@@ -42,7 +42,9 @@ impl<E: Enumeration> EnumeratedOf<EnumerationItem<E>> {
     pub fn new(item: E) -> Self
         ensures { result.number.0 ≡ item }
     {
-        EnumeratedOf { number: EnumerationItem(item) }
+        EnumeratedOf {
+            number: EnumerationItem(item),
+        }
     }
 
     /// The item that the ENUMERATED encodes.
@@ -58,7 +60,9 @@ impl<E: Enumeration> IntegerOf<EnumerationItem<E>> {
     pub fn new(item: E) -> Self
         ensures { result.number.0 ≡ item }
     {
-        IntegerOf { number: EnumerationItem(item) }
+        IntegerOf {
+            number: EnumerationItem(item),
+        }
     }
 
     /// The item that the INTEGER encodes.

@@ -9,6 +9,9 @@ use crate::enumerated_of::EnumeratedOf;
 use crate::grammar::ContentsGrammar;
 use crate::integer_number::IntegerNumber;
 use crate::integer_of::IntegerOf;
+use crate::item::Item;
+use crate::sequence_of::SequenceOf;
+use crate::set_of::SetOf;
 use crate::time_format::TimeFormat;
 use crate::time_of::TimeOf;
 use der::{ReadValue, WrittenValue};
@@ -110,4 +113,48 @@ impl<F: TimeFormat> EqualContents for TimeOf<F> {
     ghost by_contents = { λ v w. refl };
 
     ghost one_contents = { λ v w rules h octets one two. one.1 ∙ sym two.1 };
+}
+
+/// Lists are equal if their contents octets are the same; then they have the same items.
+impl<'a, T: Item> PartialEq for SequenceOf<'a, T> {
+    ghost eq = { equal_contents (λ v. v.octets.now) };
+
+    ghost laws = { equal_contents-partial (λ v. v.octets.now) };
+
+    fn eq(&self, other: &Self) -> bool {
+        let (items, others) = (self.octets(), other.octets());
+        items == others
+    }
+}
+
+impl<'a, T: Item> Eq for SequenceOf<'a, T> {
+    ghost laws = { equal_contents-equivalence (λ v. v.octets.now) };
+}
+
+impl<'a, T: Item> EqualContents for SequenceOf<'a, T> {
+    ghost by_contents = { λ v w. refl };
+
+    ghost one_contents = { λ v w rules h octets one two. one.2 ∙ sym two.2 };
+}
+
+/// Sets are equal if their contents octets are the same; then they have the same items.
+impl<'a, T: Item> PartialEq for SetOf<'a, T> {
+    ghost eq = { equal_contents (λ v. v.elements.octets.now) };
+
+    ghost laws = { equal_contents-partial (λ v. v.elements.octets.now) };
+
+    fn eq(&self, other: &Self) -> bool {
+        let (elements, others) = (self.octets(), other.octets());
+        elements == others
+    }
+}
+
+impl<'a, T: Item> Eq for SetOf<'a, T> {
+    ghost laws = { equal_contents-equivalence (λ v. v.elements.octets.now) };
+}
+
+impl<'a, T: Item> EqualContents for SetOf<'a, T> {
+    ghost by_contents = { λ v w. refl };
+
+    ghost one_contents = { λ v w rules h octets one two. one.2 ∙ sym two.2 };
 }

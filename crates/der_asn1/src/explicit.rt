@@ -27,7 +27,7 @@ pub trait Nestable: ReadValue {
 
 /// A value that is encoded inside another element (X.690 8.14.2). The outer element has the
 /// context-specific tag number `N`; its contents are the element of the value.
-#[derive(Clone, Copy, Drop)]
+#[derive(Clone, Copy, Drop, PartialEq, Eq)]
 pub struct Explicit<T, const N: u32>(pub T);
 
 impl<T, const N: u32> FixedTag for Explicit<T, N> {

@@ -14,14 +14,14 @@ use crate::described::Described;
 use crate::item::{DecodeItem, Item};
 use crate::iter::BorrowedItem;
 use der::{
-    DecodeValue, Encode, EncodeValue, Error, FixedTag, FromFields, Header, Lawful, Length, ReadValue,
-    Reader, Tag, TagNumber, Writer, WrittenValue, decode_sequence,
+    DecodeValue, Encode, EncodeValue, Error, FixedTag, FromFields, Header, Lawful, Length,
+    ReadValue, Reader, Tag, TagNumber, Writer, WrittenValue, decode_sequence,
 };
 use std::alloc::Global;
 
 /// An element of any tag that is encoded inside another element (X.690 8.14.2). The outer element
 /// has the context-specific tag number `N`; its contents are the element.
-#[derive(Clone, Copy, Drop)]
+#[derive(Clone, Copy, Drop, PartialEq, Eq)]
 pub struct ExplicitAny<'a, const N: u32>(pub AnyRef<'a>);
 
 impl<'a, const N: u32> FromFields<AnyRef<'a>> for ExplicitAny<'a, N> {

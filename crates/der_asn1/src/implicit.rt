@@ -17,7 +17,7 @@ use std::alloc::Global;
 
 /// A value whose own tag is replaced by the context-specific tag with the number `N` (X.690
 /// 8.14.3). The new tag is constructed if and only if the value's own tag is constructed.
-#[derive(Clone, Copy, Drop)]
+#[derive(Clone, Copy, Drop, PartialEq, Eq)]
 pub struct Implicit<T, const N: u32>(pub T);
 
 impl<T: FixedTag, const N: u32> FixedTag for Implicit<T, N> {

@@ -19,7 +19,7 @@ use std::alloc::Global;
 /// A value whose tag has the class private if `PRIVATE`, or else application, in place of its own
 /// class (X.690 8.1.2.2). The number stays, and the tag is constructed if and only if the value's own
 /// tag is constructed. See [`Application`] and [`Private`].
-#[derive(Clone, Copy, Drop)]
+#[derive(Clone, Copy, Drop, PartialEq, Eq)]
 pub struct InClass<T, const PRIVATE: bool>(pub T);
 
 /// A value whose tag has the class application in place of its own class: `[APPLICATION 5] IMPLICIT T`

@@ -8,7 +8,7 @@ use crate::integer_octets::IntegerOctets;
 use crate::integer_of::IntegerOf;
 
 /// A number from `MIN` to `MAX`, both included.
-#[derive(Clone, Copy)]
+#[derive(Clone, Copy, Debug, PartialEq, Eq)]
 pub struct InRange<const MIN: u64, const MAX: u64> {
     number: u64,
     ghost within: { IsWithin MIN MAX number },

@@ -7,7 +7,7 @@ ghost use Rattle.der_asn1.specs.SequenceOf.{IsAtItem, IsListOf};
 use crate::item::{DecodeItem, Item};
 use crate::item_walk::next_item;
 use der::{Decode, Reader, ReaderExt, SliceReader};
-use std::alloc::Global;
+use std::alloc::{AllocError, Global};
 use std::marker::PhantomData;
 
 /// A walk over the items of a SEQUENCE OF or a SET OF. The type [`Iter`](crate::Iter) is an
@@ -18,6 +18,22 @@ pub struct Items<'a, T: Item> {
     of: PhantomData<T>,
     ghost at: { IsAtItem (slice_state reader) },
     ghost left: { ∥ IsListOf T.item.valid T.item.octets (rest_of (slice_state reader)) ∥₁ },
+}
+
+/// A clone has the same items left; cloning does not allocate.
+impl<'a, T: Item> Clone for Items<'a, T> {
+    ghost use Rattle.std.specs.Prelude.{⊤};
+
+    ghost is_clone = { λ p q. slice_state q.reader ≡ slice_state p.reader };
+
+    ghost is_infallible = { λ _. ⊤ };
+
+    fn clone(&self) -> Result<Self, AllocError> {
+        Ok(Items {
+            reader: self.reader.fork(),
+            of: PhantomData,
+        })
+    }
 }
 
 impl<'a, T: Item> Items<'a, T> {

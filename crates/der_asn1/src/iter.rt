@@ -7,7 +7,7 @@ ghost use Rattle.der_asn1.specs.Items.{GivesItem};
 use crate::item::{DecodeItem, Item};
 use crate::items::Items;
 use der::SliceReader;
-use std::alloc::Global;
+use std::alloc::{AllocError, Global};
 
 /// Items that are decoded without allocating.
 ///
@@ -23,6 +23,22 @@ pub trait BorrowedItem: Item {
 pub struct Iter<'a, T: Item> {
     items: Items<'a, T>,
     alloc: Global,
+}
+
+/// A clone has the same items left; cloning does not allocate.
+impl<'a, T: Item> Clone for Iter<'a, T> {
+    ghost use Rattle.std.specs.Prelude.{⊤};
+
+    ghost is_clone = { λ p q. slice_state q.items.reader ≡ slice_state p.items.reader };
+
+    ghost is_infallible = { λ _. ⊤ };
+
+    fn clone(&self) -> Result<Self, AllocError> {
+        Ok(Iter {
+            items: self.items.clone()?,
+            alloc: self.alloc,
+        })
+    }
 }
 
 impl<'a, T: Item> Iter<'a, T> {

@@ -10,7 +10,7 @@ use std::alloc::Global;
 
 /// An OPTIONAL field (X.690 8.9.3): a value, or `None` if the field is absent. Decoding takes the
 /// field as absent if no octets are left, or if no value of `T` may begin with the next tag.
-#[derive(Clone, Copy, Drop)]
+#[derive(Clone, Copy, Drop, PartialEq, Eq)]
 pub struct Optional<T>(pub Option<T>);
 
 /// Decodes a value of `T`, or returns `None` without moving the reader if the field is absent.

@@ -48,6 +48,25 @@ impl<T: Copy, D> Clone for WithDefault<T, D> {
 
 impl<T: Copy, D> Copy for WithDefault<T, D> {}
 
+/// Values are equal if the values of `T` are.
+impl<T: PartialEq + Copy, D> PartialEq for WithDefault<T, D> {
+    ghost use Rattle.std.specs.Cmp.{on_per};
+
+    ghost eq = { λ v w. T.eq v.value w.value };
+
+    ghost laws = { on_per (λ v. v.value) T.laws };
+
+    fn eq(&self, other: &Self) -> bool {
+        self.value == other.value
+    }
+}
+
+impl<T: Eq + Copy, D> Eq for WithDefault<T, D> {
+    ghost use Rattle.std.specs.Cmp.{on_equiv};
+
+    ghost laws = { on_equiv (λ v. v.value) T.Eq.laws };
+}
+
 impl<T: Copy, D> WithDefault<T, D> {
     /// Wraps the value.
     #[inline(always)]
