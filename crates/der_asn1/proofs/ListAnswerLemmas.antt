@@ -1,5 +1,5 @@
 -- Lemmas on reading lists, from the results of their elements.
-use Rattle.std.proofs.Common.{◌+◌, ◌-◌, ◌<◌, ◌≤◌, ◌^◌, ◌∙◌, inl, inr, Bool, true, false, not, nat_le, leb-true, if◌then◌else◌, take, drop, length, length-take, refl, sym, ap, arith, ◌≡◌, Result, Ok, Err, IfOk, subst, List, ℕ, [], ◌++◌}
+use Rattle.std.proofs.Common.{◌+◌, ◌<◌, ◌≤◌, ◌^◌, ◌∙◌, inl, inr, Bool, true, false, not, nat_le, leb-true, if◌then◌else◌, take, length, length-take, refl, sym, ap, arith, ◌≡◌, Result, Ok, Err, IfOk, subst, List, ℕ, [], ◌++◌}
 use Rattle.der.specs.Prelude.{Head, Length, Error, EncodingRules, Der, Ber, ReaderState, rest_of, IsBefore}
 use Rattle.der.specs.Prelude.{Gives, read_slice_outcome, number, definite_length, map_ok}
 use Rattle.der.specs.Decode.{SucceedsOrLacks}

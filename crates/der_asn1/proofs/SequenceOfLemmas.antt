@@ -1,5 +1,5 @@
 -- Lemmas on reading items in sequence.
-use Rattle.std.proofs.Common.{◌≡◌, ℕ, ◌+◌, ◌-◌, ◌<◌, ◌≤◌, Bool, true, false, Ok, Err, inl, inr, List, [], ◌∷◌, ◌++◌, length, refl, sym, ap, subst, ◌∙◌, nat_le, take, arith}
+use Rattle.std.proofs.Common.{◌≡◌, ℕ, ◌+◌, ◌<◌, ◌≤◌, Bool, true, false, Ok, Err, inl, inr, List, [], ◌∷◌, ◌++◌, length, refl, sym, ap, subst, ◌∙◌, nat_le, take, arith}
 use Rattle.std.proofs.lemmas.Grind.{not_there}
 use Rattle.std.proofs.lemmas.List.{take_all}
 use Rattle.der.specs.Outcome.{Gives}
@@ -7,10 +7,10 @@ use Rattle.der.specs.Reader.{read_slice_outcome}
 use Rattle.der.specs.Prelude.{Tag, EncodingRules, Der}
 use Rattle.der.specs.Decode.{Passes, ReadsOrLacks, SucceedsOrLacks}
 use Rattle.der.specs.Encode.{element_octets}
-use Rattle.der.specs.ReaderState.{ReaderState, rest_of, advanced_state, initial_state, IsSound, Reads}
+use Rattle.der.specs.ReaderState.{ReaderState, rest_of, initial_state, IsSound, Reads}
 use Rattle.der.proofs.DecodeLemmas.{lacks_only, read_on, rest-beginning}
 use Rattle.der.specs.LawfulLemmas.{passed_encodings}
-use Rattle.der.proofs.StateLemmas.{length-rest, rest_after}
+use Rattle.der.proofs.StateLemmas.{length-rest}
 use Rattle.der.specs.SliceReader.{slice_state}
 use Rattle.der.specs.Prelude.{SliceReader}
 use Rattle.der.proofs.DelimitedLemmas.{element_front, elements_delimited}

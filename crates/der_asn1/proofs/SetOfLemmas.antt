@@ -3,7 +3,7 @@ use Rattle.std.proofs.Common.{◌≡◌, ◌≤◌, ◌+◌, take, drop, length-
 use Rattle.std.proofs.lemmas.List.{drop_at, take_all, take_at}
 use Rattle.der.specs.ReaderState.{IsSound}
 use Rattle.der.proofs.StateLemmas.{length-rest}
-use Rattle.der.specs.Prelude.{Error, element_octets, IsBefore, ReaderState, rest_of, Reads}
+use Rattle.der.specs.Prelude.{element_octets, IsBefore, ReaderState, rest_of, Reads}
 use Rattle.der.proofs.DelimitedLemmas.{elements_delimited}
 use Rattle.der_asn1.specs.SequenceOf.{IsAtItem, AllValid, joined_encodings}
 use Rattle.der_asn1.specs.Item.{IsElement}

@@ -14,8 +14,8 @@ use crate::name::Name;
 use crate::other_name::OtherName;
 use der::{Decode, Encode, Error, FromFields, Length, Reader, SliceReader, Tag, Writer};
 use der_asn1::{
-    BorrowedItem, Choice, DecodeItem, DescribedChoice, Either, Explicit, Ia5StringRef,
-    Implicit, Item, ObjectIdentifierRef, OctetStringRef, SequenceOf, SequenceRef, decode_choice,
+    BorrowedItem, Choice, DecodeItem, DescribedChoice, Either, Explicit, Ia5StringRef, Implicit,
+    Item, ObjectIdentifierRef, OctetStringRef, SequenceOf, SequenceRef, decode_choice,
 };
 use std::alloc::Global;
 
@@ -49,52 +49,94 @@ pub type GeneralNames<'a> = SequenceOf<'a, GeneralName<'a>>;
 type Parts<'a> = Either<GeneralNamePart1<'a>, Either<GeneralNamePart2<'a>, GeneralNamePart3<'a>>>;
 
 impl<'a> FromFields<Parts<'a>> for GeneralName<'a> {
-    ghost fields = { elim [ name.OtherName v ↦ First ((record { choice = First v })) |
-        name.Rfc822Name v ↦ First ((record { choice = Second (First v) })) | name.DnsName v ↦
-        First ((record { choice = Second (Second v) })) | name.X400Address v ↦ Second (First
-        ((record { choice = First v }))) | name.DirectoryName v ↦ Second (First ((record { choice
-        = Second (First v) }))) | name.EdiPartyName v ↦ Second (First ((record { choice = Second
-        (Second v) }))) | name.UniformResourceIdentifier v ↦ Second (Second ((record { choice =
-        First v }))) | name.IpAddress v ↦ Second (Second ((record { choice = Second (First v) })))
-        | name.RegisteredId v ↦ Second (Second ((record { choice = Second (Second v) }))) ] };
+    ghost fields = { elim [
+      | name.OtherName v ↦ First ((record { choice = First v }))
+      | name.Rfc822Name v ↦ First ((record { choice = Second (First v) }))
+      | name.DnsName v ↦
+          First ((record { choice = Second (Second v) }))
+      | name.X400Address v ↦ Second (First
+          ((record { choice = First v })))
+      | name.DirectoryName v ↦ Second (First ((record {
+        choice
+            = Second (First v);
+      })))
+      | name.EdiPartyName v ↦ Second (First ((record {
+        choice = Second
+            (Second v);
+      })))
+      | name.UniformResourceIdentifier v ↦ Second (Second ((record {
+        choice =
+            First v;
+      })))
+      | name.IpAddress v ↦ Second (Second ((record { choice = Second (First v) })))
+      | name.RegisteredId v ↦ Second (Second ((record { choice = Second (Second v) })))
+    ] };
 
     fn from_fields(parts: Parts<'a>) -> Self {
         match parts {
-            Either::First(GeneralNamePart1 { choice: Either::First(name) }) => {
-                GeneralName::OtherName(name)
-            }
-            Either::First(GeneralNamePart1 { choice: Either::Second(Either::First(name)) }) => {
-                GeneralName::Rfc822Name(name)
-            }
-            Either::First(GeneralNamePart1 { choice: Either::Second(Either::Second(name)) }) => {
-                GeneralName::DnsName(name)
-            }
-            Either::Second(Either::First(GeneralNamePart2 { choice: Either::First(name) })) => {
-                GeneralName::X400Address(name)
-            }
-            Either::Second(Either::First(GeneralNamePart2 { choice: Either::Second(Either::First(name)) })) => {
-                GeneralName::DirectoryName(name)
-            }
-            Either::Second(Either::First(GeneralNamePart2 { choice: Either::Second(Either::Second(name)) })) => {
-                GeneralName::EdiPartyName(name)
-            }
-            Either::Second(Either::Second(GeneralNamePart3 { choice: Either::First(name) })) => {
-                GeneralName::UniformResourceIdentifier(name)
-            }
-            Either::Second(Either::Second(GeneralNamePart3 { choice: Either::Second(Either::First(name)) })) => {
-                GeneralName::IpAddress(name)
-            }
-            Either::Second(Either::Second(GeneralNamePart3 { choice: Either::Second(Either::Second(name)) })) => {
-                GeneralName::RegisteredId(name)
-            }
+            Either::First(
+                GeneralNamePart1 {
+                    choice: Either::First(name),
+                },
+            ) => { GeneralName::OtherName(name) }
+            Either::First(
+                GeneralNamePart1 {
+                    choice: Either::Second(Either::First(name)),
+                },
+            ) => { GeneralName::Rfc822Name(name) }
+            Either::First(
+                GeneralNamePart1 {
+                    choice: Either::Second(Either::Second(name)),
+                },
+            ) => { GeneralName::DnsName(name) }
+            Either::Second(
+                Either::First(
+                    GeneralNamePart2 {
+                        choice: Either::First(name),
+                    },
+                ),
+            ) => { GeneralName::X400Address(name) }
+            Either::Second(
+                Either::First(
+                    GeneralNamePart2 {
+                        choice: Either::Second(Either::First(name)),
+                    },
+                ),
+            ) => { GeneralName::DirectoryName(name) }
+            Either::Second(
+                Either::First(
+                    GeneralNamePart2 {
+                        choice: Either::Second(Either::Second(name)),
+                    },
+                ),
+            ) => { GeneralName::EdiPartyName(name) }
+            Either::Second(
+                Either::Second(
+                    GeneralNamePart3 {
+                        choice: Either::First(name),
+                    },
+                ),
+            ) => { GeneralName::UniformResourceIdentifier(name) }
+            Either::Second(
+                Either::Second(
+                    GeneralNamePart3 {
+                        choice: Either::Second(Either::First(name)),
+                    },
+                ),
+            ) => { GeneralName::IpAddress(name) }
+            Either::Second(
+                Either::Second(
+                    GeneralNamePart3 {
+                        choice: Either::Second(Either::Second(name)),
+                    },
+                ),
+            ) => { GeneralName::RegisteredId(name) }
         }
     }
 }
 
 impl<'a> DescribedChoice for GeneralName<'a> {
-    ghost alternative = { choice_of (either ⟦<GeneralNamePart1<'a> as
-        DescribedChoice>⟧.alternative (either ⟦<GeneralNamePart2<'a> as
-        DescribedChoice>⟧.alternative ⟦<GeneralNamePart3<'a> as DescribedChoice>⟧.alternative))
+    ghost alternative = { choice_of (either ⟦<GeneralNamePart1<'a> as DescribedChoice>⟧.alternative (either ⟦<GeneralNamePart2<'a> as DescribedChoice>⟧.alternative ⟦<GeneralNamePart3<'a> as DescribedChoice>⟧.alternative))
         ⟦<GeneralName<'a> as FromFields<Parts<'a>>>⟧.fields };
 }
 

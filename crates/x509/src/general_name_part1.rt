@@ -6,9 +6,7 @@ ghost use Rattle.der_asn1.specs.Meaning.{alternative, choice_of, either};
 use crate::name::Name;
 use crate::other_name::OtherName;
 use der::{Decode, Encode, Error, FromFields, Length, Reader, SliceReader, Tag, Writer};
-use der_asn1::{
-    Choice, Described, DescribedChoice, Either, Ia5StringRef, Implicit, decode_choice,
-};
+use der_asn1::{Choice, Described, DescribedChoice, Either, Ia5StringRef, Implicit, decode_choice};
 use std::alloc::Global;
 
 // A name with a tag from [0] to [2].
@@ -18,8 +16,10 @@ pub(crate) struct GeneralNamePart1<'a> {
 }
 
 // The alternatives, as nested choices of two.
-pub(crate) type Choice1<'a> = Either<Implicit<OtherName<'a>, 0>, Either<Implicit<Ia5StringRef<'a>,
-    1>, Implicit<Ia5StringRef<'a>, 2>>>;
+pub(crate) type Choice1<'a> = Either<
+    Implicit<OtherName<'a>, 0>,
+    Either<Implicit<Ia5StringRef<'a>, 1>, Implicit<Ia5StringRef<'a>, 2>>,
+>;
 
 impl<'a> FromFields<Choice1<'a>> for GeneralNamePart1<'a> {
     ghost fields = { λ v. v.choice };
@@ -30,10 +30,7 @@ impl<'a> FromFields<Choice1<'a>> for GeneralNamePart1<'a> {
 }
 
 impl<'a> DescribedChoice for GeneralNamePart1<'a> {
-    ghost alternative = { choice_of (either (alternative ⟦<Implicit<OtherName<'a>, 0> as
-        Described>⟧.element) (either (alternative ⟦<Implicit<Ia5StringRef<'a>, 1> as
-        Described>⟧.element) (alternative ⟦<Implicit<Ia5StringRef<'a>, 2> as
-        Described>⟧.element))) (λ v. v.choice) };
+    ghost alternative = { choice_of (either (alternative ⟦<Implicit<OtherName<'a>, 0> as Described>⟧.element) (either (alternative ⟦<Implicit<Ia5StringRef<'a>, 1> as Described>⟧.element) (alternative ⟦<Implicit<Ia5StringRef<'a>, 2> as Described>⟧.element))) (λ v. v.choice) };
 }
 
 impl<'a, R: Reader<Borrowed = &'a [u8]>> Decode<R> for GeneralNamePart1<'a> {

@@ -17,8 +17,10 @@ pub(crate) struct GeneralNamePart2<'a> {
 }
 
 // The alternatives, as nested choices of two.
-pub(crate) type Choice2<'a> = Either<Implicit<SequenceRef<'a>, 3>, Either<Explicit<Name<'a>, 4>,
-    Implicit<SequenceRef<'a>, 5>>>;
+pub(crate) type Choice2<'a> = Either<
+    Implicit<SequenceRef<'a>, 3>,
+    Either<Explicit<Name<'a>, 4>, Implicit<SequenceRef<'a>, 5>>,
+>;
 
 impl<'a> FromFields<Choice2<'a>> for GeneralNamePart2<'a> {
     ghost fields = { λ v. v.choice };
@@ -29,8 +31,7 @@ impl<'a> FromFields<Choice2<'a>> for GeneralNamePart2<'a> {
 }
 
 impl<'a> DescribedChoice for GeneralNamePart2<'a> {
-    ghost alternative = { choice_of (either (alternative ⟦<Implicit<SequenceRef<'a>, 3> as
-        Described>⟧.element) (either (alternative ⟦<Explicit<Name<'a>, 4> as Described>⟧.element)
+    ghost alternative = { choice_of (either (alternative ⟦<Implicit<SequenceRef<'a>, 3> as Described>⟧.element) (either (alternative ⟦<Explicit<Name<'a>, 4> as Described>⟧.element)
         (alternative ⟦<Implicit<SequenceRef<'a>, 5> as Described>⟧.element))) (λ v. v.choice) };
 }
 

@@ -5,7 +5,8 @@ ghost use Rattle.der_asn1.specs.Meaning.{alternative, choice_of, either};
 
 use der::{Decode, Encode, Error, FromFields, Length, Reader, SliceReader, Tag, Writer};
 use der_asn1::{
-    Choice, Described, DescribedChoice, Either, Ia5StringRef, Implicit, ObjectIdentifierRef, OctetStringRef, decode_choice,
+    Choice, Described, DescribedChoice, Either, Ia5StringRef, Implicit, ObjectIdentifierRef,
+    OctetStringRef, decode_choice,
 };
 use std::alloc::Global;
 
@@ -16,8 +17,10 @@ pub(crate) struct GeneralNamePart3<'a> {
 }
 
 // The alternatives, as nested choices of two.
-pub(crate) type Choice3<'a> = Either<Implicit<Ia5StringRef<'a>, 6>,
-    Either<Implicit<OctetStringRef<'a>, 7>, Implicit<ObjectIdentifierRef<'a>, 8>>>;
+pub(crate) type Choice3<'a> = Either<
+    Implicit<Ia5StringRef<'a>, 6>,
+    Either<Implicit<OctetStringRef<'a>, 7>, Implicit<ObjectIdentifierRef<'a>, 8>>,
+>;
 
 impl<'a> FromFields<Choice3<'a>> for GeneralNamePart3<'a> {
     ghost fields = { λ v. v.choice };
@@ -28,10 +31,7 @@ impl<'a> FromFields<Choice3<'a>> for GeneralNamePart3<'a> {
 }
 
 impl<'a> DescribedChoice for GeneralNamePart3<'a> {
-    ghost alternative = { choice_of (either (alternative ⟦<Implicit<Ia5StringRef<'a>, 6> as
-        Described>⟧.element) (either (alternative ⟦<Implicit<OctetStringRef<'a>, 7> as
-        Described>⟧.element) (alternative ⟦<Implicit<ObjectIdentifierRef<'a>, 8> as
-        Described>⟧.element))) (λ v. v.choice) };
+    ghost alternative = { choice_of (either (alternative ⟦<Implicit<Ia5StringRef<'a>, 6> as Described>⟧.element) (either (alternative ⟦<Implicit<OctetStringRef<'a>, 7> as Described>⟧.element) (alternative ⟦<Implicit<ObjectIdentifierRef<'a>, 8> as Described>⟧.element))) (λ v. v.choice) };
 }
 
 impl<'a, R: Reader<Borrowed = &'a [u8]>> Decode<R> for GeneralNamePart3<'a> {

@@ -5,7 +5,9 @@ ghost use Rattle.der_asn1.specs.Meaning.{alternative, choice_of, either};
 ghost use Rattle.der_asn1.specs.declared.either.Either.TheVariants.{First, Second};
 ghost use Rattle.x509.specs.declared.time.Time.TheVariants as time;
 
-use der::{Decode, DecodeValue, Encode, Error, FromFields, Length, Reader, SliceReader, Tag, Writer};
+use der::{
+    Decode, DecodeValue, Encode, Error, FromFields, Length, Reader, SliceReader, Tag, Writer,
+};
 use der_asn1::{
     Choice, Described, DescribedChoice, Either, GeneralizedTime, UtcTime, decode_choice,
 };

@@ -1,7 +1,7 @@
 use Rattle.std.proofs.Common.{Ok, Err, refl}
 use Rattle.std.proofs.lemmas.Result.{err_from_is_err_and}
 use Rattle.der_asn1.specs.ListAnswers.{WalkAnswer}
-use Rattle.der_asn1.proofs.SequenceOfLemmas.{begins_walking, item_progresses, iterating_continues}
+use Rattle.der_asn1.proofs.SequenceOfLemmas.{begins_walking, iterating_continues}
 use Rattle.der_asn1.proofs.ListAnswerLemmas.{whole_begins, whole_on}
 use Rattle.der_asn1.proofs.item_walk.read_items.Goals as goal
 

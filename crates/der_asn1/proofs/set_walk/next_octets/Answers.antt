@@ -1,5 +1,4 @@
 use Rattle.std.proofs.lemmas.Result.{err_from_is_err_and}
-use Rattle.der_asn1.proofs.SetOfLemmas.{left_within, read_front}
 use Rattle.der_asn1.proofs.set_walk.next_octets.Goals as goal
 
 pub returns-in_err-_item-clause-exact : goal.returns-in_err-_item-clause-exact
