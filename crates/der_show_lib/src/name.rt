@@ -9,11 +9,13 @@ use x509::{AttributeTypeAndValue, Name, RelativeDistinguishedName};
 /// Writes a distinguished name: its relative distinguished names, the most significant first,
 /// separated by commas.
 pub fn write_name(alloc: Global, text: &mut String, name: &Name<'_>) -> Result<(), AllocError> {
-    let mut separator = "";
+    let mut is_first = true;
     for level in name.levels.iter(alloc) {
-        text.push_str(separator)?;
+        if !is_first {
+            text.push_str(", ")?;
+        }
         write_level(alloc, text, &level)?;
-        separator = ", ";
+        is_first = false;
     }
     Ok(())
 }
@@ -23,11 +25,13 @@ fn write_level(
     text: &mut String,
     level: &RelativeDistinguishedName<'_>,
 ) -> Result<(), AllocError> {
-    let mut separator = "";
+    let mut is_first = true;
     for attribute in level.attributes.iter(alloc) {
-        text.push_str(separator)?;
+        if !is_first {
+            text.push_str(" + ")?;
+        }
         write_attribute(text, &attribute)?;
-        separator = " + ";
+        is_first = false;
     }
     Ok(())
 }
