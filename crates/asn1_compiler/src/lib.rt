@@ -1,0 +1,43 @@
+//! An ASN.1 compiler: reads a module in the notation of X.680, checks it, and writes the types of
+//! Rust that read and write its values.
+#![tactic(auto)]
+
+mod component;
+mod constraint;
+mod endpoint;
+mod failure;
+mod item;
+mod item_kind;
+mod items;
+mod module;
+mod named_number;
+mod octet_class;
+mod parser;
+mod position;
+mod refusal;
+mod scan;
+mod simple_type;
+mod tag;
+mod tag_class;
+mod tagging;
+mod type_node;
+mod value;
+
+pub use component::{Component, Presence};
+pub use constraint::Constraint;
+pub use endpoint::Endpoint;
+pub use failure::Failure;
+pub use item::Item;
+pub use item_kind::ItemKind;
+pub use items::items_of;
+pub use module::{Import, Module, TypeAssignment, ValueAssignment};
+pub use named_number::NamedNumber;
+pub use parser::parse_module;
+pub use position::Position;
+pub use refusal::Refusal;
+pub use simple_type::SimpleType;
+pub use tag::{Tag, TagPrefix};
+pub use tag_class::TagClass;
+pub use tagging::{TagDefault, Tagging};
+pub use type_node::{TypeForm, TypeNode};
+pub use value::{Value, ValueForm};
