@@ -1,2 +1,3 @@
-pub mod Position
 pub mod Lexical
+pub mod Position
+pub mod TagSet

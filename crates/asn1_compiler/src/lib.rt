@@ -2,6 +2,7 @@
 //! Rust that read and write its values.
 #![tactic(auto)]
 
+mod checks;
 mod component;
 mod constraint;
 mod endpoint;
@@ -19,10 +20,12 @@ mod scan;
 mod simple_type;
 mod tag;
 mod tag_class;
+mod tag_set;
 mod tagging;
 mod type_node;
 mod value;
 
+pub use checks::{Checks, check_module};
 pub use component::{Component, Presence};
 pub use constraint::Constraint;
 pub use endpoint::Endpoint;
@@ -38,6 +41,7 @@ pub use refusal::Refusal;
 pub use simple_type::SimpleType;
 pub use tag::{Tag, TagPrefix};
 pub use tag_class::TagClass;
+pub use tag_set::TagSet;
 pub use tagging::{TagDefault, Tagging};
 pub use type_node::{TypeForm, TypeNode};
 pub use value::{Value, ValueForm};
