@@ -16,6 +16,7 @@ mod octet_class;
 mod parser;
 mod position;
 mod refusal;
+mod reserved;
 mod scan;
 mod simple_type;
 mod tag;

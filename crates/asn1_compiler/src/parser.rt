@@ -12,7 +12,10 @@ use crate::item_kind::ItemKind;
 use crate::items::items_of;
 use crate::module::{Module, TypeAssignment, ValueAssignment};
 use crate::refusal::Refusal;
+use crate::reserved::is_reserved;
+use crate::simple_type::SimpleType;
 use crate::type_node::TypeNode;
+use crate::value::Value;
 use std::alloc::Global;
 
 /// The greatest number of types around a type.
@@ -46,7 +49,7 @@ pub fn parse_module<'a>(alloc: Global, text: &'a str) -> Result<Module<'a>, Fail
         let name = parser.next();
         match name.kind {
             ItemKind::UpperName => {
-                let of = parser.type_assigned()?;
+                let of = parser.type_assigned(name)?;
                 types.push(TypeAssignment { name, of })?;
             }
             ItemKind::LowerName => {
@@ -137,7 +140,10 @@ impl<'a> Parser<'a> {
     }
 
     /// Parses what follows the name of a type.
-    fn type_assigned(&mut self) -> Result<usize, Failure<'a>> {
+    fn type_assigned(&mut self, name: Item<'a>) -> Result<usize, Failure<'a>> {
+        if is_reserved(name.text) || SimpleType::of(name.text).is_some() {
+            return Err(refused(name, "an assignment or END"));
+        }
         if self.peek().is("{") {
             return Err(refused(self.peek(), "no parameters, which are not supported"));
         }
@@ -146,7 +152,7 @@ impl<'a> Parser<'a> {
     }
 
     /// Parses what follows the name of a value.
-    fn value_assigned(&mut self) -> Result<(usize, crate::value::Value<'a>), Failure<'a>> {
+    fn value_assigned(&mut self) -> Result<(usize, Value<'a>), Failure<'a>> {
         if self.peek().is("{") {
             return Err(refused(self.peek(), "no parameters, which are not supported"));
         }

@@ -6,6 +6,7 @@ use crate::constraint::Constraint;
 use crate::failure::Failure;
 use crate::item::Item;
 use crate::item_kind::ItemKind;
+use crate::reserved::is_reserved;
 use crate::simple_type::SimpleType;
 use crate::tag::{Tag, TagPrefix};
 use crate::tag_class::TagClass;
@@ -228,6 +229,7 @@ impl<'a> Parser<'a> {
             "INSTANCE" | "EXTERNAL" | "EMBEDDED" | "CHARACTER" | "RELATIVE-OID" => {
                 Err(refused(item, "a type that is supported"))
             }
+            word if is_reserved(word) => Err(refused(item, "a type")),
             _ if self.peek().is("{") => {
                 Err(refused(self.peek(), "no parameters, which are not supported"))
             }
