@@ -13,6 +13,7 @@ mod items;
 mod module;
 mod named_number;
 mod octet_class;
+mod output;
 mod parser;
 mod position;
 mod refusal;
