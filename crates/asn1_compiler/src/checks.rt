@@ -13,7 +13,8 @@ use crate::checks::unknown::check_unknown;
 use crate::failure::Failure;
 use crate::module::Module;
 use crate::tag_set::TagSet;
-pub use names::{find_type, is_imported};
+pub use components::are_numbered;
+pub use names::find_type;
 use std::alloc::Global;
 
 /// What the checks of a module find.

@@ -1,0 +1,273 @@
+//! The type of Rust of each type.
+
+use super::naming::text_at;
+use super::rust_type::{RustKind, RustType};
+use crate::checks::{are_numbered, find_type};
+use crate::component::Component;
+use crate::constraint::Constraint;
+use crate::endpoint::Endpoint;
+use crate::failure::Failure;
+use crate::module::Module;
+use crate::refusal::Refusal;
+use crate::simple_type::SimpleType;
+use crate::tag::{Tag, TagPrefix};
+use crate::tag_class::TagClass;
+use crate::tagging::{TagDefault, Tagging};
+use crate::type_node::{TypeForm, TypeNode};
+use std::alloc::{AllocError, Global};
+
+/// The types of Rust, by index.
+pub fn types_in_order<'a>(
+    alloc: Global,
+    module: &Module<'a>,
+    order: &Vec<usize>,
+    names: &Vec<String>,
+) -> Result<Vec<RustType>, Failure<'a>> {
+    let mut table = Vec::new(alloc);
+    for _ in module.nodes.iter() {
+        table.push(rust_type(alloc, "", RustKind::Element)?)?;
+    }
+    for index in order.iter() {
+        let Some(node) = module.nodes.get(*index) else {
+            continue;
+        };
+        let found = type_of(alloc, module, &table, names, node, text_at(names, *index))?;
+        if let Some(place) = table.get_mut(*index) {
+            *place = found;
+        }
+    }
+    Ok(table)
+}
+
+/// The type with this text; it has a lifetime if the text has one.
+pub fn rust_type(alloc: Global, text: &str, kind: RustKind) -> Result<RustType, AllocError> {
+    Ok(RustType {
+        text: String::from_str(alloc, text)?,
+        kind,
+        has_lifetime: text.contains('\''),
+    })
+}
+
+fn type_of<'a>(
+    alloc: Global,
+    module: &Module<'a>,
+    table: &Vec<RustType>,
+    names: &Vec<String>,
+    node: &TypeNode<'a>,
+    name: &str,
+) -> Result<RustType, Failure<'a>> {
+    match &node.form {
+        TypeForm::Simple(SimpleType::Any) => { Ok(rust_type(alloc, "AnyRef<'a>", RustKind::Any)?) }
+        TypeForm::Simple(simple) => {
+            Ok(rust_type(alloc, simple_text(*simple), RustKind::Element)?)
+        }
+        TypeForm::Integer(_) => integer(alloc, node),
+        TypeForm::Enumerated(_) => {
+            let text = format!(in alloc; "Enumerated<{name}>")?;
+            Ok(rust_type(alloc, text.as_str(), RustKind::Element)?)
+        }
+        TypeForm::BitString(bits) => {
+            let text = if bits.is_empty() {
+                "BitStringRef<'a>"
+            } else {
+                "NamedBitsRef<'a>"
+            };
+            Ok(rust_type(alloc, text, RustKind::Element)?)
+        }
+        TypeForm::Reference => reference(alloc, module, table, names, node),
+        TypeForm::Sequence(parts) => {
+            let lifetime = lifetime_of(table, parts);
+            let text = format!(in alloc; "{name}{lifetime}")?;
+            Ok(rust_type(alloc, text.as_str(), RustKind::Element)?)
+        }
+        TypeForm::Choice(parts) => {
+            let lifetime = lifetime_of(table, parts);
+            let text = format!(in alloc; "{name}{lifetime}")?;
+            Ok(rust_type(alloc, text.as_str(), RustKind::Choice)?)
+        }
+        TypeForm::SequenceOf(of) => list(alloc, table, "SequenceOf", *of),
+        TypeForm::SetOf(of) => list(alloc, table, "SetOf", *of),
+        TypeForm::Tagged(prefix, of) => tagged(alloc, module, table, node, *prefix, *of),
+    }
+}
+
+fn simple_text(simple: SimpleType) -> &'static str {
+    match simple {
+        SimpleType::Boolean => "BooleanRef<'a>",
+        SimpleType::OctetString => "OctetStringRef<'a>",
+        SimpleType::Null => "Null<'a>",
+        SimpleType::ObjectIdentifier => "ObjectIdentifierRef<'a>",
+        SimpleType::Utf8String => "Utf8StringRef<'a>",
+        SimpleType::NumericString => "NumericStringRef<'a>",
+        SimpleType::PrintableString => "PrintableStringRef<'a>",
+        SimpleType::TeletexString => "TeletexStringRef<'a>",
+        SimpleType::Ia5String => "Ia5StringRef<'a>",
+        SimpleType::VisibleString => "VisibleStringRef<'a>",
+        SimpleType::BmpString => "BmpStringRef<'a>",
+        SimpleType::UtcTime => "UtcTime",
+        SimpleType::GeneralizedTime => "GeneralizedTime",
+        SimpleType::Any | SimpleType::Unknown(_) => "AnyRef<'a>",
+    }
+}
+
+fn integer<'a>(alloc: Global, node: &TypeNode<'a>) -> Result<RustType, Failure<'a>> {
+    match node.constraint {
+        Constraint::Range(Endpoint::Number(low), Endpoint::Number(high)) => {
+            let text = format!(in alloc; "IntegerIn<{low}, {high}>")?;
+            Ok(rust_type(alloc, text.as_str(), RustKind::Element)?)
+        }
+        Constraint::None | Constraint::Range(Endpoint::Min, Endpoint::Max) => {
+            Ok(rust_type(alloc, "IntRef<'a>", RustKind::Element)?)
+        }
+        _ => Err(not_written(node)),
+    }
+}
+
+// The failure of a type that is right, and for which no text is written.
+fn not_written<'a>(node: &TypeNode<'a>) -> Failure<'a> {
+    Failure::Refused(Refusal::of(node.item, "a type for which the compiler has a form"))
+}
+
+// The lifetime of a type with these components.
+fn lifetime_of(table: &Vec<RustType>, components: &Vec<Component<'_>>) -> &'static str {
+    if components
+        .iter()
+        .any(|component| has_lifetime(table, component.of))
+    {
+        return "<'a>";
+    }
+    ""
+}
+
+fn has_lifetime(table: &Vec<RustType>, index: usize) -> bool {
+    match table.get(index) {
+        Some(found) => found.has_lifetime,
+        None => false,
+    }
+}
+
+fn reference<'a>(
+    alloc: Global,
+    module: &Module<'a>,
+    table: &Vec<RustType>,
+    names: &Vec<String>,
+    node: &TypeNode<'a>,
+) -> Result<RustType, Failure<'a>> {
+    let Some(of) = find_type(module, node.item.text) else {
+        return Err(not_written(node));
+    };
+    let Some(found) = table.get(of) else {
+        return Err(not_written(node));
+    };
+    let mut text = String::from_str(alloc, text_at(names, of))?;
+    if found.has_lifetime {
+        text.push_str("<'a>")?;
+    }
+    Ok(RustType {
+        text,
+        kind: found.kind,
+        has_lifetime: found.has_lifetime,
+    })
+}
+
+fn list<'a>(
+    alloc: Global,
+    table: &Vec<RustType>,
+    word: &str,
+    of: usize,
+) -> Result<RustType, Failure<'a>> {
+    let mut text = String::from_str(alloc, word)?;
+    text.push_str("<'a, ")?;
+    if let Some(found) = table.get(of) {
+        text.push_str(found.text.as_str())?;
+    }
+    text.push('>')?;
+    Ok(RustType {
+        text,
+        kind: RustKind::Element,
+        has_lifetime: true,
+    })
+}
+
+fn tagged<'a>(
+    alloc: Global,
+    module: &Module<'a>,
+    table: &Vec<RustType>,
+    node: &TypeNode<'a>,
+    prefix: TagPrefix,
+    of: usize,
+) -> Result<RustType, Failure<'a>> {
+    let Some(found) = table.get(of) else {
+        return Err(not_written(node));
+    };
+    let text = match (found.kind, tagging(module, prefix.tagging)) {
+        (RustKind::Element, Tagging::Implicit) => "Implicit",
+        (RustKind::Element, Tagging::Explicit) => "Explicit",
+        (RustKind::Any, _) => "ExplicitAny",
+        (RustKind::Choice, _) => return Err(not_written(node)),
+    };
+    Ok(wrapped(alloc, text, found, prefix.tag)?)
+}
+
+// How a tag is put in front of a type with a tag.
+fn tagging(module: &Module<'_>, written: Option<Tagging>) -> Tagging {
+    match (written, module.tags) {
+        (Some(tagging), _) => tagging,
+        (None, TagDefault::Explicit) => Tagging::Explicit,
+        (None, TagDefault::Implicit | TagDefault::Automatic) => Tagging::Implicit,
+    }
+}
+
+// The type behind a tag.
+fn wrapped(alloc: Global, word: &str, found: &RustType, tag: Tag) -> Result<RustType, AllocError> {
+    let number = tag.number;
+    let inside = match found.kind {
+        RustKind::Any => "'a",
+        _ => found.text.as_str(),
+    };
+    let text = match tag.class {
+        TagClass::Application => format!(in alloc; "Application<{word}<{inside}, {number}>>")?,
+        TagClass::Private => format!(in alloc; "Private<{word}<{inside}, {number}>>")?,
+        _ => format!(in alloc; "{word}<{inside}, {number}>")?,
+    };
+    Ok(RustType {
+        text,
+        kind: RustKind::Element,
+        has_lifetime: found.has_lifetime,
+    })
+}
+
+/// The type of each component, without OPTIONAL and DEFAULT, with the tags that the module numbers.
+pub fn component_types<'a>(
+    alloc: Global,
+    module: &Module<'a>,
+    table: &Vec<RustType>,
+    components: &Vec<Component<'a>>,
+) -> Result<Vec<RustType>, Failure<'a>> {
+    let are_numbered = are_numbered(module, components);
+    let mut types = Vec::new(alloc);
+    for (count, component) in components.iter().enumerate() {
+        let Some(node) = module.nodes.get(component.of) else {
+            continue;
+        };
+        let found = if are_numbered {
+            let tag = Tag {
+                class: TagClass::ContextSpecific,
+                number: count as u64,
+            };
+            let prefix = TagPrefix { tag, tagging: None };
+            tagged(alloc, module, table, node, prefix, component.of)?
+        } else {
+            copy_at(alloc, table, component.of)?
+        };
+        types.push(found)?;
+    }
+    Ok(types)
+}
+
+fn copy_at(alloc: Global, table: &Vec<RustType>, index: usize) -> Result<RustType, AllocError> {
+    match table.get(index) {
+        Some(found) => rust_type(alloc, found.text.as_str(), found.kind),
+        None => rust_type(alloc, "", RustKind::Element),
+    }
+}
