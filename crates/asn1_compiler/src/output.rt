@@ -1,9 +1,12 @@
 //! The text of the types of Rust.
 
+mod docs;
 mod field;
 mod imports;
 mod naming;
+mod part;
 mod rust_names;
 mod rust_type;
+mod sequence;
 mod template;
 mod types;

@@ -48,32 +48,25 @@ impl Field {
         }
     }
 
-    /// The statement that the value of the field is one of its type.
+    /// The statement which checks that the value of the field is one of its type.
     pub fn check(&self, alloc: Global) -> Result<String, AllocError> {
         let name = self.name.as_str();
-        let text = self.of.text.as_str();
-        match self.presence {
-            FieldPresence::Required => {
-                format!(in alloc; "        <{text} as DecodeValue<R>>::is_value(&self.{name});\n")
-            }
-            FieldPresence::Defaulted => {
-                format!(in alloc; "        <{text} as DecodeValue<R>>::is_value(&self.{name}.0);\n")
-            }
-            FieldPresence::Optional => format!(in alloc;
-                "        if let Some(value) = &self.{name}.0 {{\n            <{text} as DecodeValue<R>>::is_value(value);\n        }}\n"
-            ),
+        let end = match self.of.kind {
+            RustKind::Choice => "",
+            _ => ";",
+        };
+        if self.presence == FieldPresence::Optional {
+            let check = self.of.check(alloc, "value")?;
+            return format!(in alloc;
+                "        if let Some(value) = &self.{name}.0 {{\n            {check}{end}\n        }}\n"
+            );
         }
-    }
-}
-
-impl RustType {
-    /// What a value of this type means, as a term of a clause.
-    pub fn alternative(&self, alloc: Global) -> Result<String, AllocError> {
-        let text = self.text.as_str();
-        match self.kind {
-            RustKind::Any => String::from_str(alloc, "any_element"),
-            RustKind::Choice => format!(in alloc; "⟦<{text} as DescribedChoice>⟧.alternative"),
-            RustKind::Element => format!(in alloc; "(alternative ⟦<{text} as Described>⟧.element)"),
-        }
+        let inside = match self.presence {
+            FieldPresence::Defaulted => ".0",
+            _ => "",
+        };
+        let place = format!(in alloc; "&self.{name}{inside}")?;
+        let check = self.of.check(alloc, place.as_str())?;
+        format!(in alloc; "        {check}{end}\n")
     }
 }

@@ -1,6 +1,7 @@
 //! The type of Rust of each type.
 
 use super::naming::text_at;
+use super::rust_names::pascal_name;
 use super::rust_type::{RustKind, RustType};
 use crate::checks::{are_numbered, find_type};
 use crate::component::Component;
@@ -15,6 +16,7 @@ use crate::tag_class::TagClass;
 use crate::tagging::{TagDefault, Tagging};
 use crate::type_node::{TypeForm, TypeNode};
 use std::alloc::{AllocError, Global};
+use std::fmt::Write;
 
 /// The types of Rust, by index.
 pub fn types_in_order<'a>(
@@ -25,7 +27,7 @@ pub fn types_in_order<'a>(
 ) -> Result<Vec<RustType>, Failure<'a>> {
     let mut table = Vec::new(alloc);
     for _ in module.nodes.iter() {
-        table.push(rust_type(alloc, "", RustKind::Element)?)?;
+        table.push(RustType::new(alloc, "", RustKind::Element)?)?;
     }
     for index in order.iter() {
         let Some(node) = module.nodes.get(*index) else {
@@ -39,15 +41,6 @@ pub fn types_in_order<'a>(
     Ok(table)
 }
 
-/// The type with this text; it has a lifetime if the text has one.
-pub fn rust_type(alloc: Global, text: &str, kind: RustKind) -> Result<RustType, AllocError> {
-    Ok(RustType {
-        text: String::from_str(alloc, text)?,
-        kind,
-        has_lifetime: text.contains('\''),
-    })
-}
-
 fn type_of<'a>(
     alloc: Global,
     module: &Module<'a>,
@@ -57,14 +50,16 @@ fn type_of<'a>(
     name: &str,
 ) -> Result<RustType, Failure<'a>> {
     match &node.form {
-        TypeForm::Simple(SimpleType::Any) => { Ok(rust_type(alloc, "AnyRef<'a>", RustKind::Any)?) }
+        TypeForm::Simple(SimpleType::Any) => {
+            Ok(RustType::new(alloc, "AnyRef<'a>", RustKind::Any)?)
+        }
         TypeForm::Simple(simple) => {
-            Ok(rust_type(alloc, simple_text(*simple), RustKind::Element)?)
+            Ok(RustType::new(alloc, simple_text(*simple), RustKind::Element)?)
         }
         TypeForm::Integer(_) => integer(alloc, node),
         TypeForm::Enumerated(_) => {
             let text = format!(in alloc; "Enumerated<{name}>")?;
-            Ok(rust_type(alloc, text.as_str(), RustKind::Element)?)
+            Ok(RustType::new(alloc, text.as_str(), RustKind::Element)?)
         }
         TypeForm::BitString(bits) => {
             let text = if bits.is_empty() {
@@ -72,19 +67,15 @@ fn type_of<'a>(
             } else {
                 "NamedBitsRef<'a>"
             };
-            Ok(rust_type(alloc, text, RustKind::Element)?)
+            Ok(RustType::new(alloc, text, RustKind::Element)?)
         }
         TypeForm::Reference => reference(alloc, module, table, names, node),
         TypeForm::Sequence(parts) => {
             let lifetime = lifetime_of(table, parts);
             let text = format!(in alloc; "{name}{lifetime}")?;
-            Ok(rust_type(alloc, text.as_str(), RustKind::Element)?)
+            Ok(RustType::new(alloc, text.as_str(), RustKind::Element)?)
         }
-        TypeForm::Choice(parts) => {
-            let lifetime = lifetime_of(table, parts);
-            let text = format!(in alloc; "{name}{lifetime}")?;
-            Ok(rust_type(alloc, text.as_str(), RustKind::Choice)?)
-        }
+        TypeForm::Choice(parts) => choice(alloc, module, table, name, parts),
         TypeForm::SequenceOf(of) => list(alloc, table, "SequenceOf", *of),
         TypeForm::SetOf(of) => list(alloc, table, "SetOf", *of),
         TypeForm::Tagged(prefix, of) => tagged(alloc, module, table, node, *prefix, *of),
@@ -114,10 +105,10 @@ fn integer<'a>(alloc: Global, node: &TypeNode<'a>) -> Result<RustType, Failure<'
     match node.constraint {
         Constraint::Range(Endpoint::Number(low), Endpoint::Number(high)) => {
             let text = format!(in alloc; "IntegerIn<{low}, {high}>")?;
-            Ok(rust_type(alloc, text.as_str(), RustKind::Element)?)
+            Ok(RustType::new(alloc, text.as_str(), RustKind::Element)?)
         }
         Constraint::None | Constraint::Range(Endpoint::Min, Endpoint::Max) => {
-            Ok(rust_type(alloc, "IntRef<'a>", RustKind::Element)?)
+            Ok(RustType::new(alloc, "IntRef<'a>", RustKind::Element)?)
         }
         _ => Err(not_written(node)),
     }
@@ -163,11 +154,7 @@ fn reference<'a>(
     if found.has_lifetime {
         text.push_str("<'a>")?;
     }
-    Ok(RustType {
-        text,
-        kind: found.kind,
-        has_lifetime: found.has_lifetime,
-    })
+    Ok(found.renamed(alloc, text.as_str())?)
 }
 
 fn list<'a>(
@@ -182,11 +169,7 @@ fn list<'a>(
         text.push_str(found.text.as_str())?;
     }
     text.push('>')?;
-    Ok(RustType {
-        text,
-        kind: RustKind::Element,
-        has_lifetime: true,
-    })
+    Ok(RustType::new(alloc, text.as_str(), RustKind::Element)?)
 }
 
 fn tagged<'a>(
@@ -230,11 +213,7 @@ fn wrapped(alloc: Global, word: &str, found: &RustType, tag: Tag) -> Result<Rust
         TagClass::Private => format!(in alloc; "Private<{word}<{inside}, {number}>>")?,
         _ => format!(in alloc; "{word}<{inside}, {number}>")?,
     };
-    Ok(RustType {
-        text,
-        kind: RustKind::Element,
-        has_lifetime: found.has_lifetime,
-    })
+    RustType::new(alloc, text.as_str(), RustKind::Element)
 }
 
 /// The type of each component, without OPTIONAL and DEFAULT, with the tags that the module numbers.
@@ -267,7 +246,65 @@ pub fn component_types<'a>(
 
 fn copy_at(alloc: Global, table: &Vec<RustType>, index: usize) -> Result<RustType, AllocError> {
     match table.get(index) {
-        Some(found) => rust_type(alloc, found.text.as_str(), found.kind),
-        None => rust_type(alloc, "", RustKind::Element),
+        Some(found) => found.copy(alloc),
+        None => RustType::new(alloc, "", RustKind::Element),
     }
+}
+
+/// The type of an alternative.
+#[derive(Drop)]
+pub struct Alternative {
+    /// The name of the variant.
+    pub name: String,
+    /// Its type.
+    pub of: RustType,
+}
+
+/// The alternatives for which the library has a type.
+pub fn alternatives<'a>(
+    alloc: Global,
+    module: &Module<'a>,
+    table: &Vec<RustType>,
+    components: &Vec<Component<'a>>,
+) -> Result<Vec<Alternative>, Failure<'a>> {
+    let mut found = Vec::new(alloc);
+    let types = component_types(alloc, module, table, components)?;
+    for (component, of) in components.iter().zip(types.iter()) {
+        if !is_unknown(module, component.of) {
+            found.push(Alternative {
+                name: pascal_name(alloc, component.name.text)?,
+                of: of.copy(alloc)?,
+            })?;
+        }
+    }
+    Ok(found)
+}
+
+fn is_unknown(module: &Module<'_>, index: usize) -> bool {
+    match module.nodes.get(index) {
+        Some(node) => matches!(&node.form, TypeForm::Simple(SimpleType::Unknown(_))),
+        None => false,
+    }
+}
+
+fn choice<'a>(
+    alloc: Global,
+    module: &Module<'a>,
+    table: &Vec<RustType>,
+    name: &str,
+    components: &Vec<Component<'a>>,
+) -> Result<RustType, Failure<'a>> {
+    let mut arms = String::new(alloc);
+    for alternative in alternatives(alloc, module, table, components)?.iter() {
+        let variant = alternative.name.as_str();
+        let check = alternative.of.check(alloc, "value")?;
+        write!(arms, "            {name}::{variant}(value) => {check},\n")?;
+    }
+    let lifetime = lifetime_of(table, components);
+    Ok(RustType {
+        text: format!(in alloc; "{name}{lifetime}")?,
+        kind: RustKind::Choice,
+        has_lifetime: !lifetime.is_empty(),
+        arms,
+    })
 }
