@@ -1,6 +1,9 @@
 //! The text of the types of Rust.
 
+mod choice;
+mod choice_part;
 mod docs;
+mod enumeration;
 mod field;
 mod imports;
 mod naming;

@@ -1,5 +1,6 @@
 //! The type of Rust of each type.
 
+use super::docs::doc_of;
 use super::naming::text_at;
 use super::rust_names::pascal_name;
 use super::rust_type::{RustKind, RustType};
@@ -150,11 +151,21 @@ fn reference<'a>(
     let Some(found) = table.get(of) else {
         return Err(not_written(node));
     };
+    if is_enumerated(module, of) {
+        return Ok(found.copy(alloc)?);
+    }
     let mut text = String::from_str(alloc, text_at(names, of))?;
     if found.has_lifetime {
         text.push_str("<'a>")?;
     }
     Ok(found.renamed(alloc, text.as_str())?)
+}
+
+fn is_enumerated(module: &Module<'_>, index: usize) -> bool {
+    match module.nodes.get(index) {
+        Some(node) => matches!(&node.form, TypeForm::Enumerated(_)),
+        None => false,
+    }
 }
 
 fn list<'a>(
@@ -256,6 +267,8 @@ fn copy_at(alloc: Global, table: &Vec<RustType>, index: usize) -> Result<RustTyp
 pub struct Alternative {
     /// The name of the variant.
     pub name: String,
+    /// The lines of its documentation.
+    pub doc: String,
     /// Its type.
     pub of: RustType,
 }
@@ -273,6 +286,7 @@ pub fn alternatives<'a>(
         if !is_unknown(module, component.of) {
             found.push(Alternative {
                 name: pascal_name(alloc, component.name.text)?,
+                doc: doc_of(alloc, component.name.comments, "    ", component.name.text)?,
                 of: of.copy(alloc)?,
             })?;
         }
