@@ -37,6 +37,7 @@ pub use item_kind::ItemKind;
 pub use items::items_of;
 pub use module::{Import, Module, TypeAssignment, ValueAssignment};
 pub use named_number::NamedNumber;
+pub use output::{OutputFile, compile, pascal_name, snake_name};
 pub use parser::parse_module;
 pub use position::Position;
 pub use refusal::Refusal;

@@ -102,3 +102,27 @@ fn is_word_at(octets: &[u8], at: usize, word: &[u8]) -> bool {
 fn is_word_octet(octet: u8) -> bool {
     is_upper(octet) || is_lower(octet) || is_digit(octet) || octet == b'_'
 }
+
+/// Adds a line that imports those of the names for clauses that stand in the text as words.
+pub fn push_ghost_use(
+    alloc: Global,
+    out: &mut String,
+    text: &str,
+    path: &str,
+    names: &[&str],
+) -> Result<(), AllocError> {
+    let mut line = String::new(alloc);
+    for name in names {
+        if has_word(text, name) {
+            if !line.is_empty() {
+                line.push_str(", ")?;
+            }
+            line.push_str(name)?;
+        }
+    }
+    if line.is_empty() {
+        return Ok(());
+    }
+    let line = line.as_str();
+    out.push_str(format!(in alloc; "ghost use {path}.{{{line}}};\n")?.as_str())
+}
