@@ -3,6 +3,7 @@
 #![tactic(auto)]
 
 mod checks;
+mod command;
 mod component;
 mod constraint;
 mod endpoint;
@@ -16,6 +17,7 @@ mod octet_class;
 mod output;
 mod parser;
 mod position;
+mod program;
 mod refusal;
 mod reserved;
 mod scan;
@@ -40,6 +42,7 @@ pub use named_number::NamedNumber;
 pub use output::{OutputFile, compile, pascal_name, snake_name};
 pub use parser::parse_module;
 pub use position::Position;
+pub use program::run_compile;
 pub use refusal::Refusal;
 pub use simple_type::SimpleType;
 pub use tag::{Tag, TagPrefix};
