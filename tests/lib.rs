@@ -5,6 +5,8 @@
 #[cfg(test)]
 mod asn1;
 #[cfg(test)]
+mod asn1_compiler;
+#[cfg(test)]
 mod checks;
 #[cfg(test)]
 mod decoding;

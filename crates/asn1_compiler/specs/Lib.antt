@@ -1,0 +1,3 @@
+pub mod Lexical
+pub mod Position
+pub mod TagSet

@@ -1,0 +1,19 @@
+-- Positions in a text: lines end at the octet 10, and columns count octets.
+use Rattle.std.specs.Prelude.{◌+◌, ◌==◌, ℕ, List, Option, Some, None, length, count_by, reverse, position}
+
+-- one more than the number of line ends before
+abbrev pub line_after : List ℕ → ℕ
+line_after before = count_by (λ x. x == 10) before + 1
+
+-- the index of the last line end, from the back
+abbrev pub last_line_end : List ℕ → Option ℕ
+last_line_end before = position (λ x. x == 10) (reverse before)
+
+-- the number of octets behind that, of so many
+abbrev pub octets_behind : Option ℕ → ℕ → ℕ
+octets_behind None count = count
+octets_behind (Some index) count = index
+
+-- one more than the number of octets behind the last line end
+abbrev pub column_after : List ℕ → ℕ
+column_after before = octets_behind (last_line_end before) (length before) + 1

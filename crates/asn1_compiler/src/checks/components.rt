@@ -1,0 +1,95 @@
+//! Tags of components and of alternatives.
+
+use super::tags::copy_at;
+use crate::component::{Component, Presence};
+use crate::failure::Failure;
+use crate::module::Module;
+use crate::refusal::Refusal;
+use crate::tag::Tag;
+use crate::tag_class::TagClass;
+use crate::tag_set::TagSet;
+use crate::tagging::TagDefault;
+use crate::type_node::TypeForm;
+use std::alloc::Global;
+
+/// The tags of all alternatives; refuses one whose tags an alternative before it has (X.680, 29.3).
+pub fn check_alternatives<'a>(
+    alloc: Global,
+    module: &Module<'a>,
+    table: &Vec<TagSet>,
+    alternatives: &Vec<Component<'a>>,
+) -> Result<TagSet, Failure<'a>> {
+    let are_numbered = are_numbered(module, alternatives);
+    let mut before = TagSet::empty(alloc);
+    for (number, alternative) in alternatives.iter().enumerate() {
+        let tags = component_tags(alloc, table, alternative, are_numbered, number)?;
+        if !before.is_distinct_from(&tags) {
+            let expected = "an alternative whose tag no other one has";
+            return Err(Failure::Refused(Refusal::of(alternative.name, expected)));
+        }
+        before.add(&tags)?;
+    }
+    Ok(before)
+}
+
+/// Checks the tags of components: those of optional ones, and of the one behind these, are distinct
+/// (X.680, 25.6).
+pub fn check_sequence<'a>(
+    alloc: Global,
+    module: &Module<'a>,
+    table: &Vec<TagSet>,
+    components: &Vec<Component<'a>>,
+) -> Result<(), Failure<'a>> {
+    let are_numbered = are_numbered(module, components);
+    let mut before = TagSet::empty(alloc);
+    for (number, component) in components.iter().enumerate() {
+        let tags = component_tags(alloc, table, component, are_numbered, number)?;
+        if !before.is_distinct_from(&tags) {
+            let expected = "a component whose tag no optional one in front of it has";
+            return Err(Failure::Refused(Refusal::of(component.name, expected)));
+        }
+        match component.presence {
+            Presence::Required => before = TagSet::empty(alloc),
+            _ => before.add(&tags)?,
+        }
+    }
+    Ok(())
+}
+
+// The tags that values of a component begin with.
+fn component_tags<'a>(
+    alloc: Global,
+    table: &Vec<TagSet>,
+    component: &Component<'a>,
+    is_numbered: bool,
+    number: usize,
+) -> Result<TagSet, Failure<'a>> {
+    if !is_numbered {
+        return Ok(copy_at(alloc, table, component.of)?);
+    }
+    Ok(TagSet::of(
+        alloc,
+        Tag {
+            class: TagClass::ContextSpecific,
+            number: number as u64,
+        },
+    )?)
+}
+
+/// Whether these components get tags by their numbers: the module has AUTOMATIC TAGS, and none of
+/// them is written with a tag (X.680, 25.2).
+pub fn are_numbered(module: &Module<'_>, components: &Vec<Component<'_>>) -> bool {
+    if module.tags != TagDefault::Automatic {
+        return false;
+    }
+    components
+        .iter()
+        .all(|component| !is_tagged(module, component.of))
+}
+
+fn is_tagged(module: &Module<'_>, index: usize) -> bool {
+    match module.nodes.get(index) {
+        Some(node) => matches!(&node.form, TypeForm::Tagged(_, _)),
+        None => false,
+    }
+}

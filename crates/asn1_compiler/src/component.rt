@@ -1,0 +1,26 @@
+//! Components of a SEQUENCE and alternatives of a CHOICE.
+
+use crate::item::Item;
+use crate::value::Value;
+
+/// A component of a SEQUENCE, or an alternative of a CHOICE.
+#[derive(Drop)]
+pub struct Component<'a> {
+    /// The name, with the comments in front of it.
+    pub name: Item<'a>,
+    /// The index of the type.
+    pub of: usize,
+    /// Whether the component may be absent.
+    pub presence: Presence<'a>,
+}
+
+/// Whether a component may be absent.
+#[derive(Drop)]
+pub enum Presence<'a> {
+    /// It may not.
+    Required,
+    /// It may.
+    Optional,
+    /// It is absent if it has this value.
+    Default(Value<'a>),
+}

@@ -1,0 +1,52 @@
+//! Modules.
+
+use crate::item::Item;
+use crate::tagging::TagDefault;
+use crate::type_node::TypeNode;
+use crate::value::Value;
+
+/// A module.
+#[derive(Drop)]
+pub struct Module<'a> {
+    /// The name.
+    pub name: Item<'a>,
+    /// What it says of its tags.
+    pub tags: TagDefault,
+    /// What it imports.
+    pub imports: Vec<Import<'a>>,
+    /// The types that it names, in their order.
+    pub types: Vec<TypeAssignment<'a>>,
+    /// The values that it names, in their order.
+    pub values: Vec<ValueAssignment<'a>>,
+    /// All types of the module, also those without a name.
+    pub nodes: Vec<TypeNode<'a>>,
+}
+
+/// A name that is imported.
+#[derive(Clone, Copy, Debug)]
+pub struct Import<'a> {
+    /// The name.
+    pub name: Item<'a>,
+    /// The name of the module that defines it.
+    pub module: Item<'a>,
+}
+
+/// A type with a name.
+#[derive(Clone, Copy, Debug)]
+pub struct TypeAssignment<'a> {
+    /// The name, with the comments in front of it.
+    pub name: Item<'a>,
+    /// The index of the type.
+    pub of: usize,
+}
+
+/// A value with a name.
+#[derive(Drop)]
+pub struct ValueAssignment<'a> {
+    /// The name, with the comments in front of it.
+    pub name: Item<'a>,
+    /// The index of the type.
+    pub of: usize,
+    /// The value.
+    pub value: Value<'a>,
+}

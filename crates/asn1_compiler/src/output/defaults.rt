@@ -1,0 +1,141 @@
+//! Types of fields that have a default.
+
+use super::rust_type::RustType;
+use crate::checks::find_type;
+use crate::endpoint::Endpoint;
+use crate::failure::Failure;
+use crate::item_kind::ItemKind;
+use crate::module::Module;
+use crate::named_number::NamedNumber;
+use crate::refusal::Refusal;
+use crate::simple_type::SimpleType;
+use crate::type_node::TypeForm;
+use crate::value::{Value, ValueForm};
+use std::alloc::Global;
+
+/// The type of a DEFAULT field, for the type `of` of its component, whose index is `index`.
+pub fn default_type<'a>(
+    alloc: Global,
+    module: &Module<'a>,
+    types: &Vec<RustType>,
+    of: &RustType,
+    index: usize,
+    value: &Value<'a>,
+) -> Result<RustType, Failure<'a>> {
+    let leaf = leaf_of(module, index);
+    let base = base_of(module, leaf);
+    let inside = match module.nodes.get(base) {
+        Some(node) => match &node.form {
+            TypeForm::Simple(SimpleType::Boolean) => boolean(alloc, value)?,
+            TypeForm::Integer(numbers) => integer(alloc, module, numbers, value)?,
+            _ => return Err(not_written(value)),
+        },
+        None => return Err(not_written(value)),
+    };
+    let Some(found) = types.get(leaf) else {
+        return Err(not_written(value));
+    };
+    match of.text.split_once(found.text.as_str()) {
+        Some((before, after)) => {
+            let inside = inside.as_str();
+            let text = format!(in alloc; "{before}{inside}{after}")?;
+            Ok(of.renamed(alloc, text.as_str())?)
+        }
+        None => Err(not_written(value)),
+    }
+}
+
+fn not_written<'a>(value: &Value<'a>) -> Failure<'a> {
+    Failure::Refused(Refusal::of(value.item, "a default for which the compiler has a form"))
+}
+
+// The type behind the tags of a type.
+fn leaf_of(module: &Module<'_>, index: usize) -> usize {
+    let mut index = index;
+    for _ in module.nodes.iter() {
+        match module.nodes.get(index) {
+            Some(node) => match &node.form {
+                TypeForm::Tagged(_, of) => index = *of,
+                _ => return index,
+            },
+            None => return index,
+        }
+    }
+    index
+}
+
+// The type behind the names of a type.
+fn base_of(module: &Module<'_>, index: usize) -> usize {
+    let mut index = index;
+    for _ in module.nodes.iter() {
+        let Some(node) = module.nodes.get(index) else {
+            return index;
+        };
+        match &node.form {
+            TypeForm::Reference => match find_type(module, node.item.text) {
+                Some(of) => index = of,
+                None => return index,
+            },
+            _ => return index,
+        }
+    }
+    index
+}
+
+fn boolean<'a>(alloc: Global, value: &Value<'a>) -> Result<String, Failure<'a>> {
+    match value.item.text {
+        "FALSE" => Ok(String::from_str(alloc, "BooleanRef<'a>")?),
+        "TRUE" => Ok(String::from_str(alloc, "WithDefault<BooleanRef<'a>, DefaultTrue>")?),
+        _ => Err(Failure::Refused(Refusal::of(value.item, "TRUE or FALSE"))),
+    }
+}
+
+fn integer<'a>(
+    alloc: Global,
+    module: &Module<'a>,
+    numbers: &Vec<NamedNumber<'a>>,
+    value: &Value<'a>,
+) -> Result<String, Failure<'a>> {
+    let Some(number) = number_of(module, numbers, value) else {
+        let expected = "a number, or the name of one, from 0 to 18446744073709551615";
+        return Err(Failure::Refused(Refusal::of(value.item, expected)));
+    };
+    Ok(format!(in alloc; "WithDefault<IntegerOf<u64>, DefaultU64<{number}>>")?)
+}
+
+// The number that a value is, as it is written, by a named number, or by a value of the module.
+fn number_of<'a>(
+    module: &Module<'a>,
+    numbers: &Vec<NamedNumber<'a>>,
+    value: &Value<'a>,
+) -> Option<u64> {
+    match (&value.form, value.item.kind) {
+        (ValueForm::Item, ItemKind::Number) => value.item.text.parse::<u64>().ok(),
+        (ValueForm::Item, ItemKind::LowerName) => match named(numbers, value.item.text) {
+            Some(number) => Some(number),
+            None => assigned(module, value.item.text),
+        },
+        _ => None,
+    }
+}
+
+fn named(numbers: &Vec<NamedNumber<'_>>, name: &str) -> Option<u64> {
+    for named in numbers.iter() {
+        if named.name.text == name {
+            return match named.number {
+                Some(Endpoint::Number(number)) => Some(number),
+                _ => None,
+            };
+        }
+    }
+    None
+}
+
+fn assigned(module: &Module<'_>, name: &str) -> Option<u64> {
+    for assigned in module.values.iter() {
+        if assigned.name.text == name && assigned.value.item.kind == ItemKind::Number {
+            return assigned.value.item.text.parse::<u64>().ok();
+        }
+    }
+    None
+}

@@ -1,0 +1,45 @@
+//! Comments of the module as documentation.
+
+use std::alloc::{AllocError, Global};
+
+/// The comment in front of a name, without its marks, on lines that begin with `indent`; or
+/// `instead` if there is none. What stands on the line of the item before belongs to that item.
+pub fn doc_of(
+    alloc: Global,
+    comments: &str,
+    indent: &str,
+    instead: &str,
+) -> Result<String, AllocError> {
+    let own = match comments.split_once('\n') {
+        Some((_, own)) => own,
+        None => comments,
+    };
+    let mut doc = String::new(alloc);
+    for line in own.lines() {
+        let line = without_marks(line);
+        if !line.is_empty() {
+            push_line(&mut doc, indent, line)?;
+        }
+    }
+    if doc.is_empty() {
+        push_line(&mut doc, indent, instead)?;
+    }
+    Ok(doc)
+}
+
+fn push_line(doc: &mut String, indent: &str, line: &str) -> Result<(), AllocError> {
+    doc.push_str(indent)?;
+    doc.push_str("/// ")?;
+    doc.push_str(line)?;
+    doc.push('\n')
+}
+
+// A line of a comment without the marks at its ends.
+fn without_marks(line: &str) -> &str {
+    let line = line.trim();
+    let line = line.strip_prefix("--").unwrap_or(line);
+    let line = line.strip_prefix("/*").unwrap_or(line);
+    let line = line.strip_suffix("--").unwrap_or(line);
+    let line = line.strip_suffix("*/").unwrap_or(line);
+    line.trim()
+}

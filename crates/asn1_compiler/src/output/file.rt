@@ -1,0 +1,234 @@
+//! Files of Rust.
+
+use super::imports::{push_ghost_use, push_use};
+use super::piece::{Piece, PieceKind};
+use std::alloc::{AllocError, Global};
+
+/// A file that the compiler writes.
+#[derive(Drop)]
+pub struct OutputFile {
+    /// The path beneath `src/`.
+    pub path: String,
+    /// The text.
+    pub text: String,
+}
+
+const PRELUDE: &str = "Rattle.std.specs.Prelude";
+
+const MEANING: [&str; 14] = [
+    "alternative",
+    "any_element",
+    "choice_is_item",
+    "choice_item",
+    "choice_of",
+    "defaulted",
+    "either",
+    "field",
+    "optional",
+    "seen",
+    "sequence",
+    "sequence_is_item",
+    "sequence_item",
+    "two_fields",
+];
+
+const DER: [&str; 16] = [
+    "Decode",
+    "DecodeValue",
+    "Encode",
+    "EncodeValue",
+    "Error",
+    "FromFields",
+    "Header",
+    "Length",
+    "Reader",
+    "Sequence",
+    "SliceReader",
+    "Tag",
+    "Writer",
+    "decode_fields",
+    "decode_sequence",
+    "field_refs",
+];
+
+const DER_ASN1: [&str; 43] = [
+    "AnyRef",
+    "Application",
+    "BitStringRef",
+    "BmpStringRef",
+    "BooleanRef",
+    "BorrowedItem",
+    "Choice",
+    "DecodeItem",
+    "DefaultTrue",
+    "DefaultU64",
+    "DefaultValue",
+    "Defaulted",
+    "Described",
+    "DescribedChoice",
+    "Either",
+    "Enumerated",
+    "Enumeration",
+    "Explicit",
+    "ExplicitAny",
+    "GeneralizedTime",
+    "Ia5StringRef",
+    "Implicit",
+    "IntRef",
+    "IntegerIn",
+    "IntegerOf",
+    "Item",
+    "NamedBitsRef",
+    "Nestable",
+    "Null",
+    "NumericStringRef",
+    "ObjectIdentifierRef",
+    "OctetStringRef",
+    "Optional",
+    "PrintableStringRef",
+    "Private",
+    "SequenceOf",
+    "SetOf",
+    "TeletexStringRef",
+    "UtcTime",
+    "Utf8StringRef",
+    "VisibleStringRef",
+    "WithDefault",
+    "decode_choice",
+];
+
+/// The file of a piece, with its imports.
+pub fn file_of(
+    alloc: Global,
+    module: &str,
+    krate: &str,
+    piece: &Piece,
+    all: &Vec<Piece>,
+) -> Result<OutputFile, AllocError> {
+    let (name, file) = (piece.name.as_str(), piece.file.as_str());
+    let code = code_of(alloc, piece.body.as_str())?;
+    let mut text = format!(in alloc;
+        "//! {name} of the module {module}. Written by asn1_compile: change the module instead.\n"
+    )?;
+    push_ghost_lines(alloc, &mut text, krate, piece, code.as_str())?;
+    text.push('\n')?;
+    push_own(alloc, &mut text, piece, code.as_str(), all)?;
+    push_use(alloc, &mut text, code.as_str(), "der", &DER)?;
+    push_use(alloc, &mut text, code.as_str(), "der_asn1", &DER_ASN1)?;
+    push_use(alloc, &mut text, code.as_str(), "std::alloc", &["Global"])?;
+    text.push('\n')?;
+    text.push_str(piece.body.as_str())?;
+    Ok(OutputFile {
+        path: format!(in alloc; "asn1/{file}.rt")?,
+        text,
+    })
+}
+
+// The lines of a text that are no comments.
+fn code_of(alloc: Global, body: &str) -> Result<String, AllocError> {
+    let mut code = String::new(alloc);
+    for line in body.lines() {
+        if !line.trim().starts_with("//") {
+            code.push_str(line)?;
+            code.push('\n')?;
+        }
+    }
+    Ok(code)
+}
+
+fn push_ghost_lines(
+    alloc: Global,
+    text: &mut String,
+    krate: &str,
+    piece: &Piece,
+    code: &str,
+) -> Result<(), AllocError> {
+    match piece.kind {
+        PieceKind::Sequence => text.push_str("ghost use Rattle.std.specs.Prelude.{◌≡◌};\n")?,
+        PieceKind::Enumeration => text.push_str(
+            "ghost use Rattle.std.specs.Prelude.{◌==◌, Option, Some, None, if◌then◌else◌};\n",
+        )?,
+        _ => push_ghost_use(alloc, text, code, PRELUDE, &["false"])?,
+    }
+    push_ghost_use(
+        alloc,
+        text,
+        code,
+        "Rattle.std.proofs.Common",
+        &["arith", "refl"],
+    )?;
+    push_ghost_use(alloc, text, code, "Rattle.der.specs.Prelude", &["map_ok"])?;
+    push_ghost_use(
+        alloc,
+        text,
+        code,
+        "Rattle.der_asn1.specs.Item",
+        &["decodes_same"],
+    )?;
+    push_ghost_use(alloc, text, code, "Rattle.der_asn1.specs.Meaning", &MEANING)?;
+    if piece.kind == PieceKind::Choice {
+        let either = "Rattle.der_asn1.specs.declared.either.Either.TheVariants";
+        push_ghost_use(alloc, text, code, either, &["First", "Second"])?;
+    }
+    if piece.kind == PieceKind::Choice || piece.kind == PieceKind::Enumeration {
+        let (file, name) = (piece.file.as_str(), piece.name.as_str());
+        let line = format!(in alloc;
+            "ghost use Rattle.{krate}.specs.declared.asn1.{file}.{name}.TheVariants as variant;\n"
+        )?;
+        text.push_str(line.as_str())?;
+    }
+    Ok(())
+}
+
+// Adds the imports of types of other pieces.
+fn push_own(
+    alloc: Global,
+    text: &mut String,
+    piece: &Piece,
+    code: &str,
+    all: &Vec<Piece>,
+) -> Result<(), AllocError> {
+    for other in all.iter() {
+        if other.file.as_str() != piece.file.as_str() {
+            let file = other.file.as_str();
+            let path = format!(in alloc; "crate::asn1::{file}")?;
+            let names = words_of(alloc, &other.names)?;
+            push_use(alloc, text, code, path.as_str(), &names)?;
+        }
+    }
+    Ok(())
+}
+
+/// The names as words.
+pub fn words_of(alloc: Global, names: &Vec<String>) -> Result<Vec<&str>, AllocError> {
+    let mut words = Vec::new(alloc);
+    for name in names.iter() {
+        words.push(name.as_str())?;
+    }
+    Ok(words)
+}
+
+/// The file that names all others.
+pub fn root_of(alloc: Global, module: &str, all: &Vec<Piece>) -> Result<OutputFile, AllocError> {
+    let mut text = format!(in alloc;
+        "//! The types of the module {module}. Written by asn1_compile: change the module instead.\n\n"
+    )?;
+    for piece in all.iter() {
+        let file = piece.file.as_str();
+        text.push_str(format!(in alloc; "mod {file};\n")?.as_str())?;
+    }
+    text.push('\n')?;
+    for piece in all.iter() {
+        if piece.is_public {
+            let file = piece.file.as_str();
+            let names = words_of(alloc, &piece.names)?;
+            let mut line = String::from_str(alloc, "pub ")?;
+            push_use(alloc, &mut line, piece.body.as_str(), file, &names)?;
+            text.push_str(line.as_str())?;
+        }
+    }
+    Ok(OutputFile {
+        path: String::from_str(alloc, "asn1.rt")?,
+        text,
+    })
+}

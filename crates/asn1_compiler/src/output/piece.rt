@@ -1,0 +1,56 @@
+//! The text of a file without its imports.
+
+use std::alloc::{AllocError, Global};
+
+/// What a piece defines, which decides what its clauses import.
+#[derive(Clone, Copy, Debug, PartialEq, Eq)]
+pub enum PieceKind {
+    Sequence,
+    SequencePart,
+    Choice,
+    ChoicePart,
+    Enumeration,
+    Alias,
+}
+
+/// The text of a file without its imports.
+#[derive(Drop)]
+pub struct Piece {
+    /// The name of the file, without its ending.
+    pub file: String,
+    /// The name of the type.
+    pub name: String,
+    /// All names that the other files may import.
+    pub names: Vec<String>,
+    /// Whether these names are public.
+    pub is_public: bool,
+    /// What it defines.
+    pub kind: PieceKind,
+    /// The text.
+    pub body: String,
+}
+
+impl Piece {
+    /// A piece that defines a type with this name and, if `end` is not empty, one with `end` behind
+    /// the name.
+    pub fn new(
+        alloc: Global,
+        name: &str,
+        end: &str,
+        kind: PieceKind,
+        body: String,
+    ) -> Result<Self, AllocError> {
+        let mut names = vec![in alloc; String::from_str(alloc, name)?]?;
+        if !end.is_empty() {
+            names.push(format!(in alloc; "{name}{end}")?)?;
+        }
+        Ok(Piece {
+            file: super::rust_names::snake_name(alloc, name)?,
+            name: String::from_str(alloc, name)?,
+            names,
+            is_public: kind != PieceKind::SequencePart && kind != PieceKind::ChoicePart,
+            kind,
+            body,
+        })
+    }
+}

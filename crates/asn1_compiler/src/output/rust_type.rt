@@ -1,0 +1,74 @@
+//! Types of Rust for types of the notation.
+
+use std::alloc::{AllocError, Global};
+
+/// How the fields of a type are read.
+#[derive(Clone, Copy, Debug, PartialEq, Eq)]
+pub enum RustKind {
+    /// As an element with a tag.
+    Element,
+    /// As an element with any tag.
+    Any,
+    /// As one of some alternatives.
+    Choice,
+}
+
+/// The type of Rust for a type of the notation.
+#[derive(Drop)]
+pub struct RustType {
+    /// Its text.
+    pub text: String,
+    /// How it is read.
+    pub kind: RustKind,
+    /// Whether it has a lifetime.
+    pub has_lifetime: bool,
+    /// The arms of a `match` that checks the values of a choice; empty for other types.
+    pub arms: String,
+}
+
+impl RustType {
+    /// The type with this text; it has a lifetime if the text has one.
+    pub fn new(alloc: Global, text: &str, kind: RustKind) -> Result<Self, AllocError> {
+        Ok(RustType {
+            text: String::from_str(alloc, text)?,
+            kind,
+            has_lifetime: text.contains('\''),
+            arms: String::new(alloc),
+        })
+    }
+
+    /// The same type.
+    pub fn copy(&self, alloc: Global) -> Result<Self, AllocError> {
+        self.renamed(alloc, self.text.as_str())
+    }
+
+    /// The same type under another name.
+    pub fn renamed(&self, alloc: Global, text: &str) -> Result<Self, AllocError> {
+        Ok(RustType {
+            text: String::from_str(alloc, text)?,
+            kind: self.kind,
+            has_lifetime: self.has_lifetime,
+            arms: String::from_str(alloc, self.arms.as_str())?,
+        })
+    }
+
+    /// What a value of this type means, as a term of a clause.
+    pub fn alternative(&self, alloc: Global) -> Result<String, AllocError> {
+        let text = self.text.as_str();
+        match self.kind {
+            RustKind::Any => String::from_str(alloc, "any_element"),
+            RustKind::Choice => format!(in alloc; "⟦<{text} as DescribedChoice>⟧.alternative"),
+            RustKind::Element => format!(in alloc; "(alternative ⟦<{text} as Described>⟧.element)"),
+        }
+    }
+
+    /// The expression which checks that the value at a place is one of this type.
+    pub fn check(&self, alloc: Global, place: &str) -> Result<String, AllocError> {
+        let text = self.text.as_str();
+        let arms = self.arms.as_str();
+        match self.kind {
+            RustKind::Choice => format!(in alloc; "match {place} {{\n{arms}}}"),
+            _ => format!(in alloc; "<{text} as DecodeValue<R>>::is_value({place})"),
+        }
+    }
+}

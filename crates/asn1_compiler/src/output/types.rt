@@ -1,0 +1,324 @@
+//! The type of Rust of each type.
+
+use super::docs::doc_of;
+use super::naming::text_at;
+use super::rust_names::pascal_name;
+use super::rust_type::{RustKind, RustType};
+use crate::checks::{are_numbered, find_type};
+use crate::component::Component;
+use crate::constraint::Constraint;
+use crate::endpoint::Endpoint;
+use crate::failure::Failure;
+use crate::module::Module;
+use crate::refusal::Refusal;
+use crate::simple_type::SimpleType;
+use crate::tag::{Tag, TagPrefix};
+use crate::tag_class::TagClass;
+use crate::tagging::{TagDefault, Tagging};
+use crate::type_node::{TypeForm, TypeNode};
+use std::alloc::{AllocError, Global};
+use std::fmt::Write;
+
+/// The types of Rust, by index.
+pub fn types_in_order<'a>(
+    alloc: Global,
+    module: &Module<'a>,
+    order: &Vec<usize>,
+    names: &Vec<String>,
+) -> Result<Vec<RustType>, Failure<'a>> {
+    let mut table = Vec::new(alloc);
+    for _ in module.nodes.iter() {
+        table.push(RustType::new(alloc, "", RustKind::Element)?)?;
+    }
+    for index in order.iter() {
+        let Some(node) = module.nodes.get(*index) else {
+            continue;
+        };
+        let found = type_of(alloc, module, &table, names, node, text_at(names, *index))?;
+        if let Some(place) = table.get_mut(*index) {
+            *place = found;
+        }
+    }
+    Ok(table)
+}
+
+fn type_of<'a>(
+    alloc: Global,
+    module: &Module<'a>,
+    table: &Vec<RustType>,
+    names: &Vec<String>,
+    node: &TypeNode<'a>,
+    name: &str,
+) -> Result<RustType, Failure<'a>> {
+    match &node.form {
+        TypeForm::Simple(SimpleType::Any) => {
+            Ok(RustType::new(alloc, "AnyRef<'a>", RustKind::Any)?)
+        }
+        TypeForm::Simple(simple) => {
+            Ok(RustType::new(alloc, simple_text(*simple), RustKind::Element)?)
+        }
+        TypeForm::Integer(_) => integer(alloc, node),
+        TypeForm::Enumerated(_) => {
+            let text = format!(in alloc; "Enumerated<{name}>")?;
+            Ok(RustType::new(alloc, text.as_str(), RustKind::Element)?)
+        }
+        TypeForm::BitString(bits) => {
+            let text = if bits.is_empty() {
+                "BitStringRef<'a>"
+            } else {
+                "NamedBitsRef<'a>"
+            };
+            Ok(RustType::new(alloc, text, RustKind::Element)?)
+        }
+        TypeForm::Reference => reference(alloc, module, table, names, node),
+        TypeForm::Sequence(parts) => {
+            let lifetime = lifetime_of(table, parts);
+            let text = format!(in alloc; "{name}{lifetime}")?;
+            Ok(RustType::new(alloc, text.as_str(), RustKind::Element)?)
+        }
+        TypeForm::Choice(parts) => choice(alloc, module, table, name, parts),
+        TypeForm::SequenceOf(of) => list(alloc, table, "SequenceOf", *of),
+        TypeForm::SetOf(of) => list(alloc, table, "SetOf", *of),
+        TypeForm::Tagged(prefix, of) => tagged(alloc, module, table, node, *prefix, *of),
+    }
+}
+
+fn simple_text(simple: SimpleType) -> &'static str {
+    match simple {
+        SimpleType::Boolean => "BooleanRef<'a>",
+        SimpleType::OctetString => "OctetStringRef<'a>",
+        SimpleType::Null => "Null<'a>",
+        SimpleType::ObjectIdentifier => "ObjectIdentifierRef<'a>",
+        SimpleType::Utf8String => "Utf8StringRef<'a>",
+        SimpleType::NumericString => "NumericStringRef<'a>",
+        SimpleType::PrintableString => "PrintableStringRef<'a>",
+        SimpleType::TeletexString => "TeletexStringRef<'a>",
+        SimpleType::Ia5String => "Ia5StringRef<'a>",
+        SimpleType::VisibleString => "VisibleStringRef<'a>",
+        SimpleType::BmpString => "BmpStringRef<'a>",
+        SimpleType::UtcTime => "UtcTime",
+        SimpleType::GeneralizedTime => "GeneralizedTime",
+        SimpleType::Any | SimpleType::Unknown(_) => "AnyRef<'a>",
+    }
+}
+
+fn integer<'a>(alloc: Global, node: &TypeNode<'a>) -> Result<RustType, Failure<'a>> {
+    match node.constraint {
+        Constraint::Range(Endpoint::Number(low), Endpoint::Number(high)) => {
+            let text = format!(in alloc; "IntegerIn<{low}, {high}>")?;
+            Ok(RustType::new(alloc, text.as_str(), RustKind::Element)?)
+        }
+        Constraint::None | Constraint::Range(Endpoint::Min, Endpoint::Max) => {
+            Ok(RustType::new(alloc, "IntRef<'a>", RustKind::Element)?)
+        }
+        _ => Err(not_written(node)),
+    }
+}
+
+// The failure of a type that is right, and for which no text is written.
+fn not_written<'a>(node: &TypeNode<'a>) -> Failure<'a> {
+    Failure::Refused(Refusal::of(node.item, "a type for which the compiler has a form"))
+}
+
+// The lifetime of a type with these components.
+fn lifetime_of(table: &Vec<RustType>, components: &Vec<Component<'_>>) -> &'static str {
+    if components
+        .iter()
+        .any(|component| has_lifetime(table, component.of))
+    {
+        return "<'a>";
+    }
+    ""
+}
+
+fn has_lifetime(table: &Vec<RustType>, index: usize) -> bool {
+    match table.get(index) {
+        Some(found) => found.has_lifetime,
+        None => false,
+    }
+}
+
+fn reference<'a>(
+    alloc: Global,
+    module: &Module<'a>,
+    table: &Vec<RustType>,
+    names: &Vec<String>,
+    node: &TypeNode<'a>,
+) -> Result<RustType, Failure<'a>> {
+    let Some(of) = find_type(module, node.item.text) else {
+        return Err(not_written(node));
+    };
+    let Some(found) = table.get(of) else {
+        return Err(not_written(node));
+    };
+    if is_enumerated(module, of) {
+        return Ok(found.copy(alloc)?);
+    }
+    let mut text = String::from_str(alloc, text_at(names, of))?;
+    if found.has_lifetime {
+        text.push_str("<'a>")?;
+    }
+    Ok(found.renamed(alloc, text.as_str())?)
+}
+
+fn is_enumerated(module: &Module<'_>, index: usize) -> bool {
+    match module.nodes.get(index) {
+        Some(node) => matches!(&node.form, TypeForm::Enumerated(_)),
+        None => false,
+    }
+}
+
+fn list<'a>(
+    alloc: Global,
+    table: &Vec<RustType>,
+    word: &str,
+    of: usize,
+) -> Result<RustType, Failure<'a>> {
+    let mut text = String::from_str(alloc, word)?;
+    text.push_str("<'a, ")?;
+    if let Some(found) = table.get(of) {
+        text.push_str(found.text.as_str())?;
+    }
+    text.push('>')?;
+    Ok(RustType::new(alloc, text.as_str(), RustKind::Element)?)
+}
+
+fn tagged<'a>(
+    alloc: Global,
+    module: &Module<'a>,
+    table: &Vec<RustType>,
+    node: &TypeNode<'a>,
+    prefix: TagPrefix,
+    of: usize,
+) -> Result<RustType, Failure<'a>> {
+    let Some(found) = table.get(of) else {
+        return Err(not_written(node));
+    };
+    let text = match (found.kind, tagging(module, prefix.tagging)) {
+        (RustKind::Element, Tagging::Implicit) => "Implicit",
+        (RustKind::Element, Tagging::Explicit) => "Explicit",
+        (RustKind::Any, _) => "ExplicitAny",
+        (RustKind::Choice, _) => return Err(not_written(node)),
+    };
+    Ok(wrapped(alloc, text, found, prefix.tag)?)
+}
+
+// How a tag is put in front of a type with a tag.
+fn tagging(module: &Module<'_>, written: Option<Tagging>) -> Tagging {
+    match (written, module.tags) {
+        (Some(tagging), _) => tagging,
+        (None, TagDefault::Explicit) => Tagging::Explicit,
+        (None, TagDefault::Implicit | TagDefault::Automatic) => Tagging::Implicit,
+    }
+}
+
+// The type behind a tag.
+fn wrapped(alloc: Global, word: &str, found: &RustType, tag: Tag) -> Result<RustType, AllocError> {
+    let number = tag.number;
+    let inside = match found.kind {
+        RustKind::Any => "'a",
+        _ => found.text.as_str(),
+    };
+    let text = match tag.class {
+        TagClass::Application => format!(in alloc; "Application<{word}<{inside}, {number}>>")?,
+        TagClass::Private => format!(in alloc; "Private<{word}<{inside}, {number}>>")?,
+        _ => format!(in alloc; "{word}<{inside}, {number}>")?,
+    };
+    RustType::new(alloc, text.as_str(), RustKind::Element)
+}
+
+/// The type of each component, without OPTIONAL and DEFAULT, with the tags that the module numbers.
+pub fn component_types<'a>(
+    alloc: Global,
+    module: &Module<'a>,
+    table: &Vec<RustType>,
+    components: &Vec<Component<'a>>,
+) -> Result<Vec<RustType>, Failure<'a>> {
+    let are_numbered = are_numbered(module, components);
+    let mut types = Vec::new(alloc);
+    for (count, component) in components.iter().enumerate() {
+        let Some(node) = module.nodes.get(component.of) else {
+            continue;
+        };
+        let found = if are_numbered {
+            let tag = Tag {
+                class: TagClass::ContextSpecific,
+                number: count as u64,
+            };
+            let prefix = TagPrefix { tag, tagging: None };
+            tagged(alloc, module, table, node, prefix, component.of)?
+        } else {
+            copy_at(alloc, table, component.of)?
+        };
+        types.push(found)?;
+    }
+    Ok(types)
+}
+
+fn copy_at(alloc: Global, table: &Vec<RustType>, index: usize) -> Result<RustType, AllocError> {
+    match table.get(index) {
+        Some(found) => found.copy(alloc),
+        None => RustType::new(alloc, "", RustKind::Element),
+    }
+}
+
+/// The type of an alternative.
+#[derive(Drop)]
+pub struct Alternative {
+    /// The name of the variant.
+    pub name: String,
+    /// The lines of its documentation.
+    pub doc: String,
+    /// Its type.
+    pub of: RustType,
+}
+
+/// The alternatives for which the library has a type.
+pub fn alternatives<'a>(
+    alloc: Global,
+    module: &Module<'a>,
+    table: &Vec<RustType>,
+    components: &Vec<Component<'a>>,
+) -> Result<Vec<Alternative>, Failure<'a>> {
+    let mut found = Vec::new(alloc);
+    let types = component_types(alloc, module, table, components)?;
+    for (component, of) in components.iter().zip(types.iter()) {
+        if !is_unknown(module, component.of) {
+            found.push(Alternative {
+                name: pascal_name(alloc, component.name.text)?,
+                doc: doc_of(alloc, component.name.comments, "    ", component.name.text)?,
+                of: of.copy(alloc)?,
+            })?;
+        }
+    }
+    Ok(found)
+}
+
+fn is_unknown(module: &Module<'_>, index: usize) -> bool {
+    match module.nodes.get(index) {
+        Some(node) => matches!(&node.form, TypeForm::Simple(SimpleType::Unknown(_))),
+        None => false,
+    }
+}
+
+fn choice<'a>(
+    alloc: Global,
+    module: &Module<'a>,
+    table: &Vec<RustType>,
+    name: &str,
+    components: &Vec<Component<'a>>,
+) -> Result<RustType, Failure<'a>> {
+    let mut arms = String::new(alloc);
+    for alternative in alternatives(alloc, module, table, components)?.iter() {
+        let variant = alternative.name.as_str();
+        let check = alternative.of.check(alloc, "value")?;
+        write!(arms, "            {name}::{variant}(value) => {check},\n")?;
+    }
+    let lifetime = lifetime_of(table, components);
+    Ok(RustType {
+        text: format!(in alloc; "{name}{lifetime}")?,
+        kind: RustKind::Choice,
+        has_lifetime: !lifetime.is_empty(),
+        arms,
+    })
+}

@@ -1,0 +1,164 @@
+//! The parser.
+
+mod constraints;
+mod header;
+mod numbers;
+mod types;
+mod values;
+
+use crate::failure::Failure;
+use crate::item::Item;
+use crate::item_kind::ItemKind;
+use crate::items::items_of;
+use crate::module::{Module, TypeAssignment, ValueAssignment};
+use crate::refusal::Refusal;
+use crate::reserved::is_reserved;
+use crate::simple_type::SimpleType;
+use crate::type_node::TypeNode;
+use crate::value::Value;
+use std::alloc::Global;
+
+/// The greatest number of types around a type.
+const MAX_DEPTH: u32 = 64;
+
+/// A walk over the items of a module.
+#[derive(Drop)]
+struct Parser<'a> {
+    alloc: Global,
+    items: Vec<Item<'a>>,
+    at: usize,
+    nodes: Vec<TypeNode<'a>>,
+}
+
+/// Parses a module. Names are not looked up.
+pub fn parse_module<'a>(alloc: Global, text: &'a str) -> Result<Module<'a>, Failure<'a>> {
+    let mut parser = Parser {
+        alloc,
+        items: items_of(alloc, text)?,
+        at: 0,
+        nodes: Vec::new(alloc),
+    };
+    let (name, tags) = parser.header()?;
+    let imports = parser.exports_and_imports()?;
+    let mut types = Vec::new(alloc);
+    let mut values = Vec::new(alloc);
+    for _ in 0..text.len() {
+        if parser.takes("END") {
+            break;
+        }
+        let name = parser.next();
+        match name.kind {
+            ItemKind::UpperName => {
+                let of = parser.type_assigned(name)?;
+                types.push(TypeAssignment { name, of })?;
+            }
+            ItemKind::LowerName => {
+                let (of, value) = parser.value_assigned()?;
+                values.push(ValueAssignment { name, of, value })?;
+            }
+            _ => return Err(refused(name, "an assignment or END")),
+        }
+    }
+    parser.expect_end()?;
+    let Parser { nodes, .. } = parser;
+    Ok(Module {
+        name,
+        tags,
+        imports,
+        types,
+        values,
+        nodes,
+    })
+}
+
+/// The failure of an item that stands where something else is expected.
+fn refused<'a>(item: Item<'a>, expected: &'static str) -> Failure<'a> {
+    Failure::Refused(Refusal::of(item, expected))
+}
+
+impl<'a> Parser<'a> {
+    /// The item at this place.
+    fn peek(&self) -> Item<'a> {
+        self.item_at(self.at)
+    }
+
+    /// The item behind that at this place.
+    fn peek_second(&self) -> Item<'a> {
+        self.item_at(self.at.saturating_add(1))
+    }
+
+    fn item_at(&self, at: usize) -> Item<'a> {
+        match self.items.get(at) {
+            Some(item) => *item,
+            None => Item::END,
+        }
+    }
+
+    /// The item at this place, and moves past it.
+    fn next(&mut self) -> Item<'a> {
+        let item = self.peek();
+        self.at = self.at.saturating_add(1);
+        item
+    }
+
+    /// Whether this word or symbol stands here; if so, moves past it.
+    fn takes(&mut self, text: &str) -> bool {
+        let is_here = self.peek().is(text);
+        if is_here {
+            self.at = self.at.saturating_add(1);
+        }
+        is_here
+    }
+
+    /// Moves past this word or symbol.
+    fn expect(&mut self, text: &'static str) -> Result<(), Failure<'a>> {
+        if self.takes(text) {
+            return Ok(());
+        }
+        Err(refused(self.peek(), text))
+    }
+
+    /// Moves past an item of this kind, and returns it.
+    fn expect_kind(
+        &mut self,
+        kind: ItemKind,
+        expected: &'static str,
+    ) -> Result<Item<'a>, Failure<'a>> {
+        let item = self.peek();
+        if item.kind == kind {
+            self.at = self.at.saturating_add(1);
+            return Ok(item);
+        }
+        Err(refused(item, expected))
+    }
+
+    fn expect_end(&mut self) -> Result<(), Failure<'a>> {
+        match self.peek().kind {
+            ItemKind::End => Ok(()),
+            _ => Err(refused(self.peek(), "the end of the file")),
+        }
+    }
+
+    /// Parses what follows the name of a type.
+    fn type_assigned(&mut self, name: Item<'a>) -> Result<usize, Failure<'a>> {
+        if is_reserved(name.text) || SimpleType::of(name.text).is_some() {
+            return Err(refused(name, "an assignment or END"));
+        }
+        if self.peek().is("{") {
+            return Err(refused(self.peek(), "no parameters, which are not supported"));
+        }
+        self.expect("::=")?;
+        self.type_at(MAX_DEPTH)
+    }
+
+    /// Parses what follows the name of a value.
+    fn value_assigned(&mut self) -> Result<(usize, Value<'a>), Failure<'a>> {
+        if self.peek().is("{") {
+            return Err(refused(self.peek(), "no parameters, which are not supported"));
+        }
+        let of = self.type_at(MAX_DEPTH)?;
+        self.expect("::=")?;
+        let value = self.value()?;
+        Ok((of, value))
+    }
+}

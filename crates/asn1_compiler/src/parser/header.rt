@@ -1,0 +1,100 @@
+//! The header of a module, and what it exports and imports.
+
+use super::{Parser, refused};
+use crate::failure::Failure;
+use crate::item::Item;
+use crate::item_kind::ItemKind;
+use crate::module::Import;
+use crate::tagging::TagDefault;
+
+impl<'a> Parser<'a> {
+    /// Parses up to `BEGIN`: the name of the module, and what it says of its tags.
+    pub(super) fn header(&mut self) -> Result<(Item<'a>, TagDefault), Failure<'a>> {
+        let name = self.expect_kind(ItemKind::UpperName, "the name of a module")?;
+        if self.peek().is("{") {
+            self.braces()?;
+        }
+        self.expect("DEFINITIONS")?;
+        let tags = self.tag_default()?;
+        if self.peek().is("EXTENSIBILITY") {
+            return Err(refused(self.peek(), "::= (EXTENSIBILITY IMPLIED is not supported)"));
+        }
+        self.expect("::=")?;
+        self.expect("BEGIN")?;
+        Ok((name, tags))
+    }
+
+    fn tag_default(&mut self) -> Result<TagDefault, Failure<'a>> {
+        let tags = if self.takes("EXPLICIT") {
+            TagDefault::Explicit
+        } else if self.takes("IMPLICIT") {
+            TagDefault::Implicit
+        } else if self.takes("AUTOMATIC") {
+            TagDefault::Automatic
+        } else {
+            return Ok(TagDefault::Explicit);
+        };
+        self.expect("TAGS")?;
+        Ok(tags)
+    }
+
+    /// Parses `EXPORTS`, which says nothing here, and `IMPORTS`.
+    pub(super) fn exports_and_imports(&mut self) -> Result<Vec<Import<'a>>, Failure<'a>> {
+        if self.takes("EXPORTS") {
+            self.skip_exports()?;
+        }
+        let mut imports = Vec::new(self.alloc);
+        if !self.takes("IMPORTS") {
+            return Ok(imports);
+        }
+        for _ in 0..self.items.len() {
+            if self.takes(";") {
+                return Ok(imports);
+            }
+            self.imports_of_module(&mut imports)?;
+        }
+        Err(refused(self.peek(), ";"))
+    }
+
+    fn skip_exports(&mut self) -> Result<(), Failure<'a>> {
+        for _ in 0..self.items.len() {
+            if self.takes(";") {
+                return Ok(());
+            }
+            let item = self.next();
+            match item.kind {
+                ItemKind::UpperName | ItemKind::LowerName => {}
+                _ if item.is(",") => {}
+                _ => return Err(refused(item, "a name, a comma or ;")),
+            }
+        }
+        Err(refused(self.peek(), ";"))
+    }
+
+    // Parses the names that one module defines, and its name.
+    fn imports_of_module(&mut self, imports: &mut Vec<Import<'a>>) -> Result<(), Failure<'a>> {
+        let mut names = Vec::new(self.alloc);
+        for _ in 0..self.items.len() {
+            let name = self.next();
+            match name.kind {
+                ItemKind::UpperName | ItemKind::LowerName => names.push(name)?,
+                _ => return Err(refused(name, "a name that is imported")),
+            }
+            if !self.takes(",") {
+                break;
+            }
+        }
+        self.expect("FROM")?;
+        let module = self.expect_kind(ItemKind::UpperName, "the name of a module")?;
+        if self.peek().is("{") {
+            self.braces()?;
+        }
+        for name in names.iter() {
+            imports.push(Import {
+                name: *name,
+                module,
+            })?;
+        }
+        Ok(())
+    }
+}

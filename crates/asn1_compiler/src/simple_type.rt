@@ -1,0 +1,69 @@
+//! Types that have no parts.
+
+/// A type that is one reserved word or two, with its universal tag.
+#[derive(Clone, Copy, Debug, PartialEq, Eq)]
+pub enum SimpleType {
+    Boolean,
+    OctetString,
+    Null,
+    ObjectIdentifier,
+    Utf8String,
+    NumericString,
+    PrintableString,
+    TeletexString,
+    Ia5String,
+    VisibleString,
+    BmpString,
+    UtcTime,
+    GeneralizedTime,
+    /// A type that the library does not know, with the number of its universal tag.
+    Unknown(u8),
+    /// Any type.
+    Any,
+}
+
+impl SimpleType {
+    /// The type of this reserved word; `None` for another word.
+    pub fn of(word: &str) -> Option<Self> {
+        match word {
+            "BOOLEAN" => Some(SimpleType::Boolean),
+            "NULL" => Some(SimpleType::Null),
+            "UTF8String" => Some(SimpleType::Utf8String),
+            "NumericString" => Some(SimpleType::NumericString),
+            "PrintableString" => Some(SimpleType::PrintableString),
+            "TeletexString" | "T61String" => Some(SimpleType::TeletexString),
+            "IA5String" => Some(SimpleType::Ia5String),
+            "VisibleString" | "ISO646String" => Some(SimpleType::VisibleString),
+            "BMPString" => Some(SimpleType::BmpString),
+            "UTCTime" => Some(SimpleType::UtcTime),
+            "GeneralizedTime" => Some(SimpleType::GeneralizedTime),
+            "REAL" => Some(SimpleType::Unknown(9)),
+            "VideotexString" => Some(SimpleType::Unknown(21)),
+            "GraphicString" => Some(SimpleType::Unknown(25)),
+            "GeneralString" => Some(SimpleType::Unknown(27)),
+            "UniversalString" => Some(SimpleType::Unknown(28)),
+            _ => None,
+        }
+    }
+
+    /// The number of the universal tag (X.680, 8.4); `None` for any type.
+    pub fn tag_number(self) -> Option<u64> {
+        match self {
+            SimpleType::Boolean => Some(1),
+            SimpleType::OctetString => Some(4),
+            SimpleType::Null => Some(5),
+            SimpleType::ObjectIdentifier => Some(6),
+            SimpleType::Utf8String => Some(12),
+            SimpleType::NumericString => Some(18),
+            SimpleType::PrintableString => Some(19),
+            SimpleType::TeletexString => Some(20),
+            SimpleType::Ia5String => Some(22),
+            SimpleType::VisibleString => Some(26),
+            SimpleType::BmpString => Some(30),
+            SimpleType::UtcTime => Some(23),
+            SimpleType::GeneralizedTime => Some(24),
+            SimpleType::Unknown(number) => Some(u64::from(number)),
+            SimpleType::Any => None,
+        }
+    }
+}

@@ -1,0 +1,22 @@
+//! Tags of the notation.
+
+use crate::tag_class::TagClass;
+use crate::tagging::Tagging;
+
+/// A tag, as `[1]` or `[APPLICATION 7]`.
+#[derive(Clone, Copy, Debug, PartialEq, Eq)]
+pub struct Tag {
+    /// The class.
+    pub class: TagClass,
+    /// The number.
+    pub number: u64,
+}
+
+/// A tag in front of a type, with what it says of the tags behind it.
+#[derive(Clone, Copy, Debug)]
+pub struct TagPrefix {
+    /// The tag.
+    pub tag: Tag,
+    /// Whether the tag of the type behind it is kept; `None` if neither word is written.
+    pub tagging: Option<Tagging>,
+}

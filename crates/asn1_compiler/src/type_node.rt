@@ -1,0 +1,44 @@
+//! Types of the notation.
+
+use crate::component::Component;
+use crate::constraint::Constraint;
+use crate::item::Item;
+use crate::named_number::NamedNumber;
+use crate::simple_type::SimpleType;
+use crate::tag::TagPrefix;
+
+/// A type, with the item that it begins with. Types that it is made of have indices below its own.
+#[derive(Drop)]
+pub struct TypeNode<'a> {
+    /// The first item.
+    pub item: Item<'a>,
+    /// How the type is made.
+    pub form: TypeForm<'a>,
+    /// The constraint behind it.
+    pub constraint: Constraint<'a>,
+}
+
+/// How a type is made.
+#[derive(Drop)]
+pub enum TypeForm<'a> {
+    /// Without parts.
+    Simple(SimpleType),
+    /// An INTEGER with these named numbers.
+    Integer(Vec<NamedNumber<'a>>),
+    /// An ENUMERATED with these items.
+    Enumerated(Vec<NamedNumber<'a>>),
+    /// A BIT STRING with these named bits.
+    BitString(Vec<NamedNumber<'a>>),
+    /// The type with the name that is its item.
+    Reference,
+    /// A SEQUENCE of these components.
+    Sequence(Vec<Component<'a>>),
+    /// A CHOICE of these alternatives.
+    Choice(Vec<Component<'a>>),
+    /// A SEQUENCE OF the type with this index.
+    SequenceOf(usize),
+    /// A SET OF the type with this index.
+    SetOf(usize),
+    /// The type with this index behind a tag.
+    Tagged(TagPrefix, usize),
+}
