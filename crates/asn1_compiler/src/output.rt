@@ -3,12 +3,15 @@
 mod choice;
 mod choice_part;
 mod defaults;
+mod directive;
 mod docs;
 mod enumeration;
 mod field;
 mod file;
 mod imports;
+mod lists;
 mod naming;
+mod numbers;
 mod part;
 mod piece;
 mod pieces;
@@ -20,7 +23,7 @@ mod types;
 
 use crate::checks::check_module;
 use crate::failure::Failure;
-use crate::output::file::{file_of, root_of};
+use crate::output::file::{file_of, proof_of, root_of};
 use crate::output::naming::names_of;
 use crate::output::pieces::Written;
 use crate::output::types::types_in_order;
@@ -29,7 +32,7 @@ pub use file::OutputFile;
 pub use rust_names::{pascal_name, snake_name};
 use std::alloc::Global;
 
-/// Compiles a module for the crate `krate`: the files to be written beneath its folder `src/`.
+/// Compiles a module for the crate `krate`: the files to be written beneath its folder.
 pub fn compile<'a>(
     alloc: Global,
     text: &'a str,
@@ -49,6 +52,9 @@ pub fn compile<'a>(
     files.push(root_of(alloc, module.name.text, &pieces)?)?;
     for piece in pieces.iter() {
         files.push(file_of(alloc, module.name.text, krate, piece, &pieces)?)?;
+        if !piece.proof.is_empty() {
+            files.push(proof_of(alloc, krate, piece)?)?;
+        }
     }
     Ok(files)
 }

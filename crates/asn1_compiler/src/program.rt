@@ -65,28 +65,40 @@ fn run<R: Files + AllocGlobal, W: Write>(rt: &R, command: CompileCommand<'_>, ou
     }
 }
 
-/// Writes the files beneath the folder `src` of a crate. The folder `src/asn1` has no other files
-/// afterwards; the file `src/lib.rt` is written only if there is none.
+/// Writes the files beneath the folder of a crate. Its folders `src/asn1`, `specs/asn1` and
+/// `proofs/asn1` have no other files afterwards; the file `src/lib.rt` is written only if there is none.
 fn write_files<R: Files + AllocGlobal>(
     rt: &R,
     folder: &str,
     files: &Vec<OutputFile>,
 ) -> io::Result<()> {
-    let own = format!(in rt.alloc(); "{folder}/src/asn1")?;
-    if fs::exists(rt, own.as_str())? {
-        fs::remove_dir_all(rt, own.as_str())?;
+    for part in ["src", "specs", "proofs"] {
+        let own = format!(in rt.alloc(); "{folder}/{part}/asn1")?;
+        if fs::exists(rt, own.as_str())? {
+            fs::remove_dir_all(rt, own.as_str())?;
+        }
     }
-    fs::create_dir_all(rt, own.as_str())?;
     for file in files.iter() {
-        let beneath = file.path.as_str();
-        let path = format!(in rt.alloc(); "{folder}/src/{beneath}")?;
-        fs::write(rt, path.as_str(), file.text.as_str())?;
+        write_file(rt, folder, file)?;
     }
     let library = format!(in rt.alloc(); "{folder}/src/lib.rt")?;
     if !fs::exists(rt, library.as_str())? {
         fs::write(rt, library.as_str(), LIBRARY)?;
     }
     Ok(())
+}
+
+fn write_file<R: Files + AllocGlobal>(
+    rt: &R,
+    folder: &str,
+    file: &OutputFile,
+) -> io::Result<()> {
+    let beneath = file.path.as_str();
+    let path = format!(in rt.alloc(); "{folder}/{beneath}")?;
+    if let Some((parent, _)) = path.as_str().rsplit_once('/') {
+        fs::create_dir_all(rt, parent)?;
+    }
+    fs::write(rt, path.as_str(), file.text.as_str())
 }
 
 /// Prints `text` to `out`, and returns `status`, or 1 if the output fails.

@@ -18,6 +18,8 @@ pub enum SimpleType {
     GeneralizedTime,
     /// A type that the library does not know, with the number of its universal tag.
     Unknown(u8),
+    /// A SEQUENCE whose contents are not read.
+    Unread,
     /// Any type.
     Any,
 }
@@ -63,6 +65,7 @@ impl SimpleType {
             SimpleType::UtcTime => Some(23),
             SimpleType::GeneralizedTime => Some(24),
             SimpleType::Unknown(number) => Some(u64::from(number)),
+            SimpleType::Unread => Some(16),
             SimpleType::Any => None,
         }
     }

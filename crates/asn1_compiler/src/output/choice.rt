@@ -16,12 +16,11 @@ pub struct ChoiceText {
     pub alternatives: Vec<Alternative>,
 }
 
-const ENUM: &str = "@D#[derive(Drop)]
+const ENUM: &str = "@D#[derive(Clone, Copy, Drop)]
 pub enum @N@L {
 @F}
 
-// The alternatives, as nested choices of two.
-pub(crate) type @NAlternatives@L = @T;
+@O type @NAlternatives@L = @T;
 
 impl@L FromFields<@NAlternatives@L> for @N@L {
     ghost fields = { elim [
@@ -110,6 +109,14 @@ impl<'a> BorrowedItem for @N@L {
 }
 ";
 
+const PROOF: &str = "
+pub returns-in-@V-clause-ok : goal.returns-in-@V-clause-ok
+returns-in-@V-clause-ok g c = rw c.in-@V.is c.@E.ensures.ok
+
+pub returns-in-@V-clause-succeeds : goal.returns-in-@V-clause-succeeds
+returns-in-@V-clause-succeeds g c = rw c.in-@V.is c.@E.ensures.succeeds
+";
+
 /// The most alternatives in one nested choice: more of them take the checker's bound too far.
 const PART: usize = 3;
 
@@ -134,11 +141,37 @@ impl ChoiceText {
             Place::new('M', meaning.as_str()),
             Place::new('A', lens.as_str()),
             Place::new('B', encodes.as_str()),
+            Place::new('O', self.visibility()),
         ];
         let mut text = String::new(alloc);
         fill(&mut text, ENUM, &places)?;
         fill(&mut text, DECODE, &places)?;
         fill(&mut text, ENCODE, &places)?;
+        Ok(text)
+    }
+
+    // How the type of the alternatives begins: it is public unless it has private parts.
+    fn visibility(&self) -> &'static str {
+        if self.has_parts() {
+            "// The alternatives, as nested choices of two.\npub(crate)"
+        } else {
+            "/// The alternatives, as nested choices of two.\npub"
+        }
+    }
+
+    /// The text of the proof that `encode` writes the alternative that the value has.
+    pub fn proof(&self, alloc: Global) -> Result<String, AllocError> {
+        let mut text = String::new(alloc);
+        for (count, alternative) in self.alternatives.iter().enumerate() {
+            let name = alternative.name.as_str();
+            let call = if count == 0 {
+                String::from_str(alloc, "encode")?
+            } else {
+                format!(in alloc; "encode-in-{name}")?
+            };
+            let places = [Place::new('V', name), Place::new('E', call.as_str())];
+            fill(&mut text, PROOF, &places)?;
+        }
         Ok(text)
     }
 

@@ -1,7 +1,9 @@
 //! Types of fields that have a default.
 
+use super::directive::type_name;
+use super::numbers::{base_of, is_enumeration, number_of_name};
 use super::rust_type::RustType;
-use crate::checks::find_type;
+use super::template::{Place, fill};
 use crate::endpoint::Endpoint;
 use crate::failure::Failure;
 use crate::item_kind::ItemKind;
@@ -13,7 +15,30 @@ use crate::type_node::TypeForm;
 use crate::value::{Value, ValueForm};
 use std::alloc::Global;
 
-/// The type of a DEFAULT field, for the type `of` of its component, whose index is `index`.
+/// The type of a DEFAULT field.
+#[derive(Drop)]
+pub struct DefaultType {
+    /// The type.
+    pub of: RustType,
+    /// The text of the type that stands for the default, if the library has none for it.
+    pub own: String,
+}
+
+const ITEM: &str = "
+/// The default of a field: [`@E::@V`].
+pub struct @N;
+
+impl DefaultOf<@T> for @N {
+    ghost default_contents = { integer_octets false @I };
+
+    fn default_value() -> @T {
+        <@T>::new(@E::@V)
+    }
+}
+";
+
+/// The type of a DEFAULT field, for the type `of` of its component, whose index is `index`. If the
+/// default needs a type of its own, it gets the name `name`.
 pub fn default_type<'a>(
     alloc: Global,
     module: &Module<'a>,
@@ -21,9 +46,16 @@ pub fn default_type<'a>(
     of: &RustType,
     index: usize,
     value: &Value<'a>,
-) -> Result<RustType, Failure<'a>> {
+    name: &str,
+) -> Result<DefaultType, Failure<'a>> {
     let leaf = leaf_of(module, index);
+    let Some(found) = types.get(leaf) else {
+        return Err(not_written(value));
+    };
     let base = base_of(module, leaf);
+    if is_enumeration(module, base) {
+        return item_default(alloc, module, of, found, base, value, name);
+    }
     let inside = match module.nodes.get(base) {
         Some(node) => match &node.form {
             TypeForm::Simple(SimpleType::Boolean) => boolean(alloc, value)?,
@@ -32,16 +64,82 @@ pub fn default_type<'a>(
         },
         None => return Err(not_written(value)),
     };
-    let Some(found) = types.get(leaf) else {
-        return Err(not_written(value));
-    };
+    let of = with_inside(alloc, of, found, inside.as_str(), value)?;
+    Ok(DefaultType {
+        of,
+        own: String::new(alloc),
+    })
+}
+
+// The type `of`, with `inside` in place of the type `found`.
+fn with_inside<'a>(
+    alloc: Global,
+    of: &RustType,
+    found: &RustType,
+    inside: &str,
+    value: &Value<'a>,
+) -> Result<RustType, Failure<'a>> {
     match of.text.split_once(found.text.as_str()) {
         Some((before, after)) => {
-            let inside = inside.as_str();
             let text = format!(in alloc; "{before}{inside}{after}")?;
             Ok(of.renamed(alloc, text.as_str())?)
         }
         None => Err(not_written(value)),
+    }
+}
+
+// The type of a field whose default is an item of an enumeration.
+fn item_default<'a>(
+    alloc: Global,
+    module: &Module<'a>,
+    of: &RustType,
+    found: &RustType,
+    base: usize,
+    value: &Value<'a>,
+    name: &str,
+) -> Result<DefaultType, Failure<'a>> {
+    let items = match module.nodes.get(base) {
+        Some(node) => match &node.form {
+            TypeForm::Integer(items) | TypeForm::Enumerated(items) => items,
+            _ => return Err(not_written(value)),
+        },
+        None => return Err(not_written(value)),
+    };
+    let Some(enumeration) = inside_of(found.text.as_str()) else {
+        return Err(not_written(value));
+    };
+    for (count, item) in items.iter().enumerate() {
+        if item.name.text == value.item.text {
+            let number = format!(in alloc; "{}", item_number(item, count))?;
+            let variant = type_name(alloc, item.name)?;
+            let places = [
+                Place::new('N', name),
+                Place::new('T', found.text.as_str()),
+                Place::new('E', enumeration),
+                Place::new('V', variant.as_str()),
+                Place::new('I', number.as_str()),
+            ];
+            let mut own = String::new(alloc);
+            fill(&mut own, ITEM, &places)?;
+            let text = found.text.as_str();
+            let inside = format!(in alloc; "WithDefault<{text}, {name}>")?;
+            let of = with_inside(alloc, of, found, inside.as_str(), value)?;
+            return Ok(DefaultType { of, own });
+        }
+    }
+    Err(Failure::Refused(Refusal::of(value.item, "the name of a number of this type")))
+}
+
+// What stands between `<` and `>`.
+fn inside_of(text: &str) -> Option<&str> {
+    let (_, inside) = text.split_once('<')?;
+    inside.strip_suffix(">")
+}
+
+fn item_number(item: &NamedNumber<'_>, count: usize) -> u64 {
+    match item.number {
+        Some(Endpoint::Number(number)) => number,
+        _ => count as u64,
     }
 }
 
@@ -59,24 +157,6 @@ fn leaf_of(module: &Module<'_>, index: usize) -> usize {
                 _ => return index,
             },
             None => return index,
-        }
-    }
-    index
-}
-
-// The type behind the names of a type.
-fn base_of(module: &Module<'_>, index: usize) -> usize {
-    let mut index = index;
-    for _ in module.nodes.iter() {
-        let Some(node) = module.nodes.get(index) else {
-            return index;
-        };
-        match &node.form {
-            TypeForm::Reference => match find_type(module, node.item.text) {
-                Some(of) => index = of,
-                None => return index,
-            },
-            _ => return index,
         }
     }
     index
@@ -111,31 +191,9 @@ fn number_of<'a>(
 ) -> Option<u64> {
     match (&value.form, value.item.kind) {
         (ValueForm::Item, ItemKind::Number) => value.item.text.parse::<u64>().ok(),
-        (ValueForm::Item, ItemKind::LowerName) => match named(numbers, value.item.text) {
-            Some(number) => Some(number),
-            None => assigned(module, value.item.text),
-        },
+        (ValueForm::Item, ItemKind::LowerName) => {
+            number_of_name(module, numbers, value.item.text)
+        }
         _ => None,
     }
-}
-
-fn named(numbers: &Vec<NamedNumber<'_>>, name: &str) -> Option<u64> {
-    for named in numbers.iter() {
-        if named.name.text == name {
-            return match named.number {
-                Some(Endpoint::Number(number)) => Some(number),
-                _ => None,
-            };
-        }
-    }
-    None
-}
-
-fn assigned(module: &Module<'_>, name: &str) -> Option<u64> {
-    for assigned in module.values.iter() {
-        if assigned.name.text == name && assigned.value.item.kind == ItemKind::Number {
-            return assigned.value.item.text.parse::<u64>().ok();
-        }
-    }
-    None
 }

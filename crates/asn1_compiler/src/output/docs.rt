@@ -1,5 +1,6 @@
 //! Comments of the module as documentation.
 
+use super::directive::is_directive;
 use std::alloc::{AllocError, Global};
 
 /// The comment in front of a name, without its marks, on lines that begin with `indent`; or
@@ -17,7 +18,7 @@ pub fn doc_of(
     let mut doc = String::new(alloc);
     for line in own.lines() {
         let line = without_marks(line);
-        if !line.is_empty() {
+        if !line.is_empty() && !is_directive(line) {
             push_line(&mut doc, indent, line)?;
         }
     }
@@ -34,8 +35,8 @@ fn push_line(doc: &mut String, indent: &str, line: &str) -> Result<(), AllocErro
     doc.push('\n')
 }
 
-// A line of a comment without the marks at its ends.
-fn without_marks(line: &str) -> &str {
+/// A line of a comment without the marks at its ends.
+pub fn without_marks(line: &str) -> &str {
     let line = line.trim();
     let line = line.strip_prefix("--").unwrap_or(line);
     let line = line.strip_prefix("/*").unwrap_or(line);

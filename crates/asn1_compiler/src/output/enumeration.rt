@@ -1,6 +1,6 @@
 //! The text of an ENUMERATED, and of the bits of a BIT STRING.
 
-use super::rust_names::pascal_name;
+use super::directive::type_name;
 use super::template::{Place, fill};
 use crate::endpoint::Endpoint;
 use crate::failure::Failure;
@@ -47,7 +47,7 @@ pub fn enumeration_body<'a>(
     let mut arms = String::new(alloc);
     for (count, item) in items.iter().enumerate() {
         let number = number_of(item, count)?;
-        let variant = pascal_name(alloc, item.name.text)?;
+        let variant = type_name(alloc, item.name)?;
         write!(variants, "    {variant} = {number},\n")?;
         write!(
             choices,

@@ -22,9 +22,18 @@ pub struct Field {
     pub of: RustType,
     /// Whether it may be absent.
     pub presence: FieldPresence,
+    /// The text of the type that stands for its default, or nothing.
+    pub own: String,
 }
 
 impl Field {
+    /// The name of the type that stands for its default, if it has one of its own.
+    pub fn own_name(&self) -> Option<&str> {
+        let (_, rest) = self.own.split_once("pub struct ")?;
+        let (name, _) = rest.split_once(';')?;
+        Some(name)
+    }
+
     /// The type of the field.
     pub fn whole_type(&self, alloc: Global) -> Result<String, AllocError> {
         let text = self.of.text.as_str();

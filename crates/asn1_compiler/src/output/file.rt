@@ -7,7 +7,7 @@ use std::alloc::{AllocError, Global};
 /// A file that the compiler writes.
 #[derive(Drop)]
 pub struct OutputFile {
-    /// The path beneath `src/`.
+    /// The path beneath the folder of the crate.
     pub path: String,
     /// The text.
     pub text: String,
@@ -15,7 +15,7 @@ pub struct OutputFile {
 
 const PRELUDE: &str = "Rattle.std.specs.Prelude";
 
-const MEANING: [&str; 14] = [
+const MEANING: [&str; 15] = [
     "alternative",
     "any_element",
     "choice_is_item",
@@ -25,6 +25,7 @@ const MEANING: [&str; 14] = [
     "either",
     "field",
     "optional",
+    "renamed",
     "seen",
     "sequence",
     "sequence_is_item",
@@ -32,26 +33,31 @@ const MEANING: [&str; 14] = [
     "two_fields",
 ];
 
-const DER: [&str; 16] = [
+const DER: [&str; 21] = [
     "Decode",
     "DecodeValue",
     "Encode",
     "EncodeValue",
     "Error",
+    "FixedTag",
     "FromFields",
     "Header",
+    "Lawful",
     "Length",
+    "ReadValue",
     "Reader",
     "Sequence",
     "SliceReader",
     "Tag",
     "Writer",
+    "WrittenValue",
     "decode_fields",
     "decode_sequence",
+    "decode_wrapped",
     "field_refs",
 ];
 
-const DER_ASN1: [&str; 43] = [
+const DER_ASN1: [&str; 46] = [
     "AnyRef",
     "Application",
     "BitStringRef",
@@ -60,6 +66,7 @@ const DER_ASN1: [&str; 43] = [
     "BorrowedItem",
     "Choice",
     "DecodeItem",
+    "DefaultOf",
     "DefaultTrue",
     "DefaultU64",
     "DefaultValue",
@@ -79,6 +86,7 @@ const DER_ASN1: [&str; 43] = [
     "IntegerOf",
     "Item",
     "NamedBitsRef",
+    "NamedInteger",
     "Nestable",
     "Null",
     "NumericStringRef",
@@ -88,6 +96,7 @@ const DER_ASN1: [&str; 43] = [
     "PrintableStringRef",
     "Private",
     "SequenceOf",
+    "SequenceRef",
     "SetOf",
     "TeletexStringRef",
     "UtcTime",
@@ -119,7 +128,7 @@ pub fn file_of(
     text.push('\n')?;
     text.push_str(piece.body.as_str())?;
     Ok(OutputFile {
-        path: format!(in alloc; "asn1/{file}.rt")?,
+        path: format!(in alloc; "src/asn1/{file}.rt")?,
         text,
     })
 }
@@ -144,7 +153,13 @@ fn push_ghost_lines(
     code: &str,
 ) -> Result<(), AllocError> {
     match piece.kind {
-        PieceKind::Sequence => text.push_str("ghost use Rattle.std.specs.Prelude.{◌≡◌};\n")?,
+        PieceKind::Sequence => {
+            push_ghost_use(alloc, text, code, PRELUDE, &["false"])?;
+            text.push_str("ghost use Rattle.std.specs.Prelude.{◌≡◌};\n")?;
+        }
+        PieceKind::List => {
+            text.push_str("ghost use Rattle.std.specs.Prelude.{◌≡◌, false};\n")?;
+        }
         PieceKind::Enumeration => text.push_str(
             "ghost use Rattle.std.specs.Prelude.{◌==◌, Option, Some, None, if◌then◌else◌};\n",
         )?,
@@ -157,7 +172,10 @@ fn push_ghost_lines(
         "Rattle.std.proofs.Common",
         &["arith", "refl"],
     )?;
-    push_ghost_use(alloc, text, code, "Rattle.der.specs.Prelude", &["map_ok"])?;
+    let der = ["Set", "map_ok"];
+    push_ghost_use(alloc, text, code, "Rattle.der.specs.Prelude", &der)?;
+    let integer = "Rattle.der_asn1.specs.Integer";
+    push_ghost_use(alloc, text, code, integer, &["integer_octets"])?;
     push_ghost_use(
         alloc,
         text,
@@ -228,7 +246,20 @@ pub fn root_of(alloc: Global, module: &str, all: &Vec<Piece>) -> Result<OutputFi
         }
     }
     Ok(OutputFile {
-        path: String::from_str(alloc, "asn1.rt")?,
+        path: String::from_str(alloc, "src/asn1.rt")?,
         text,
+    })
+}
+
+/// The proof of a piece that has one.
+pub fn proof_of(alloc: Global, krate: &str, piece: &Piece) -> Result<OutputFile, AllocError> {
+    let (name, file, proof) = (piece.name.as_str(), piece.file.as_str(), piece.proof.as_str());
+    let place = format!(in alloc; "asn1/{file}/{name}Encode/encode")?;
+    let place = place.as_str();
+    Ok(OutputFile {
+        path: format!(in alloc; "proofs/{place}/Answers.antt")?,
+        text: format!(in alloc;
+            "-- Written by asn1_compile: change the module instead.\nuse Rattle.{krate}.proofs.asn1.{file}.{name}Encode.encode.Goals as goal\n{proof}"
+        )?,
     })
 }

@@ -1,5 +1,6 @@
 //! Names of Rust for types, also for those without a name.
 
+use super::directive::type_name;
 use super::rust_names::pascal_name;
 use crate::component::Component;
 use crate::module::Module;
@@ -17,7 +18,7 @@ pub fn names_of(alloc: Global, module: &Module<'_>) -> Result<Vec<String>, Alloc
         set_name(
             &mut names,
             assigned.of,
-            pascal_name(alloc, assigned.name.text)?,
+            type_name(alloc, assigned.name)?,
         );
     }
     for count in 0..module.nodes.len() {

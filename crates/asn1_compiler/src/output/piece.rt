@@ -9,6 +9,7 @@ pub enum PieceKind {
     SequencePart,
     Choice,
     ChoicePart,
+    List,
     Enumeration,
     Alias,
 }
@@ -28,6 +29,8 @@ pub struct Piece {
     pub kind: PieceKind,
     /// The text.
     pub body: String,
+    /// The text of a proof of `encode`; empty if the checker needs none.
+    pub proof: String,
 }
 
 impl Piece {
@@ -51,6 +54,7 @@ impl Piece {
             is_public: kind != PieceKind::SequencePart && kind != PieceKind::ChoicePart,
             kind,
             body,
+            proof: String::new(alloc),
         })
     }
 }

@@ -2,23 +2,24 @@
 
 use super::choice::ChoiceText;
 use super::choice_part::choice_part_body;
-use super::defaults::default_type;
+use super::defaults::{DefaultType, default_type};
+use super::directive::{field_name, type_name};
 use super::docs::doc_of;
 use super::enumeration::enumeration_body;
 use super::field::{Field, FieldPresence};
+use super::lists::{list_body, list_field};
 use super::naming::{is_assigned, text_at};
+use super::numbers::is_closed;
 use super::part::part_body;
 use super::piece::{Piece, PieceKind};
-use super::rust_names::snake_name;
-use super::rust_type::RustType;
+use super::rust_type::{RustKind, RustType};
 use super::sequence::{SequenceText, lifetime_of};
-use super::types::{alternatives, component_types};
-use crate::checks::find_type;
+use super::types::{alternatives, component_types, list_text, tagged_name};
+use crate::checks::are_numbered;
 use crate::component::{Component, Presence};
 use crate::failure::Failure;
 use crate::module::Module;
 use crate::refusal::Refusal;
-use crate::tagging::{TagDefault, Tagging};
 use crate::type_node::{TypeForm, TypeNode};
 use std::alloc::{AllocError, Global};
 
@@ -62,28 +63,116 @@ impl<'m, 'a> Written<'m, 'a> {
         match &node.form {
             TypeForm::Sequence(components) => {
                 check_count(node, components)?;
-                let text = self.sequence(alloc, index, name, doc, components)?;
+                let text = self.sequence(alloc, name, doc, components)?;
                 add_sequence(alloc, pieces, &text)?;
+                self.add_numbered_choices(alloc, pieces, components)?;
             }
             TypeForm::Choice(components) => {
                 check_count(node, components)?;
                 let text = ChoiceText {
                     name: String::from_str(alloc, name)?,
                     doc,
-                    alternatives: alternatives(alloc, self.module, self.types, components)?,
+                    alternatives: alternatives(
+                        alloc,
+                        self.module,
+                        self.types,
+                        self.names,
+                        components,
+                    )?,
                 };
                 add_choice(alloc, pieces, &text)?;
+                self.add_numbered_choices(alloc, pieces, components)?;
             }
             TypeForm::Enumerated(items) => {
                 let body = enumeration_body(alloc, doc.as_str(), name, items, true)?;
-                pieces.push(Piece::new(alloc, name, "", PieceKind::Enumeration, body)?)?;
+                add_piece(pieces, Piece::new(alloc, name, "", PieceKind::Enumeration, body)?)?;
+            }
+            TypeForm::Integer(items) if is_closed(self.module, node, items) => {
+                let body = enumeration_body(alloc, doc.as_str(), name, items, true)?;
+                add_piece(pieces, Piece::new(alloc, name, "", PieceKind::Enumeration, body)?)?;
+            }
+            TypeForm::SequenceOf(_) | TypeForm::SetOf(_) => {
+                self.add_list(alloc, pieces, index, node, name, doc)?;
+            }
+            TypeForm::Tagged(_, of) => {
+                self.add_tagged_choice(alloc, pieces, *of)?;
+                if is_assigned(self.module, index) {
+                    add_piece(pieces, self.alias(alloc, index, node, name, doc)?)?;
+                }
             }
             _ if is_assigned(self.module, index) => {
-                pieces.push(self.alias(alloc, index, node, name, doc)?)?;
+                add_piece(pieces, self.alias(alloc, index, node, name, doc)?)?;
             }
             _ => {}
         }
         Ok(())
+    }
+
+    // Adds the piece of a list that is a struct, or has a name in the module.
+    fn add_list(
+        &self,
+        alloc: Global,
+        pieces: &mut Vec<Piece>,
+        index: usize,
+        node: &TypeNode<'a>,
+        name: &str,
+        doc: String,
+    ) -> Result<(), Failure<'a>> {
+        if let Some(field) = list_field(self.module, index) {
+            let list = list_text(alloc, self.types, node)?;
+            let body = list_body(alloc, doc.as_str(), name, field, list.as_str())?;
+            add_piece(pieces, Piece::new(alloc, name, "", PieceKind::List, body)?)?;
+        } else if is_assigned(self.module, index) {
+            add_piece(pieces, self.alias(alloc, index, node, name, doc)?)?;
+        }
+        Ok(())
+    }
+
+    // Adds the pieces of tags in front of a CHOICE, for components that the module numbers.
+    fn add_numbered_choices(
+        &self,
+        alloc: Global,
+        pieces: &mut Vec<Piece>,
+        components: &Vec<Component<'a>>,
+    ) -> Result<(), Failure<'a>> {
+        if are_numbered(self.module, components) {
+            for component in components.iter() {
+                self.add_tagged_choice(alloc, pieces, component.of)?;
+            }
+        }
+        Ok(())
+    }
+
+    // Adds the piece of a tag in front of the type with this index, if that is a CHOICE.
+    fn add_tagged_choice(
+        &self,
+        alloc: Global,
+        pieces: &mut Vec<Piece>,
+        index: usize,
+    ) -> Result<(), Failure<'a>> {
+        let Some(of) = self.types.get(index) else {
+            return Ok(());
+        };
+        if of.kind != RustKind::Choice {
+            return Ok(());
+        }
+        let name = tagged_name(alloc, text_at(self.names, index))?;
+        let fields = vec![in alloc; Field {
+            name: String::from_str(alloc, "value")?,
+            doc: String::from_str(alloc, "    /// The value behind the tag.\n")?,
+            of: of.copy(alloc)?,
+            presence: FieldPresence::Required,
+            own: String::new(alloc),
+        }]?;
+        let choice = of.text.as_str();
+        let choice = choice.strip_suffix("<'a>").unwrap_or(choice);
+        let text = SequenceText {
+            name,
+            lifetime: lifetime_of(&fields),
+            doc: format!(in alloc; "/// What an explicit tag has in it: a [`{choice}`].\n")?,
+            fields,
+        };
+        Ok(add_sequence(alloc, pieces, &text)?)
     }
 
     // What the module says of a type.
@@ -128,31 +217,29 @@ impl<'m, 'a> Written<'m, 'a> {
     fn sequence(
         &self,
         alloc: Global,
-        index: usize,
         name: &str,
         doc: String,
         components: &Vec<Component<'a>>,
     ) -> Result<SequenceText, Failure<'a>> {
-        let fields = self.fields(alloc, components)?;
+        let fields = self.fields(alloc, name, components)?;
         Ok(SequenceText {
             name: String::from_str(alloc, name)?,
             lifetime: lifetime_of(&fields),
             doc,
             fields,
-            is_item: self.is_item(index),
-            is_nestable: self.is_nestable(index),
         })
     }
 
     fn fields(
         &self,
         alloc: Global,
+        name: &str,
         components: &Vec<Component<'a>>,
     ) -> Result<Vec<Field>, Failure<'a>> {
         let mut fields = Vec::new(alloc);
-        let types = component_types(alloc, self.module, self.types, components)?;
+        let types = component_types(alloc, self.module, self.types, self.names, components)?;
         for (component, of) in components.iter().zip(types.iter()) {
-            fields.push(self.field(alloc, component, of)?)?;
+            fields.push(self.field(alloc, name, component, of)?)?;
         }
         Ok(fields)
     }
@@ -160,67 +247,52 @@ impl<'m, 'a> Written<'m, 'a> {
     fn field(
         &self,
         alloc: Global,
+        owner: &str,
         component: &Component<'a>,
         of: &RustType,
     ) -> Result<Field, Failure<'a>> {
+        let mut own = String::new(alloc);
         let (presence, of) = match &component.presence {
             Presence::Required => (FieldPresence::Required, of.copy(alloc)?),
             Presence::Optional => (FieldPresence::Optional, of.copy(alloc)?),
             Presence::Default(value) => {
-                let of = default_type(alloc, self.module, self.types, of, component.of, value)?;
+                let end = type_name(alloc, component.name)?;
+                let end = end.as_str();
+                let name = format!(in alloc; "{owner}{end}Default")?;
+                let found = default_type(
+                    alloc,
+                    self.module,
+                    self.types,
+                    of,
+                    component.of,
+                    value,
+                    name.as_str(),
+                )?;
+                let DefaultType { of, own: text } = found;
+                own = text;
                 (FieldPresence::Defaulted, of)
             }
         };
         Ok(Field {
-            name: snake_name(alloc, component.name.text)?,
+            name: field_name(alloc, component.name)?,
             doc: doc_of(alloc, component.name.comments, "    ", component.name.text)?,
             of,
             presence,
+            own,
         })
     }
+}
 
-    // Whether the type with this index is an item of a list.
-    fn is_item(&self, index: usize) -> bool {
-        self.module.nodes.iter().any(|node| match &node.form {
-            TypeForm::SequenceOf(of) | TypeForm::SetOf(of) => self.leads_to(*of, index),
-            _ => false,
-        })
-    }
-
-    // Whether the type with this index stands in an explicit tag.
-    fn is_nestable(&self, index: usize) -> bool {
-        self.module.nodes.iter().any(|node| match &node.form {
-            TypeForm::Tagged(prefix, of) => {
-                let is_explicit = match prefix.tagging {
-                    Some(tagging) => tagging == Tagging::Explicit,
-                    None => self.module.tags == TagDefault::Explicit,
-                };
-                is_explicit && self.leads_to(*of, index)
-            }
-            _ => false,
-        })
-    }
-
-    // Whether the type with the index `from` is that with the index `to`, maybe by name.
-    fn leads_to(&self, from: usize, to: usize) -> bool {
-        let mut at = from;
-        for _ in self.module.nodes.iter() {
-            if at == to {
-                return true;
-            }
-            let Some(node) = self.module.nodes.get(at) else {
-                return false;
-            };
-            match &node.form {
-                TypeForm::Reference => match find_type(self.module, node.item.text) {
-                    Some(of) => at = of,
-                    None => return false,
-                },
-                _ => return false,
-            }
+// Adds a piece in the order of the names of files.
+fn add_piece(pieces: &mut Vec<Piece>, piece: Piece) -> Result<(), AllocError> {
+    let mut place = pieces.len();
+    for (index, other) in pieces.iter().enumerate() {
+        if piece.file.as_str() < other.file.as_str() {
+            place = index;
+            break;
         }
-        false
     }
+    Ok(pieces.insert(place, piece)?)
 }
 
 fn check_count<'a>(
@@ -241,7 +313,13 @@ fn add_sequence(
 ) -> Result<(), AllocError> {
     let name = text.name.as_str();
     let body = text.body(alloc)?;
-    pieces.push(Piece::new(alloc, name, "Fields", PieceKind::Sequence, body)?)?;
+    let mut piece = Piece::new(alloc, name, "Fields", PieceKind::Sequence, body)?;
+    for field in text.fields.iter() {
+        if let Some(own) = field.own_name() {
+            piece.names.push(String::from_str(alloc, own)?)?;
+        }
+    }
+    add_piece(pieces, piece)?;
     if !text.has_parts() {
         return Ok(());
     }
@@ -249,13 +327,8 @@ fn add_sequence(
         let number = count + 1;
         let body = part_body(alloc, name, number, chunk)?;
         let part = format!(in alloc; "{name}Part{number}")?;
-        pieces.push(Piece::new(
-            alloc,
-            part.as_str(),
-            "Fields",
-            PieceKind::SequencePart,
-            body,
-        )?)?;
+        let kind = PieceKind::SequencePart;
+        add_piece(pieces, Piece::new(alloc, part.as_str(), "Fields", kind, body)?)?;
     }
     Ok(())
 }
@@ -263,7 +336,10 @@ fn add_sequence(
 fn add_choice(alloc: Global, pieces: &mut Vec<Piece>, text: &ChoiceText) -> Result<(), AllocError> {
     let name = text.name.as_str();
     let body = text.body(alloc)?;
-    pieces.push(Piece::new(alloc, name, "", PieceKind::Choice, body)?)?;
+    let end = if text.has_parts() { "" } else { "Alternatives" };
+    let mut piece = Piece::new(alloc, name, end, PieceKind::Choice, body)?;
+    piece.proof = text.proof(alloc)?;
+    add_piece(pieces, piece)?;
     if !text.has_parts() {
         return Ok(());
     }
@@ -271,7 +347,8 @@ fn add_choice(alloc: Global, pieces: &mut Vec<Piece>, text: &ChoiceText) -> Resu
         let number = count + 1;
         let body = choice_part_body(alloc, name, number, chunk)?;
         let part = format!(in alloc; "{name}Part{number}")?;
-        pieces.push(Piece::new(alloc, part.as_str(), "", PieceKind::ChoicePart, body)?)?;
+        let kind = PieceKind::ChoicePart;
+        add_piece(pieces, Piece::new(alloc, part.as_str(), "", kind, body)?)?;
     }
     Ok(())
 }

@@ -16,13 +16,9 @@ pub struct SequenceText {
     pub doc: String,
     /// The fields.
     pub fields: Vec<Field>,
-    /// Whether it is an item of a list.
-    pub is_item: bool,
-    /// Whether it stands in an explicit tag.
-    pub is_nestable: bool,
 }
 
-const STRUCT: &str = "@D#[derive(Drop)]
+const STRUCT: &str = "@D#[derive(Clone, Copy, Drop)]
 pub struct @N@L {
 @F}
 
@@ -92,9 +88,7 @@ impl<'a, R: Reader<Borrowed = &'a [u8]>> DecodeItem<R> for @N@L {
 impl<'a> BorrowedItem for @N@L {
     ghost borrowed = { refl };
 }
-";
 
-const NESTABLE: &str = "
 impl@L Nestable for @N@L {
     ghost nestable = { Prim.omega arith };
 }
@@ -139,11 +133,9 @@ impl SequenceText {
         let mut text = String::new(alloc);
         fill(&mut text, STRUCT, &places)?;
         fill(&mut text, DECODE, &places)?;
-        if self.is_item {
-            fill(&mut text, ITEM, &places)?;
-        }
-        if self.is_nestable {
-            fill(&mut text, NESTABLE, &places)?;
+        fill(&mut text, ITEM, &places)?;
+        for field in self.fields.iter() {
+            text.push_str(field.own.as_str())?;
         }
         Ok(text)
     }

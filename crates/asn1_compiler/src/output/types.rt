@@ -1,8 +1,10 @@
 //! The type of Rust of each type.
 
+use super::directive::type_name;
 use super::docs::doc_of;
+use super::lists::list_field;
 use super::naming::text_at;
-use super::rust_names::pascal_name;
+use super::numbers::{bounds, is_closed, is_enumeration};
 use super::rust_type::{RustKind, RustType};
 use crate::checks::{are_numbered, find_type};
 use crate::component::Component;
@@ -10,6 +12,7 @@ use crate::constraint::Constraint;
 use crate::endpoint::Endpoint;
 use crate::failure::Failure;
 use crate::module::Module;
+use crate::named_number::NamedNumber;
 use crate::refusal::Refusal;
 use crate::simple_type::SimpleType;
 use crate::tag::{Tag, TagPrefix};
@@ -34,7 +37,7 @@ pub fn types_in_order<'a>(
         let Some(node) = module.nodes.get(*index) else {
             continue;
         };
-        let found = type_of(alloc, module, &table, names, node, text_at(names, *index))?;
+        let found = type_of(alloc, module, &table, names, *index, node)?;
         if let Some(place) = table.get_mut(*index) {
             *place = found;
         }
@@ -47,9 +50,10 @@ fn type_of<'a>(
     module: &Module<'a>,
     table: &Vec<RustType>,
     names: &Vec<String>,
+    index: usize,
     node: &TypeNode<'a>,
-    name: &str,
 ) -> Result<RustType, Failure<'a>> {
+    let name = text_at(names, index);
     match &node.form {
         TypeForm::Simple(SimpleType::Any) => {
             Ok(RustType::new(alloc, "AnyRef<'a>", RustKind::Any)?)
@@ -57,7 +61,7 @@ fn type_of<'a>(
         TypeForm::Simple(simple) => {
             Ok(RustType::new(alloc, simple_text(*simple), RustKind::Element)?)
         }
-        TypeForm::Integer(_) => integer(alloc, node),
+        TypeForm::Integer(numbers) => integer(alloc, module, node, numbers, name),
         TypeForm::Enumerated(_) => {
             let text = format!(in alloc; "Enumerated<{name}>")?;
             Ok(RustType::new(alloc, text.as_str(), RustKind::Element)?)
@@ -76,10 +80,18 @@ fn type_of<'a>(
             let text = format!(in alloc; "{name}{lifetime}")?;
             Ok(RustType::new(alloc, text.as_str(), RustKind::Element)?)
         }
-        TypeForm::Choice(parts) => choice(alloc, module, table, name, parts),
-        TypeForm::SequenceOf(of) => list(alloc, table, "SequenceOf", *of),
-        TypeForm::SetOf(of) => list(alloc, table, "SetOf", *of),
-        TypeForm::Tagged(prefix, of) => tagged(alloc, module, table, node, *prefix, *of),
+        TypeForm::Choice(parts) => choice(alloc, module, table, names, index, parts),
+        TypeForm::SequenceOf(_) | TypeForm::SetOf(_) => match list_field(module, index) {
+            Some(_) => {
+                let text = format!(in alloc; "{name}<'a>")?;
+                Ok(RustType::new(alloc, text.as_str(), RustKind::Element)?)
+            }
+            None => {
+                let text = list_text(alloc, table, node)?;
+                Ok(RustType::new(alloc, text.as_str(), RustKind::Element)?)
+            }
+        },
+        TypeForm::Tagged(prefix, of) => tagged(alloc, module, table, names, node, *prefix, *of),
     }
 }
 
@@ -98,16 +110,27 @@ fn simple_text(simple: SimpleType) -> &'static str {
         SimpleType::BmpString => "BmpStringRef<'a>",
         SimpleType::UtcTime => "UtcTime",
         SimpleType::GeneralizedTime => "GeneralizedTime",
+        SimpleType::Unread => "SequenceRef<'a>",
         SimpleType::Any | SimpleType::Unknown(_) => "AnyRef<'a>",
     }
 }
 
-fn integer<'a>(alloc: Global, node: &TypeNode<'a>) -> Result<RustType, Failure<'a>> {
+fn integer<'a>(
+    alloc: Global,
+    module: &Module<'a>,
+    node: &TypeNode<'a>,
+    numbers: &Vec<NamedNumber<'a>>,
+    name: &str,
+) -> Result<RustType, Failure<'a>> {
+    if is_closed(module, node, numbers) {
+        let text = format!(in alloc; "NamedInteger<{name}>")?;
+        return Ok(RustType::new(alloc, text.as_str(), RustKind::Element)?);
+    }
+    if let Some((low, high)) = bounds(module, node, numbers) {
+        let text = format!(in alloc; "IntegerIn<{low}, {high}>")?;
+        return Ok(RustType::new(alloc, text.as_str(), RustKind::Element)?);
+    }
     match node.constraint {
-        Constraint::Range(Endpoint::Number(low), Endpoint::Number(high)) => {
-            let text = format!(in alloc; "IntegerIn<{low}, {high}>")?;
-            Ok(RustType::new(alloc, text.as_str(), RustKind::Element)?)
-        }
         Constraint::None | Constraint::Range(Endpoint::Min, Endpoint::Max) => {
             Ok(RustType::new(alloc, "IntRef<'a>", RustKind::Element)?)
         }
@@ -151,7 +174,7 @@ fn reference<'a>(
     let Some(found) = table.get(of) else {
         return Err(not_written(node));
     };
-    if is_enumerated(module, of) {
+    if is_enumeration(module, of) {
         return Ok(found.copy(alloc)?);
     }
     let mut text = String::from_str(alloc, text_at(names, of))?;
@@ -161,32 +184,30 @@ fn reference<'a>(
     Ok(found.renamed(alloc, text.as_str())?)
 }
 
-fn is_enumerated(module: &Module<'_>, index: usize) -> bool {
-    match module.nodes.get(index) {
-        Some(node) => matches!(&node.form, TypeForm::Enumerated(_)),
-        None => false,
-    }
-}
-
-fn list<'a>(
+/// The type of a list, with that of its items.
+pub fn list_text(
     alloc: Global,
     table: &Vec<RustType>,
-    word: &str,
-    of: usize,
-) -> Result<RustType, Failure<'a>> {
+    node: &TypeNode<'_>,
+) -> Result<String, AllocError> {
+    let (word, of) = match &node.form {
+        TypeForm::SequenceOf(of) => ("SequenceOf<'a, ", *of),
+        TypeForm::SetOf(of) => ("SetOf<'a, ", *of),
+        _ => return Ok(String::new(alloc)),
+    };
     let mut text = String::from_str(alloc, word)?;
-    text.push_str("<'a, ")?;
     if let Some(found) = table.get(of) {
         text.push_str(found.text.as_str())?;
     }
     text.push('>')?;
-    Ok(RustType::new(alloc, text.as_str(), RustKind::Element)?)
+    Ok(text)
 }
 
 fn tagged<'a>(
     alloc: Global,
     module: &Module<'a>,
     table: &Vec<RustType>,
+    names: &Vec<String>,
     node: &TypeNode<'a>,
     prefix: TagPrefix,
     of: usize,
@@ -194,13 +215,25 @@ fn tagged<'a>(
     let Some(found) = table.get(of) else {
         return Err(not_written(node));
     };
+    if found.kind == RustKind::Choice {
+        let mut inside = tagged_name(alloc, text_at(names, of))?;
+        if found.has_lifetime {
+            inside.push_str("<'a>")?;
+        }
+        let inside = RustType::new(alloc, inside.as_str(), RustKind::Element)?;
+        return Ok(wrapped(alloc, "Implicit", &inside, prefix.tag)?);
+    }
     let text = match (found.kind, tagging(module, prefix.tagging)) {
         (RustKind::Element, Tagging::Implicit) => "Implicit",
         (RustKind::Element, Tagging::Explicit) => "Explicit",
-        (RustKind::Any, _) => "ExplicitAny",
-        (RustKind::Choice, _) => return Err(not_written(node)),
+        _ => "ExplicitAny",
     };
     Ok(wrapped(alloc, text, found, prefix.tag)?)
+}
+
+/// The name of the struct that stands for a tag around the CHOICE with this name.
+pub fn tagged_name(alloc: Global, name: &str) -> Result<String, AllocError> {
+    format!(in alloc; "{name}Tagged")
 }
 
 // How a tag is put in front of a type with a tag.
@@ -232,6 +265,7 @@ pub fn component_types<'a>(
     alloc: Global,
     module: &Module<'a>,
     table: &Vec<RustType>,
+    names: &Vec<String>,
     components: &Vec<Component<'a>>,
 ) -> Result<Vec<RustType>, Failure<'a>> {
     let are_numbered = are_numbered(module, components);
@@ -246,7 +280,7 @@ pub fn component_types<'a>(
                 number: count as u64,
             };
             let prefix = TagPrefix { tag, tagging: None };
-            tagged(alloc, module, table, node, prefix, component.of)?
+            tagged(alloc, module, table, names, node, prefix, component.of)?
         } else {
             copy_at(alloc, table, component.of)?
         };
@@ -278,14 +312,15 @@ pub fn alternatives<'a>(
     alloc: Global,
     module: &Module<'a>,
     table: &Vec<RustType>,
+    names: &Vec<String>,
     components: &Vec<Component<'a>>,
 ) -> Result<Vec<Alternative>, Failure<'a>> {
     let mut found = Vec::new(alloc);
-    let types = component_types(alloc, module, table, components)?;
+    let types = component_types(alloc, module, table, names, components)?;
     for (component, of) in components.iter().zip(types.iter()) {
         if !is_unknown(module, component.of) {
             found.push(Alternative {
-                name: pascal_name(alloc, component.name.text)?,
+                name: type_name(alloc, component.name)?,
                 doc: doc_of(alloc, component.name.comments, "    ", component.name.text)?,
                 of: of.copy(alloc)?,
             })?;
@@ -305,11 +340,13 @@ fn choice<'a>(
     alloc: Global,
     module: &Module<'a>,
     table: &Vec<RustType>,
-    name: &str,
+    names: &Vec<String>,
+    index: usize,
     components: &Vec<Component<'a>>,
 ) -> Result<RustType, Failure<'a>> {
+    let name = text_at(names, index);
     let mut arms = String::new(alloc);
-    for alternative in alternatives(alloc, module, table, components)?.iter() {
+    for alternative in alternatives(alloc, module, table, names, components)?.iter() {
         let variant = alternative.name.as_str();
         let check = alternative.of.check(alloc, "value")?;
         write!(arms, "            {name}::{variant}(value) => {check},\n")?;

@@ -44,6 +44,9 @@ impl<'a> Parser<'a> {
         if item.is("CHOICE") {
             return Ok((TypeForm::Choice(self.components(depth)?), Constraint::None));
         }
+        if item.is("SEQUENCE") && self.takes_unread() {
+            return Ok((TypeForm::Simple(SimpleType::Unread), Constraint::None));
+        }
         if item.is("SEQUENCE") && self.peek().is("{") {
             return Ok((
                 TypeForm::Sequence(self.components(depth)?),
@@ -59,6 +62,17 @@ impl<'a> Parser<'a> {
             return Ok((TypeForm::SetOf(of), size));
         }
         Ok((self.leaf(item)?, Constraint::None))
+    }
+
+    // Whether `{ ... }` stands here: a SEQUENCE of which no component is known. If so, moves past it.
+    fn takes_unread(&mut self) -> bool {
+        let is_unread = self.peek().is("{")
+            && self.peek_second().is("...")
+            && self.item_at(self.at.saturating_add(2)).is("}");
+        if is_unread {
+            self.at = self.at.saturating_add(3);
+        }
+        is_unread
     }
 
     // Parses what follows `SEQUENCE` or `SET` of a list: a size, `OF`, and the type of the items.

@@ -1,0 +1,64 @@
+//! Names that a module chooses for Rust, in comments.
+
+use super::docs::without_marks;
+use super::rust_names::{pascal_name, snake_name};
+use crate::item::Item;
+use crate::octet_class::{is_digit, is_lower, is_upper};
+use std::alloc::{AllocError, Global};
+
+/// What begins the line of a comment that gives the name of a type, a field or a variant.
+pub const NAME: &str = "Rust name:";
+
+/// What begins the line of a comment that gives the name of the one field of a list.
+pub const FIELD: &str = "Rust field:";
+
+/// Whether the line of a comment, without its marks, gives a name.
+pub fn is_directive(line: &str) -> bool {
+    line.starts_with(NAME) || line.starts_with(FIELD)
+}
+
+/// The name that a comment gives behind `key`, if it is a name of Rust.
+pub fn directive<'a>(comments: &'a str, key: &str) -> Option<&'a str> {
+    for line in comments.lines() {
+        if let Some(rest) = without_marks(line).strip_prefix(key) {
+            let name = rest.trim();
+            if is_name(name) {
+                return Some(name);
+            }
+        }
+    }
+    None
+}
+
+// Whether a text is a letter and then letters, digits and `_`.
+fn is_name(text: &str) -> bool {
+    let octets = text.as_bytes();
+    match octets.first() {
+        Some(octet) if is_letter(*octet) => octets.iter().all(|it| is_name_octet(*it)),
+        _ => false,
+    }
+}
+
+fn is_letter(octet: u8) -> bool {
+    is_upper(octet) || is_lower(octet)
+}
+
+fn is_name_octet(octet: u8) -> bool {
+    is_letter(octet) || is_digit(octet) || octet == b'_'
+}
+
+/// The name of the type or the variant with this name in the module.
+pub fn type_name(alloc: Global, name: Item<'_>) -> Result<String, AllocError> {
+    match directive(name.comments, NAME) {
+        Some(chosen) => String::from_str(alloc, chosen),
+        None => pascal_name(alloc, name.text),
+    }
+}
+
+/// The name of the field with this name in the module.
+pub fn field_name(alloc: Global, name: Item<'_>) -> Result<String, AllocError> {
+    match directive(name.comments, NAME) {
+        Some(chosen) => String::from_str(alloc, chosen),
+        None => snake_name(alloc, name.text),
+    }
+}

@@ -1,0 +1,180 @@
+//! Lists that are structs of their own.
+
+use super::directive::{FIELD, directive};
+use super::numbers::base_of;
+use super::template::{Place, fill};
+use crate::module::Module;
+use crate::type_node::TypeForm;
+use std::alloc::{AllocError, Global};
+
+const LIST: &str = "@D#[derive(Clone, Copy, Drop)]
+pub struct @N<'a> {
+    /// The list: a @W OF its items.
+    pub @F: @T,
+}
+
+// The list of which the value consists.
+type Items<'a> = @T;
+
+impl<'a> FromFields<Items<'a>> for @N<'a> {
+    ghost fields = { λ v. v.@F };
+
+    fn from_fields(@F: Items<'a>) -> Self {
+        @N { @F }
+    }
+}
+
+";
+
+const SEQUENCE: &str = "impl<'a> Sequence for @N<'a> {
+    ghost meaning = { renamed ⟦<Items<'a> as Described>⟧.element (λ v. v.@F) };
+
+    ghost fits = { (refl, refl) };
+}
+
+";
+
+const SET: &str = "impl<'a> Described for @N<'a> {
+    ghost element = { renamed ⟦<Items<'a> as Described>⟧.element (λ v. v.@F) };
+}
+
+impl<'a> FixedTag for @N<'a> {
+    ghost tag_is = { Set };
+
+    const TAG: Tag = Tag::Set;
+
+    fn fixed_tag() -> Tag
+        ensures { result ≡ Set }
+    {
+        Tag::Set
+    }
+}
+
+impl<'a> ReadValue for @N<'a> {
+    ghost valid = { ⟦<@N<'a> as Described>⟧.element.valid };
+
+    ghost takes = { ⟦<@N<'a> as Described>⟧.element.takes };
+
+    ghost value_levels = { ⟦<@N<'a> as Described>⟧.element.levels };
+
+    ghost allocates = { false };
+
+    ghost takes_valid = { ⟦<@N<'a> as Described>⟧.element.holds refl };
+}
+
+impl<'a> WrittenValue for @N<'a> {
+    ghost contents = { ⟦<@N<'a> as Described>⟧.element.contents };
+
+    ghost writable = { ⟦<@N<'a> as Described>⟧.element.valid };
+}
+
+impl<'a> Lawful for @N<'a> {
+    ghost lawful = { ⟦<@N<'a> as Described>⟧.element.lawful refl };
+}
+
+";
+
+const BOTH: &str = "/// Decodes the list, with the errors of [`@L`].
+impl<'a, R: Reader<Borrowed = &'a [u8]>> DecodeValue<R> for @N<'a> {
+    type Error = Error;
+
+    ghost decode_value_answers = { λ h s result t.
+        ⟦<Items<'a> as DecodeValue<SliceReader<'a>>>⟧.decode_value_answers h s
+        (map_ok (λ v. v.@F) result) t };
+
+    fn decode_value(alloc: Global, reader: &mut R, header: Header) -> Result<Self, Error> {
+        decode_wrapped::<R, Items<'a>, Self>(alloc, reader, header)
+    }
+
+    fn is_value(&self) {
+        <Items<'a> as DecodeValue<R>>::is_value(&self.@F);
+    }
+}
+
+/// Writes the list, with the errors of [`@L`].
+impl<'a> EncodeValue for @N<'a> {
+    ghost value_size = { λ v. ⟦<Items<'a> as EncodeValue>⟧.value_size v.@F };
+
+    ghost encode_value_answers = { λ v. ⟦<Items<'a> as EncodeValue>⟧.encode_value_answers v.@F };
+
+    fn value_len(&self) -> Result<Length, Error> {
+        self.@F.value_len()
+    }
+
+    fn encode_value<W: Writer>(&self, writer: &mut W) -> Result<(), Error> {
+        self.@F.encode_value(writer)
+    }
+}
+
+impl<'a> Item for @N<'a> {
+    ghost item = { sequence_item ⟦<@N<'a> as Described>⟧.element };
+}
+
+impl<'a, R: Reader<Borrowed = &'a [u8]>> DecodeItem<R> for @N<'a> {
+    ghost is_item = { sequence_is_item ⟦<@N<'a> as Described>⟧.element refl };
+
+    ghost decodes_items = { decodes_same (sequence_item ⟦<@N<'a> as Described>⟧.element) };
+}
+
+impl<'a> BorrowedItem for @N<'a> {
+    ghost borrowed = { refl };
+}
+
+impl<'a> Nestable for @N<'a> {
+    ghost nestable = { Prim.omega arith };
+}
+";
+
+/// The text of a struct with this name around a list of the type `list`, which is a field with the
+/// name `field`.
+pub fn list_body(
+    alloc: Global,
+    doc: &str,
+    name: &str,
+    field: &str,
+    list: &str,
+) -> Result<String, AllocError> {
+    let is_set = list.starts_with("SetOf");
+    let (word, library) = if is_set {
+        ("SET", "SetOf")
+    } else {
+        ("SEQUENCE", "SequenceOf")
+    };
+    let places = [
+        Place::new('D', doc),
+        Place::new('N', name),
+        Place::new('F', field),
+        Place::new('T', list),
+        Place::new('W', word),
+        Place::new('L', library),
+    ];
+    let mut text = String::new(alloc);
+    fill(&mut text, LIST, &places)?;
+    fill(&mut text, if is_set { SET } else { SEQUENCE }, &places)?;
+    fill(&mut text, BOTH, &places)?;
+    Ok(text)
+}
+
+/// The name of the field of the list with this index, if the list is a struct: the one that the
+/// module gives, or `items` for a list that is an item of a list.
+pub fn list_field<'a>(module: &Module<'a>, index: usize) -> Option<&'a str> {
+    for assigned in module.types.iter() {
+        if assigned.of == index
+            && let Some(field) = directive(assigned.name.comments, FIELD)
+        {
+            return Some(field);
+        }
+    }
+    if is_list_item(module, index) {
+        return Some("items");
+    }
+    None
+}
+
+// Whether the type with this index is an item of a list, maybe by name.
+fn is_list_item(module: &Module<'_>, index: usize) -> bool {
+    module.nodes.iter().any(|node| match &node.form {
+        TypeForm::SequenceOf(of) | TypeForm::SetOf(of) => base_of(module, *of) == index,
+        _ => false,
+    })
+}
