@@ -10,7 +10,7 @@ use crate::version::write_version;
 use der_asn1::{BitStringRef, Implicit, IntRef, ObjectIdentifierRef, Optional};
 use std::alloc::{AllocError, Global};
 use std::fmt::Write;
-use x509::{Certificate, Extension, Extensions, TbsCertificate};
+use x509::{Certificate, Extension, Extensions, TbsCertificate, Version};
 
 /// Writes one line per field of the certificate to `text`, in the words of `openssl x509 -text`.
 /// `offsets` must be at the start of the octets that the certificate was read from.
@@ -60,14 +60,14 @@ fn write_head(
     tbs: &TbsCertificate<'_>,
     offsets: &mut Offsets<'_>,
 ) -> Result<(), AllocError> {
-    let version = tbs.version.0.0.octets();
-    if version == [0].as_slice() {
+    let version = tbs.version.0.0.value.item();
+    if version == Version::V1 {
         // a default, which has no element
         offsets.put_none(text)?;
     } else {
         offsets.put(text)?;
     }
-    write_version(text, version)?;
+    write_version(text, version as u32)?;
     offsets.put(text)?;
     text.push_str("Serial Number: ")?;
     write_serial_number(text, &tbs.serial_number)?;

@@ -46,7 +46,7 @@ fn write_head(
     offsets: &mut Offsets<'_>,
 ) -> Result<(), AllocError> {
     offsets.put(text)?;
-    write_version(text, key.version.octets())?;
+    write_version(text, key.version.item() as u32)?;
     let mut parameters = offsets.fork();
     offsets.put(text)?;
     text.push_str("Private Key Algorithm: ")?;

@@ -5,7 +5,7 @@ use crate::refused_fields::{
 };
 use crate::search::Search;
 use der::{Tag, TagNumber};
-use der_asn1::{AnyRef, Implicit};
+use der_asn1::{AnyRef, Implicit, NamedInteger};
 use x509::{Attribute, AttributeValues, Attributes, CertReqInfo, CertReqVersion};
 
 /// Searches a certification request for the innermost field that fails to decode. `search` must be
@@ -24,7 +24,7 @@ fn search_info(search: &mut Search<'_>) -> bool {
         return false;
     }
     let _found = search.enter(Tag::Sequence)
-        && (search.is_refused::<CertReqVersion<'_>>("version")
+        && (search.is_refused::<NamedInteger<CertReqVersion>>("version")
             || search_name(search, "subject")
             || search_key(search, "subjectPKInfo")
             || search_attributes(search));

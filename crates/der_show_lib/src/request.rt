@@ -22,7 +22,7 @@ pub fn write_request(
     offsets.enter();
     offsets.enter();
     offsets.put(text)?;
-    write_version(text, info.version.octets())?;
+    write_version(text, info.version.item() as u32)?;
     offsets.put(text)?;
     text.push_str("Subject: ")?;
     write_name(alloc, text, &info.subject)?;

@@ -1,2 +1,1 @@
 pub mod PrivateKeyInfo
-pub mod PrivateKeyVersion

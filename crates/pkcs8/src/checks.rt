@@ -2,7 +2,7 @@
 ghost use Rattle.std.specs.Prelude.{◌≡◌, ◌↔◌, true};
 ghost use Rattle.pkcs8.specs.PrivateKeyInfo.{MatchesPrivateKeyVersion};
 
-use crate::private_key_info::PrivateKeyInfo;
+use crate::asn1::{PrivateKeyInfo, Version};
 
 impl PrivateKeyInfo<'_> {
     /// Whether the version allows the fields that are present: in version 1 the public key must be
@@ -10,9 +10,9 @@ impl PrivateKeyInfo<'_> {
     pub fn has_fields_of_version(&self) -> bool
         ensures { (result ≡ true) ↔ MatchesPrivateKeyVersion self.now }
     {
-        match self.version.octets() {
-            [1, ..] => true,
-            _ => self.public_key.0.is_none(),
+        match self.version.item() {
+            Version::V2 => true,
+            Version::V1 => self.public_key.0.is_none(),
         }
     }
 }

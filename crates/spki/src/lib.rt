@@ -1,9 +1,11 @@
 //! Public keys and their algorithms (RFC 5280, 4.1), borrowed from the input. Each type is lawful:
-//! decoding succeeds exactly if the octets are the encoding of a value.
+//! decoding succeeds exactly if the octets are the encoding of a value. The types are compiled from
+//! `asn1/spki.asn1`.
 #![tactic(auto)]
 
-mod algorithm_identifier;
-mod subject_public_key_info;
+mod asn1;
 
-pub use algorithm_identifier::{AlgorithmIdentifierFields, AlgorithmIdentifierRef};
-pub use subject_public_key_info::{SubjectPublicKeyInfoFields, SubjectPublicKeyInfoRef};
+pub use asn1::{
+    AlgorithmIdentifierRef, AlgorithmIdentifierRefFields as AlgorithmIdentifierFields,
+    SubjectPublicKeyInfoRef, SubjectPublicKeyInfoRefFields as SubjectPublicKeyInfoFields,
+};

@@ -1,4 +1,1 @@
 pub mod Checks
-pub mod TbsCertificate
-pub mod CertificateVersion
-pub mod CrlReason

@@ -1,0 +1,91 @@
+//! Attribute of the module X509. Written by asn1_compile: change the module instead.
+ghost use Rattle.std.specs.Prelude.{◌≡◌};
+ghost use Rattle.std.proofs.Common.{arith, refl};
+ghost use Rattle.der.specs.Prelude.{map_ok};
+ghost use Rattle.der_asn1.specs.Item.{decodes_same};
+ghost use Rattle.der_asn1.specs.Meaning.{alternative, field, sequence, sequence_is_item, sequence_item, two_fields};
+
+use crate::asn1::attribute_values::AttributeValues;
+use der::{
+    Decode, DecodeValue, Encode, EncodeValue, Error, FromFields, Header, Length, Reader,
+    Sequence, SliceReader, Writer, decode_sequence, field_refs,
+};
+use der_asn1::{BorrowedItem, DecodeItem, Described, Item, Nestable, ObjectIdentifierRef};
+use std::alloc::Global;
+
+/// An attribute of a certification request (RFC 2986, 4.1), borrowed from the input.
+#[derive(Clone, Copy, Drop)]
+pub struct Attribute<'a> {
+    /// The type of the attribute, as an object identifier.
+    pub oid: ObjectIdentifierRef<'a>,
+    /// The values of the attribute, of any type.
+    pub values: AttributeValues<'a>,
+}
+
+/// The fields of a [`Attribute`] in pairs, in the order in which they are encoded.
+pub type AttributeFields<'a> = (ObjectIdentifierRef<'a>, AttributeValues<'a>);
+
+impl<'a> FromFields<AttributeFields<'a>> for Attribute<'a> {
+    ghost fields = { λ v. (v.oid, v.values) };
+
+    fn from_fields(members: AttributeFields<'a>) -> Self {
+        let (oid, values) = members;
+        Attribute { oid, values }
+    }
+}
+
+impl<'a> Sequence for Attribute<'a> {
+    ghost meaning = { sequence (two_fields (field (alternative ⟦<ObjectIdentifierRef<'a> as Described>⟧.element)) (field (alternative ⟦<AttributeValues<'a> as Described>⟧.element))) ⟦<Attribute<'a> as FromFields<AttributeFields<'a>>>⟧.fields };
+
+    ghost fits = { (refl, refl) };
+}
+
+/// Decodes the fields one after the other, with the errors of every [`Sequence`].
+impl<'a, R: Reader<Borrowed = &'a [u8]>> DecodeValue<R> for Attribute<'a> {
+    type Error = Error;
+
+    ghost decode_value_answers = { λ h s result t.
+        ⟦<AttributeFields<'a> as Decode<SliceReader<'a>>>⟧.decode_answers s (map_ok ⟦<Attribute<'a> as FromFields<AttributeFields<'a>>>⟧.fields result) t };
+
+    fn decode_value(alloc: Global, reader: &mut R, header: Header) -> Result<Self, Error> {
+        decode_sequence::<R, AttributeFields<'a>, Self>(alloc, reader, header)
+    }
+
+    fn is_value(&self) {
+        <ObjectIdentifierRef<'a> as DecodeValue<R>>::is_value(&self.oid);
+        <AttributeValues<'a> as DecodeValue<R>>::is_value(&self.values);
+    }
+}
+
+/// Writes the fields one after the other, with the errors of every [`Sequence`].
+impl<'a> EncodeValue for Attribute<'a> {
+    ghost value_size = { λ v. ⟦<AttributeFields<'a> as Encode>⟧.size (⟦<Attribute<'a> as FromFields<AttributeFields<'a>>>⟧.fields v) };
+
+    ghost encode_value_answers = { λ v. ⟦<AttributeFields<'a> as Encode>⟧.encode_answers (⟦<Attribute<'a> as FromFields<AttributeFields<'a>>>⟧.fields v) };
+
+    fn value_len(&self) -> Result<Length, Error> {
+        field_refs!(self, (oid, values)).encoded_len()
+    }
+
+    fn encode_value<W: Writer>(&self, writer: &mut W) -> Result<(), Error> {
+        field_refs!(self, (oid, values)).encode(writer)
+    }
+}
+
+impl<'a> Item for Attribute<'a> {
+    ghost item = { sequence_item ⟦<Attribute<'a> as Described>⟧.element };
+}
+
+impl<'a, R: Reader<Borrowed = &'a [u8]>> DecodeItem<R> for Attribute<'a> {
+    ghost is_item = { sequence_is_item ⟦<Attribute<'a> as Described>⟧.element refl };
+
+    ghost decodes_items = { decodes_same (sequence_item ⟦<Attribute<'a> as Described>⟧.element) };
+}
+
+impl<'a> BorrowedItem for Attribute<'a> {
+    ghost borrowed = { refl };
+}
+
+impl<'a> Nestable for Attribute<'a> {
+    ghost nestable = { Prim.omega arith };
+}

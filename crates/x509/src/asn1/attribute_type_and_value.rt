@@ -1,0 +1,90 @@
+//! AttributeTypeAndValue of the module X509. Written by asn1_compile: change the module instead.
+ghost use Rattle.std.specs.Prelude.{◌≡◌};
+ghost use Rattle.std.proofs.Common.{arith, refl};
+ghost use Rattle.der.specs.Prelude.{map_ok};
+ghost use Rattle.der_asn1.specs.Item.{decodes_same};
+ghost use Rattle.der_asn1.specs.Meaning.{alternative, any_element, field, sequence, sequence_is_item, sequence_item, two_fields};
+
+use der::{
+    Decode, DecodeValue, Encode, EncodeValue, Error, FromFields, Header, Length, Reader,
+    Sequence, SliceReader, Writer, decode_sequence, field_refs,
+};
+use der_asn1::{AnyRef, BorrowedItem, DecodeItem, Described, Item, Nestable, ObjectIdentifierRef};
+use std::alloc::Global;
+
+/// An attribute of a name (RFC 5280, 4.1.2.4), borrowed from the input.
+#[derive(Clone, Copy, Drop)]
+pub struct AttributeTypeAndValue<'a> {
+    /// The type of the attribute, as an object identifier.
+    pub oid: ObjectIdentifierRef<'a>,
+    /// The value of the attribute, of any type. Its contents are not checked.
+    pub value: AnyRef<'a>,
+}
+
+/// The fields of a [`AttributeTypeAndValue`] in pairs, in the order in which they are encoded.
+pub type AttributeTypeAndValueFields<'a> = (ObjectIdentifierRef<'a>, AnyRef<'a>);
+
+impl<'a> FromFields<AttributeTypeAndValueFields<'a>> for AttributeTypeAndValue<'a> {
+    ghost fields = { λ v. (v.oid, v.value) };
+
+    fn from_fields(members: AttributeTypeAndValueFields<'a>) -> Self {
+        let (oid, value) = members;
+        AttributeTypeAndValue { oid, value }
+    }
+}
+
+impl<'a> Sequence for AttributeTypeAndValue<'a> {
+    ghost meaning = { sequence (two_fields (field (alternative ⟦<ObjectIdentifierRef<'a> as Described>⟧.element)) (field any_element)) ⟦<AttributeTypeAndValue<'a> as FromFields<AttributeTypeAndValueFields<'a>>>⟧.fields };
+
+    ghost fits = { (refl, refl) };
+}
+
+/// Decodes the fields one after the other, with the errors of every [`Sequence`].
+impl<'a, R: Reader<Borrowed = &'a [u8]>> DecodeValue<R> for AttributeTypeAndValue<'a> {
+    type Error = Error;
+
+    ghost decode_value_answers = { λ h s result t.
+        ⟦<AttributeTypeAndValueFields<'a> as Decode<SliceReader<'a>>>⟧.decode_answers s (map_ok ⟦<AttributeTypeAndValue<'a> as FromFields<AttributeTypeAndValueFields<'a>>>⟧.fields result) t };
+
+    fn decode_value(alloc: Global, reader: &mut R, header: Header) -> Result<Self, Error> {
+        decode_sequence::<R, AttributeTypeAndValueFields<'a>, Self>(alloc, reader, header)
+    }
+
+    fn is_value(&self) {
+        <ObjectIdentifierRef<'a> as DecodeValue<R>>::is_value(&self.oid);
+        <AnyRef<'a> as DecodeValue<R>>::is_value(&self.value);
+    }
+}
+
+/// Writes the fields one after the other, with the errors of every [`Sequence`].
+impl<'a> EncodeValue for AttributeTypeAndValue<'a> {
+    ghost value_size = { λ v. ⟦<AttributeTypeAndValueFields<'a> as Encode>⟧.size (⟦<AttributeTypeAndValue<'a> as FromFields<AttributeTypeAndValueFields<'a>>>⟧.fields v) };
+
+    ghost encode_value_answers = { λ v. ⟦<AttributeTypeAndValueFields<'a> as Encode>⟧.encode_answers (⟦<AttributeTypeAndValue<'a> as FromFields<AttributeTypeAndValueFields<'a>>>⟧.fields v) };
+
+    fn value_len(&self) -> Result<Length, Error> {
+        field_refs!(self, (oid, value)).encoded_len()
+    }
+
+    fn encode_value<W: Writer>(&self, writer: &mut W) -> Result<(), Error> {
+        field_refs!(self, (oid, value)).encode(writer)
+    }
+}
+
+impl<'a> Item for AttributeTypeAndValue<'a> {
+    ghost item = { sequence_item ⟦<AttributeTypeAndValue<'a> as Described>⟧.element };
+}
+
+impl<'a, R: Reader<Borrowed = &'a [u8]>> DecodeItem<R> for AttributeTypeAndValue<'a> {
+    ghost is_item = { sequence_is_item ⟦<AttributeTypeAndValue<'a> as Described>⟧.element refl };
+
+    ghost decodes_items = { decodes_same (sequence_item ⟦<AttributeTypeAndValue<'a> as Described>⟧.element) };
+}
+
+impl<'a> BorrowedItem for AttributeTypeAndValue<'a> {
+    ghost borrowed = { refl };
+}
+
+impl<'a> Nestable for AttributeTypeAndValue<'a> {
+    ghost nestable = { Prim.omega arith };
+}

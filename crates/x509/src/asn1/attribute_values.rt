@@ -1,0 +1,7 @@
+//! AttributeValues of the module X509. Written by asn1_compile: change the module instead.
+
+use der_asn1::{AnyRef, SetOf};
+
+/// The values of an attribute, of any type, in ascending order of their encodings. The contents of
+/// these elements are not checked.
+pub type AttributeValues<'a> = SetOf<'a, AnyRef<'a>>;

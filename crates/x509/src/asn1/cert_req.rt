@@ -1,0 +1,95 @@
+//! CertReq of the module X509. Written by asn1_compile: change the module instead.
+ghost use Rattle.std.specs.Prelude.{◌≡◌};
+ghost use Rattle.std.proofs.Common.{arith, refl};
+ghost use Rattle.der.specs.Prelude.{map_ok};
+ghost use Rattle.der_asn1.specs.Item.{decodes_same};
+ghost use Rattle.der_asn1.specs.Meaning.{alternative, field, sequence, sequence_is_item, sequence_item, two_fields};
+
+use spki::AlgorithmIdentifierRef;
+use crate::asn1::cert_req_info::CertReqInfo;
+use der::{
+    Decode, DecodeValue, Encode, EncodeValue, Error, FromFields, Header, Length, Reader,
+    Sequence, SliceReader, Writer, decode_sequence, field_refs,
+};
+use der_asn1::{BitStringRef, BorrowedItem, DecodeItem, Described, Item, Nestable};
+use std::alloc::Global;
+
+/// A certification request (RFC 2986, 4.2), borrowed from the input.
+#[derive(Clone, Copy, Drop)]
+pub struct CertReq<'a> {
+    /// The part of the request that the signature covers.
+    pub info: CertReqInfo<'a>,
+    /// The algorithm of `signature`.
+    pub algorithm: AlgorithmIdentifierRef<'a>,
+    /// The signature of `info`, as a BIT STRING.
+    pub signature: BitStringRef<'a>,
+}
+
+/// The fields of a [`CertReq`] in pairs, in the order in which they are encoded.
+pub type CertReqFields<'a> = (CertReqInfo<'a>, (AlgorithmIdentifierRef<'a>, BitStringRef<'a>));
+
+impl<'a> FromFields<CertReqFields<'a>> for CertReq<'a> {
+    ghost fields = { λ v. (v.info, (v.algorithm, v.signature)) };
+
+    fn from_fields(members: CertReqFields<'a>) -> Self {
+        let (info, (algorithm, signature)) = members;
+        CertReq { info, algorithm, signature }
+    }
+}
+
+impl<'a> Sequence for CertReq<'a> {
+    ghost meaning = { sequence (two_fields (field (alternative ⟦<CertReqInfo<'a> as Described>⟧.element)) (two_fields (field (alternative ⟦<AlgorithmIdentifierRef<'a> as Described>⟧.element)) (field (alternative ⟦<BitStringRef<'a> as Described>⟧.element)))) ⟦<CertReq<'a> as FromFields<CertReqFields<'a>>>⟧.fields };
+
+    ghost fits = { (refl, refl) };
+}
+
+/// Decodes the fields one after the other, with the errors of every [`Sequence`].
+impl<'a, R: Reader<Borrowed = &'a [u8]>> DecodeValue<R> for CertReq<'a> {
+    type Error = Error;
+
+    ghost decode_value_answers = { λ h s result t.
+        ⟦<CertReqFields<'a> as Decode<SliceReader<'a>>>⟧.decode_answers s (map_ok ⟦<CertReq<'a> as FromFields<CertReqFields<'a>>>⟧.fields result) t };
+
+    fn decode_value(alloc: Global, reader: &mut R, header: Header) -> Result<Self, Error> {
+        decode_sequence::<R, CertReqFields<'a>, Self>(alloc, reader, header)
+    }
+
+    fn is_value(&self) {
+        <CertReqInfo<'a> as DecodeValue<R>>::is_value(&self.info);
+        <AlgorithmIdentifierRef<'a> as DecodeValue<R>>::is_value(&self.algorithm);
+        <BitStringRef<'a> as DecodeValue<R>>::is_value(&self.signature);
+    }
+}
+
+/// Writes the fields one after the other, with the errors of every [`Sequence`].
+impl<'a> EncodeValue for CertReq<'a> {
+    ghost value_size = { λ v. ⟦<CertReqFields<'a> as Encode>⟧.size (⟦<CertReq<'a> as FromFields<CertReqFields<'a>>>⟧.fields v) };
+
+    ghost encode_value_answers = { λ v. ⟦<CertReqFields<'a> as Encode>⟧.encode_answers (⟦<CertReq<'a> as FromFields<CertReqFields<'a>>>⟧.fields v) };
+
+    fn value_len(&self) -> Result<Length, Error> {
+        field_refs!(self, (info, (algorithm, signature))).encoded_len()
+    }
+
+    fn encode_value<W: Writer>(&self, writer: &mut W) -> Result<(), Error> {
+        field_refs!(self, (info, (algorithm, signature))).encode(writer)
+    }
+}
+
+impl<'a> Item for CertReq<'a> {
+    ghost item = { sequence_item ⟦<CertReq<'a> as Described>⟧.element };
+}
+
+impl<'a, R: Reader<Borrowed = &'a [u8]>> DecodeItem<R> for CertReq<'a> {
+    ghost is_item = { sequence_is_item ⟦<CertReq<'a> as Described>⟧.element refl };
+
+    ghost decodes_items = { decodes_same (sequence_item ⟦<CertReq<'a> as Described>⟧.element) };
+}
+
+impl<'a> BorrowedItem for CertReq<'a> {
+    ghost borrowed = { refl };
+}
+
+impl<'a> Nestable for CertReq<'a> {
+    ghost nestable = { Prim.omega arith };
+}

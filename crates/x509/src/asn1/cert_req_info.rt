@@ -1,0 +1,102 @@
+//! CertReqInfo of the module X509. Written by asn1_compile: change the module instead.
+ghost use Rattle.std.specs.Prelude.{◌≡◌};
+ghost use Rattle.std.proofs.Common.{arith, refl};
+ghost use Rattle.der.specs.Prelude.{map_ok};
+ghost use Rattle.der_asn1.specs.Item.{decodes_same};
+ghost use Rattle.der_asn1.specs.Meaning.{alternative, field, sequence, sequence_is_item, sequence_item, two_fields};
+
+use crate::asn1::attributes::Attributes;
+use crate::asn1::cert_req_version::CertReqVersion;
+use crate::asn1::name::Name;
+use spki::SubjectPublicKeyInfoRef;
+use der::{
+    Decode, DecodeValue, Encode, EncodeValue, Error, FromFields, Header, Length, Reader,
+    Sequence, SliceReader, Writer, decode_sequence, field_refs,
+};
+use der_asn1::{BorrowedItem, DecodeItem, Described, Implicit, Item, NamedInteger, Nestable};
+use std::alloc::Global;
+
+/// The part of a certification request that its signature covers (RFC 2986, 4.1), borrowed from the
+/// input.
+#[derive(Clone, Copy, Drop)]
+pub struct CertReqInfo<'a> {
+    /// The version of the request. Only version 1 is accepted.
+    pub version: NamedInteger<CertReqVersion>,
+    /// The subject of the requested certificate.
+    pub subject: Name<'a>,
+    /// The public key of the requested certificate.
+    pub public_key: SubjectPublicKeyInfoRef<'a>,
+    /// The attributes of the request: further information about the subject, or further requests,
+    /// such as the extensions that the certificate should have.
+    pub attributes: Implicit<Attributes<'a>, 0>,
+}
+
+/// The fields of a [`CertReqInfo`] in pairs, in the order in which they are encoded.
+pub type CertReqInfoFields<'a> = ((NamedInteger<CertReqVersion>, Name<'a>), (SubjectPublicKeyInfoRef<'a>, Implicit<Attributes<'a>, 0>));
+
+impl<'a> FromFields<CertReqInfoFields<'a>> for CertReqInfo<'a> {
+    ghost fields = { λ v. ((v.version, v.subject), (v.public_key, v.attributes)) };
+
+    fn from_fields(members: CertReqInfoFields<'a>) -> Self {
+        let ((version, subject), (public_key, attributes)) = members;
+        CertReqInfo { version, subject, public_key, attributes }
+    }
+}
+
+impl<'a> Sequence for CertReqInfo<'a> {
+    ghost meaning = { sequence (two_fields (two_fields (field (alternative ⟦<NamedInteger<CertReqVersion> as Described>⟧.element)) (field (alternative ⟦<Name<'a> as Described>⟧.element))) (two_fields (field (alternative ⟦<SubjectPublicKeyInfoRef<'a> as Described>⟧.element)) (field (alternative ⟦<Implicit<Attributes<'a>, 0> as Described>⟧.element)))) ⟦<CertReqInfo<'a> as FromFields<CertReqInfoFields<'a>>>⟧.fields };
+
+    ghost fits = { (refl, refl) };
+}
+
+/// Decodes the fields one after the other, with the errors of every [`Sequence`].
+impl<'a, R: Reader<Borrowed = &'a [u8]>> DecodeValue<R> for CertReqInfo<'a> {
+    type Error = Error;
+
+    ghost decode_value_answers = { λ h s result t.
+        ⟦<CertReqInfoFields<'a> as Decode<SliceReader<'a>>>⟧.decode_answers s (map_ok ⟦<CertReqInfo<'a> as FromFields<CertReqInfoFields<'a>>>⟧.fields result) t };
+
+    fn decode_value(alloc: Global, reader: &mut R, header: Header) -> Result<Self, Error> {
+        decode_sequence::<R, CertReqInfoFields<'a>, Self>(alloc, reader, header)
+    }
+
+    fn is_value(&self) {
+        <NamedInteger<CertReqVersion> as DecodeValue<R>>::is_value(&self.version);
+        <Name<'a> as DecodeValue<R>>::is_value(&self.subject);
+        <SubjectPublicKeyInfoRef<'a> as DecodeValue<R>>::is_value(&self.public_key);
+        <Implicit<Attributes<'a>, 0> as DecodeValue<R>>::is_value(&self.attributes);
+    }
+}
+
+/// Writes the fields one after the other, with the errors of every [`Sequence`].
+impl<'a> EncodeValue for CertReqInfo<'a> {
+    ghost value_size = { λ v. ⟦<CertReqInfoFields<'a> as Encode>⟧.size (⟦<CertReqInfo<'a> as FromFields<CertReqInfoFields<'a>>>⟧.fields v) };
+
+    ghost encode_value_answers = { λ v. ⟦<CertReqInfoFields<'a> as Encode>⟧.encode_answers (⟦<CertReqInfo<'a> as FromFields<CertReqInfoFields<'a>>>⟧.fields v) };
+
+    fn value_len(&self) -> Result<Length, Error> {
+        field_refs!(self, ((version, subject), (public_key, attributes))).encoded_len()
+    }
+
+    fn encode_value<W: Writer>(&self, writer: &mut W) -> Result<(), Error> {
+        field_refs!(self, ((version, subject), (public_key, attributes))).encode(writer)
+    }
+}
+
+impl<'a> Item for CertReqInfo<'a> {
+    ghost item = { sequence_item ⟦<CertReqInfo<'a> as Described>⟧.element };
+}
+
+impl<'a, R: Reader<Borrowed = &'a [u8]>> DecodeItem<R> for CertReqInfo<'a> {
+    ghost is_item = { sequence_is_item ⟦<CertReqInfo<'a> as Described>⟧.element refl };
+
+    ghost decodes_items = { decodes_same (sequence_item ⟦<CertReqInfo<'a> as Described>⟧.element) };
+}
+
+impl<'a> BorrowedItem for CertReqInfo<'a> {
+    ghost borrowed = { refl };
+}
+
+impl<'a> Nestable for CertReqInfo<'a> {
+    ghost nestable = { Prim.omega arith };
+}

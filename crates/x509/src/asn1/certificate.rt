@@ -1,0 +1,95 @@
+//! Certificate of the module X509. Written by asn1_compile: change the module instead.
+ghost use Rattle.std.specs.Prelude.{◌≡◌};
+ghost use Rattle.std.proofs.Common.{arith, refl};
+ghost use Rattle.der.specs.Prelude.{map_ok};
+ghost use Rattle.der_asn1.specs.Item.{decodes_same};
+ghost use Rattle.der_asn1.specs.Meaning.{alternative, field, sequence, sequence_is_item, sequence_item, two_fields};
+
+use spki::AlgorithmIdentifierRef;
+use crate::asn1::tbs_certificate::TbsCertificate;
+use der::{
+    Decode, DecodeValue, Encode, EncodeValue, Error, FromFields, Header, Length, Reader,
+    Sequence, SliceReader, Writer, decode_sequence, field_refs,
+};
+use der_asn1::{BitStringRef, BorrowedItem, DecodeItem, Described, Item, Nestable};
+use std::alloc::Global;
+
+/// A certificate (RFC 5280, 4.1), borrowed from the input.
+#[derive(Clone, Copy, Drop)]
+pub struct Certificate<'a> {
+    /// The part of the certificate that the signature covers.
+    pub tbs_certificate: TbsCertificate<'a>,
+    /// The algorithm of `signature`.
+    pub signature_algorithm: AlgorithmIdentifierRef<'a>,
+    /// The signature of `tbs_certificate`, as a BIT STRING.
+    pub signature: BitStringRef<'a>,
+}
+
+/// The fields of a [`Certificate`] in pairs, in the order in which they are encoded.
+pub type CertificateFields<'a> = (TbsCertificate<'a>, (AlgorithmIdentifierRef<'a>, BitStringRef<'a>));
+
+impl<'a> FromFields<CertificateFields<'a>> for Certificate<'a> {
+    ghost fields = { λ v. (v.tbs_certificate, (v.signature_algorithm, v.signature)) };
+
+    fn from_fields(members: CertificateFields<'a>) -> Self {
+        let (tbs_certificate, (signature_algorithm, signature)) = members;
+        Certificate { tbs_certificate, signature_algorithm, signature }
+    }
+}
+
+impl<'a> Sequence for Certificate<'a> {
+    ghost meaning = { sequence (two_fields (field (alternative ⟦<TbsCertificate<'a> as Described>⟧.element)) (two_fields (field (alternative ⟦<AlgorithmIdentifierRef<'a> as Described>⟧.element)) (field (alternative ⟦<BitStringRef<'a> as Described>⟧.element)))) ⟦<Certificate<'a> as FromFields<CertificateFields<'a>>>⟧.fields };
+
+    ghost fits = { (refl, refl) };
+}
+
+/// Decodes the fields one after the other, with the errors of every [`Sequence`].
+impl<'a, R: Reader<Borrowed = &'a [u8]>> DecodeValue<R> for Certificate<'a> {
+    type Error = Error;
+
+    ghost decode_value_answers = { λ h s result t.
+        ⟦<CertificateFields<'a> as Decode<SliceReader<'a>>>⟧.decode_answers s (map_ok ⟦<Certificate<'a> as FromFields<CertificateFields<'a>>>⟧.fields result) t };
+
+    fn decode_value(alloc: Global, reader: &mut R, header: Header) -> Result<Self, Error> {
+        decode_sequence::<R, CertificateFields<'a>, Self>(alloc, reader, header)
+    }
+
+    fn is_value(&self) {
+        <TbsCertificate<'a> as DecodeValue<R>>::is_value(&self.tbs_certificate);
+        <AlgorithmIdentifierRef<'a> as DecodeValue<R>>::is_value(&self.signature_algorithm);
+        <BitStringRef<'a> as DecodeValue<R>>::is_value(&self.signature);
+    }
+}
+
+/// Writes the fields one after the other, with the errors of every [`Sequence`].
+impl<'a> EncodeValue for Certificate<'a> {
+    ghost value_size = { λ v. ⟦<CertificateFields<'a> as Encode>⟧.size (⟦<Certificate<'a> as FromFields<CertificateFields<'a>>>⟧.fields v) };
+
+    ghost encode_value_answers = { λ v. ⟦<CertificateFields<'a> as Encode>⟧.encode_answers (⟦<Certificate<'a> as FromFields<CertificateFields<'a>>>⟧.fields v) };
+
+    fn value_len(&self) -> Result<Length, Error> {
+        field_refs!(self, (tbs_certificate, (signature_algorithm, signature))).encoded_len()
+    }
+
+    fn encode_value<W: Writer>(&self, writer: &mut W) -> Result<(), Error> {
+        field_refs!(self, (tbs_certificate, (signature_algorithm, signature))).encode(writer)
+    }
+}
+
+impl<'a> Item for Certificate<'a> {
+    ghost item = { sequence_item ⟦<Certificate<'a> as Described>⟧.element };
+}
+
+impl<'a, R: Reader<Borrowed = &'a [u8]>> DecodeItem<R> for Certificate<'a> {
+    ghost is_item = { sequence_is_item ⟦<Certificate<'a> as Described>⟧.element refl };
+
+    ghost decodes_items = { decodes_same (sequence_item ⟦<Certificate<'a> as Described>⟧.element) };
+}
+
+impl<'a> BorrowedItem for Certificate<'a> {
+    ghost borrowed = { refl };
+}
+
+impl<'a> Nestable for Certificate<'a> {
+    ghost nestable = { Prim.omega arith };
+}

@@ -1,0 +1,97 @@
+//! Extension of the module X509. Written by asn1_compile: change the module instead.
+ghost use Rattle.std.specs.Prelude.{◌≡◌};
+ghost use Rattle.std.proofs.Common.{arith, refl};
+ghost use Rattle.der.specs.Prelude.{map_ok};
+ghost use Rattle.der_asn1.specs.Item.{decodes_same};
+ghost use Rattle.der_asn1.specs.Meaning.{alternative, defaulted, field, sequence, sequence_is_item, sequence_item, two_fields};
+
+use der::{
+    Decode, DecodeValue, Encode, EncodeValue, Error, FromFields, Header, Length, Reader,
+    Sequence, SliceReader, Writer, decode_sequence, field_refs,
+};
+use der_asn1::{
+    BooleanRef, BorrowedItem, DecodeItem, DefaultValue, Defaulted, Described, Item, Nestable,
+    ObjectIdentifierRef, OctetStringRef,
+};
+use std::alloc::Global;
+
+/// An extension of a certificate (RFC 5280, 4.1 and 4.2), borrowed from the input.
+#[derive(Clone, Copy, Drop)]
+pub struct Extension<'a> {
+    /// The type of the extension, as an object identifier.
+    pub extn_id: ObjectIdentifierRef<'a>,
+    /// Whether an application that does not know the extension must reject the certificate. The
+    /// default is false.
+    pub critical: Defaulted<BooleanRef<'a>>,
+    /// The encoding of the extension's value, which is not checked.
+    pub extn_value: OctetStringRef<'a>,
+}
+
+/// The fields of a [`Extension`] in pairs, in the order in which they are encoded.
+pub type ExtensionFields<'a> = (ObjectIdentifierRef<'a>, (Defaulted<BooleanRef<'a>>, OctetStringRef<'a>));
+
+impl<'a> FromFields<ExtensionFields<'a>> for Extension<'a> {
+    ghost fields = { λ v. (v.extn_id, (v.critical, v.extn_value)) };
+
+    fn from_fields(members: ExtensionFields<'a>) -> Self {
+        let (extn_id, (critical, extn_value)) = members;
+        Extension { extn_id, critical, extn_value }
+    }
+}
+
+impl<'a> Sequence for Extension<'a> {
+    ghost meaning = { sequence (two_fields (field (alternative ⟦<ObjectIdentifierRef<'a> as Described>⟧.element)) (two_fields (defaulted ⟦<BooleanRef<'a> as DefaultValue>⟧.is_default (alternative ⟦<BooleanRef<'a> as Described>⟧.element)) (field (alternative ⟦<OctetStringRef<'a> as Described>⟧.element)))) ⟦<Extension<'a> as FromFields<ExtensionFields<'a>>>⟧.fields };
+
+    ghost fits = { (refl, refl) };
+}
+
+/// Decodes the fields one after the other, with the errors of every [`Sequence`].
+impl<'a, R: Reader<Borrowed = &'a [u8]>> DecodeValue<R> for Extension<'a> {
+    type Error = Error;
+
+    ghost decode_value_answers = { λ h s result t.
+        ⟦<ExtensionFields<'a> as Decode<SliceReader<'a>>>⟧.decode_answers s (map_ok ⟦<Extension<'a> as FromFields<ExtensionFields<'a>>>⟧.fields result) t };
+
+    fn decode_value(alloc: Global, reader: &mut R, header: Header) -> Result<Self, Error> {
+        decode_sequence::<R, ExtensionFields<'a>, Self>(alloc, reader, header)
+    }
+
+    fn is_value(&self) {
+        <ObjectIdentifierRef<'a> as DecodeValue<R>>::is_value(&self.extn_id);
+        <BooleanRef<'a> as DecodeValue<R>>::is_value(&self.critical.0);
+        <OctetStringRef<'a> as DecodeValue<R>>::is_value(&self.extn_value);
+    }
+}
+
+/// Writes the fields one after the other, with the errors of every [`Sequence`].
+impl<'a> EncodeValue for Extension<'a> {
+    ghost value_size = { λ v. ⟦<ExtensionFields<'a> as Encode>⟧.size (⟦<Extension<'a> as FromFields<ExtensionFields<'a>>>⟧.fields v) };
+
+    ghost encode_value_answers = { λ v. ⟦<ExtensionFields<'a> as Encode>⟧.encode_answers (⟦<Extension<'a> as FromFields<ExtensionFields<'a>>>⟧.fields v) };
+
+    fn value_len(&self) -> Result<Length, Error> {
+        field_refs!(self, (extn_id, (critical, extn_value))).encoded_len()
+    }
+
+    fn encode_value<W: Writer>(&self, writer: &mut W) -> Result<(), Error> {
+        field_refs!(self, (extn_id, (critical, extn_value))).encode(writer)
+    }
+}
+
+impl<'a> Item for Extension<'a> {
+    ghost item = { sequence_item ⟦<Extension<'a> as Described>⟧.element };
+}
+
+impl<'a, R: Reader<Borrowed = &'a [u8]>> DecodeItem<R> for Extension<'a> {
+    ghost is_item = { sequence_is_item ⟦<Extension<'a> as Described>⟧.element refl };
+
+    ghost decodes_items = { decodes_same (sequence_item ⟦<Extension<'a> as Described>⟧.element) };
+}
+
+impl<'a> BorrowedItem for Extension<'a> {
+    ghost borrowed = { refl };
+}
+
+impl<'a> Nestable for Extension<'a> {
+    ghost nestable = { Prim.omega arith };
+}

@@ -1,0 +1,21 @@
+//! KeyUsage of the module X509. Written by asn1_compile: change the module instead.
+
+use der_asn1::NamedBitsRef;
+
+/// What a public key may be used for (RFC 5280, 4.2.1.3), borrowed from the input. `has_bit` says
+/// whether a bit is one. Its number is that of a [`KeyUsageBit`], as a `u32`.
+pub type KeyUsage<'a> = NamedBitsRef<'a>;
+
+/// The named bits of a [`KeyUsage`], with their numbers.
+#[derive(Clone, Copy, Debug, PartialEq, Eq)]
+pub enum KeyUsageBit {
+    DigitalSignature = 0,
+    NonRepudiation = 1,
+    KeyEncipherment = 2,
+    DataEncipherment = 3,
+    KeyAgreement = 4,
+    KeyCertSign = 5,
+    CrlSign = 6,
+    EncipherOnly = 7,
+    DecipherOnly = 8,
+}

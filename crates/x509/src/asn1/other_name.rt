@@ -1,0 +1,92 @@
+//! OtherName of the module X509. Written by asn1_compile: change the module instead.
+ghost use Rattle.std.specs.Prelude.{◌≡◌};
+ghost use Rattle.std.proofs.Common.{arith, refl};
+ghost use Rattle.der.specs.Prelude.{map_ok};
+ghost use Rattle.der_asn1.specs.Item.{decodes_same};
+ghost use Rattle.der_asn1.specs.Meaning.{alternative, field, sequence, sequence_is_item, sequence_item, two_fields};
+
+use der::{
+    Decode, DecodeValue, Encode, EncodeValue, Error, FromFields, Header, Length, Reader,
+    Sequence, SliceReader, Writer, decode_sequence, field_refs,
+};
+use der_asn1::{
+    BorrowedItem, DecodeItem, Described, ExplicitAny, Item, Nestable, ObjectIdentifierRef,
+};
+use std::alloc::Global;
+
+/// A name of a form that its object identifier tells (RFC 5280, 4.2.1.6), borrowed from the input.
+#[derive(Clone, Copy, Drop)]
+pub struct OtherName<'a> {
+    /// The form of the name.
+    pub type_id: ObjectIdentifierRef<'a>,
+    /// The name: an element of any tag. Its contents are not checked.
+    pub value: ExplicitAny<'a, 0>,
+}
+
+/// The fields of a [`OtherName`] in pairs, in the order in which they are encoded.
+pub type OtherNameFields<'a> = (ObjectIdentifierRef<'a>, ExplicitAny<'a, 0>);
+
+impl<'a> FromFields<OtherNameFields<'a>> for OtherName<'a> {
+    ghost fields = { λ v. (v.type_id, v.value) };
+
+    fn from_fields(members: OtherNameFields<'a>) -> Self {
+        let (type_id, value) = members;
+        OtherName { type_id, value }
+    }
+}
+
+impl<'a> Sequence for OtherName<'a> {
+    ghost meaning = { sequence (two_fields (field (alternative ⟦<ObjectIdentifierRef<'a> as Described>⟧.element)) (field (alternative ⟦<ExplicitAny<'a, 0> as Described>⟧.element))) ⟦<OtherName<'a> as FromFields<OtherNameFields<'a>>>⟧.fields };
+
+    ghost fits = { (refl, refl) };
+}
+
+/// Decodes the fields one after the other, with the errors of every [`Sequence`].
+impl<'a, R: Reader<Borrowed = &'a [u8]>> DecodeValue<R> for OtherName<'a> {
+    type Error = Error;
+
+    ghost decode_value_answers = { λ h s result t.
+        ⟦<OtherNameFields<'a> as Decode<SliceReader<'a>>>⟧.decode_answers s (map_ok ⟦<OtherName<'a> as FromFields<OtherNameFields<'a>>>⟧.fields result) t };
+
+    fn decode_value(alloc: Global, reader: &mut R, header: Header) -> Result<Self, Error> {
+        decode_sequence::<R, OtherNameFields<'a>, Self>(alloc, reader, header)
+    }
+
+    fn is_value(&self) {
+        <ObjectIdentifierRef<'a> as DecodeValue<R>>::is_value(&self.type_id);
+        <ExplicitAny<'a, 0> as DecodeValue<R>>::is_value(&self.value);
+    }
+}
+
+/// Writes the fields one after the other, with the errors of every [`Sequence`].
+impl<'a> EncodeValue for OtherName<'a> {
+    ghost value_size = { λ v. ⟦<OtherNameFields<'a> as Encode>⟧.size (⟦<OtherName<'a> as FromFields<OtherNameFields<'a>>>⟧.fields v) };
+
+    ghost encode_value_answers = { λ v. ⟦<OtherNameFields<'a> as Encode>⟧.encode_answers (⟦<OtherName<'a> as FromFields<OtherNameFields<'a>>>⟧.fields v) };
+
+    fn value_len(&self) -> Result<Length, Error> {
+        field_refs!(self, (type_id, value)).encoded_len()
+    }
+
+    fn encode_value<W: Writer>(&self, writer: &mut W) -> Result<(), Error> {
+        field_refs!(self, (type_id, value)).encode(writer)
+    }
+}
+
+impl<'a> Item for OtherName<'a> {
+    ghost item = { sequence_item ⟦<OtherName<'a> as Described>⟧.element };
+}
+
+impl<'a, R: Reader<Borrowed = &'a [u8]>> DecodeItem<R> for OtherName<'a> {
+    ghost is_item = { sequence_is_item ⟦<OtherName<'a> as Described>⟧.element refl };
+
+    ghost decodes_items = { decodes_same (sequence_item ⟦<OtherName<'a> as Described>⟧.element) };
+}
+
+impl<'a> BorrowedItem for OtherName<'a> {
+    ghost borrowed = { refl };
+}
+
+impl<'a> Nestable for OtherName<'a> {
+    ghost nestable = { Prim.omega arith };
+}

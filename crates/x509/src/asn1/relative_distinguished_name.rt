@@ -1,0 +1,120 @@
+//! RelativeDistinguishedName of the module X509. Written by asn1_compile: change the module instead.
+ghost use Rattle.std.specs.Prelude.{◌≡◌, false};
+ghost use Rattle.std.proofs.Common.{arith, refl};
+ghost use Rattle.der.specs.Prelude.{Set, map_ok};
+ghost use Rattle.der_asn1.specs.Item.{decodes_same};
+ghost use Rattle.der_asn1.specs.Meaning.{renamed, sequence_is_item, sequence_item};
+
+use crate::asn1::attribute_type_and_value::AttributeTypeAndValue;
+use der::{
+    DecodeValue, EncodeValue, Error, FixedTag, FromFields, Header, Lawful, Length, ReadValue,
+    Reader, SliceReader, Tag, Writer, WrittenValue, decode_wrapped,
+};
+use der_asn1::{BorrowedItem, DecodeItem, Described, Item, Nestable, SetOf};
+use std::alloc::Global;
+
+/// One level of a name (RFC 5280, 4.1.2.4), borrowed from the input.
+#[derive(Clone, Copy, Drop)]
+pub struct RelativeDistinguishedName<'a> {
+    /// The list: a SET OF its items.
+    pub attributes: SetOf<'a, AttributeTypeAndValue<'a>>,
+}
+
+// The list of which the value consists.
+type Items<'a> = SetOf<'a, AttributeTypeAndValue<'a>>;
+
+impl<'a> FromFields<Items<'a>> for RelativeDistinguishedName<'a> {
+    ghost fields = { λ v. v.attributes };
+
+    fn from_fields(attributes: Items<'a>) -> Self {
+        RelativeDistinguishedName { attributes }
+    }
+}
+
+impl<'a> Described for RelativeDistinguishedName<'a> {
+    ghost element = { renamed ⟦<Items<'a> as Described>⟧.element (λ v. v.attributes) };
+}
+
+impl<'a> FixedTag for RelativeDistinguishedName<'a> {
+    ghost tag_is = { Set };
+
+    const TAG: Tag = Tag::Set;
+
+    fn fixed_tag() -> Tag
+        ensures { result ≡ Set }
+    {
+        Tag::Set
+    }
+}
+
+impl<'a> ReadValue for RelativeDistinguishedName<'a> {
+    ghost valid = { ⟦<RelativeDistinguishedName<'a> as Described>⟧.element.valid };
+
+    ghost takes = { ⟦<RelativeDistinguishedName<'a> as Described>⟧.element.takes };
+
+    ghost value_levels = { ⟦<RelativeDistinguishedName<'a> as Described>⟧.element.levels };
+
+    ghost allocates = { false };
+
+    ghost takes_valid = { ⟦<RelativeDistinguishedName<'a> as Described>⟧.element.holds refl };
+}
+
+impl<'a> WrittenValue for RelativeDistinguishedName<'a> {
+    ghost contents = { ⟦<RelativeDistinguishedName<'a> as Described>⟧.element.contents };
+
+    ghost writable = { ⟦<RelativeDistinguishedName<'a> as Described>⟧.element.valid };
+}
+
+impl<'a> Lawful for RelativeDistinguishedName<'a> {
+    ghost lawful = { ⟦<RelativeDistinguishedName<'a> as Described>⟧.element.lawful refl };
+}
+
+/// Decodes the list, with the errors of [`SetOf`].
+impl<'a, R: Reader<Borrowed = &'a [u8]>> DecodeValue<R> for RelativeDistinguishedName<'a> {
+    type Error = Error;
+
+    ghost decode_value_answers = { λ h s result t.
+        ⟦<Items<'a> as DecodeValue<SliceReader<'a>>>⟧.decode_value_answers h s
+        (map_ok (λ v. v.attributes) result) t };
+
+    fn decode_value(alloc: Global, reader: &mut R, header: Header) -> Result<Self, Error> {
+        decode_wrapped::<R, Items<'a>, Self>(alloc, reader, header)
+    }
+
+    fn is_value(&self) {
+        <Items<'a> as DecodeValue<R>>::is_value(&self.attributes);
+    }
+}
+
+/// Writes the list, with the errors of [`SetOf`].
+impl<'a> EncodeValue for RelativeDistinguishedName<'a> {
+    ghost value_size = { λ v. ⟦<Items<'a> as EncodeValue>⟧.value_size v.attributes };
+
+    ghost encode_value_answers = { λ v. ⟦<Items<'a> as EncodeValue>⟧.encode_value_answers v.attributes };
+
+    fn value_len(&self) -> Result<Length, Error> {
+        self.attributes.value_len()
+    }
+
+    fn encode_value<W: Writer>(&self, writer: &mut W) -> Result<(), Error> {
+        self.attributes.encode_value(writer)
+    }
+}
+
+impl<'a> Item for RelativeDistinguishedName<'a> {
+    ghost item = { sequence_item ⟦<RelativeDistinguishedName<'a> as Described>⟧.element };
+}
+
+impl<'a, R: Reader<Borrowed = &'a [u8]>> DecodeItem<R> for RelativeDistinguishedName<'a> {
+    ghost is_item = { sequence_is_item ⟦<RelativeDistinguishedName<'a> as Described>⟧.element refl };
+
+    ghost decodes_items = { decodes_same (sequence_item ⟦<RelativeDistinguishedName<'a> as Described>⟧.element) };
+}
+
+impl<'a> BorrowedItem for RelativeDistinguishedName<'a> {
+    ghost borrowed = { refl };
+}
+
+impl<'a> Nestable for RelativeDistinguishedName<'a> {
+    ghost nestable = { Prim.omega arith };
+}

@@ -1,0 +1,146 @@
+//! TbsCertificate of the module X509. Written by asn1_compile: change the module instead.
+ghost use Rattle.std.specs.Prelude.{false};
+ghost use Rattle.std.specs.Prelude.{◌≡◌};
+ghost use Rattle.std.proofs.Common.{arith, refl};
+ghost use Rattle.der.specs.Prelude.{map_ok};
+ghost use Rattle.der_asn1.specs.Integer.{integer_octets};
+ghost use Rattle.der_asn1.specs.Item.{decodes_same};
+ghost use Rattle.der_asn1.specs.Meaning.{alternative, defaulted, field, optional, seen, sequence, sequence_is_item, sequence_item, two_fields};
+
+use spki::AlgorithmIdentifierRef;
+use crate::asn1::extensions::Extensions;
+use crate::asn1::name::Name;
+use spki::SubjectPublicKeyInfoRef;
+use crate::asn1::tbs_certificate_part1::{TbsCertificatePart1, TbsCertificatePart1Fields};
+use crate::asn1::tbs_certificate_part2::{TbsCertificatePart2, TbsCertificatePart2Fields};
+use crate::asn1::validity::Validity;
+use crate::asn1::version::Version;
+use der::{
+    Decode, DecodeValue, Encode, EncodeValue, Error, FromFields, Header, Length, Reader,
+    Sequence, SliceReader, Writer, decode_sequence, field_refs,
+};
+use der_asn1::{
+    BitStringRef, BorrowedItem, DecodeItem, DefaultOf, DefaultValue, Defaulted, Described,
+    Explicit, Implicit, IntRef, Item, NamedInteger, Nestable, Optional, WithDefault,
+};
+use std::alloc::Global;
+
+/// The part of a certificate that its signature covers (RFC 5280, 4.1.2), borrowed from the input.
+#[derive(Clone, Copy, Drop)]
+pub struct TbsCertificate<'a> {
+    /// The version of the certificate: 1, 2 or 3. The default is 1.
+    pub version: Defaulted<Explicit<WithDefault<NamedInteger<Version>, TbsCertificateVersionDefault>, 0>>,
+    /// The serial number of the certificate.
+    pub serial_number: IntRef<'a>,
+    /// The algorithm of the certificate's signature. The signature itself is not in this part.
+    pub signature: AlgorithmIdentifierRef<'a>,
+    /// The issuer of the certificate.
+    pub issuer: Name<'a>,
+    /// The period in which the certificate is valid.
+    pub validity: Validity,
+    /// The subject of the certificate.
+    pub subject: Name<'a>,
+    /// The public key of the subject.
+    pub subject_public_key_info: SubjectPublicKeyInfoRef<'a>,
+    /// A unique identifier of the issuer, if present. Only versions 2 and 3 allow it, but decoding
+    /// does not check this.
+    pub issuer_unique_id: Optional<Implicit<BitStringRef<'a>, 1>>,
+    /// A unique identifier of the subject, if present. Only versions 2 and 3 allow it, but decoding
+    /// does not check this.
+    pub subject_unique_id: Optional<Implicit<BitStringRef<'a>, 2>>,
+    /// The extensions, if present. Only version 3 allows them, but decoding does not check this.
+    pub extensions: Optional<Explicit<Extensions<'a>, 3>>,
+}
+
+/// The fields of a [`TbsCertificate`] in pairs, in the order in which they are encoded.
+pub type TbsCertificateFields<'a> = (TbsCertificatePart1Fields<'a>, TbsCertificatePart2Fields<'a>);
+
+impl<'a> FromFields<(TbsCertificatePart1<'a>, TbsCertificatePart2<'a>)> for TbsCertificate<'a> {
+    ghost fields = { λ v. (record { version = v.version; serial_number = v.serial_number; signature = v.signature; issuer = v.issuer; validity = v.validity; }, record { subject = v.subject; subject_public_key_info = v.subject_public_key_info; issuer_unique_id = v.issuer_unique_id; subject_unique_id = v.subject_unique_id; extensions = v.extensions; }) };
+
+    fn from_fields(members: (TbsCertificatePart1<'a>, TbsCertificatePart2<'a>)) -> Self {
+        let (part1, part2) = members;
+        TbsCertificate { version: part1.version, serial_number: part1.serial_number, signature: part1.signature, issuer: part1.issuer, validity: part1.validity, subject: part2.subject, subject_public_key_info: part2.subject_public_key_info, issuer_unique_id: part2.issuer_unique_id, subject_unique_id: part2.subject_unique_id, extensions: part2.extensions }
+    }
+}
+
+impl<'a> Sequence for TbsCertificate<'a> {
+    ghost meaning = { sequence (two_fields (seen ⟦<TbsCertificatePart1<'a> as FromFields<TbsCertificatePart1Fields<'a>>>⟧.fields (two_fields (two_fields (defaulted ⟦<Explicit<WithDefault<NamedInteger<Version>, TbsCertificateVersionDefault>, 0> as DefaultValue>⟧.is_default (alternative ⟦<Explicit<WithDefault<NamedInteger<Version>, TbsCertificateVersionDefault>, 0> as Described>⟧.element)) (field (alternative ⟦<IntRef<'a> as Described>⟧.element))) (two_fields (field (alternative ⟦<AlgorithmIdentifierRef<'a> as Described>⟧.element)) (two_fields (field (alternative ⟦<Name<'a> as Described>⟧.element)) (field (alternative ⟦<Validity as Described>⟧.element)))))) (seen ⟦<TbsCertificatePart2<'a> as FromFields<TbsCertificatePart2Fields<'a>>>⟧.fields (two_fields (two_fields (field (alternative ⟦<Name<'a> as Described>⟧.element)) (field (alternative ⟦<SubjectPublicKeyInfoRef<'a> as Described>⟧.element))) (two_fields (optional (alternative ⟦<Implicit<BitStringRef<'a>, 1> as Described>⟧.element)) (two_fields (optional (alternative ⟦<Implicit<BitStringRef<'a>, 2> as Described>⟧.element)) (optional (alternative ⟦<Explicit<Extensions<'a>, 3> as Described>⟧.element))))))) ⟦<TbsCertificate<'a> as FromFields<(TbsCertificatePart1<'a>, TbsCertificatePart2<'a>)>>⟧.fields };
+
+    ghost fits = { (refl, refl) };
+}
+
+/// Decodes the fields one after the other, with the errors of every [`Sequence`].
+impl<'a, R: Reader<Borrowed = &'a [u8]>> DecodeValue<R> for TbsCertificate<'a> {
+    type Error = Error;
+
+    ghost decode_value_answers = { λ h s result t.
+        ⟦<(TbsCertificatePart1<'a>, TbsCertificatePart2<'a>) as Decode<SliceReader<'a>>>⟧.decode_answers s (map_ok ⟦<TbsCertificate<'a> as FromFields<(TbsCertificatePart1<'a>, TbsCertificatePart2<'a>)>>⟧.fields result) t };
+
+    fn decode_value(alloc: Global, reader: &mut R, header: Header) -> Result<Self, Error> {
+        decode_sequence::<R, (TbsCertificatePart1<'a>, TbsCertificatePart2<'a>), Self>(alloc, reader, header)
+    }
+
+    fn is_value(&self) {
+        <Explicit<WithDefault<NamedInteger<Version>, TbsCertificateVersionDefault>, 0> as DecodeValue<R>>::is_value(&self.version.0);
+        <IntRef<'a> as DecodeValue<R>>::is_value(&self.serial_number);
+        <AlgorithmIdentifierRef<'a> as DecodeValue<R>>::is_value(&self.signature);
+        <Name<'a> as DecodeValue<R>>::is_value(&self.issuer);
+        <Validity as DecodeValue<R>>::is_value(&self.validity);
+        <Name<'a> as DecodeValue<R>>::is_value(&self.subject);
+        <SubjectPublicKeyInfoRef<'a> as DecodeValue<R>>::is_value(&self.subject_public_key_info);
+        if let Some(value) = &self.issuer_unique_id.0 {
+            <Implicit<BitStringRef<'a>, 1> as DecodeValue<R>>::is_value(value);
+        }
+        if let Some(value) = &self.subject_unique_id.0 {
+            <Implicit<BitStringRef<'a>, 2> as DecodeValue<R>>::is_value(value);
+        }
+        if let Some(value) = &self.extensions.0 {
+            <Explicit<Extensions<'a>, 3> as DecodeValue<R>>::is_value(value);
+        }
+    }
+}
+
+/// Writes the fields one after the other, with the errors of every [`Sequence`].
+impl<'a> EncodeValue for TbsCertificate<'a> {
+    ghost value_size = { λ v. ⟦<TbsCertificateFields<'a> as Encode>⟧.size (⟦<TbsCertificatePart1<'a> as FromFields<TbsCertificatePart1Fields<'a>>>⟧.fields (⟦<TbsCertificate<'a> as FromFields<(TbsCertificatePart1<'a>, TbsCertificatePart2<'a>)>>⟧.fields v).0, ⟦<TbsCertificatePart2<'a> as FromFields<TbsCertificatePart2Fields<'a>>>⟧.fields (⟦<TbsCertificate<'a> as FromFields<(TbsCertificatePart1<'a>, TbsCertificatePart2<'a>)>>⟧.fields v).1) };
+
+    ghost encode_value_answers = { λ v. ⟦<TbsCertificateFields<'a> as Encode>⟧.encode_answers (⟦<TbsCertificatePart1<'a> as FromFields<TbsCertificatePart1Fields<'a>>>⟧.fields (⟦<TbsCertificate<'a> as FromFields<(TbsCertificatePart1<'a>, TbsCertificatePart2<'a>)>>⟧.fields v).0, ⟦<TbsCertificatePart2<'a> as FromFields<TbsCertificatePart2Fields<'a>>>⟧.fields (⟦<TbsCertificate<'a> as FromFields<(TbsCertificatePart1<'a>, TbsCertificatePart2<'a>)>>⟧.fields v).1) };
+
+    fn value_len(&self) -> Result<Length, Error> {
+        field_refs!(self, (((version, serial_number), (signature, (issuer, validity))), ((subject, subject_public_key_info), (issuer_unique_id, (subject_unique_id, extensions))))).encoded_len()
+    }
+
+    fn encode_value<W: Writer>(&self, writer: &mut W) -> Result<(), Error> {
+        field_refs!(self, (((version, serial_number), (signature, (issuer, validity))), ((subject, subject_public_key_info), (issuer_unique_id, (subject_unique_id, extensions))))).encode(writer)
+    }
+}
+
+impl<'a> Item for TbsCertificate<'a> {
+    ghost item = { sequence_item ⟦<TbsCertificate<'a> as Described>⟧.element };
+}
+
+impl<'a, R: Reader<Borrowed = &'a [u8]>> DecodeItem<R> for TbsCertificate<'a> {
+    ghost is_item = { sequence_is_item ⟦<TbsCertificate<'a> as Described>⟧.element refl };
+
+    ghost decodes_items = { decodes_same (sequence_item ⟦<TbsCertificate<'a> as Described>⟧.element) };
+}
+
+impl<'a> BorrowedItem for TbsCertificate<'a> {
+    ghost borrowed = { refl };
+}
+
+impl<'a> Nestable for TbsCertificate<'a> {
+    ghost nestable = { Prim.omega arith };
+}
+
+/// The default of a field: [`Version::V1`].
+pub struct TbsCertificateVersionDefault;
+
+impl DefaultOf<NamedInteger<Version>> for TbsCertificateVersionDefault {
+    ghost default_contents = { integer_octets false 0 };
+
+    fn default_value() -> NamedInteger<Version> {
+        <NamedInteger<Version>>::new(Version::V1)
+    }
+}

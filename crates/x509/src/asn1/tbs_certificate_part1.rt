@@ -1,0 +1,53 @@
+//! TbsCertificatePart1 of the module X509. Written by asn1_compile: change the module instead.
+ghost use Rattle.std.specs.Prelude.{false};
+ghost use Rattle.der.specs.Prelude.{map_ok};
+
+use spki::AlgorithmIdentifierRef;
+use crate::asn1::name::Name;
+use crate::asn1::tbs_certificate::TbsCertificateVersionDefault;
+use crate::asn1::validity::Validity;
+use crate::asn1::version::Version;
+use der::{Decode, Error, FromFields, Reader, SliceReader, decode_fields};
+use der_asn1::{Defaulted, Explicit, IntRef, NamedInteger, WithDefault};
+use std::alloc::Global;
+
+// Some fields of a TbsCertificate.
+#[derive(Drop)]
+pub(crate) struct TbsCertificatePart1<'a> {
+    pub(crate) version: Defaulted<Explicit<WithDefault<NamedInteger<Version>, TbsCertificateVersionDefault>, 0>>,
+    pub(crate) serial_number: IntRef<'a>,
+    pub(crate) signature: AlgorithmIdentifierRef<'a>,
+    pub(crate) issuer: Name<'a>,
+    pub(crate) validity: Validity,
+}
+
+// The fields in pairs, in the order in which they are encoded.
+pub(crate) type TbsCertificatePart1Fields<'a> = ((Defaulted<Explicit<WithDefault<NamedInteger<Version>, TbsCertificateVersionDefault>, 0>>, IntRef<'a>), (AlgorithmIdentifierRef<'a>, (Name<'a>, Validity)));
+
+impl<'a> FromFields<TbsCertificatePart1Fields<'a>> for TbsCertificatePart1<'a> {
+    ghost fields = { λ v. ((v.version, v.serial_number), (v.signature, (v.issuer, v.validity))) };
+
+    fn from_fields(members: TbsCertificatePart1Fields<'a>) -> Self {
+        let ((version, serial_number), (signature, (issuer, validity))) = members;
+        TbsCertificatePart1 { version, serial_number, signature, issuer, validity }
+    }
+}
+
+impl<'a, R: Reader<Borrowed = &'a [u8]>> Decode<R> for TbsCertificatePart1<'a> {
+    type Error = Error;
+
+    ghost is_next = { λ v. ⟦<TbsCertificatePart1Fields<'a> as Decode<SliceReader<'a>>>⟧.is_next
+        (⟦<TbsCertificatePart1<'a> as FromFields<TbsCertificatePart1Fields<'a>>>⟧.fields v) };
+
+    ghost decode_levels = { ⟦<TbsCertificatePart1Fields<'a> as Decode<SliceReader<'a>>>⟧.decode_levels };
+
+    ghost allocates = { false };
+
+    ghost decode_answers = { λ s result t.
+        ⟦<TbsCertificatePart1Fields<'a> as Decode<SliceReader<'a>>>⟧.decode_answers s
+        (map_ok ⟦<TbsCertificatePart1<'a> as FromFields<TbsCertificatePart1Fields<'a>>>⟧.fields result) t };
+
+    fn decode(alloc: Global, reader: &mut R) -> Result<Self, Error> {
+        decode_fields::<R, TbsCertificatePart1Fields<'a>, Self>(alloc, reader)
+    }
+}

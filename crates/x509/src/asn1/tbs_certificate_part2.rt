@@ -1,0 +1,51 @@
+//! TbsCertificatePart2 of the module X509. Written by asn1_compile: change the module instead.
+ghost use Rattle.std.specs.Prelude.{false};
+ghost use Rattle.der.specs.Prelude.{map_ok};
+
+use crate::asn1::extensions::Extensions;
+use crate::asn1::name::Name;
+use spki::SubjectPublicKeyInfoRef;
+use der::{Decode, Error, FromFields, Reader, SliceReader, decode_fields};
+use der_asn1::{BitStringRef, Explicit, Implicit, Optional};
+use std::alloc::Global;
+
+// Some fields of a TbsCertificate.
+#[derive(Drop)]
+pub(crate) struct TbsCertificatePart2<'a> {
+    pub(crate) subject: Name<'a>,
+    pub(crate) subject_public_key_info: SubjectPublicKeyInfoRef<'a>,
+    pub(crate) issuer_unique_id: Optional<Implicit<BitStringRef<'a>, 1>>,
+    pub(crate) subject_unique_id: Optional<Implicit<BitStringRef<'a>, 2>>,
+    pub(crate) extensions: Optional<Explicit<Extensions<'a>, 3>>,
+}
+
+// The fields in pairs, in the order in which they are encoded.
+pub(crate) type TbsCertificatePart2Fields<'a> = ((Name<'a>, SubjectPublicKeyInfoRef<'a>), (Optional<Implicit<BitStringRef<'a>, 1>>, (Optional<Implicit<BitStringRef<'a>, 2>>, Optional<Explicit<Extensions<'a>, 3>>)));
+
+impl<'a> FromFields<TbsCertificatePart2Fields<'a>> for TbsCertificatePart2<'a> {
+    ghost fields = { λ v. ((v.subject, v.subject_public_key_info), (v.issuer_unique_id, (v.subject_unique_id, v.extensions))) };
+
+    fn from_fields(members: TbsCertificatePart2Fields<'a>) -> Self {
+        let ((subject, subject_public_key_info), (issuer_unique_id, (subject_unique_id, extensions))) = members;
+        TbsCertificatePart2 { subject, subject_public_key_info, issuer_unique_id, subject_unique_id, extensions }
+    }
+}
+
+impl<'a, R: Reader<Borrowed = &'a [u8]>> Decode<R> for TbsCertificatePart2<'a> {
+    type Error = Error;
+
+    ghost is_next = { λ v. ⟦<TbsCertificatePart2Fields<'a> as Decode<SliceReader<'a>>>⟧.is_next
+        (⟦<TbsCertificatePart2<'a> as FromFields<TbsCertificatePart2Fields<'a>>>⟧.fields v) };
+
+    ghost decode_levels = { ⟦<TbsCertificatePart2Fields<'a> as Decode<SliceReader<'a>>>⟧.decode_levels };
+
+    ghost allocates = { false };
+
+    ghost decode_answers = { λ s result t.
+        ⟦<TbsCertificatePart2Fields<'a> as Decode<SliceReader<'a>>>⟧.decode_answers s
+        (map_ok ⟦<TbsCertificatePart2<'a> as FromFields<TbsCertificatePart2Fields<'a>>>⟧.fields result) t };
+
+    fn decode(alloc: Global, reader: &mut R) -> Result<Self, Error> {
+        decode_fields::<R, TbsCertificatePart2Fields<'a>, Self>(alloc, reader)
+    }
+}

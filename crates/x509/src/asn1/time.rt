@@ -1,0 +1,118 @@
+//! Time of the module X509. Written by asn1_compile: change the module instead.
+ghost use Rattle.std.specs.Prelude.{false};
+ghost use Rattle.std.proofs.Common.{refl};
+ghost use Rattle.der.specs.Prelude.{map_ok};
+ghost use Rattle.der_asn1.specs.Item.{decodes_same};
+ghost use Rattle.der_asn1.specs.Meaning.{alternative, choice_is_item, choice_item, choice_of, either};
+ghost use Rattle.der_asn1.specs.declared.either.Either.TheVariants.{First, Second};
+ghost use Rattle.x509.specs.declared.asn1.time.Time.TheVariants as variant;
+
+use der::{Decode, Encode, Error, FromFields, Length, Reader, SliceReader, Tag, Writer};
+use der_asn1::{
+    BorrowedItem, Choice, DecodeItem, Described, DescribedChoice, Either, GeneralizedTime,
+    Item, UtcTime, decode_choice,
+};
+use std::alloc::Global;
+
+/// A time (RFC 5280, 4.1.2.5). The RFC requires a UTCTime until the end of 2049 and a
+/// GeneralizedTime after that. Decoding also accepts a GeneralizedTime for an earlier time.
+#[derive(Clone, Copy, Drop)]
+pub enum Time {
+    /// utcTime
+    UtcTime(UtcTime),
+    /// generalTime
+    GeneralTime(GeneralizedTime),
+}
+
+/// The alternatives, as nested choices of two.
+pub type TimeAlternatives = Either<UtcTime, GeneralizedTime>;
+
+impl FromFields<TimeAlternatives> for Time {
+    ghost fields = { elim [
+      | variant.UtcTime v ↦ First (v)
+      | variant.GeneralTime v ↦ Second (v)
+    ] };
+
+    fn from_fields(alternatives: TimeAlternatives) -> Self {
+        match alternatives {
+            Either::First(value) => Time::UtcTime(value),
+            Either::Second(value) => Time::GeneralTime(value),
+        }
+    }
+}
+
+impl DescribedChoice for Time {
+    ghost alternative = { choice_of (either (alternative ⟦<UtcTime as Described>⟧.element) (alternative ⟦<GeneralizedTime as Described>⟧.element)) ⟦<Time as FromFields<TimeAlternatives>>⟧.fields };
+}
+
+/// Decodes the alternative whose tag is next, with the errors of [`Either`].
+impl<'a, R: Reader<Borrowed = &'a [u8]>> Decode<R> for Time {
+    type Error = Error;
+
+    ghost is_next = { ⟦<Time as DescribedChoice>⟧.alternative.is_next };
+
+    ghost decode_levels = { ⟦<Time as DescribedChoice>⟧.alternative.levels };
+
+    ghost allocates = { false };
+
+    ghost decode_answers = { λ s result t.
+        ⟦<TimeAlternatives as Decode<SliceReader<'a>>>⟧.decode_answers s
+        (map_ok ⟦<Time as FromFields<TimeAlternatives>>⟧.fields result) t };
+
+    fn decode(alloc: Global, reader: &mut R) -> Result<Self, Error> {
+        decode_choice::<R, TimeAlternatives, Self>(alloc, reader)
+    }
+}
+
+impl<'a, R: Reader<Borrowed = &'a [u8]>> Choice<R> for Time {
+    ghost chooses = { ⟦<Time as DescribedChoice>⟧.alternative.tags };
+
+    fn can_decode(tag: Tag) -> bool {
+        <TimeAlternatives as Choice<R>>::can_decode(tag)
+    }
+
+    ghost begins = { ⟦<Time as DescribedChoice>⟧.alternative.begins };
+}
+
+/// Writes the alternative that the value has.
+impl Encode for Time {
+    ghost encoding = { λ v. ⟦<TimeAlternatives as Encode>⟧.encoding
+        (⟦<Time as FromFields<TimeAlternatives>>⟧.fields v) };
+
+    ghost encodable = { λ v. ⟦<TimeAlternatives as Encode>⟧.encodable
+        (⟦<Time as FromFields<TimeAlternatives>>⟧.fields v) };
+
+    ghost size = { λ v. ⟦<TimeAlternatives as Encode>⟧.size
+        (⟦<Time as FromFields<TimeAlternatives>>⟧.fields v) };
+
+    ghost encode_answers = { λ v. ⟦<TimeAlternatives as Encode>⟧.encode_answers
+        (⟦<Time as FromFields<TimeAlternatives>>⟧.fields v) };
+
+    fn encoded_len(&self) -> Result<Length, Error> {
+        match self {
+            Time::UtcTime(value) => value.encoded_len(),
+            Time::GeneralTime(value) => value.encoded_len(),
+        }
+    }
+
+    fn encode<W: Writer>(&self, writer: &mut W) -> Result<(), Error> {
+        match self {
+            Time::UtcTime(value) => value.encode(writer),
+            Time::GeneralTime(value) => value.encode(writer),
+        }
+    }
+}
+
+impl Item for Time {
+    ghost item = { choice_item ⟦<Time as DescribedChoice>⟧.alternative };
+}
+
+impl<'a, R: Reader<Borrowed = &'a [u8]>> DecodeItem<R> for Time {
+    ghost is_item = { choice_is_item ⟦<Time as DescribedChoice>⟧.alternative refl };
+
+    ghost decodes_items = { decodes_same (choice_item ⟦<Time as DescribedChoice>⟧.alternative) };
+}
+
+impl<'a> BorrowedItem for Time {
+    ghost borrowed = { refl };
+}

@@ -1,0 +1,101 @@
+//! Validity of the module X509. Written by asn1_compile: change the module instead.
+ghost use Rattle.std.specs.Prelude.{◌≡◌};
+ghost use Rattle.std.proofs.Common.{arith, refl};
+ghost use Rattle.der.specs.Prelude.{map_ok};
+ghost use Rattle.der_asn1.specs.Item.{decodes_same};
+ghost use Rattle.der_asn1.specs.Meaning.{alternative, field, sequence, sequence_is_item, sequence_item, two_fields};
+
+use crate::asn1::time::Time;
+use der::{
+    Decode, DecodeValue, Encode, EncodeValue, Error, FromFields, Header, Length, Reader,
+    Sequence, SliceReader, Writer, decode_sequence, field_refs,
+};
+use der_asn1::{
+    BorrowedItem, DecodeItem, Described, DescribedChoice, GeneralizedTime, Item, Nestable,
+    UtcTime,
+};
+use std::alloc::Global;
+
+/// The period in which a certificate is valid (RFC 5280, 4.1.2.5): the times at its two ends
+/// included.
+#[derive(Clone, Copy, Drop)]
+pub struct Validity {
+    /// The first time at which the certificate is valid.
+    pub not_before: Time,
+    /// The last time at which the certificate is valid.
+    pub not_after: Time,
+}
+
+/// The fields of a [`Validity`] in pairs, in the order in which they are encoded.
+pub type ValidityFields = (Time, Time);
+
+impl FromFields<ValidityFields> for Validity {
+    ghost fields = { λ v. (v.not_before, v.not_after) };
+
+    fn from_fields(members: ValidityFields) -> Self {
+        let (not_before, not_after) = members;
+        Validity { not_before, not_after }
+    }
+}
+
+impl Sequence for Validity {
+    ghost meaning = { sequence (two_fields (field ⟦<Time as DescribedChoice>⟧.alternative) (field ⟦<Time as DescribedChoice>⟧.alternative)) ⟦<Validity as FromFields<ValidityFields>>⟧.fields };
+
+    ghost fits = { (refl, refl) };
+}
+
+/// Decodes the fields one after the other, with the errors of every [`Sequence`].
+impl<'a, R: Reader<Borrowed = &'a [u8]>> DecodeValue<R> for Validity {
+    type Error = Error;
+
+    ghost decode_value_answers = { λ h s result t.
+        ⟦<ValidityFields as Decode<SliceReader<'a>>>⟧.decode_answers s (map_ok ⟦<Validity as FromFields<ValidityFields>>⟧.fields result) t };
+
+    fn decode_value(alloc: Global, reader: &mut R, header: Header) -> Result<Self, Error> {
+        decode_sequence::<R, ValidityFields, Self>(alloc, reader, header)
+    }
+
+    fn is_value(&self) {
+        match &self.not_before {
+            Time::UtcTime(value) => <UtcTime as DecodeValue<R>>::is_value(value),
+            Time::GeneralTime(value) => <GeneralizedTime as DecodeValue<R>>::is_value(value),
+}
+        match &self.not_after {
+            Time::UtcTime(value) => <UtcTime as DecodeValue<R>>::is_value(value),
+            Time::GeneralTime(value) => <GeneralizedTime as DecodeValue<R>>::is_value(value),
+}
+    }
+}
+
+/// Writes the fields one after the other, with the errors of every [`Sequence`].
+impl EncodeValue for Validity {
+    ghost value_size = { λ v. ⟦<ValidityFields as Encode>⟧.size (⟦<Validity as FromFields<ValidityFields>>⟧.fields v) };
+
+    ghost encode_value_answers = { λ v. ⟦<ValidityFields as Encode>⟧.encode_answers (⟦<Validity as FromFields<ValidityFields>>⟧.fields v) };
+
+    fn value_len(&self) -> Result<Length, Error> {
+        field_refs!(self, (not_before, not_after)).encoded_len()
+    }
+
+    fn encode_value<W: Writer>(&self, writer: &mut W) -> Result<(), Error> {
+        field_refs!(self, (not_before, not_after)).encode(writer)
+    }
+}
+
+impl Item for Validity {
+    ghost item = { sequence_item ⟦<Validity as Described>⟧.element };
+}
+
+impl<'a, R: Reader<Borrowed = &'a [u8]>> DecodeItem<R> for Validity {
+    ghost is_item = { sequence_is_item ⟦<Validity as Described>⟧.element refl };
+
+    ghost decodes_items = { decodes_same (sequence_item ⟦<Validity as Described>⟧.element) };
+}
+
+impl<'a> BorrowedItem for Validity {
+    ghost borrowed = { refl };
+}
+
+impl Nestable for Validity {
+    ghost nestable = { Prim.omega arith };
+}
