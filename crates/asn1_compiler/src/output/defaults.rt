@@ -1,7 +1,8 @@
 //! Types of fields that have a default.
 
 use super::rust_type::RustType;
-use crate::checks::find_type;
+use crate::base_form::base_form;
+use crate::constant::{Constant, find_constant};
 use crate::endpoint::Endpoint;
 use crate::failure::Failure;
 use crate::item_kind::ItemKind;
@@ -23,14 +24,10 @@ pub fn default_type<'a>(
     value: &Value<'a>,
 ) -> Result<RustType, Failure<'a>> {
     let leaf = leaf_of(module, index);
-    let base = base_of(module, leaf);
-    let inside = match module.nodes.get(base) {
-        Some(node) => match &node.form {
-            TypeForm::Simple(SimpleType::Boolean) => boolean(alloc, value)?,
-            TypeForm::Integer(numbers) => integer(alloc, module, numbers, value)?,
-            _ => return Err(not_written(value)),
-        },
-        None => return Err(not_written(value)),
+    let inside = match base_form(module, leaf) {
+        Some(TypeForm::Simple(SimpleType::Boolean)) => boolean(alloc, value)?,
+        Some(TypeForm::Integer(numbers)) => integer(alloc, module, numbers, value)?,
+        _ => return Err(not_written(value)),
     };
     let Some(found) = types.get(leaf) else {
         return Err(not_written(value));
@@ -59,24 +56,6 @@ fn leaf_of(module: &Module<'_>, index: usize) -> usize {
                 _ => return index,
             },
             None => return index,
-        }
-    }
-    index
-}
-
-// The type behind the names of a type.
-fn base_of(module: &Module<'_>, index: usize) -> usize {
-    let mut index = index;
-    for _ in module.nodes.iter() {
-        let Some(node) = module.nodes.get(index) else {
-            return index;
-        };
-        match &node.form {
-            TypeForm::Reference => match find_type(module, node.item.text) {
-                Some(of) => index = of,
-                None => return index,
-            },
-            _ => return index,
         }
     }
     index
@@ -131,11 +110,14 @@ fn named(numbers: &Vec<NamedNumber<'_>>, name: &str) -> Option<u64> {
     None
 }
 
+// The number that a value of the module is, or one that it imports.
 fn assigned(module: &Module<'_>, name: &str) -> Option<u64> {
-    for assigned in module.values.iter() {
-        if assigned.name.text == name && assigned.value.item.kind == ItemKind::Number {
-            return assigned.value.item.text.parse::<u64>().ok();
-        }
+    let index = find_constant(&module.constants, name)?;
+    match module.constants.get(index) {
+        Some(named) => match &named.constant {
+            Constant::Number(number) => Some(*number),
+            _ => None,
+        },
+        None => None,
     }
-    None
 }

@@ -1,5 +1,6 @@
 //! The pieces that a module is written in.
 
+use super::abilities::is_exported;
 use super::choice::ChoiceText;
 use super::choice_part::choice_part_body;
 use super::defaults::default_type;
@@ -139,8 +140,8 @@ impl<'m, 'a> Written<'m, 'a> {
             lifetime: lifetime_of(&fields),
             doc,
             fields,
-            is_item: self.is_item(index),
-            is_nestable: self.is_nestable(index),
+            is_item: self.is_item(index) || is_exported(self.module, index),
+            is_nestable: self.is_nestable(index) || is_exported(self.module, index),
         })
     }
 
@@ -179,16 +180,16 @@ impl<'m, 'a> Written<'m, 'a> {
         })
     }
 
-    // Whether the type with this index is an item of a list.
-    fn is_item(&self, index: usize) -> bool {
+    /// Whether the type with this index is an item of a list.
+    pub(super) fn is_item(&self, index: usize) -> bool {
         self.module.nodes.iter().any(|node| match &node.form {
             TypeForm::SequenceOf(of) | TypeForm::SetOf(of) => self.leads_to(*of, index),
             _ => false,
         })
     }
 
-    // Whether the type with this index stands in an explicit tag.
-    fn is_nestable(&self, index: usize) -> bool {
+    /// Whether the type with this index stands in an explicit tag.
+    pub(super) fn is_nestable(&self, index: usize) -> bool {
         self.module.nodes.iter().any(|node| match &node.form {
             TypeForm::Tagged(prefix, of) => {
                 let is_explicit = match prefix.tagging {

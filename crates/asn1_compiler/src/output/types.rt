@@ -8,6 +8,7 @@ use crate::checks::{are_numbered, find_type};
 use crate::component::Component;
 use crate::constraint::Constraint;
 use crate::endpoint::Endpoint;
+use crate::external_type::find_external;
 use crate::failure::Failure;
 use crate::module::Module;
 use crate::refusal::Refusal;
@@ -145,20 +146,34 @@ fn reference<'a>(
     names: &Vec<String>,
     node: &TypeNode<'a>,
 ) -> Result<RustType, Failure<'a>> {
-    let Some(of) = find_type(module, node.item.text) else {
-        return Err(not_written(node));
-    };
+    match find_type(module, node.item.text) {
+        Some(of) => Ok(named_type(alloc, module, table, names, of)?),
+        None => match find_external(module, node.item.text) {
+            Some(external) => Ok(external.of.copy(alloc)?),
+            None => Err(not_written(node)),
+        },
+    }
+}
+
+/// The type that a name stands for, if it is that of the type with this index.
+pub fn named_type(
+    alloc: Global,
+    module: &Module<'_>,
+    table: &Vec<RustType>,
+    names: &Vec<String>,
+    of: usize,
+) -> Result<RustType, AllocError> {
     let Some(found) = table.get(of) else {
-        return Err(not_written(node));
+        return RustType::new(alloc, "", RustKind::Element);
     };
     if is_enumerated(module, of) {
-        return Ok(found.copy(alloc)?);
+        return found.copy(alloc);
     }
     let mut text = String::from_str(alloc, text_at(names, of))?;
     if found.has_lifetime {
         text.push_str("<'a>")?;
     }
-    Ok(found.renamed(alloc, text.as_str())?)
+    found.renamed(alloc, text.as_str())
 }
 
 fn is_enumerated(module: &Module<'_>, index: usize) -> bool {
