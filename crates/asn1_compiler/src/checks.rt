@@ -14,8 +14,9 @@ use crate::failure::Failure;
 use crate::module::Module;
 use crate::tag_set::TagSet;
 pub use components::are_numbered;
-pub use names::find_type;
+pub use names::{find_type, has_value};
 use std::alloc::Global;
+pub use tags::has_no_tag;
 
 /// What the checks of a module find.
 #[derive(Drop)]

@@ -2,15 +2,20 @@
 //! Rust that read and write its values.
 #![tactic(auto)]
 
+mod base_form;
 mod checks;
 mod command;
 mod component;
+mod constant;
 mod constraint;
 mod endpoint;
+mod external;
+mod external_type;
 mod failure;
 mod item;
 mod item_kind;
 mod items;
+mod link;
 mod module;
 mod named_number;
 mod octet_class;
@@ -31,15 +36,21 @@ mod value;
 
 pub use checks::{Checks, check_module};
 pub use component::{Component, Presence};
+pub use constant::{Constant, NamedConstant};
 pub use constraint::Constraint;
 pub use endpoint::Endpoint;
+pub use external::External;
+pub use external_type::ExternalType;
 pub use failure::Failure;
 pub use item::Item;
 pub use item_kind::ItemKind;
 pub use items::items_of;
+pub use link::link_module;
 pub use module::{Import, Module, TypeAssignment, ValueAssignment};
 pub use named_number::NamedNumber;
-pub use output::{OutputFile, compile, pascal_name, snake_name};
+pub use output::{
+    OutputFile, RustKind, RustType, checked_module, compile, pascal_name, read_external, snake_name,
+};
 pub use parser::parse_module;
 pub use position::Position;
 pub use program::run_compile;

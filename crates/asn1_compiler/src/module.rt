@@ -1,5 +1,7 @@
 //! Modules.
 
+use crate::constant::NamedConstant;
+use crate::external_type::ExternalType;
 use crate::item::Item;
 use crate::tagging::TagDefault;
 use crate::type_node::TypeNode;
@@ -12,12 +14,18 @@ pub struct Module<'a> {
     pub name: Item<'a>,
     /// What it says of its tags.
     pub tags: TagDefault,
-    /// What it imports.
+    /// The names that it exports; none if it says nothing of them.
+    pub exports: Vec<Item<'a>>,
+    /// The names that it imports.
     pub imports: Vec<Import<'a>>,
+    /// The types that it imports, once they are looked up.
+    pub imported: Vec<ExternalType<'a>>,
     /// The types that it names, in their order.
     pub types: Vec<TypeAssignment<'a>>,
     /// The values that it names, in their order.
     pub values: Vec<ValueAssignment<'a>>,
+    /// What its values are, and those that it imports, once they are looked up.
+    pub constants: Vec<NamedConstant<'a>>,
     /// All types of the module, also those without a name.
     pub nodes: Vec<TypeNode<'a>>,
 }

@@ -1,5 +1,6 @@
 //! The text of the types of Rust.
 
+mod abilities;
 mod choice;
 mod choice_part;
 mod defaults;
@@ -18,28 +19,48 @@ mod pieces;
 mod rust_names;
 mod rust_type;
 mod sequence;
+mod summary;
 mod template;
 mod types;
 
-use crate::checks::check_module;
+use crate::checks::{Checks, check_module};
+use crate::external::External;
 use crate::failure::Failure;
-use crate::output::file::{file_of, proof_of, root_of};
+use crate::link::link_module;
+use crate::module::Module;
+use crate::output::abilities::check_imported;
+use crate::output::file::{file_of, library_of, proof_of, root_of};
 use crate::output::naming::names_of;
 use crate::output::pieces::Written;
+use crate::output::summary::external_of;
 use crate::output::types::types_in_order;
 use crate::parser::parse_module;
 pub use file::OutputFile;
 pub use rust_names::{pascal_name, snake_name};
+pub use rust_type::{RustKind, RustType};
 use std::alloc::Global;
 
-/// Compiles a module for the crate `krate`: the files to be written beneath its folder.
-pub fn compile<'a>(
+/// Parses a module, looks up its names, and checks it. It imports from modules of other crates.
+pub fn checked_module<'a>(
     alloc: Global,
+    externals: &Vec<External<'a>>,
     text: &'a str,
-    krate: &str,
-) -> Result<Vec<OutputFile>, Failure<'a>> {
-    let module = parse_module(alloc, text)?;
+) -> Result<(Module<'a>, Checks), Failure<'a>> {
+    let mut module = parse_module(alloc, text)?;
+    link_module(alloc, &mut module, externals)?;
     let checks = check_module(alloc, &module)?;
+    Ok((module, checks))
+}
+
+/// What other modules may import from a module that the crate `krate` holds. It imports from
+/// modules of other crates.
+pub fn read_external<'a>(
+    alloc: Global,
+    externals: &Vec<External<'a>>,
+    text: &'a str,
+    krate: &'a str,
+) -> Result<External<'a>, Failure<'a>> {
+    let (module, checks) = checked_module(alloc, externals, text)?;
     let names = names_of(alloc, &module)?;
     let types = types_in_order(alloc, &module, &checks.order, &names)?;
     let written = Written {
@@ -47,11 +68,32 @@ pub fn compile<'a>(
         names: &names,
         types: &types,
     };
+    external_of(alloc, &written, &checks, krate)
+}
+
+/// Compiles a module for the crate `krate`: the files to be written beneath its folder `src/`. It
+/// imports from modules of other crates.
+pub fn compile<'a>(
+    alloc: Global,
+    externals: &Vec<External<'a>>,
+    text: &'a str,
+    krate: &str,
+) -> Result<Vec<OutputFile>, Failure<'a>> {
+    let (module, checks) = checked_module(alloc, externals, text)?;
+    let names = names_of(alloc, &module)?;
+    let types = types_in_order(alloc, &module, &checks.order, &names)?;
+    check_imported(&module)?;
+    let written = Written {
+        module: &module,
+        names: &names,
+        types: &types,
+    };
     let pieces = written.pieces(alloc)?;
     let mut files = Vec::new(alloc);
+    files.push(library_of(alloc, &pieces)?)?;
     files.push(root_of(alloc, module.name.text, &pieces)?)?;
     for piece in pieces.iter() {
-        files.push(file_of(alloc, module.name.text, krate, piece, &pieces)?)?;
+        files.push(file_of(alloc, &module, krate, piece, &pieces)?)?;
         if !piece.proof.is_empty() {
             files.push(proof_of(alloc, krate, piece)?)?;
         }

@@ -39,7 +39,8 @@ pub fn parse_module<'a>(alloc: Global, text: &'a str) -> Result<Module<'a>, Fail
         nodes: Vec::new(alloc),
     };
     let (name, tags) = parser.header()?;
-    let imports = parser.exports_and_imports()?;
+    let exports = parser.exports()?;
+    let imports = parser.imports()?;
     let mut types = Vec::new(alloc);
     let mut values = Vec::new(alloc);
     for _ in 0..text.len() {
@@ -64,9 +65,12 @@ pub fn parse_module<'a>(alloc: Global, text: &'a str) -> Result<Module<'a>, Fail
     Ok(Module {
         name,
         tags,
+        exports,
         imports,
+        imported: Vec::new(alloc),
         types,
         values,
+        constants: Vec::new(alloc),
         nodes,
     })
 }

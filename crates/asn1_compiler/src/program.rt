@@ -1,28 +1,28 @@
 //! The program as a function of its arguments, files and an output.
 
 use crate::command::CompileCommand;
+use crate::external::External;
 use crate::failure::Failure;
-use crate::output::{OutputFile, compile};
+use crate::output::{OutputFile, compile, read_external};
 use std::alloc::AllocError;
 use std::env::Args;
 use std::io::Write;
 use std::rt::Files;
 use std::{fs, io};
 
-const USAGE: &str = "usage: asn1_compile --out FOLDER FILE\n";
+const USAGE: &str = "usage: asn1_compile --out FOLDER FILE [--with CRATE=FILE]..\n";
 
-const LIBRARY: &str = "//! Types that are compiled from ASN.1.
-#![tactic(auto)]
+const OUT_OF_MEMORY: &str = "error: out of memory\n";
 
-pub mod asn1;
-";
+const NOT_READ: &str = "error: the file is not read\n";
 
 /// Runs the program with the arguments `given`, of which the first one is the name of the program.
-/// Compiles the module in a file, and writes its types to the folder of a crate. Prints to `out`
-/// what is wrong, if anything is, and returns the exit status:
+/// Compiles the module in a file, and writes its types to the folder of a crate. What it imports is
+/// in modules of other crates, each of which may import from those before it. Prints to `out` what
+/// is wrong, if anything is, and returns the exit status:
 ///
 /// - 0 on success;
-/// - 1 if the file cannot be read, if the module is refused, if a file cannot be written, if an
+/// - 1 if a file cannot be read, if a module is refused, if a file cannot be written, if an
 ///   allocation fails, or in any case if writing to `out` fails. Nothing is written for a module
 ///   that is refused;
 /// - 2 if `given` is an error, or if the arguments after the program's name are not a command. In
@@ -37,41 +37,86 @@ pub fn run_compile<R: Files + AllocGlobal, W: Write>(
     };
     let _name = arguments.next();
     let words: Result<Vec<String>, AllocError> = arguments.collect(rt.alloc());
-    match words {
-        Ok(words) => match CompileCommand::parse(&words) {
-            Some(command) => run(rt, command, out),
-            None => say(USAGE, 2, out),
-        },
-        Err(_) => say("error: out of memory\n", 1, out),
+    let Ok(words) = words else {
+        return say(OUT_OF_MEMORY, 1, out);
+    };
+    match CompileCommand::parse(rt.alloc(), &words) {
+        Ok(Some(command)) => run(rt, &command, out),
+        Ok(None) => say(USAGE, 2, out),
+        Err(_) => say(OUT_OF_MEMORY, 1, out),
     }
 }
 
-fn run<R: Files + AllocGlobal, W: Write>(rt: &R, command: CompileCommand<'_>, out: &mut W) -> u8 {
+fn run<R: Files + AllocGlobal, W: Write>(rt: &R, command: &CompileCommand<'_>, out: &mut W) -> u8 {
+    let mut texts = Vec::new(rt.alloc());
+    for with in command.with.iter() {
+        let Ok(text) = fs::read_to_string(rt, with.file) else {
+            return say(NOT_READ, 1, out);
+        };
+        if texts.push(text).is_err() {
+            return say(OUT_OF_MEMORY, 1, out);
+        }
+    }
     let Ok(text) = fs::read_to_string(rt, command.file) else {
-        return say("error: the file is not read\n", 1, out);
+        return say(NOT_READ, 1, out);
     };
-    match compile(rt.alloc(), text.as_str(), command.crate_name()) {
+    let mut externals = Vec::new(rt.alloc());
+    for (with, text) in command.with.iter().zip(texts.iter()) {
+        match read_external(rt.alloc(), &externals, text.as_str(), with.krate) {
+            Ok(external) => {
+                if externals.push(external).is_err() {
+                    return say(OUT_OF_MEMORY, 1, out);
+                }
+            }
+            Err(failure) => return say_failure(rt, &failure, with.file, text.as_str(), out),
+        }
+    }
+    run_with(rt, command, &externals, text.as_str(), out)
+}
+
+fn run_with<'a, R: Files + AllocGlobal, W: Write>(
+    rt: &R,
+    command: &CompileCommand<'_>,
+    externals: &Vec<External<'a>>,
+    text: &'a str,
+    out: &mut W,
+) -> u8 {
+    match compile(rt.alloc(), externals, text, command.crate_name()) {
         Ok(files) => match write_files(rt, command.out, &files) {
             Ok(()) => 0,
             Err(_) => say("error: the files are not written\n", 1, out),
         },
-        Err(Failure::Refused(refusal)) => {
-            match refusal.line(rt.alloc(), command.file, text.as_str()) {
-                Ok(line) => say(line.as_str(), 1, out),
-                Err(_) => say("error: out of memory\n", 1, out),
-            }
-        }
-        Err(Failure::OutOfMemory) => say("error: out of memory\n", 1, out),
+        Err(failure) => say_failure(rt, &failure, command.file, text, out),
+    }
+}
+
+/// Prints why the module in the file `name` is refused.
+fn say_failure<R: AllocGlobal, W: Write>(
+    rt: &R,
+    failure: &Failure<'_>,
+    name: &str,
+    text: &str,
+    out: &mut W,
+) -> u8 {
+    match failure {
+        Failure::Refused(refusal) => match refusal.line(rt.alloc(), name, text) {
+            Ok(line) => say(line.as_str(), 1, out),
+            Err(_) => say(OUT_OF_MEMORY, 1, out),
+        },
+        Failure::OutOfMemory => say(OUT_OF_MEMORY, 1, out),
     }
 }
 
 /// Writes the files beneath the folder of a crate. Its folders `src/asn1`, `specs/asn1` and
-/// `proofs/asn1` have no other files afterwards; the file `src/lib.rt` is written only if there is none.
+/// `proofs/asn1` have no other files afterwards. The file `src/lib.rt` is written only if there is
+/// none.
 fn write_files<R: Files + AllocGlobal>(
     rt: &R,
     folder: &str,
     files: &Vec<OutputFile>,
 ) -> io::Result<()> {
+    let library = format!(in rt.alloc(); "{folder}/src/lib.rt")?;
+    let has_library = fs::exists(rt, library.as_str())?;
     for part in ["src", "specs", "proofs"] {
         let own = format!(in rt.alloc(); "{folder}/{part}/asn1")?;
         if fs::exists(rt, own.as_str())? {
@@ -79,11 +124,9 @@ fn write_files<R: Files + AllocGlobal>(
         }
     }
     for file in files.iter() {
-        write_file(rt, folder, file)?;
-    }
-    let library = format!(in rt.alloc(); "{folder}/src/lib.rt")?;
-    if !fs::exists(rt, library.as_str())? {
-        fs::write(rt, library.as_str(), LIBRARY)?;
+        if file.path.as_str() != "src/lib.rt" || !has_library {
+            write_file(rt, folder, file)?;
+        }
     }
     Ok(())
 }

@@ -69,4 +69,17 @@ impl SimpleType {
             SimpleType::Any => None,
         }
     }
+
+    /// Whether values are written as characters in quotation marks.
+    pub fn is_text(self) -> bool {
+        match self {
+            SimpleType::Boolean
+            | SimpleType::OctetString
+            | SimpleType::Null
+            | SimpleType::ObjectIdentifier
+            | SimpleType::Unknown(_)
+            | SimpleType::Any => false,
+            _ => true,
+        }
+    }
 }

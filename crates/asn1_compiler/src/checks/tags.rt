@@ -2,6 +2,7 @@
 
 use super::components::{check_alternatives, check_sequence};
 use super::names::find_type;
+use crate::external_type::find_external;
 use crate::failure::Failure;
 use crate::module::Module;
 use crate::refusal::Refusal;
@@ -52,7 +53,7 @@ fn tags_of<'a>(
         TypeForm::SetOf(_) => Ok(TagSet::universal(alloc, 17)?),
         TypeForm::Reference => match find_type(module, node.item.text) {
             Some(of) => Ok(copy_at(alloc, table, of)?),
-            None => Ok(TagSet::empty(alloc)),
+            None => Ok(external_tags(alloc, module, node.item.text)?),
         },
         TypeForm::Sequence(components) => {
             check_sequence(alloc, module, table, components)?;
@@ -63,6 +64,15 @@ fn tags_of<'a>(
         }
         TypeForm::Tagged(prefix, of) => tagged(alloc, module, node, *prefix, *of),
     }
+}
+
+// The tags of the imported type with this name.
+fn external_tags(alloc: Global, module: &Module<'_>, name: &str) -> Result<TagSet, AllocError> {
+    let mut copy = TagSet::empty(alloc);
+    if let Some(external) = find_external(module, name) {
+        copy.add(&external.tags)?;
+    }
+    Ok(copy)
 }
 
 // The tags of the type with this index.
@@ -101,10 +111,17 @@ pub fn has_no_tag(module: &Module<'_>, index: usize) -> bool {
             TypeForm::Simple(simple) => return simple.tag_number().is_none(),
             TypeForm::Reference => match find_type(module, node.item.text) {
                 Some(of) => index = of,
-                None => return false,
+                None => return is_external_without_tag(module, node.item.text),
             },
             _ => return false,
         }
     }
     false
+}
+
+fn is_external_without_tag(module: &Module<'_>, name: &str) -> bool {
+    match find_external(module, name) {
+        Some(external) => external.has_no_tag,
+        None => false,
+    }
 }

@@ -1,9 +1,10 @@
 //! Types of fields that have a default.
 
 use super::directive::type_name;
-use super::numbers::{base_of, is_enumeration, number_of_name};
 use super::rust_type::RustType;
 use super::template::{Place, fill};
+use crate::base_form::base_form;
+use crate::constant::{Constant, find_constant};
 use crate::endpoint::Endpoint;
 use crate::failure::Failure;
 use crate::item_kind::ItemKind;
@@ -52,17 +53,16 @@ pub fn default_type<'a>(
     let Some(found) = types.get(leaf) else {
         return Err(not_written(value));
     };
-    let base = base_of(module, leaf);
-    if is_enumeration(module, base) {
-        return item_default(alloc, module, of, found, base, value, name);
-    }
-    let inside = match module.nodes.get(base) {
-        Some(node) => match &node.form {
-            TypeForm::Simple(SimpleType::Boolean) => boolean(alloc, value)?,
-            TypeForm::Integer(numbers) => integer(alloc, module, numbers, value)?,
-            _ => return Err(not_written(value)),
-        },
-        None => return Err(not_written(value)),
+    let inside = match base_form(module, leaf) {
+        Some(TypeForm::Simple(SimpleType::Boolean)) => boolean(alloc, value)?,
+        Some(TypeForm::Enumerated(items)) => {
+            return item_default(alloc, of, found, items, value, name);
+        }
+        Some(TypeForm::Integer(items)) if found.text.starts_with("NamedInteger") => {
+            return item_default(alloc, of, found, items, value, name);
+        }
+        Some(TypeForm::Integer(numbers)) => integer(alloc, module, numbers, value)?,
+        _ => return Err(not_written(value)),
     };
     let of = with_inside(alloc, of, found, inside.as_str(), value)?;
     Ok(DefaultType {
@@ -91,20 +91,12 @@ fn with_inside<'a>(
 // The type of a field whose default is an item of an enumeration.
 fn item_default<'a>(
     alloc: Global,
-    module: &Module<'a>,
     of: &RustType,
     found: &RustType,
-    base: usize,
+    items: &Vec<NamedNumber<'a>>,
     value: &Value<'a>,
     name: &str,
 ) -> Result<DefaultType, Failure<'a>> {
-    let items = match module.nodes.get(base) {
-        Some(node) => match &node.form {
-            TypeForm::Integer(items) | TypeForm::Enumerated(items) => items,
-            _ => return Err(not_written(value)),
-        },
-        None => return Err(not_written(value)),
-    };
     let Some(enumeration) = inside_of(found.text.as_str()) else {
         return Err(not_written(value));
     };
@@ -192,8 +184,35 @@ fn number_of<'a>(
     match (&value.form, value.item.kind) {
         (ValueForm::Item, ItemKind::Number) => value.item.text.parse::<u64>().ok(),
         (ValueForm::Item, ItemKind::LowerName) => {
-            number_of_name(module, numbers, value.item.text)
+            match named(numbers, value.item.text) {
+                Some(number) => Some(number),
+                None => assigned(module, value.item.text),
+            }
         }
         _ => None,
+    }
+}
+
+fn named(numbers: &Vec<NamedNumber<'_>>, name: &str) -> Option<u64> {
+    for named in numbers.iter() {
+        if named.name.text == name {
+            return match named.number {
+                Some(Endpoint::Number(number)) => Some(number),
+                _ => None,
+            };
+        }
+    }
+    None
+}
+
+// The number that a value of the module is, or one that it imports.
+fn assigned(module: &Module<'_>, name: &str) -> Option<u64> {
+    let index = find_constant(&module.constants, name)?;
+    match module.constants.get(index) {
+        Some(named) => match &named.constant {
+            Constant::Number(number) => Some(*number),
+            _ => None,
+        },
+        None => None,
     }
 }

@@ -1,7 +1,9 @@
 //! Files of Rust.
 
-use super::imports::{push_ghost_use, push_use};
+use super::imports::{push_ghost_use, push_names, push_use};
 use super::piece::{Piece, PieceKind};
+use crate::external_type::ExternalType;
+use crate::module::Module;
 use std::alloc::{AllocError, Global};
 
 /// A file that the compiler writes.
@@ -12,6 +14,12 @@ pub struct OutputFile {
     /// The text.
     pub text: String,
 }
+
+const LIBRARY: &str = "//! Types that are compiled from ASN.1.
+#![tactic(auto)]
+
+pub mod asn1;
+";
 
 const PRELUDE: &str = "Rattle.std.specs.Prelude";
 
@@ -109,21 +117,23 @@ const DER_ASN1: [&str; 46] = [
 /// The file of a piece, with its imports.
 pub fn file_of(
     alloc: Global,
-    module: &str,
+    module: &Module<'_>,
     krate: &str,
     piece: &Piece,
     all: &Vec<Piece>,
 ) -> Result<OutputFile, AllocError> {
+    let (of, imported) = (module.name.text, &module.imported);
     let (name, file) = (piece.name.as_str(), piece.file.as_str());
     let code = code_of(alloc, piece.body.as_str())?;
     let mut text = format!(in alloc;
-        "//! {name} of the module {module}. Written by asn1_compile: change the module instead.\n"
+        "//! {name} of the module {of}. Written by asn1_compile: change the module instead.\n"
     )?;
     push_ghost_lines(alloc, &mut text, krate, piece, code.as_str())?;
     text.push('\n')?;
     push_own(alloc, &mut text, piece, code.as_str(), all)?;
     push_use(alloc, &mut text, code.as_str(), "der", &DER)?;
     push_use(alloc, &mut text, code.as_str(), "der_asn1", &DER_ASN1)?;
+    push_imported(alloc, &mut text, code.as_str(), imported)?;
     push_use(alloc, &mut text, code.as_str(), "std::alloc", &["Global"])?;
     text.push('\n')?;
     text.push_str(piece.body.as_str())?;
@@ -217,6 +227,42 @@ fn push_own(
     Ok(())
 }
 
+// Adds the imports of types of other crates.
+fn push_imported(
+    alloc: Global,
+    text: &mut String,
+    code: &str,
+    imported: &Vec<ExternalType<'_>>,
+) -> Result<(), AllocError> {
+    for (count, of) in imported.iter().enumerate() {
+        let krate = of.krate;
+        if !imported
+            .iter()
+            .take(count)
+            .any(|other| other.krate == krate)
+        {
+            let names = names_in(alloc, imported, krate)?;
+            push_use(alloc, text, code, krate, &names)?;
+        }
+    }
+    Ok(())
+}
+
+// The names of the types that are imported from a crate.
+fn names_in<'t>(
+    alloc: Global,
+    imported: &'t Vec<ExternalType<'_>>,
+    krate: &str,
+) -> Result<Vec<&'t str>, AllocError> {
+    let mut names = Vec::new(alloc);
+    for of in imported.iter() {
+        if of.krate == krate {
+            names.push(of.rust_name.as_str())?;
+        }
+    }
+    Ok(names)
+}
+
 /// The names as words.
 pub fn words_of(alloc: Global, names: &Vec<String>) -> Result<Vec<&str>, AllocError> {
     let mut words = Vec::new(alloc);
@@ -261,5 +307,24 @@ pub fn proof_of(alloc: Global, krate: &str, piece: &Piece) -> Result<OutputFile,
         text: format!(in alloc;
             "-- Written by asn1_compile: change the module instead.\nuse Rattle.{krate}.proofs.asn1.{file}.{name}Encode.encode.Goals as goal\n{proof}"
         )?,
+    })
+}
+
+/// The root of a crate that holds the module and nothing else.
+pub fn library_of(alloc: Global, all: &Vec<Piece>) -> Result<OutputFile, AllocError> {
+    let mut text = String::from_str(alloc, LIBRARY)?;
+    let mut names: Vec<&str> = Vec::new(alloc);
+    for piece in all.iter().filter(|piece| piece.is_public) {
+        for name in piece.names.iter() {
+            names.push(name.as_str())?;
+        }
+    }
+    if !names.is_empty() {
+        text.push_str("\npub ")?;
+        push_names(alloc, &mut text, "asn1", &names)?;
+    }
+    Ok(OutputFile {
+        path: String::from_str(alloc, "src/lib.rt")?,
+        text,
     })
 }

@@ -19,17 +19,27 @@ pub fn push_use(
             found.push(*name)?;
         }
     }
+    push_names(alloc, out, path, &found)
+}
+
+/// Adds a line that imports these names, if there are any.
+pub fn push_names(
+    alloc: Global,
+    out: &mut String,
+    path: &str,
+    names: &Vec<&str>,
+) -> Result<(), AllocError> {
     let mut line = String::new(alloc);
-    for (count, name) in found.iter().enumerate() {
+    for (count, name) in names.iter().enumerate() {
         if count > 0 {
             line.push_str(", ")?;
         }
         line.push_str(name)?;
     }
-    match found.len() {
+    match names.len() {
         0 => Ok(()),
         1 => push_one(out, path, &line),
-        _ => push_many(alloc, out, path, &line, &found),
+        _ => push_many(alloc, out, path, &line, names),
     }
 }
 
@@ -99,7 +109,8 @@ fn is_word_at(octets: &[u8], at: usize, word: &[u8]) -> bool {
     }
 }
 
-fn is_word_octet(octet: u8) -> bool {
+/// Whether an octet may stand in a word of Rust.
+pub fn is_word_octet(octet: u8) -> bool {
     is_upper(octet) || is_lower(octet) || is_digit(octet) || octet == b'_'
 }
 

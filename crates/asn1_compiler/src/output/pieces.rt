@@ -87,7 +87,7 @@ impl<'m, 'a> Written<'m, 'a> {
                 let body = enumeration_body(alloc, doc.as_str(), name, items, true)?;
                 add_piece(pieces, Piece::new(alloc, name, "", PieceKind::Enumeration, body)?)?;
             }
-            TypeForm::Integer(items) if is_closed(self.module, node, items) => {
+            TypeForm::Integer(items) if is_closed(node, items) => {
                 let body = enumeration_body(alloc, doc.as_str(), name, items, true)?;
                 add_piece(pieces, Piece::new(alloc, name, "", PieceKind::Enumeration, body)?)?;
             }

@@ -10,6 +10,7 @@ use crate::checks::{are_numbered, find_type};
 use crate::component::Component;
 use crate::constraint::Constraint;
 use crate::endpoint::Endpoint;
+use crate::external_type::find_external;
 use crate::failure::Failure;
 use crate::module::Module;
 use crate::named_number::NamedNumber;
@@ -61,7 +62,7 @@ fn type_of<'a>(
         TypeForm::Simple(simple) => {
             Ok(RustType::new(alloc, simple_text(*simple), RustKind::Element)?)
         }
-        TypeForm::Integer(numbers) => integer(alloc, module, node, numbers, name),
+        TypeForm::Integer(numbers) => integer(alloc, node, numbers, name),
         TypeForm::Enumerated(_) => {
             let text = format!(in alloc; "Enumerated<{name}>")?;
             Ok(RustType::new(alloc, text.as_str(), RustKind::Element)?)
@@ -117,16 +118,15 @@ fn simple_text(simple: SimpleType) -> &'static str {
 
 fn integer<'a>(
     alloc: Global,
-    module: &Module<'a>,
     node: &TypeNode<'a>,
     numbers: &Vec<NamedNumber<'a>>,
     name: &str,
 ) -> Result<RustType, Failure<'a>> {
-    if is_closed(module, node, numbers) {
+    if is_closed(node, numbers) {
         let text = format!(in alloc; "NamedInteger<{name}>")?;
         return Ok(RustType::new(alloc, text.as_str(), RustKind::Element)?);
     }
-    if let Some((low, high)) = bounds(module, node, numbers) {
+    if let Some((low, high)) = bounds(node) {
         let text = format!(in alloc; "IntegerIn<{low}, {high}>")?;
         return Ok(RustType::new(alloc, text.as_str(), RustKind::Element)?);
     }
@@ -168,20 +168,34 @@ fn reference<'a>(
     names: &Vec<String>,
     node: &TypeNode<'a>,
 ) -> Result<RustType, Failure<'a>> {
-    let Some(of) = find_type(module, node.item.text) else {
-        return Err(not_written(node));
-    };
+    match find_type(module, node.item.text) {
+        Some(of) => Ok(named_type(alloc, module, table, names, of)?),
+        None => match find_external(module, node.item.text) {
+            Some(external) => Ok(external.of.copy(alloc)?),
+            None => Err(not_written(node)),
+        },
+    }
+}
+
+/// The type that a name stands for, if it is that of the type with this index.
+pub fn named_type(
+    alloc: Global,
+    module: &Module<'_>,
+    table: &Vec<RustType>,
+    names: &Vec<String>,
+    of: usize,
+) -> Result<RustType, AllocError> {
     let Some(found) = table.get(of) else {
-        return Err(not_written(node));
+        return RustType::new(alloc, "", RustKind::Element);
     };
     if is_enumeration(module, of) {
-        return Ok(found.copy(alloc)?);
+        return found.copy(alloc);
     }
     let mut text = String::from_str(alloc, text_at(names, of))?;
     if found.has_lifetime {
         text.push_str("<'a>")?;
     }
-    Ok(found.renamed(alloc, text.as_str())?)
+    found.renamed(alloc, text.as_str())
 }
 
 /// The type of a list, with that of its items.

@@ -38,11 +38,28 @@ impl<'a> Parser<'a> {
         Ok(tags)
     }
 
-    /// Parses `EXPORTS`, which says nothing here, and `IMPORTS`.
-    pub(super) fn exports_and_imports(&mut self) -> Result<Vec<Import<'a>>, Failure<'a>> {
-        if self.takes("EXPORTS") {
-            self.skip_exports()?;
+    /// Parses `EXPORTS`, and returns the names behind it, of which `ALL` is one.
+    pub(super) fn exports(&mut self) -> Result<Vec<Item<'a>>, Failure<'a>> {
+        let mut names = Vec::new(self.alloc);
+        if !self.takes("EXPORTS") {
+            return Ok(names);
         }
+        for _ in 0..self.items.len() {
+            if self.takes(";") {
+                return Ok(names);
+            }
+            let item = self.next();
+            match item.kind {
+                ItemKind::UpperName | ItemKind::LowerName => names.push(item)?,
+                _ if item.is(",") => {}
+                _ => return Err(refused(item, "a name, a comma or ;")),
+            }
+        }
+        Err(refused(self.peek(), ";"))
+    }
+
+    /// Parses `IMPORTS`.
+    pub(super) fn imports(&mut self) -> Result<Vec<Import<'a>>, Failure<'a>> {
         let mut imports = Vec::new(self.alloc);
         if !self.takes("IMPORTS") {
             return Ok(imports);
@@ -52,21 +69,6 @@ impl<'a> Parser<'a> {
                 return Ok(imports);
             }
             self.imports_of_module(&mut imports)?;
-        }
-        Err(refused(self.peek(), ";"))
-    }
-
-    fn skip_exports(&mut self) -> Result<(), Failure<'a>> {
-        for _ in 0..self.items.len() {
-            if self.takes(";") {
-                return Ok(());
-            }
-            let item = self.next();
-            match item.kind {
-                ItemKind::UpperName | ItemKind::LowerName => {}
-                _ if item.is(",") => {}
-                _ => return Err(refused(item, "a name, a comma or ;")),
-            }
         }
         Err(refused(self.peek(), ";"))
     }

@@ -1,0 +1,33 @@
+//! How types are made behind their names and tags.
+
+use crate::checks::find_type;
+use crate::external_type::find_external;
+use crate::module::Module;
+use crate::type_node::TypeForm;
+
+/// How the type with this index is made behind its names and tags; `None` if a name is not defined,
+/// or if the type contains itself.
+pub fn base_form<'m, 'a>(module: &'m Module<'a>, index: usize) -> Option<&'m TypeForm<'a>> {
+    let mut index = index;
+    for _ in module.nodes.iter() {
+        let Some(node) = module.nodes.get(index) else {
+            return None;
+        };
+        match &node.form {
+            TypeForm::Tagged(_, of) => index = *of,
+            TypeForm::Reference => match find_type(module, node.item.text) {
+                Some(of) => index = of,
+                None => return external_form(module, node.item.text),
+            },
+            form => return Some(form),
+        }
+    }
+    None
+}
+
+fn external_form<'m, 'a>(module: &'m Module<'a>, name: &str) -> Option<&'m TypeForm<'a>> {
+    match find_external(module, name) {
+        Some(of) => Some(&of.form),
+        None => None,
+    }
+}

@@ -1,0 +1,88 @@
+//! Names that are imported.
+
+use crate::constant::NamedConstant;
+use crate::external::External;
+use crate::external_type::ExternalType;
+use crate::failure::Failure;
+use crate::item_kind::ItemKind;
+use crate::module::{Import, Module};
+use crate::refusal::Refusal;
+use std::alloc::Global;
+
+/// Adds the types and values that a module imports. Refuses a module that is not given, a name that
+/// it does not assign, and a name that is imported twice.
+pub fn add_imports<'a>(
+    alloc: Global,
+    module: &mut Module<'a>,
+    externals: &Vec<External<'a>>,
+) -> Result<(), Failure<'a>> {
+    check_once(module)?;
+    let mut types = Vec::new(alloc);
+    let mut values = Vec::new(alloc);
+    for import in module.imports.iter() {
+        let external = external_of(externals, import)?;
+        match import.name.kind {
+            ItemKind::UpperName => types.push(type_of(alloc, external, import)?)?,
+            _ => values.push(value_of(alloc, external, import)?)?,
+        }
+    }
+    module.imported = types;
+    module.constants = values;
+    Ok(())
+}
+
+fn check_once<'a>(module: &Module<'a>) -> Result<(), Refusal<'a>> {
+    for (count, import) in module.imports.iter().enumerate() {
+        let name = import.name;
+        if module
+            .imports
+            .iter()
+            .take(count)
+            .any(|other| other.name.text == name.text)
+        {
+            return Err(Refusal::of(name, "a name that is imported once"));
+        }
+    }
+    Ok(())
+}
+
+fn external_of<'e, 'a>(
+    externals: &'e Vec<External<'a>>,
+    import: &Import<'a>,
+) -> Result<&'e External<'a>, Refusal<'a>> {
+    for external in externals.iter() {
+        if external.module == import.module.text {
+            return Ok(external);
+        }
+    }
+    Err(Refusal::of(import.module, "a module that a --with option gives"))
+}
+
+fn type_of<'a>(
+    alloc: Global,
+    external: &External<'a>,
+    import: &Import<'a>,
+) -> Result<ExternalType<'a>, Failure<'a>> {
+    match external.find_type(import.name.text) {
+        Some(of) => Ok(of.copy(alloc)?),
+        None => Err(not_assigned(import)),
+    }
+}
+
+fn value_of<'a>(
+    alloc: Global,
+    external: &External<'a>,
+    import: &Import<'a>,
+) -> Result<NamedConstant<'a>, Failure<'a>> {
+    match external.find_value(import.name.text) {
+        Some(constant) => Ok(NamedConstant {
+            name: import.name.text,
+            constant: constant.copy(alloc)?,
+        }),
+        None => Err(not_assigned(import)),
+    }
+}
+
+fn not_assigned<'a>(import: &Import<'a>) -> Failure<'a> {
+    Failure::Refused(Refusal::of(import.name, "a name that this module assigns"))
+}

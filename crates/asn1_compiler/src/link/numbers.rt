@@ -1,0 +1,142 @@
+//! Names of numbers in types.
+
+use super::scope::Scope;
+use crate::base_form::base_form;
+use crate::constraint::Constraint;
+use crate::endpoint::Endpoint;
+use crate::failure::Failure;
+use crate::item::Item;
+use crate::module::Module;
+use crate::named_number::NamedNumber;
+use crate::refusal::Refusal;
+use crate::type_node::{TypeForm, TypeNode};
+use std::alloc::Global;
+
+/// Puts numbers in the place of names, in named numbers and in constraints. Refuses names that are
+/// not defined.
+pub fn resolve_numbers<'a>(alloc: Global, module: &mut Module<'a>) -> Result<(), Failure<'a>> {
+    for index in 0..module.nodes.len() {
+        let Some((form, constraint)) = resolved(alloc, module, index)? else {
+            continue;
+        };
+        if let Some(node) = module.nodes.get_mut(index) {
+            node.constraint = constraint;
+            if let Some(form) = form {
+                node.form = form;
+            }
+        }
+    }
+    Ok(())
+}
+
+// The constraint of a type without names, and how it is made if that has numbers.
+fn resolved<'a>(
+    alloc: Global,
+    module: &Module<'a>,
+    index: usize,
+) -> Result<Option<(Option<TypeForm<'a>>, Constraint<'a>)>, Failure<'a>> {
+    let scope = Scope {
+        module,
+        known: &module.constants,
+    };
+    let Some(node) = module.nodes.get(index) else {
+        return Ok(None);
+    };
+    let form = resolved_form(alloc, &scope, node)?;
+    let constraint = resolved_constraint(&scope, index, node.constraint)?;
+    Ok(Some((form, constraint)))
+}
+
+fn resolved_form<'a>(
+    alloc: Global,
+    scope: &Scope<'_, 'a>,
+    node: &TypeNode<'a>,
+) -> Result<Option<TypeForm<'a>>, Failure<'a>> {
+    match &node.form {
+        TypeForm::Integer(numbers) => {
+            Ok(Some(TypeForm::Integer(resolved_numbers(alloc, scope, numbers)?)))
+        }
+        TypeForm::Enumerated(numbers) => {
+            Ok(Some(TypeForm::Enumerated(resolved_numbers(alloc, scope, numbers)?)))
+        }
+        TypeForm::BitString(numbers) => {
+            Ok(Some(TypeForm::BitString(resolved_numbers(alloc, scope, numbers)?)))
+        }
+        _ => Ok(None),
+    }
+}
+
+fn resolved_numbers<'a>(
+    alloc: Global,
+    scope: &Scope<'_, 'a>,
+    numbers: &Vec<NamedNumber<'a>>,
+) -> Result<Vec<NamedNumber<'a>>, Failure<'a>> {
+    let mut found = Vec::new(alloc);
+    for named in numbers.iter() {
+        let number = match named.number {
+            Some(Endpoint::Name(name)) => scope.value_number(name)?,
+            number => number,
+        };
+        found.push(NamedNumber {
+            name: named.name,
+            number,
+        })?;
+    }
+    Ok(found)
+}
+
+fn resolved_constraint<'a>(
+    scope: &Scope<'_, 'a>,
+    index: usize,
+    constraint: Constraint<'a>,
+) -> Result<Constraint<'a>, Refusal<'a>> {
+    match constraint {
+        Constraint::Range(low, high) => Ok(Constraint::Range(
+            resolved_endpoint(scope, index, low)?,
+            resolved_endpoint(scope, index, high)?,
+        )),
+        Constraint::Size(low, high) => Ok(Constraint::Size(
+            resolved_endpoint(scope, usize::MAX, low)?,
+            resolved_endpoint(scope, usize::MAX, high)?,
+        )),
+        constraint => Ok(constraint),
+    }
+}
+
+// A name of another value than a number stays: it may be a value of the type.
+fn resolved_endpoint<'a>(
+    scope: &Scope<'_, 'a>,
+    index: usize,
+    endpoint: Endpoint<'a>,
+) -> Result<Endpoint<'a>, Refusal<'a>> {
+    let Endpoint::Name(name) = endpoint else {
+        return Ok(endpoint);
+    };
+    let found = match base_form(scope.module, index) {
+        Some(TypeForm::Integer(numbers)) => scope.number_named(numbers, name)?,
+        Some(TypeForm::Enumerated(numbers)) if is_named(numbers, name) => None,
+        _ => named_value(scope, name)?,
+    };
+    match found {
+        Some(number) => Ok(number),
+        None => Ok(endpoint),
+    }
+}
+
+fn is_named(numbers: &Vec<NamedNumber<'_>>, name: Item<'_>) -> bool {
+    numbers.iter().any(|named| named.name.text == name.text)
+}
+
+// The number that the value with this name is; `None` if it is another value.
+fn named_value<'a>(
+    scope: &Scope<'_, 'a>,
+    name: Item<'a>,
+) -> Result<Option<Endpoint<'a>>, Refusal<'a>> {
+    let Some(index) = scope.find(name)? else {
+        return Ok(None);
+    };
+    match scope.constant(index) {
+        Some(constant) => Ok(constant.number()),
+        None => Ok(None),
+    }
+}

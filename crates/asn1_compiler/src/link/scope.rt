@@ -1,0 +1,83 @@
+//! The values that are known while others are computed.
+
+use crate::checks::has_value;
+use crate::constant::{Constant, NamedConstant, find_constant};
+use crate::endpoint::Endpoint;
+use crate::item::Item;
+use crate::module::Module;
+use crate::named_number::NamedNumber;
+use crate::refusal::Refusal;
+
+const UNDEFINED: &str = "a value that this module defines or imports";
+
+/// A module, and those of its values that are known.
+#[derive(Clone, Copy)]
+pub struct Scope<'s, 'a> {
+    /// The module.
+    pub module: &'s Module<'a>,
+    /// The values.
+    pub known: &'s Vec<NamedConstant<'a>>,
+}
+
+impl<'s, 'a> Scope<'s, 'a> {
+    /// The index of the value with this name; `None` if it is not known yet. Refuses a name that is
+    /// not defined.
+    pub fn find(&self, name: Item<'a>) -> Result<Option<usize>, Refusal<'a>> {
+        match find_constant(self.known, name.text) {
+            Some(index) => Ok(Some(index)),
+            None if has_value(self.module, name.text) => Ok(None),
+            None => Err(Refusal::of(name, UNDEFINED)),
+        }
+    }
+
+    /// The value with this index.
+    pub fn constant(&self, index: usize) -> Option<&'s Constant> {
+        match self.known.get(index) {
+            Some(named) => Some(&named.constant),
+            None => None,
+        }
+    }
+
+    /// The number that this name stands for: one of the named numbers, or a value; `None` if it is
+    /// not known yet. Refuses a name that is not defined, or that of another value.
+    pub fn number_named(
+        &self,
+        numbers: &Vec<NamedNumber<'a>>,
+        name: Item<'a>,
+    ) -> Result<Option<Endpoint<'a>>, Refusal<'a>> {
+        for named in numbers.iter() {
+            if named.name.text == name.text {
+                return self.number(name, named.number);
+            }
+        }
+        self.value_number(name)
+    }
+
+    // The number of a named number.
+    fn number(
+        &self,
+        name: Item<'a>,
+        number: Option<Endpoint<'a>>,
+    ) -> Result<Option<Endpoint<'a>>, Refusal<'a>> {
+        match number {
+            Some(Endpoint::Name(of)) => self.value_number(of),
+            Some(number) => Ok(Some(number)),
+            None => Err(Refusal::of(name, "the name of a number")),
+        }
+    }
+
+    /// The number that the value with this name is; `None` if it is not known yet.
+    pub fn value_number(&self, name: Item<'a>) -> Result<Option<Endpoint<'a>>, Refusal<'a>> {
+        let Some(index) = self.find(name)? else {
+            return Ok(None);
+        };
+        let found = match self.constant(index) {
+            Some(constant) => constant.number(),
+            None => None,
+        };
+        match found {
+            Some(number) => Ok(Some(number)),
+            None => Err(Refusal::of(name, "the name of a number")),
+        }
+    }
+}

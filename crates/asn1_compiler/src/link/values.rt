@@ -1,0 +1,196 @@
+//! Values of a module.
+
+use super::arcs::arcs_of;
+use super::scope::Scope;
+use crate::base_form::base_form;
+use crate::constant::{Constant, NamedConstant, find_constant};
+use crate::endpoint::Endpoint;
+use crate::failure::Failure;
+use crate::item_kind::ItemKind;
+use crate::module::{Module, ValueAssignment};
+use crate::named_number::NamedNumber;
+use crate::refusal::Refusal;
+use crate::simple_type::SimpleType;
+use crate::type_node::TypeForm;
+use crate::value::{Value, ValueForm};
+use std::alloc::Global;
+
+const NOT_INTEGER: &str = "a number from -9223372036854775808 to 18446744073709551615, or its name";
+
+/// The values that a module imports, and those that it assigns. Refuses a value that is not one of
+/// its type, and a value that is defined by itself.
+pub fn constants_of<'a>(
+    alloc: Global,
+    module: &Module<'a>,
+) -> Result<Vec<NamedConstant<'a>>, Failure<'a>> {
+    let mut known = Vec::new(alloc);
+    for imported in module.constants.iter() {
+        known.push(NamedConstant {
+            name: imported.name,
+            constant: imported.constant.copy(alloc)?,
+        })?;
+    }
+    for _ in 0..module.values.len() {
+        if !add_known(alloc, module, &mut known)? {
+            break;
+        }
+    }
+    check_known(module, &known)?;
+    Ok(known)
+}
+
+fn check_known<'a>(module: &Module<'a>, known: &Vec<NamedConstant<'a>>) -> Result<(), Refusal<'a>> {
+    for assigned in module.values.iter() {
+        if find_constant(known, assigned.name.text).is_none() {
+            let expected = "a value that is not defined by itself";
+            return Err(Refusal::of(assigned.name, expected));
+        }
+    }
+    Ok(())
+}
+
+// Adds the values whose names are all known; whether there are any.
+fn add_known<'a>(
+    alloc: Global,
+    module: &Module<'a>,
+    known: &mut Vec<NamedConstant<'a>>,
+) -> Result<bool, Failure<'a>> {
+    let mut has_more = false;
+    for assigned in module.values.iter() {
+        if find_constant(known, assigned.name.text).is_some() {
+            continue;
+        }
+        if let Some(constant) = constant_of(alloc, module, known, assigned)? {
+            known.push(NamedConstant {
+                name: assigned.name.text,
+                constant,
+            })?;
+            has_more = true;
+        }
+    }
+    Ok(has_more)
+}
+
+fn constant_of<'a>(
+    alloc: Global,
+    module: &Module<'a>,
+    known: &Vec<NamedConstant<'a>>,
+    assigned: &ValueAssignment<'a>,
+) -> Result<Option<Constant>, Failure<'a>> {
+    let scope = Scope { module, known };
+    let value = &assigned.value;
+    match base_form(module, assigned.of) {
+        Some(TypeForm::Integer(numbers)) => Ok(integer(&scope, numbers, value)?),
+        Some(TypeForm::Simple(SimpleType::Boolean)) => Ok(boolean(&scope, value)?),
+        Some(TypeForm::Simple(SimpleType::ObjectIdentifier)) => {
+            object_identifier(alloc, &scope, value)
+        }
+        Some(form) => Ok(other(&scope, form, value)?),
+        None => Ok(Some(Constant::Other)),
+    }
+}
+
+fn integer<'a>(
+    scope: &Scope<'_, 'a>,
+    numbers: &Vec<NamedNumber<'a>>,
+    value: &Value<'a>,
+) -> Result<Option<Constant>, Refusal<'a>> {
+    let number = match (&value.form, value.item.kind) {
+        (ValueForm::Negative(number), _) => Some(Endpoint::Negative(*number)),
+        (ValueForm::Item, ItemKind::LowerName) => scope.number_named(numbers, value.item)?,
+        (ValueForm::Item, ItemKind::Number) => match value.item.text.parse::<u64>() {
+            Ok(number) => Some(Endpoint::Number(number)),
+            Err(_) => return Err(Refusal::of(value.item, NOT_INTEGER)),
+        },
+        _ => return Err(Refusal::of(value.item, NOT_INTEGER)),
+    };
+    match number {
+        Some(Endpoint::Number(number)) => Ok(Some(Constant::Number(number))),
+        Some(Endpoint::Negative(0)) => Ok(Some(Constant::Number(0))),
+        Some(Endpoint::Negative(number)) if number <= 9223372036854775808 => {
+            Ok(Some(Constant::Negative(number)))
+        }
+        None => Ok(None),
+        _ => Err(Refusal::of(value.item, NOT_INTEGER)),
+    }
+}
+
+fn boolean<'a>(scope: &Scope<'_, 'a>, value: &Value<'a>) -> Result<Option<Constant>, Refusal<'a>> {
+    match (&value.form, value.item.text) {
+        (ValueForm::Item, "TRUE") => return Ok(Some(Constant::Boolean(true))),
+        (ValueForm::Item, "FALSE") => return Ok(Some(Constant::Boolean(false))),
+        _ => {}
+    }
+    if value.item.kind != ItemKind::LowerName {
+        return Err(Refusal::of(value.item, "TRUE or FALSE"));
+    }
+    let Some(index) = scope.find(value.item)? else {
+        return Ok(None);
+    };
+    match scope.constant(index) {
+        Some(Constant::Boolean(is_true)) => Ok(Some(Constant::Boolean(*is_true))),
+        _ => Err(Refusal::of(value.item, "TRUE or FALSE")),
+    }
+}
+
+fn object_identifier<'a>(
+    alloc: Global,
+    scope: &Scope<'_, 'a>,
+    value: &Value<'a>,
+) -> Result<Option<Constant>, Failure<'a>> {
+    if let ValueForm::Braces(items) = &value.form {
+        return match arcs_of(alloc, scope, value.item, items)? {
+            Some(arcs) => Ok(Some(Constant::ObjectIdentifier(arcs))),
+            None => Ok(None),
+        };
+    }
+    let refusal = Refusal::of(
+        value.item,
+        "arcs in braces, or the name of an OBJECT IDENTIFIER",
+    );
+    if value.item.kind != ItemKind::LowerName {
+        return Err(Failure::Refused(refusal));
+    }
+    let Some(index) = scope.find(value.item)? else {
+        return Ok(None);
+    };
+    match scope.constant(index) {
+        Some(Constant::ObjectIdentifier(arcs)) => {
+            let mut copy = Vec::new(alloc);
+            for arc in arcs.iter() {
+                copy.push(*arc)?;
+            }
+            Ok(Some(Constant::ObjectIdentifier(copy)))
+        }
+        _ => Err(Failure::Refused(refusal)),
+    }
+}
+
+// A value of another type, which is not computed.
+fn other<'a>(
+    scope: &Scope<'_, 'a>,
+    form: &TypeForm<'a>,
+    value: &Value<'a>,
+) -> Result<Option<Constant>, Refusal<'a>> {
+    if value.item.kind == ItemKind::LowerName && !is_item_of(form, value.item.text) {
+        let Some(index) = scope.find(value.item)? else {
+            return Ok(None);
+        };
+        return match scope.constant(index) {
+            Some(Constant::Other) => Ok(Some(Constant::Other)),
+            _ => Err(Refusal::of(value.item, "a value of this type")),
+        };
+    }
+    if value.is_written_for(form) {
+        return Ok(Some(Constant::Other));
+    }
+    Err(Refusal::of(value.item, "a value of this type"))
+}
+
+// Whether this is an item of an ENUMERATED.
+fn is_item_of(form: &TypeForm<'_>, name: &str) -> bool {
+    match form {
+        TypeForm::Enumerated(items) => items.iter().any(|item| item.name.text == name),
+        _ => false,
+    }
+}
