@@ -61,7 +61,7 @@ fn is_read(
         Some(public_key) => Some(public_key.0.octets().len()),
         None => None,
     };
-    info.version.octets() == [version].as_slice()
+    info.version.item() as u8 == version
         && info.private_key.octets().len() == key
         && reported == attributes
         && public == public_key

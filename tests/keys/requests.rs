@@ -3,7 +3,7 @@ use crate::checks::{holds, same_at};
 use der::{DecodeBytes, Encode, Error, ErrorKind, Length, Tag};
 use crate::fixtures::errors::unexpected;
 use std::alloc::Global;
-use x509::{Attribute, CertReq};
+use x509::{Attribute, CertReq, CertReqVersion};
 
 // Ed25519, with a subjectAltName: `openssl req -new -subj /CN=example.org -addext
 // subjectAltName=DNS:example.org`.
@@ -39,7 +39,7 @@ fn is_read(
         return false;
     };
     let info = &request.info;
-    info.version.octets() == [0].as_slice()
+    info.version.item() == CertReqVersion::V1
         && info.subject.levels.octets().len() == subject
         && info.public_key.subject_public_key.octets().len() == public_key
         && info.attributes.0.octets().len() == attributes

@@ -22,6 +22,7 @@ mod sequence;
 mod summary;
 mod template;
 mod types;
+mod wrap;
 
 use crate::checks::{Checks, check_module};
 use crate::external::External;

@@ -10,7 +10,7 @@ pub use asn1::{
     Attribute, AttributeFields, AttributeTypeAndValue, AttributeTypeAndValueFields,
     AttributeValues, Attributes, CertReq, CertReqFields, CertReqInfo, CertReqInfoFields,
     CertReqVersion, Certificate, CertificateFields, CrlReason, Extension, ExtensionFields,
-    Extensions, GeneralName, GeneralNames, KeyUsage, KeyUsageBit, Name, OtherName,
-    OtherNameFields, RelativeDistinguishedName, TbsCertificate, TbsCertificateFields,
-    TbsCertificateVersionDefault, Time, TimeAlternatives, Validity, ValidityFields, Version,
+    Extensions, GeneralName, GeneralNames, KeyUsage, KeyUsageBit, Name, OtherName, OtherNameFields,
+    RelativeDistinguishedName, TbsCertificate, TbsCertificateFields, TbsCertificateVersionDefault,
+    Time, TimeAlternatives, Validity, ValidityFields, Version,
 };

@@ -1,7 +1,8 @@
 //! Files of Rust.
 
-use super::imports::{push_ghost_use, push_names, push_use};
+use super::imports::{has_word, push_ghost_use, push_names, push_use};
 use super::piece::{Piece, PieceKind};
+use super::wrap::wrapped;
 use crate::external_type::ExternalType;
 use crate::module::Module;
 use std::alloc::{AllocError, Global};
@@ -126,7 +127,7 @@ pub fn file_of(
     let (name, file) = (piece.name.as_str(), piece.file.as_str());
     let code = code_of(alloc, piece.body.as_str())?;
     let mut text = format!(in alloc;
-        "//! {name} of the module {of}. Written by asn1_compile: change the module instead.\n"
+        "//! Written by asn1_compile from the module {of}: change the module instead.\n//!\n//! {name}.\n"
     )?;
     push_ghost_lines(alloc, &mut text, krate, piece, code.as_str())?;
     text.push('\n')?;
@@ -136,7 +137,7 @@ pub fn file_of(
     push_imported(alloc, &mut text, code.as_str(), imported)?;
     push_use(alloc, &mut text, code.as_str(), "std::alloc", &["Global"])?;
     text.push('\n')?;
-    text.push_str(piece.body.as_str())?;
+    text.push_str(wrapped(alloc, piece.body.as_str())?.as_str())?;
     Ok(OutputFile {
         path: format!(in alloc; "src/asn1/{file}.rt")?,
         text,
@@ -164,8 +165,10 @@ fn push_ghost_lines(
 ) -> Result<(), AllocError> {
     match piece.kind {
         PieceKind::Sequence => {
-            push_ghost_use(alloc, text, code, PRELUDE, &["false"])?;
-            text.push_str("ghost use Rattle.std.specs.Prelude.{◌≡◌};\n")?;
+            let names = if has_word(code, "false") { "◌≡◌, false" } else { "◌≡◌" };
+            text.push_str("ghost use Rattle.std.specs.Prelude.{")?;
+            text.push_str(names)?;
+            text.push_str("};\n")?;
         }
         PieceKind::List => {
             text.push_str("ghost use Rattle.std.specs.Prelude.{◌≡◌, false};\n")?;
@@ -275,7 +278,7 @@ pub fn words_of(alloc: Global, names: &Vec<String>) -> Result<Vec<&str>, AllocEr
 /// The file that names all others.
 pub fn root_of(alloc: Global, module: &str, all: &Vec<Piece>) -> Result<OutputFile, AllocError> {
     let mut text = format!(in alloc;
-        "//! The types of the module {module}. Written by asn1_compile: change the module instead.\n\n"
+        "//! Written by asn1_compile from the module {module}: change the module instead.\n//!\n//! The types of the module.\n\n"
     )?;
     for piece in all.iter() {
         let file = piece.file.as_str();

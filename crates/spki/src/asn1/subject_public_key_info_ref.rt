@@ -7,8 +7,8 @@ ghost use Rattle.der_asn1.specs.Meaning.{alternative, field, sequence, sequence_
 
 use crate::asn1::algorithm_identifier_ref::AlgorithmIdentifierRef;
 use der::{
-    Decode, DecodeValue, Encode, EncodeValue, Error, FromFields, Header, Length, Reader,
-    Sequence, SliceReader, Writer, decode_sequence, field_refs,
+    Decode, DecodeValue, Encode, EncodeValue, Error, FromFields, Header, Length, Reader, Sequence,
+    SliceReader, Writer, decode_sequence, field_refs,
 };
 use der_asn1::{BitStringRef, BorrowedItem, DecodeItem, Described, Item, Nestable};
 use std::alloc::Global;
@@ -30,7 +30,10 @@ impl<'a> FromFields<SubjectPublicKeyInfoRefFields<'a>> for SubjectPublicKeyInfoR
 
     fn from_fields(members: SubjectPublicKeyInfoRefFields<'a>) -> Self {
         let (algorithm, subject_public_key) = members;
-        SubjectPublicKeyInfoRef { algorithm, subject_public_key }
+        SubjectPublicKeyInfoRef {
+            algorithm,
+            subject_public_key,
+        }
     }
 }
 

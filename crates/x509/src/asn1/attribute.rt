@@ -7,8 +7,8 @@ ghost use Rattle.der_asn1.specs.Meaning.{alternative, field, sequence, sequence_
 
 use crate::asn1::attribute_values::AttributeValues;
 use der::{
-    Decode, DecodeValue, Encode, EncodeValue, Error, FromFields, Header, Length, Reader,
-    Sequence, SliceReader, Writer, decode_sequence, field_refs,
+    Decode, DecodeValue, Encode, EncodeValue, Error, FromFields, Header, Length, Reader, Sequence,
+    SliceReader, Writer, decode_sequence, field_refs,
 };
 use der_asn1::{BorrowedItem, DecodeItem, Described, Item, Nestable, ObjectIdentifierRef};
 use std::alloc::Global;

@@ -5,13 +5,13 @@ ghost use Rattle.der.specs.Prelude.{map_ok};
 ghost use Rattle.der_asn1.specs.Item.{decodes_same};
 ghost use Rattle.der_asn1.specs.Meaning.{alternative, field, sequence, sequence_is_item, sequence_item, two_fields};
 
-use spki::AlgorithmIdentifierRef;
 use crate::asn1::cert_req_info::CertReqInfo;
 use der::{
-    Decode, DecodeValue, Encode, EncodeValue, Error, FromFields, Header, Length, Reader,
-    Sequence, SliceReader, Writer, decode_sequence, field_refs,
+    Decode, DecodeValue, Encode, EncodeValue, Error, FromFields, Header, Length, Reader, Sequence,
+    SliceReader, Writer, decode_sequence, field_refs,
 };
 use der_asn1::{BitStringRef, BorrowedItem, DecodeItem, Described, Item, Nestable};
+use spki::AlgorithmIdentifierRef;
 use std::alloc::Global;
 
 /// A certification request (RFC 2986, 4.2), borrowed from the input.
@@ -26,14 +26,21 @@ pub struct CertReq<'a> {
 }
 
 /// The fields of a [`CertReq`] in pairs, in the order in which they are encoded.
-pub type CertReqFields<'a> = (CertReqInfo<'a>, (AlgorithmIdentifierRef<'a>, BitStringRef<'a>));
+pub type CertReqFields<'a> = (
+    CertReqInfo<'a>,
+    (AlgorithmIdentifierRef<'a>, BitStringRef<'a>),
+);
 
 impl<'a> FromFields<CertReqFields<'a>> for CertReq<'a> {
     ghost fields = { λ v. (v.info, (v.algorithm, v.signature)) };
 
     fn from_fields(members: CertReqFields<'a>) -> Self {
         let (info, (algorithm, signature)) = members;
-        CertReq { info, algorithm, signature }
+        CertReq {
+            info,
+            algorithm,
+            signature,
+        }
     }
 }
 

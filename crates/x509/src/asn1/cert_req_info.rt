@@ -8,12 +8,12 @@ ghost use Rattle.der_asn1.specs.Meaning.{alternative, field, sequence, sequence_
 use crate::asn1::attributes::Attributes;
 use crate::asn1::cert_req_version::CertReqVersion;
 use crate::asn1::name::Name;
-use spki::SubjectPublicKeyInfoRef;
 use der::{
-    Decode, DecodeValue, Encode, EncodeValue, Error, FromFields, Header, Length, Reader,
-    Sequence, SliceReader, Writer, decode_sequence, field_refs,
+    Decode, DecodeValue, Encode, EncodeValue, Error, FromFields, Header, Length, Reader, Sequence,
+    SliceReader, Writer, decode_sequence, field_refs,
 };
 use der_asn1::{BorrowedItem, DecodeItem, Described, Implicit, Item, NamedInteger, Nestable};
+use spki::SubjectPublicKeyInfoRef;
 use std::alloc::Global;
 
 /// The part of a certification request that its signature covers (RFC 2986, 4.1), borrowed from the
@@ -32,14 +32,22 @@ pub struct CertReqInfo<'a> {
 }
 
 /// The fields of a [`CertReqInfo`] in pairs, in the order in which they are encoded.
-pub type CertReqInfoFields<'a> = ((NamedInteger<CertReqVersion>, Name<'a>), (SubjectPublicKeyInfoRef<'a>, Implicit<Attributes<'a>, 0>));
+pub type CertReqInfoFields<'a> = (
+    (NamedInteger<CertReqVersion>, Name<'a>),
+    (SubjectPublicKeyInfoRef<'a>, Implicit<Attributes<'a>, 0>),
+);
 
 impl<'a> FromFields<CertReqInfoFields<'a>> for CertReqInfo<'a> {
     ghost fields = { λ v. ((v.version, v.subject), (v.public_key, v.attributes)) };
 
     fn from_fields(members: CertReqInfoFields<'a>) -> Self {
         let ((version, subject), (public_key, attributes)) = members;
-        CertReqInfo { version, subject, public_key, attributes }
+        CertReqInfo {
+            version,
+            subject,
+            public_key,
+            attributes,
+        }
     }
 }
 

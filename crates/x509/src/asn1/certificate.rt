@@ -5,13 +5,13 @@ ghost use Rattle.der.specs.Prelude.{map_ok};
 ghost use Rattle.der_asn1.specs.Item.{decodes_same};
 ghost use Rattle.der_asn1.specs.Meaning.{alternative, field, sequence, sequence_is_item, sequence_item, two_fields};
 
-use spki::AlgorithmIdentifierRef;
 use crate::asn1::tbs_certificate::TbsCertificate;
 use der::{
-    Decode, DecodeValue, Encode, EncodeValue, Error, FromFields, Header, Length, Reader,
-    Sequence, SliceReader, Writer, decode_sequence, field_refs,
+    Decode, DecodeValue, Encode, EncodeValue, Error, FromFields, Header, Length, Reader, Sequence,
+    SliceReader, Writer, decode_sequence, field_refs,
 };
 use der_asn1::{BitStringRef, BorrowedItem, DecodeItem, Described, Item, Nestable};
+use spki::AlgorithmIdentifierRef;
 use std::alloc::Global;
 
 /// A certificate (RFC 5280, 4.1), borrowed from the input.
@@ -26,14 +26,21 @@ pub struct Certificate<'a> {
 }
 
 /// The fields of a [`Certificate`] in pairs, in the order in which they are encoded.
-pub type CertificateFields<'a> = (TbsCertificate<'a>, (AlgorithmIdentifierRef<'a>, BitStringRef<'a>));
+pub type CertificateFields<'a> = (
+    TbsCertificate<'a>,
+    (AlgorithmIdentifierRef<'a>, BitStringRef<'a>),
+);
 
 impl<'a> FromFields<CertificateFields<'a>> for Certificate<'a> {
     ghost fields = { λ v. (v.tbs_certificate, (v.signature_algorithm, v.signature)) };
 
     fn from_fields(members: CertificateFields<'a>) -> Self {
         let (tbs_certificate, (signature_algorithm, signature)) = members;
-        Certificate { tbs_certificate, signature_algorithm, signature }
+        Certificate {
+            tbs_certificate,
+            signature_algorithm,
+            signature,
+        }
     }
 }
 

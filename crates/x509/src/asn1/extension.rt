@@ -6,8 +6,8 @@ ghost use Rattle.der_asn1.specs.Item.{decodes_same};
 ghost use Rattle.der_asn1.specs.Meaning.{alternative, defaulted, field, sequence, sequence_is_item, sequence_item, two_fields};
 
 use der::{
-    Decode, DecodeValue, Encode, EncodeValue, Error, FromFields, Header, Length, Reader,
-    Sequence, SliceReader, Writer, decode_sequence, field_refs,
+    Decode, DecodeValue, Encode, EncodeValue, Error, FromFields, Header, Length, Reader, Sequence,
+    SliceReader, Writer, decode_sequence, field_refs,
 };
 use der_asn1::{
     BooleanRef, BorrowedItem, DecodeItem, DefaultValue, Defaulted, Described, Item, Nestable,
@@ -28,14 +28,21 @@ pub struct Extension<'a> {
 }
 
 /// The fields of a [`Extension`] in pairs, in the order in which they are encoded.
-pub type ExtensionFields<'a> = (ObjectIdentifierRef<'a>, (Defaulted<BooleanRef<'a>>, OctetStringRef<'a>));
+pub type ExtensionFields<'a> = (
+    ObjectIdentifierRef<'a>,
+    (Defaulted<BooleanRef<'a>>, OctetStringRef<'a>),
+);
 
 impl<'a> FromFields<ExtensionFields<'a>> for Extension<'a> {
     ghost fields = { λ v. (v.extn_id, (v.critical, v.extn_value)) };
 
     fn from_fields(members: ExtensionFields<'a>) -> Self {
         let (extn_id, (critical, extn_value)) = members;
-        Extension { extn_id, critical, extn_value }
+        Extension {
+            extn_id,
+            critical,
+            extn_value,
+        }
     }
 }
 

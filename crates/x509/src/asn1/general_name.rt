@@ -14,8 +14,8 @@ use crate::asn1::name::Name;
 use crate::asn1::other_name::OtherName;
 use der::{Decode, Encode, Error, FromFields, Length, Reader, SliceReader, Tag, Writer};
 use der_asn1::{
-    BorrowedItem, Choice, DecodeItem, DescribedChoice, Either, Explicit, Ia5StringRef,
-    Implicit, Item, ObjectIdentifierRef, OctetStringRef, SequenceRef, decode_choice,
+    BorrowedItem, Choice, DecodeItem, DescribedChoice, Either, Explicit, Ia5StringRef, Implicit,
+    Item, ObjectIdentifierRef, OctetStringRef, SequenceRef, decode_choice,
 };
 use std::alloc::Global;
 
@@ -44,7 +44,10 @@ pub enum GeneralName<'a> {
 }
 
 // The alternatives, as nested choices of two.
-pub(crate) type GeneralNameAlternatives<'a> = Either<GeneralNamePart1<'a>, Either<GeneralNamePart2<'a>, GeneralNamePart3<'a>>>;
+pub(crate) type GeneralNameAlternatives<'a> = Either<
+    GeneralNamePart1<'a>,
+    Either<GeneralNamePart2<'a>, GeneralNamePart3<'a>>,
+>;
 
 impl<'a> FromFields<GeneralNameAlternatives<'a>> for GeneralName<'a> {
     ghost fields = { elim [
@@ -61,15 +64,63 @@ impl<'a> FromFields<GeneralNameAlternatives<'a>> for GeneralName<'a> {
 
     fn from_fields(alternatives: GeneralNameAlternatives<'a>) -> Self {
         match alternatives {
-            Either::First(GeneralNamePart1 { choice: Either::First(value) }) => GeneralName::OtherName(value),
-            Either::First(GeneralNamePart1 { choice: Either::Second(Either::First(value)) }) => GeneralName::Rfc822Name(value),
-            Either::First(GeneralNamePart1 { choice: Either::Second(Either::Second(value)) }) => GeneralName::DnsName(value),
-            Either::Second(Either::First(GeneralNamePart2 { choice: Either::First(value) })) => GeneralName::X400Address(value),
-            Either::Second(Either::First(GeneralNamePart2 { choice: Either::Second(Either::First(value)) })) => GeneralName::DirectoryName(value),
-            Either::Second(Either::First(GeneralNamePart2 { choice: Either::Second(Either::Second(value)) })) => GeneralName::EdiPartyName(value),
-            Either::Second(Either::Second(GeneralNamePart3 { choice: Either::First(value) })) => GeneralName::UniformResourceIdentifier(value),
-            Either::Second(Either::Second(GeneralNamePart3 { choice: Either::Second(Either::First(value)) })) => GeneralName::IpAddress(value),
-            Either::Second(Either::Second(GeneralNamePart3 { choice: Either::Second(Either::Second(value)) })) => GeneralName::RegisteredId(value),
+            Either::First(
+                GeneralNamePart1 {
+                    choice: Either::First(value),
+                },
+            ) => GeneralName::OtherName(value),
+            Either::First(
+                GeneralNamePart1 {
+                    choice: Either::Second(Either::First(value)),
+                },
+            ) => GeneralName::Rfc822Name(value),
+            Either::First(
+                GeneralNamePart1 {
+                    choice: Either::Second(Either::Second(value)),
+                },
+            ) => GeneralName::DnsName(value),
+            Either::Second(
+                Either::First(
+                    GeneralNamePart2 {
+                        choice: Either::First(value),
+                    },
+                ),
+            ) => GeneralName::X400Address(value),
+            Either::Second(
+                Either::First(
+                    GeneralNamePart2 {
+                        choice: Either::Second(Either::First(value)),
+                    },
+                ),
+            ) => GeneralName::DirectoryName(value),
+            Either::Second(
+                Either::First(
+                    GeneralNamePart2 {
+                        choice: Either::Second(Either::Second(value)),
+                    },
+                ),
+            ) => GeneralName::EdiPartyName(value),
+            Either::Second(
+                Either::Second(
+                    GeneralNamePart3 {
+                        choice: Either::First(value),
+                    },
+                ),
+            ) => GeneralName::UniformResourceIdentifier(value),
+            Either::Second(
+                Either::Second(
+                    GeneralNamePart3 {
+                        choice: Either::Second(Either::First(value)),
+                    },
+                ),
+            ) => GeneralName::IpAddress(value),
+            Either::Second(
+                Either::Second(
+                    GeneralNamePart3 {
+                        choice: Either::Second(Either::Second(value)),
+                    },
+                ),
+            ) => GeneralName::RegisteredId(value),
         }
     }
 }

@@ -15,7 +15,10 @@ pub(crate) struct GeneralNamePart1<'a> {
 }
 
 // The alternatives, as nested choices of two.
-pub(crate) type GeneralNamePart1Alternatives<'a> = Either<Implicit<OtherName<'a>, 0>, Either<Implicit<Ia5StringRef<'a>, 1>, Implicit<Ia5StringRef<'a>, 2>>>;
+pub(crate) type GeneralNamePart1Alternatives<'a> = Either<
+    Implicit<OtherName<'a>, 0>,
+    Either<Implicit<Ia5StringRef<'a>, 1>, Implicit<Ia5StringRef<'a>, 2>>,
+>;
 
 impl<'a> FromFields<GeneralNamePart1Alternatives<'a>> for GeneralNamePart1<'a> {
     ghost fields = { λ v. v.choice };

@@ -17,7 +17,10 @@ pub(crate) struct GeneralNamePart2<'a> {
 }
 
 // The alternatives, as nested choices of two.
-pub(crate) type GeneralNamePart2Alternatives<'a> = Either<Implicit<SequenceRef<'a>, 3>, Either<Explicit<Name<'a>, 4>, Implicit<SequenceRef<'a>, 5>>>;
+pub(crate) type GeneralNamePart2Alternatives<'a> = Either<
+    Implicit<SequenceRef<'a>, 3>,
+    Either<Explicit<Name<'a>, 4>, Implicit<SequenceRef<'a>, 5>>,
+>;
 
 impl<'a> FromFields<GeneralNamePart2Alternatives<'a>> for GeneralNamePart2<'a> {
     ghost fields = { λ v. v.choice };

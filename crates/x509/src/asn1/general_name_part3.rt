@@ -17,7 +17,10 @@ pub(crate) struct GeneralNamePart3<'a> {
 }
 
 // The alternatives, as nested choices of two.
-pub(crate) type GeneralNamePart3Alternatives<'a> = Either<Implicit<Ia5StringRef<'a>, 6>, Either<Implicit<OctetStringRef<'a>, 7>, Implicit<ObjectIdentifierRef<'a>, 8>>>;
+pub(crate) type GeneralNamePart3Alternatives<'a> = Either<
+    Implicit<Ia5StringRef<'a>, 6>,
+    Either<Implicit<OctetStringRef<'a>, 7>, Implicit<ObjectIdentifierRef<'a>, 8>>,
+>;
 
 impl<'a> FromFields<GeneralNamePart3Alternatives<'a>> for GeneralNamePart3<'a> {
     ghost fields = { λ v. v.choice };

@@ -7,29 +7,30 @@ ghost use Rattle.der_asn1.specs.Integer.{integer_octets};
 ghost use Rattle.der_asn1.specs.Item.{decodes_same};
 ghost use Rattle.der_asn1.specs.Meaning.{alternative, defaulted, field, optional, seen, sequence, sequence_is_item, sequence_item, two_fields};
 
-use spki::AlgorithmIdentifierRef;
 use crate::asn1::extensions::Extensions;
 use crate::asn1::name::Name;
-use spki::SubjectPublicKeyInfoRef;
 use crate::asn1::tbs_certificate_part1::{TbsCertificatePart1, TbsCertificatePart1Fields};
 use crate::asn1::tbs_certificate_part2::{TbsCertificatePart2, TbsCertificatePart2Fields};
 use crate::asn1::validity::Validity;
 use crate::asn1::version::Version;
 use der::{
-    Decode, DecodeValue, Encode, EncodeValue, Error, FromFields, Header, Length, Reader,
-    Sequence, SliceReader, Writer, decode_sequence, field_refs,
+    Decode, DecodeValue, Encode, EncodeValue, Error, FromFields, Header, Length, Reader, Sequence,
+    SliceReader, Writer, decode_sequence, field_refs,
 };
 use der_asn1::{
     BitStringRef, BorrowedItem, DecodeItem, DefaultOf, DefaultValue, Defaulted, Described,
     Explicit, Implicit, IntRef, Item, NamedInteger, Nestable, Optional, WithDefault,
 };
+use spki::{AlgorithmIdentifierRef, SubjectPublicKeyInfoRef};
 use std::alloc::Global;
 
 /// The part of a certificate that its signature covers (RFC 5280, 4.1.2), borrowed from the input.
 #[derive(Clone, Copy, Drop)]
 pub struct TbsCertificate<'a> {
     /// The version of the certificate: 1, 2 or 3. The default is 1.
-    pub version: Defaulted<Explicit<WithDefault<NamedInteger<Version>, TbsCertificateVersionDefault>, 0>>,
+    pub version: Defaulted<
+        Explicit<WithDefault<NamedInteger<Version>, TbsCertificateVersionDefault>, 0>,
+    >,
     /// The serial number of the certificate.
     pub serial_number: IntRef<'a>,
     /// The algorithm of the certificate's signature. The signature itself is not in this part.
@@ -56,11 +57,22 @@ pub struct TbsCertificate<'a> {
 pub type TbsCertificateFields<'a> = (TbsCertificatePart1Fields<'a>, TbsCertificatePart2Fields<'a>);
 
 impl<'a> FromFields<(TbsCertificatePart1<'a>, TbsCertificatePart2<'a>)> for TbsCertificate<'a> {
-    ghost fields = { λ v. (record { version = v.version; serial_number = v.serial_number; signature = v.signature; issuer = v.issuer; validity = v.validity; }, record { subject = v.subject; subject_public_key_info = v.subject_public_key_info; issuer_unique_id = v.issuer_unique_id; subject_unique_id = v.subject_unique_id; extensions = v.extensions; }) };
+    ghost fields = { λ v. (record { version = v.version; serial_number = v.serial_number; signature = v.signature; issuer = v.issuer; validity = v.validity }, record { subject = v.subject; subject_public_key_info = v.subject_public_key_info; issuer_unique_id = v.issuer_unique_id; subject_unique_id = v.subject_unique_id; extensions = v.extensions }) };
 
     fn from_fields(members: (TbsCertificatePart1<'a>, TbsCertificatePart2<'a>)) -> Self {
         let (part1, part2) = members;
-        TbsCertificate { version: part1.version, serial_number: part1.serial_number, signature: part1.signature, issuer: part1.issuer, validity: part1.validity, subject: part2.subject, subject_public_key_info: part2.subject_public_key_info, issuer_unique_id: part2.issuer_unique_id, subject_unique_id: part2.subject_unique_id, extensions: part2.extensions }
+        TbsCertificate {
+            version: part1.version,
+            serial_number: part1.serial_number,
+            signature: part1.signature,
+            issuer: part1.issuer,
+            validity: part1.validity,
+            subject: part2.subject,
+            subject_public_key_info: part2.subject_public_key_info,
+            issuer_unique_id: part2.issuer_unique_id,
+            subject_unique_id: part2.subject_unique_id,
+            extensions: part2.extensions,
+        }
     }
 }
 
@@ -78,11 +90,16 @@ impl<'a, R: Reader<Borrowed = &'a [u8]>> DecodeValue<R> for TbsCertificate<'a> {
         ⟦<(TbsCertificatePart1<'a>, TbsCertificatePart2<'a>) as Decode<SliceReader<'a>>>⟧.decode_answers s (map_ok ⟦<TbsCertificate<'a> as FromFields<(TbsCertificatePart1<'a>, TbsCertificatePart2<'a>)>>⟧.fields result) t };
 
     fn decode_value(alloc: Global, reader: &mut R, header: Header) -> Result<Self, Error> {
-        decode_sequence::<R, (TbsCertificatePart1<'a>, TbsCertificatePart2<'a>), Self>(alloc, reader, header)
+        decode_sequence::<R, (TbsCertificatePart1<'a>, TbsCertificatePart2<'a>), Self>(
+            alloc, reader, header,
+        )
     }
 
     fn is_value(&self) {
-        <Explicit<WithDefault<NamedInteger<Version>, TbsCertificateVersionDefault>, 0> as DecodeValue<R>>::is_value(&self.version.0);
+        <Explicit<
+            WithDefault<NamedInteger<Version>, TbsCertificateVersionDefault>,
+            0,
+        > as DecodeValue<R>>::is_value(&self.version.0);
         <IntRef<'a> as DecodeValue<R>>::is_value(&self.serial_number);
         <AlgorithmIdentifierRef<'a> as DecodeValue<R>>::is_value(&self.signature);
         <Name<'a> as DecodeValue<R>>::is_value(&self.issuer);
@@ -108,11 +125,31 @@ impl<'a> EncodeValue for TbsCertificate<'a> {
     ghost encode_value_answers = { λ v. ⟦<TbsCertificateFields<'a> as Encode>⟧.encode_answers (⟦<TbsCertificatePart1<'a> as FromFields<TbsCertificatePart1Fields<'a>>>⟧.fields (⟦<TbsCertificate<'a> as FromFields<(TbsCertificatePart1<'a>, TbsCertificatePart2<'a>)>>⟧.fields v).0, ⟦<TbsCertificatePart2<'a> as FromFields<TbsCertificatePart2Fields<'a>>>⟧.fields (⟦<TbsCertificate<'a> as FromFields<(TbsCertificatePart1<'a>, TbsCertificatePart2<'a>)>>⟧.fields v).1) };
 
     fn value_len(&self) -> Result<Length, Error> {
-        field_refs!(self, (((version, serial_number), (signature, (issuer, validity))), ((subject, subject_public_key_info), (issuer_unique_id, (subject_unique_id, extensions))))).encoded_len()
+        field_refs!(
+            self,
+            (
+                ((version, serial_number), (signature, (issuer, validity))),
+                (
+                    (subject, subject_public_key_info),
+                    (issuer_unique_id, (subject_unique_id, extensions))
+                )
+            )
+        )
+        .encoded_len()
     }
 
     fn encode_value<W: Writer>(&self, writer: &mut W) -> Result<(), Error> {
-        field_refs!(self, (((version, serial_number), (signature, (issuer, validity))), ((subject, subject_public_key_info), (issuer_unique_id, (subject_unique_id, extensions))))).encode(writer)
+        field_refs!(
+            self,
+            (
+                ((version, serial_number), (signature, (issuer, validity))),
+                (
+                    (subject, subject_public_key_info),
+                    (issuer_unique_id, (subject_unique_id, extensions))
+                )
+            )
+        )
+        .encode(writer)
     }
 }
 

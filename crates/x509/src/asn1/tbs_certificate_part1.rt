@@ -2,19 +2,21 @@
 ghost use Rattle.std.specs.Prelude.{false};
 ghost use Rattle.der.specs.Prelude.{map_ok};
 
-use spki::AlgorithmIdentifierRef;
 use crate::asn1::name::Name;
 use crate::asn1::tbs_certificate::TbsCertificateVersionDefault;
 use crate::asn1::validity::Validity;
 use crate::asn1::version::Version;
 use der::{Decode, Error, FromFields, Reader, SliceReader, decode_fields};
 use der_asn1::{Defaulted, Explicit, IntRef, NamedInteger, WithDefault};
+use spki::AlgorithmIdentifierRef;
 use std::alloc::Global;
 
 // Some fields of a TbsCertificate.
 #[derive(Drop)]
 pub(crate) struct TbsCertificatePart1<'a> {
-    pub(crate) version: Defaulted<Explicit<WithDefault<NamedInteger<Version>, TbsCertificateVersionDefault>, 0>>,
+    pub(crate) version: Defaulted<
+        Explicit<WithDefault<NamedInteger<Version>, TbsCertificateVersionDefault>, 0>,
+    >,
     pub(crate) serial_number: IntRef<'a>,
     pub(crate) signature: AlgorithmIdentifierRef<'a>,
     pub(crate) issuer: Name<'a>,
@@ -22,14 +24,26 @@ pub(crate) struct TbsCertificatePart1<'a> {
 }
 
 // The fields in pairs, in the order in which they are encoded.
-pub(crate) type TbsCertificatePart1Fields<'a> = ((Defaulted<Explicit<WithDefault<NamedInteger<Version>, TbsCertificateVersionDefault>, 0>>, IntRef<'a>), (AlgorithmIdentifierRef<'a>, (Name<'a>, Validity)));
+pub(crate) type TbsCertificatePart1Fields<'a> = (
+    (
+        Defaulted<Explicit<WithDefault<NamedInteger<Version>, TbsCertificateVersionDefault>, 0>>,
+        IntRef<'a>,
+    ),
+    (AlgorithmIdentifierRef<'a>, (Name<'a>, Validity)),
+);
 
 impl<'a> FromFields<TbsCertificatePart1Fields<'a>> for TbsCertificatePart1<'a> {
     ghost fields = { λ v. ((v.version, v.serial_number), (v.signature, (v.issuer, v.validity))) };
 
     fn from_fields(members: TbsCertificatePart1Fields<'a>) -> Self {
         let ((version, serial_number), (signature, (issuer, validity))) = members;
-        TbsCertificatePart1 { version, serial_number, signature, issuer, validity }
+        TbsCertificatePart1 {
+            version,
+            serial_number,
+            signature,
+            issuer,
+            validity,
+        }
     }
 }
 

@@ -4,9 +4,9 @@ ghost use Rattle.der.specs.Prelude.{map_ok};
 
 use crate::asn1::extensions::Extensions;
 use crate::asn1::name::Name;
-use spki::SubjectPublicKeyInfoRef;
 use der::{Decode, Error, FromFields, Reader, SliceReader, decode_fields};
 use der_asn1::{BitStringRef, Explicit, Implicit, Optional};
+use spki::SubjectPublicKeyInfoRef;
 use std::alloc::Global;
 
 // Some fields of a TbsCertificate.
@@ -20,14 +20,32 @@ pub(crate) struct TbsCertificatePart2<'a> {
 }
 
 // The fields in pairs, in the order in which they are encoded.
-pub(crate) type TbsCertificatePart2Fields<'a> = ((Name<'a>, SubjectPublicKeyInfoRef<'a>), (Optional<Implicit<BitStringRef<'a>, 1>>, (Optional<Implicit<BitStringRef<'a>, 2>>, Optional<Explicit<Extensions<'a>, 3>>)));
+pub(crate) type TbsCertificatePart2Fields<'a> = (
+    (Name<'a>, SubjectPublicKeyInfoRef<'a>),
+    (
+        Optional<Implicit<BitStringRef<'a>, 1>>,
+        (
+            Optional<Implicit<BitStringRef<'a>, 2>>,
+            Optional<Explicit<Extensions<'a>, 3>>,
+        ),
+    ),
+);
 
 impl<'a> FromFields<TbsCertificatePart2Fields<'a>> for TbsCertificatePart2<'a> {
     ghost fields = { λ v. ((v.subject, v.subject_public_key_info), (v.issuer_unique_id, (v.subject_unique_id, v.extensions))) };
 
     fn from_fields(members: TbsCertificatePart2Fields<'a>) -> Self {
-        let ((subject, subject_public_key_info), (issuer_unique_id, (subject_unique_id, extensions))) = members;
-        TbsCertificatePart2 { subject, subject_public_key_info, issuer_unique_id, subject_unique_id, extensions }
+        let (
+            (subject, subject_public_key_info),
+            (issuer_unique_id, (subject_unique_id, extensions)),
+        ) = members;
+        TbsCertificatePart2 {
+            subject,
+            subject_public_key_info,
+            issuer_unique_id,
+            subject_unique_id,
+            extensions,
+        }
     }
 }
 

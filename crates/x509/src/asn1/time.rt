@@ -9,8 +9,8 @@ ghost use Rattle.x509.specs.declared.asn1.time.Time.TheVariants as variant;
 
 use der::{Decode, Encode, Error, FromFields, Length, Reader, SliceReader, Tag, Writer};
 use der_asn1::{
-    BorrowedItem, Choice, DecodeItem, Described, DescribedChoice, Either, GeneralizedTime,
-    Item, UtcTime, decode_choice,
+    BorrowedItem, Choice, DecodeItem, Described, DescribedChoice, Either, GeneralizedTime, Item,
+    UtcTime, decode_choice,
 };
 use std::alloc::Global;
 

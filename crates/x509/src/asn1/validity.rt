@@ -7,12 +7,11 @@ ghost use Rattle.der_asn1.specs.Meaning.{alternative, field, sequence, sequence_
 
 use crate::asn1::time::Time;
 use der::{
-    Decode, DecodeValue, Encode, EncodeValue, Error, FromFields, Header, Length, Reader,
-    Sequence, SliceReader, Writer, decode_sequence, field_refs,
+    Decode, DecodeValue, Encode, EncodeValue, Error, FromFields, Header, Length, Reader, Sequence,
+    SliceReader, Writer, decode_sequence, field_refs,
 };
 use der_asn1::{
-    BorrowedItem, DecodeItem, Described, DescribedChoice, GeneralizedTime, Item, Nestable,
-    UtcTime,
+    BorrowedItem, DecodeItem, Described, DescribedChoice, GeneralizedTime, Item, Nestable, UtcTime,
 };
 use std::alloc::Global;
 
@@ -34,7 +33,10 @@ impl FromFields<ValidityFields> for Validity {
 
     fn from_fields(members: ValidityFields) -> Self {
         let (not_before, not_after) = members;
-        Validity { not_before, not_after }
+        Validity {
+            not_before,
+            not_after,
+        }
     }
 }
 
@@ -59,11 +61,11 @@ impl<'a, R: Reader<Borrowed = &'a [u8]>> DecodeValue<R> for Validity {
         match &self.not_before {
             Time::UtcTime(value) => <UtcTime as DecodeValue<R>>::is_value(value),
             Time::GeneralTime(value) => <GeneralizedTime as DecodeValue<R>>::is_value(value),
-}
+        }
         match &self.not_after {
             Time::UtcTime(value) => <UtcTime as DecodeValue<R>>::is_value(value),
             Time::GeneralTime(value) => <GeneralizedTime as DecodeValue<R>>::is_value(value),
-}
+        }
     }
 }
 

@@ -1,0 +1,58 @@
+//! Long clauses on several lines.
+
+use std::alloc::{AllocError, Global};
+
+const WIDTH: usize = 100;
+
+/// The text, with long clauses broken in front of words that begin with `(` or `⟦`.
+pub fn wrapped(alloc: Global, text: &str) -> Result<String, AllocError> {
+    let mut out = String::new(alloc);
+    for line in text.lines() {
+        if is_long_clause(line) {
+            push_wrapped(alloc, &mut out, line)?;
+        } else {
+            out.push_str(line)?;
+        }
+        out.push('\n')?;
+    }
+    Ok(out)
+}
+
+fn is_long_clause(line: &str) -> bool {
+    line.chars().count() > WIDTH && line.contains('⟦')
+}
+
+fn push_wrapped(alloc: Global, out: &mut String, line: &str) -> Result<(), AllocError> {
+    let mut column = 0usize;
+    let mut group = String::new(alloc);
+    let mut before = '(';
+    for character in line.chars() {
+        if before == ' ' && (character == '(' || character == '⟦') {
+            column = push_group(out, group.as_str(), column)?;
+            group = String::new(alloc);
+        }
+        group.push(character)?;
+        before = character;
+    }
+    let _end = push_group(out, group.as_str(), column)?;
+    Ok(())
+}
+
+// Adds words that stay on one line, on a new line if this one has no room, and returns the column
+// behind them.
+fn push_group(out: &mut String, group: &str, column: usize) -> Result<usize, AllocError> {
+    let words = group.trim_end();
+    let width = words.chars().count();
+    if column == 0 {
+        out.push_str(words)?;
+        return Ok(width);
+    }
+    if column.saturating_add(width).saturating_add(1) > WIDTH {
+        out.push_str("\n        ")?;
+        out.push_str(words)?;
+        return Ok(width.saturating_add(8));
+    }
+    out.push(' ')?;
+    out.push_str(words)?;
+    Ok(column.saturating_add(width).saturating_add(1))
+}

@@ -1,0 +1,94 @@
+//! AlgorithmIdentifierRef of the module PrivateKeys. Written by asn1_compile: change the module instead.
+ghost use Rattle.std.specs.Prelude.{◌≡◌};
+ghost use Rattle.std.proofs.Common.{arith, refl};
+ghost use Rattle.der.specs.Prelude.{map_ok};
+ghost use Rattle.der_asn1.specs.Item.{decodes_same};
+ghost use Rattle.der_asn1.specs.Meaning.{alternative, any_element, field, optional, sequence, sequence_is_item, sequence_item, two_fields};
+
+use der::{
+    Decode, DecodeValue, Encode, EncodeValue, Error, FromFields, Header, Length, Reader, Sequence,
+    SliceReader, Writer, decode_sequence, field_refs,
+};
+use der_asn1::{
+    AnyRef, BorrowedItem, DecodeItem, Described, Item, Nestable, ObjectIdentifierRef, Optional,
+};
+use std::alloc::Global;
+
+/// An algorithm with its parameters (RFC 5280, 4.1.1.2), borrowed from the input.
+#[derive(Clone, Copy, Drop)]
+pub struct AlgorithmIdentifierRef<'a> {
+    /// The object identifier of the algorithm.
+    pub oid: ObjectIdentifierRef<'a>,
+    /// The parameters of the algorithm, of any type, if present.
+    pub parameters: Optional<AnyRef<'a>>,
+}
+
+/// The fields of a [`AlgorithmIdentifierRef`] in pairs, in the order in which they are encoded.
+pub type AlgorithmIdentifierRefFields<'a> = (ObjectIdentifierRef<'a>, Optional<AnyRef<'a>>);
+
+impl<'a> FromFields<AlgorithmIdentifierRefFields<'a>> for AlgorithmIdentifierRef<'a> {
+    ghost fields = { λ v. (v.oid, v.parameters) };
+
+    fn from_fields(members: AlgorithmIdentifierRefFields<'a>) -> Self {
+        let (oid, parameters) = members;
+        AlgorithmIdentifierRef { oid, parameters }
+    }
+}
+
+impl<'a> Sequence for AlgorithmIdentifierRef<'a> {
+    ghost meaning = { sequence (two_fields (field (alternative ⟦<ObjectIdentifierRef<'a> as Described>⟧.element)) (optional any_element)) ⟦<AlgorithmIdentifierRef<'a> as FromFields<AlgorithmIdentifierRefFields<'a>>>⟧.fields };
+
+    ghost fits = { (refl, refl) };
+}
+
+/// Decodes the fields one after the other, with the errors of every [`Sequence`].
+impl<'a, R: Reader<Borrowed = &'a [u8]>> DecodeValue<R> for AlgorithmIdentifierRef<'a> {
+    type Error = Error;
+
+    ghost decode_value_answers = { λ h s result t.
+        ⟦<AlgorithmIdentifierRefFields<'a> as Decode<SliceReader<'a>>>⟧.decode_answers s (map_ok ⟦<AlgorithmIdentifierRef<'a> as FromFields<AlgorithmIdentifierRefFields<'a>>>⟧.fields result) t };
+
+    fn decode_value(alloc: Global, reader: &mut R, header: Header) -> Result<Self, Error> {
+        decode_sequence::<R, AlgorithmIdentifierRefFields<'a>, Self>(alloc, reader, header)
+    }
+
+    fn is_value(&self) {
+        <ObjectIdentifierRef<'a> as DecodeValue<R>>::is_value(&self.oid);
+        if let Some(value) = &self.parameters.0 {
+            <AnyRef<'a> as DecodeValue<R>>::is_value(value);
+        }
+    }
+}
+
+/// Writes the fields one after the other, with the errors of every [`Sequence`].
+impl<'a> EncodeValue for AlgorithmIdentifierRef<'a> {
+    ghost value_size = { λ v. ⟦<AlgorithmIdentifierRefFields<'a> as Encode>⟧.size (⟦<AlgorithmIdentifierRef<'a> as FromFields<AlgorithmIdentifierRefFields<'a>>>⟧.fields v) };
+
+    ghost encode_value_answers = { λ v. ⟦<AlgorithmIdentifierRefFields<'a> as Encode>⟧.encode_answers (⟦<AlgorithmIdentifierRef<'a> as FromFields<AlgorithmIdentifierRefFields<'a>>>⟧.fields v) };
+
+    fn value_len(&self) -> Result<Length, Error> {
+        field_refs!(self, (oid, parameters)).encoded_len()
+    }
+
+    fn encode_value<W: Writer>(&self, writer: &mut W) -> Result<(), Error> {
+        field_refs!(self, (oid, parameters)).encode(writer)
+    }
+}
+
+impl<'a> Item for AlgorithmIdentifierRef<'a> {
+    ghost item = { sequence_item ⟦<AlgorithmIdentifierRef<'a> as Described>⟧.element };
+}
+
+impl<'a, R: Reader<Borrowed = &'a [u8]>> DecodeItem<R> for AlgorithmIdentifierRef<'a> {
+    ghost is_item = { sequence_is_item ⟦<AlgorithmIdentifierRef<'a> as Described>⟧.element refl };
+
+    ghost decodes_items = { decodes_same (sequence_item ⟦<AlgorithmIdentifierRef<'a> as Described>⟧.element) };
+}
+
+impl<'a> BorrowedItem for AlgorithmIdentifierRef<'a> {
+    ghost borrowed = { refl };
+}
+
+impl<'a> Nestable for AlgorithmIdentifierRef<'a> {
+    ghost nestable = { Prim.omega arith };
+}

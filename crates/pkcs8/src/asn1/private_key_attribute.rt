@@ -1,0 +1,93 @@
+//! PrivateKeyAttribute of the module PrivateKeys. Written by asn1_compile: change the module instead.
+ghost use Rattle.std.specs.Prelude.{◌≡◌};
+ghost use Rattle.std.proofs.Common.{arith, refl};
+ghost use Rattle.der.specs.Prelude.{map_ok};
+ghost use Rattle.der_asn1.specs.Item.{decodes_same};
+ghost use Rattle.der_asn1.specs.Meaning.{alternative, field, sequence, sequence_is_item, sequence_item, two_fields};
+
+use der::{
+    Decode, DecodeValue, Encode, EncodeValue, Error, FromFields, Header, Length, Reader, Sequence,
+    SliceReader, Writer, decode_sequence, field_refs,
+};
+use der_asn1::{
+    AnyRef, BorrowedItem, DecodeItem, Described, Item, Nestable, ObjectIdentifierRef, SetOf,
+};
+use std::alloc::Global;
+
+/// An attribute of a private key (RFC 5652, 5.3), borrowed from the input.
+#[derive(Clone, Copy, Drop)]
+pub struct PrivateKeyAttribute<'a> {
+    /// The type of the attribute, as an object identifier.
+    pub oid: ObjectIdentifierRef<'a>,
+    /// The values of the attribute, of any type, in ascending order of their encodings. Their
+    /// contents are not checked.
+    pub attr_values: SetOf<'a, AnyRef<'a>>,
+}
+
+/// The fields of a [`PrivateKeyAttribute`] in pairs, in the order in which they are encoded.
+pub type PrivateKeyAttributeFields<'a> = (ObjectIdentifierRef<'a>, SetOf<'a, AnyRef<'a>>);
+
+impl<'a> FromFields<PrivateKeyAttributeFields<'a>> for PrivateKeyAttribute<'a> {
+    ghost fields = { λ v. (v.oid, v.attr_values) };
+
+    fn from_fields(members: PrivateKeyAttributeFields<'a>) -> Self {
+        let (oid, attr_values) = members;
+        PrivateKeyAttribute { oid, attr_values }
+    }
+}
+
+impl<'a> Sequence for PrivateKeyAttribute<'a> {
+    ghost meaning = { sequence (two_fields (field (alternative ⟦<ObjectIdentifierRef<'a> as Described>⟧.element)) (field (alternative ⟦<SetOf<'a, AnyRef<'a>> as Described>⟧.element))) ⟦<PrivateKeyAttribute<'a> as FromFields<PrivateKeyAttributeFields<'a>>>⟧.fields };
+
+    ghost fits = { (refl, refl) };
+}
+
+/// Decodes the fields one after the other, with the errors of every [`Sequence`].
+impl<'a, R: Reader<Borrowed = &'a [u8]>> DecodeValue<R> for PrivateKeyAttribute<'a> {
+    type Error = Error;
+
+    ghost decode_value_answers = { λ h s result t.
+        ⟦<PrivateKeyAttributeFields<'a> as Decode<SliceReader<'a>>>⟧.decode_answers s (map_ok ⟦<PrivateKeyAttribute<'a> as FromFields<PrivateKeyAttributeFields<'a>>>⟧.fields result) t };
+
+    fn decode_value(alloc: Global, reader: &mut R, header: Header) -> Result<Self, Error> {
+        decode_sequence::<R, PrivateKeyAttributeFields<'a>, Self>(alloc, reader, header)
+    }
+
+    fn is_value(&self) {
+        <ObjectIdentifierRef<'a> as DecodeValue<R>>::is_value(&self.oid);
+        <SetOf<'a, AnyRef<'a>> as DecodeValue<R>>::is_value(&self.attr_values);
+    }
+}
+
+/// Writes the fields one after the other, with the errors of every [`Sequence`].
+impl<'a> EncodeValue for PrivateKeyAttribute<'a> {
+    ghost value_size = { λ v. ⟦<PrivateKeyAttributeFields<'a> as Encode>⟧.size (⟦<PrivateKeyAttribute<'a> as FromFields<PrivateKeyAttributeFields<'a>>>⟧.fields v) };
+
+    ghost encode_value_answers = { λ v. ⟦<PrivateKeyAttributeFields<'a> as Encode>⟧.encode_answers (⟦<PrivateKeyAttribute<'a> as FromFields<PrivateKeyAttributeFields<'a>>>⟧.fields v) };
+
+    fn value_len(&self) -> Result<Length, Error> {
+        field_refs!(self, (oid, attr_values)).encoded_len()
+    }
+
+    fn encode_value<W: Writer>(&self, writer: &mut W) -> Result<(), Error> {
+        field_refs!(self, (oid, attr_values)).encode(writer)
+    }
+}
+
+impl<'a> Item for PrivateKeyAttribute<'a> {
+    ghost item = { sequence_item ⟦<PrivateKeyAttribute<'a> as Described>⟧.element };
+}
+
+impl<'a, R: Reader<Borrowed = &'a [u8]>> DecodeItem<R> for PrivateKeyAttribute<'a> {
+    ghost is_item = { sequence_is_item ⟦<PrivateKeyAttribute<'a> as Described>⟧.element refl };
+
+    ghost decodes_items = { decodes_same (sequence_item ⟦<PrivateKeyAttribute<'a> as Described>⟧.element) };
+}
+
+impl<'a> BorrowedItem for PrivateKeyAttribute<'a> {
+    ghost borrowed = { refl };
+}
+
+impl<'a> Nestable for PrivateKeyAttribute<'a> {
+    ghost nestable = { Prim.omega arith };
+}

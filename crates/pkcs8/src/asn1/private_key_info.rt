@@ -1,0 +1,141 @@
+//! PrivateKeyInfo of the module PrivateKeys. Written by asn1_compile: change the module instead.
+ghost use Rattle.std.specs.Prelude.{◌≡◌};
+ghost use Rattle.std.proofs.Common.{arith, refl};
+ghost use Rattle.der.specs.Prelude.{map_ok};
+ghost use Rattle.der_asn1.specs.Item.{decodes_same};
+ghost use Rattle.der_asn1.specs.Meaning.{alternative, field, optional, sequence, sequence_is_item, sequence_item, two_fields};
+
+use crate::asn1::algorithm_identifier_ref::AlgorithmIdentifierRef;
+use crate::asn1::private_key_attributes::PrivateKeyAttributes;
+use crate::asn1::version::Version;
+use der::{
+    Decode, DecodeValue, Encode, EncodeValue, Error, FromFields, Header, Length, Reader, Sequence,
+    SliceReader, Writer, decode_sequence, field_refs,
+};
+use der_asn1::{
+    BitStringRef, BorrowedItem, DecodeItem, Described, Implicit, Item, NamedInteger, Nestable,
+    OctetStringRef, Optional,
+};
+use std::alloc::Global;
+
+/// A private key with its algorithm (RFC 5958, 2, where it is OneAsymmetricKey), borrowed from the
+/// input.
+#[derive(Clone, Copy, Drop)]
+pub struct PrivateKeyInfo<'a> {
+    /// The version of the format, 1 or 2.
+    pub version: NamedInteger<Version>,
+    /// The algorithm of the key.
+    pub private_key_algorithm: AlgorithmIdentifierRef<'a>,
+    /// The octets of the private key, which are not checked. The algorithm of the key determines
+    /// their format.
+    pub private_key: OctetStringRef<'a>,
+    /// Further information about the key, if present.
+    pub attributes: Optional<Implicit<PrivateKeyAttributes<'a>, 0>>,
+    /// The public key that belongs to the private key, if present. Only version 2 allows it, but
+    /// decoding does not check this.
+    pub public_key: Optional<Implicit<BitStringRef<'a>, 1>>,
+}
+
+/// The fields of a [`PrivateKeyInfo`] in pairs, in the order in which they are encoded.
+pub type PrivateKeyInfoFields<'a> = (
+    (NamedInteger<Version>, AlgorithmIdentifierRef<'a>),
+    (
+        OctetStringRef<'a>,
+        (
+            Optional<Implicit<PrivateKeyAttributes<'a>, 0>>,
+            Optional<Implicit<BitStringRef<'a>, 1>>,
+        ),
+    ),
+);
+
+impl<'a> FromFields<PrivateKeyInfoFields<'a>> for PrivateKeyInfo<'a> {
+    ghost fields = { λ v. ((v.version, v.private_key_algorithm), (v.private_key, (v.attributes, v.public_key))) };
+
+    fn from_fields(members: PrivateKeyInfoFields<'a>) -> Self {
+        let ((version, private_key_algorithm), (private_key, (attributes, public_key))) = members;
+        PrivateKeyInfo {
+            version,
+            private_key_algorithm,
+            private_key,
+            attributes,
+            public_key,
+        }
+    }
+}
+
+impl<'a> Sequence for PrivateKeyInfo<'a> {
+    ghost meaning = { sequence (two_fields (two_fields (field (alternative ⟦<NamedInteger<Version> as Described>⟧.element)) (field (alternative ⟦<AlgorithmIdentifierRef<'a> as Described>⟧.element))) (two_fields (field (alternative ⟦<OctetStringRef<'a> as Described>⟧.element)) (two_fields (optional (alternative ⟦<Implicit<PrivateKeyAttributes<'a>, 0> as Described>⟧.element)) (optional (alternative ⟦<Implicit<BitStringRef<'a>, 1> as Described>⟧.element))))) ⟦<PrivateKeyInfo<'a> as FromFields<PrivateKeyInfoFields<'a>>>⟧.fields };
+
+    ghost fits = { (refl, refl) };
+}
+
+/// Decodes the fields one after the other, with the errors of every [`Sequence`].
+impl<'a, R: Reader<Borrowed = &'a [u8]>> DecodeValue<R> for PrivateKeyInfo<'a> {
+    type Error = Error;
+
+    ghost decode_value_answers = { λ h s result t.
+        ⟦<PrivateKeyInfoFields<'a> as Decode<SliceReader<'a>>>⟧.decode_answers s (map_ok ⟦<PrivateKeyInfo<'a> as FromFields<PrivateKeyInfoFields<'a>>>⟧.fields result) t };
+
+    fn decode_value(alloc: Global, reader: &mut R, header: Header) -> Result<Self, Error> {
+        decode_sequence::<R, PrivateKeyInfoFields<'a>, Self>(alloc, reader, header)
+    }
+
+    fn is_value(&self) {
+        <NamedInteger<Version> as DecodeValue<R>>::is_value(&self.version);
+        <AlgorithmIdentifierRef<'a> as DecodeValue<R>>::is_value(&self.private_key_algorithm);
+        <OctetStringRef<'a> as DecodeValue<R>>::is_value(&self.private_key);
+        if let Some(value) = &self.attributes.0 {
+            <Implicit<PrivateKeyAttributes<'a>, 0> as DecodeValue<R>>::is_value(value);
+        }
+        if let Some(value) = &self.public_key.0 {
+            <Implicit<BitStringRef<'a>, 1> as DecodeValue<R>>::is_value(value);
+        }
+    }
+}
+
+/// Writes the fields one after the other, with the errors of every [`Sequence`].
+impl<'a> EncodeValue for PrivateKeyInfo<'a> {
+    ghost value_size = { λ v. ⟦<PrivateKeyInfoFields<'a> as Encode>⟧.size (⟦<PrivateKeyInfo<'a> as FromFields<PrivateKeyInfoFields<'a>>>⟧.fields v) };
+
+    ghost encode_value_answers = { λ v. ⟦<PrivateKeyInfoFields<'a> as Encode>⟧.encode_answers (⟦<PrivateKeyInfo<'a> as FromFields<PrivateKeyInfoFields<'a>>>⟧.fields v) };
+
+    fn value_len(&self) -> Result<Length, Error> {
+        field_refs!(
+            self,
+            (
+                (version, private_key_algorithm),
+                (private_key, (attributes, public_key))
+            )
+        )
+        .encoded_len()
+    }
+
+    fn encode_value<W: Writer>(&self, writer: &mut W) -> Result<(), Error> {
+        field_refs!(
+            self,
+            (
+                (version, private_key_algorithm),
+                (private_key, (attributes, public_key))
+            )
+        )
+        .encode(writer)
+    }
+}
+
+impl<'a> Item for PrivateKeyInfo<'a> {
+    ghost item = { sequence_item ⟦<PrivateKeyInfo<'a> as Described>⟧.element };
+}
+
+impl<'a, R: Reader<Borrowed = &'a [u8]>> DecodeItem<R> for PrivateKeyInfo<'a> {
+    ghost is_item = { sequence_is_item ⟦<PrivateKeyInfo<'a> as Described>⟧.element refl };
+
+    ghost decodes_items = { decodes_same (sequence_item ⟦<PrivateKeyInfo<'a> as Described>⟧.element) };
+}
+
+impl<'a> BorrowedItem for PrivateKeyInfo<'a> {
+    ghost borrowed = { refl };
+}
+
+impl<'a> Nestable for PrivateKeyInfo<'a> {
+    ghost nestable = { Prim.omega arith };
+}

@@ -1,0 +1,94 @@
+//! SubjectPublicKeyInfoRef of the module PrivateKeys. Written by asn1_compile: change the module instead.
+ghost use Rattle.std.specs.Prelude.{◌≡◌};
+ghost use Rattle.std.proofs.Common.{arith, refl};
+ghost use Rattle.der.specs.Prelude.{map_ok};
+ghost use Rattle.der_asn1.specs.Item.{decodes_same};
+ghost use Rattle.der_asn1.specs.Meaning.{alternative, field, sequence, sequence_is_item, sequence_item, two_fields};
+
+use crate::asn1::algorithm_identifier_ref::AlgorithmIdentifierRef;
+use der::{
+    Decode, DecodeValue, Encode, EncodeValue, Error, FromFields, Header, Length, Reader, Sequence,
+    SliceReader, Writer, decode_sequence, field_refs,
+};
+use der_asn1::{BitStringRef, BorrowedItem, DecodeItem, Described, Item, Nestable};
+use std::alloc::Global;
+
+/// A public key with its algorithm (RFC 5280, 4.1.2.7), borrowed from the input.
+#[derive(Clone, Copy, Drop)]
+pub struct SubjectPublicKeyInfoRef<'a> {
+    /// The algorithm of the key.
+    pub algorithm: AlgorithmIdentifierRef<'a>,
+    /// The octets of the key, as a BIT STRING.
+    pub subject_public_key: BitStringRef<'a>,
+}
+
+/// The fields of a [`SubjectPublicKeyInfoRef`] in pairs, in the order in which they are encoded.
+pub type SubjectPublicKeyInfoRefFields<'a> = (AlgorithmIdentifierRef<'a>, BitStringRef<'a>);
+
+impl<'a> FromFields<SubjectPublicKeyInfoRefFields<'a>> for SubjectPublicKeyInfoRef<'a> {
+    ghost fields = { λ v. (v.algorithm, v.subject_public_key) };
+
+    fn from_fields(members: SubjectPublicKeyInfoRefFields<'a>) -> Self {
+        let (algorithm, subject_public_key) = members;
+        SubjectPublicKeyInfoRef {
+            algorithm,
+            subject_public_key,
+        }
+    }
+}
+
+impl<'a> Sequence for SubjectPublicKeyInfoRef<'a> {
+    ghost meaning = { sequence (two_fields (field (alternative ⟦<AlgorithmIdentifierRef<'a> as Described>⟧.element)) (field (alternative ⟦<BitStringRef<'a> as Described>⟧.element))) ⟦<SubjectPublicKeyInfoRef<'a> as FromFields<SubjectPublicKeyInfoRefFields<'a>>>⟧.fields };
+
+    ghost fits = { (refl, refl) };
+}
+
+/// Decodes the fields one after the other, with the errors of every [`Sequence`].
+impl<'a, R: Reader<Borrowed = &'a [u8]>> DecodeValue<R> for SubjectPublicKeyInfoRef<'a> {
+    type Error = Error;
+
+    ghost decode_value_answers = { λ h s result t.
+        ⟦<SubjectPublicKeyInfoRefFields<'a> as Decode<SliceReader<'a>>>⟧.decode_answers s (map_ok ⟦<SubjectPublicKeyInfoRef<'a> as FromFields<SubjectPublicKeyInfoRefFields<'a>>>⟧.fields result) t };
+
+    fn decode_value(alloc: Global, reader: &mut R, header: Header) -> Result<Self, Error> {
+        decode_sequence::<R, SubjectPublicKeyInfoRefFields<'a>, Self>(alloc, reader, header)
+    }
+
+    fn is_value(&self) {
+        <AlgorithmIdentifierRef<'a> as DecodeValue<R>>::is_value(&self.algorithm);
+        <BitStringRef<'a> as DecodeValue<R>>::is_value(&self.subject_public_key);
+    }
+}
+
+/// Writes the fields one after the other, with the errors of every [`Sequence`].
+impl<'a> EncodeValue for SubjectPublicKeyInfoRef<'a> {
+    ghost value_size = { λ v. ⟦<SubjectPublicKeyInfoRefFields<'a> as Encode>⟧.size (⟦<SubjectPublicKeyInfoRef<'a> as FromFields<SubjectPublicKeyInfoRefFields<'a>>>⟧.fields v) };
+
+    ghost encode_value_answers = { λ v. ⟦<SubjectPublicKeyInfoRefFields<'a> as Encode>⟧.encode_answers (⟦<SubjectPublicKeyInfoRef<'a> as FromFields<SubjectPublicKeyInfoRefFields<'a>>>⟧.fields v) };
+
+    fn value_len(&self) -> Result<Length, Error> {
+        field_refs!(self, (algorithm, subject_public_key)).encoded_len()
+    }
+
+    fn encode_value<W: Writer>(&self, writer: &mut W) -> Result<(), Error> {
+        field_refs!(self, (algorithm, subject_public_key)).encode(writer)
+    }
+}
+
+impl<'a> Item for SubjectPublicKeyInfoRef<'a> {
+    ghost item = { sequence_item ⟦<SubjectPublicKeyInfoRef<'a> as Described>⟧.element };
+}
+
+impl<'a, R: Reader<Borrowed = &'a [u8]>> DecodeItem<R> for SubjectPublicKeyInfoRef<'a> {
+    ghost is_item = { sequence_is_item ⟦<SubjectPublicKeyInfoRef<'a> as Described>⟧.element refl };
+
+    ghost decodes_items = { decodes_same (sequence_item ⟦<SubjectPublicKeyInfoRef<'a> as Described>⟧.element) };
+}
+
+impl<'a> BorrowedItem for SubjectPublicKeyInfoRef<'a> {
+    ghost borrowed = { refl };
+}
+
+impl<'a> Nestable for SubjectPublicKeyInfoRef<'a> {
+    ghost nestable = { Prim.omega arith };
+}
