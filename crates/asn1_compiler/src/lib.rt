@@ -5,6 +5,7 @@
 mod base_form;
 mod checks;
 mod command;
+mod compiled;
 mod component;
 mod constant;
 mod constraint;
@@ -35,6 +36,7 @@ mod type_node;
 mod value;
 
 pub use checks::{Checks, check_module};
+pub use compiled::Compiled;
 pub use component::{Component, Presence};
 pub use constant::{Constant, NamedConstant};
 pub use constraint::Constraint;

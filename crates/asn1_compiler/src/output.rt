@@ -25,6 +25,7 @@ mod types;
 mod wrap;
 
 use crate::checks::{Checks, check_module};
+use crate::compiled::Compiled;
 use crate::external::External;
 use crate::failure::Failure;
 use crate::link::link_module;
@@ -34,7 +35,7 @@ use crate::output::file::{file_of, library_of, proof_of, root_of};
 use crate::output::naming::names_of;
 use crate::output::pieces::Written;
 use crate::output::summary::external_of;
-use crate::output::types::types_in_order;
+use crate::output::types::{left_out, types_in_order};
 use crate::parser::parse_module;
 pub use file::OutputFile;
 pub use rust_names::{pascal_name, snake_name};
@@ -79,7 +80,7 @@ pub fn compile<'a>(
     externals: &Vec<External<'a>>,
     text: &'a str,
     krate: &str,
-) -> Result<Vec<OutputFile>, Failure<'a>> {
+) -> Result<Compiled<'a>, Failure<'a>> {
     let (module, checks) = checked_module(alloc, externals, text)?;
     let names = names_of(alloc, &module)?;
     let types = types_in_order(alloc, &module, &checks.order, &names)?;
@@ -99,5 +100,6 @@ pub fn compile<'a>(
             files.push(proof_of(alloc, krate, piece)?)?;
         }
     }
-    Ok(files)
+    let left_out = left_out(alloc, &module)?;
+    Ok(Compiled { files, left_out })
 }

@@ -1,9 +1,11 @@
 //! The program as a function of its arguments, files and an output.
 
 use crate::command::CompileCommand;
+use crate::compiled::Compiled;
 use crate::external::External;
 use crate::failure::Failure;
 use crate::output::{OutputFile, compile, read_external};
+use crate::refusal::Refusal;
 use std::alloc::AllocError;
 use std::env::Args;
 use std::io::Write;
@@ -82,12 +84,33 @@ fn run_with<'a, R: Files + AllocGlobal, W: Write>(
     out: &mut W,
 ) -> u8 {
     match compile(rt.alloc(), externals, text, command.crate_name()) {
-        Ok(files) => match write_files(rt, command.out, &files) {
-            Ok(()) => 0,
+        Ok(compiled) => match write_files(rt, command.out, &compiled.files) {
+            Ok(()) => say_left_out(rt, &compiled, command.file, text, out),
             Err(_) => say("error: the files are not written\n", 1, out),
         },
         Err(failure) => say_failure(rt, &failure, command.file, text, out),
     }
+}
+
+/// Prints a line for each alternative that is left out.
+fn say_left_out<R: AllocGlobal, W: Write>(
+    rt: &R,
+    compiled: &Compiled<'_>,
+    name: &str,
+    text: &str,
+    out: &mut W,
+) -> u8 {
+    let mut lines = String::new(rt.alloc());
+    for left_out in compiled.left_out.iter() {
+        let expected = "a type that the library knows; this alternative is left out";
+        let Ok(line) = Refusal::of(*left_out, expected).line(rt.alloc(), name, text) else {
+            return say(OUT_OF_MEMORY, 1, out);
+        };
+        if lines.push_str("warning: ").is_err() || lines.push_str(line.as_str()).is_err() {
+            return say(OUT_OF_MEMORY, 1, out);
+        }
+    }
+    say(lines.as_str(), 0, out)
 }
 
 /// Prints why the module in the file `name` is refused.

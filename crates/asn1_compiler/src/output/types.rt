@@ -12,6 +12,7 @@ use crate::constraint::Constraint;
 use crate::endpoint::Endpoint;
 use crate::external_type::find_external;
 use crate::failure::Failure;
+use crate::item::Item;
 use crate::module::Module;
 use crate::named_number::NamedNumber;
 use crate::refusal::Refusal;
@@ -341,6 +342,30 @@ pub fn alternatives<'a>(
         }
     }
     Ok(found)
+}
+
+/// The names of the alternatives for which the library has no type.
+pub fn left_out<'a>(alloc: Global, module: &Module<'a>) -> Result<Vec<Item<'a>>, AllocError> {
+    let mut names = Vec::new(alloc);
+    for node in module.nodes.iter() {
+        if let TypeForm::Choice(alternatives) = &node.form {
+            push_unknown(module, alternatives, &mut names)?;
+        }
+    }
+    Ok(names)
+}
+
+fn push_unknown<'a>(
+    module: &Module<'a>,
+    alternatives: &Vec<Component<'a>>,
+    names: &mut Vec<Item<'a>>,
+) -> Result<(), AllocError> {
+    for alternative in alternatives.iter() {
+        if is_unknown(module, alternative.of) {
+            names.push(alternative.name)?;
+        }
+    }
+    Ok(())
 }
 
 fn is_unknown(module: &Module<'_>, index: usize) -> bool {

@@ -4,7 +4,7 @@ use std::alloc::{AllocError, Global};
 
 const WIDTH: usize = 100;
 
-/// The text, with long clauses broken in front of words that begin with `(` or `⟦`.
+/// The text, with long clauses broken in front of words that begin with `(` or `⟦`, and behind `;`.
 pub fn wrapped(alloc: Global, text: &str) -> Result<String, AllocError> {
     let mut out = String::new(alloc);
     for line in text.lines() {
@@ -19,19 +19,23 @@ pub fn wrapped(alloc: Global, text: &str) -> Result<String, AllocError> {
 }
 
 fn is_long_clause(line: &str) -> bool {
-    line.chars().count() > WIDTH && line.contains('⟦')
+    line.chars().count() > WIDTH && (line.contains('⟦') || line.contains("record {"))
 }
 
 fn push_wrapped(alloc: Global, out: &mut String, line: &str) -> Result<(), AllocError> {
     let mut column = 0usize;
     let mut group = String::new(alloc);
     let mut before = '(';
+    let mut is_end = false;
     for character in line.chars() {
-        if before == ' ' && (character == '(' || character == '⟦') {
+        if before == ' ' && (is_end || character == '(' || character == '⟦') {
             column = push_group(out, group.as_str(), column)?;
             group = String::new(alloc);
         }
         group.push(character)?;
+        if character != ' ' {
+            is_end = character == ';';
+        }
         before = character;
     }
     let _end = push_group(out, group.as_str(), column)?;

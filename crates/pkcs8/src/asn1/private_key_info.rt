@@ -5,7 +5,6 @@ ghost use Rattle.der.specs.Prelude.{map_ok};
 ghost use Rattle.der_asn1.specs.Item.{decodes_same};
 ghost use Rattle.der_asn1.specs.Meaning.{alternative, field, optional, sequence, sequence_is_item, sequence_item, two_fields};
 
-use crate::asn1::algorithm_identifier_ref::AlgorithmIdentifierRef;
 use crate::asn1::private_key_attributes::PrivateKeyAttributes;
 use crate::asn1::version::Version;
 use der::{
@@ -16,6 +15,7 @@ use der_asn1::{
     BitStringRef, BorrowedItem, DecodeItem, Described, Implicit, Item, NamedInteger, Nestable,
     OctetStringRef, Optional,
 };
+use spki::AlgorithmIdentifierRef;
 use std::alloc::Global;
 
 /// A private key with its algorithm (RFC 5958, 2, where it is OneAsymmetricKey), borrowed from the

@@ -1,0 +1,38 @@
+//! Written by asn1_compile from the module Parcels: change the module instead.
+//!
+//! The types of the module.
+
+mod address;
+mod delivery;
+mod handling;
+mod label;
+mod packing;
+mod parcel;
+mod parcel_part1;
+mod parcel_part2;
+mod parcel_part3;
+mod plan;
+mod property;
+mod seal;
+mod seal_text_tagged;
+mod stop;
+mod text;
+mod text_part1;
+mod text_part2;
+mod time;
+mod version;
+
+pub use address::{Address, AddressFields};
+pub use delivery::Delivery;
+pub use handling::{Handling, HandlingBit};
+pub use label::{Label, LabelFields};
+pub use packing::Packing;
+pub use parcel::{Parcel, ParcelFields, ParcelPackingDefault, ParcelVersionDefault};
+pub use plan::Plan;
+pub use property::{Property, PropertyFields};
+pub use seal::{Seal, SealFields};
+pub use seal_text_tagged::{SealTextTagged, SealTextTaggedFields};
+pub use stop::{Stop, StopFields};
+pub use text::Text;
+pub use time::{Time, TimeAlternatives};
+pub use version::Version;

@@ -1,0 +1,131 @@
+//! Written by asn1_compile from the module Parcels: change the module instead.
+//!
+//! Address.
+ghost use Rattle.std.specs.Prelude.{◌≡◌};
+ghost use Rattle.std.proofs.Common.{arith, refl};
+ghost use Rattle.der.specs.Prelude.{map_ok};
+ghost use Rattle.der_asn1.specs.Item.{decodes_same};
+ghost use Rattle.der_asn1.specs.Meaning.{alternative, field, optional, sequence, sequence_is_item, sequence_item, two_fields};
+
+use der::{
+    Decode, DecodeValue, Encode, EncodeValue, Error, FromFields, Header, Length, Reader, Sequence,
+    SliceReader, Writer, decode_sequence, field_refs,
+};
+use der_asn1::{
+    Application, BmpStringRef, BorrowedItem, DecodeItem, Described, Ia5StringRef, Implicit, Item,
+    Nestable, NumericStringRef, Optional, PrintableStringRef, Utf8StringRef,
+};
+use std::alloc::Global;
+
+/// Where somebody lives.
+#[derive(Clone, Copy, Drop)]
+pub struct Address<'a> {
+    /// name
+    pub name: Utf8StringRef<'a>,
+    /// street
+    pub street: PrintableStringRef<'a>,
+    /// code
+    pub code: Optional<Application<Implicit<NumericStringRef<'a>, 1>>>,
+    /// type
+    pub type_: Optional<Ia5StringRef<'a>>,
+    /// note
+    pub note: Optional<BmpStringRef<'a>>,
+}
+
+/// The fields of a [`Address`] in pairs, in the order in which they are encoded.
+pub type AddressFields<'a> = (
+    (Utf8StringRef<'a>, PrintableStringRef<'a>),
+    (
+        Optional<Application<Implicit<NumericStringRef<'a>, 1>>>,
+        (Optional<Ia5StringRef<'a>>, Optional<BmpStringRef<'a>>),
+    ),
+);
+
+impl<'a> FromFields<AddressFields<'a>> for Address<'a> {
+    ghost fields = { λ v. ((v.name, v.street), (v.code, (v.type_, v.note))) };
+
+    fn from_fields(members: AddressFields<'a>) -> Self {
+        let ((name, street), (code, (type_, note))) = members;
+        Address {
+            name,
+            street,
+            code,
+            type_,
+            note,
+        }
+    }
+}
+
+impl<'a> Sequence for Address<'a> {
+    ghost meaning = { sequence (two_fields (two_fields (field (alternative
+        ⟦<Utf8StringRef<'a> as Described>⟧.element)) (field (alternative
+        ⟦<PrintableStringRef<'a> as Described>⟧.element))) (two_fields (optional (alternative
+        ⟦<Application<Implicit<NumericStringRef<'a>, 1>> as Described>⟧.element)) (two_fields
+        (optional (alternative ⟦<Ia5StringRef<'a> as Described>⟧.element)) (optional (alternative
+        ⟦<BmpStringRef<'a> as Described>⟧.element)))))
+        ⟦<Address<'a> as FromFields<AddressFields<'a>>>⟧.fields };
+
+    ghost fits = { (refl, refl) };
+}
+
+/// Decodes the fields one after the other, with the errors of every [`Sequence`].
+impl<'a, R: Reader<Borrowed = &'a [u8]>> DecodeValue<R> for Address<'a> {
+    type Error = Error;
+
+    ghost decode_value_answers = { λ h s result t.
+        ⟦<AddressFields<'a> as Decode<SliceReader<'a>>>⟧.decode_answers s (map_ok
+        ⟦<Address<'a> as FromFields<AddressFields<'a>>>⟧.fields result) t };
+
+    fn decode_value(alloc: Global, reader: &mut R, header: Header) -> Result<Self, Error> {
+        decode_sequence::<R, AddressFields<'a>, Self>(alloc, reader, header)
+    }
+
+    fn is_value(&self) {
+        <Utf8StringRef<'a> as DecodeValue<R>>::is_value(&self.name);
+        <PrintableStringRef<'a> as DecodeValue<R>>::is_value(&self.street);
+        if let Some(value) = &self.code.0 {
+            <Application<Implicit<NumericStringRef<'a>, 1>> as DecodeValue<R>>::is_value(value);
+        }
+        if let Some(value) = &self.type_.0 {
+            <Ia5StringRef<'a> as DecodeValue<R>>::is_value(value);
+        }
+        if let Some(value) = &self.note.0 {
+            <BmpStringRef<'a> as DecodeValue<R>>::is_value(value);
+        }
+    }
+}
+
+/// Writes the fields one after the other, with the errors of every [`Sequence`].
+impl<'a> EncodeValue for Address<'a> {
+    ghost value_size = { λ v. ⟦<AddressFields<'a> as Encode>⟧.size
+        (⟦<Address<'a> as FromFields<AddressFields<'a>>>⟧.fields v) };
+
+    ghost encode_value_answers = { λ v. ⟦<AddressFields<'a> as Encode>⟧.encode_answers
+        (⟦<Address<'a> as FromFields<AddressFields<'a>>>⟧.fields v) };
+
+    fn value_len(&self) -> Result<Length, Error> {
+        field_refs!(self, ((name, street), (code, (type_, note)))).encoded_len()
+    }
+
+    fn encode_value<W: Writer>(&self, writer: &mut W) -> Result<(), Error> {
+        field_refs!(self, ((name, street), (code, (type_, note)))).encode(writer)
+    }
+}
+
+impl<'a> Item for Address<'a> {
+    ghost item = { sequence_item ⟦<Address<'a> as Described>⟧.element };
+}
+
+impl<'a, R: Reader<Borrowed = &'a [u8]>> DecodeItem<R> for Address<'a> {
+    ghost is_item = { sequence_is_item ⟦<Address<'a> as Described>⟧.element refl };
+
+    ghost decodes_items = { decodes_same (sequence_item ⟦<Address<'a> as Described>⟧.element) };
+}
+
+impl<'a> BorrowedItem for Address<'a> {
+    ghost borrowed = { refl };
+}
+
+impl<'a> Nestable for Address<'a> {
+    ghost nestable = { Prim.omega arith };
+}

@@ -1,0 +1,120 @@
+//! Written by asn1_compile from the module Parcels: change the module instead.
+//!
+//! Label.
+ghost use Rattle.std.specs.Prelude.{◌≡◌};
+ghost use Rattle.std.proofs.Common.{arith, refl};
+ghost use Rattle.der.specs.Prelude.{map_ok};
+ghost use Rattle.der_asn1.specs.Item.{decodes_same};
+ghost use Rattle.der_asn1.specs.Meaning.{alternative, field, optional, sequence, sequence_is_item, sequence_item, two_fields};
+
+use crate::asn1::seal::Seal;
+use der::{
+    Decode, DecodeValue, Encode, EncodeValue, Error, FromFields, Header, Length, Reader, Sequence,
+    SliceReader, Writer, decode_sequence, field_refs,
+};
+use der_asn1::{
+    BitStringRef, BorrowedItem, DecodeItem, Described, Implicit, Item, Nestable, OctetStringRef,
+    Optional,
+};
+use std::alloc::Global;
+
+/// What stands on a parcel: its octets, or a picture, or the encoding of an address.
+#[derive(Clone, Copy, Drop)]
+pub struct Label<'a> {
+    /// picture
+    pub picture: BitStringRef<'a>,
+    /// octets
+    pub octets: OctetStringRef<'a>,
+    /// address
+    pub address: OctetStringRef<'a>,
+    /// seal
+    pub seal: Optional<Implicit<Seal<'a>, 0>>,
+}
+
+/// The fields of a [`Label`] in pairs, in the order in which they are encoded.
+pub type LabelFields<'a> = (
+    (BitStringRef<'a>, OctetStringRef<'a>),
+    (OctetStringRef<'a>, Optional<Implicit<Seal<'a>, 0>>),
+);
+
+impl<'a> FromFields<LabelFields<'a>> for Label<'a> {
+    ghost fields = { λ v. ((v.picture, v.octets), (v.address, v.seal)) };
+
+    fn from_fields(members: LabelFields<'a>) -> Self {
+        let ((picture, octets), (address, seal)) = members;
+        Label {
+            picture,
+            octets,
+            address,
+            seal,
+        }
+    }
+}
+
+impl<'a> Sequence for Label<'a> {
+    ghost meaning = { sequence (two_fields (two_fields (field (alternative
+        ⟦<BitStringRef<'a> as Described>⟧.element)) (field (alternative
+        ⟦<OctetStringRef<'a> as Described>⟧.element))) (two_fields (field (alternative
+        ⟦<OctetStringRef<'a> as Described>⟧.element)) (optional (alternative
+        ⟦<Implicit<Seal<'a>, 0> as Described>⟧.element))))
+        ⟦<Label<'a> as FromFields<LabelFields<'a>>>⟧.fields };
+
+    ghost fits = { (refl, refl) };
+}
+
+/// Decodes the fields one after the other, with the errors of every [`Sequence`].
+impl<'a, R: Reader<Borrowed = &'a [u8]>> DecodeValue<R> for Label<'a> {
+    type Error = Error;
+
+    ghost decode_value_answers = { λ h s result t.
+        ⟦<LabelFields<'a> as Decode<SliceReader<'a>>>⟧.decode_answers s (map_ok
+        ⟦<Label<'a> as FromFields<LabelFields<'a>>>⟧.fields result) t };
+
+    fn decode_value(alloc: Global, reader: &mut R, header: Header) -> Result<Self, Error> {
+        decode_sequence::<R, LabelFields<'a>, Self>(alloc, reader, header)
+    }
+
+    fn is_value(&self) {
+        <BitStringRef<'a> as DecodeValue<R>>::is_value(&self.picture);
+        <OctetStringRef<'a> as DecodeValue<R>>::is_value(&self.octets);
+        <OctetStringRef<'a> as DecodeValue<R>>::is_value(&self.address);
+        if let Some(value) = &self.seal.0 {
+            <Implicit<Seal<'a>, 0> as DecodeValue<R>>::is_value(value);
+        }
+    }
+}
+
+/// Writes the fields one after the other, with the errors of every [`Sequence`].
+impl<'a> EncodeValue for Label<'a> {
+    ghost value_size = { λ v. ⟦<LabelFields<'a> as Encode>⟧.size
+        (⟦<Label<'a> as FromFields<LabelFields<'a>>>⟧.fields v) };
+
+    ghost encode_value_answers = { λ v. ⟦<LabelFields<'a> as Encode>⟧.encode_answers
+        (⟦<Label<'a> as FromFields<LabelFields<'a>>>⟧.fields v) };
+
+    fn value_len(&self) -> Result<Length, Error> {
+        field_refs!(self, ((picture, octets), (address, seal))).encoded_len()
+    }
+
+    fn encode_value<W: Writer>(&self, writer: &mut W) -> Result<(), Error> {
+        field_refs!(self, ((picture, octets), (address, seal))).encode(writer)
+    }
+}
+
+impl<'a> Item for Label<'a> {
+    ghost item = { sequence_item ⟦<Label<'a> as Described>⟧.element };
+}
+
+impl<'a, R: Reader<Borrowed = &'a [u8]>> DecodeItem<R> for Label<'a> {
+    ghost is_item = { sequence_is_item ⟦<Label<'a> as Described>⟧.element refl };
+
+    ghost decodes_items = { decodes_same (sequence_item ⟦<Label<'a> as Described>⟧.element) };
+}
+
+impl<'a> BorrowedItem for Label<'a> {
+    ghost borrowed = { refl };
+}
+
+impl<'a> Nestable for Label<'a> {
+    ghost nestable = { Prim.omega arith };
+}

@@ -1,0 +1,100 @@
+//! Written by asn1_compile from the module Parcels: change the module instead.
+//!
+//! Property.
+ghost use Rattle.std.specs.Prelude.{◌≡◌};
+ghost use Rattle.std.proofs.Common.{arith, refl};
+ghost use Rattle.der.specs.Prelude.{map_ok};
+ghost use Rattle.der_asn1.specs.Item.{decodes_same};
+ghost use Rattle.der_asn1.specs.Meaning.{alternative, field, sequence, sequence_is_item, sequence_item, two_fields};
+
+use der::{
+    Decode, DecodeValue, Encode, EncodeValue, Error, FromFields, Header, Length, Reader, Sequence,
+    SliceReader, Writer, decode_sequence, field_refs,
+};
+use der_asn1::{
+    BorrowedItem, DecodeItem, Described, ExplicitAny, Item, Nestable, ObjectIdentifierRef, Private,
+};
+use std::alloc::Global;
+
+/// A property of a kind that its object identifier tells.
+#[derive(Clone, Copy, Drop)]
+pub struct Property<'a> {
+    /// kind
+    pub kind: ObjectIdentifierRef<'a>,
+    /// value
+    pub value: Private<ExplicitAny<'a, 1>>,
+}
+
+/// The fields of a [`Property`] in pairs, in the order in which they are encoded.
+pub type PropertyFields<'a> = (ObjectIdentifierRef<'a>, Private<ExplicitAny<'a, 1>>);
+
+impl<'a> FromFields<PropertyFields<'a>> for Property<'a> {
+    ghost fields = { λ v. (v.kind, v.value) };
+
+    fn from_fields(members: PropertyFields<'a>) -> Self {
+        let (kind, value) = members;
+        Property { kind, value }
+    }
+}
+
+impl<'a> Sequence for Property<'a> {
+    ghost meaning = { sequence (two_fields (field (alternative
+        ⟦<ObjectIdentifierRef<'a> as Described>⟧.element)) (field (alternative
+        ⟦<Private<ExplicitAny<'a, 1>> as Described>⟧.element)))
+        ⟦<Property<'a> as FromFields<PropertyFields<'a>>>⟧.fields };
+
+    ghost fits = { (refl, refl) };
+}
+
+/// Decodes the fields one after the other, with the errors of every [`Sequence`].
+impl<'a, R: Reader<Borrowed = &'a [u8]>> DecodeValue<R> for Property<'a> {
+    type Error = Error;
+
+    ghost decode_value_answers = { λ h s result t.
+        ⟦<PropertyFields<'a> as Decode<SliceReader<'a>>>⟧.decode_answers s (map_ok
+        ⟦<Property<'a> as FromFields<PropertyFields<'a>>>⟧.fields result) t };
+
+    fn decode_value(alloc: Global, reader: &mut R, header: Header) -> Result<Self, Error> {
+        decode_sequence::<R, PropertyFields<'a>, Self>(alloc, reader, header)
+    }
+
+    fn is_value(&self) {
+        <ObjectIdentifierRef<'a> as DecodeValue<R>>::is_value(&self.kind);
+        <Private<ExplicitAny<'a, 1>> as DecodeValue<R>>::is_value(&self.value);
+    }
+}
+
+/// Writes the fields one after the other, with the errors of every [`Sequence`].
+impl<'a> EncodeValue for Property<'a> {
+    ghost value_size = { λ v. ⟦<PropertyFields<'a> as Encode>⟧.size
+        (⟦<Property<'a> as FromFields<PropertyFields<'a>>>⟧.fields v) };
+
+    ghost encode_value_answers = { λ v. ⟦<PropertyFields<'a> as Encode>⟧.encode_answers
+        (⟦<Property<'a> as FromFields<PropertyFields<'a>>>⟧.fields v) };
+
+    fn value_len(&self) -> Result<Length, Error> {
+        field_refs!(self, (kind, value)).encoded_len()
+    }
+
+    fn encode_value<W: Writer>(&self, writer: &mut W) -> Result<(), Error> {
+        field_refs!(self, (kind, value)).encode(writer)
+    }
+}
+
+impl<'a> Item for Property<'a> {
+    ghost item = { sequence_item ⟦<Property<'a> as Described>⟧.element };
+}
+
+impl<'a, R: Reader<Borrowed = &'a [u8]>> DecodeItem<R> for Property<'a> {
+    ghost is_item = { sequence_is_item ⟦<Property<'a> as Described>⟧.element refl };
+
+    ghost decodes_items = { decodes_same (sequence_item ⟦<Property<'a> as Described>⟧.element) };
+}
+
+impl<'a> BorrowedItem for Property<'a> {
+    ghost borrowed = { refl };
+}
+
+impl<'a> Nestable for Property<'a> {
+    ghost nestable = { Prim.omega arith };
+}

@@ -1,0 +1,112 @@
+//! Written by asn1_compile from the module Parcels: change the module instead.
+//!
+//! Seal.
+ghost use Rattle.std.specs.Prelude.{◌≡◌};
+ghost use Rattle.std.proofs.Common.{arith, refl};
+ghost use Rattle.der.specs.Prelude.{map_ok};
+ghost use Rattle.der_asn1.specs.Item.{decodes_same};
+ghost use Rattle.der_asn1.specs.Meaning.{alternative, any_element, field, optional, sequence, sequence_is_item, sequence_item, two_fields};
+
+use crate::asn1::seal_text_tagged::SealTextTagged;
+use der::{
+    Decode, DecodeValue, Encode, EncodeValue, Error, FromFields, Header, Length, Reader, Sequence,
+    SliceReader, Writer, decode_sequence, field_refs,
+};
+use der_asn1::{AnyRef, BorrowedItem, DecodeItem, Described, Implicit, Item, Nestable, Optional};
+use spki::AlgorithmIdentifierRef;
+use std::alloc::Global;
+
+/// How a label is sealed.
+#[derive(Clone, Copy, Drop)]
+pub struct Seal<'a> {
+    /// algorithm
+    pub algorithm: AlgorithmIdentifierRef<'a>,
+    /// text
+    pub text: Implicit<SealTextTagged<'a>, 0>,
+    /// extra
+    pub extra: Optional<AnyRef<'a>>,
+}
+
+/// The fields of a [`Seal`] in pairs, in the order in which they are encoded.
+pub type SealFields<'a> = (
+    AlgorithmIdentifierRef<'a>,
+    (Implicit<SealTextTagged<'a>, 0>, Optional<AnyRef<'a>>),
+);
+
+impl<'a> FromFields<SealFields<'a>> for Seal<'a> {
+    ghost fields = { λ v. (v.algorithm, (v.text, v.extra)) };
+
+    fn from_fields(members: SealFields<'a>) -> Self {
+        let (algorithm, (text, extra)) = members;
+        Seal {
+            algorithm,
+            text,
+            extra,
+        }
+    }
+}
+
+impl<'a> Sequence for Seal<'a> {
+    ghost meaning = { sequence (two_fields (field (alternative
+        ⟦<AlgorithmIdentifierRef<'a> as Described>⟧.element)) (two_fields (field (alternative
+        ⟦<Implicit<SealTextTagged<'a>, 0> as Described>⟧.element)) (optional any_element)))
+        ⟦<Seal<'a> as FromFields<SealFields<'a>>>⟧.fields };
+
+    ghost fits = { (refl, refl) };
+}
+
+/// Decodes the fields one after the other, with the errors of every [`Sequence`].
+impl<'a, R: Reader<Borrowed = &'a [u8]>> DecodeValue<R> for Seal<'a> {
+    type Error = Error;
+
+    ghost decode_value_answers = { λ h s result t.
+        ⟦<SealFields<'a> as Decode<SliceReader<'a>>>⟧.decode_answers s (map_ok
+        ⟦<Seal<'a> as FromFields<SealFields<'a>>>⟧.fields result) t };
+
+    fn decode_value(alloc: Global, reader: &mut R, header: Header) -> Result<Self, Error> {
+        decode_sequence::<R, SealFields<'a>, Self>(alloc, reader, header)
+    }
+
+    fn is_value(&self) {
+        <AlgorithmIdentifierRef<'a> as DecodeValue<R>>::is_value(&self.algorithm);
+        <Implicit<SealTextTagged<'a>, 0> as DecodeValue<R>>::is_value(&self.text);
+        if let Some(value) = &self.extra.0 {
+            <AnyRef<'a> as DecodeValue<R>>::is_value(value);
+        }
+    }
+}
+
+/// Writes the fields one after the other, with the errors of every [`Sequence`].
+impl<'a> EncodeValue for Seal<'a> {
+    ghost value_size = { λ v. ⟦<SealFields<'a> as Encode>⟧.size
+        (⟦<Seal<'a> as FromFields<SealFields<'a>>>⟧.fields v) };
+
+    ghost encode_value_answers = { λ v. ⟦<SealFields<'a> as Encode>⟧.encode_answers
+        (⟦<Seal<'a> as FromFields<SealFields<'a>>>⟧.fields v) };
+
+    fn value_len(&self) -> Result<Length, Error> {
+        field_refs!(self, (algorithm, (text, extra))).encoded_len()
+    }
+
+    fn encode_value<W: Writer>(&self, writer: &mut W) -> Result<(), Error> {
+        field_refs!(self, (algorithm, (text, extra))).encode(writer)
+    }
+}
+
+impl<'a> Item for Seal<'a> {
+    ghost item = { sequence_item ⟦<Seal<'a> as Described>⟧.element };
+}
+
+impl<'a, R: Reader<Borrowed = &'a [u8]>> DecodeItem<R> for Seal<'a> {
+    ghost is_item = { sequence_is_item ⟦<Seal<'a> as Described>⟧.element refl };
+
+    ghost decodes_items = { decodes_same (sequence_item ⟦<Seal<'a> as Described>⟧.element) };
+}
+
+impl<'a> BorrowedItem for Seal<'a> {
+    ghost borrowed = { refl };
+}
+
+impl<'a> Nestable for Seal<'a> {
+    ghost nestable = { Prim.omega arith };
+}

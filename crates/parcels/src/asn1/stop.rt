@@ -1,0 +1,111 @@
+//! Written by asn1_compile from the module Parcels: change the module instead.
+//!
+//! Stop.
+ghost use Rattle.std.specs.Prelude.{◌≡◌};
+ghost use Rattle.std.proofs.Common.{arith, refl};
+ghost use Rattle.der.specs.Prelude.{map_ok};
+ghost use Rattle.der_asn1.specs.Item.{decodes_same};
+ghost use Rattle.der_asn1.specs.Meaning.{alternative, field, sequence, sequence_is_item, sequence_item, two_fields};
+
+use crate::asn1::text::Text;
+use crate::asn1::time::Time;
+use der::{
+    Decode, DecodeValue, Encode, EncodeValue, Error, FromFields, Header, Length, Reader, Sequence,
+    SliceReader, Writer, decode_sequence, field_refs,
+};
+use der_asn1::{
+    BorrowedItem, DecodeItem, Described, DescribedChoice, GeneralizedTime, Item, Nestable, Null,
+    PrintableStringRef, TeletexStringRef, UtcTime, Utf8StringRef, VisibleStringRef,
+};
+use std::alloc::Global;
+
+/// A place on the way, and when the parcel was there.
+#[derive(Clone, Copy, Drop)]
+pub struct Stop<'a> {
+    /// place
+    pub place: Text<'a>,
+    /// time
+    pub time: Time<'a>,
+}
+
+/// The fields of a [`Stop`] in pairs, in the order in which they are encoded.
+pub type StopFields<'a> = (Text<'a>, Time<'a>);
+
+impl<'a> FromFields<StopFields<'a>> for Stop<'a> {
+    ghost fields = { λ v. (v.place, v.time) };
+
+    fn from_fields(members: StopFields<'a>) -> Self {
+        let (place, time) = members;
+        Stop { place, time }
+    }
+}
+
+impl<'a> Sequence for Stop<'a> {
+    ghost meaning = { sequence (two_fields (field ⟦<Text<'a> as DescribedChoice>⟧.alternative)
+        (field ⟦<Time<'a> as DescribedChoice>⟧.alternative))
+        ⟦<Stop<'a> as FromFields<StopFields<'a>>>⟧.fields };
+
+    ghost fits = { (refl, refl) };
+}
+
+/// Decodes the fields one after the other, with the errors of every [`Sequence`].
+impl<'a, R: Reader<Borrowed = &'a [u8]>> DecodeValue<R> for Stop<'a> {
+    type Error = Error;
+
+    ghost decode_value_answers = { λ h s result t.
+        ⟦<StopFields<'a> as Decode<SliceReader<'a>>>⟧.decode_answers s (map_ok
+        ⟦<Stop<'a> as FromFields<StopFields<'a>>>⟧.fields result) t };
+
+    fn decode_value(alloc: Global, reader: &mut R, header: Header) -> Result<Self, Error> {
+        decode_sequence::<R, StopFields<'a>, Self>(alloc, reader, header)
+    }
+
+    fn is_value(&self) {
+        match &self.place {
+            Text::Printable(value) => <PrintableStringRef<'a> as DecodeValue<R>>::is_value(value),
+            Text::Utf8(value) => <Utf8StringRef<'a> as DecodeValue<R>>::is_value(value),
+            Text::Teletex(value) => <TeletexStringRef<'a> as DecodeValue<R>>::is_value(value),
+            Text::Visible(value) => <VisibleStringRef<'a> as DecodeValue<R>>::is_value(value),
+        }
+        match &self.time {
+            Time::Utc(value) => <UtcTime as DecodeValue<R>>::is_value(value),
+            Time::General(value) => <GeneralizedTime as DecodeValue<R>>::is_value(value),
+            Time::Unknown(value) => <Null<'a> as DecodeValue<R>>::is_value(value),
+        }
+    }
+}
+
+/// Writes the fields one after the other, with the errors of every [`Sequence`].
+impl<'a> EncodeValue for Stop<'a> {
+    ghost value_size = { λ v. ⟦<StopFields<'a> as Encode>⟧.size
+        (⟦<Stop<'a> as FromFields<StopFields<'a>>>⟧.fields v) };
+
+    ghost encode_value_answers = { λ v. ⟦<StopFields<'a> as Encode>⟧.encode_answers
+        (⟦<Stop<'a> as FromFields<StopFields<'a>>>⟧.fields v) };
+
+    fn value_len(&self) -> Result<Length, Error> {
+        field_refs!(self, (place, time)).encoded_len()
+    }
+
+    fn encode_value<W: Writer>(&self, writer: &mut W) -> Result<(), Error> {
+        field_refs!(self, (place, time)).encode(writer)
+    }
+}
+
+impl<'a> Item for Stop<'a> {
+    ghost item = { sequence_item ⟦<Stop<'a> as Described>⟧.element };
+}
+
+impl<'a, R: Reader<Borrowed = &'a [u8]>> DecodeItem<R> for Stop<'a> {
+    ghost is_item = { sequence_is_item ⟦<Stop<'a> as Described>⟧.element refl };
+
+    ghost decodes_items = { decodes_same (sequence_item ⟦<Stop<'a> as Described>⟧.element) };
+}
+
+impl<'a> BorrowedItem for Stop<'a> {
+    ghost borrowed = { refl };
+}
+
+impl<'a> Nestable for Stop<'a> {
+    ghost nestable = { Prim.omega arith };
+}

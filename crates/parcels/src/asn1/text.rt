@@ -1,0 +1,148 @@
+//! Written by asn1_compile from the module Parcels: change the module instead.
+//!
+//! Text.
+ghost use Rattle.std.specs.Prelude.{false};
+ghost use Rattle.std.proofs.Common.{refl};
+ghost use Rattle.der.specs.Prelude.{map_ok};
+ghost use Rattle.der_asn1.specs.Item.{decodes_same};
+ghost use Rattle.der_asn1.specs.Meaning.{alternative, choice_is_item, choice_item, choice_of, either};
+ghost use Rattle.der_asn1.specs.declared.either.Either.TheVariants.{First, Second};
+ghost use Rattle.parcels.specs.declared.asn1.text.Text.TheVariants as variant;
+
+use crate::asn1::text_part1::TextPart1;
+use crate::asn1::text_part2::TextPart2;
+use der::{Decode, Encode, Error, FromFields, Length, Reader, SliceReader, Tag, Writer};
+use der_asn1::{
+    BorrowedItem, Choice, DecodeItem, DescribedChoice, Either, Item, PrintableStringRef,
+    TeletexStringRef, Utf8StringRef, VisibleStringRef, decode_choice,
+};
+use std::alloc::Global;
+
+/// A text. The library has no UniversalString, which is left out.
+#[derive(Clone, Copy, Drop)]
+pub enum Text<'a> {
+    /// printable
+    Printable(PrintableStringRef<'a>),
+    /// utf8
+    Utf8(Utf8StringRef<'a>),
+    /// teletex
+    Teletex(TeletexStringRef<'a>),
+    /// visible
+    Visible(VisibleStringRef<'a>),
+}
+
+// The alternatives, as nested choices of two.
+pub(crate) type TextAlternatives<'a> = Either<TextPart1<'a>, TextPart2<'a>>;
+
+impl<'a> FromFields<TextAlternatives<'a>> for Text<'a> {
+    ghost fields = { elim [
+      | variant.Printable v ↦ First ((record { choice = First (v) }))
+      | variant.Utf8 v ↦ First ((record { choice = Second (First (v)) }))
+      | variant.Teletex v ↦ First ((record { choice = Second (Second (v)) }))
+      | variant.Visible v ↦ Second ((record { choice = v }))
+    ] };
+
+    fn from_fields(alternatives: TextAlternatives<'a>) -> Self {
+        match alternatives {
+            Either::First(
+                TextPart1 {
+                    choice: Either::First(value),
+                },
+            ) => Text::Printable(value),
+            Either::First(
+                TextPart1 {
+                    choice: Either::Second(Either::First(value)),
+                },
+            ) => Text::Utf8(value),
+            Either::First(
+                TextPart1 {
+                    choice: Either::Second(Either::Second(value)),
+                },
+            ) => Text::Teletex(value),
+            Either::Second(TextPart2 { choice: value }) => Text::Visible(value),
+        }
+    }
+}
+
+impl<'a> DescribedChoice for Text<'a> {
+    ghost alternative = { choice_of (either ⟦<TextPart1<'a> as DescribedChoice>⟧.alternative
+        ⟦<TextPart2<'a> as DescribedChoice>⟧.alternative)
+        ⟦<Text<'a> as FromFields<TextAlternatives<'a>>>⟧.fields };
+}
+
+/// Decodes the alternative whose tag is next, with the errors of [`Either`].
+impl<'a, R: Reader<Borrowed = &'a [u8]>> Decode<R> for Text<'a> {
+    type Error = Error;
+
+    ghost is_next = { ⟦<Text<'a> as DescribedChoice>⟧.alternative.is_next };
+
+    ghost decode_levels = { ⟦<Text<'a> as DescribedChoice>⟧.alternative.levels };
+
+    ghost allocates = { false };
+
+    ghost decode_answers = { λ s result t.
+        ⟦<TextAlternatives<'a> as Decode<SliceReader<'a>>>⟧.decode_answers s
+        (map_ok ⟦<Text<'a> as FromFields<TextAlternatives<'a>>>⟧.fields result) t };
+
+    fn decode(alloc: Global, reader: &mut R) -> Result<Self, Error> {
+        decode_choice::<R, TextAlternatives<'a>, Self>(alloc, reader)
+    }
+}
+
+impl<'a, R: Reader<Borrowed = &'a [u8]>> Choice<R> for Text<'a> {
+    ghost chooses = { ⟦<Text<'a> as DescribedChoice>⟧.alternative.tags };
+
+    fn can_decode(tag: Tag) -> bool {
+        <TextAlternatives<'a> as Choice<R>>::can_decode(tag)
+    }
+
+    ghost begins = { ⟦<Text<'a> as DescribedChoice>⟧.alternative.begins };
+}
+
+/// Writes the alternative that the value has.
+impl<'a> Encode for Text<'a> {
+    ghost encoding = { λ v. ⟦<TextAlternatives<'a> as Encode>⟧.encoding
+        (⟦<Text<'a> as FromFields<TextAlternatives<'a>>>⟧.fields v) };
+
+    ghost encodable = { λ v. ⟦<TextAlternatives<'a> as Encode>⟧.encodable
+        (⟦<Text<'a> as FromFields<TextAlternatives<'a>>>⟧.fields v) };
+
+    ghost size = { λ v. ⟦<TextAlternatives<'a> as Encode>⟧.size
+        (⟦<Text<'a> as FromFields<TextAlternatives<'a>>>⟧.fields v) };
+
+    ghost encode_answers = { λ v. ⟦<TextAlternatives<'a> as Encode>⟧.encode_answers
+        (⟦<Text<'a> as FromFields<TextAlternatives<'a>>>⟧.fields v) };
+
+    fn encoded_len(&self) -> Result<Length, Error> {
+        match self {
+            Text::Printable(value) => value.encoded_len(),
+            Text::Utf8(value) => value.encoded_len(),
+            Text::Teletex(value) => value.encoded_len(),
+            Text::Visible(value) => value.encoded_len(),
+        }
+    }
+
+    fn encode<W: Writer>(&self, writer: &mut W) -> Result<(), Error> {
+        match self {
+            Text::Printable(value) => value.encode(writer),
+            Text::Utf8(value) => value.encode(writer),
+            Text::Teletex(value) => value.encode(writer),
+            Text::Visible(value) => value.encode(writer),
+        }
+    }
+}
+
+impl<'a> Item for Text<'a> {
+    ghost item = { choice_item ⟦<Text<'a> as DescribedChoice>⟧.alternative };
+}
+
+impl<'a, R: Reader<Borrowed = &'a [u8]>> DecodeItem<R> for Text<'a> {
+    ghost is_item = { choice_is_item ⟦<Text<'a> as DescribedChoice>⟧.alternative refl };
+
+    ghost decodes_items = { decodes_same (choice_item
+        ⟦<Text<'a> as DescribedChoice>⟧.alternative) };
+}
+
+impl<'a> BorrowedItem for Text<'a> {
+    ghost borrowed = { refl };
+}
