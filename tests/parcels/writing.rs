@@ -1,0 +1,82 @@
+//! Parcels that are put together, and written.
+use super::octets::{SEAL, SMALL};
+use crate::checks::{holds, same_octets};
+use der::{Encode, Tag};
+use der_asn1::{
+    AnyRef, BooleanRef, DefaultValue, Defaulted, Explicit, Implicit, IntRef, IntegerIn, IntegerOf,
+    NamedInteger, ObjectIdentifierRef, Optional, PrintableStringRef, SequenceOf,
+    Utf8StringRef, WithDefault,
+};
+use parcels::{Address, Parcel, Seal, SealTextTagged, Text, Version};
+use spki::AlgorithmIdentifierRef;
+use std::alloc::Global;
+
+fn sender() -> Option<Address<'static>> {
+    Some(Address {
+        name: Utf8StringRef::new(b"Ann")?,
+        street: PrintableStringRef::new(b"Main St 1")?,
+        code: Optional(None),
+        type_: Optional(None),
+        note: Optional(None),
+    })
+}
+
+fn small(alloc: Global) -> Option<Parcel<'static>> {
+    Some(Parcel {
+        version: Defaulted(Explicit(WithDefault::new(NamedInteger::<Version>::new(Version::V1)))),
+        number: IntRef::new(&[7])?,
+        weight: IntegerIn::new(250)?,
+        packing: Defaulted(DefaultValue::default_value()),
+        handling: Optional(None),
+        opened: Defaulted(BooleanRef::new(&[0])?),
+        sender: Implicit(sender()?),
+        receiver: Optional(None),
+        stops: SequenceOf::new(alloc, &[]).ok()?,
+        properties: Optional(None),
+        label: Optional(None),
+        attempts: Defaulted(Implicit(WithDefault::new(IntegerOf { number: 0u64 }))),
+    })
+}
+
+#[test]
+fn a_parcel_with_defaults_is_written_without_them(rt: HostRuntime) {
+    let Some(parcel) = small(rt.alloc()) else {
+        holds(&rt, false);
+        return;
+    };
+    match parcel.to_der(rt.alloc()) {
+        Ok(written) => same_octets(&rt, written.as_slice(), &SMALL),
+        Err(_) => holds(&rt, false),
+    }
+}
+
+fn seal() -> Option<Seal<'static>> {
+    Some(Seal {
+        algorithm: AlgorithmIdentifierRef {
+            oid: ObjectIdentifierRef::new(&[0x2A, 0x87, 0x67, 2])?,
+            parameters: Optional(Some(AnyRef {
+                tag: Tag::Null,
+                contents: &[],
+            })),
+        },
+        text: Implicit(SealTextTagged {
+            value: Text::Utf8(Utf8StringRef::new(b"ok")?),
+        }),
+        extra: Optional(Some(AnyRef {
+            tag: Tag::OctetString,
+            contents: b"x",
+        })),
+    })
+}
+
+#[test]
+fn a_seal_is_written(rt: HostRuntime) {
+    let Some(seal) = seal() else {
+        holds(&rt, false);
+        return;
+    };
+    match seal.to_der(rt.alloc()) {
+        Ok(written) => same_octets(&rt, written.as_slice(), &SEAL),
+        Err(_) => holds(&rt, false),
+    }
+}
