@@ -129,12 +129,8 @@ fn push_constant<'a>(
     let name = constant_name(alloc, assigned.name.text)?;
     let (doc, name) = (doc.as_str(), name.as_str());
     match constant {
-        Constant::Number(number) => {
-            write!(out, "\n{doc}pub const {name}: u64 = {number};\n")
-        }
-        Constant::Negative(number) => {
-            write!(out, "\n{doc}pub const {name}: i64 = -{number};\n")
-        }
+        Constant::Number(number) => { write!(out, "\n{doc}pub const {name}: u64 = {number};\n") }
+        Constant::Negative(number) => { write!(out, "\n{doc}pub const {name}: i64 = -{number};\n") }
         Constant::Boolean(is_true) => {
             write!(out, "\n{doc}pub const {name}: bool = {is_true};\n")
         }
