@@ -8,7 +8,7 @@ fn every_type_is_accepted(rt: HostRuntime) -> Result<(), Fail> {
     let alloc = rt.alloc();
     for body in [
         "A ::= BOOLEAN",
-        "A ::= INTEGER { one(1), two(2) } (0..MAX)",
+        "A ::= INTEGER { one(1), two(b) } (0..MAX)\nb INTEGER ::= 2",
         "A ::= ENUMERATED { first(0), second(1), ... }",
         "A ::= BIT STRING { left(0), right(1) }",
         "A ::= OCTET STRING (SIZE (1..8))",
@@ -18,7 +18,7 @@ fn every_type_is_accepted(rt: HostRuntime) -> Result<(), Fail> {
         "A ::= SEQUENCE SIZE (1..MAX) OF B\nB ::= SET (SIZE (2)) OF UTF8String",
         "A ::= CHOICE { a [0] B, b [APPLICATION 1] IMPLICIT B, c UniversalString }\nB ::= UTCTime",
         "A ::= SEQUENCE { a [0] A-b DEFAULT { 1 2 }, b BOOLEAN DEFAULT FALSE, ... }\nA-b ::= ANY",
-        "id-a OBJECT IDENTIFIER ::= { iso(1) 2 id-b }\nupper INTEGER ::= -5 on BOOLEAN ::= TRUE",
+        "id-a OBJECT IDENTIFIER ::= { iso(1) 2 b }\nb INTEGER ::= 5 on BOOLEAN ::= TRUE",
         "-- a comment -- A ::= NULL -- to the end of the line\n/* of /* two */ lines\n*/ B ::= A",
         "",
     ] {
@@ -32,7 +32,7 @@ fn headers_are_accepted(rt: HostRuntime) -> Result<(), Fail> {
     let alloc = rt.alloc();
     for text in [
         "M { iso(1) 2 } DEFINITIONS ::= BEGIN EXPORTS A, b; END",
-        "M DEFINITIONS IMPLICIT TAGS ::= BEGIN IMPORTS A, b FROM N { 1 2 } C FROM O; D ::= A END",
+        "M DEFINITIONS IMPLICIT TAGS ::= BEGIN IMPORTS; D ::= NULL END",
     ] {
         same(&rt, refusal(alloc, text), None);
     }

@@ -1,6 +1,5 @@
 //! Names that are not defined, or defined twice, and types that contain themselves.
-use super::refusals::{refusal, refuses};
-use crate::checks::same;
+use super::refusals::refuses;
 use std::test::Fail;
 
 #[test]
@@ -20,14 +19,6 @@ fn names_are_defined_once(rt: HostRuntime) -> Result<(), Fail> {
     ] {
         refuses(&rt, alloc, body, place)?;
     }
-    Ok(())
-}
-
-#[test]
-fn imports_define_names(rt: HostRuntime) -> Result<(), Fail> {
-    let alloc = rt.alloc();
-    let text = "M DEFINITIONS ::= BEGIN IMPORTS A FROM N;\nA ::= NULL END";
-    same(&rt, refusal(alloc, text), Some((2, 1, "A")));
     Ok(())
 }
 

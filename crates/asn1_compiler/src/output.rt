@@ -13,6 +13,7 @@ mod imports;
 mod lists;
 mod naming;
 mod numbers;
+mod oid_octets;
 mod part;
 mod piece;
 mod pieces;
@@ -22,6 +23,7 @@ mod sequence;
 mod summary;
 mod template;
 mod types;
+mod values;
 mod wrap;
 
 use crate::checks::{Checks, check_module};
@@ -36,6 +38,7 @@ use crate::output::naming::names_of;
 use crate::output::pieces::Written;
 use crate::output::summary::external_of;
 use crate::output::types::{left_out, types_in_order};
+use crate::output::values::{values_file, values_name};
 use crate::parser::parse_module;
 pub use file::OutputFile;
 pub use rust_names::{pascal_name, snake_name};
@@ -93,7 +96,12 @@ pub fn compile<'a>(
     let pieces = written.pieces(alloc)?;
     let mut files = Vec::new(alloc);
     files.push(library_of(alloc, &pieces)?)?;
-    files.push(root_of(alloc, module.name.text, &pieces)?)?;
+    let values = values_file(alloc, &module, &pieces)?;
+    let values_module = values.is_some().then_some(values_name(&pieces));
+    files.push(root_of(alloc, module.name.text, &pieces, values_module)?)?;
+    if let Some(file) = values {
+        files.push(file)?;
+    }
     for piece in pieces.iter() {
         files.push(file_of(alloc, &module, krate, piece, &pieces)?)?;
         if !piece.proof.is_empty() {

@@ -56,14 +56,10 @@ fn add_component<'a>(
 ) -> Result<Option<usize>, Failure<'a>> {
     let item = item_at(items, at);
     if item.kind == ItemKind::LowerName && item_at(items, at.saturating_add(1)).is("(") {
-        let number = item_at(items, at.saturating_add(2));
-        let close = item_at(items, at.saturating_add(3));
+        let number = number_behind(items, at, item)?;
         let Some(arc) = number_of(scope, number)? else {
             return Ok(None);
         };
-        if !close.is(")") {
-            return Err(Failure::Refused(Refusal::of(close, ")")));
-        }
         add_arc(arcs, number, arc)?;
         return Ok(Some(at.saturating_add(4)));
     }
@@ -79,6 +75,19 @@ fn add_component<'a>(
     };
     add_arc(arcs, item, arc)?;
     Ok(Some(at.saturating_add(1)))
+}
+
+// The item in parentheses behind the name at this index.
+fn number_behind<'a>(
+    items: &Vec<Item<'a>>,
+    at: usize,
+    name: Item<'a>,
+) -> Result<Item<'a>, Refusal<'a>> {
+    let number = item_at(items, at.saturating_add(2));
+    if !item_at(items, at.saturating_add(3)).is(")") {
+        return Err(Refusal::of(name, "a name with one number in parentheses behind it"));
+    }
+    Ok(number)
 }
 
 // Adds the arcs of the value with this name; whether it is known.

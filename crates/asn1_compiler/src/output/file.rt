@@ -276,13 +276,21 @@ pub fn words_of(alloc: Global, names: &Vec<String>) -> Result<Vec<&str>, AllocEr
 }
 
 /// The file that names all others.
-pub fn root_of(alloc: Global, module: &str, all: &Vec<Piece>) -> Result<OutputFile, AllocError> {
+pub fn root_of(
+    alloc: Global,
+    module: &str,
+    all: &Vec<Piece>,
+    values: Option<&str>,
+) -> Result<OutputFile, AllocError> {
     let mut text = format!(in alloc;
         "//! Written by asn1_compile from the module {module}: change the module instead.\n//!\n//! The types of the module.\n\n"
     )?;
     for piece in all.iter() {
         let file = piece.file.as_str();
         text.push_str(format!(in alloc; "mod {file};\n")?.as_str())?;
+    }
+    if let Some(file) = values {
+        text.push_str(format!(in alloc; "pub mod {file};\n")?.as_str())?;
     }
     text.push('\n')?;
     for piece in all.iter() {

@@ -84,7 +84,7 @@ fn push_lines(alloc: Global, out: &mut String, names: &Vec<&str>) -> Result<(), 
     out.push_str(line.as_str())
 }
 
-/// Whether a name stands in a text as a word.
+/// Whether a name stands in a text as a word; a word behind `::` needs no import.
 pub fn has_word(text: &str, word: &str) -> bool {
     let octets = text.as_bytes();
     for at in 0..octets.len() {
@@ -96,7 +96,7 @@ pub fn has_word(text: &str, word: &str) -> bool {
 }
 
 fn is_word_at(octets: &[u8], at: usize, word: &[u8]) -> bool {
-    if at > octets.len() || (at > 0 && is_word_octet(octets[at - 1])) {
+    if at > octets.len() || (at > 0 && is_bound_octet(octets[at - 1])) {
         return false;
     }
     let rest = &octets[at..];
@@ -107,6 +107,11 @@ fn is_word_at(octets: &[u8], at: usize, word: &[u8]) -> bool {
         Some(octet) => !is_word_octet(*octet),
         None => true,
     }
+}
+
+// Whether a word in front of which this octet stands is a part of a word or of a path.
+fn is_bound_octet(octet: u8) -> bool {
+    is_word_octet(octet) || octet == b':'
 }
 
 /// Whether an octet may stand in a word of Rust.
