@@ -64,8 +64,8 @@ one INTEGER ::= 1\nupToName T ::= ub-name\nT ::= INTEGER\nnothing NULL ::= NULL"
             ] {
                 has_text(&rt, &files, "src/asn1/values.rt", line);
             }
-            has_text(&rt, &files, "src/asn1/version.rt", "pub type Version = IntegerIn<0, 1>;");
-            has_text(&rt, &files, "asn1.rt", "pub mod values;");
+            has_text(&rt, &files, "src/asn1/version.rt", "impl Enumeration for Version {");
+            has_text(&rt, &files, "src/asn1.rt", "pub mod values;");
         }
         Err(place) => same_at(&rt, body, Some(place), None),
     }

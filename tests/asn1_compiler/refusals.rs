@@ -1,6 +1,6 @@
 //! What the compiler answers for a module.
 use crate::checks::same_at;
-use asn1_compiler::{External, Failure, OutputFile, Position};
+use asn1_compiler::{Compiled, External, Failure, OutputFile, Position};
 use asn1_compiler::{checked_module, compile, read_external};
 use std::alloc::{AllocError, Global};
 use std::process::Abort;

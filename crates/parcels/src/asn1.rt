@@ -20,6 +20,7 @@ mod text;
 mod text_part1;
 mod text_part2;
 mod time;
+pub mod values;
 mod version;
 
 pub use address::{Address, AddressFields};

@@ -66,7 +66,28 @@ pub type ParcelFields<'a> = (
 );
 
 impl<'a> FromFields<(ParcelPart1<'a>, (ParcelPart2<'a>, ParcelPart3<'a>))> for Parcel<'a> {
-    ghost fields = { λ v. (record { version = v.version; number = v.number; weight = v.weight; packing = v.packing }, (record { handling = v.handling; opened = v.opened; sender = v.sender; receiver = v.receiver }, record { stops = v.stops; properties = v.properties; label = v.label; attempts = v.attempts })) };
+    ghost fields = { λ v. (
+      record {
+        version = v.version;
+        number = v.number;
+        weight = v.weight;
+        packing = v.packing;
+      },
+      (
+        record {
+          handling = v.handling;
+          opened = v.opened;
+          sender = v.sender;
+          receiver = v.receiver;
+        },
+        record {
+          stops = v.stops;
+          properties = v.properties;
+          label = v.label;
+          attempts = v.attempts;
+        },
+      ),
+    ) };
 
     fn from_fields(members: (ParcelPart1<'a>, (ParcelPart2<'a>, ParcelPart3<'a>))) -> Self {
         let (part1, (part2, part3)) = members;
