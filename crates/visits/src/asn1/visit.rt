@@ -1,0 +1,125 @@
+//! Written by asn1_compile from the module Visits: change the module instead.
+//!
+//! Visit.
+ghost use Rattle.std.specs.Prelude.{◌≡◌};
+ghost use Rattle.std.proofs.Common.{arith, refl};
+ghost use Rattle.der.specs.Prelude.{map_ok};
+ghost use Rattle.der_asn1.specs.Item.{decodes_same};
+ghost use Rattle.der_asn1.specs.Meaning.{alternative, field, sequence, sequence_is_item, sequence_item, two_fields};
+
+use der::{
+    Decode, DecodeValue, Encode, EncodeValue, Error, FromFields, Header, Length, Reader, Sequence,
+    SliceReader, Writer, decode_sequence, field_refs,
+};
+use der_asn1::{
+    BooleanRef, BorrowedItem, DecodeItem, Described, GeneralizedTime, IntRef, Item, Nestable,
+    SequenceOf, Utf8StringRef,
+};
+use std::alloc::Global;
+
+/// A visit, borrowed from the input.
+#[derive(Clone, Copy, Drop)]
+pub struct Visit<'a> {
+    /// The number of the ticket.
+    pub ticket: IntRef<'a>,
+    /// The name of the visitor.
+    pub visitor: Utf8StringRef<'a>,
+    /// When the visitor came.
+    pub arrival: GeneralizedTime,
+    /// The rooms that the visitor saw, first to last.
+    pub rooms: SequenceOf<'a, Utf8StringRef<'a>>,
+    /// Whether the visitor is a member.
+    pub member: BooleanRef<'a>,
+}
+
+/// The fields of a [`Visit`] in pairs, in the order in which they are encoded.
+pub type VisitFields<'a> = (
+    (IntRef<'a>, Utf8StringRef<'a>),
+    (
+        GeneralizedTime,
+        (SequenceOf<'a, Utf8StringRef<'a>>, BooleanRef<'a>),
+    ),
+);
+
+impl<'a> FromFields<VisitFields<'a>> for Visit<'a> {
+    ghost fields = { λ v. ((v.ticket, v.visitor), (v.arrival, (v.rooms, v.member))) };
+
+    fn from_fields(members: VisitFields<'a>) -> Self {
+        let ((ticket, visitor), (arrival, (rooms, member))) = members;
+        Visit {
+            ticket,
+            visitor,
+            arrival,
+            rooms,
+            member,
+        }
+    }
+}
+
+impl<'a> Sequence for Visit<'a> {
+    ghost meaning = { sequence (two_fields (two_fields (field (alternative
+        ⟦<IntRef<'a> as Described>⟧.element)) (field (alternative
+        ⟦<Utf8StringRef<'a> as Described>⟧.element))) (two_fields (field (alternative
+        ⟦<GeneralizedTime as Described>⟧.element)) (two_fields (field (alternative
+        ⟦<SequenceOf<'a, Utf8StringRef<'a>> as Described>⟧.element)) (field (alternative
+        ⟦<BooleanRef<'a> as Described>⟧.element)))))
+        ⟦<Visit<'a> as FromFields<VisitFields<'a>>>⟧.fields };
+
+    ghost fits = { (refl, refl) };
+}
+
+/// Decodes the fields one after the other, with the errors of every [`Sequence`].
+impl<'a, R: Reader<Borrowed = &'a [u8]>> DecodeValue<R> for Visit<'a> {
+    type Error = Error;
+
+    ghost decode_value_answers = { λ h s result t.
+        ⟦<VisitFields<'a> as Decode<SliceReader<'a>>>⟧.decode_answers s (map_ok
+        ⟦<Visit<'a> as FromFields<VisitFields<'a>>>⟧.fields result) t };
+
+    fn decode_value(alloc: Global, reader: &mut R, header: Header) -> Result<Self, Error> {
+        decode_sequence::<R, VisitFields<'a>, Self>(alloc, reader, header)
+    }
+
+    fn is_value(&self) {
+        <IntRef<'a> as DecodeValue<R>>::is_value(&self.ticket);
+        <Utf8StringRef<'a> as DecodeValue<R>>::is_value(&self.visitor);
+        <GeneralizedTime as DecodeValue<R>>::is_value(&self.arrival);
+        <SequenceOf<'a, Utf8StringRef<'a>> as DecodeValue<R>>::is_value(&self.rooms);
+        <BooleanRef<'a> as DecodeValue<R>>::is_value(&self.member);
+    }
+}
+
+/// Writes the fields one after the other, with the errors of every [`Sequence`].
+impl<'a> EncodeValue for Visit<'a> {
+    ghost value_size = { λ v. ⟦<VisitFields<'a> as Encode>⟧.size
+        (⟦<Visit<'a> as FromFields<VisitFields<'a>>>⟧.fields v) };
+
+    ghost encode_value_answers = { λ v. ⟦<VisitFields<'a> as Encode>⟧.encode_answers
+        (⟦<Visit<'a> as FromFields<VisitFields<'a>>>⟧.fields v) };
+
+    fn value_len(&self) -> Result<Length, Error> {
+        field_refs!(self, ((ticket, visitor), (arrival, (rooms, member)))).encoded_len()
+    }
+
+    fn encode_value<W: Writer>(&self, writer: &mut W) -> Result<(), Error> {
+        field_refs!(self, ((ticket, visitor), (arrival, (rooms, member)))).encode(writer)
+    }
+}
+
+impl<'a> Item for Visit<'a> {
+    ghost item = { sequence_item ⟦<Visit<'a> as Described>⟧.element };
+}
+
+impl<'a, R: Reader<Borrowed = &'a [u8]>> DecodeItem<R> for Visit<'a> {
+    ghost is_item = { sequence_is_item ⟦<Visit<'a> as Described>⟧.element refl };
+
+    ghost decodes_items = { decodes_same (sequence_item ⟦<Visit<'a> as Described>⟧.element) };
+}
+
+impl<'a> BorrowedItem for Visit<'a> {
+    ghost borrowed = { refl };
+}
+
+impl<'a> Nestable for Visit<'a> {
+    ghost nestable = { Prim.omega arith };
+}

@@ -1,0 +1,8 @@
+//! Visits to a museum: an example of types that are compiled from ASN.1.
+#![tactic(auto)]
+
+pub mod asn1;
+#[cfg(test)]
+mod visit_tests;
+
+pub use asn1::{Visit, VisitFields};
