@@ -1,14 +1,15 @@
 //! The constants of the types of keys and certificates, which no clause can name, and the functions
 //! that return the same. The tags are those of the ASN.1 modules.
 use crate::checks::holds;
-use crate::fixtures::constants::{grammar_tags_agree, tags_agree};
+use crate::fixtures::constants::tags_agree;
 use der::Tag;
-use pkcs8::{PrivateKeyAttributes, PrivateKeyAttributesGrammar, PrivateKeyInfo, PrivateKeyVersionGrammar};
+use der_asn1::NamedInteger;
+use pkcs8::{PrivateKeyAttribute, PrivateKeyAttributes, PrivateKeyInfo};
 use spki::{AlgorithmIdentifierRef, SubjectPublicKeyInfoRef};
 use x509::{
     Attribute, AttributeTypeAndValue, AttributeValues, CertReq, CertReqInfo, CertReqVersion,
-    CertReqVersionGrammar, Certificate, CertificateVersionGrammar, Extension, Extensions, Name,
-    RelativeDistinguishedName, TbsCertificate, Validity,
+    Certificate, Extension, Extensions, Name, RelativeDistinguishedName, TbsCertificate,
+    Validity,
 };
 
 // RFC 5280, 4.1: all SEQUENCEs, except a version.
@@ -19,7 +20,7 @@ fn types_of_certificates_report_equal_tags(rt: HostRuntime) {
     holds(&rt, tags_agree::<Validity>(Tag::Sequence, true));
     holds(&rt, tags_agree::<Extensions>(Tag::Sequence, true));
     holds(&rt, tags_agree::<Extension>(Tag::Sequence, true));
-    holds(&rt, tags_agree::<x509::Version>(Tag::Integer, false));
+    holds(&rt, tags_agree::<NamedInteger<x509::Version>>(Tag::Integer, false));
 }
 
 // RFC 5280, 4.1.2.4: a name is a SEQUENCE of SETs of SEQUENCEs.
@@ -35,7 +36,7 @@ fn types_of_names_report_equal_tags(rt: HostRuntime) {
 fn types_of_requests_report_equal_tags(rt: HostRuntime) {
     holds(&rt, tags_agree::<CertReq>(Tag::Sequence, true));
     holds(&rt, tags_agree::<CertReqInfo>(Tag::Sequence, true));
-    holds(&rt, tags_agree::<CertReqVersion>(Tag::Integer, false));
+    holds(&rt, tags_agree::<NamedInteger<CertReqVersion>>(Tag::Integer, false));
     holds(&rt, tags_agree::<Attribute>(Tag::Sequence, true));
     holds(&rt, tags_agree::<AttributeValues>(Tag::Set, true));
 }
@@ -46,14 +47,7 @@ fn types_of_keys_report_equal_tags(rt: HostRuntime) {
     holds(&rt, tags_agree::<AlgorithmIdentifierRef>(Tag::Sequence, true));
     holds(&rt, tags_agree::<SubjectPublicKeyInfoRef>(Tag::Sequence, true));
     holds(&rt, tags_agree::<PrivateKeyInfo>(Tag::Sequence, true));
-    holds(&rt, tags_agree::<pkcs8::Version>(Tag::Integer, false));
+    holds(&rt, tags_agree::<NamedInteger<pkcs8::Version>>(Tag::Integer, false));
     holds(&rt, tags_agree::<PrivateKeyAttributes>(Tag::Set, true));
-}
-
-#[test]
-fn grammars_report_equal_tags(rt: HostRuntime) {
-    holds(&rt, grammar_tags_agree::<CertificateVersionGrammar>(Tag::Integer));
-    holds(&rt, grammar_tags_agree::<CertReqVersionGrammar>(Tag::Integer));
-    holds(&rt, grammar_tags_agree::<PrivateKeyVersionGrammar>(Tag::Integer));
-    holds(&rt, grammar_tags_agree::<PrivateKeyAttributesGrammar>(Tag::Set));
+    holds(&rt, tags_agree::<PrivateKeyAttribute>(Tag::Sequence, true));
 }
