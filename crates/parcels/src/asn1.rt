@@ -3,6 +3,8 @@
 //! The types of the module.
 
 mod address;
+mod address_part1;
+mod address_part2;
 mod delivery;
 mod handling;
 mod label;

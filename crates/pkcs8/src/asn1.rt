@@ -1,8 +1,12 @@
-//! The types of the module PrivateKeys. Written by asn1_compile: change the module instead.
+//! Written by asn1_compile from the module PrivateKeys: change the module instead.
+//!
+//! The types of the module.
 
 mod private_key_attribute;
 mod private_key_attributes;
 mod private_key_info;
+mod private_key_info_part1;
+mod private_key_info_part2;
 mod version;
 
 pub use private_key_attribute::{PrivateKeyAttribute, PrivateKeyAttributeFields};

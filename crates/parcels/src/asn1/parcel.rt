@@ -20,7 +20,7 @@ use crate::asn1::stop::Stop;
 use crate::asn1::version::Version;
 use der::{
     Decode, DecodeValue, Encode, EncodeValue, Error, FromFields, Header, Length, Reader, Sequence,
-    SliceReader, Writer, decode_sequence, field_refs,
+    SliceReader, Writer, decode_sequence,
 };
 use der_asn1::{
     BooleanRef, BorrowedItem, DecodeItem, DefaultOf, DefaultU64, DefaultValue, Defaulted,
@@ -184,54 +184,49 @@ impl<'a, R: Reader<Borrowed = &'a [u8]>> DecodeValue<R> for Parcel<'a> {
 
 /// Writes the fields one after the other, with the errors of every [`Sequence`].
 impl<'a> EncodeValue for Parcel<'a> {
-    ghost value_size = { λ v. ⟦<ParcelFields<'a> as Encode>⟧.size (
-      ⟦<ParcelPart1<'a> as FromFields<ParcelPart1Fields<'a>>>⟧.fields
-          (⟦<Parcel<'a> as FromFields<(ParcelPart1<'a>, (ParcelPart2<'a>, ParcelPart3<'a>))>>⟧.fields v).0,
-      (
-        ⟦<ParcelPart2<'a> as FromFields<ParcelPart2Fields<'a>>>⟧.fields
-            (⟦<Parcel<'a> as FromFields<(ParcelPart1<'a>, (ParcelPart2<'a>, ParcelPart3<'a>))>>⟧.fields v).1.0,
-        ⟦<ParcelPart3<'a> as FromFields<ParcelPart3Fields<'a>>>⟧.fields
-            (⟦<Parcel<'a> as FromFields<(ParcelPart1<'a>, (ParcelPart2<'a>, ParcelPart3<'a>))>>⟧.fields v).1.1,
-      ),
-    ) };
+    ghost value_size = { λ v. ⟦<(ParcelPart1<'a>, (ParcelPart2<'a>, ParcelPart3<'a>)) as Encode>⟧.size
+        (⟦<Parcel<'a> as FromFields<(ParcelPart1<'a>, (ParcelPart2<'a>, ParcelPart3<'a>))>>⟧.fields v) };
 
-    ghost encode_value_answers = { λ v. ⟦<ParcelFields<'a> as Encode>⟧.encode_answers (
-      ⟦<ParcelPart1<'a> as FromFields<ParcelPart1Fields<'a>>>⟧.fields
-          (⟦<Parcel<'a> as FromFields<(ParcelPart1<'a>, (ParcelPart2<'a>, ParcelPart3<'a>))>>⟧.fields v).0,
-      (
-        ⟦<ParcelPart2<'a> as FromFields<ParcelPart2Fields<'a>>>⟧.fields
-            (⟦<Parcel<'a> as FromFields<(ParcelPart1<'a>, (ParcelPart2<'a>, ParcelPart3<'a>))>>⟧.fields v).1.0,
-        ⟦<ParcelPart3<'a> as FromFields<ParcelPart3Fields<'a>>>⟧.fields
-            (⟦<Parcel<'a> as FromFields<(ParcelPart1<'a>, (ParcelPart2<'a>, ParcelPart3<'a>))>>⟧.fields v).1.1,
-      ),
-    ) };
+    ghost encode_value_answers = { λ v. ⟦<(ParcelPart1<'a>, (ParcelPart2<'a>, ParcelPart3<'a>)) as Encode>⟧.encode_answers
+        (⟦<Parcel<'a> as FromFields<(ParcelPart1<'a>, (ParcelPart2<'a>, ParcelPart3<'a>))>>⟧.fields v) };
 
     fn value_len(&self) -> Result<Length, Error> {
-        field_refs!(
-            self,
-            (
-                ((version, number), (weight, packing)),
-                (
-                    ((handling, opened), (sender, receiver)),
-                    ((stops, properties), (label, attempts))
-                )
-            )
-        )
-        .encoded_len()
+        self.parts().encoded_len()
     }
 
     fn encode_value<W: Writer>(&self, writer: &mut W) -> Result<(), Error> {
-        field_refs!(
-            self,
+        self.parts().encode(writer)
+    }
+}
+
+impl<'a> Parcel<'a> {
+    // The fields in parts.
+    #[inline(always)]
+    fn parts(&self) -> (ParcelPart1<'a>, (ParcelPart2<'a>, ParcelPart3<'a>))
+        ensures { result ≡ ⟦<Parcel<'a> as FromFields<(ParcelPart1<'a>, (ParcelPart2<'a>, ParcelPart3<'a>))>>⟧.fields self.now }
+    {
+        (
+            ParcelPart1 {
+                version: self.version,
+                number: self.number,
+                weight: self.weight,
+                packing: self.packing,
+            },
             (
-                ((version, number), (weight, packing)),
-                (
-                    ((handling, opened), (sender, receiver)),
-                    ((stops, properties), (label, attempts))
-                )
-            )
+                ParcelPart2 {
+                    handling: self.handling,
+                    opened: self.opened,
+                    sender: self.sender,
+                    receiver: self.receiver,
+                },
+                ParcelPart3 {
+                    stops: self.stops,
+                    properties: self.properties,
+                    label: self.label,
+                    attempts: self.attempts,
+                },
+            ),
         )
-        .encode(writer)
     }
 }
 

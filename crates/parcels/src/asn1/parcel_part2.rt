@@ -6,7 +6,10 @@ ghost use Rattle.der.specs.Prelude.{map_ok};
 
 use crate::asn1::address::Address;
 use crate::asn1::handling::Handling;
-use der::{Decode, Error, FromFields, Reader, SliceReader, decode_fields};
+use der::{
+    Decode, Encode, Error, FromFields, Length, Reader, SliceReader, Writer, decode_fields,
+    field_refs,
+};
 use der_asn1::{BooleanRef, Defaulted, Implicit, Optional};
 use std::alloc::Global;
 
@@ -55,5 +58,29 @@ impl<'a, R: Reader<Borrowed = &'a [u8]>> Decode<R> for ParcelPart2<'a> {
 
     fn decode(alloc: Global, reader: &mut R) -> Result<Self, Error> {
         decode_fields::<R, ParcelPart2Fields<'a>, Self>(alloc, reader)
+    }
+}
+
+impl<'a> Encode for ParcelPart2<'a> {
+    ghost encoding = { λ v. ⟦<ParcelPart2Fields<'a> as Encode>⟧.encoding
+        (⟦<ParcelPart2<'a> as FromFields<ParcelPart2Fields<'a>>>⟧.fields v) };
+
+    ghost encodable = { λ v. ⟦<ParcelPart2Fields<'a> as Encode>⟧.encodable
+        (⟦<ParcelPart2<'a> as FromFields<ParcelPart2Fields<'a>>>⟧.fields v) };
+
+    ghost size = { λ v. ⟦<ParcelPart2Fields<'a> as Encode>⟧.size
+        (⟦<ParcelPart2<'a> as FromFields<ParcelPart2Fields<'a>>>⟧.fields v) };
+
+    ghost encode_answers = { λ v. ⟦<ParcelPart2Fields<'a> as Encode>⟧.encode_answers
+        (⟦<ParcelPart2<'a> as FromFields<ParcelPart2Fields<'a>>>⟧.fields v) };
+
+    #[inline(always)]
+    fn encoded_len(&self) -> Result<Length, Error> {
+        field_refs!(self, ((handling, opened), (sender, receiver))).encoded_len()
+    }
+
+    #[inline(always)]
+    fn encode<W: Writer>(&self, writer: &mut W) -> Result<(), Error> {
+        field_refs!(self, ((handling, opened), (sender, receiver))).encode(writer)
     }
 }

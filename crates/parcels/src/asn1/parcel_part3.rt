@@ -7,7 +7,10 @@ ghost use Rattle.der.specs.Prelude.{map_ok};
 use crate::asn1::label::Label;
 use crate::asn1::property::Property;
 use crate::asn1::stop::Stop;
-use der::{Decode, Error, FromFields, Reader, SliceReader, decode_fields};
+use der::{
+    Decode, Encode, Error, FromFields, Length, Reader, SliceReader, Writer, decode_fields,
+    field_refs,
+};
 use der_asn1::{
     DefaultU64, Defaulted, Implicit, IntegerOf, Optional, SequenceOf, SetOf, WithDefault,
 };
@@ -64,5 +67,29 @@ impl<'a, R: Reader<Borrowed = &'a [u8]>> Decode<R> for ParcelPart3<'a> {
 
     fn decode(alloc: Global, reader: &mut R) -> Result<Self, Error> {
         decode_fields::<R, ParcelPart3Fields<'a>, Self>(alloc, reader)
+    }
+}
+
+impl<'a> Encode for ParcelPart3<'a> {
+    ghost encoding = { λ v. ⟦<ParcelPart3Fields<'a> as Encode>⟧.encoding
+        (⟦<ParcelPart3<'a> as FromFields<ParcelPart3Fields<'a>>>⟧.fields v) };
+
+    ghost encodable = { λ v. ⟦<ParcelPart3Fields<'a> as Encode>⟧.encodable
+        (⟦<ParcelPart3<'a> as FromFields<ParcelPart3Fields<'a>>>⟧.fields v) };
+
+    ghost size = { λ v. ⟦<ParcelPart3Fields<'a> as Encode>⟧.size
+        (⟦<ParcelPart3<'a> as FromFields<ParcelPart3Fields<'a>>>⟧.fields v) };
+
+    ghost encode_answers = { λ v. ⟦<ParcelPart3Fields<'a> as Encode>⟧.encode_answers
+        (⟦<ParcelPart3<'a> as FromFields<ParcelPart3Fields<'a>>>⟧.fields v) };
+
+    #[inline(always)]
+    fn encoded_len(&self) -> Result<Length, Error> {
+        field_refs!(self, ((stops, properties), (label, attempts))).encoded_len()
+    }
+
+    #[inline(always)]
+    fn encode<W: Writer>(&self, writer: &mut W) -> Result<(), Error> {
+        field_refs!(self, ((stops, properties), (label, attempts))).encode(writer)
     }
 }

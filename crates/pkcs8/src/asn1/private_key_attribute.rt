@@ -1,4 +1,6 @@
-//! PrivateKeyAttribute of the module PrivateKeys. Written by asn1_compile: change the module instead.
+//! Written by asn1_compile from the module PrivateKeys: change the module instead.
+//!
+//! PrivateKeyAttribute.
 ghost use Rattle.std.specs.Prelude.{◌≡◌};
 ghost use Rattle.std.proofs.Common.{arith, refl};
 ghost use Rattle.der.specs.Prelude.{map_ok};
@@ -37,7 +39,10 @@ impl<'a> FromFields<PrivateKeyAttributeFields<'a>> for PrivateKeyAttribute<'a> {
 }
 
 impl<'a> Sequence for PrivateKeyAttribute<'a> {
-    ghost meaning = { sequence (two_fields (field (alternative ⟦<ObjectIdentifierRef<'a> as Described>⟧.element)) (field (alternative ⟦<SetOf<'a, AnyRef<'a>> as Described>⟧.element))) ⟦<PrivateKeyAttribute<'a> as FromFields<PrivateKeyAttributeFields<'a>>>⟧.fields };
+    ghost meaning = { sequence (two_fields (field (alternative
+        ⟦<ObjectIdentifierRef<'a> as Described>⟧.element)) (field (alternative
+        ⟦<SetOf<'a, AnyRef<'a>> as Described>⟧.element)))
+        ⟦<PrivateKeyAttribute<'a> as FromFields<PrivateKeyAttributeFields<'a>>>⟧.fields };
 
     ghost fits = { (refl, refl) };
 }
@@ -47,7 +52,8 @@ impl<'a, R: Reader<Borrowed = &'a [u8]>> DecodeValue<R> for PrivateKeyAttribute<
     type Error = Error;
 
     ghost decode_value_answers = { λ h s result t.
-        ⟦<PrivateKeyAttributeFields<'a> as Decode<SliceReader<'a>>>⟧.decode_answers s (map_ok ⟦<PrivateKeyAttribute<'a> as FromFields<PrivateKeyAttributeFields<'a>>>⟧.fields result) t };
+        ⟦<PrivateKeyAttributeFields<'a> as Decode<SliceReader<'a>>>⟧.decode_answers s (map_ok
+        ⟦<PrivateKeyAttribute<'a> as FromFields<PrivateKeyAttributeFields<'a>>>⟧.fields result) t };
 
     fn decode_value(alloc: Global, reader: &mut R, header: Header) -> Result<Self, Error> {
         decode_sequence::<R, PrivateKeyAttributeFields<'a>, Self>(alloc, reader, header)
@@ -61,9 +67,11 @@ impl<'a, R: Reader<Borrowed = &'a [u8]>> DecodeValue<R> for PrivateKeyAttribute<
 
 /// Writes the fields one after the other, with the errors of every [`Sequence`].
 impl<'a> EncodeValue for PrivateKeyAttribute<'a> {
-    ghost value_size = { λ v. ⟦<PrivateKeyAttributeFields<'a> as Encode>⟧.size (⟦<PrivateKeyAttribute<'a> as FromFields<PrivateKeyAttributeFields<'a>>>⟧.fields v) };
+    ghost value_size = { λ v. ⟦<PrivateKeyAttributeFields<'a> as Encode>⟧.size
+        (⟦<PrivateKeyAttribute<'a> as FromFields<PrivateKeyAttributeFields<'a>>>⟧.fields v) };
 
-    ghost encode_value_answers = { λ v. ⟦<PrivateKeyAttributeFields<'a> as Encode>⟧.encode_answers (⟦<PrivateKeyAttribute<'a> as FromFields<PrivateKeyAttributeFields<'a>>>⟧.fields v) };
+    ghost encode_value_answers = { λ v. ⟦<PrivateKeyAttributeFields<'a> as Encode>⟧.encode_answers
+        (⟦<PrivateKeyAttribute<'a> as FromFields<PrivateKeyAttributeFields<'a>>>⟧.fields v) };
 
     fn value_len(&self) -> Result<Length, Error> {
         field_refs!(self, (oid, attr_values)).encoded_len()
@@ -81,7 +89,8 @@ impl<'a> Item for PrivateKeyAttribute<'a> {
 impl<'a, R: Reader<Borrowed = &'a [u8]>> DecodeItem<R> for PrivateKeyAttribute<'a> {
     ghost is_item = { sequence_is_item ⟦<PrivateKeyAttribute<'a> as Described>⟧.element refl };
 
-    ghost decodes_items = { decodes_same (sequence_item ⟦<PrivateKeyAttribute<'a> as Described>⟧.element) };
+    ghost decodes_items = { decodes_same (sequence_item
+        ⟦<PrivateKeyAttribute<'a> as Described>⟧.element) };
 }
 
 impl<'a> BorrowedItem for PrivateKeyAttribute<'a> {

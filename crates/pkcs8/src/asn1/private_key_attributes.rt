@@ -1,4 +1,6 @@
-//! PrivateKeyAttributes of the module PrivateKeys. Written by asn1_compile: change the module instead.
+//! Written by asn1_compile from the module PrivateKeys: change the module instead.
+//!
+//! PrivateKeyAttributes.
 
 use crate::asn1::private_key_attribute::PrivateKeyAttribute;
 use der_asn1::SetOf;

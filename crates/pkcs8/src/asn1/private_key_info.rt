@@ -1,15 +1,19 @@
-//! PrivateKeyInfo of the module PrivateKeys. Written by asn1_compile: change the module instead.
+//! Written by asn1_compile from the module PrivateKeys: change the module instead.
+//!
+//! PrivateKeyInfo.
 ghost use Rattle.std.specs.Prelude.{◌≡◌};
 ghost use Rattle.std.proofs.Common.{arith, refl};
 ghost use Rattle.der.specs.Prelude.{map_ok};
 ghost use Rattle.der_asn1.specs.Item.{decodes_same};
-ghost use Rattle.der_asn1.specs.Meaning.{alternative, field, optional, sequence, sequence_is_item, sequence_item, two_fields};
+ghost use Rattle.der_asn1.specs.Meaning.{alternative, field, optional, seen, sequence, sequence_is_item, sequence_item, two_fields};
 
 use crate::asn1::private_key_attributes::PrivateKeyAttributes;
+use crate::asn1::private_key_info_part1::{PrivateKeyInfoPart1, PrivateKeyInfoPart1Fields};
+use crate::asn1::private_key_info_part2::{PrivateKeyInfoPart2, PrivateKeyInfoPart2Fields};
 use crate::asn1::version::Version;
 use der::{
     Decode, DecodeValue, Encode, EncodeValue, Error, FromFields, Header, Length, Reader, Sequence,
-    SliceReader, Writer, decode_sequence, field_refs,
+    SliceReader, Writer, decode_sequence,
 };
 use der_asn1::{
     BitStringRef, BorrowedItem, DecodeItem, Described, Implicit, Item, NamedInteger, Nestable,
@@ -37,34 +41,40 @@ pub struct PrivateKeyInfo<'a> {
 }
 
 /// The fields of a [`PrivateKeyInfo`] in pairs, in the order in which they are encoded.
-pub type PrivateKeyInfoFields<'a> = (
-    (NamedInteger<Version>, AlgorithmIdentifierRef<'a>),
-    (
-        OctetStringRef<'a>,
-        (
-            Optional<Implicit<PrivateKeyAttributes<'a>, 0>>,
-            Optional<Implicit<BitStringRef<'a>, 1>>,
-        ),
-    ),
-);
+pub type PrivateKeyInfoFields<'a> = (PrivateKeyInfoPart1Fields<'a>, PrivateKeyInfoPart2Fields<'a>);
 
-impl<'a> FromFields<PrivateKeyInfoFields<'a>> for PrivateKeyInfo<'a> {
-    ghost fields = { λ v. ((v.version, v.private_key_algorithm), (v.private_key, (v.attributes, v.public_key))) };
+impl<'a> FromFields<(PrivateKeyInfoPart1<'a>, PrivateKeyInfoPart2<'a>)> for PrivateKeyInfo<'a> {
+    ghost fields = { λ v. (
+      record {
+        version = v.version;
+        private_key_algorithm = v.private_key_algorithm;
+        private_key = v.private_key;
+      },
+      record { attributes = v.attributes; public_key = v.public_key },
+    ) };
 
-    fn from_fields(members: PrivateKeyInfoFields<'a>) -> Self {
-        let ((version, private_key_algorithm), (private_key, (attributes, public_key))) = members;
+    fn from_fields(members: (PrivateKeyInfoPart1<'a>, PrivateKeyInfoPart2<'a>)) -> Self {
+        let (part1, part2) = members;
         PrivateKeyInfo {
-            version,
-            private_key_algorithm,
-            private_key,
-            attributes,
-            public_key,
+            version: part1.version,
+            private_key_algorithm: part1.private_key_algorithm,
+            private_key: part1.private_key,
+            attributes: part2.attributes,
+            public_key: part2.public_key,
         }
     }
 }
 
 impl<'a> Sequence for PrivateKeyInfo<'a> {
-    ghost meaning = { sequence (two_fields (two_fields (field (alternative ⟦<NamedInteger<Version> as Described>⟧.element)) (field (alternative ⟦<AlgorithmIdentifierRef<'a> as Described>⟧.element))) (two_fields (field (alternative ⟦<OctetStringRef<'a> as Described>⟧.element)) (two_fields (optional (alternative ⟦<Implicit<PrivateKeyAttributes<'a>, 0> as Described>⟧.element)) (optional (alternative ⟦<Implicit<BitStringRef<'a>, 1> as Described>⟧.element))))) ⟦<PrivateKeyInfo<'a> as FromFields<PrivateKeyInfoFields<'a>>>⟧.fields };
+    ghost meaning = { sequence (two_fields (seen
+        ⟦<PrivateKeyInfoPart1<'a> as FromFields<PrivateKeyInfoPart1Fields<'a>>>⟧.fields (two_fields
+        (field (alternative ⟦<NamedInteger<Version> as Described>⟧.element)) (two_fields (field
+        (alternative ⟦<AlgorithmIdentifierRef<'a> as Described>⟧.element)) (field (alternative
+        ⟦<OctetStringRef<'a> as Described>⟧.element))))) (seen
+        ⟦<PrivateKeyInfoPart2<'a> as FromFields<PrivateKeyInfoPart2Fields<'a>>>⟧.fields (two_fields
+        (optional (alternative ⟦<Implicit<PrivateKeyAttributes<'a>, 0> as Described>⟧.element))
+        (optional (alternative ⟦<Implicit<BitStringRef<'a>, 1> as Described>⟧.element)))))
+        ⟦<PrivateKeyInfo<'a> as FromFields<(PrivateKeyInfoPart1<'a>, PrivateKeyInfoPart2<'a>)>>⟧.fields };
 
     ghost fits = { (refl, refl) };
 }
@@ -74,10 +84,14 @@ impl<'a, R: Reader<Borrowed = &'a [u8]>> DecodeValue<R> for PrivateKeyInfo<'a> {
     type Error = Error;
 
     ghost decode_value_answers = { λ h s result t.
-        ⟦<PrivateKeyInfoFields<'a> as Decode<SliceReader<'a>>>⟧.decode_answers s (map_ok ⟦<PrivateKeyInfo<'a> as FromFields<PrivateKeyInfoFields<'a>>>⟧.fields result) t };
+        ⟦<(PrivateKeyInfoPart1<'a>, PrivateKeyInfoPart2<'a>) as Decode<SliceReader<'a>>>⟧.decode_answers s
+        (map_ok
+        ⟦<PrivateKeyInfo<'a> as FromFields<(PrivateKeyInfoPart1<'a>, PrivateKeyInfoPart2<'a>)>>⟧.fields result) t };
 
     fn decode_value(alloc: Global, reader: &mut R, header: Header) -> Result<Self, Error> {
-        decode_sequence::<R, PrivateKeyInfoFields<'a>, Self>(alloc, reader, header)
+        decode_sequence::<R, (PrivateKeyInfoPart1<'a>, PrivateKeyInfoPart2<'a>), Self>(
+            alloc, reader, header,
+        )
     }
 
     fn is_value(&self) {
@@ -95,30 +109,40 @@ impl<'a, R: Reader<Borrowed = &'a [u8]>> DecodeValue<R> for PrivateKeyInfo<'a> {
 
 /// Writes the fields one after the other, with the errors of every [`Sequence`].
 impl<'a> EncodeValue for PrivateKeyInfo<'a> {
-    ghost value_size = { λ v. ⟦<PrivateKeyInfoFields<'a> as Encode>⟧.size (⟦<PrivateKeyInfo<'a> as FromFields<PrivateKeyInfoFields<'a>>>⟧.fields v) };
+    ghost value_size = { λ v. ⟦<(PrivateKeyInfoPart1<'a>, PrivateKeyInfoPart2<'a>) as Encode>⟧.size
+        (⟦<PrivateKeyInfo<'a> as FromFields<(PrivateKeyInfoPart1<'a>, PrivateKeyInfoPart2<'a>)>>⟧.fields v) };
 
-    ghost encode_value_answers = { λ v. ⟦<PrivateKeyInfoFields<'a> as Encode>⟧.encode_answers (⟦<PrivateKeyInfo<'a> as FromFields<PrivateKeyInfoFields<'a>>>⟧.fields v) };
+    ghost encode_value_answers = { λ v.
+        ⟦<(PrivateKeyInfoPart1<'a>, PrivateKeyInfoPart2<'a>) as Encode>⟧.encode_answers
+        (⟦<PrivateKeyInfo<'a> as FromFields<(PrivateKeyInfoPart1<'a>, PrivateKeyInfoPart2<'a>)>>⟧.fields v) };
 
     fn value_len(&self) -> Result<Length, Error> {
-        field_refs!(
-            self,
-            (
-                (version, private_key_algorithm),
-                (private_key, (attributes, public_key))
-            )
-        )
-        .encoded_len()
+        self.parts().encoded_len()
     }
 
     fn encode_value<W: Writer>(&self, writer: &mut W) -> Result<(), Error> {
-        field_refs!(
-            self,
-            (
-                (version, private_key_algorithm),
-                (private_key, (attributes, public_key))
-            )
+        self.parts().encode(writer)
+    }
+}
+
+impl<'a> PrivateKeyInfo<'a> {
+    // The fields in parts.
+    #[inline(always)]
+    fn parts(&self) -> (PrivateKeyInfoPart1<'a>, PrivateKeyInfoPart2<'a>)
+        ensures { result ≡
+            ⟦<PrivateKeyInfo<'a> as FromFields<(PrivateKeyInfoPart1<'a>, PrivateKeyInfoPart2<'a>)>>⟧.fields self.now }
+    {
+        (
+            PrivateKeyInfoPart1 {
+                version: self.version,
+                private_key_algorithm: self.private_key_algorithm,
+                private_key: self.private_key,
+            },
+            PrivateKeyInfoPart2 {
+                attributes: self.attributes,
+                public_key: self.public_key,
+            },
         )
-        .encode(writer)
     }
 }
 
@@ -129,7 +153,8 @@ impl<'a> Item for PrivateKeyInfo<'a> {
 impl<'a, R: Reader<Borrowed = &'a [u8]>> DecodeItem<R> for PrivateKeyInfo<'a> {
     ghost is_item = { sequence_is_item ⟦<PrivateKeyInfo<'a> as Described>⟧.element refl };
 
-    ghost decodes_items = { decodes_same (sequence_item ⟦<PrivateKeyInfo<'a> as Described>⟧.element) };
+    ghost decodes_items = { decodes_same (sequence_item
+        ⟦<PrivateKeyInfo<'a> as Described>⟧.element) };
 }
 
 impl<'a> BorrowedItem for PrivateKeyInfo<'a> {

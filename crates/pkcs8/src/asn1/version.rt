@@ -1,4 +1,6 @@
-//! Version of the module PrivateKeys. Written by asn1_compile: change the module instead.
+//! Written by asn1_compile from the module PrivateKeys: change the module instead.
+//!
+//! Version.
 ghost use Rattle.std.specs.Prelude.{◌==◌, Option, Some, None, if◌then◌else◌};
 ghost use Rattle.pkcs8.specs.declared.asn1.version.Version.TheVariants as variant;
 

@@ -1,0 +1,74 @@
+//! Written by asn1_compile from the module Parcels: change the module instead.
+//!
+//! AddressPart2.
+ghost use Rattle.std.specs.Prelude.{false};
+ghost use Rattle.der.specs.Prelude.{map_ok};
+
+use der::{
+    Decode, Encode, Error, FromFields, Length, Reader, SliceReader, Writer, decode_fields,
+    field_refs,
+};
+use der_asn1::{BmpStringRef, Ia5StringRef, Optional};
+use std::alloc::Global;
+
+// Some fields of a Address.
+#[derive(Drop)]
+pub(crate) struct AddressPart2<'a> {
+    pub(crate) type_: Optional<Ia5StringRef<'a>>,
+    pub(crate) note: Optional<BmpStringRef<'a>>,
+}
+
+// The fields in pairs, in the order in which they are encoded.
+pub(crate) type AddressPart2Fields<'a> = (Optional<Ia5StringRef<'a>>, Optional<BmpStringRef<'a>>);
+
+impl<'a> FromFields<AddressPart2Fields<'a>> for AddressPart2<'a> {
+    ghost fields = { λ v. (v.type_, v.note) };
+
+    fn from_fields(members: AddressPart2Fields<'a>) -> Self {
+        let (type_, note) = members;
+        AddressPart2 { type_, note }
+    }
+}
+
+impl<'a, R: Reader<Borrowed = &'a [u8]>> Decode<R> for AddressPart2<'a> {
+    type Error = Error;
+
+    ghost is_next = { λ v. ⟦<AddressPart2Fields<'a> as Decode<SliceReader<'a>>>⟧.is_next
+        (⟦<AddressPart2<'a> as FromFields<AddressPart2Fields<'a>>>⟧.fields v) };
+
+    ghost decode_levels = { ⟦<AddressPart2Fields<'a> as Decode<SliceReader<'a>>>⟧.decode_levels };
+
+    ghost allocates = { false };
+
+    ghost decode_answers = { λ s result t.
+        ⟦<AddressPart2Fields<'a> as Decode<SliceReader<'a>>>⟧.decode_answers s
+        (map_ok ⟦<AddressPart2<'a> as FromFields<AddressPart2Fields<'a>>>⟧.fields result) t };
+
+    fn decode(alloc: Global, reader: &mut R) -> Result<Self, Error> {
+        decode_fields::<R, AddressPart2Fields<'a>, Self>(alloc, reader)
+    }
+}
+
+impl<'a> Encode for AddressPart2<'a> {
+    ghost encoding = { λ v. ⟦<AddressPart2Fields<'a> as Encode>⟧.encoding
+        (⟦<AddressPart2<'a> as FromFields<AddressPart2Fields<'a>>>⟧.fields v) };
+
+    ghost encodable = { λ v. ⟦<AddressPart2Fields<'a> as Encode>⟧.encodable
+        (⟦<AddressPart2<'a> as FromFields<AddressPart2Fields<'a>>>⟧.fields v) };
+
+    ghost size = { λ v. ⟦<AddressPart2Fields<'a> as Encode>⟧.size
+        (⟦<AddressPart2<'a> as FromFields<AddressPart2Fields<'a>>>⟧.fields v) };
+
+    ghost encode_answers = { λ v. ⟦<AddressPart2Fields<'a> as Encode>⟧.encode_answers
+        (⟦<AddressPart2<'a> as FromFields<AddressPart2Fields<'a>>>⟧.fields v) };
+
+    #[inline(always)]
+    fn encoded_len(&self) -> Result<Length, Error> {
+        field_refs!(self, (type_, note)).encoded_len()
+    }
+
+    #[inline(always)]
+    fn encode<W: Writer>(&self, writer: &mut W) -> Result<(), Error> {
+        field_refs!(self, (type_, note)).encode(writer)
+    }
+}
