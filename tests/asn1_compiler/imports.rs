@@ -17,7 +17,7 @@ END
 const TWO: &str = "Two DEFINITIONS IMPLICIT TAGS ::= BEGIN
 IMPORTS Text FROM One;
 Alias ::= Text
-Plain ::= SEQUENCE { a NULL }
+Plain ::= SEQUENCE OF NULL
 END
 ";
 
@@ -75,7 +75,6 @@ fn imports_that_are_wrong(rt: HostRuntime) -> Result<(), Fail> {
         ("IMPORTS Text FROM One;\nA ::= SEQUENCE { a Text OPTIONAL, b [0] NULL }", (3, 35, "b")),
         ("IMPORTS Alias FROM Two;\nA ::= SEQUENCE { a [1] IMPLICIT Alias }", (3, 20, "[")),
         ("IMPORTS Plain FROM Two;\nA ::= SEQUENCE OF Plain", (3, 19, "Plain")),
-        ("IMPORTS Plain FROM Two;\nA ::= SEQUENCE { a [1] EXPLICIT Plain }", (3, 33, "Plain")),
         ("IMPORTS id-one FROM One;\na INTEGER ::= id-one", (3, 15, "id-one")),
     ] {
         let text = format!(in alloc; "M DEFINITIONS IMPLICIT TAGS ::= BEGIN\n{body}\nEND\n")?;

@@ -11,7 +11,7 @@ use std::alloc::{AllocError, Global};
 #[derive(Drop)]
 pub struct ExternalType<'a> {
     /// The name of that crate.
-    pub krate: &'a str,
+    pub krate: String,
     /// The name of the type in the notation.
     pub name: &'a str,
     /// The name that Rust has for it.
@@ -34,7 +34,7 @@ impl<'a> ExternalType<'a> {
         let mut tags = TagSet::empty(alloc);
         tags.add(&self.tags)?;
         Ok(ExternalType {
-            krate: self.krate,
+            krate: String::from_str(alloc, self.krate.as_str())?,
             name: self.name,
             rust_name: String::from_str(alloc, self.rust_name.as_str())?,
             of: self.of.copy(alloc)?,

@@ -63,7 +63,7 @@ pub fn read_external<'a>(
     alloc: Global,
     externals: &Vec<External<'a>>,
     text: &'a str,
-    krate: &'a str,
+    krate: &str,
 ) -> Result<External<'a>, Failure<'a>> {
     let (module, checks) = checked_module(alloc, externals, text)?;
     let names = names_of(alloc, &module)?;

@@ -16,8 +16,6 @@ const USAGE: &str = "usage: asn1_compile --out FOLDER FILE [--with CRATE=FILE]..
 
 const OUT_OF_MEMORY: &str = "error: out of memory\n";
 
-const NOT_READ: &str = "error: the file is not read\n";
-
 /// Runs the program with the arguments `given`, of which the first one is the name of the program.
 /// Compiles the module in a file, and writes its types to the folder of a crate. What it imports is
 /// in modules of other crates, each of which may import from those before it. Prints to `out` what
@@ -50,45 +48,51 @@ pub fn run_compile<R: Files + AllocGlobal, W: Write>(
 }
 
 fn run<R: Files + AllocGlobal, W: Write>(rt: &R, command: &CompileCommand<'_>, out: &mut W) -> u8 {
+    match read_texts(rt, command) {
+        Ok(texts) => run_with(rt, command, texts.as_slice(), out),
+        Err(_) => say("error: a file is not read\n", 1, out),
+    }
+}
+
+/// The texts of the modules of other crates, and that of the module itself as the last one.
+fn read_texts<R: Files + AllocGlobal>(
+    rt: &R,
+    command: &CompileCommand<'_>,
+) -> io::Result<Vec<String>> {
     let mut texts = Vec::new(rt.alloc());
     for with in command.with.iter() {
-        let Ok(text) = fs::read_to_string(rt, with.file) else {
-            return say(NOT_READ, 1, out);
-        };
-        if texts.push(text).is_err() {
-            return say(OUT_OF_MEMORY, 1, out);
-        }
+        texts.push(fs::read_to_string(rt, with.file)?)?;
     }
-    let Ok(text) = fs::read_to_string(rt, command.file) else {
-        return say(NOT_READ, 1, out);
+    texts.push(fs::read_to_string(rt, command.file)?)?;
+    Ok(texts)
+}
+
+fn run_with<'t, R: Files + AllocGlobal, W: Write>(
+    rt: &R,
+    command: &CompileCommand<'_>,
+    texts: &'t [String],
+    out: &mut W,
+) -> u8 {
+    let Some((text, others)) = texts.split_last() else {
+        return say(USAGE, 2, out);
     };
-    let mut externals = Vec::new(rt.alloc());
-    for (with, text) in command.with.iter().zip(texts.iter()) {
-        match read_external(rt.alloc(), &externals, text.as_str(), with.krate) {
+    let mut externals: Vec<External<'t>> = Vec::new(rt.alloc());
+    for (with, other) in command.with.iter().zip(others.iter()) {
+        match read_external(rt.alloc(), &externals, other.as_str(), with.krate) {
             Ok(external) => {
                 if externals.push(external).is_err() {
                     return say(OUT_OF_MEMORY, 1, out);
                 }
             }
-            Err(failure) => return say_failure(rt, &failure, with.file, text.as_str(), out),
+            Err(failure) => return say_failure(rt, &failure, with.file, other.as_str(), out),
         }
     }
-    run_with(rt, command, &externals, text.as_str(), out)
-}
-
-fn run_with<'a, R: Files + AllocGlobal, W: Write>(
-    rt: &R,
-    command: &CompileCommand<'_>,
-    externals: &Vec<External<'a>>,
-    text: &'a str,
-    out: &mut W,
-) -> u8 {
-    match compile(rt.alloc(), externals, text, command.crate_name()) {
+    match compile(rt.alloc(), &externals, text.as_str(), command.crate_name()) {
         Ok(compiled) => match write_files(rt, command.out, &compiled.files) {
-            Ok(()) => say_left_out(rt, &compiled, command.file, text, out),
+            Ok(()) => say_left_out(rt, &compiled, command.file, text.as_str(), out),
             Err(_) => say("error: the files are not written\n", 1, out),
         },
-        Err(failure) => say_failure(rt, &failure, command.file, text, out),
+        Err(failure) => say_failure(rt, &failure, command.file, text.as_str(), out),
     }
 }
 

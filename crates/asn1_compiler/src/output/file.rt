@@ -238,11 +238,11 @@ fn push_imported(
     imported: &Vec<ExternalType<'_>>,
 ) -> Result<(), AllocError> {
     for (count, of) in imported.iter().enumerate() {
-        let krate = of.krate;
+        let krate = of.krate.as_str();
         if !imported
             .iter()
             .take(count)
-            .any(|other| other.krate == krate)
+            .any(|other| other.krate.as_str() == krate)
         {
             let names = names_in(alloc, imported, krate)?;
             push_use(alloc, text, code, krate, &names)?;
@@ -259,7 +259,7 @@ fn names_in<'t>(
 ) -> Result<Vec<&'t str>, AllocError> {
     let mut names = Vec::new(alloc);
     for of in imported.iter() {
-        if of.krate == krate {
+        if of.krate.as_str() == krate {
             names.push(of.rust_name.as_str())?;
         }
     }

@@ -22,15 +22,16 @@ pub fn external_of<'a>(
     alloc: Global,
     written: &Written<'_, 'a>,
     checks: &Checks,
-    krate: &'a str,
+    krate: &str,
 ) -> Result<External<'a>, Failure<'a>> {
+    let module = written.module;
     let mut types = Vec::new(alloc);
-    for assigned in written.module.types.iter() {
+    for assigned in module.types.iter() {
         types.push(external_type(alloc, written, checks, krate, assigned)?)?;
     }
     let mut values = Vec::new(alloc);
-    for named in written.module.constants.iter() {
-        if has_value(written.module, named.name) {
+    for named in module.constants.iter() {
+        if has_value(module, named.name) {
             values.push(NamedConstant {
                 name: named.name,
                 constant: named.constant.copy(alloc)?,
@@ -38,7 +39,7 @@ pub fn external_of<'a>(
         }
     }
     Ok(External {
-        module: written.module.name.text,
+        module: module.name.text,
         types,
         values,
     })
@@ -48,7 +49,7 @@ fn external_type<'a>(
     alloc: Global,
     written: &Written<'_, 'a>,
     checks: &Checks,
-    krate: &'a str,
+    krate: &str,
     assigned: &TypeAssignment<'a>,
 ) -> Result<ExternalType<'a>, Failure<'a>> {
     let Written {
@@ -69,7 +70,7 @@ fn external_type<'a>(
     let arms = qualified(alloc, names, krate, of.arms.as_str())?;
     of.arms = arms;
     Ok(ExternalType {
-        krate,
+        krate: String::from_str(alloc, krate)?,
         name: assigned.name.text,
         rust_name: type_name(alloc, assigned.name)?,
         of,
