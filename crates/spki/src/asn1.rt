@@ -1,4 +1,6 @@
-//! The types of the module PublicKeyInfo. Written by asn1_compile: change the module instead.
+//! Written by asn1_compile from the module PublicKeyInfo: change the module instead.
+//!
+//! The types of the module.
 
 mod algorithm_identifier_ref;
 mod subject_public_key_info_ref;

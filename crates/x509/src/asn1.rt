@@ -1,4 +1,6 @@
-//! The types of the module X509. Written by asn1_compile: change the module instead.
+//! Written by asn1_compile from the module X509: change the module instead.
+//!
+//! The types of the module.
 
 mod attribute;
 mod attribute_type_and_value;
@@ -23,6 +25,7 @@ mod relative_distinguished_name;
 mod tbs_certificate;
 mod tbs_certificate_part1;
 mod tbs_certificate_part2;
+mod tbs_certificate_part3;
 mod time;
 mod validity;
 mod version;

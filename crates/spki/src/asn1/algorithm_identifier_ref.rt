@@ -1,4 +1,6 @@
-//! AlgorithmIdentifierRef of the module PublicKeyInfo. Written by asn1_compile: change the module instead.
+//! Written by asn1_compile from the module PublicKeyInfo: change the module instead.
+//!
+//! AlgorithmIdentifierRef.
 ghost use Rattle.std.specs.Prelude.{◌≡◌};
 ghost use Rattle.std.proofs.Common.{arith, refl};
 ghost use Rattle.der.specs.Prelude.{map_ok};
@@ -36,7 +38,9 @@ impl<'a> FromFields<AlgorithmIdentifierRefFields<'a>> for AlgorithmIdentifierRef
 }
 
 impl<'a> Sequence for AlgorithmIdentifierRef<'a> {
-    ghost meaning = { sequence (two_fields (field (alternative ⟦<ObjectIdentifierRef<'a> as Described>⟧.element)) (optional any_element)) ⟦<AlgorithmIdentifierRef<'a> as FromFields<AlgorithmIdentifierRefFields<'a>>>⟧.fields };
+    ghost meaning = { sequence (two_fields (field (alternative
+        ⟦<ObjectIdentifierRef<'a> as Described>⟧.element)) (optional any_element))
+        ⟦<AlgorithmIdentifierRef<'a> as FromFields<AlgorithmIdentifierRefFields<'a>>>⟧.fields };
 
     ghost fits = { (refl, refl) };
 }
@@ -46,7 +50,8 @@ impl<'a, R: Reader<Borrowed = &'a [u8]>> DecodeValue<R> for AlgorithmIdentifierR
     type Error = Error;
 
     ghost decode_value_answers = { λ h s result t.
-        ⟦<AlgorithmIdentifierRefFields<'a> as Decode<SliceReader<'a>>>⟧.decode_answers s (map_ok ⟦<AlgorithmIdentifierRef<'a> as FromFields<AlgorithmIdentifierRefFields<'a>>>⟧.fields result) t };
+        ⟦<AlgorithmIdentifierRefFields<'a> as Decode<SliceReader<'a>>>⟧.decode_answers s (map_ok
+        ⟦<AlgorithmIdentifierRef<'a> as FromFields<AlgorithmIdentifierRefFields<'a>>>⟧.fields result) t };
 
     fn decode_value(alloc: Global, reader: &mut R, header: Header) -> Result<Self, Error> {
         decode_sequence::<R, AlgorithmIdentifierRefFields<'a>, Self>(alloc, reader, header)
@@ -62,9 +67,12 @@ impl<'a, R: Reader<Borrowed = &'a [u8]>> DecodeValue<R> for AlgorithmIdentifierR
 
 /// Writes the fields one after the other, with the errors of every [`Sequence`].
 impl<'a> EncodeValue for AlgorithmIdentifierRef<'a> {
-    ghost value_size = { λ v. ⟦<AlgorithmIdentifierRefFields<'a> as Encode>⟧.size (⟦<AlgorithmIdentifierRef<'a> as FromFields<AlgorithmIdentifierRefFields<'a>>>⟧.fields v) };
+    ghost value_size = { λ v. ⟦<AlgorithmIdentifierRefFields<'a> as Encode>⟧.size
+        (⟦<AlgorithmIdentifierRef<'a> as FromFields<AlgorithmIdentifierRefFields<'a>>>⟧.fields v) };
 
-    ghost encode_value_answers = { λ v. ⟦<AlgorithmIdentifierRefFields<'a> as Encode>⟧.encode_answers (⟦<AlgorithmIdentifierRef<'a> as FromFields<AlgorithmIdentifierRefFields<'a>>>⟧.fields v) };
+    ghost encode_value_answers = { λ v.
+        ⟦<AlgorithmIdentifierRefFields<'a> as Encode>⟧.encode_answers
+        (⟦<AlgorithmIdentifierRef<'a> as FromFields<AlgorithmIdentifierRefFields<'a>>>⟧.fields v) };
 
     fn value_len(&self) -> Result<Length, Error> {
         field_refs!(self, (oid, parameters)).encoded_len()
@@ -82,7 +90,8 @@ impl<'a> Item for AlgorithmIdentifierRef<'a> {
 impl<'a, R: Reader<Borrowed = &'a [u8]>> DecodeItem<R> for AlgorithmIdentifierRef<'a> {
     ghost is_item = { sequence_is_item ⟦<AlgorithmIdentifierRef<'a> as Described>⟧.element refl };
 
-    ghost decodes_items = { decodes_same (sequence_item ⟦<AlgorithmIdentifierRef<'a> as Described>⟧.element) };
+    ghost decodes_items = { decodes_same (sequence_item
+        ⟦<AlgorithmIdentifierRef<'a> as Described>⟧.element) };
 }
 
 impl<'a> BorrowedItem for AlgorithmIdentifierRef<'a> {

@@ -1,4 +1,6 @@
-//! SubjectPublicKeyInfoRef of the module PublicKeyInfo. Written by asn1_compile: change the module instead.
+//! Written by asn1_compile from the module PublicKeyInfo: change the module instead.
+//!
+//! SubjectPublicKeyInfoRef.
 ghost use Rattle.std.specs.Prelude.{◌≡◌};
 ghost use Rattle.std.proofs.Common.{arith, refl};
 ghost use Rattle.der.specs.Prelude.{map_ok};
@@ -38,7 +40,10 @@ impl<'a> FromFields<SubjectPublicKeyInfoRefFields<'a>> for SubjectPublicKeyInfoR
 }
 
 impl<'a> Sequence for SubjectPublicKeyInfoRef<'a> {
-    ghost meaning = { sequence (two_fields (field (alternative ⟦<AlgorithmIdentifierRef<'a> as Described>⟧.element)) (field (alternative ⟦<BitStringRef<'a> as Described>⟧.element))) ⟦<SubjectPublicKeyInfoRef<'a> as FromFields<SubjectPublicKeyInfoRefFields<'a>>>⟧.fields };
+    ghost meaning = { sequence (two_fields (field (alternative
+        ⟦<AlgorithmIdentifierRef<'a> as Described>⟧.element)) (field (alternative
+        ⟦<BitStringRef<'a> as Described>⟧.element)))
+        ⟦<SubjectPublicKeyInfoRef<'a> as FromFields<SubjectPublicKeyInfoRefFields<'a>>>⟧.fields };
 
     ghost fits = { (refl, refl) };
 }
@@ -48,7 +53,8 @@ impl<'a, R: Reader<Borrowed = &'a [u8]>> DecodeValue<R> for SubjectPublicKeyInfo
     type Error = Error;
 
     ghost decode_value_answers = { λ h s result t.
-        ⟦<SubjectPublicKeyInfoRefFields<'a> as Decode<SliceReader<'a>>>⟧.decode_answers s (map_ok ⟦<SubjectPublicKeyInfoRef<'a> as FromFields<SubjectPublicKeyInfoRefFields<'a>>>⟧.fields result) t };
+        ⟦<SubjectPublicKeyInfoRefFields<'a> as Decode<SliceReader<'a>>>⟧.decode_answers s (map_ok
+        ⟦<SubjectPublicKeyInfoRef<'a> as FromFields<SubjectPublicKeyInfoRefFields<'a>>>⟧.fields result) t };
 
     fn decode_value(alloc: Global, reader: &mut R, header: Header) -> Result<Self, Error> {
         decode_sequence::<R, SubjectPublicKeyInfoRefFields<'a>, Self>(alloc, reader, header)
@@ -62,9 +68,12 @@ impl<'a, R: Reader<Borrowed = &'a [u8]>> DecodeValue<R> for SubjectPublicKeyInfo
 
 /// Writes the fields one after the other, with the errors of every [`Sequence`].
 impl<'a> EncodeValue for SubjectPublicKeyInfoRef<'a> {
-    ghost value_size = { λ v. ⟦<SubjectPublicKeyInfoRefFields<'a> as Encode>⟧.size (⟦<SubjectPublicKeyInfoRef<'a> as FromFields<SubjectPublicKeyInfoRefFields<'a>>>⟧.fields v) };
+    ghost value_size = { λ v. ⟦<SubjectPublicKeyInfoRefFields<'a> as Encode>⟧.size
+        (⟦<SubjectPublicKeyInfoRef<'a> as FromFields<SubjectPublicKeyInfoRefFields<'a>>>⟧.fields v) };
 
-    ghost encode_value_answers = { λ v. ⟦<SubjectPublicKeyInfoRefFields<'a> as Encode>⟧.encode_answers (⟦<SubjectPublicKeyInfoRef<'a> as FromFields<SubjectPublicKeyInfoRefFields<'a>>>⟧.fields v) };
+    ghost encode_value_answers = { λ v.
+        ⟦<SubjectPublicKeyInfoRefFields<'a> as Encode>⟧.encode_answers
+        (⟦<SubjectPublicKeyInfoRef<'a> as FromFields<SubjectPublicKeyInfoRefFields<'a>>>⟧.fields v) };
 
     fn value_len(&self) -> Result<Length, Error> {
         field_refs!(self, (algorithm, subject_public_key)).encoded_len()
@@ -82,7 +91,8 @@ impl<'a> Item for SubjectPublicKeyInfoRef<'a> {
 impl<'a, R: Reader<Borrowed = &'a [u8]>> DecodeItem<R> for SubjectPublicKeyInfoRef<'a> {
     ghost is_item = { sequence_is_item ⟦<SubjectPublicKeyInfoRef<'a> as Described>⟧.element refl };
 
-    ghost decodes_items = { decodes_same (sequence_item ⟦<SubjectPublicKeyInfoRef<'a> as Described>⟧.element) };
+    ghost decodes_items = { decodes_same (sequence_item
+        ⟦<SubjectPublicKeyInfoRef<'a> as Described>⟧.element) };
 }
 
 impl<'a> BorrowedItem for SubjectPublicKeyInfoRef<'a> {

@@ -1,4 +1,6 @@
-//! Attribute of the module X509. Written by asn1_compile: change the module instead.
+//! Written by asn1_compile from the module X509: change the module instead.
+//!
+//! Attribute.
 ghost use Rattle.std.specs.Prelude.{◌≡◌};
 ghost use Rattle.std.proofs.Common.{arith, refl};
 ghost use Rattle.der.specs.Prelude.{map_ok};
@@ -35,7 +37,10 @@ impl<'a> FromFields<AttributeFields<'a>> for Attribute<'a> {
 }
 
 impl<'a> Sequence for Attribute<'a> {
-    ghost meaning = { sequence (two_fields (field (alternative ⟦<ObjectIdentifierRef<'a> as Described>⟧.element)) (field (alternative ⟦<AttributeValues<'a> as Described>⟧.element))) ⟦<Attribute<'a> as FromFields<AttributeFields<'a>>>⟧.fields };
+    ghost meaning = { sequence (two_fields (field (alternative
+        ⟦<ObjectIdentifierRef<'a> as Described>⟧.element)) (field (alternative
+        ⟦<AttributeValues<'a> as Described>⟧.element)))
+        ⟦<Attribute<'a> as FromFields<AttributeFields<'a>>>⟧.fields };
 
     ghost fits = { (refl, refl) };
 }
@@ -45,7 +50,8 @@ impl<'a, R: Reader<Borrowed = &'a [u8]>> DecodeValue<R> for Attribute<'a> {
     type Error = Error;
 
     ghost decode_value_answers = { λ h s result t.
-        ⟦<AttributeFields<'a> as Decode<SliceReader<'a>>>⟧.decode_answers s (map_ok ⟦<Attribute<'a> as FromFields<AttributeFields<'a>>>⟧.fields result) t };
+        ⟦<AttributeFields<'a> as Decode<SliceReader<'a>>>⟧.decode_answers s (map_ok
+        ⟦<Attribute<'a> as FromFields<AttributeFields<'a>>>⟧.fields result) t };
 
     fn decode_value(alloc: Global, reader: &mut R, header: Header) -> Result<Self, Error> {
         decode_sequence::<R, AttributeFields<'a>, Self>(alloc, reader, header)
@@ -59,9 +65,11 @@ impl<'a, R: Reader<Borrowed = &'a [u8]>> DecodeValue<R> for Attribute<'a> {
 
 /// Writes the fields one after the other, with the errors of every [`Sequence`].
 impl<'a> EncodeValue for Attribute<'a> {
-    ghost value_size = { λ v. ⟦<AttributeFields<'a> as Encode>⟧.size (⟦<Attribute<'a> as FromFields<AttributeFields<'a>>>⟧.fields v) };
+    ghost value_size = { λ v. ⟦<AttributeFields<'a> as Encode>⟧.size
+        (⟦<Attribute<'a> as FromFields<AttributeFields<'a>>>⟧.fields v) };
 
-    ghost encode_value_answers = { λ v. ⟦<AttributeFields<'a> as Encode>⟧.encode_answers (⟦<Attribute<'a> as FromFields<AttributeFields<'a>>>⟧.fields v) };
+    ghost encode_value_answers = { λ v. ⟦<AttributeFields<'a> as Encode>⟧.encode_answers
+        (⟦<Attribute<'a> as FromFields<AttributeFields<'a>>>⟧.fields v) };
 
     fn value_len(&self) -> Result<Length, Error> {
         field_refs!(self, (oid, values)).encoded_len()

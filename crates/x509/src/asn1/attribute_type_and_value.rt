@@ -1,4 +1,6 @@
-//! AttributeTypeAndValue of the module X509. Written by asn1_compile: change the module instead.
+//! Written by asn1_compile from the module X509: change the module instead.
+//!
+//! AttributeTypeAndValue.
 ghost use Rattle.std.specs.Prelude.{◌≡◌};
 ghost use Rattle.std.proofs.Common.{arith, refl};
 ghost use Rattle.der.specs.Prelude.{map_ok};
@@ -34,7 +36,9 @@ impl<'a> FromFields<AttributeTypeAndValueFields<'a>> for AttributeTypeAndValue<'
 }
 
 impl<'a> Sequence for AttributeTypeAndValue<'a> {
-    ghost meaning = { sequence (two_fields (field (alternative ⟦<ObjectIdentifierRef<'a> as Described>⟧.element)) (field any_element)) ⟦<AttributeTypeAndValue<'a> as FromFields<AttributeTypeAndValueFields<'a>>>⟧.fields };
+    ghost meaning = { sequence (two_fields (field (alternative
+        ⟦<ObjectIdentifierRef<'a> as Described>⟧.element)) (field any_element))
+        ⟦<AttributeTypeAndValue<'a> as FromFields<AttributeTypeAndValueFields<'a>>>⟧.fields };
 
     ghost fits = { (refl, refl) };
 }
@@ -44,7 +48,8 @@ impl<'a, R: Reader<Borrowed = &'a [u8]>> DecodeValue<R> for AttributeTypeAndValu
     type Error = Error;
 
     ghost decode_value_answers = { λ h s result t.
-        ⟦<AttributeTypeAndValueFields<'a> as Decode<SliceReader<'a>>>⟧.decode_answers s (map_ok ⟦<AttributeTypeAndValue<'a> as FromFields<AttributeTypeAndValueFields<'a>>>⟧.fields result) t };
+        ⟦<AttributeTypeAndValueFields<'a> as Decode<SliceReader<'a>>>⟧.decode_answers s (map_ok
+        ⟦<AttributeTypeAndValue<'a> as FromFields<AttributeTypeAndValueFields<'a>>>⟧.fields result) t };
 
     fn decode_value(alloc: Global, reader: &mut R, header: Header) -> Result<Self, Error> {
         decode_sequence::<R, AttributeTypeAndValueFields<'a>, Self>(alloc, reader, header)
@@ -58,9 +63,11 @@ impl<'a, R: Reader<Borrowed = &'a [u8]>> DecodeValue<R> for AttributeTypeAndValu
 
 /// Writes the fields one after the other, with the errors of every [`Sequence`].
 impl<'a> EncodeValue for AttributeTypeAndValue<'a> {
-    ghost value_size = { λ v. ⟦<AttributeTypeAndValueFields<'a> as Encode>⟧.size (⟦<AttributeTypeAndValue<'a> as FromFields<AttributeTypeAndValueFields<'a>>>⟧.fields v) };
+    ghost value_size = { λ v. ⟦<AttributeTypeAndValueFields<'a> as Encode>⟧.size
+        (⟦<AttributeTypeAndValue<'a> as FromFields<AttributeTypeAndValueFields<'a>>>⟧.fields v) };
 
-    ghost encode_value_answers = { λ v. ⟦<AttributeTypeAndValueFields<'a> as Encode>⟧.encode_answers (⟦<AttributeTypeAndValue<'a> as FromFields<AttributeTypeAndValueFields<'a>>>⟧.fields v) };
+    ghost encode_value_answers = { λ v. ⟦<AttributeTypeAndValueFields<'a> as Encode>⟧.encode_answers
+        (⟦<AttributeTypeAndValue<'a> as FromFields<AttributeTypeAndValueFields<'a>>>⟧.fields v) };
 
     fn value_len(&self) -> Result<Length, Error> {
         field_refs!(self, (oid, value)).encoded_len()
@@ -78,7 +85,8 @@ impl<'a> Item for AttributeTypeAndValue<'a> {
 impl<'a, R: Reader<Borrowed = &'a [u8]>> DecodeItem<R> for AttributeTypeAndValue<'a> {
     ghost is_item = { sequence_is_item ⟦<AttributeTypeAndValue<'a> as Described>⟧.element refl };
 
-    ghost decodes_items = { decodes_same (sequence_item ⟦<AttributeTypeAndValue<'a> as Described>⟧.element) };
+    ghost decodes_items = { decodes_same (sequence_item
+        ⟦<AttributeTypeAndValue<'a> as Described>⟧.element) };
 }
 
 impl<'a> BorrowedItem for AttributeTypeAndValue<'a> {

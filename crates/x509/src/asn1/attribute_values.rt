@@ -1,4 +1,6 @@
-//! AttributeValues of the module X509. Written by asn1_compile: change the module instead.
+//! Written by asn1_compile from the module X509: change the module instead.
+//!
+//! AttributeValues.
 
 use der_asn1::{AnyRef, SetOf};
 

@@ -1,4 +1,6 @@
-//! Attributes of the module X509. Written by asn1_compile: change the module instead.
+//! Written by asn1_compile from the module X509: change the module instead.
+//!
+//! Attributes.
 
 use crate::asn1::attribute::Attribute;
 use der_asn1::SetOf;

@@ -1,4 +1,6 @@
-//! CertReq of the module X509. Written by asn1_compile: change the module instead.
+//! Written by asn1_compile from the module X509: change the module instead.
+//!
+//! CertReq.
 ghost use Rattle.std.specs.Prelude.{◌≡◌};
 ghost use Rattle.std.proofs.Common.{arith, refl};
 ghost use Rattle.der.specs.Prelude.{map_ok};
@@ -45,7 +47,11 @@ impl<'a> FromFields<CertReqFields<'a>> for CertReq<'a> {
 }
 
 impl<'a> Sequence for CertReq<'a> {
-    ghost meaning = { sequence (two_fields (field (alternative ⟦<CertReqInfo<'a> as Described>⟧.element)) (two_fields (field (alternative ⟦<AlgorithmIdentifierRef<'a> as Described>⟧.element)) (field (alternative ⟦<BitStringRef<'a> as Described>⟧.element)))) ⟦<CertReq<'a> as FromFields<CertReqFields<'a>>>⟧.fields };
+    ghost meaning = { sequence (two_fields (field (alternative
+        ⟦<CertReqInfo<'a> as Described>⟧.element)) (two_fields (field (alternative
+        ⟦<AlgorithmIdentifierRef<'a> as Described>⟧.element)) (field (alternative
+        ⟦<BitStringRef<'a> as Described>⟧.element))))
+        ⟦<CertReq<'a> as FromFields<CertReqFields<'a>>>⟧.fields };
 
     ghost fits = { (refl, refl) };
 }
@@ -55,7 +61,8 @@ impl<'a, R: Reader<Borrowed = &'a [u8]>> DecodeValue<R> for CertReq<'a> {
     type Error = Error;
 
     ghost decode_value_answers = { λ h s result t.
-        ⟦<CertReqFields<'a> as Decode<SliceReader<'a>>>⟧.decode_answers s (map_ok ⟦<CertReq<'a> as FromFields<CertReqFields<'a>>>⟧.fields result) t };
+        ⟦<CertReqFields<'a> as Decode<SliceReader<'a>>>⟧.decode_answers s (map_ok
+        ⟦<CertReq<'a> as FromFields<CertReqFields<'a>>>⟧.fields result) t };
 
     fn decode_value(alloc: Global, reader: &mut R, header: Header) -> Result<Self, Error> {
         decode_sequence::<R, CertReqFields<'a>, Self>(alloc, reader, header)
@@ -70,9 +77,11 @@ impl<'a, R: Reader<Borrowed = &'a [u8]>> DecodeValue<R> for CertReq<'a> {
 
 /// Writes the fields one after the other, with the errors of every [`Sequence`].
 impl<'a> EncodeValue for CertReq<'a> {
-    ghost value_size = { λ v. ⟦<CertReqFields<'a> as Encode>⟧.size (⟦<CertReq<'a> as FromFields<CertReqFields<'a>>>⟧.fields v) };
+    ghost value_size = { λ v. ⟦<CertReqFields<'a> as Encode>⟧.size
+        (⟦<CertReq<'a> as FromFields<CertReqFields<'a>>>⟧.fields v) };
 
-    ghost encode_value_answers = { λ v. ⟦<CertReqFields<'a> as Encode>⟧.encode_answers (⟦<CertReq<'a> as FromFields<CertReqFields<'a>>>⟧.fields v) };
+    ghost encode_value_answers = { λ v. ⟦<CertReqFields<'a> as Encode>⟧.encode_answers
+        (⟦<CertReq<'a> as FromFields<CertReqFields<'a>>>⟧.fields v) };
 
     fn value_len(&self) -> Result<Length, Error> {
         field_refs!(self, (info, (algorithm, signature))).encoded_len()

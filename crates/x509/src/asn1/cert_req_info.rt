@@ -1,4 +1,6 @@
-//! CertReqInfo of the module X509. Written by asn1_compile: change the module instead.
+//! Written by asn1_compile from the module X509: change the module instead.
+//!
+//! CertReqInfo.
 ghost use Rattle.std.specs.Prelude.{◌≡◌};
 ghost use Rattle.std.proofs.Common.{arith, refl};
 ghost use Rattle.der.specs.Prelude.{map_ok};
@@ -52,7 +54,12 @@ impl<'a> FromFields<CertReqInfoFields<'a>> for CertReqInfo<'a> {
 }
 
 impl<'a> Sequence for CertReqInfo<'a> {
-    ghost meaning = { sequence (two_fields (two_fields (field (alternative ⟦<NamedInteger<CertReqVersion> as Described>⟧.element)) (field (alternative ⟦<Name<'a> as Described>⟧.element))) (two_fields (field (alternative ⟦<SubjectPublicKeyInfoRef<'a> as Described>⟧.element)) (field (alternative ⟦<Implicit<Attributes<'a>, 0> as Described>⟧.element)))) ⟦<CertReqInfo<'a> as FromFields<CertReqInfoFields<'a>>>⟧.fields };
+    ghost meaning = { sequence (two_fields (two_fields (field (alternative
+        ⟦<NamedInteger<CertReqVersion> as Described>⟧.element)) (field (alternative
+        ⟦<Name<'a> as Described>⟧.element))) (two_fields (field (alternative
+        ⟦<SubjectPublicKeyInfoRef<'a> as Described>⟧.element)) (field (alternative
+        ⟦<Implicit<Attributes<'a>, 0> as Described>⟧.element))))
+        ⟦<CertReqInfo<'a> as FromFields<CertReqInfoFields<'a>>>⟧.fields };
 
     ghost fits = { (refl, refl) };
 }
@@ -62,7 +69,8 @@ impl<'a, R: Reader<Borrowed = &'a [u8]>> DecodeValue<R> for CertReqInfo<'a> {
     type Error = Error;
 
     ghost decode_value_answers = { λ h s result t.
-        ⟦<CertReqInfoFields<'a> as Decode<SliceReader<'a>>>⟧.decode_answers s (map_ok ⟦<CertReqInfo<'a> as FromFields<CertReqInfoFields<'a>>>⟧.fields result) t };
+        ⟦<CertReqInfoFields<'a> as Decode<SliceReader<'a>>>⟧.decode_answers s (map_ok
+        ⟦<CertReqInfo<'a> as FromFields<CertReqInfoFields<'a>>>⟧.fields result) t };
 
     fn decode_value(alloc: Global, reader: &mut R, header: Header) -> Result<Self, Error> {
         decode_sequence::<R, CertReqInfoFields<'a>, Self>(alloc, reader, header)
@@ -78,9 +86,11 @@ impl<'a, R: Reader<Borrowed = &'a [u8]>> DecodeValue<R> for CertReqInfo<'a> {
 
 /// Writes the fields one after the other, with the errors of every [`Sequence`].
 impl<'a> EncodeValue for CertReqInfo<'a> {
-    ghost value_size = { λ v. ⟦<CertReqInfoFields<'a> as Encode>⟧.size (⟦<CertReqInfo<'a> as FromFields<CertReqInfoFields<'a>>>⟧.fields v) };
+    ghost value_size = { λ v. ⟦<CertReqInfoFields<'a> as Encode>⟧.size
+        (⟦<CertReqInfo<'a> as FromFields<CertReqInfoFields<'a>>>⟧.fields v) };
 
-    ghost encode_value_answers = { λ v. ⟦<CertReqInfoFields<'a> as Encode>⟧.encode_answers (⟦<CertReqInfo<'a> as FromFields<CertReqInfoFields<'a>>>⟧.fields v) };
+    ghost encode_value_answers = { λ v. ⟦<CertReqInfoFields<'a> as Encode>⟧.encode_answers
+        (⟦<CertReqInfo<'a> as FromFields<CertReqInfoFields<'a>>>⟧.fields v) };
 
     fn value_len(&self) -> Result<Length, Error> {
         field_refs!(self, ((version, subject), (public_key, attributes))).encoded_len()

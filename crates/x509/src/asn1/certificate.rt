@@ -1,4 +1,6 @@
-//! Certificate of the module X509. Written by asn1_compile: change the module instead.
+//! Written by asn1_compile from the module X509: change the module instead.
+//!
+//! Certificate.
 ghost use Rattle.std.specs.Prelude.{◌≡◌};
 ghost use Rattle.std.proofs.Common.{arith, refl};
 ghost use Rattle.der.specs.Prelude.{map_ok};
@@ -45,7 +47,11 @@ impl<'a> FromFields<CertificateFields<'a>> for Certificate<'a> {
 }
 
 impl<'a> Sequence for Certificate<'a> {
-    ghost meaning = { sequence (two_fields (field (alternative ⟦<TbsCertificate<'a> as Described>⟧.element)) (two_fields (field (alternative ⟦<AlgorithmIdentifierRef<'a> as Described>⟧.element)) (field (alternative ⟦<BitStringRef<'a> as Described>⟧.element)))) ⟦<Certificate<'a> as FromFields<CertificateFields<'a>>>⟧.fields };
+    ghost meaning = { sequence (two_fields (field (alternative
+        ⟦<TbsCertificate<'a> as Described>⟧.element)) (two_fields (field (alternative
+        ⟦<AlgorithmIdentifierRef<'a> as Described>⟧.element)) (field (alternative
+        ⟦<BitStringRef<'a> as Described>⟧.element))))
+        ⟦<Certificate<'a> as FromFields<CertificateFields<'a>>>⟧.fields };
 
     ghost fits = { (refl, refl) };
 }
@@ -55,7 +61,8 @@ impl<'a, R: Reader<Borrowed = &'a [u8]>> DecodeValue<R> for Certificate<'a> {
     type Error = Error;
 
     ghost decode_value_answers = { λ h s result t.
-        ⟦<CertificateFields<'a> as Decode<SliceReader<'a>>>⟧.decode_answers s (map_ok ⟦<Certificate<'a> as FromFields<CertificateFields<'a>>>⟧.fields result) t };
+        ⟦<CertificateFields<'a> as Decode<SliceReader<'a>>>⟧.decode_answers s (map_ok
+        ⟦<Certificate<'a> as FromFields<CertificateFields<'a>>>⟧.fields result) t };
 
     fn decode_value(alloc: Global, reader: &mut R, header: Header) -> Result<Self, Error> {
         decode_sequence::<R, CertificateFields<'a>, Self>(alloc, reader, header)
@@ -70,9 +77,11 @@ impl<'a, R: Reader<Borrowed = &'a [u8]>> DecodeValue<R> for Certificate<'a> {
 
 /// Writes the fields one after the other, with the errors of every [`Sequence`].
 impl<'a> EncodeValue for Certificate<'a> {
-    ghost value_size = { λ v. ⟦<CertificateFields<'a> as Encode>⟧.size (⟦<Certificate<'a> as FromFields<CertificateFields<'a>>>⟧.fields v) };
+    ghost value_size = { λ v. ⟦<CertificateFields<'a> as Encode>⟧.size
+        (⟦<Certificate<'a> as FromFields<CertificateFields<'a>>>⟧.fields v) };
 
-    ghost encode_value_answers = { λ v. ⟦<CertificateFields<'a> as Encode>⟧.encode_answers (⟦<Certificate<'a> as FromFields<CertificateFields<'a>>>⟧.fields v) };
+    ghost encode_value_answers = { λ v. ⟦<CertificateFields<'a> as Encode>⟧.encode_answers
+        (⟦<Certificate<'a> as FromFields<CertificateFields<'a>>>⟧.fields v) };
 
     fn value_len(&self) -> Result<Length, Error> {
         field_refs!(self, (tbs_certificate, (signature_algorithm, signature))).encoded_len()

@@ -1,4 +1,6 @@
-//! Extension of the module X509. Written by asn1_compile: change the module instead.
+//! Written by asn1_compile from the module X509: change the module instead.
+//!
+//! Extension.
 ghost use Rattle.std.specs.Prelude.{◌≡◌};
 ghost use Rattle.std.proofs.Common.{arith, refl};
 ghost use Rattle.der.specs.Prelude.{map_ok};
@@ -47,7 +49,12 @@ impl<'a> FromFields<ExtensionFields<'a>> for Extension<'a> {
 }
 
 impl<'a> Sequence for Extension<'a> {
-    ghost meaning = { sequence (two_fields (field (alternative ⟦<ObjectIdentifierRef<'a> as Described>⟧.element)) (two_fields (defaulted ⟦<BooleanRef<'a> as DefaultValue>⟧.is_default (alternative ⟦<BooleanRef<'a> as Described>⟧.element)) (field (alternative ⟦<OctetStringRef<'a> as Described>⟧.element)))) ⟦<Extension<'a> as FromFields<ExtensionFields<'a>>>⟧.fields };
+    ghost meaning = { sequence (two_fields (field (alternative
+        ⟦<ObjectIdentifierRef<'a> as Described>⟧.element)) (two_fields (defaulted
+        ⟦<BooleanRef<'a> as DefaultValue>⟧.is_default (alternative
+        ⟦<BooleanRef<'a> as Described>⟧.element)) (field (alternative
+        ⟦<OctetStringRef<'a> as Described>⟧.element))))
+        ⟦<Extension<'a> as FromFields<ExtensionFields<'a>>>⟧.fields };
 
     ghost fits = { (refl, refl) };
 }
@@ -57,7 +64,8 @@ impl<'a, R: Reader<Borrowed = &'a [u8]>> DecodeValue<R> for Extension<'a> {
     type Error = Error;
 
     ghost decode_value_answers = { λ h s result t.
-        ⟦<ExtensionFields<'a> as Decode<SliceReader<'a>>>⟧.decode_answers s (map_ok ⟦<Extension<'a> as FromFields<ExtensionFields<'a>>>⟧.fields result) t };
+        ⟦<ExtensionFields<'a> as Decode<SliceReader<'a>>>⟧.decode_answers s (map_ok
+        ⟦<Extension<'a> as FromFields<ExtensionFields<'a>>>⟧.fields result) t };
 
     fn decode_value(alloc: Global, reader: &mut R, header: Header) -> Result<Self, Error> {
         decode_sequence::<R, ExtensionFields<'a>, Self>(alloc, reader, header)
@@ -72,9 +80,11 @@ impl<'a, R: Reader<Borrowed = &'a [u8]>> DecodeValue<R> for Extension<'a> {
 
 /// Writes the fields one after the other, with the errors of every [`Sequence`].
 impl<'a> EncodeValue for Extension<'a> {
-    ghost value_size = { λ v. ⟦<ExtensionFields<'a> as Encode>⟧.size (⟦<Extension<'a> as FromFields<ExtensionFields<'a>>>⟧.fields v) };
+    ghost value_size = { λ v. ⟦<ExtensionFields<'a> as Encode>⟧.size
+        (⟦<Extension<'a> as FromFields<ExtensionFields<'a>>>⟧.fields v) };
 
-    ghost encode_value_answers = { λ v. ⟦<ExtensionFields<'a> as Encode>⟧.encode_answers (⟦<Extension<'a> as FromFields<ExtensionFields<'a>>>⟧.fields v) };
+    ghost encode_value_answers = { λ v. ⟦<ExtensionFields<'a> as Encode>⟧.encode_answers
+        (⟦<Extension<'a> as FromFields<ExtensionFields<'a>>>⟧.fields v) };
 
     fn value_len(&self) -> Result<Length, Error> {
         field_refs!(self, (extn_id, (critical, extn_value))).encoded_len()

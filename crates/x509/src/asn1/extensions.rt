@@ -1,4 +1,6 @@
-//! Extensions of the module X509. Written by asn1_compile: change the module instead.
+//! Written by asn1_compile from the module X509: change the module instead.
+//!
+//! Extensions.
 ghost use Rattle.std.specs.Prelude.{◌≡◌, false};
 ghost use Rattle.std.proofs.Common.{arith, refl};
 ghost use Rattle.der.specs.Prelude.{map_ok};

@@ -1,4 +1,6 @@
-//! GeneralName of the module X509. Written by asn1_compile: change the module instead.
+//! Written by asn1_compile from the module X509: change the module instead.
+//!
+//! GeneralName.
 ghost use Rattle.std.specs.Prelude.{false};
 ghost use Rattle.std.proofs.Common.{refl};
 ghost use Rattle.der.specs.Prelude.{map_ok};
@@ -126,7 +128,10 @@ impl<'a> FromFields<GeneralNameAlternatives<'a>> for GeneralName<'a> {
 }
 
 impl<'a> DescribedChoice for GeneralName<'a> {
-    ghost alternative = { choice_of (either ⟦<GeneralNamePart1<'a> as DescribedChoice>⟧.alternative (either ⟦<GeneralNamePart2<'a> as DescribedChoice>⟧.alternative ⟦<GeneralNamePart3<'a> as DescribedChoice>⟧.alternative)) ⟦<GeneralName<'a> as FromFields<GeneralNameAlternatives<'a>>>⟧.fields };
+    ghost alternative = { choice_of (either ⟦<GeneralNamePart1<'a> as DescribedChoice>⟧.alternative
+        (either ⟦<GeneralNamePart2<'a> as DescribedChoice>⟧.alternative
+        ⟦<GeneralNamePart3<'a> as DescribedChoice>⟧.alternative))
+        ⟦<GeneralName<'a> as FromFields<GeneralNameAlternatives<'a>>>⟧.fields };
 }
 
 /// Decodes the alternative whose tag is next, with the errors of [`Either`].
@@ -208,7 +213,8 @@ impl<'a> Item for GeneralName<'a> {
 impl<'a, R: Reader<Borrowed = &'a [u8]>> DecodeItem<R> for GeneralName<'a> {
     ghost is_item = { choice_is_item ⟦<GeneralName<'a> as DescribedChoice>⟧.alternative refl };
 
-    ghost decodes_items = { decodes_same (choice_item ⟦<GeneralName<'a> as DescribedChoice>⟧.alternative) };
+    ghost decodes_items = { decodes_same (choice_item
+        ⟦<GeneralName<'a> as DescribedChoice>⟧.alternative) };
 }
 
 impl<'a> BorrowedItem for GeneralName<'a> {

@@ -1,4 +1,6 @@
-//! GeneralNamePart1 of the module X509. Written by asn1_compile: change the module instead.
+//! Written by asn1_compile from the module X509: change the module instead.
+//!
+//! GeneralNamePart1.
 ghost use Rattle.std.specs.Prelude.{false};
 ghost use Rattle.der.specs.Prelude.{map_ok};
 ghost use Rattle.der_asn1.specs.Meaning.{alternative, choice_of, either};
@@ -29,7 +31,10 @@ impl<'a> FromFields<GeneralNamePart1Alternatives<'a>> for GeneralNamePart1<'a> {
 }
 
 impl<'a> DescribedChoice for GeneralNamePart1<'a> {
-    ghost alternative = { choice_of (either (alternative ⟦<Implicit<OtherName<'a>, 0> as Described>⟧.element) (either (alternative ⟦<Implicit<Ia5StringRef<'a>, 1> as Described>⟧.element) (alternative ⟦<Implicit<Ia5StringRef<'a>, 2> as Described>⟧.element))) (λ v. v.choice) };
+    ghost alternative = { choice_of (either (alternative
+        ⟦<Implicit<OtherName<'a>, 0> as Described>⟧.element) (either (alternative
+        ⟦<Implicit<Ia5StringRef<'a>, 1> as Described>⟧.element) (alternative
+        ⟦<Implicit<Ia5StringRef<'a>, 2> as Described>⟧.element))) (λ v. v.choice) };
 }
 
 impl<'a, R: Reader<Borrowed = &'a [u8]>> Decode<R> for GeneralNamePart1<'a> {
@@ -69,7 +74,8 @@ impl<'a> Encode for GeneralNamePart1<'a> {
 
     ghost size = { λ v. ⟦<GeneralNamePart1Alternatives<'a> as Encode>⟧.size v.choice };
 
-    ghost encode_answers = { λ v. ⟦<GeneralNamePart1Alternatives<'a> as Encode>⟧.encode_answers v.choice };
+    ghost encode_answers = { λ v.
+        ⟦<GeneralNamePart1Alternatives<'a> as Encode>⟧.encode_answers v.choice };
 
     #[inline(always)]
     fn encoded_len(&self) -> Result<Length, Error> {

@@ -1,4 +1,6 @@
-//! GeneralNamePart2 of the module X509. Written by asn1_compile: change the module instead.
+//! Written by asn1_compile from the module X509: change the module instead.
+//!
+//! GeneralNamePart2.
 ghost use Rattle.std.specs.Prelude.{false};
 ghost use Rattle.der.specs.Prelude.{map_ok};
 ghost use Rattle.der_asn1.specs.Meaning.{alternative, choice_of, either};
@@ -31,7 +33,10 @@ impl<'a> FromFields<GeneralNamePart2Alternatives<'a>> for GeneralNamePart2<'a> {
 }
 
 impl<'a> DescribedChoice for GeneralNamePart2<'a> {
-    ghost alternative = { choice_of (either (alternative ⟦<Implicit<SequenceRef<'a>, 3> as Described>⟧.element) (either (alternative ⟦<Explicit<Name<'a>, 4> as Described>⟧.element) (alternative ⟦<Implicit<SequenceRef<'a>, 5> as Described>⟧.element))) (λ v. v.choice) };
+    ghost alternative = { choice_of (either (alternative
+        ⟦<Implicit<SequenceRef<'a>, 3> as Described>⟧.element) (either (alternative
+        ⟦<Explicit<Name<'a>, 4> as Described>⟧.element) (alternative
+        ⟦<Implicit<SequenceRef<'a>, 5> as Described>⟧.element))) (λ v. v.choice) };
 }
 
 impl<'a, R: Reader<Borrowed = &'a [u8]>> Decode<R> for GeneralNamePart2<'a> {
@@ -71,7 +76,8 @@ impl<'a> Encode for GeneralNamePart2<'a> {
 
     ghost size = { λ v. ⟦<GeneralNamePart2Alternatives<'a> as Encode>⟧.size v.choice };
 
-    ghost encode_answers = { λ v. ⟦<GeneralNamePart2Alternatives<'a> as Encode>⟧.encode_answers v.choice };
+    ghost encode_answers = { λ v.
+        ⟦<GeneralNamePart2Alternatives<'a> as Encode>⟧.encode_answers v.choice };
 
     #[inline(always)]
     fn encoded_len(&self) -> Result<Length, Error> {

@@ -1,4 +1,6 @@
-//! GeneralNames of the module X509. Written by asn1_compile: change the module instead.
+//! Written by asn1_compile from the module X509: change the module instead.
+//!
+//! GeneralNames.
 
 use crate::asn1::general_name::GeneralName;
 use der_asn1::SequenceOf;

@@ -1,4 +1,6 @@
-//! Name of the module X509. Written by asn1_compile: change the module instead.
+//! Written by asn1_compile from the module X509: change the module instead.
+//!
+//! Name.
 ghost use Rattle.std.specs.Prelude.{◌≡◌, false};
 ghost use Rattle.std.proofs.Common.{arith, refl};
 ghost use Rattle.der.specs.Prelude.{map_ok};
@@ -58,7 +60,8 @@ impl<'a, R: Reader<Borrowed = &'a [u8]>> DecodeValue<R> for Name<'a> {
 impl<'a> EncodeValue for Name<'a> {
     ghost value_size = { λ v. ⟦<Items<'a> as EncodeValue>⟧.value_size v.levels };
 
-    ghost encode_value_answers = { λ v. ⟦<Items<'a> as EncodeValue>⟧.encode_value_answers v.levels };
+    ghost encode_value_answers = { λ v.
+        ⟦<Items<'a> as EncodeValue>⟧.encode_value_answers v.levels };
 
     fn value_len(&self) -> Result<Length, Error> {
         self.levels.value_len()

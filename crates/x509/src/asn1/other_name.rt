@@ -1,4 +1,6 @@
-//! OtherName of the module X509. Written by asn1_compile: change the module instead.
+//! Written by asn1_compile from the module X509: change the module instead.
+//!
+//! OtherName.
 ghost use Rattle.std.specs.Prelude.{◌≡◌};
 ghost use Rattle.std.proofs.Common.{arith, refl};
 ghost use Rattle.der.specs.Prelude.{map_ok};
@@ -36,7 +38,10 @@ impl<'a> FromFields<OtherNameFields<'a>> for OtherName<'a> {
 }
 
 impl<'a> Sequence for OtherName<'a> {
-    ghost meaning = { sequence (two_fields (field (alternative ⟦<ObjectIdentifierRef<'a> as Described>⟧.element)) (field (alternative ⟦<ExplicitAny<'a, 0> as Described>⟧.element))) ⟦<OtherName<'a> as FromFields<OtherNameFields<'a>>>⟧.fields };
+    ghost meaning = { sequence (two_fields (field (alternative
+        ⟦<ObjectIdentifierRef<'a> as Described>⟧.element)) (field (alternative
+        ⟦<ExplicitAny<'a, 0> as Described>⟧.element)))
+        ⟦<OtherName<'a> as FromFields<OtherNameFields<'a>>>⟧.fields };
 
     ghost fits = { (refl, refl) };
 }
@@ -46,7 +51,8 @@ impl<'a, R: Reader<Borrowed = &'a [u8]>> DecodeValue<R> for OtherName<'a> {
     type Error = Error;
 
     ghost decode_value_answers = { λ h s result t.
-        ⟦<OtherNameFields<'a> as Decode<SliceReader<'a>>>⟧.decode_answers s (map_ok ⟦<OtherName<'a> as FromFields<OtherNameFields<'a>>>⟧.fields result) t };
+        ⟦<OtherNameFields<'a> as Decode<SliceReader<'a>>>⟧.decode_answers s (map_ok
+        ⟦<OtherName<'a> as FromFields<OtherNameFields<'a>>>⟧.fields result) t };
 
     fn decode_value(alloc: Global, reader: &mut R, header: Header) -> Result<Self, Error> {
         decode_sequence::<R, OtherNameFields<'a>, Self>(alloc, reader, header)
@@ -60,9 +66,11 @@ impl<'a, R: Reader<Borrowed = &'a [u8]>> DecodeValue<R> for OtherName<'a> {
 
 /// Writes the fields one after the other, with the errors of every [`Sequence`].
 impl<'a> EncodeValue for OtherName<'a> {
-    ghost value_size = { λ v. ⟦<OtherNameFields<'a> as Encode>⟧.size (⟦<OtherName<'a> as FromFields<OtherNameFields<'a>>>⟧.fields v) };
+    ghost value_size = { λ v. ⟦<OtherNameFields<'a> as Encode>⟧.size
+        (⟦<OtherName<'a> as FromFields<OtherNameFields<'a>>>⟧.fields v) };
 
-    ghost encode_value_answers = { λ v. ⟦<OtherNameFields<'a> as Encode>⟧.encode_answers (⟦<OtherName<'a> as FromFields<OtherNameFields<'a>>>⟧.fields v) };
+    ghost encode_value_answers = { λ v. ⟦<OtherNameFields<'a> as Encode>⟧.encode_answers
+        (⟦<OtherName<'a> as FromFields<OtherNameFields<'a>>>⟧.fields v) };
 
     fn value_len(&self) -> Result<Length, Error> {
         field_refs!(self, (type_id, value)).encoded_len()

@@ -1,4 +1,6 @@
-//! RelativeDistinguishedName of the module X509. Written by asn1_compile: change the module instead.
+//! Written by asn1_compile from the module X509: change the module instead.
+//!
+//! RelativeDistinguishedName.
 ghost use Rattle.std.specs.Prelude.{◌≡◌, false};
 ghost use Rattle.std.proofs.Common.{arith, refl};
 ghost use Rattle.der.specs.Prelude.{Set, map_ok};
@@ -90,7 +92,8 @@ impl<'a, R: Reader<Borrowed = &'a [u8]>> DecodeValue<R> for RelativeDistinguishe
 impl<'a> EncodeValue for RelativeDistinguishedName<'a> {
     ghost value_size = { λ v. ⟦<Items<'a> as EncodeValue>⟧.value_size v.attributes };
 
-    ghost encode_value_answers = { λ v. ⟦<Items<'a> as EncodeValue>⟧.encode_value_answers v.attributes };
+    ghost encode_value_answers = { λ v.
+        ⟦<Items<'a> as EncodeValue>⟧.encode_value_answers v.attributes };
 
     fn value_len(&self) -> Result<Length, Error> {
         self.attributes.value_len()
@@ -106,9 +109,11 @@ impl<'a> Item for RelativeDistinguishedName<'a> {
 }
 
 impl<'a, R: Reader<Borrowed = &'a [u8]>> DecodeItem<R> for RelativeDistinguishedName<'a> {
-    ghost is_item = { sequence_is_item ⟦<RelativeDistinguishedName<'a> as Described>⟧.element refl };
+    ghost is_item = { sequence_is_item
+        ⟦<RelativeDistinguishedName<'a> as Described>⟧.element refl };
 
-    ghost decodes_items = { decodes_same (sequence_item ⟦<RelativeDistinguishedName<'a> as Described>⟧.element) };
+    ghost decodes_items = { decodes_same (sequence_item
+        ⟦<RelativeDistinguishedName<'a> as Described>⟧.element) };
 }
 
 impl<'a> BorrowedItem for RelativeDistinguishedName<'a> {

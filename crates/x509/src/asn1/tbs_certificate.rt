@@ -1,6 +1,7 @@
-//! TbsCertificate of the module X509. Written by asn1_compile: change the module instead.
-ghost use Rattle.std.specs.Prelude.{false};
-ghost use Rattle.std.specs.Prelude.{◌≡◌};
+//! Written by asn1_compile from the module X509: change the module instead.
+//!
+//! TbsCertificate.
+ghost use Rattle.std.specs.Prelude.{◌≡◌, false};
 ghost use Rattle.std.proofs.Common.{arith, refl};
 ghost use Rattle.der.specs.Prelude.{map_ok};
 ghost use Rattle.der_asn1.specs.Integer.{integer_octets};
@@ -11,11 +12,12 @@ use crate::asn1::extensions::Extensions;
 use crate::asn1::name::Name;
 use crate::asn1::tbs_certificate_part1::{TbsCertificatePart1, TbsCertificatePart1Fields};
 use crate::asn1::tbs_certificate_part2::{TbsCertificatePart2, TbsCertificatePart2Fields};
+use crate::asn1::tbs_certificate_part3::{TbsCertificatePart3, TbsCertificatePart3Fields};
 use crate::asn1::validity::Validity;
 use crate::asn1::version::Version;
 use der::{
     Decode, DecodeValue, Encode, EncodeValue, Error, FromFields, Header, Length, Reader, Sequence,
-    SliceReader, Writer, decode_sequence, field_refs,
+    SliceReader, Writer, decode_sequence,
 };
 use der_asn1::{
     BitStringRef, BorrowedItem, DecodeItem, DefaultOf, DefaultValue, Defaulted, Described,
@@ -54,30 +56,80 @@ pub struct TbsCertificate<'a> {
 }
 
 /// The fields of a [`TbsCertificate`] in pairs, in the order in which they are encoded.
-pub type TbsCertificateFields<'a> = (TbsCertificatePart1Fields<'a>, TbsCertificatePart2Fields<'a>);
+pub type TbsCertificateFields<'a> = (
+    TbsCertificatePart1Fields<'a>,
+    (TbsCertificatePart2Fields<'a>, TbsCertificatePart3Fields<'a>),
+);
 
-impl<'a> FromFields<(TbsCertificatePart1<'a>, TbsCertificatePart2<'a>)> for TbsCertificate<'a> {
-    ghost fields = { λ v. (record { version = v.version; serial_number = v.serial_number; signature = v.signature; issuer = v.issuer; validity = v.validity }, record { subject = v.subject; subject_public_key_info = v.subject_public_key_info; issuer_unique_id = v.issuer_unique_id; subject_unique_id = v.subject_unique_id; extensions = v.extensions }) };
+impl<'a> FromFields<
+    (
+        TbsCertificatePart1<'a>,
+        (TbsCertificatePart2<'a>, TbsCertificatePart3<'a>),
+    ),
+> for TbsCertificate<'a> {
+    ghost fields = { λ v. (
+      record {
+        version = v.version;
+        serial_number = v.serial_number;
+        signature = v.signature;
+        issuer = v.issuer;
+      },
+      (
+        record {
+          validity = v.validity;
+          subject = v.subject;
+          subject_public_key_info = v.subject_public_key_info;
+          issuer_unique_id = v.issuer_unique_id;
+        },
+        record {
+          subject_unique_id = v.subject_unique_id;
+          extensions = v.extensions;
+        },
+      ),
+    ) };
 
-    fn from_fields(members: (TbsCertificatePart1<'a>, TbsCertificatePart2<'a>)) -> Self {
-        let (part1, part2) = members;
+    fn from_fields(
+        members: (
+            TbsCertificatePart1<'a>,
+            (TbsCertificatePart2<'a>, TbsCertificatePart3<'a>),
+        ),
+    ) -> Self {
+        let (part1, (part2, part3)) = members;
         TbsCertificate {
             version: part1.version,
             serial_number: part1.serial_number,
             signature: part1.signature,
             issuer: part1.issuer,
-            validity: part1.validity,
+            validity: part2.validity,
             subject: part2.subject,
             subject_public_key_info: part2.subject_public_key_info,
             issuer_unique_id: part2.issuer_unique_id,
-            subject_unique_id: part2.subject_unique_id,
-            extensions: part2.extensions,
+            subject_unique_id: part3.subject_unique_id,
+            extensions: part3.extensions,
         }
     }
 }
 
 impl<'a> Sequence for TbsCertificate<'a> {
-    ghost meaning = { sequence (two_fields (seen ⟦<TbsCertificatePart1<'a> as FromFields<TbsCertificatePart1Fields<'a>>>⟧.fields (two_fields (two_fields (defaulted ⟦<Explicit<WithDefault<NamedInteger<Version>, TbsCertificateVersionDefault>, 0> as DefaultValue>⟧.is_default (alternative ⟦<Explicit<WithDefault<NamedInteger<Version>, TbsCertificateVersionDefault>, 0> as Described>⟧.element)) (field (alternative ⟦<IntRef<'a> as Described>⟧.element))) (two_fields (field (alternative ⟦<AlgorithmIdentifierRef<'a> as Described>⟧.element)) (two_fields (field (alternative ⟦<Name<'a> as Described>⟧.element)) (field (alternative ⟦<Validity as Described>⟧.element)))))) (seen ⟦<TbsCertificatePart2<'a> as FromFields<TbsCertificatePart2Fields<'a>>>⟧.fields (two_fields (two_fields (field (alternative ⟦<Name<'a> as Described>⟧.element)) (field (alternative ⟦<SubjectPublicKeyInfoRef<'a> as Described>⟧.element))) (two_fields (optional (alternative ⟦<Implicit<BitStringRef<'a>, 1> as Described>⟧.element)) (two_fields (optional (alternative ⟦<Implicit<BitStringRef<'a>, 2> as Described>⟧.element)) (optional (alternative ⟦<Explicit<Extensions<'a>, 3> as Described>⟧.element))))))) ⟦<TbsCertificate<'a> as FromFields<(TbsCertificatePart1<'a>, TbsCertificatePart2<'a>)>>⟧.fields };
+    ghost meaning = { sequence (two_fields (seen
+        ⟦<TbsCertificatePart1<'a> as FromFields<TbsCertificatePart1Fields<'a>>>⟧.fields (two_fields
+        (two_fields (defaulted
+        ⟦<Explicit<WithDefault<NamedInteger<Version>, TbsCertificateVersionDefault>, 0> as DefaultValue>⟧.is_default
+        (alternative
+        ⟦<Explicit<WithDefault<NamedInteger<Version>, TbsCertificateVersionDefault>, 0> as Described>⟧.element))
+        (field (alternative ⟦<IntRef<'a> as Described>⟧.element))) (two_fields (field (alternative
+        ⟦<AlgorithmIdentifierRef<'a> as Described>⟧.element)) (field (alternative
+        ⟦<Name<'a> as Described>⟧.element))))) (two_fields (seen
+        ⟦<TbsCertificatePart2<'a> as FromFields<TbsCertificatePart2Fields<'a>>>⟧.fields (two_fields
+        (two_fields (field (alternative ⟦<Validity as Described>⟧.element)) (field (alternative
+        ⟦<Name<'a> as Described>⟧.element))) (two_fields (field (alternative
+        ⟦<SubjectPublicKeyInfoRef<'a> as Described>⟧.element)) (optional (alternative
+        ⟦<Implicit<BitStringRef<'a>, 1> as Described>⟧.element))))) (seen
+        ⟦<TbsCertificatePart3<'a> as FromFields<TbsCertificatePart3Fields<'a>>>⟧.fields (two_fields
+        (optional (alternative ⟦<Implicit<BitStringRef<'a>, 2> as Described>⟧.element)) (optional
+        (alternative ⟦<Explicit<Extensions<'a>, 3> as Described>⟧.element))))))
+        ⟦<TbsCertificate<'a> as FromFields<(TbsCertificatePart1<'a>,
+        (TbsCertificatePart2<'a>, TbsCertificatePart3<'a>))>>⟧.fields };
 
     ghost fits = { (refl, refl) };
 }
@@ -87,12 +139,20 @@ impl<'a, R: Reader<Borrowed = &'a [u8]>> DecodeValue<R> for TbsCertificate<'a> {
     type Error = Error;
 
     ghost decode_value_answers = { λ h s result t.
-        ⟦<(TbsCertificatePart1<'a>, TbsCertificatePart2<'a>) as Decode<SliceReader<'a>>>⟧.decode_answers s (map_ok ⟦<TbsCertificate<'a> as FromFields<(TbsCertificatePart1<'a>, TbsCertificatePart2<'a>)>>⟧.fields result) t };
+        ⟦<(TbsCertificatePart1<'a>,
+        (TbsCertificatePart2<'a>, TbsCertificatePart3<'a>)) as Decode<SliceReader<'a>>>⟧.decode_answers s
+        (map_ok ⟦<TbsCertificate<'a> as FromFields<(TbsCertificatePart1<'a>,
+        (TbsCertificatePart2<'a>, TbsCertificatePart3<'a>))>>⟧.fields result) t };
 
     fn decode_value(alloc: Global, reader: &mut R, header: Header) -> Result<Self, Error> {
-        decode_sequence::<R, (TbsCertificatePart1<'a>, TbsCertificatePart2<'a>), Self>(
-            alloc, reader, header,
-        )
+        decode_sequence::<
+            R,
+            (
+                TbsCertificatePart1<'a>,
+                (TbsCertificatePart2<'a>, TbsCertificatePart3<'a>),
+            ),
+            Self,
+        >(alloc, reader, header)
     }
 
     fn is_value(&self) {
@@ -120,36 +180,57 @@ impl<'a, R: Reader<Borrowed = &'a [u8]>> DecodeValue<R> for TbsCertificate<'a> {
 
 /// Writes the fields one after the other, with the errors of every [`Sequence`].
 impl<'a> EncodeValue for TbsCertificate<'a> {
-    ghost value_size = { λ v. ⟦<TbsCertificateFields<'a> as Encode>⟧.size (⟦<TbsCertificatePart1<'a> as FromFields<TbsCertificatePart1Fields<'a>>>⟧.fields (⟦<TbsCertificate<'a> as FromFields<(TbsCertificatePart1<'a>, TbsCertificatePart2<'a>)>>⟧.fields v).0, ⟦<TbsCertificatePart2<'a> as FromFields<TbsCertificatePart2Fields<'a>>>⟧.fields (⟦<TbsCertificate<'a> as FromFields<(TbsCertificatePart1<'a>, TbsCertificatePart2<'a>)>>⟧.fields v).1) };
+    ghost value_size = { λ v. ⟦<(TbsCertificatePart1<'a>,
+        (TbsCertificatePart2<'a>, TbsCertificatePart3<'a>)) as Encode>⟧.size
+        (⟦<TbsCertificate<'a> as FromFields<(TbsCertificatePart1<'a>,
+        (TbsCertificatePart2<'a>, TbsCertificatePart3<'a>))>>⟧.fields v) };
 
-    ghost encode_value_answers = { λ v. ⟦<TbsCertificateFields<'a> as Encode>⟧.encode_answers (⟦<TbsCertificatePart1<'a> as FromFields<TbsCertificatePart1Fields<'a>>>⟧.fields (⟦<TbsCertificate<'a> as FromFields<(TbsCertificatePart1<'a>, TbsCertificatePart2<'a>)>>⟧.fields v).0, ⟦<TbsCertificatePart2<'a> as FromFields<TbsCertificatePart2Fields<'a>>>⟧.fields (⟦<TbsCertificate<'a> as FromFields<(TbsCertificatePart1<'a>, TbsCertificatePart2<'a>)>>⟧.fields v).1) };
+    ghost encode_value_answers = { λ v. ⟦<(TbsCertificatePart1<'a>,
+        (TbsCertificatePart2<'a>, TbsCertificatePart3<'a>)) as Encode>⟧.encode_answers
+        (⟦<TbsCertificate<'a> as FromFields<(TbsCertificatePart1<'a>,
+        (TbsCertificatePart2<'a>, TbsCertificatePart3<'a>))>>⟧.fields v) };
 
     fn value_len(&self) -> Result<Length, Error> {
-        field_refs!(
-            self,
-            (
-                ((version, serial_number), (signature, (issuer, validity))),
-                (
-                    (subject, subject_public_key_info),
-                    (issuer_unique_id, (subject_unique_id, extensions))
-                )
-            )
-        )
-        .encoded_len()
+        self.parts().encoded_len()
     }
 
     fn encode_value<W: Writer>(&self, writer: &mut W) -> Result<(), Error> {
-        field_refs!(
-            self,
+        self.parts().encode(writer)
+    }
+}
+
+impl<'a> TbsCertificate<'a> {
+    // The fields in parts.
+    #[inline(always)]
+    fn parts(
+        &self,
+    ) -> (
+        TbsCertificatePart1<'a>,
+        (TbsCertificatePart2<'a>, TbsCertificatePart3<'a>),
+    )
+        ensures { result ≡ ⟦<TbsCertificate<'a> as FromFields<(TbsCertificatePart1<'a>,
+        (TbsCertificatePart2<'a>, TbsCertificatePart3<'a>))>>⟧.fields self.now }
+    {
+        (
+            TbsCertificatePart1 {
+                version: self.version,
+                serial_number: self.serial_number,
+                signature: self.signature,
+                issuer: self.issuer,
+            },
             (
-                ((version, serial_number), (signature, (issuer, validity))),
-                (
-                    (subject, subject_public_key_info),
-                    (issuer_unique_id, (subject_unique_id, extensions))
-                )
-            )
+                TbsCertificatePart2 {
+                    validity: self.validity,
+                    subject: self.subject,
+                    subject_public_key_info: self.subject_public_key_info,
+                    issuer_unique_id: self.issuer_unique_id,
+                },
+                TbsCertificatePart3 {
+                    subject_unique_id: self.subject_unique_id,
+                    extensions: self.extensions,
+                },
+            ),
         )
-        .encode(writer)
     }
 }
 
@@ -160,7 +241,8 @@ impl<'a> Item for TbsCertificate<'a> {
 impl<'a, R: Reader<Borrowed = &'a [u8]>> DecodeItem<R> for TbsCertificate<'a> {
     ghost is_item = { sequence_is_item ⟦<TbsCertificate<'a> as Described>⟧.element refl };
 
-    ghost decodes_items = { decodes_same (sequence_item ⟦<TbsCertificate<'a> as Described>⟧.element) };
+    ghost decodes_items = { decodes_same (sequence_item
+        ⟦<TbsCertificate<'a> as Described>⟧.element) };
 }
 
 impl<'a> BorrowedItem for TbsCertificate<'a> {

@@ -1,12 +1,16 @@
-//! TbsCertificatePart1 of the module X509. Written by asn1_compile: change the module instead.
+//! Written by asn1_compile from the module X509: change the module instead.
+//!
+//! TbsCertificatePart1.
 ghost use Rattle.std.specs.Prelude.{false};
 ghost use Rattle.der.specs.Prelude.{map_ok};
 
 use crate::asn1::name::Name;
 use crate::asn1::tbs_certificate::TbsCertificateVersionDefault;
-use crate::asn1::validity::Validity;
 use crate::asn1::version::Version;
-use der::{Decode, Error, FromFields, Reader, SliceReader, decode_fields};
+use der::{
+    Decode, Encode, Error, FromFields, Length, Reader, SliceReader, Writer, decode_fields,
+    field_refs,
+};
 use der_asn1::{Defaulted, Explicit, IntRef, NamedInteger, WithDefault};
 use spki::AlgorithmIdentifierRef;
 use std::alloc::Global;
@@ -20,7 +24,6 @@ pub(crate) struct TbsCertificatePart1<'a> {
     pub(crate) serial_number: IntRef<'a>,
     pub(crate) signature: AlgorithmIdentifierRef<'a>,
     pub(crate) issuer: Name<'a>,
-    pub(crate) validity: Validity,
 }
 
 // The fields in pairs, in the order in which they are encoded.
@@ -29,20 +32,19 @@ pub(crate) type TbsCertificatePart1Fields<'a> = (
         Defaulted<Explicit<WithDefault<NamedInteger<Version>, TbsCertificateVersionDefault>, 0>>,
         IntRef<'a>,
     ),
-    (AlgorithmIdentifierRef<'a>, (Name<'a>, Validity)),
+    (AlgorithmIdentifierRef<'a>, Name<'a>),
 );
 
 impl<'a> FromFields<TbsCertificatePart1Fields<'a>> for TbsCertificatePart1<'a> {
-    ghost fields = { λ v. ((v.version, v.serial_number), (v.signature, (v.issuer, v.validity))) };
+    ghost fields = { λ v. ((v.version, v.serial_number), (v.signature, v.issuer)) };
 
     fn from_fields(members: TbsCertificatePart1Fields<'a>) -> Self {
-        let ((version, serial_number), (signature, (issuer, validity))) = members;
+        let ((version, serial_number), (signature, issuer)) = members;
         TbsCertificatePart1 {
             version,
             serial_number,
             signature,
             issuer,
-            validity,
         }
     }
 }
@@ -63,5 +65,29 @@ impl<'a, R: Reader<Borrowed = &'a [u8]>> Decode<R> for TbsCertificatePart1<'a> {
 
     fn decode(alloc: Global, reader: &mut R) -> Result<Self, Error> {
         decode_fields::<R, TbsCertificatePart1Fields<'a>, Self>(alloc, reader)
+    }
+}
+
+impl<'a> Encode for TbsCertificatePart1<'a> {
+    ghost encoding = { λ v. ⟦<TbsCertificatePart1Fields<'a> as Encode>⟧.encoding
+        (⟦<TbsCertificatePart1<'a> as FromFields<TbsCertificatePart1Fields<'a>>>⟧.fields v) };
+
+    ghost encodable = { λ v. ⟦<TbsCertificatePart1Fields<'a> as Encode>⟧.encodable
+        (⟦<TbsCertificatePart1<'a> as FromFields<TbsCertificatePart1Fields<'a>>>⟧.fields v) };
+
+    ghost size = { λ v. ⟦<TbsCertificatePart1Fields<'a> as Encode>⟧.size
+        (⟦<TbsCertificatePart1<'a> as FromFields<TbsCertificatePart1Fields<'a>>>⟧.fields v) };
+
+    ghost encode_answers = { λ v. ⟦<TbsCertificatePart1Fields<'a> as Encode>⟧.encode_answers
+        (⟦<TbsCertificatePart1<'a> as FromFields<TbsCertificatePart1Fields<'a>>>⟧.fields v) };
+
+    #[inline(always)]
+    fn encoded_len(&self) -> Result<Length, Error> {
+        field_refs!(self, ((version, serial_number), (signature, issuer))).encoded_len()
+    }
+
+    #[inline(always)]
+    fn encode<W: Writer>(&self, writer: &mut W) -> Result<(), Error> {
+        field_refs!(self, ((version, serial_number), (signature, issuer))).encode(writer)
     }
 }

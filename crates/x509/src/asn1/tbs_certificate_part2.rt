@@ -1,50 +1,47 @@
-//! TbsCertificatePart2 of the module X509. Written by asn1_compile: change the module instead.
+//! Written by asn1_compile from the module X509: change the module instead.
+//!
+//! TbsCertificatePart2.
 ghost use Rattle.std.specs.Prelude.{false};
 ghost use Rattle.der.specs.Prelude.{map_ok};
 
-use crate::asn1::extensions::Extensions;
 use crate::asn1::name::Name;
-use der::{Decode, Error, FromFields, Reader, SliceReader, decode_fields};
-use der_asn1::{BitStringRef, Explicit, Implicit, Optional};
+use crate::asn1::validity::Validity;
+use der::{
+    Decode, Encode, Error, FromFields, Length, Reader, SliceReader, Writer, decode_fields,
+    field_refs,
+};
+use der_asn1::{BitStringRef, Implicit, Optional};
 use spki::SubjectPublicKeyInfoRef;
 use std::alloc::Global;
 
 // Some fields of a TbsCertificate.
 #[derive(Drop)]
 pub(crate) struct TbsCertificatePart2<'a> {
+    pub(crate) validity: Validity,
     pub(crate) subject: Name<'a>,
     pub(crate) subject_public_key_info: SubjectPublicKeyInfoRef<'a>,
     pub(crate) issuer_unique_id: Optional<Implicit<BitStringRef<'a>, 1>>,
-    pub(crate) subject_unique_id: Optional<Implicit<BitStringRef<'a>, 2>>,
-    pub(crate) extensions: Optional<Explicit<Extensions<'a>, 3>>,
 }
 
 // The fields in pairs, in the order in which they are encoded.
 pub(crate) type TbsCertificatePart2Fields<'a> = (
-    (Name<'a>, SubjectPublicKeyInfoRef<'a>),
+    (Validity, Name<'a>),
     (
+        SubjectPublicKeyInfoRef<'a>,
         Optional<Implicit<BitStringRef<'a>, 1>>,
-        (
-            Optional<Implicit<BitStringRef<'a>, 2>>,
-            Optional<Explicit<Extensions<'a>, 3>>,
-        ),
     ),
 );
 
 impl<'a> FromFields<TbsCertificatePart2Fields<'a>> for TbsCertificatePart2<'a> {
-    ghost fields = { λ v. ((v.subject, v.subject_public_key_info), (v.issuer_unique_id, (v.subject_unique_id, v.extensions))) };
+    ghost fields = { λ v. ((v.validity, v.subject), (v.subject_public_key_info, v.issuer_unique_id)) };
 
     fn from_fields(members: TbsCertificatePart2Fields<'a>) -> Self {
-        let (
-            (subject, subject_public_key_info),
-            (issuer_unique_id, (subject_unique_id, extensions)),
-        ) = members;
+        let ((validity, subject), (subject_public_key_info, issuer_unique_id)) = members;
         TbsCertificatePart2 {
+            validity,
             subject,
             subject_public_key_info,
             issuer_unique_id,
-            subject_unique_id,
-            extensions,
         }
     }
 }
@@ -65,5 +62,43 @@ impl<'a, R: Reader<Borrowed = &'a [u8]>> Decode<R> for TbsCertificatePart2<'a> {
 
     fn decode(alloc: Global, reader: &mut R) -> Result<Self, Error> {
         decode_fields::<R, TbsCertificatePart2Fields<'a>, Self>(alloc, reader)
+    }
+}
+
+impl<'a> Encode for TbsCertificatePart2<'a> {
+    ghost encoding = { λ v. ⟦<TbsCertificatePart2Fields<'a> as Encode>⟧.encoding
+        (⟦<TbsCertificatePart2<'a> as FromFields<TbsCertificatePart2Fields<'a>>>⟧.fields v) };
+
+    ghost encodable = { λ v. ⟦<TbsCertificatePart2Fields<'a> as Encode>⟧.encodable
+        (⟦<TbsCertificatePart2<'a> as FromFields<TbsCertificatePart2Fields<'a>>>⟧.fields v) };
+
+    ghost size = { λ v. ⟦<TbsCertificatePart2Fields<'a> as Encode>⟧.size
+        (⟦<TbsCertificatePart2<'a> as FromFields<TbsCertificatePart2Fields<'a>>>⟧.fields v) };
+
+    ghost encode_answers = { λ v. ⟦<TbsCertificatePart2Fields<'a> as Encode>⟧.encode_answers
+        (⟦<TbsCertificatePart2<'a> as FromFields<TbsCertificatePart2Fields<'a>>>⟧.fields v) };
+
+    #[inline(always)]
+    fn encoded_len(&self) -> Result<Length, Error> {
+        field_refs!(
+            self,
+            (
+                (validity, subject),
+                (subject_public_key_info, issuer_unique_id)
+            )
+        )
+        .encoded_len()
+    }
+
+    #[inline(always)]
+    fn encode<W: Writer>(&self, writer: &mut W) -> Result<(), Error> {
+        field_refs!(
+            self,
+            (
+                (validity, subject),
+                (subject_public_key_info, issuer_unique_id)
+            )
+        )
+        .encode(writer)
     }
 }

@@ -1,4 +1,6 @@
-//! Time of the module X509. Written by asn1_compile: change the module instead.
+//! Written by asn1_compile from the module X509: change the module instead.
+//!
+//! Time.
 ghost use Rattle.std.specs.Prelude.{false};
 ghost use Rattle.std.proofs.Common.{refl};
 ghost use Rattle.der.specs.Prelude.{map_ok};
@@ -42,7 +44,9 @@ impl FromFields<TimeAlternatives> for Time {
 }
 
 impl DescribedChoice for Time {
-    ghost alternative = { choice_of (either (alternative ⟦<UtcTime as Described>⟧.element) (alternative ⟦<GeneralizedTime as Described>⟧.element)) ⟦<Time as FromFields<TimeAlternatives>>⟧.fields };
+    ghost alternative = { choice_of (either (alternative ⟦<UtcTime as Described>⟧.element)
+        (alternative ⟦<GeneralizedTime as Described>⟧.element))
+        ⟦<Time as FromFields<TimeAlternatives>>⟧.fields };
 }
 
 /// Decodes the alternative whose tag is next, with the errors of [`Either`].

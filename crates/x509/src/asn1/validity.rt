@@ -1,4 +1,6 @@
-//! Validity of the module X509. Written by asn1_compile: change the module instead.
+//! Written by asn1_compile from the module X509: change the module instead.
+//!
+//! Validity.
 ghost use Rattle.std.specs.Prelude.{◌≡◌};
 ghost use Rattle.std.proofs.Common.{arith, refl};
 ghost use Rattle.der.specs.Prelude.{map_ok};
@@ -41,7 +43,9 @@ impl FromFields<ValidityFields> for Validity {
 }
 
 impl Sequence for Validity {
-    ghost meaning = { sequence (two_fields (field ⟦<Time as DescribedChoice>⟧.alternative) (field ⟦<Time as DescribedChoice>⟧.alternative)) ⟦<Validity as FromFields<ValidityFields>>⟧.fields };
+    ghost meaning = { sequence (two_fields (field ⟦<Time as DescribedChoice>⟧.alternative) (field
+        ⟦<Time as DescribedChoice>⟧.alternative))
+        ⟦<Validity as FromFields<ValidityFields>>⟧.fields };
 
     ghost fits = { (refl, refl) };
 }
@@ -51,7 +55,8 @@ impl<'a, R: Reader<Borrowed = &'a [u8]>> DecodeValue<R> for Validity {
     type Error = Error;
 
     ghost decode_value_answers = { λ h s result t.
-        ⟦<ValidityFields as Decode<SliceReader<'a>>>⟧.decode_answers s (map_ok ⟦<Validity as FromFields<ValidityFields>>⟧.fields result) t };
+        ⟦<ValidityFields as Decode<SliceReader<'a>>>⟧.decode_answers s (map_ok
+        ⟦<Validity as FromFields<ValidityFields>>⟧.fields result) t };
 
     fn decode_value(alloc: Global, reader: &mut R, header: Header) -> Result<Self, Error> {
         decode_sequence::<R, ValidityFields, Self>(alloc, reader, header)
@@ -71,9 +76,11 @@ impl<'a, R: Reader<Borrowed = &'a [u8]>> DecodeValue<R> for Validity {
 
 /// Writes the fields one after the other, with the errors of every [`Sequence`].
 impl EncodeValue for Validity {
-    ghost value_size = { λ v. ⟦<ValidityFields as Encode>⟧.size (⟦<Validity as FromFields<ValidityFields>>⟧.fields v) };
+    ghost value_size = { λ v. ⟦<ValidityFields as Encode>⟧.size
+        (⟦<Validity as FromFields<ValidityFields>>⟧.fields v) };
 
-    ghost encode_value_answers = { λ v. ⟦<ValidityFields as Encode>⟧.encode_answers (⟦<Validity as FromFields<ValidityFields>>⟧.fields v) };
+    ghost encode_value_answers = { λ v. ⟦<ValidityFields as Encode>⟧.encode_answers
+        (⟦<Validity as FromFields<ValidityFields>>⟧.fields v) };
 
     fn value_len(&self) -> Result<Length, Error> {
         field_refs!(self, (not_before, not_after)).encoded_len()

@@ -1,4 +1,6 @@
-//! Version of the module X509. Written by asn1_compile: change the module instead.
+//! Written by asn1_compile from the module X509: change the module instead.
+//!
+//! Version.
 ghost use Rattle.std.specs.Prelude.{◌==◌, Option, Some, None, if◌then◌else◌};
 ghost use Rattle.x509.specs.declared.asn1.version.Version.TheVariants as variant;
 

@@ -1,0 +1,81 @@
+//! Written by asn1_compile from the module X509: change the module instead.
+//!
+//! TbsCertificatePart3.
+ghost use Rattle.std.specs.Prelude.{false};
+ghost use Rattle.der.specs.Prelude.{map_ok};
+
+use crate::asn1::extensions::Extensions;
+use der::{
+    Decode, Encode, Error, FromFields, Length, Reader, SliceReader, Writer, decode_fields,
+    field_refs,
+};
+use der_asn1::{BitStringRef, Explicit, Implicit, Optional};
+use std::alloc::Global;
+
+// Some fields of a TbsCertificate.
+#[derive(Drop)]
+pub(crate) struct TbsCertificatePart3<'a> {
+    pub(crate) subject_unique_id: Optional<Implicit<BitStringRef<'a>, 2>>,
+    pub(crate) extensions: Optional<Explicit<Extensions<'a>, 3>>,
+}
+
+// The fields in pairs, in the order in which they are encoded.
+pub(crate) type TbsCertificatePart3Fields<'a> = (
+    Optional<Implicit<BitStringRef<'a>, 2>>,
+    Optional<Explicit<Extensions<'a>, 3>>,
+);
+
+impl<'a> FromFields<TbsCertificatePart3Fields<'a>> for TbsCertificatePart3<'a> {
+    ghost fields = { λ v. (v.subject_unique_id, v.extensions) };
+
+    fn from_fields(members: TbsCertificatePart3Fields<'a>) -> Self {
+        let (subject_unique_id, extensions) = members;
+        TbsCertificatePart3 {
+            subject_unique_id,
+            extensions,
+        }
+    }
+}
+
+impl<'a, R: Reader<Borrowed = &'a [u8]>> Decode<R> for TbsCertificatePart3<'a> {
+    type Error = Error;
+
+    ghost is_next = { λ v. ⟦<TbsCertificatePart3Fields<'a> as Decode<SliceReader<'a>>>⟧.is_next
+        (⟦<TbsCertificatePart3<'a> as FromFields<TbsCertificatePart3Fields<'a>>>⟧.fields v) };
+
+    ghost decode_levels = { ⟦<TbsCertificatePart3Fields<'a> as Decode<SliceReader<'a>>>⟧.decode_levels };
+
+    ghost allocates = { false };
+
+    ghost decode_answers = { λ s result t.
+        ⟦<TbsCertificatePart3Fields<'a> as Decode<SliceReader<'a>>>⟧.decode_answers s
+        (map_ok ⟦<TbsCertificatePart3<'a> as FromFields<TbsCertificatePart3Fields<'a>>>⟧.fields result) t };
+
+    fn decode(alloc: Global, reader: &mut R) -> Result<Self, Error> {
+        decode_fields::<R, TbsCertificatePart3Fields<'a>, Self>(alloc, reader)
+    }
+}
+
+impl<'a> Encode for TbsCertificatePart3<'a> {
+    ghost encoding = { λ v. ⟦<TbsCertificatePart3Fields<'a> as Encode>⟧.encoding
+        (⟦<TbsCertificatePart3<'a> as FromFields<TbsCertificatePart3Fields<'a>>>⟧.fields v) };
+
+    ghost encodable = { λ v. ⟦<TbsCertificatePart3Fields<'a> as Encode>⟧.encodable
+        (⟦<TbsCertificatePart3<'a> as FromFields<TbsCertificatePart3Fields<'a>>>⟧.fields v) };
+
+    ghost size = { λ v. ⟦<TbsCertificatePart3Fields<'a> as Encode>⟧.size
+        (⟦<TbsCertificatePart3<'a> as FromFields<TbsCertificatePart3Fields<'a>>>⟧.fields v) };
+
+    ghost encode_answers = { λ v. ⟦<TbsCertificatePart3Fields<'a> as Encode>⟧.encode_answers
+        (⟦<TbsCertificatePart3<'a> as FromFields<TbsCertificatePart3Fields<'a>>>⟧.fields v) };
+
+    #[inline(always)]
+    fn encoded_len(&self) -> Result<Length, Error> {
+        field_refs!(self, (subject_unique_id, extensions)).encoded_len()
+    }
+
+    #[inline(always)]
+    fn encode<W: Writer>(&self, writer: &mut W) -> Result<(), Error> {
+        field_refs!(self, (subject_unique_id, extensions)).encode(writer)
+    }
+}
