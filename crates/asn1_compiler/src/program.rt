@@ -158,11 +158,7 @@ fn write_files<R: Files + AllocGlobal>(
     Ok(())
 }
 
-fn write_file<R: Files + AllocGlobal>(
-    rt: &R,
-    folder: &str,
-    file: &OutputFile,
-) -> io::Result<()> {
+fn write_file<R: Files + AllocGlobal>(rt: &R, folder: &str, file: &OutputFile) -> io::Result<()> {
     let beneath = file.path.as_str();
     let path = format!(in rt.alloc(); "{folder}/{beneath}")?;
     if let Some((parent, _)) = path.as_str().rsplit_once('/') {

@@ -165,7 +165,11 @@ fn push_ghost_lines(
 ) -> Result<(), AllocError> {
     match piece.kind {
         PieceKind::Sequence => {
-            let names = if has_word(code, "false") { "◌≡◌, false" } else { "◌≡◌" };
+            let names = if has_word(code, "false") {
+                "◌≡◌, false"
+            } else {
+                "◌≡◌"
+            };
             text.push_str("ghost use Rattle.std.specs.Prelude.{")?;
             text.push_str(names)?;
             text.push_str("};\n")?;
@@ -310,7 +314,11 @@ pub fn root_of(
 
 /// The proof of a piece that has one.
 pub fn proof_of(alloc: Global, krate: &str, piece: &Piece) -> Result<OutputFile, AllocError> {
-    let (name, file, proof) = (piece.name.as_str(), piece.file.as_str(), piece.proof.as_str());
+    let (name, file, proof) = (
+        piece.name.as_str(),
+        piece.file.as_str(),
+        piece.proof.as_str(),
+    );
     let place = format!(in alloc; "asn1/{file}/{name}Encode/encode")?;
     let place = place.as_str();
     Ok(OutputFile {

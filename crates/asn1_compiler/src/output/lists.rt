@@ -127,12 +127,12 @@ impl<'a> Nestable for @N<'a> {
 
 /// The text of a struct with this name around a list of the type `list`, which is a field with the
 /// name `field`.
-pub fn list_body(
+pub fn list_body<'t>(
     alloc: Global,
-    doc: &str,
-    name: &str,
-    field: &str,
-    list: &str,
+    doc: &'t str,
+    name: &'t str,
+    field: &'t str,
+    list: &'t str,
 ) -> Result<String, AllocError> {
     let is_set = list.starts_with("SetOf");
     let (word, library) = if is_set {

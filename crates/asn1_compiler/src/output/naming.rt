@@ -15,11 +15,7 @@ pub fn names_of(alloc: Global, module: &Module<'_>) -> Result<Vec<String>, Alloc
         names.push(String::new(alloc))?;
     }
     for assigned in module.types.iter() {
-        set_name(
-            &mut names,
-            assigned.of,
-            type_name(alloc, assigned.name)?,
-        );
+        set_name(&mut names, assigned.of, type_name(alloc, assigned.name)?);
     }
     for count in 0..module.nodes.len() {
         let index = module.nodes.len() - 1 - count;

@@ -85,11 +85,17 @@ impl<'m, 'a> Written<'m, 'a> {
             }
             TypeForm::Enumerated(items) => {
                 let body = enumeration_body(alloc, doc.as_str(), name, items, true)?;
-                add_piece(pieces, Piece::new(alloc, name, "", PieceKind::Enumeration, body)?)?;
+                add_piece(
+                    pieces,
+                    Piece::new(alloc, name, "", PieceKind::Enumeration, body)?,
+                )?;
             }
             TypeForm::Integer(items) if is_closed(node, items) => {
                 let body = enumeration_body(alloc, doc.as_str(), name, items, true)?;
-                add_piece(pieces, Piece::new(alloc, name, "", PieceKind::Enumeration, body)?)?;
+                add_piece(
+                    pieces,
+                    Piece::new(alloc, name, "", PieceKind::Enumeration, body)?,
+                )?;
             }
             TypeForm::SequenceOf(_) | TypeForm::SetOf(_) => {
                 self.add_list(alloc, pieces, index, node, name, doc)?;
@@ -157,13 +163,15 @@ impl<'m, 'a> Written<'m, 'a> {
             return Ok(());
         }
         let name = tagged_name(alloc, text_at(self.names, index))?;
-        let fields = vec![in alloc; Field {
-            name: String::from_str(alloc, "value")?,
-            doc: String::from_str(alloc, "    /// The value behind the tag.\n")?,
-            of: of.copy(alloc)?,
-            presence: FieldPresence::Required,
-            own: String::new(alloc),
-        }]?;
+        let fields = vec![in alloc;
+            Field {
+                name: String::from_str(alloc, "value")?,
+                doc: String::from_str(alloc, "    /// The value behind the tag.\n")?,
+                of: of.copy(alloc)?,
+                presence: FieldPresence::Required,
+                own: String::new(alloc),
+            },
+        ]?;
         let choice = of.text.as_str();
         let choice = choice.strip_suffix("<'a>").unwrap_or(choice);
         let text = SequenceText {
@@ -292,6 +300,7 @@ fn add_piece(pieces: &mut Vec<Piece>, piece: Piece) -> Result<(), AllocError> {
             break;
         }
     }
+    let place = place.min(pieces.len());
     Ok(pieces.insert(place, piece)?)
 }
 
@@ -328,7 +337,10 @@ fn add_sequence(
         let body = part_body(alloc, name, number, chunk)?;
         let part = format!(in alloc; "{name}Part{number}")?;
         let kind = PieceKind::SequencePart;
-        add_piece(pieces, Piece::new(alloc, part.as_str(), "Fields", kind, body)?)?;
+        add_piece(
+            pieces,
+            Piece::new(alloc, part.as_str(), "Fields", kind, body)?,
+        )?;
     }
     Ok(())
 }
