@@ -6,6 +6,7 @@ mod arcs;
 mod choices;
 mod comparisons;
 mod constants;
+mod containing;
 mod default_values;
 mod defaults;
 mod enumerations;

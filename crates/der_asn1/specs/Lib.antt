@@ -38,3 +38,5 @@ pub mod ListAnswers
 pub mod Meaning
 pub mod TagClasses
 pub mod Printed
+pub mod ZeroOctet
+pub mod BitStringOf

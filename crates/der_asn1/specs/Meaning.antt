@@ -363,24 +363,31 @@ implicit n one f =
           (retagged one.tag h) octets taken;
     }
 
--- an element inside one with a context-specific tag
-abbrev pub explicit : {A B : Type 0} → ℕ → ElementSpec A → (B → A) → ElementSpec B
-explicit n one f =
+-- an element that is the contents of an element with this tag, such as an OCTET STRING that
+-- contains it (X.682 11)
+abbrev pub containing : {A B : Type 0} → Tag → ElementSpec A → (B → A) → ElementSpec B
+containing outer one f =
     record {
-      tag = context_tag true n;
+      tag = outer;
       takes = λ b. TakesWhole (ElementNext one.tag one.takes) (f b);
       valid = λ b. one.valid (f b);
       contents = λ b. element_octets one.tag (one.contents (f b));
       levels = element_levels one.levels;
-      is_compatible = is_small n && is_shallow one.is_compatible one.levels;
-      lawful = λ e. (let p = both_true (is_small n) (is_shallow one.is_compatible one.levels) e in
+      is_compatible = is_small (label outer).number && is_shallow one.is_compatible one.levels;
+      lawful = λ e. (let number = (label outer).number in
+          let p = both_true (is_small number) (is_shallow one.is_compatible one.levels) e in
           let q = both_true one.is_compatible (nat_lt (one.levels Der) 63) p.1 in
-          explicit_lawful (context_tag true n) f (small n p.0) (one.lawful q.0)
+          explicit_lawful outer f (small number p.0) (one.lawful q.0)
           (shallow one.is_compatible one.levels p.1));
-      holds = λ e. explicit_holds f
-          (one.holds (both_true one.is_compatible (nat_lt (one.levels Der) 63)
-          (both_true (is_small n) (is_shallow one.is_compatible one.levels) e).1).0);
+      holds = λ e. (let p = both_true (is_small (label outer).number)
+          (is_shallow one.is_compatible one.levels) e in
+          explicit_holds f
+          (one.holds (both_true one.is_compatible (nat_lt (one.levels Der) 63) p.1).0));
     }
+
+-- an element inside one with a context-specific tag
+abbrev pub explicit : {A B : Type 0} → ℕ → ElementSpec A → (B → A) → ElementSpec B
+explicit n = containing (context_tag true n)
 
 -- laws of an alternative inside an element with a context-specific tag
 module _ {A : Type 0} {is_compatible : Bool} {tags : Tag → Type 0} {first : List (Option Tag)}
