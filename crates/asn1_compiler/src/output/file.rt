@@ -66,9 +66,10 @@ const DER: [&str; 21] = [
     "field_refs",
 ];
 
-const DER_ASN1: [&str; 46] = [
+const DER_ASN1: [&str; 48] = [
     "AnyRef",
     "Application",
+    "BitStringOf",
     "BitStringRef",
     "BmpStringRef",
     "BooleanRef",
@@ -100,6 +101,7 @@ const DER_ASN1: [&str; 46] = [
     "Null",
     "NumericStringRef",
     "ObjectIdentifierRef",
+    "OctetStringOf",
     "OctetStringRef",
     "Optional",
     "PrintableStringRef",

@@ -3,6 +3,7 @@
 use super::directive::type_name;
 use super::rust_names::pascal_name;
 use crate::component::Component;
+use crate::constraint::Constraint;
 use crate::module::Module;
 use crate::type_node::TypeForm;
 use std::alloc::{AllocError, Global};
@@ -56,6 +57,9 @@ fn name_parts(
     let name = String::from_str(alloc, text_at(names, index))?;
     if name.is_empty() {
         return Ok(());
+    }
+    if let Constraint::Containing(of) = node.constraint {
+        set_name(names, of, joined(alloc, &name, "Contents")?);
     }
     match &node.form {
         TypeForm::Sequence(components) | TypeForm::Choice(components) => {

@@ -60,6 +60,9 @@ fn type_of<'a>(
         TypeForm::Simple(SimpleType::Any) => {
             Ok(RustType::new(alloc, "AnyRef<'a>", RustKind::Any)?)
         }
+        TypeForm::Simple(SimpleType::OctetString) => {
+            string(alloc, table, node, "OctetStringOf", "OctetStringRef<'a>")
+        }
         TypeForm::Simple(simple) => {
             Ok(RustType::new(alloc, simple_text(*simple), RustKind::Element)?)
         }
@@ -68,13 +71,11 @@ fn type_of<'a>(
             let text = format!(in alloc; "Enumerated<{name}>")?;
             Ok(RustType::new(alloc, text.as_str(), RustKind::Element)?)
         }
-        TypeForm::BitString(bits) => {
-            let text = if bits.is_empty() {
-                "BitStringRef<'a>"
-            } else {
-                "NamedBitsRef<'a>"
-            };
-            Ok(RustType::new(alloc, text, RustKind::Element)?)
+        TypeForm::BitString(bits) if bits.is_empty() => {
+            string(alloc, table, node, "BitStringOf", "BitStringRef<'a>")
+        }
+        TypeForm::BitString(_) => {
+            Ok(RustType::new(alloc, "NamedBitsRef<'a>", RustKind::Element)?)
         }
         TypeForm::Reference => reference(alloc, module, table, names, node),
         TypeForm::Sequence(parts) => {
@@ -97,10 +98,29 @@ fn type_of<'a>(
     }
 }
 
+// The type of a string: `word` of the type whose encoding it contains, if that has a tag of its
+// own, or else `plain`.
+fn string<'a>(
+    alloc: Global,
+    table: &Vec<RustType>,
+    node: &TypeNode<'a>,
+    word: &str,
+    plain: &str,
+) -> Result<RustType, Failure<'a>> {
+    if let Constraint::Containing(of) = node.constraint
+        && let Some(found) = table.get(of)
+        && found.kind == RustKind::Element
+    {
+        let inside = found.text.as_str();
+        let text = format!(in alloc; "{word}<{inside}>")?;
+        return Ok(RustType::new(alloc, text.as_str(), RustKind::Element)?);
+    }
+    Ok(RustType::new(alloc, plain, RustKind::Element)?)
+}
+
 fn simple_text(simple: SimpleType) -> &'static str {
     match simple {
         SimpleType::Boolean => "BooleanRef<'a>",
-        SimpleType::OctetString => "OctetStringRef<'a>",
         SimpleType::Null => "Null<'a>",
         SimpleType::ObjectIdentifier => "ObjectIdentifierRef<'a>",
         SimpleType::Utf8String => "Utf8StringRef<'a>",
@@ -113,7 +133,7 @@ fn simple_text(simple: SimpleType) -> &'static str {
         SimpleType::UtcTime => "UtcTime",
         SimpleType::GeneralizedTime => "GeneralizedTime",
         SimpleType::Unread => "SequenceRef<'a>",
-        SimpleType::Any | SimpleType::Unknown(_) => "AnyRef<'a>",
+        _ => "AnyRef<'a>",
     }
 }
 
