@@ -78,8 +78,8 @@ const PARTS: &str = "
 impl@L @N@L {
     // The fields in parts.
     #[inline(always)]
-    fn parts(&self) -> @Q
-        ensures { result ≡ @A self.now }
+    fn parts(self) -> @Q
+        ensures { result ≡ @A self }
     {
         @G
     }

@@ -121,9 +121,9 @@ impl<'a> EncodeValue for Address<'a> {
 impl<'a> Address<'a> {
     // The fields in parts.
     #[inline(always)]
-    fn parts(&self) -> (AddressPart1<'a>, AddressPart2<'a>)
+    fn parts(self) -> (AddressPart1<'a>, AddressPart2<'a>)
         ensures { result ≡
-            ⟦<Address<'a> as FromFields<(AddressPart1<'a>, AddressPart2<'a>)>>⟧.fields self.now }
+            ⟦<Address<'a> as FromFields<(AddressPart1<'a>, AddressPart2<'a>)>>⟧.fields self }
     {
         (
             AddressPart1 {

@@ -7,14 +7,15 @@ ghost use Rattle.der.specs.Prelude.{map_ok};
 ghost use Rattle.der_asn1.specs.Item.{decodes_same};
 ghost use Rattle.der_asn1.specs.Meaning.{alternative, field, optional, sequence, sequence_is_item, sequence_item, two_fields};
 
+use crate::asn1::address::Address;
 use crate::asn1::seal::Seal;
 use der::{
     Decode, DecodeValue, Encode, EncodeValue, Error, FromFields, Header, Length, Reader, Sequence,
     SliceReader, Writer, decode_sequence, field_refs,
 };
 use der_asn1::{
-    BitStringRef, BorrowedItem, DecodeItem, Described, Implicit, Item, Nestable, OctetStringRef,
-    Optional,
+    BitStringRef, BorrowedItem, DecodeItem, Described, Implicit, Item, Nestable, OctetStringOf,
+    OctetStringRef, Optional,
 };
 use std::alloc::Global;
 
@@ -26,7 +27,7 @@ pub struct Label<'a> {
     /// octets
     pub octets: OctetStringRef<'a>,
     /// address
-    pub address: OctetStringRef<'a>,
+    pub address: OctetStringOf<Address<'a>>,
     /// seal
     pub seal: Optional<Implicit<Seal<'a>, 0>>,
 }
@@ -34,7 +35,7 @@ pub struct Label<'a> {
 /// The fields of a [`Label`] in pairs, in the order in which they are encoded.
 pub type LabelFields<'a> = (
     (BitStringRef<'a>, OctetStringRef<'a>),
-    (OctetStringRef<'a>, Optional<Implicit<Seal<'a>, 0>>),
+    (OctetStringOf<Address<'a>>, Optional<Implicit<Seal<'a>, 0>>),
 );
 
 impl<'a> FromFields<LabelFields<'a>> for Label<'a> {
@@ -55,7 +56,7 @@ impl<'a> Sequence for Label<'a> {
     ghost meaning = { sequence (two_fields (two_fields (field (alternative
         ⟦<BitStringRef<'a> as Described>⟧.element)) (field (alternative
         ⟦<OctetStringRef<'a> as Described>⟧.element))) (two_fields (field (alternative
-        ⟦<OctetStringRef<'a> as Described>⟧.element)) (optional (alternative
+        ⟦<OctetStringOf<Address<'a>> as Described>⟧.element)) (optional (alternative
         ⟦<Implicit<Seal<'a>, 0> as Described>⟧.element))))
         ⟦<Label<'a> as FromFields<LabelFields<'a>>>⟧.fields };
 
@@ -77,7 +78,7 @@ impl<'a, R: Reader<Borrowed = &'a [u8]>> DecodeValue<R> for Label<'a> {
     fn is_value(&self) {
         <BitStringRef<'a> as DecodeValue<R>>::is_value(&self.picture);
         <OctetStringRef<'a> as DecodeValue<R>>::is_value(&self.octets);
-        <OctetStringRef<'a> as DecodeValue<R>>::is_value(&self.address);
+        <OctetStringOf<Address<'a>> as DecodeValue<R>>::is_value(&self.address);
         if let Some(value) = &self.seal.0 {
             <Implicit<Seal<'a>, 0> as DecodeValue<R>>::is_value(value);
         }

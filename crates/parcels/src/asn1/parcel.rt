@@ -202,8 +202,8 @@ impl<'a> EncodeValue for Parcel<'a> {
 impl<'a> Parcel<'a> {
     // The fields in parts.
     #[inline(always)]
-    fn parts(&self) -> (ParcelPart1<'a>, (ParcelPart2<'a>, ParcelPart3<'a>))
-        ensures { result ≡ ⟦<Parcel<'a> as FromFields<(ParcelPart1<'a>, (ParcelPart2<'a>, ParcelPart3<'a>))>>⟧.fields self.now }
+    fn parts(self) -> (ParcelPart1<'a>, (ParcelPart2<'a>, ParcelPart3<'a>))
+        ensures { result ≡ ⟦<Parcel<'a> as FromFields<(ParcelPart1<'a>, (ParcelPart2<'a>, ParcelPart3<'a>))>>⟧.fields self }
     {
         (
             ParcelPart1 {

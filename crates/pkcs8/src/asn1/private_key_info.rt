@@ -128,9 +128,9 @@ impl<'a> EncodeValue for PrivateKeyInfo<'a> {
 impl<'a> PrivateKeyInfo<'a> {
     // The fields in parts.
     #[inline(always)]
-    fn parts(&self) -> (PrivateKeyInfoPart1<'a>, PrivateKeyInfoPart2<'a>)
+    fn parts(self) -> (PrivateKeyInfoPart1<'a>, PrivateKeyInfoPart2<'a>)
         ensures { result ≡
-            ⟦<PrivateKeyInfo<'a> as FromFields<(PrivateKeyInfoPart1<'a>, PrivateKeyInfoPart2<'a>)>>⟧.fields self.now }
+            ⟦<PrivateKeyInfo<'a> as FromFields<(PrivateKeyInfoPart1<'a>, PrivateKeyInfoPart2<'a>)>>⟧.fields self }
     {
         (
             PrivateKeyInfoPart1 {

@@ -203,13 +203,13 @@ impl<'a> TbsCertificate<'a> {
     // The fields in parts.
     #[inline(always)]
     fn parts(
-        &self,
+        self,
     ) -> (
         TbsCertificatePart1<'a>,
         (TbsCertificatePart2<'a>, TbsCertificatePart3<'a>),
     )
         ensures { result ≡ ⟦<TbsCertificate<'a> as FromFields<(TbsCertificatePart1<'a>,
-        (TbsCertificatePart2<'a>, TbsCertificatePart3<'a>))>>⟧.fields self.now }
+        (TbsCertificatePart2<'a>, TbsCertificatePart3<'a>))>>⟧.fields self }
     {
         (
             TbsCertificatePart1 {
