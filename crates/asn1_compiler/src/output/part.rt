@@ -40,30 +40,6 @@ impl<'a, R: Reader<Borrowed = &'a [u8]>> Decode<R> for @N@L {
         decode_fields::<R, @NFields@L, Self>(alloc, reader)
     }
 }
-
-impl@L Encode for @N@L {
-    ghost encoding = { λ v. ⟦<@NFields@L as Encode>⟧.encoding
-        (⟦<@N@L as FromFields<@NFields@L>>⟧.fields v) };
-
-    ghost encodable = { λ v. ⟦<@NFields@L as Encode>⟧.encodable
-        (⟦<@N@L as FromFields<@NFields@L>>⟧.fields v) };
-
-    ghost size = { λ v. ⟦<@NFields@L as Encode>⟧.size
-        (⟦<@N@L as FromFields<@NFields@L>>⟧.fields v) };
-
-    ghost encode_answers = { λ v. ⟦<@NFields@L as Encode>⟧.encode_answers
-        (⟦<@N@L as FromFields<@NFields@L>>⟧.fields v) };
-
-    #[inline(always)]
-    fn encoded_len(&self) -> Result<Length, Error> {
-        field_refs!(self, @P).encoded_len()
-    }
-
-    #[inline(always)]
-    fn encode<W: Writer>(&self, writer: &mut W) -> Result<(), Error> {
-        field_refs!(self, @P).encode(writer)
-    }
-}
 ";
 
 /// The text of the part with these fields of the SEQUENCE `of`.

@@ -2,7 +2,7 @@
 ghost use Rattle.std.specs.Prelude.{◌<◌};
 
 use super::field::Field;
-use super::template::{Place, fill, push_pairs};
+use super::template::{Place, fill, path, push_pairs};
 use std::alloc::{AllocError, Global};
 
 /// A SEQUENCE of at most 25 fields.
@@ -60,28 +60,16 @@ impl<'a, R: Reader<Borrowed = &'a [u8]>> DecodeValue<R> for @N@L {
 
 /// Writes the fields one after the other, with the errors of every [`Sequence`].
 impl@L EncodeValue for @N@L {
-    ghost value_size = { λ v. ⟦<@Q as Encode>⟧.size (@A v) };
+    ghost value_size = { λ v. ⟦<@NFields@L as Encode>⟧.size @E };
 
-    ghost encode_value_answers = { λ v. ⟦<@Q as Encode>⟧.encode_answers (@A v) };
+    ghost encode_value_answers = { λ v. ⟦<@NFields@L as Encode>⟧.encode_answers @E };
 
     fn value_len(&self) -> Result<Length, Error> {
-        @R.encoded_len()
+        field_refs!(self, @R).encoded_len()
     }
 
     fn encode_value<W: Writer>(&self, writer: &mut W) -> Result<(), Error> {
-        @R.encode(writer)
-    }
-}
-";
-
-const PARTS: &str = "
-impl@L @N@L {
-    // The fields in parts.
-    #[inline(always)]
-    fn parts(self) -> @Q
-        ensures { result ≡ @A self }
-    {
-        @G
+        field_refs!(self, @R).encode(writer)
     }
 }
 ";
@@ -124,8 +112,8 @@ impl SequenceText {
         let members = self.members(alloc)?;
         let meaning = self.meaning(alloc)?;
         let checks = self.checks(alloc)?;
+        let encoded = self.encoded(alloc, fields.as_str())?;
         let references = self.references(alloc)?;
-        let parts = self.parts(alloc)?;
         let places = [
             Place::new('N', name),
             Place::new('L', lifetime),
@@ -139,15 +127,12 @@ impl SequenceText {
             Place::new('S', members.as_str()),
             Place::new('M', meaning.as_str()),
             Place::new('C', checks.as_str()),
+            Place::new('E', encoded.as_str()),
             Place::new('R', references.as_str()),
-            Place::new('G', parts.as_str()),
         ];
         let mut text = String::new(alloc);
         fill(&mut text, STRUCT, &places)?;
         fill(&mut text, DECODE, &places)?;
-        if self.has_parts() {
-            fill(&mut text, PARTS, &places)?;
-        }
         fill(&mut text, ITEM, &places)?;
         for field in self.fields.iter() {
             text.push_str(field.own.as_str())?;
@@ -283,41 +268,37 @@ impl SequenceText {
         Ok(text)
     }
 
-    // What is encoded: references to the fields, or the parts.
-    fn references(&self, alloc: Global) -> Result<String, AllocError> {
-        if self.has_parts() {
-            return String::from_str(alloc, "self.parts()");
+    fn encoded(&self, alloc: Global, fields: &str) -> Result<String, AllocError> {
+        if !self.has_parts() {
+            return format!(in alloc; "({fields} v)");
         }
-        let names = named(alloc, &self.fields, "")?;
-        let names = names.as_str();
-        format!(in alloc; "field_refs!(self, {names})")
-    }
-
-    // The parts, made of the fields of `self`.
-    fn parts(&self, alloc: Global) -> Result<String, AllocError> {
         let name = self.name.as_str();
         let mut parts = Vec::new(alloc);
+        let total = self.fields.chunks(self.part_len()).count();
         for (count, chunk) in self.fields.chunks(self.part_len()).enumerate() {
-            parts.push(part_of(alloc, name, count + 1, chunk)?)?;
+            let number = count + 1;
+            let lifetime = lifetime_of(chunk);
+            let at = path(total, count);
+            let part = format!(in alloc; "{name}Part{number}")?;
+            let part = part.as_str();
+            let own = format!(in alloc;
+                "⟦<{part}{lifetime} as FromFields<{part}Fields{lifetime}>>⟧.fields"
+            )?;
+            parts.push(format!(in alloc; "{own} ({fields} v){at}")?)?;
         }
         paired(alloc, &parts, "(", ", ")
     }
-}
 
-// The part with this number of a value `self`, which has these fields.
-fn part_of(
-    alloc: Global,
-    name: &str,
-    number: usize,
-    fields: &[Field],
-) -> Result<String, AllocError> {
-    let mut text = format!(in alloc; "{name}Part{number} {{ ")?;
-    for field in fields {
-        let field_name = field.name.as_str();
-        text.push_str(format!(in alloc; "{field_name}: self.{field_name}, ")?.as_str())?;
+    fn references(&self, alloc: Global) -> Result<String, AllocError> {
+        if !self.has_parts() {
+            return named(alloc, &self.fields, "");
+        }
+        let mut parts = Vec::new(alloc);
+        for chunk in self.fields.chunks(self.part_len()) {
+            parts.push(named(alloc, chunk, "")?)?;
+        }
+        paired(alloc, &parts, "(", ", ")
     }
-    text.push('}')?;
-    Ok(text)
 }
 
 /// The lifetime of a struct with these fields, or nothing.

@@ -86,3 +86,20 @@ fn digit_value(digit: char) -> usize {
         _ => 4,
     }
 }
+
+/// Where the item at an index stands in the pairs of so many items.
+pub fn path(count: usize, index: usize) -> &'static str {
+    match (count, index) {
+        (2, 0) | (3, 0) => ".0",
+        (2, _) => ".1",
+        (3, 1) => ".1.0",
+        (3, _) => ".1.1",
+        (4, 0) | (5, 0) => ".0.0",
+        (4, 1) | (5, 1) => ".0.1",
+        (4, 2) | (5, 2) => ".1.0",
+        (4, _) => ".1.1",
+        (5, 3) => ".1.1.0",
+        (5, _) => ".1.1.1",
+        _ => "",
+    }
+}

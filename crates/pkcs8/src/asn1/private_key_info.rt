@@ -13,7 +13,7 @@ use crate::asn1::private_key_info_part2::{PrivateKeyInfoPart2, PrivateKeyInfoPar
 use crate::asn1::version::Version;
 use der::{
     Decode, DecodeValue, Encode, EncodeValue, Error, FromFields, Header, Length, Reader, Sequence,
-    SliceReader, Writer, decode_sequence,
+    SliceReader, Writer, decode_sequence, field_refs,
 };
 use der_asn1::{
     BitStringRef, BorrowedItem, DecodeItem, Described, Implicit, Item, NamedInteger, Nestable,
@@ -117,32 +117,60 @@ impl<'a> EncodeValue for PrivateKeyInfo<'a> {
         (⟦<PrivateKeyInfo<'a> as FromFields<(PrivateKeyInfoPart1<'a>, PrivateKeyInfoPart2<'a>)>>⟧.fields v) };
 
     fn value_len(&self) -> Result<Length, Error> {
-        self.parts().encoded_len()
+        let parts = (*self).parts();
+        parts.encoded_len()
     }
 
     fn encode_value<W: Writer>(&self, writer: &mut W) -> Result<(), Error> {
-        self.parts().encode(writer)
+        let parts = (*self).parts();
+        parts.encode(writer)
+    }
+}
+
+// The fields in parts.
+#[derive(Drop)]
+struct PrivateKeyInfoParts<'a> {
+    part1: PrivateKeyInfoPart1<'a>,
+    part2: PrivateKeyInfoPart2<'a>,
+}
+
+impl<'a> Encode for PrivateKeyInfoParts<'a> {
+    ghost encoding = { λ v. ⟦<(PrivateKeyInfoPart1<'a>, PrivateKeyInfoPart2<'a>) as Encode>⟧.encoding (v.part1, v.part2) };
+
+    ghost encodable = { λ v. ⟦<(PrivateKeyInfoPart1<'a>, PrivateKeyInfoPart2<'a>) as Encode>⟧.encodable (v.part1, v.part2) };
+
+    ghost size = { λ v. ⟦<(PrivateKeyInfoPart1<'a>, PrivateKeyInfoPart2<'a>) as Encode>⟧.size (v.part1, v.part2) };
+
+    ghost encode_answers = { λ v. ⟦<(PrivateKeyInfoPart1<'a>, PrivateKeyInfoPart2<'a>) as Encode>⟧.encode_answers (v.part1, v.part2) };
+
+    #[inline(always)]
+    fn encoded_len(&self) -> Result<Length, Error> {
+        field_refs!(self, (part1, part2)).encoded_len()
+    }
+
+    #[inline(always)]
+    fn encode<W: Writer>(&self, writer: &mut W) -> Result<(), Error> {
+        field_refs!(self, (part1, part2)).encode(writer)
     }
 }
 
 impl<'a> PrivateKeyInfo<'a> {
-    // The fields in parts.
     #[inline(always)]
-    fn parts(self) -> (PrivateKeyInfoPart1<'a>, PrivateKeyInfoPart2<'a>)
-        ensures { result ≡
+    fn parts(self) -> PrivateKeyInfoParts<'a>
+        ensures { (result.part1, result.part2) ≡
             ⟦<PrivateKeyInfo<'a> as FromFields<(PrivateKeyInfoPart1<'a>, PrivateKeyInfoPart2<'a>)>>⟧.fields self }
     {
-        (
-            PrivateKeyInfoPart1 {
+        PrivateKeyInfoParts {
+            part1: PrivateKeyInfoPart1 {
                 version: self.version,
                 private_key_algorithm: self.private_key_algorithm,
                 private_key: self.private_key,
             },
-            PrivateKeyInfoPart2 {
+            part2: PrivateKeyInfoPart2 {
                 attributes: self.attributes,
                 public_key: self.public_key,
             },
-        )
+        }
     }
 }
 
