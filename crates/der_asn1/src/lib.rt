@@ -84,7 +84,9 @@ pub use boolean::{BooleanGrammar, BooleanRef};
 pub use checked::Checked;
 pub use choice::Choice;
 pub use date_time::DateTime;
-pub use default_constants::{DefaultTrue, DefaultU8, DefaultU32, DefaultU64};
+pub use default_constants::{
+    DefaultEmpty, DefaultI64, DefaultTrue, DefaultU8, DefaultU32, DefaultU64,
+};
 pub use default_contents::DefaultContents;
 pub use default_element::DefaultElement;
 pub use defaulted::{DefaultValue, Defaulted, HasDefault};
