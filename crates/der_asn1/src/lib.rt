@@ -20,6 +20,7 @@ mod default_constants;
 mod default_contents;
 mod default_element;
 mod defaulted;
+mod defaulted_to;
 mod described;
 mod described_choice;
 mod dotted;
@@ -90,6 +91,7 @@ pub use default_constants::{
 pub use default_contents::DefaultContents;
 pub use default_element::DefaultElement;
 pub use defaulted::{DefaultValue, Defaulted, HasDefault};
+pub use defaulted_to::{DefaultEncoding, DefaultedTo, has_contents};
 pub use described::Described;
 pub use described_choice::{DescribedChoice, decode_choice};
 pub use either::Either;
