@@ -4,6 +4,7 @@ use crate::fixtures::errors::{trailing, unexpected};
 use crate::fixtures::readers::ber_reader;
 use der::{Decode, Encode, Error, ErrorKind, Length, Tag};
 use der_asn1::{BitStringOf, IntRef, OctetStringOf, lawful_from_der};
+use spki::AlgorithmIdentifierRef;
 use std::alloc::Global;
 
 // The contents of an integer in an OCTET STRING, and whether it is written exactly as it was read.
@@ -51,15 +52,16 @@ fn a_bit_string_contains_one_element_and_no_unused_bits(rt: HostRuntime) {
     }
 }
 
-// The contents of an integer in an OCTET STRING under BER.
-fn octets_of_ber<'a>(alloc: Global, octets: &'a [u8]) -> Result<&'a [u8], Error> {
+// The object identifier of an algorithm in an OCTET STRING under BER.
+fn algorithm_of<'a>(alloc: Global, octets: &'a [u8]) -> Result<&'a [u8], Error> {
     let mut reader = ber_reader(octets)?;
-    let value: OctetStringOf<IntRef<'a>> = OctetStringOf::decode(alloc, &mut reader)?;
-    Ok(value.0.octets())
+    let value: OctetStringOf<AlgorithmIdentifierRef<'a>> =
+        OctetStringOf::decode(alloc, &mut reader)?;
+    Ok(value.0.oid.octets())
 }
 
 #[test]
-fn the_element_may_have_a_long_length_under_ber(rt: HostRuntime) {
-    let octets = [4, 4, 2, 0x81, 1, 5];
-    same_at(&rt, 0, octets_of_ber(rt.alloc(), &octets), Ok(&[5]));
+fn the_element_may_have_an_indefinite_length_under_ber(rt: HostRuntime) {
+    let octets = [4, 7, 0x30, 0x80, 6, 1, 42, 0, 0];
+    same_at(&rt, 0, algorithm_of(rt.alloc(), &octets), Ok(&[42]));
 }

@@ -62,14 +62,19 @@ module _ {A : Type 0} (tags : Tag → Type 0) (is_default : A → Bool) (Next : 
       default_reads = inl (refl, default_moves)
 
       -- under DER a value that was read from a valid field is not the default
-      pub default_not_written : ((x w : A) (rules : EncodingRules) (octets : List ℕ) (k n : ℕ) → Next x rules octets k → Next w rules octets n → is_default x ≡ is_default w)
+      pub default_not_written_der : ((x w : A) (octets : List ℕ) (k n : ℕ) → Next x Der octets k → Next w Der octets n → is_default x ≡ is_default w)
           → (s.failed ≡ false → t.failed ≡ false → Passes (Next a) s t) → t.rules ≡ Der → is_default a ≡ true → ⊥
-      default_not_written reported ok der d =
+      default_not_written_der reported ok der d =
           let there = default_present v m p is h in
           let passed = ok working (ap (λ (x : ReaderState). x.failed) default_moves ∙ working) in
-          let same : is_default v ≡ is_default a = reported v a s.rules (rest_of s) m passed.octets there.next passed.next in
           let rules : s.rules ≡ Der = sym (ap (λ (x : ReaderState). x.rules) default_moves) ∙ der in
+          let same : is_default v ≡ is_default a =
+          reported v a (rest_of s) m passed.octets (subst (λ r. Next v r (rest_of s) m) rules there.next) (subst (λ r. Next a r (rest_of s) passed.octets) rules passed.next) in
           (let no : true ≡ false = sym d ∙ sym same ∙ there.other rules in cc)
+
+      pub default_not_written : ((x w : A) (rules : EncodingRules) (octets : List ℕ) (k n : ℕ) → Next x rules octets k → Next w rules octets n → is_default x ≡ is_default w)
+          → (s.failed ≡ false → t.failed ≡ false → Passes (Next a) s t) → t.rules ≡ Der → is_default a ≡ true → ⊥
+      default_not_written reported = default_not_written_der (λ x w octets k n one two. reported x w Der octets k n one two)
 
 -- if two conditions exclude each other and the first holds, the second does not
 pub not_default : (P : Type 0) (b : Bool) → (P → b ≡ true → ⊥) → P → b ≡ false

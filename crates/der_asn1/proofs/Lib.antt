@@ -1,4 +1,5 @@
 pub mod DefaultReadLemmas
+pub mod DefaultedToLemmas
 pub mod OptionalReadLemmas
 pub mod EitherReadLemmas
 pub mod SequenceOfLemmas

@@ -38,5 +38,6 @@ pub mod ListAnswers
 pub mod Meaning
 pub mod TagClasses
 pub mod Printed
+pub mod DefaultedTo
 pub mod ZeroOctet
 pub mod BitStringOf

@@ -53,9 +53,10 @@ impl<'a, F: ContentsGrammar> Checked<'a, F> {
         }
     }
 
-    // Wraps octets that are known to be valid contents.
+    /// Wraps octets that are known to be valid contents, such as a constant. The caller must ensure
+    /// that they are.
     #[inline(always)]
-    pub(crate) fn formed(octets: &'a [u8]) -> Self
+    pub fn formed(octets: &'a [u8]) -> Self
         requires { F.grammar octets.now ≡ true }
         ensures { result.octets.now ≡ octets.now }
     {

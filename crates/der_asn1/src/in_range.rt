@@ -31,6 +31,15 @@ impl<const MIN: u64, const MAX: u64> InRange<MIN, MAX> {
         }
     }
 
+    /// The value of a number that is known to be within the bounds, such as a constant. The caller
+    /// must ensure that it is.
+    pub fn known(number: u64) -> Self
+        requires { IsWithin MIN MAX number }
+        ensures { result.number ≡ number }
+    {
+        InRange { number }
+    }
+
     /// The number.
     pub fn get(&self) -> u64
         ensures value { result ≡ self.now.number }
@@ -62,6 +71,17 @@ impl<const MIN: u64, const MAX: u64> IntegerOf<InRange<MIN, MAX>> {
     {
         let number = InRange::new(number)?;
         Some(IntegerOf { number })
+    }
+
+    /// The INTEGER of a number that is known to be within the bounds, such as a constant. The
+    /// caller must ensure that it is.
+    pub fn known(number: u64) -> Self
+        requires { IsWithin MIN MAX number }
+        ensures { result.number.number ≡ number }
+    {
+        IntegerOf {
+            number: InRange::known(number),
+        }
     }
 
     /// The number that the INTEGER encodes.

@@ -20,6 +20,7 @@ mod default_constants;
 mod default_contents;
 mod default_element;
 mod defaulted;
+mod defaulted_to;
 mod described;
 mod described_choice;
 mod dotted;
@@ -84,10 +85,13 @@ pub use boolean::{BooleanGrammar, BooleanRef};
 pub use checked::Checked;
 pub use choice::Choice;
 pub use date_time::DateTime;
-pub use default_constants::{DefaultTrue, DefaultU8, DefaultU32, DefaultU64};
+pub use default_constants::{
+    DefaultEmpty, DefaultI64, DefaultTrue, DefaultU8, DefaultU32, DefaultU64,
+};
 pub use default_contents::DefaultContents;
 pub use default_element::DefaultElement;
 pub use defaulted::{DefaultValue, Defaulted, HasDefault};
+pub use defaulted_to::{DefaultEncoding, DefaultedTo, has_contents};
 pub use described::Described;
 pub use described_choice::{DescribedChoice, decode_choice};
 pub use either::Either;

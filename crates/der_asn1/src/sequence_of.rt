@@ -199,6 +199,13 @@ impl<'a, T: Item> SequenceOf<'a, T> {
         }
     }
 
+    /// The SEQUENCE OF without elements.
+    pub fn empty() -> Self
+        ensures { result.octets.now ≡ [] }
+    {
+        SequenceOf::formed(&[])
+    }
+
     /// The contents octets of the SEQUENCE OF.
     #[inline(always)]
     pub fn octets(&self) -> &'a [u8]

@@ -1,6 +1,6 @@
 //! SET OF, borrowed from the input. Decoding checks the encodings of all elements and their order.
 //! A later iteration over the elements can fail only if an allocation fails.
-ghost use Rattle.std.specs.Prelude.{◌≡◌, ◌^◌, ◌<◌, ◌≤◌, length, IfOk, IsErrAnd, ⊤};
+ghost use Rattle.std.specs.Prelude.{◌≡◌, ◌^◌, ◌<◌, ◌≤◌, [], length, IfOk, IsErrAnd, ⊤};
 ghost use Rattle.std.proofs.Common.{arith};
 ghost use Rattle.der.specs.Prelude.{Set as SetTag, rest_of, slice_state, error_of_kind, map_ok};
 ghost use Rattle.der.specs.ErrorKinds.{Overflow};
@@ -192,6 +192,15 @@ impl<'a, T: DecodeItem<SliceReader<'a>>> SetOf<'a, T> {
 }
 
 impl<'a, T: Item> SetOf<'a, T> {
+    /// The SET OF without elements.
+    pub fn empty() -> Self
+        ensures { result.elements.octets.now ≡ [] }
+    {
+        SetOf {
+            elements: SequenceOf::empty(),
+        }
+    }
+
     /// The contents octets of the SET OF.
     #[inline(always)]
     pub fn octets(&self) -> &'a [u8]

@@ -37,6 +37,13 @@ impl ContentsGrammar for Utf8StringGrammar {
 }
 
 impl<'a> Checked<'a, Utf8StringGrammar> {
+    /// The UTF8String with these characters.
+    pub fn from_text(text: &'a str) -> Self
+        ensures { result.octets.now ≡ text.now }
+    {
+        Checked::formed(text.as_bytes())
+    }
+
     /// The contents, as a `str`.
     pub fn as_str(&self) -> &'a str
         ensures { result.now ≡ self.now.octets.now }
