@@ -11,7 +11,7 @@ use crate::asn1::address_part1::{AddressPart1, AddressPart1Fields};
 use crate::asn1::address_part2::{AddressPart2, AddressPart2Fields};
 use der::{
     Decode, DecodeValue, Encode, EncodeValue, Error, FromFields, Header, Length, Reader, Sequence,
-    SliceReader, Writer, decode_sequence,
+    SliceReader, Writer, decode_sequence, field_refs,
 };
 use der_asn1::{
     Application, BmpStringRef, BorrowedItem, DecodeItem, Described, Ia5StringRef, Implicit, Item,
@@ -102,40 +102,26 @@ impl<'a, R: Reader<Borrowed = &'a [u8]>> DecodeValue<R> for Address<'a> {
 
 /// Writes the fields one after the other, with the errors of every [`Sequence`].
 impl<'a> EncodeValue for Address<'a> {
-    ghost value_size = { λ v. ⟦<(AddressPart1<'a>, AddressPart2<'a>) as Encode>⟧.size
-        (⟦<Address<'a> as FromFields<(AddressPart1<'a>, AddressPart2<'a>)>>⟧.fields v) };
+    ghost value_size = { λ v. ⟦<AddressFields<'a> as Encode>⟧.size (
+      ⟦<AddressPart1<'a> as FromFields<AddressPart1Fields<'a>>>⟧.fields
+          (⟦<Address<'a> as FromFields<(AddressPart1<'a>, AddressPart2<'a>)>>⟧.fields v).0,
+      ⟦<AddressPart2<'a> as FromFields<AddressPart2Fields<'a>>>⟧.fields
+          (⟦<Address<'a> as FromFields<(AddressPart1<'a>, AddressPart2<'a>)>>⟧.fields v).1,
+    ) };
 
-    ghost encode_value_answers = { λ v.
-        ⟦<(AddressPart1<'a>, AddressPart2<'a>) as Encode>⟧.encode_answers
-        (⟦<Address<'a> as FromFields<(AddressPart1<'a>, AddressPart2<'a>)>>⟧.fields v) };
+    ghost encode_value_answers = { λ v. ⟦<AddressFields<'a> as Encode>⟧.encode_answers (
+      ⟦<AddressPart1<'a> as FromFields<AddressPart1Fields<'a>>>⟧.fields
+          (⟦<Address<'a> as FromFields<(AddressPart1<'a>, AddressPart2<'a>)>>⟧.fields v).0,
+      ⟦<AddressPart2<'a> as FromFields<AddressPart2Fields<'a>>>⟧.fields
+          (⟦<Address<'a> as FromFields<(AddressPart1<'a>, AddressPart2<'a>)>>⟧.fields v).1,
+    ) };
 
     fn value_len(&self) -> Result<Length, Error> {
-        self.parts().encoded_len()
+        field_refs!(self, ((name, (street, code)), (type_, note))).encoded_len()
     }
 
     fn encode_value<W: Writer>(&self, writer: &mut W) -> Result<(), Error> {
-        self.parts().encode(writer)
-    }
-}
-
-impl<'a> Address<'a> {
-    // The fields in parts.
-    #[inline(always)]
-    fn parts(self) -> (AddressPart1<'a>, AddressPart2<'a>)
-        ensures { result ≡
-            ⟦<Address<'a> as FromFields<(AddressPart1<'a>, AddressPart2<'a>)>>⟧.fields self }
-    {
-        (
-            AddressPart1 {
-                name: self.name,
-                street: self.street,
-                code: self.code,
-            },
-            AddressPart2 {
-                type_: self.type_,
-                note: self.note,
-            },
-        )
+        field_refs!(self, ((name, (street, code)), (type_, note))).encode(writer)
     }
 }
 

@@ -4,10 +4,7 @@
 ghost use Rattle.std.specs.Prelude.{false};
 ghost use Rattle.der.specs.Prelude.{map_ok};
 
-use der::{
-    Decode, Encode, Error, FromFields, Length, Reader, SliceReader, Writer, decode_fields,
-    field_refs,
-};
+use der::{Decode, Error, FromFields, Reader, SliceReader, decode_fields};
 use der_asn1::{
     Application, Implicit, NumericStringRef, Optional, PrintableStringRef, Utf8StringRef,
 };
@@ -55,29 +52,5 @@ impl<'a, R: Reader<Borrowed = &'a [u8]>> Decode<R> for AddressPart1<'a> {
 
     fn decode(alloc: Global, reader: &mut R) -> Result<Self, Error> {
         decode_fields::<R, AddressPart1Fields<'a>, Self>(alloc, reader)
-    }
-}
-
-impl<'a> Encode for AddressPart1<'a> {
-    ghost encoding = { λ v. ⟦<AddressPart1Fields<'a> as Encode>⟧.encoding
-        (⟦<AddressPart1<'a> as FromFields<AddressPart1Fields<'a>>>⟧.fields v) };
-
-    ghost encodable = { λ v. ⟦<AddressPart1Fields<'a> as Encode>⟧.encodable
-        (⟦<AddressPart1<'a> as FromFields<AddressPart1Fields<'a>>>⟧.fields v) };
-
-    ghost size = { λ v. ⟦<AddressPart1Fields<'a> as Encode>⟧.size
-        (⟦<AddressPart1<'a> as FromFields<AddressPart1Fields<'a>>>⟧.fields v) };
-
-    ghost encode_answers = { λ v. ⟦<AddressPart1Fields<'a> as Encode>⟧.encode_answers
-        (⟦<AddressPart1<'a> as FromFields<AddressPart1Fields<'a>>>⟧.fields v) };
-
-    #[inline(always)]
-    fn encoded_len(&self) -> Result<Length, Error> {
-        field_refs!(self, (name, (street, code))).encoded_len()
-    }
-
-    #[inline(always)]
-    fn encode<W: Writer>(&self, writer: &mut W) -> Result<(), Error> {
-        field_refs!(self, (name, (street, code))).encode(writer)
     }
 }

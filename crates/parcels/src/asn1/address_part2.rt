@@ -4,10 +4,7 @@
 ghost use Rattle.std.specs.Prelude.{false};
 ghost use Rattle.der.specs.Prelude.{map_ok};
 
-use der::{
-    Decode, Encode, Error, FromFields, Length, Reader, SliceReader, Writer, decode_fields,
-    field_refs,
-};
+use der::{Decode, Error, FromFields, Reader, SliceReader, decode_fields};
 use der_asn1::{BmpStringRef, Ia5StringRef, Optional};
 use std::alloc::Global;
 
@@ -46,29 +43,5 @@ impl<'a, R: Reader<Borrowed = &'a [u8]>> Decode<R> for AddressPart2<'a> {
 
     fn decode(alloc: Global, reader: &mut R) -> Result<Self, Error> {
         decode_fields::<R, AddressPart2Fields<'a>, Self>(alloc, reader)
-    }
-}
-
-impl<'a> Encode for AddressPart2<'a> {
-    ghost encoding = { λ v. ⟦<AddressPart2Fields<'a> as Encode>⟧.encoding
-        (⟦<AddressPart2<'a> as FromFields<AddressPart2Fields<'a>>>⟧.fields v) };
-
-    ghost encodable = { λ v. ⟦<AddressPart2Fields<'a> as Encode>⟧.encodable
-        (⟦<AddressPart2<'a> as FromFields<AddressPart2Fields<'a>>>⟧.fields v) };
-
-    ghost size = { λ v. ⟦<AddressPart2Fields<'a> as Encode>⟧.size
-        (⟦<AddressPart2<'a> as FromFields<AddressPart2Fields<'a>>>⟧.fields v) };
-
-    ghost encode_answers = { λ v. ⟦<AddressPart2Fields<'a> as Encode>⟧.encode_answers
-        (⟦<AddressPart2<'a> as FromFields<AddressPart2Fields<'a>>>⟧.fields v) };
-
-    #[inline(always)]
-    fn encoded_len(&self) -> Result<Length, Error> {
-        field_refs!(self, (type_, note)).encoded_len()
-    }
-
-    #[inline(always)]
-    fn encode<W: Writer>(&self, writer: &mut W) -> Result<(), Error> {
-        field_refs!(self, (type_, note)).encode(writer)
     }
 }

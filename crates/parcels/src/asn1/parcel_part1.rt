@@ -7,10 +7,7 @@ ghost use Rattle.der.specs.Prelude.{map_ok};
 use crate::asn1::packing::Packing;
 use crate::asn1::parcel::{ParcelPackingDefault, ParcelVersionDefault};
 use crate::asn1::version::Version;
-use der::{
-    Decode, Encode, Error, FromFields, Length, Reader, SliceReader, Writer, decode_fields,
-    field_refs,
-};
+use der::{Decode, Error, FromFields, Reader, SliceReader, decode_fields};
 use der_asn1::{Defaulted, Enumerated, Explicit, IntRef, IntegerIn, NamedInteger, WithDefault};
 use std::alloc::Global;
 
@@ -67,29 +64,5 @@ impl<'a, R: Reader<Borrowed = &'a [u8]>> Decode<R> for ParcelPart1<'a> {
 
     fn decode(alloc: Global, reader: &mut R) -> Result<Self, Error> {
         decode_fields::<R, ParcelPart1Fields<'a>, Self>(alloc, reader)
-    }
-}
-
-impl<'a> Encode for ParcelPart1<'a> {
-    ghost encoding = { λ v. ⟦<ParcelPart1Fields<'a> as Encode>⟧.encoding
-        (⟦<ParcelPart1<'a> as FromFields<ParcelPart1Fields<'a>>>⟧.fields v) };
-
-    ghost encodable = { λ v. ⟦<ParcelPart1Fields<'a> as Encode>⟧.encodable
-        (⟦<ParcelPart1<'a> as FromFields<ParcelPart1Fields<'a>>>⟧.fields v) };
-
-    ghost size = { λ v. ⟦<ParcelPart1Fields<'a> as Encode>⟧.size
-        (⟦<ParcelPart1<'a> as FromFields<ParcelPart1Fields<'a>>>⟧.fields v) };
-
-    ghost encode_answers = { λ v. ⟦<ParcelPart1Fields<'a> as Encode>⟧.encode_answers
-        (⟦<ParcelPart1<'a> as FromFields<ParcelPart1Fields<'a>>>⟧.fields v) };
-
-    #[inline(always)]
-    fn encoded_len(&self) -> Result<Length, Error> {
-        field_refs!(self, ((version, number), (weight, packing))).encoded_len()
-    }
-
-    #[inline(always)]
-    fn encode<W: Writer>(&self, writer: &mut W) -> Result<(), Error> {
-        field_refs!(self, ((version, number), (weight, packing))).encode(writer)
     }
 }

@@ -4,12 +4,10 @@
 ghost use Rattle.std.specs.Prelude.{false};
 ghost use Rattle.der.specs.Prelude.{map_ok};
 
-use crate::asn1::address::Address;
 use crate::asn1::handling::Handling;
-use der::{
-    Decode, Encode, Error, FromFields, Length, Reader, SliceReader, Writer, decode_fields,
-    field_refs,
-};
+use crate::asn1::journey::Journey;
+use crate::asn1::label::Label;
+use der::{Decode, Error, FromFields, Reader, SliceReader, decode_fields};
 use der_asn1::{BooleanRef, Defaulted, Implicit, Optional};
 use std::alloc::Global;
 
@@ -18,26 +16,26 @@ use std::alloc::Global;
 pub(crate) struct ParcelPart2<'a> {
     pub(crate) handling: Optional<Handling<'a>>,
     pub(crate) opened: Defaulted<BooleanRef<'a>>,
-    pub(crate) sender: Implicit<Address<'a>, 1>,
-    pub(crate) receiver: Optional<Implicit<Address<'a>, 2>>,
+    pub(crate) journey: Journey<'a>,
+    pub(crate) label: Optional<Implicit<Label<'a>, 4>>,
 }
 
 // The fields in pairs, in the order in which they are encoded.
 pub(crate) type ParcelPart2Fields<'a> = (
     (Optional<Handling<'a>>, Defaulted<BooleanRef<'a>>),
-    (Implicit<Address<'a>, 1>, Optional<Implicit<Address<'a>, 2>>),
+    (Journey<'a>, Optional<Implicit<Label<'a>, 4>>),
 );
 
 impl<'a> FromFields<ParcelPart2Fields<'a>> for ParcelPart2<'a> {
-    ghost fields = { λ v. ((v.handling, v.opened), (v.sender, v.receiver)) };
+    ghost fields = { λ v. ((v.handling, v.opened), (v.journey, v.label)) };
 
     fn from_fields(members: ParcelPart2Fields<'a>) -> Self {
-        let ((handling, opened), (sender, receiver)) = members;
+        let ((handling, opened), (journey, label)) = members;
         ParcelPart2 {
             handling,
             opened,
-            sender,
-            receiver,
+            journey,
+            label,
         }
     }
 }
@@ -58,29 +56,5 @@ impl<'a, R: Reader<Borrowed = &'a [u8]>> Decode<R> for ParcelPart2<'a> {
 
     fn decode(alloc: Global, reader: &mut R) -> Result<Self, Error> {
         decode_fields::<R, ParcelPart2Fields<'a>, Self>(alloc, reader)
-    }
-}
-
-impl<'a> Encode for ParcelPart2<'a> {
-    ghost encoding = { λ v. ⟦<ParcelPart2Fields<'a> as Encode>⟧.encoding
-        (⟦<ParcelPart2<'a> as FromFields<ParcelPart2Fields<'a>>>⟧.fields v) };
-
-    ghost encodable = { λ v. ⟦<ParcelPart2Fields<'a> as Encode>⟧.encodable
-        (⟦<ParcelPart2<'a> as FromFields<ParcelPart2Fields<'a>>>⟧.fields v) };
-
-    ghost size = { λ v. ⟦<ParcelPart2Fields<'a> as Encode>⟧.size
-        (⟦<ParcelPart2<'a> as FromFields<ParcelPart2Fields<'a>>>⟧.fields v) };
-
-    ghost encode_answers = { λ v. ⟦<ParcelPart2Fields<'a> as Encode>⟧.encode_answers
-        (⟦<ParcelPart2<'a> as FromFields<ParcelPart2Fields<'a>>>⟧.fields v) };
-
-    #[inline(always)]
-    fn encoded_len(&self) -> Result<Length, Error> {
-        field_refs!(self, ((handling, opened), (sender, receiver))).encoded_len()
-    }
-
-    #[inline(always)]
-    fn encode<W: Writer>(&self, writer: &mut W) -> Result<(), Error> {
-        field_refs!(self, ((handling, opened), (sender, receiver))).encode(writer)
     }
 }

@@ -109,68 +109,40 @@ impl<'a, R: Reader<Borrowed = &'a [u8]>> DecodeValue<R> for PrivateKeyInfo<'a> {
 
 /// Writes the fields one after the other, with the errors of every [`Sequence`].
 impl<'a> EncodeValue for PrivateKeyInfo<'a> {
-    ghost value_size = { λ v. ⟦<(PrivateKeyInfoPart1<'a>, PrivateKeyInfoPart2<'a>) as Encode>⟧.size
-        (⟦<PrivateKeyInfo<'a> as FromFields<(PrivateKeyInfoPart1<'a>, PrivateKeyInfoPart2<'a>)>>⟧.fields v) };
+    ghost value_size = { λ v. ⟦<PrivateKeyInfoFields<'a> as Encode>⟧.size (
+      ⟦<PrivateKeyInfoPart1<'a> as FromFields<PrivateKeyInfoPart1Fields<'a>>>⟧.fields
+          (⟦<PrivateKeyInfo<'a> as FromFields<(PrivateKeyInfoPart1<'a>, PrivateKeyInfoPart2<'a>)>>⟧.fields v).0,
+      ⟦<PrivateKeyInfoPart2<'a> as FromFields<PrivateKeyInfoPart2Fields<'a>>>⟧.fields
+          (⟦<PrivateKeyInfo<'a> as FromFields<(PrivateKeyInfoPart1<'a>, PrivateKeyInfoPart2<'a>)>>⟧.fields v).1,
+    ) };
 
-    ghost encode_value_answers = { λ v.
-        ⟦<(PrivateKeyInfoPart1<'a>, PrivateKeyInfoPart2<'a>) as Encode>⟧.encode_answers
-        (⟦<PrivateKeyInfo<'a> as FromFields<(PrivateKeyInfoPart1<'a>, PrivateKeyInfoPart2<'a>)>>⟧.fields v) };
+    ghost encode_value_answers = { λ v. ⟦<PrivateKeyInfoFields<'a> as Encode>⟧.encode_answers (
+      ⟦<PrivateKeyInfoPart1<'a> as FromFields<PrivateKeyInfoPart1Fields<'a>>>⟧.fields
+          (⟦<PrivateKeyInfo<'a> as FromFields<(PrivateKeyInfoPart1<'a>, PrivateKeyInfoPart2<'a>)>>⟧.fields v).0,
+      ⟦<PrivateKeyInfoPart2<'a> as FromFields<PrivateKeyInfoPart2Fields<'a>>>⟧.fields
+          (⟦<PrivateKeyInfo<'a> as FromFields<(PrivateKeyInfoPart1<'a>, PrivateKeyInfoPart2<'a>)>>⟧.fields v).1,
+    ) };
 
     fn value_len(&self) -> Result<Length, Error> {
-        let parts = (*self).parts();
-        parts.encoded_len()
+        field_refs!(
+            self,
+            (
+                (version, (private_key_algorithm, private_key)),
+                (attributes, public_key)
+            )
+        )
+        .encoded_len()
     }
 
     fn encode_value<W: Writer>(&self, writer: &mut W) -> Result<(), Error> {
-        let parts = (*self).parts();
-        parts.encode(writer)
-    }
-}
-
-// The fields in parts.
-#[derive(Drop)]
-struct PrivateKeyInfoParts<'a> {
-    part1: PrivateKeyInfoPart1<'a>,
-    part2: PrivateKeyInfoPart2<'a>,
-}
-
-impl<'a> Encode for PrivateKeyInfoParts<'a> {
-    ghost encoding = { λ v. ⟦<(PrivateKeyInfoPart1<'a>, PrivateKeyInfoPart2<'a>) as Encode>⟧.encoding (v.part1, v.part2) };
-
-    ghost encodable = { λ v. ⟦<(PrivateKeyInfoPart1<'a>, PrivateKeyInfoPart2<'a>) as Encode>⟧.encodable (v.part1, v.part2) };
-
-    ghost size = { λ v. ⟦<(PrivateKeyInfoPart1<'a>, PrivateKeyInfoPart2<'a>) as Encode>⟧.size (v.part1, v.part2) };
-
-    ghost encode_answers = { λ v. ⟦<(PrivateKeyInfoPart1<'a>, PrivateKeyInfoPart2<'a>) as Encode>⟧.encode_answers (v.part1, v.part2) };
-
-    #[inline(always)]
-    fn encoded_len(&self) -> Result<Length, Error> {
-        field_refs!(self, (part1, part2)).encoded_len()
-    }
-
-    #[inline(always)]
-    fn encode<W: Writer>(&self, writer: &mut W) -> Result<(), Error> {
-        field_refs!(self, (part1, part2)).encode(writer)
-    }
-}
-
-impl<'a> PrivateKeyInfo<'a> {
-    #[inline(always)]
-    fn parts(self) -> PrivateKeyInfoParts<'a>
-        ensures { (result.part1, result.part2) ≡
-            ⟦<PrivateKeyInfo<'a> as FromFields<(PrivateKeyInfoPart1<'a>, PrivateKeyInfoPart2<'a>)>>⟧.fields self }
-    {
-        PrivateKeyInfoParts {
-            part1: PrivateKeyInfoPart1 {
-                version: self.version,
-                private_key_algorithm: self.private_key_algorithm,
-                private_key: self.private_key,
-            },
-            part2: PrivateKeyInfoPart2 {
-                attributes: self.attributes,
-                public_key: self.public_key,
-            },
-        }
+        field_refs!(
+            self,
+            (
+                (version, (private_key_algorithm, private_key)),
+                (attributes, public_key)
+            )
+        )
+        .encode(writer)
     }
 }
 

@@ -5,10 +5,7 @@ ghost use Rattle.std.specs.Prelude.{false};
 ghost use Rattle.der.specs.Prelude.{map_ok};
 
 use crate::asn1::version::Version;
-use der::{
-    Decode, Encode, Error, FromFields, Length, Reader, SliceReader, Writer, decode_fields,
-    field_refs,
-};
+use der::{Decode, Error, FromFields, Reader, SliceReader, decode_fields};
 use der_asn1::{NamedInteger, OctetStringRef};
 use spki::AlgorithmIdentifierRef;
 use std::alloc::Global;
@@ -56,29 +53,5 @@ impl<'a, R: Reader<Borrowed = &'a [u8]>> Decode<R> for PrivateKeyInfoPart1<'a> {
 
     fn decode(alloc: Global, reader: &mut R) -> Result<Self, Error> {
         decode_fields::<R, PrivateKeyInfoPart1Fields<'a>, Self>(alloc, reader)
-    }
-}
-
-impl<'a> Encode for PrivateKeyInfoPart1<'a> {
-    ghost encoding = { λ v. ⟦<PrivateKeyInfoPart1Fields<'a> as Encode>⟧.encoding
-        (⟦<PrivateKeyInfoPart1<'a> as FromFields<PrivateKeyInfoPart1Fields<'a>>>⟧.fields v) };
-
-    ghost encodable = { λ v. ⟦<PrivateKeyInfoPart1Fields<'a> as Encode>⟧.encodable
-        (⟦<PrivateKeyInfoPart1<'a> as FromFields<PrivateKeyInfoPart1Fields<'a>>>⟧.fields v) };
-
-    ghost size = { λ v. ⟦<PrivateKeyInfoPart1Fields<'a> as Encode>⟧.size
-        (⟦<PrivateKeyInfoPart1<'a> as FromFields<PrivateKeyInfoPart1Fields<'a>>>⟧.fields v) };
-
-    ghost encode_answers = { λ v. ⟦<PrivateKeyInfoPart1Fields<'a> as Encode>⟧.encode_answers
-        (⟦<PrivateKeyInfoPart1<'a> as FromFields<PrivateKeyInfoPart1Fields<'a>>>⟧.fields v) };
-
-    #[inline(always)]
-    fn encoded_len(&self) -> Result<Length, Error> {
-        field_refs!(self, (version, (private_key_algorithm, private_key))).encoded_len()
-    }
-
-    #[inline(always)]
-    fn encode<W: Writer>(&self, writer: &mut W) -> Result<(), Error> {
-        field_refs!(self, (version, (private_key_algorithm, private_key))).encode(writer)
     }
 }

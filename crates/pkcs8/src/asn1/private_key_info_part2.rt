@@ -5,10 +5,7 @@ ghost use Rattle.std.specs.Prelude.{false};
 ghost use Rattle.der.specs.Prelude.{map_ok};
 
 use crate::asn1::private_key_attributes::PrivateKeyAttributes;
-use der::{
-    Decode, Encode, Error, FromFields, Length, Reader, SliceReader, Writer, decode_fields,
-    field_refs,
-};
+use der::{Decode, Error, FromFields, Reader, SliceReader, decode_fields};
 use der_asn1::{BitStringRef, Implicit, Optional};
 use std::alloc::Global;
 
@@ -53,29 +50,5 @@ impl<'a, R: Reader<Borrowed = &'a [u8]>> Decode<R> for PrivateKeyInfoPart2<'a> {
 
     fn decode(alloc: Global, reader: &mut R) -> Result<Self, Error> {
         decode_fields::<R, PrivateKeyInfoPart2Fields<'a>, Self>(alloc, reader)
-    }
-}
-
-impl<'a> Encode for PrivateKeyInfoPart2<'a> {
-    ghost encoding = { λ v. ⟦<PrivateKeyInfoPart2Fields<'a> as Encode>⟧.encoding
-        (⟦<PrivateKeyInfoPart2<'a> as FromFields<PrivateKeyInfoPart2Fields<'a>>>⟧.fields v) };
-
-    ghost encodable = { λ v. ⟦<PrivateKeyInfoPart2Fields<'a> as Encode>⟧.encodable
-        (⟦<PrivateKeyInfoPart2<'a> as FromFields<PrivateKeyInfoPart2Fields<'a>>>⟧.fields v) };
-
-    ghost size = { λ v. ⟦<PrivateKeyInfoPart2Fields<'a> as Encode>⟧.size
-        (⟦<PrivateKeyInfoPart2<'a> as FromFields<PrivateKeyInfoPart2Fields<'a>>>⟧.fields v) };
-
-    ghost encode_answers = { λ v. ⟦<PrivateKeyInfoPart2Fields<'a> as Encode>⟧.encode_answers
-        (⟦<PrivateKeyInfoPart2<'a> as FromFields<PrivateKeyInfoPart2Fields<'a>>>⟧.fields v) };
-
-    #[inline(always)]
-    fn encoded_len(&self) -> Result<Length, Error> {
-        field_refs!(self, (attributes, public_key)).encoded_len()
-    }
-
-    #[inline(always)]
-    fn encode<W: Writer>(&self, writer: &mut W) -> Result<(), Error> {
-        field_refs!(self, (attributes, public_key)).encode(writer)
     }
 }

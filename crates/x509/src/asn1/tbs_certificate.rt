@@ -17,7 +17,7 @@ use crate::asn1::validity::Validity;
 use crate::asn1::version::Version;
 use der::{
     Decode, DecodeValue, Encode, EncodeValue, Error, FromFields, Header, Length, Reader, Sequence,
-    SliceReader, Writer, decode_sequence,
+    SliceReader, Writer, decode_sequence, field_refs,
 };
 use der_asn1::{
     BitStringRef, BorrowedItem, DecodeItem, DefaultOf, DefaultValue, Defaulted, Described,
@@ -180,57 +180,66 @@ impl<'a, R: Reader<Borrowed = &'a [u8]>> DecodeValue<R> for TbsCertificate<'a> {
 
 /// Writes the fields one after the other, with the errors of every [`Sequence`].
 impl<'a> EncodeValue for TbsCertificate<'a> {
-    ghost value_size = { λ v. ⟦<(TbsCertificatePart1<'a>,
-        (TbsCertificatePart2<'a>, TbsCertificatePart3<'a>)) as Encode>⟧.size
-        (⟦<TbsCertificate<'a> as FromFields<(TbsCertificatePart1<'a>,
-        (TbsCertificatePart2<'a>, TbsCertificatePart3<'a>))>>⟧.fields v) };
+    ghost value_size = { λ v. ⟦<TbsCertificateFields<'a> as Encode>⟧.size (
+      ⟦<TbsCertificatePart1<'a> as FromFields<TbsCertificatePart1Fields<'a>>>⟧.fields
+          (⟦<TbsCertificate<'a> as FromFields<(TbsCertificatePart1<'a>,
+        (TbsCertificatePart2<'a>, TbsCertificatePart3<'a>))>>⟧.fields v).0,
+      (
+        ⟦<TbsCertificatePart2<'a> as FromFields<TbsCertificatePart2Fields<'a>>>⟧.fields
+            (⟦<TbsCertificate<'a> as FromFields<(TbsCertificatePart1<'a>,
+        (TbsCertificatePart2<'a>, TbsCertificatePart3<'a>))>>⟧.fields v).1.0,
+        ⟦<TbsCertificatePart3<'a> as FromFields<TbsCertificatePart3Fields<'a>>>⟧.fields
+            (⟦<TbsCertificate<'a> as FromFields<(TbsCertificatePart1<'a>,
+        (TbsCertificatePart2<'a>, TbsCertificatePart3<'a>))>>⟧.fields v).1.1,
+      ),
+    ) };
 
-    ghost encode_value_answers = { λ v. ⟦<(TbsCertificatePart1<'a>,
-        (TbsCertificatePart2<'a>, TbsCertificatePart3<'a>)) as Encode>⟧.encode_answers
-        (⟦<TbsCertificate<'a> as FromFields<(TbsCertificatePart1<'a>,
-        (TbsCertificatePart2<'a>, TbsCertificatePart3<'a>))>>⟧.fields v) };
+    ghost encode_value_answers = { λ v. ⟦<TbsCertificateFields<'a> as Encode>⟧.encode_answers (
+      ⟦<TbsCertificatePart1<'a> as FromFields<TbsCertificatePart1Fields<'a>>>⟧.fields
+          (⟦<TbsCertificate<'a> as FromFields<(TbsCertificatePart1<'a>,
+        (TbsCertificatePart2<'a>, TbsCertificatePart3<'a>))>>⟧.fields v).0,
+      (
+        ⟦<TbsCertificatePart2<'a> as FromFields<TbsCertificatePart2Fields<'a>>>⟧.fields
+            (⟦<TbsCertificate<'a> as FromFields<(TbsCertificatePart1<'a>,
+        (TbsCertificatePart2<'a>, TbsCertificatePart3<'a>))>>⟧.fields v).1.0,
+        ⟦<TbsCertificatePart3<'a> as FromFields<TbsCertificatePart3Fields<'a>>>⟧.fields
+            (⟦<TbsCertificate<'a> as FromFields<(TbsCertificatePart1<'a>,
+        (TbsCertificatePart2<'a>, TbsCertificatePart3<'a>))>>⟧.fields v).1.1,
+      ),
+    ) };
 
     fn value_len(&self) -> Result<Length, Error> {
-        self.parts().encoded_len()
+        field_refs!(
+            self,
+            (
+                ((version, serial_number), (signature, issuer)),
+                (
+                    (
+                        (validity, subject),
+                        (subject_public_key_info, issuer_unique_id)
+                    ),
+                    (subject_unique_id, extensions)
+                )
+            )
+        )
+        .encoded_len()
     }
 
     fn encode_value<W: Writer>(&self, writer: &mut W) -> Result<(), Error> {
-        self.parts().encode(writer)
-    }
-}
-
-impl<'a> TbsCertificate<'a> {
-    // The fields in parts.
-    #[inline(always)]
-    fn parts(
-        self,
-    ) -> (
-        TbsCertificatePart1<'a>,
-        (TbsCertificatePart2<'a>, TbsCertificatePart3<'a>),
-    )
-        ensures { result ≡ ⟦<TbsCertificate<'a> as FromFields<(TbsCertificatePart1<'a>,
-        (TbsCertificatePart2<'a>, TbsCertificatePart3<'a>))>>⟧.fields self }
-    {
-        (
-            TbsCertificatePart1 {
-                version: self.version,
-                serial_number: self.serial_number,
-                signature: self.signature,
-                issuer: self.issuer,
-            },
+        field_refs!(
+            self,
             (
-                TbsCertificatePart2 {
-                    validity: self.validity,
-                    subject: self.subject,
-                    subject_public_key_info: self.subject_public_key_info,
-                    issuer_unique_id: self.issuer_unique_id,
-                },
-                TbsCertificatePart3 {
-                    subject_unique_id: self.subject_unique_id,
-                    extensions: self.extensions,
-                },
-            ),
+                ((version, serial_number), (signature, issuer)),
+                (
+                    (
+                        (validity, subject),
+                        (subject_public_key_info, issuer_unique_id)
+                    ),
+                    (subject_unique_id, extensions)
+                )
+            )
         )
+        .encode(writer)
     }
 }
 

@@ -7,10 +7,7 @@ ghost use Rattle.der.specs.Prelude.{map_ok};
 use crate::asn1::name::Name;
 use crate::asn1::tbs_certificate::TbsCertificateVersionDefault;
 use crate::asn1::version::Version;
-use der::{
-    Decode, Encode, Error, FromFields, Length, Reader, SliceReader, Writer, decode_fields,
-    field_refs,
-};
+use der::{Decode, Error, FromFields, Reader, SliceReader, decode_fields};
 use der_asn1::{Defaulted, Explicit, IntRef, NamedInteger, WithDefault};
 use spki::AlgorithmIdentifierRef;
 use std::alloc::Global;
@@ -65,29 +62,5 @@ impl<'a, R: Reader<Borrowed = &'a [u8]>> Decode<R> for TbsCertificatePart1<'a> {
 
     fn decode(alloc: Global, reader: &mut R) -> Result<Self, Error> {
         decode_fields::<R, TbsCertificatePart1Fields<'a>, Self>(alloc, reader)
-    }
-}
-
-impl<'a> Encode for TbsCertificatePart1<'a> {
-    ghost encoding = { λ v. ⟦<TbsCertificatePart1Fields<'a> as Encode>⟧.encoding
-        (⟦<TbsCertificatePart1<'a> as FromFields<TbsCertificatePart1Fields<'a>>>⟧.fields v) };
-
-    ghost encodable = { λ v. ⟦<TbsCertificatePart1Fields<'a> as Encode>⟧.encodable
-        (⟦<TbsCertificatePart1<'a> as FromFields<TbsCertificatePart1Fields<'a>>>⟧.fields v) };
-
-    ghost size = { λ v. ⟦<TbsCertificatePart1Fields<'a> as Encode>⟧.size
-        (⟦<TbsCertificatePart1<'a> as FromFields<TbsCertificatePart1Fields<'a>>>⟧.fields v) };
-
-    ghost encode_answers = { λ v. ⟦<TbsCertificatePart1Fields<'a> as Encode>⟧.encode_answers
-        (⟦<TbsCertificatePart1<'a> as FromFields<TbsCertificatePart1Fields<'a>>>⟧.fields v) };
-
-    #[inline(always)]
-    fn encoded_len(&self) -> Result<Length, Error> {
-        field_refs!(self, ((version, serial_number), (signature, issuer))).encoded_len()
-    }
-
-    #[inline(always)]
-    fn encode<W: Writer>(&self, writer: &mut W) -> Result<(), Error> {
-        field_refs!(self, ((version, serial_number), (signature, issuer))).encode(writer)
     }
 }

@@ -6,10 +6,7 @@ ghost use Rattle.der.specs.Prelude.{map_ok};
 
 use crate::asn1::name::Name;
 use crate::asn1::validity::Validity;
-use der::{
-    Decode, Encode, Error, FromFields, Length, Reader, SliceReader, Writer, decode_fields,
-    field_refs,
-};
+use der::{Decode, Error, FromFields, Reader, SliceReader, decode_fields};
 use der_asn1::{BitStringRef, Implicit, Optional};
 use spki::SubjectPublicKeyInfoRef;
 use std::alloc::Global;
@@ -62,43 +59,5 @@ impl<'a, R: Reader<Borrowed = &'a [u8]>> Decode<R> for TbsCertificatePart2<'a> {
 
     fn decode(alloc: Global, reader: &mut R) -> Result<Self, Error> {
         decode_fields::<R, TbsCertificatePart2Fields<'a>, Self>(alloc, reader)
-    }
-}
-
-impl<'a> Encode for TbsCertificatePart2<'a> {
-    ghost encoding = { λ v. ⟦<TbsCertificatePart2Fields<'a> as Encode>⟧.encoding
-        (⟦<TbsCertificatePart2<'a> as FromFields<TbsCertificatePart2Fields<'a>>>⟧.fields v) };
-
-    ghost encodable = { λ v. ⟦<TbsCertificatePart2Fields<'a> as Encode>⟧.encodable
-        (⟦<TbsCertificatePart2<'a> as FromFields<TbsCertificatePart2Fields<'a>>>⟧.fields v) };
-
-    ghost size = { λ v. ⟦<TbsCertificatePart2Fields<'a> as Encode>⟧.size
-        (⟦<TbsCertificatePart2<'a> as FromFields<TbsCertificatePart2Fields<'a>>>⟧.fields v) };
-
-    ghost encode_answers = { λ v. ⟦<TbsCertificatePart2Fields<'a> as Encode>⟧.encode_answers
-        (⟦<TbsCertificatePart2<'a> as FromFields<TbsCertificatePart2Fields<'a>>>⟧.fields v) };
-
-    #[inline(always)]
-    fn encoded_len(&self) -> Result<Length, Error> {
-        field_refs!(
-            self,
-            (
-                (validity, subject),
-                (subject_public_key_info, issuer_unique_id)
-            )
-        )
-        .encoded_len()
-    }
-
-    #[inline(always)]
-    fn encode<W: Writer>(&self, writer: &mut W) -> Result<(), Error> {
-        field_refs!(
-            self,
-            (
-                (validity, subject),
-                (subject_public_key_info, issuer_unique_id)
-            )
-        )
-        .encode(writer)
     }
 }

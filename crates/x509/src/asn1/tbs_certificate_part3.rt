@@ -5,10 +5,7 @@ ghost use Rattle.std.specs.Prelude.{false};
 ghost use Rattle.der.specs.Prelude.{map_ok};
 
 use crate::asn1::extensions::Extensions;
-use der::{
-    Decode, Encode, Error, FromFields, Length, Reader, SliceReader, Writer, decode_fields,
-    field_refs,
-};
+use der::{Decode, Error, FromFields, Reader, SliceReader, decode_fields};
 use der_asn1::{BitStringRef, Explicit, Implicit, Optional};
 use std::alloc::Global;
 
@@ -53,29 +50,5 @@ impl<'a, R: Reader<Borrowed = &'a [u8]>> Decode<R> for TbsCertificatePart3<'a> {
 
     fn decode(alloc: Global, reader: &mut R) -> Result<Self, Error> {
         decode_fields::<R, TbsCertificatePart3Fields<'a>, Self>(alloc, reader)
-    }
-}
-
-impl<'a> Encode for TbsCertificatePart3<'a> {
-    ghost encoding = { λ v. ⟦<TbsCertificatePart3Fields<'a> as Encode>⟧.encoding
-        (⟦<TbsCertificatePart3<'a> as FromFields<TbsCertificatePart3Fields<'a>>>⟧.fields v) };
-
-    ghost encodable = { λ v. ⟦<TbsCertificatePart3Fields<'a> as Encode>⟧.encodable
-        (⟦<TbsCertificatePart3<'a> as FromFields<TbsCertificatePart3Fields<'a>>>⟧.fields v) };
-
-    ghost size = { λ v. ⟦<TbsCertificatePart3Fields<'a> as Encode>⟧.size
-        (⟦<TbsCertificatePart3<'a> as FromFields<TbsCertificatePart3Fields<'a>>>⟧.fields v) };
-
-    ghost encode_answers = { λ v. ⟦<TbsCertificatePart3Fields<'a> as Encode>⟧.encode_answers
-        (⟦<TbsCertificatePart3<'a> as FromFields<TbsCertificatePart3Fields<'a>>>⟧.fields v) };
-
-    #[inline(always)]
-    fn encoded_len(&self) -> Result<Length, Error> {
-        field_refs!(self, (subject_unique_id, extensions)).encoded_len()
-    }
-
-    #[inline(always)]
-    fn encode<W: Writer>(&self, writer: &mut W) -> Result<(), Error> {
-        field_refs!(self, (subject_unique_id, extensions)).encode(writer)
     }
 }

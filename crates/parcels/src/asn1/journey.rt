@@ -1,0 +1,149 @@
+//! Written by asn1_compile from the module Parcels: change the module instead.
+//!
+//! Journey.
+ghost use Rattle.std.specs.Prelude.{◌≡◌};
+ghost use Rattle.std.proofs.Common.{arith, refl};
+ghost use Rattle.der.specs.Prelude.{map_ok};
+ghost use Rattle.der_asn1.specs.Item.{decodes_same};
+ghost use Rattle.der_asn1.specs.Meaning.{alternative, defaulted, field, optional, seen, sequence, sequence_is_item, sequence_item, two_fields};
+
+use crate::asn1::address::Address;
+use crate::asn1::journey_part1::{JourneyPart1, JourneyPart1Fields};
+use crate::asn1::journey_part2::{JourneyPart2, JourneyPart2Fields};
+use crate::asn1::property::Property;
+use crate::asn1::stop::Stop;
+use der::{
+    Decode, DecodeValue, Encode, EncodeValue, Error, FromFields, Header, Length, Reader, Sequence,
+    SliceReader, Writer, decode_sequence, field_refs,
+};
+use der_asn1::{
+    BorrowedItem, DecodeItem, DefaultU64, DefaultValue, Defaulted, Described, Implicit, IntegerOf,
+    Item, Nestable, Optional, SequenceOf, SetOf, WithDefault,
+};
+use std::alloc::Global;
+
+/// The way of a parcel.
+#[derive(Clone, Copy, Drop)]
+pub struct Journey<'a> {
+    /// The one who sends it.
+    pub sender: Implicit<Address<'a>, 1>,
+    /// The one who gets it, if known.
+    pub receiver: Optional<Implicit<Address<'a>, 2>>,
+    /// Where it was, first to last.
+    pub stops: SequenceOf<'a, Stop<'a>>,
+    /// What is known of it, in ascending order.
+    pub properties: Optional<Implicit<SetOf<'a, Property<'a>>, 3>>,
+    /// How often its delivery was tried.
+    pub attempts: Defaulted<Implicit<WithDefault<IntegerOf<u64>, DefaultU64<0>>, 5>>,
+}
+
+/// The fields of a [`Journey`] in pairs, in the order in which they are encoded.
+pub type JourneyFields<'a> = (JourneyPart1Fields<'a>, JourneyPart2Fields<'a>);
+
+impl<'a> FromFields<(JourneyPart1<'a>, JourneyPart2<'a>)> for Journey<'a> {
+    ghost fields = { λ v. (
+      record {
+        sender = v.sender;
+        receiver = v.receiver;
+        stops = v.stops;
+      },
+      record { properties = v.properties; attempts = v.attempts },
+    ) };
+
+    fn from_fields(members: (JourneyPart1<'a>, JourneyPart2<'a>)) -> Self {
+        let (part1, part2) = members;
+        Journey {
+            sender: part1.sender,
+            receiver: part1.receiver,
+            stops: part1.stops,
+            properties: part2.properties,
+            attempts: part2.attempts,
+        }
+    }
+}
+
+impl<'a> Sequence for Journey<'a> {
+    ghost meaning = { sequence (two_fields (seen
+        ⟦<JourneyPart1<'a> as FromFields<JourneyPart1Fields<'a>>>⟧.fields (two_fields (field
+        (alternative ⟦<Implicit<Address<'a>, 1> as Described>⟧.element)) (two_fields (optional
+        (alternative ⟦<Implicit<Address<'a>, 2> as Described>⟧.element)) (field (alternative
+        ⟦<SequenceOf<'a, Stop<'a>> as Described>⟧.element))))) (seen
+        ⟦<JourneyPart2<'a> as FromFields<JourneyPart2Fields<'a>>>⟧.fields (two_fields (optional
+        (alternative ⟦<Implicit<SetOf<'a, Property<'a>>, 3> as Described>⟧.element)) (defaulted
+        ⟦<Implicit<WithDefault<IntegerOf<u64>, DefaultU64<0>>, 5> as DefaultValue>⟧.is_default
+        (alternative
+        ⟦<Implicit<WithDefault<IntegerOf<u64>, DefaultU64<0>>, 5> as Described>⟧.element)))))
+        ⟦<Journey<'a> as FromFields<(JourneyPart1<'a>, JourneyPart2<'a>)>>⟧.fields };
+
+    ghost fits = { (refl, refl) };
+}
+
+/// Decodes the fields one after the other, with the errors of every [`Sequence`].
+impl<'a, R: Reader<Borrowed = &'a [u8]>> DecodeValue<R> for Journey<'a> {
+    type Error = Error;
+
+    ghost decode_value_answers = { λ h s result t.
+        ⟦<(JourneyPart1<'a>, JourneyPart2<'a>) as Decode<SliceReader<'a>>>⟧.decode_answers s (map_ok
+        ⟦<Journey<'a> as FromFields<(JourneyPart1<'a>, JourneyPart2<'a>)>>⟧.fields result) t };
+
+    fn decode_value(alloc: Global, reader: &mut R, header: Header) -> Result<Self, Error> {
+        decode_sequence::<R, (JourneyPart1<'a>, JourneyPart2<'a>), Self>(alloc, reader, header)
+    }
+
+    fn is_value(&self) {
+        <Implicit<Address<'a>, 1> as DecodeValue<R>>::is_value(&self.sender);
+        if let Some(value) = &self.receiver.0 {
+            <Implicit<Address<'a>, 2> as DecodeValue<R>>::is_value(value);
+        }
+        <SequenceOf<'a, Stop<'a>> as DecodeValue<R>>::is_value(&self.stops);
+        if let Some(value) = &self.properties.0 {
+            <Implicit<SetOf<'a, Property<'a>>, 3> as DecodeValue<R>>::is_value(value);
+        }
+        <Implicit<WithDefault<IntegerOf<u64>, DefaultU64<0>>, 5> as DecodeValue<R>>::is_value(
+            &self.attempts.0,
+        );
+    }
+}
+
+/// Writes the fields one after the other, with the errors of every [`Sequence`].
+impl<'a> EncodeValue for Journey<'a> {
+    ghost value_size = { λ v. ⟦<JourneyFields<'a> as Encode>⟧.size (
+      ⟦<JourneyPart1<'a> as FromFields<JourneyPart1Fields<'a>>>⟧.fields
+          (⟦<Journey<'a> as FromFields<(JourneyPart1<'a>, JourneyPart2<'a>)>>⟧.fields v).0,
+      ⟦<JourneyPart2<'a> as FromFields<JourneyPart2Fields<'a>>>⟧.fields
+          (⟦<Journey<'a> as FromFields<(JourneyPart1<'a>, JourneyPart2<'a>)>>⟧.fields v).1,
+    ) };
+
+    ghost encode_value_answers = { λ v. ⟦<JourneyFields<'a> as Encode>⟧.encode_answers (
+      ⟦<JourneyPart1<'a> as FromFields<JourneyPart1Fields<'a>>>⟧.fields
+          (⟦<Journey<'a> as FromFields<(JourneyPart1<'a>, JourneyPart2<'a>)>>⟧.fields v).0,
+      ⟦<JourneyPart2<'a> as FromFields<JourneyPart2Fields<'a>>>⟧.fields
+          (⟦<Journey<'a> as FromFields<(JourneyPart1<'a>, JourneyPart2<'a>)>>⟧.fields v).1,
+    ) };
+
+    fn value_len(&self) -> Result<Length, Error> {
+        field_refs!(self, ((sender, (receiver, stops)), (properties, attempts))).encoded_len()
+    }
+
+    fn encode_value<W: Writer>(&self, writer: &mut W) -> Result<(), Error> {
+        field_refs!(self, ((sender, (receiver, stops)), (properties, attempts))).encode(writer)
+    }
+}
+
+impl<'a> Item for Journey<'a> {
+    ghost item = { sequence_item ⟦<Journey<'a> as Described>⟧.element };
+}
+
+impl<'a, R: Reader<Borrowed = &'a [u8]>> DecodeItem<R> for Journey<'a> {
+    ghost is_item = { sequence_is_item ⟦<Journey<'a> as Described>⟧.element refl };
+
+    ghost decodes_items = { decodes_same (sequence_item ⟦<Journey<'a> as Described>⟧.element) };
+}
+
+impl<'a> BorrowedItem for Journey<'a> {
+    ghost borrowed = { refl };
+}
+
+impl<'a> Nestable for Journey<'a> {
+    ghost nestable = { Prim.omega arith };
+}

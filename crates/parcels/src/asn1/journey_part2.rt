@@ -1,0 +1,54 @@
+//! Written by asn1_compile from the module Parcels: change the module instead.
+//!
+//! JourneyPart2.
+ghost use Rattle.std.specs.Prelude.{false};
+ghost use Rattle.der.specs.Prelude.{map_ok};
+
+use crate::asn1::property::Property;
+use der::{Decode, Error, FromFields, Reader, SliceReader, decode_fields};
+use der_asn1::{DefaultU64, Defaulted, Implicit, IntegerOf, Optional, SetOf, WithDefault};
+use std::alloc::Global;
+
+// Some fields of a Journey.
+#[derive(Drop)]
+pub(crate) struct JourneyPart2<'a> {
+    pub(crate) properties: Optional<Implicit<SetOf<'a, Property<'a>>, 3>>,
+    pub(crate) attempts: Defaulted<Implicit<WithDefault<IntegerOf<u64>, DefaultU64<0>>, 5>>,
+}
+
+// The fields in pairs, in the order in which they are encoded.
+pub(crate) type JourneyPart2Fields<'a> = (
+    Optional<Implicit<SetOf<'a, Property<'a>>, 3>>,
+    Defaulted<Implicit<WithDefault<IntegerOf<u64>, DefaultU64<0>>, 5>>,
+);
+
+impl<'a> FromFields<JourneyPart2Fields<'a>> for JourneyPart2<'a> {
+    ghost fields = { λ v. (v.properties, v.attempts) };
+
+    fn from_fields(members: JourneyPart2Fields<'a>) -> Self {
+        let (properties, attempts) = members;
+        JourneyPart2 {
+            properties,
+            attempts,
+        }
+    }
+}
+
+impl<'a, R: Reader<Borrowed = &'a [u8]>> Decode<R> for JourneyPart2<'a> {
+    type Error = Error;
+
+    ghost is_next = { λ v. ⟦<JourneyPart2Fields<'a> as Decode<SliceReader<'a>>>⟧.is_next
+        (⟦<JourneyPart2<'a> as FromFields<JourneyPart2Fields<'a>>>⟧.fields v) };
+
+    ghost decode_levels = { ⟦<JourneyPart2Fields<'a> as Decode<SliceReader<'a>>>⟧.decode_levels };
+
+    ghost allocates = { false };
+
+    ghost decode_answers = { λ s result t.
+        ⟦<JourneyPart2Fields<'a> as Decode<SliceReader<'a>>>⟧.decode_answers s
+        (map_ok ⟦<JourneyPart2<'a> as FromFields<JourneyPart2Fields<'a>>>⟧.fields result) t };
+
+    fn decode(alloc: Global, reader: &mut R) -> Result<Self, Error> {
+        decode_fields::<R, JourneyPart2Fields<'a>, Self>(alloc, reader)
+    }
+}
