@@ -2,6 +2,8 @@
 use super::octets::{FULL, PLAN, SEAL, SMALL};
 use crate::checks::{holds, same, same_octets};
 use der::{DecodeBytes, Encode};
+use der_asn1::ObjectIdentifierRef;
+use parcels::asn1::values::{MAX_WEIGHT, id_fragile, id_insured, name_of};
 use parcels::{HandlingBit, Packing, Parcel, Plan, Seal, Stop, Text, Time, Version};
 use std::alloc::Global;
 
@@ -34,12 +36,12 @@ fn absent_fields_have_their_defaults(rt: HostRuntime) {
     same(&rt, parcel.packing.0.value.item(), Packing::Box);
     holds(&rt, parcel.handling.0.is_none());
     holds(&rt, !parcel.opened.0.is_true());
-    same(&rt, parcel.sender.0.name.as_str(), "Ann");
-    holds(&rt, parcel.receiver.0.is_none());
-    same_octets(&rt, parcel.stops.octets(), &[]);
-    holds(&rt, parcel.properties.0.is_none());
+    same(&rt, parcel.journey.sender.0.name.as_str(), "Ann");
+    holds(&rt, parcel.journey.receiver.0.is_none());
+    same_octets(&rt, parcel.journey.stops.octets(), &[]);
+    holds(&rt, parcel.journey.properties.0.is_none());
     holds(&rt, parcel.label.0.is_none());
-    same(&rt, parcel.attempts.0.0.value.number, 0);
+    same(&rt, parcel.journey.attempts.0.0.value.number, 0);
 }
 
 #[test]
@@ -60,7 +62,7 @@ fn fields_that_are_present_are_read(rt: HostRuntime) {
     holds(&rt, !handling.has_bit(HandlingBit::ThisSideUp as u32));
     holds(&rt, handling.has_bit(HandlingBit::KeepDry as u32));
     holds(&rt, parcel.opened.0.is_true());
-    same(&rt, parcel.attempts.0.0.value.number, 3);
+    same(&rt, parcel.journey.attempts.0.0.value.number, 3);
 }
 
 #[test]
@@ -69,7 +71,7 @@ fn an_address_is_read(rt: HostRuntime) {
         holds(&rt, false);
         return;
     };
-    let Some(address) = parcel.receiver.0 else {
+    let Some(address) = parcel.journey.receiver.0 else {
         holds(&rt, false);
         return;
     };
@@ -109,7 +111,7 @@ fn stops_are_read_in_their_order(rt: HostRuntime) {
     };
     let expected = [("Rome", 0), ("Köln", 1), ("Oslo", 2)];
     let mut count = 0;
-    for found in parcel.stops.iter(rt.alloc()) {
+    for found in parcel.journey.stops.iter(rt.alloc()) {
         let (place, time) = stop(&found);
         holds(&rt, count < 3);
         same_octets(&rt, place, expected[count].0.as_bytes());
@@ -125,7 +127,7 @@ fn properties_are_read_in_ascending_order(rt: HostRuntime) {
         holds(&rt, false);
         return;
     };
-    let Some(properties) = parcel.properties.0 else {
+    let Some(properties) = parcel.journey.properties.0 else {
         holds(&rt, false);
         return;
     };
@@ -180,4 +182,33 @@ fn a_plan_is_a_list_of_lists(rt: HostRuntime) {
         Ok(written) => same_octets(&rt, written.as_slice(), &PLAN),
         Err(_) => holds(&rt, false),
     }
+}
+
+#[test]
+fn an_address_in_an_octet_string_is_read(rt: HostRuntime) {
+    let Ok(parcel) = Parcel::from_der(rt.alloc(), &FULL) else {
+        holds(&rt, false);
+        return;
+    };
+    match parcel.label.0 {
+        Some(label) => {
+            same(&rt, label.0.address.0.name.as_str(), "Ann");
+            same_octets(&rt, label.0.octets.octets(), &[1, 2, 3, 4, 5, 6, 7, 8]);
+            holds(&rt, label.0.seal.0.is_some());
+        }
+        None => holds(&rt, false),
+    }
+}
+
+#[test]
+fn identifiers_have_the_octets_of_their_arcs(rt: HostRuntime) {
+    let fragile = id_fragile();
+    same_octets(&rt, fragile.octets(), &[0x2A, 0x87, 0x67, 1, 2]);
+    same(&rt, name_of(&fragile), Some("id-fragile"));
+    same(&rt, name_of(&id_insured()), Some("id-insured"));
+    match ObjectIdentifierRef::new(&[0x2A, 0x87, 0x67, 9]) {
+        Some(other) => same(&rt, name_of(&other), None),
+        None => holds(&rt, false),
+    }
+    same(&rt, MAX_WEIGHT, 30000);
 }

@@ -1,5 +1,5 @@
 //! Octets that are no parcels.
-use super::octets::{FULL, SMALL, UNSORTED, WITH_MORE, WITH_UNIVERSAL};
+use super::octets::{FULL, SMALL, UNSORTED, WITH_MORE, WITH_TRAILING, WITH_UNIVERSAL};
 use crate::checks::{holds, same_at};
 use der::DecodeBytes;
 use parcels::Parcel;
@@ -41,11 +41,11 @@ fn a_weight_is_from_1_to_30000_grams(rt: HostRuntime) {
 #[test]
 fn fields_of_other_types_are_refused(rt: HostRuntime) {
     for (row, index, octet) in [
-        ("the length of all", 1, 0x1C),
-        ("the tag of the sender", 9, 0xA2),
-        ("a name that is not UTF-8", 13, 0xFF),
-        ("a star in a PrintableString", 18, 0x2A),
-        ("a SET of stops", 27, 0x31),
+        ("the length of all", 1, 0x1E),
+        ("the tag of the sender", 11, 0xA2),
+        ("a name that is not UTF-8", 15, 0xFF),
+        ("a star in a PrintableString", 20, 0x2A),
+        ("a SET of stops", 29, 0x31),
     ] {
         let refused = is_refused_with(rt.alloc(), &SMALL, index, octet);
         same_at(&rt, row, refused, true);
@@ -71,7 +71,7 @@ fn defaults_that_are_written_are_refused(rt: HostRuntime) {
         ("version 1", 7, 0),
         ("a box", 25, 1),
         ("not opened", 32, 0),
-        ("no attempts", 235, 0),
+        ("no attempts", 181, 0),
     ] {
         let refused = is_refused_with(rt.alloc(), &FULL, index, octet);
         same_at(&rt, row, refused, true);
@@ -83,4 +83,5 @@ fn what_the_module_does_not_allow_is_refused(rt: HostRuntime) {
     holds(&rt, is_refused(rt.alloc(), &UNSORTED));
     holds(&rt, is_refused(rt.alloc(), &WITH_MORE));
     holds(&rt, is_refused(rt.alloc(), &WITH_UNIVERSAL));
+    holds(&rt, is_refused(rt.alloc(), &WITH_TRAILING));
 }

@@ -7,7 +7,7 @@ use der_asn1::{
     NamedInteger, ObjectIdentifierRef, Optional, PrintableStringRef, SequenceOf,
     Utf8StringRef, WithDefault,
 };
-use parcels::{Address, Parcel, Seal, SealTextTagged, Text, Version};
+use parcels::{Address, Journey, Parcel, Seal, SealTextTagged, Text, Version};
 use spki::AlgorithmIdentifierRef;
 use std::alloc::Global;
 
@@ -29,12 +29,14 @@ fn small(alloc: Global) -> Option<Parcel<'static>> {
         packing: Defaulted(DefaultValue::default_value()),
         handling: Optional(None),
         opened: Defaulted(BooleanRef::new(&[0])?),
-        sender: Implicit(sender()?),
-        receiver: Optional(None),
-        stops: SequenceOf::new(alloc, &[]).ok()?,
-        properties: Optional(None),
+        journey: Journey {
+            sender: Implicit(sender()?),
+            receiver: Optional(None),
+            stops: SequenceOf::new(alloc, &[]).ok()?,
+            properties: Optional(None),
+            attempts: Defaulted(Implicit(WithDefault::new(IntegerOf { number: 0u64 }))),
+        },
         label: Optional(None),
-        attempts: Defaulted(Implicit(WithDefault::new(IntegerOf { number: 0u64 }))),
     })
 }
 
