@@ -2,7 +2,7 @@
 use crate::checks::holds;
 use der::{DecodeBytes, Encode};
 use std::alloc::Global;
-use x509::{Certificate, Version};
+use x509::Certificate;
 
 // Ed25519, without extensions: `openssl x509 -req -signkey KEY -set_serial 5`, of a request that
 // `openssl req -new -subj /CN=a` made.
@@ -32,7 +32,7 @@ fn is_read(alloc: Global, octets: &[u8], serial_number: &[u8]) -> bool {
         return false;
     };
     let fields = &certificate.tbs_certificate;
-    fields.version.0.0.value.item() == Version::V1
+    fields.version.0.0.octets() == [0].as_slice()
         && fields.serial_number.octets() == serial_number
         && fields.extensions.0.is_none()
         && written.as_slice() == octets

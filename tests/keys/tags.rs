@@ -20,7 +20,7 @@ fn types_of_certificates_report_equal_tags(rt: HostRuntime) {
     holds(&rt, tags_agree::<Validity>(Tag::Sequence, true));
     holds(&rt, tags_agree::<Extensions>(Tag::Sequence, true));
     holds(&rt, tags_agree::<Extension>(Tag::Sequence, true));
-    holds(&rt, tags_agree::<NamedInteger<x509::Version>>(Tag::Integer, false));
+    holds(&rt, tags_agree::<x509::Version>(Tag::Integer, false));
 }
 
 // RFC 5280, 4.1.2.4: a name is a SEQUENCE of SETs of SEQUENCEs.

@@ -10,7 +10,7 @@ use crate::version::write_version;
 use der_asn1::{BitStringRef, Implicit, IntRef, ObjectIdentifierRef, Optional};
 use std::alloc::{AllocError, Global};
 use std::fmt::Write;
-use x509::{Certificate, Extension, Extensions, TbsCertificate, Version};
+use x509::{Certificate, Extension, Extensions, TbsCertificate};
 
 /// Writes one line per field of the certificate to `text`, in the words of `openssl x509 -text`.
 /// `offsets` must be at the start of the octets that the certificate was read from.
@@ -60,19 +60,27 @@ fn write_head(
     tbs: &TbsCertificate<'_>,
     offsets: &mut Offsets<'_>,
 ) -> Result<(), AllocError> {
-    let version = tbs.version.0.0.value.item();
-    if version == Version::V1 {
+    let version = tbs.version.0.0.octets();
+    if version == [0].as_slice() {
         // a default, which has no element
         offsets.put_none(text)?;
     } else {
         offsets.put(text)?;
     }
-    write_version(text, version as u32)?;
+    write_version(text, first_number(version))?;
     offsets.put(text)?;
     text.push_str("Serial Number: ")?;
     write_serial_number(text, &tbs.serial_number)?;
     text.push('\n')?;
     write_signature_algorithm(text, &tbs.signature.oid, offsets)
+}
+
+// The first octet, or 0 if there is none.
+fn first_number(octets: &[u8]) -> u32 {
+    match octets {
+        [octet, ..] => u32::from(*octet),
+        [] => 0,
+    }
 }
 
 /// Writes the lines of a certificate's issuer, validity and subject.

@@ -6,12 +6,9 @@ use crate::refused_fields::{
 use crate::search::Search;
 use der::{Tag, TagNumber};
 use der_asn1::{
-    BitStringRef, BooleanRef, Defaulted, Explicit, Implicit, IntRef, NamedInteger, OctetStringRef,
-    Optional, WithDefault,
+    BitStringRef, BooleanRef, Defaulted, Explicit, Implicit, IntRef, OctetStringRef, Optional,
 };
-use x509::{
-    Extension, Extensions, TbsCertificate, TbsCertificateVersionDefault, Time, Validity, Version,
-};
+use x509::{Extension, Extensions, TbsCertificate, Time, Validity, Version};
 
 /// Searches a certificate for the innermost field that fails to decode. `search` must be at the
 /// start of the certificate, and records the error, the path and the offset of this field.
@@ -32,13 +29,10 @@ fn search_signed(search: &mut Search<'_>) -> bool {
     true
 }
 
-// The version of a certificate, whose default is version 1.
-type VersionOrDefault = WithDefault<NamedInteger<Version>, TbsCertificateVersionDefault>;
-
 /// Whether one of the fields of a TBSCertificate before `subject` fails to decode. If one does,
 /// also searches inside it for the innermost field that fails. If none does, skips these fields.
 fn search_issued(search: &mut Search<'_>) -> bool {
-    search.is_refused::<Defaulted<Explicit<VersionOrDefault, 0>>>("version")
+    search.is_refused::<Defaulted<Explicit<Version<'_>, 0>>>("version")
         || search.is_refused::<IntRef<'_>>("serialNumber")
         || search_algorithm(search, "signature")
         || search_name(search, "issuer")

@@ -1,11 +1,11 @@
-//! Types that are compiled from ASN.1.
+//! Parcels on their way: an example of types that are compiled from ASN.1.
 #![tactic(auto)]
 
 pub mod asn1;
 
 pub use asn1::{
-    Address, AddressFields, Delivery, Handling, HandlingBit, Label, LabelFields, Packing, Parcel,
-    ParcelFields, ParcelPackingDefault, ParcelVersionDefault, Plan, Property, PropertyFields, Seal,
-    SealFields, SealTextTagged, SealTextTaggedFields, Stop, StopFields, Text, Time,
-    TimeAlternatives, Version,
+    Address, AddressFields, Delivery, Handling, HandlingBit, Journey, JourneyFields, Label,
+    LabelFields, Packing, Parcel, ParcelFields, ParcelPackingDefault, ParcelVersionDefault, Plan,
+    Property, PropertyFields, Seal, SealFields, SealTextTagged, SealTextTaggedFields, Stop,
+    StopFields, Text, Time, TimeAlternatives, Version,
 };

@@ -1,30 +1,27 @@
 -- Checks of a certificate that decoding does not make (RFC 5280, 4.1).
-use Rattle.std.specs.Prelude.{◌≡◌, ◌≤◌, ℕ, List, Option, Some, None, IsSome}
+use Rattle.std.specs.Prelude.{◌≡◌, ◌≤◌, ℕ, List, [], ◌∷◌, Option, Some, None, IsSome}
 use Rattle.der.specs.Prelude.{Tag}
 use Rattle.der_asn1.specs.AnyRef.{any_contents}
 use Rattle.der_asn1.specs.declared.any.AnyRef.{AnyRef}
 use Rattle.spki.specs.declared.asn1.algorithm_identifier_ref.AlgorithmIdentifierRef.{AlgorithmIdentifierRef}
 use Rattle.x509.specs.declared.asn1.certificate.Certificate.{Certificate}
 use Rattle.x509.specs.declared.asn1.tbs_certificate.TbsCertificate.{TbsCertificate}
-use Rattle.x509.specs.declared.asn1.version.Version.{Version}
-use Rattle.x509.specs.declared.asn1.version.Version.TheVariants as version
 
--- 1, 2 or 3 (4.1.2.1)
-abbrev pub version_number : Version → ℕ
-version_number version.V1 = 1
-version_number version.V2 = 2
-version_number version.V3 = 3
+-- 0, 1 or 2, for version 1, 2 or 3 (4.1.2.1)
+abbrev pub certificate_version_number : List ℕ → ℕ
+certificate_version_number [] = 0
+certificate_version_number (o ∷ os) = o
 
 abbrev pub certificate_version : TbsCertificate → ℕ
-certificate_version v = version_number v.version.0.0.value.number.0
+certificate_version v = certificate_version_number v.version.0.0.octets.now
 
 -- unique identifiers are present only in version 2 or 3 (4.1.2.8), and extensions only in version 3
 -- (4.1.2.9)
 abbrev pub MatchesCertificateVersion : TbsCertificate → Type 0
 MatchesCertificateVersion v =
-    (IsSome v.issuer_unique_id.0 → 2 ≤ certificate_version v)
-    × (IsSome v.subject_unique_id.0 → 2 ≤ certificate_version v)
-    × (IsSome v.extensions.0 → certificate_version v ≡ 3)
+    (IsSome v.issuer_unique_id.0 → 1 ≤ certificate_version v)
+    × (IsSome v.subject_unique_id.0 → 1 ≤ certificate_version v)
+    × (IsSome v.extensions.0 → certificate_version v ≡ 2)
 
 -- the parameters of an algorithm: none, or the tag and contents of an element
 abbrev pub parameters_of : Option AnyRef → Option (Tag × List ℕ)

@@ -1,20 +1,20 @@
 //! Checks of a certificate that decoding does not make.
 ghost use Rattle.std.specs.Prelude.{◌≡◌, ◌↔◌, true, Some};
 ghost use Rattle.x509.specs.Checks.{MatchesCertificateVersion, HasSameAlgorithms, IsSameAlgorithm};
-ghost use Rattle.x509.specs.Checks.{parameters_of, version_number};
+ghost use Rattle.x509.specs.Checks.{parameters_of, certificate_version_number};
 
-use crate::asn1::{Certificate, TbsCertificate, Version};
+use crate::asn1::{Certificate, TbsCertificate};
 use der::Tag;
 use der_asn1::AnyRef;
 use spki::AlgorithmIdentifierRef;
 
-fn number_of(version: Version) -> u8
-    ensures { result ≡ version_number version }
+// The number of a version: 0, 1 or 2.
+fn number_of(octets: &[u8]) -> u8
+    ensures { result ≡ certificate_version_number octets.now }
 {
-    match version {
-        Version::V1 => 1,
-        Version::V2 => 2,
-        Version::V3 => 3,
+    match octets {
+        [octet, ..] => *octet,
+        [] => 0,
     }
 }
 
@@ -25,12 +25,12 @@ impl TbsCertificate<'_> {
     pub fn has_fields_of_version(&self) -> bool
         ensures { (result ≡ true) ↔ MatchesCertificateVersion self.now }
     {
-        let number = number_of(self.version.0.0.value.item());
-        if self.extensions.0.is_some() && number != 3 {
+        let number = number_of(self.version.0.0.octets());
+        if self.extensions.0.is_some() && number != 2 {
             return false;
         }
         let has_unique_id = self.issuer_unique_id.0.is_some() || self.subject_unique_id.0.is_some();
-        !has_unique_id || number >= 2
+        !has_unique_id || number >= 1
     }
 }
 

@@ -1,6 +1,7 @@
 //! Types of fields that have a default.
 
-use super::directive::type_name;
+use super::directive::{own_type, type_name};
+use super::numbers::base_of;
 use super::rust_type::RustType;
 use super::template::{Place, fill};
 use crate::base_form::base_form;
@@ -53,6 +54,12 @@ pub fn default_type<'a>(
     let Some(found) = types.get(leaf) else {
         return Err(not_written(value));
     };
+    if own_type(module, base_of(module, leaf)).is_some() {
+        return Ok(DefaultType {
+            of: of.copy(alloc)?,
+            own: String::new(alloc),
+        });
+    }
     let inside = match base_form(module, leaf) {
         Some(TypeForm::Simple(SimpleType::Boolean)) => boolean(alloc, value)?,
         Some(TypeForm::Enumerated(items)) => {

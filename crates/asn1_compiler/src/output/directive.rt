@@ -3,6 +3,7 @@
 use super::docs::without_marks;
 use super::rust_names::{pascal_name, snake_name};
 use crate::item::Item;
+use crate::module::Module;
 use crate::octet_class::{is_digit, is_lower, is_upper};
 use std::alloc::{AllocError, Global};
 
@@ -12,9 +13,12 @@ pub const NAME: &str = "Rust name:";
 /// What begins the line of a comment that gives the name of the one field of a list.
 pub const FIELD: &str = "Rust field:";
 
+/// What begins the line of a comment that gives a type of Rust that is written by hand.
+pub const TYPE: &str = "Rust type:";
+
 /// Whether the line of a comment, without its marks, gives a name.
 pub fn is_directive(line: &str) -> bool {
-    line.starts_with(NAME) || line.starts_with(FIELD)
+    line.starts_with(NAME) || line.starts_with(FIELD) || line.starts_with(TYPE)
 }
 
 /// The name that a comment gives behind `key`, if it is a name of Rust.
@@ -28,6 +32,34 @@ pub fn directive<'a>(comments: &'a str, key: &str) -> Option<&'a str> {
         }
     }
     None
+}
+
+/// The type of Rust that the module gives for the type with this index, which the root of the crate
+/// has.
+pub fn own_type<'a>(module: &Module<'a>, index: usize) -> Option<&'a str> {
+    for assigned in module.types.iter() {
+        if assigned.of == index {
+            return own_type_in(assigned.name.comments);
+        }
+    }
+    None
+}
+
+fn own_type_in<'a>(comments: &'a str) -> Option<&'a str> {
+    for line in comments.lines() {
+        if let Some(rest) = without_marks(line).strip_prefix(TYPE) {
+            return Some(rest.trim());
+        }
+    }
+    None
+}
+
+/// The name of a type of Rust, without its parameters.
+pub fn name_of_type(text: &str) -> &str {
+    match text.split_once('<') {
+        Some((name, _)) => name,
+        None => text,
+    }
 }
 
 // Whether a text is a letter and then letters, digits and `_`.
@@ -49,6 +81,9 @@ fn is_name_octet(octet: u8) -> bool {
 
 /// The name of the type or the variant with this name in the module.
 pub fn type_name(alloc: Global, name: Item<'_>) -> Result<String, AllocError> {
+    if let Some(own) = own_type_in(name.comments) {
+        return String::from_str(alloc, name_of_type(own));
+    }
     match directive(name.comments, NAME) {
         Some(chosen) => String::from_str(alloc, chosen),
         None => pascal_name(alloc, name.text),

@@ -1,6 +1,7 @@
 //! Files of Rust.
 
 use super::imports::{has_word, push_ghost_use, push_names, push_use};
+use super::directive::{name_of_type, own_type};
 use super::piece::{Piece, PieceKind};
 use super::wrap::wrapped;
 use crate::external_type::ExternalType;
@@ -133,6 +134,7 @@ pub fn file_of(
     )?;
     push_ghost_lines(alloc, &mut text, krate, piece, code.as_str())?;
     text.push('\n')?;
+    push_own_types(alloc, &mut text, module, code.as_str())?;
     push_own(alloc, &mut text, piece, code.as_str(), all)?;
     push_use(alloc, &mut text, code.as_str(), "der", &DER)?;
     push_use(alloc, &mut text, code.as_str(), "der_asn1", &DER_ASN1)?;
@@ -215,6 +217,22 @@ fn push_ghost_lines(
         text.push_str(line.as_str())?;
     }
     Ok(())
+}
+
+// Adds the imports of types that are written by hand.
+fn push_own_types(
+    alloc: Global,
+    text: &mut String,
+    module: &Module<'_>,
+    code: &str,
+) -> Result<(), AllocError> {
+    let mut names: Vec<&str> = Vec::new(alloc);
+    for assigned in module.types.iter() {
+        if let Some(own) = own_type(module, assigned.of) {
+            names.push(name_of_type(own))?;
+        }
+    }
+    push_use(alloc, text, code, "crate", &names)
 }
 
 // Adds the imports of types of other pieces.

@@ -3,7 +3,7 @@
 use super::choice::ChoiceText;
 use super::choice_part::choice_part_body;
 use super::defaults::{DefaultType, default_type};
-use super::directive::{field_name, type_name};
+use super::directive::{field_name, own_type, type_name};
 use super::docs::doc_of;
 use super::enumeration::enumeration_body;
 use super::field::{Field, FieldPresence};
@@ -43,7 +43,7 @@ impl<'m, 'a> Written<'m, 'a> {
         let mut pieces = Vec::new(alloc);
         for (index, node) in self.module.nodes.iter().enumerate() {
             let name = text_at(self.names, index);
-            if !name.is_empty() {
+            if !name.is_empty() && own_type(self.module, index).is_none() {
                 self.add_pieces(alloc, &mut pieces, index, node, name)?;
             }
         }

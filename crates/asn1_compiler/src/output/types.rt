@@ -1,6 +1,6 @@
 //! The type of Rust of each type.
 
-use super::directive::type_name;
+use super::directive::{own_type, type_name};
 use super::docs::doc_of;
 use super::lists::list_field;
 use super::naming::text_at;
@@ -56,6 +56,9 @@ fn type_of<'a>(
     node: &TypeNode<'a>,
 ) -> Result<RustType, Failure<'a>> {
     let name = text_at(names, index);
+    if let Some(own) = own_type(module, index) {
+        return Ok(RustType::new(alloc, own, RustKind::Element)?);
+    }
     match &node.form {
         TypeForm::Simple(SimpleType::Any) => {
             Ok(RustType::new(alloc, "AnyRef<'a>", RustKind::Any)?)
