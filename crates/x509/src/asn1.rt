@@ -28,7 +28,6 @@ mod tbs_certificate_part2;
 mod tbs_certificate_part3;
 mod time;
 mod validity;
-mod version;
 
 pub use attribute::{Attribute, AttributeFields};
 pub use attribute_type_and_value::{AttributeTypeAndValue, AttributeTypeAndValueFields};
@@ -47,7 +46,6 @@ pub use key_usage::{KeyUsage, KeyUsageBit};
 pub use name::Name;
 pub use other_name::{OtherName, OtherNameFields};
 pub use relative_distinguished_name::RelativeDistinguishedName;
-pub use tbs_certificate::{TbsCertificate, TbsCertificateFields, TbsCertificateVersionDefault};
+pub use tbs_certificate::{TbsCertificate, TbsCertificateFields};
 pub use time::{Time, TimeAlternatives};
 pub use validity::{Validity, ValidityFields};
-pub use version::Version;

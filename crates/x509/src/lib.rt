@@ -12,7 +12,7 @@ pub use asn1::{
     AttributeValues, Attributes, CertReq, CertReqFields, CertReqInfo, CertReqInfoFields,
     CertReqVersion, Certificate, CertificateFields, CrlReason, Extension, ExtensionFields,
     Extensions, GeneralName, GeneralNames, KeyUsage, KeyUsageBit, Name, OtherName, OtherNameFields,
-    RelativeDistinguishedName, TbsCertificate, TbsCertificateFields,
-    Time, TimeAlternatives, Validity, ValidityFields,
+    RelativeDistinguishedName, TbsCertificate, TbsCertificateFields, Time, TimeAlternatives,
+    Validity, ValidityFields,
 };
 pub use version::{CertificateVersionGrammar, Version};

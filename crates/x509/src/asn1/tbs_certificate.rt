@@ -1,27 +1,26 @@
 //! Written by asn1_compile from the module X509: change the module instead.
 //!
 //! TbsCertificate.
-ghost use Rattle.std.specs.Prelude.{◌≡◌, false};
+ghost use Rattle.std.specs.Prelude.{◌≡◌};
 ghost use Rattle.std.proofs.Common.{arith, refl};
 ghost use Rattle.der.specs.Prelude.{map_ok};
-ghost use Rattle.der_asn1.specs.Integer.{integer_octets};
 ghost use Rattle.der_asn1.specs.Item.{decodes_same};
 ghost use Rattle.der_asn1.specs.Meaning.{alternative, defaulted, field, optional, seen, sequence, sequence_is_item, sequence_item, two_fields};
 
+use crate::Version;
 use crate::asn1::extensions::Extensions;
 use crate::asn1::name::Name;
 use crate::asn1::tbs_certificate_part1::{TbsCertificatePart1, TbsCertificatePart1Fields};
 use crate::asn1::tbs_certificate_part2::{TbsCertificatePart2, TbsCertificatePart2Fields};
 use crate::asn1::tbs_certificate_part3::{TbsCertificatePart3, TbsCertificatePart3Fields};
 use crate::asn1::validity::Validity;
-use crate::asn1::version::Version;
 use der::{
     Decode, DecodeValue, Encode, EncodeValue, Error, FromFields, Header, Length, Reader, Sequence,
     SliceReader, Writer, decode_sequence, field_refs,
 };
 use der_asn1::{
-    BitStringRef, BorrowedItem, DecodeItem, DefaultOf, DefaultValue, Defaulted, Described,
-    Explicit, Implicit, IntRef, Item, NamedInteger, Nestable, Optional, WithDefault,
+    BitStringRef, BorrowedItem, DecodeItem, DefaultValue, Defaulted, Described, Explicit, Implicit,
+    IntRef, Item, Nestable, Optional,
 };
 use spki::{AlgorithmIdentifierRef, SubjectPublicKeyInfoRef};
 use std::alloc::Global;
@@ -30,9 +29,7 @@ use std::alloc::Global;
 #[derive(Clone, Copy, Drop)]
 pub struct TbsCertificate<'a> {
     /// The version of the certificate: 1, 2 or 3. The default is 1.
-    pub version: Defaulted<
-        Explicit<WithDefault<NamedInteger<Version>, TbsCertificateVersionDefault>, 0>,
-    >,
+    pub version: Defaulted<Explicit<Version<'a>, 0>>,
     /// The serial number of the certificate.
     pub serial_number: IntRef<'a>,
     /// The algorithm of the certificate's signature. The signature itself is not in this part.
@@ -113,11 +110,9 @@ impl<'a> FromFields<
 impl<'a> Sequence for TbsCertificate<'a> {
     ghost meaning = { sequence (two_fields (seen
         ⟦<TbsCertificatePart1<'a> as FromFields<TbsCertificatePart1Fields<'a>>>⟧.fields (two_fields
-        (two_fields (defaulted
-        ⟦<Explicit<WithDefault<NamedInteger<Version>, TbsCertificateVersionDefault>, 0> as DefaultValue>⟧.is_default
-        (alternative
-        ⟦<Explicit<WithDefault<NamedInteger<Version>, TbsCertificateVersionDefault>, 0> as Described>⟧.element))
-        (field (alternative ⟦<IntRef<'a> as Described>⟧.element))) (two_fields (field (alternative
+        (two_fields (defaulted ⟦<Explicit<Version<'a>, 0> as DefaultValue>⟧.is_default (alternative
+        ⟦<Explicit<Version<'a>, 0> as Described>⟧.element)) (field (alternative
+        ⟦<IntRef<'a> as Described>⟧.element))) (two_fields (field (alternative
         ⟦<AlgorithmIdentifierRef<'a> as Described>⟧.element)) (field (alternative
         ⟦<Name<'a> as Described>⟧.element))))) (two_fields (seen
         ⟦<TbsCertificatePart2<'a> as FromFields<TbsCertificatePart2Fields<'a>>>⟧.fields (two_fields
@@ -156,10 +151,7 @@ impl<'a, R: Reader<Borrowed = &'a [u8]>> DecodeValue<R> for TbsCertificate<'a> {
     }
 
     fn is_value(&self) {
-        <Explicit<
-            WithDefault<NamedInteger<Version>, TbsCertificateVersionDefault>,
-            0,
-        > as DecodeValue<R>>::is_value(&self.version.0);
+        <Explicit<Version<'a>, 0> as DecodeValue<R>>::is_value(&self.version.0);
         <IntRef<'a> as DecodeValue<R>>::is_value(&self.serial_number);
         <AlgorithmIdentifierRef<'a> as DecodeValue<R>>::is_value(&self.signature);
         <Name<'a> as DecodeValue<R>>::is_value(&self.issuer);
@@ -260,15 +252,4 @@ impl<'a> BorrowedItem for TbsCertificate<'a> {
 
 impl<'a> Nestable for TbsCertificate<'a> {
     ghost nestable = { Prim.omega arith };
-}
-
-/// The default of a field: [`Version::V1`].
-pub struct TbsCertificateVersionDefault;
-
-impl DefaultOf<NamedInteger<Version>> for TbsCertificateVersionDefault {
-    ghost default_contents = { integer_octets false 0 };
-
-    fn default_value() -> NamedInteger<Version> {
-        <NamedInteger<Version>>::new(Version::V1)
-    }
 }

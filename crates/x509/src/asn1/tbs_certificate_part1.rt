@@ -4,20 +4,17 @@
 ghost use Rattle.std.specs.Prelude.{false};
 ghost use Rattle.der.specs.Prelude.{map_ok};
 
+use crate::Version;
 use crate::asn1::name::Name;
-use crate::asn1::tbs_certificate::TbsCertificateVersionDefault;
-use crate::asn1::version::Version;
 use der::{Decode, Error, FromFields, Reader, SliceReader, decode_fields};
-use der_asn1::{Defaulted, Explicit, IntRef, NamedInteger, WithDefault};
+use der_asn1::{Defaulted, Explicit, IntRef};
 use spki::AlgorithmIdentifierRef;
 use std::alloc::Global;
 
 // Some fields of a TbsCertificate.
 #[derive(Drop)]
 pub(crate) struct TbsCertificatePart1<'a> {
-    pub(crate) version: Defaulted<
-        Explicit<WithDefault<NamedInteger<Version>, TbsCertificateVersionDefault>, 0>,
-    >,
+    pub(crate) version: Defaulted<Explicit<Version<'a>, 0>>,
     pub(crate) serial_number: IntRef<'a>,
     pub(crate) signature: AlgorithmIdentifierRef<'a>,
     pub(crate) issuer: Name<'a>,
@@ -25,10 +22,7 @@ pub(crate) struct TbsCertificatePart1<'a> {
 
 // The fields in pairs, in the order in which they are encoded.
 pub(crate) type TbsCertificatePart1Fields<'a> = (
-    (
-        Defaulted<Explicit<WithDefault<NamedInteger<Version>, TbsCertificateVersionDefault>, 0>>,
-        IntRef<'a>,
-    ),
+    (Defaulted<Explicit<Version<'a>, 0>>, IntRef<'a>),
     (AlgorithmIdentifierRef<'a>, Name<'a>),
 );
 
