@@ -34,6 +34,16 @@ impl Field {
         Some(name)
     }
 
+    /// What the field costs the checker, beside one that is required.
+    pub fn weight(&self) -> usize {
+        match self.presence {
+            FieldPresence::Required => 1,
+            FieldPresence::Optional => 2,
+            FieldPresence::Defaulted if self.of.text.contains("WithDefault") => 5,
+            FieldPresence::Defaulted => 3,
+        }
+    }
+
     /// The type of the field.
     pub fn whole_type(&self, alloc: Global) -> Result<String, AllocError> {
         let text = self.of.text.as_str();

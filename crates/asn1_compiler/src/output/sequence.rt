@@ -97,6 +97,9 @@ impl@L Nestable for @N@L {
 /// The most fields in one pair of pairs: more of them take the checker's bound too far.
 const PART: usize = 4;
 
+/// The greatest weight of the fields in one pair of pairs.
+const WEIGHT: usize = 6;
+
 impl SequenceText {
     /// The text of the struct and of its implementations.
     pub fn body(&self, alloc: Global) -> Result<String, AllocError> {
@@ -142,19 +145,21 @@ impl SequenceText {
 
     /// Whether the fields are in parts.
     pub fn has_parts(&self) -> bool {
-        self.fields.len() > PART
+        self.fields.len() > self.part_len()
     }
 
-    /// The number of fields of each part but the last one.
+    /// The number of fields of each part but the last one: as many as the checker can take at once,
+    /// with at most five parts.
     pub fn part_len(&self) -> usize
         ensures { 0 < result }
     {
-        let parts = (self.fields.len().saturating_add(PART - 1)) / PART;
-        if parts == 0 {
-            return PART;
+        for parts in 1usize..5 {
+            let len = (self.fields.len().saturating_add(parts - 1) / parts).max(1);
+            if len <= PART && self.fields.chunks(len).all(|part| weight_of(part) <= WEIGHT) {
+                return len;
+            }
         }
-        let most = self.fields.len().saturating_add(parts - 1) / parts;
-        most.max(1)
+        (self.fields.len().saturating_add(4) / 5).max(1)
     }
 
     // The type from which the struct is made.
@@ -299,6 +304,15 @@ impl SequenceText {
         }
         paired(alloc, &parts, "(", ", ")
     }
+}
+
+// What fields cost the checker.
+fn weight_of(fields: &[Field]) -> usize {
+    let mut weight = 0usize;
+    for field in fields {
+        weight = weight.saturating_add(field.weight());
+    }
+    weight
 }
 
 /// The lifetime of a struct with these fields, or nothing.

@@ -10,6 +10,7 @@ ghost use Rattle.der_asn1.specs.Meaning.{alternative, defaulted, field, optional
 use crate::asn1::address::Address;
 use crate::asn1::journey_part1::{JourneyPart1, JourneyPart1Fields};
 use crate::asn1::journey_part2::{JourneyPart2, JourneyPart2Fields};
+use crate::asn1::journey_part3::{JourneyPart3, JourneyPart3Fields};
 use crate::asn1::property::Property;
 use crate::asn1::stop::Stop;
 use der::{
@@ -38,26 +39,30 @@ pub struct Journey<'a> {
 }
 
 /// The fields of a [`Journey`] in pairs, in the order in which they are encoded.
-pub type JourneyFields<'a> = (JourneyPart1Fields<'a>, JourneyPart2Fields<'a>);
+pub type JourneyFields<'a> = (
+    JourneyPart1Fields<'a>,
+    (JourneyPart2Fields<'a>, JourneyPart3Fields<'a>),
+);
 
-impl<'a> FromFields<(JourneyPart1<'a>, JourneyPart2<'a>)> for Journey<'a> {
+impl<'a> FromFields<(JourneyPart1<'a>, (JourneyPart2<'a>, JourneyPart3<'a>))> for Journey<'a> {
     ghost fields = { λ v. (
-      record {
-        sender = v.sender;
-        receiver = v.receiver;
-        stops = v.stops;
-      },
-      record { properties = v.properties; attempts = v.attempts },
+      record { sender = v.sender; receiver = v.receiver },
+      (
+        record { stops = v.stops; properties = v.properties },
+        record {
+          attempts = v.attempts;
+        },
+      ),
     ) };
 
-    fn from_fields(members: (JourneyPart1<'a>, JourneyPart2<'a>)) -> Self {
-        let (part1, part2) = members;
+    fn from_fields(members: (JourneyPart1<'a>, (JourneyPart2<'a>, JourneyPart3<'a>))) -> Self {
+        let (part1, (part2, part3)) = members;
         Journey {
             sender: part1.sender,
             receiver: part1.receiver,
-            stops: part1.stops,
+            stops: part2.stops,
             properties: part2.properties,
-            attempts: part2.attempts,
+            attempts: part3.attempts,
         }
     }
 }
@@ -65,15 +70,16 @@ impl<'a> FromFields<(JourneyPart1<'a>, JourneyPart2<'a>)> for Journey<'a> {
 impl<'a> Sequence for Journey<'a> {
     ghost meaning = { sequence (two_fields (seen
         ⟦<JourneyPart1<'a> as FromFields<JourneyPart1Fields<'a>>>⟧.fields (two_fields (field
-        (alternative ⟦<Implicit<Address<'a>, 1> as Described>⟧.element)) (two_fields (optional
-        (alternative ⟦<Implicit<Address<'a>, 2> as Described>⟧.element)) (field (alternative
-        ⟦<SequenceOf<'a, Stop<'a>> as Described>⟧.element))))) (seen
-        ⟦<JourneyPart2<'a> as FromFields<JourneyPart2Fields<'a>>>⟧.fields (two_fields (optional
-        (alternative ⟦<Implicit<SetOf<'a, Property<'a>>, 3> as Described>⟧.element)) (defaulted
+        (alternative ⟦<Implicit<Address<'a>, 1> as Described>⟧.element)) (optional (alternative
+        ⟦<Implicit<Address<'a>, 2> as Described>⟧.element)))) (two_fields (seen
+        ⟦<JourneyPart2<'a> as FromFields<JourneyPart2Fields<'a>>>⟧.fields (two_fields (field
+        (alternative ⟦<SequenceOf<'a, Stop<'a>> as Described>⟧.element)) (optional (alternative
+        ⟦<Implicit<SetOf<'a, Property<'a>>, 3> as Described>⟧.element)))) (seen
+        ⟦<JourneyPart3<'a> as FromFields<JourneyPart3Fields<'a>>>⟧.fields (defaulted
         ⟦<Implicit<WithDefault<IntegerOf<u64>, DefaultU64<0>>, 5> as DefaultValue>⟧.is_default
         (alternative
         ⟦<Implicit<WithDefault<IntegerOf<u64>, DefaultU64<0>>, 5> as Described>⟧.element)))))
-        ⟦<Journey<'a> as FromFields<(JourneyPart1<'a>, JourneyPart2<'a>)>>⟧.fields };
+        ⟦<Journey<'a> as FromFields<(JourneyPart1<'a>, (JourneyPart2<'a>, JourneyPart3<'a>))>>⟧.fields };
 
     ghost fits = { (refl, refl) };
 }
@@ -83,11 +89,13 @@ impl<'a, R: Reader<Borrowed = &'a [u8]>> DecodeValue<R> for Journey<'a> {
     type Error = Error;
 
     ghost decode_value_answers = { λ h s result t.
-        ⟦<(JourneyPart1<'a>, JourneyPart2<'a>) as Decode<SliceReader<'a>>>⟧.decode_answers s (map_ok
-        ⟦<Journey<'a> as FromFields<(JourneyPart1<'a>, JourneyPart2<'a>)>>⟧.fields result) t };
+        ⟦<(JourneyPart1<'a>, (JourneyPart2<'a>, JourneyPart3<'a>)) as Decode<SliceReader<'a>>>⟧.decode_answers s (map_ok
+        ⟦<Journey<'a> as FromFields<(JourneyPart1<'a>, (JourneyPart2<'a>, JourneyPart3<'a>))>>⟧.fields result) t };
 
     fn decode_value(alloc: Global, reader: &mut R, header: Header) -> Result<Self, Error> {
-        decode_sequence::<R, (JourneyPart1<'a>, JourneyPart2<'a>), Self>(alloc, reader, header)
+        decode_sequence::<R, (JourneyPart1<'a>, (JourneyPart2<'a>, JourneyPart3<'a>)), Self>(
+            alloc, reader, header,
+        )
     }
 
     fn is_value(&self) {
@@ -109,24 +117,32 @@ impl<'a, R: Reader<Borrowed = &'a [u8]>> DecodeValue<R> for Journey<'a> {
 impl<'a> EncodeValue for Journey<'a> {
     ghost value_size = { λ v. ⟦<JourneyFields<'a> as Encode>⟧.size (
       ⟦<JourneyPart1<'a> as FromFields<JourneyPart1Fields<'a>>>⟧.fields
-          (⟦<Journey<'a> as FromFields<(JourneyPart1<'a>, JourneyPart2<'a>)>>⟧.fields v).0,
-      ⟦<JourneyPart2<'a> as FromFields<JourneyPart2Fields<'a>>>⟧.fields
-          (⟦<Journey<'a> as FromFields<(JourneyPart1<'a>, JourneyPart2<'a>)>>⟧.fields v).1,
+          (⟦<Journey<'a> as FromFields<(JourneyPart1<'a>, (JourneyPart2<'a>, JourneyPart3<'a>))>>⟧.fields v).0,
+      (
+        ⟦<JourneyPart2<'a> as FromFields<JourneyPart2Fields<'a>>>⟧.fields
+            (⟦<Journey<'a> as FromFields<(JourneyPart1<'a>, (JourneyPart2<'a>, JourneyPart3<'a>))>>⟧.fields v).1.0,
+        ⟦<JourneyPart3<'a> as FromFields<JourneyPart3Fields<'a>>>⟧.fields
+            (⟦<Journey<'a> as FromFields<(JourneyPart1<'a>, (JourneyPart2<'a>, JourneyPart3<'a>))>>⟧.fields v).1.1,
+      ),
     ) };
 
     ghost encode_value_answers = { λ v. ⟦<JourneyFields<'a> as Encode>⟧.encode_answers (
       ⟦<JourneyPart1<'a> as FromFields<JourneyPart1Fields<'a>>>⟧.fields
-          (⟦<Journey<'a> as FromFields<(JourneyPart1<'a>, JourneyPart2<'a>)>>⟧.fields v).0,
-      ⟦<JourneyPart2<'a> as FromFields<JourneyPart2Fields<'a>>>⟧.fields
-          (⟦<Journey<'a> as FromFields<(JourneyPart1<'a>, JourneyPart2<'a>)>>⟧.fields v).1,
+          (⟦<Journey<'a> as FromFields<(JourneyPart1<'a>, (JourneyPart2<'a>, JourneyPart3<'a>))>>⟧.fields v).0,
+      (
+        ⟦<JourneyPart2<'a> as FromFields<JourneyPart2Fields<'a>>>⟧.fields
+            (⟦<Journey<'a> as FromFields<(JourneyPart1<'a>, (JourneyPart2<'a>, JourneyPart3<'a>))>>⟧.fields v).1.0,
+        ⟦<JourneyPart3<'a> as FromFields<JourneyPart3Fields<'a>>>⟧.fields
+            (⟦<Journey<'a> as FromFields<(JourneyPart1<'a>, (JourneyPart2<'a>, JourneyPart3<'a>))>>⟧.fields v).1.1,
+      ),
     ) };
 
     fn value_len(&self) -> Result<Length, Error> {
-        field_refs!(self, ((sender, (receiver, stops)), (properties, attempts))).encoded_len()
+        field_refs!(self, ((sender, receiver), ((stops, properties), attempts))).encoded_len()
     }
 
     fn encode_value<W: Writer>(&self, writer: &mut W) -> Result<(), Error> {
-        field_refs!(self, ((sender, (receiver, stops)), (properties, attempts))).encode(writer)
+        field_refs!(self, ((sender, receiver), ((stops, properties), attempts))).encode(writer)
     }
 }
 

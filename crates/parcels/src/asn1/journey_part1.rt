@@ -5,9 +5,8 @@ ghost use Rattle.std.specs.Prelude.{false};
 ghost use Rattle.der.specs.Prelude.{map_ok};
 
 use crate::asn1::address::Address;
-use crate::asn1::stop::Stop;
 use der::{Decode, Error, FromFields, Reader, SliceReader, decode_fields};
-use der_asn1::{Implicit, Optional, SequenceOf};
+use der_asn1::{Implicit, Optional};
 use std::alloc::Global;
 
 // Some fields of a Journey.
@@ -15,25 +14,20 @@ use std::alloc::Global;
 pub(crate) struct JourneyPart1<'a> {
     pub(crate) sender: Implicit<Address<'a>, 1>,
     pub(crate) receiver: Optional<Implicit<Address<'a>, 2>>,
-    pub(crate) stops: SequenceOf<'a, Stop<'a>>,
 }
 
 // The fields in pairs, in the order in which they are encoded.
 pub(crate) type JourneyPart1Fields<'a> = (
     Implicit<Address<'a>, 1>,
-    (Optional<Implicit<Address<'a>, 2>>, SequenceOf<'a, Stop<'a>>),
+    Optional<Implicit<Address<'a>, 2>>,
 );
 
 impl<'a> FromFields<JourneyPart1Fields<'a>> for JourneyPart1<'a> {
-    ghost fields = { λ v. (v.sender, (v.receiver, v.stops)) };
+    ghost fields = { λ v. (v.sender, v.receiver) };
 
     fn from_fields(members: JourneyPart1Fields<'a>) -> Self {
-        let (sender, (receiver, stops)) = members;
-        JourneyPart1 {
-            sender,
-            receiver,
-            stops,
-        }
+        let (sender, receiver) = members;
+        JourneyPart1 { sender, receiver }
     }
 }
 

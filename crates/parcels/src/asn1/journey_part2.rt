@@ -5,32 +5,30 @@ ghost use Rattle.std.specs.Prelude.{false};
 ghost use Rattle.der.specs.Prelude.{map_ok};
 
 use crate::asn1::property::Property;
+use crate::asn1::stop::Stop;
 use der::{Decode, Error, FromFields, Reader, SliceReader, decode_fields};
-use der_asn1::{DefaultU64, Defaulted, Implicit, IntegerOf, Optional, SetOf, WithDefault};
+use der_asn1::{Implicit, Optional, SequenceOf, SetOf};
 use std::alloc::Global;
 
 // Some fields of a Journey.
 #[derive(Drop)]
 pub(crate) struct JourneyPart2<'a> {
+    pub(crate) stops: SequenceOf<'a, Stop<'a>>,
     pub(crate) properties: Optional<Implicit<SetOf<'a, Property<'a>>, 3>>,
-    pub(crate) attempts: Defaulted<Implicit<WithDefault<IntegerOf<u64>, DefaultU64<0>>, 5>>,
 }
 
 // The fields in pairs, in the order in which they are encoded.
 pub(crate) type JourneyPart2Fields<'a> = (
+    SequenceOf<'a, Stop<'a>>,
     Optional<Implicit<SetOf<'a, Property<'a>>, 3>>,
-    Defaulted<Implicit<WithDefault<IntegerOf<u64>, DefaultU64<0>>, 5>>,
 );
 
 impl<'a> FromFields<JourneyPart2Fields<'a>> for JourneyPart2<'a> {
-    ghost fields = { λ v. (v.properties, v.attempts) };
+    ghost fields = { λ v. (v.stops, v.properties) };
 
     fn from_fields(members: JourneyPart2Fields<'a>) -> Self {
-        let (properties, attempts) = members;
-        JourneyPart2 {
-            properties,
-            attempts,
-        }
+        let (stops, properties) = members;
+        JourneyPart2 { stops, properties }
     }
 }
 
