@@ -1,5 +1,5 @@
 //! Imports from modules of other crates.
-use super::refusals::{compiled, externals, has_text};
+use super::refusals::{compiled, externals, has_text, place_of};
 use crate::checks::{holds, same_at};
 use std::test::Fail;
 
@@ -83,6 +83,22 @@ fn imports_that_are_wrong(rt: HostRuntime) -> Result<(), Fail> {
             Err(place) => Some(place),
         };
         same_at(&rt, body, answer, Some(place));
+    }
+    Ok(())
+}
+
+#[test]
+fn modules_that_are_given_twice_or_too_late(rt: HostRuntime) -> Result<(), Fail> {
+    let alloc = rt.alloc();
+    for (texts, wrong, place) in [
+        ([ONE, ONE], ONE, (1, 1, "One")),
+        ([TWO, ONE], TWO, (2, 19, "One")),
+    ] {
+        let answer = match externals(alloc, &texts) {
+            Ok(_) => None,
+            Err(failure) => Some(place_of(wrong, failure)),
+        };
+        same_at(&rt, wrong, answer, Some(place));
     }
     Ok(())
 }

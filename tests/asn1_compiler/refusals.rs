@@ -13,7 +13,8 @@ pub fn refusal(alloc: Global, text: &str) -> Option<(usize, usize, &str)> {
     }
 }
 
-fn place_of<'a>(text: &'a str, failure: Failure<'a>) -> (usize, usize, &'a str) {
+/// Line, column and text of what is refused in a module.
+pub fn place_of<'a>(text: &'a str, failure: Failure<'a>) -> (usize, usize, &'a str) {
     match failure {
         Failure::Refused(refusal) => {
             let position = Position::of(text.as_bytes(), refusal.offset);

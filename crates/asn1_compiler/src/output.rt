@@ -40,6 +40,7 @@ use crate::output::summary::external_of;
 use crate::output::types::{left_out, types_in_order};
 use crate::output::values::{values_file, values_name};
 use crate::parser::parse_module;
+use crate::refusal::Refusal;
 pub use file::OutputFile;
 pub use rust_names::{pascal_name, snake_name};
 pub use rust_type::{RustKind, RustType};
@@ -58,7 +59,7 @@ pub fn checked_module<'a>(
 }
 
 /// What other modules may import from a module that the crate `krate` holds. It imports from
-/// modules of other crates.
+/// modules of other crates, and has another name than they have.
 pub fn read_external<'a>(
     alloc: Global,
     externals: &Vec<External<'a>>,
@@ -66,6 +67,10 @@ pub fn read_external<'a>(
     krate: &str,
 ) -> Result<External<'a>, Failure<'a>> {
     let (module, checks) = checked_module(alloc, externals, text)?;
+    if is_given(externals, module.name.text) {
+        let expected = "a module that no --with option in front gives";
+        return Err(Failure::Refused(Refusal::of(module.name, expected)));
+    }
     let names = names_of(alloc, &module)?;
     let types = types_in_order(alloc, &module, &checks.order, &names)?;
     let written = Written {
@@ -74,6 +79,10 @@ pub fn read_external<'a>(
         types: &types,
     };
     external_of(alloc, &written, &checks, krate)
+}
+
+fn is_given(externals: &Vec<External<'_>>, name: &str) -> bool {
+    externals.iter().any(|external| external.module == name)
 }
 
 /// Compiles a module for the crate `krate`: the files to be written beneath its folder `src/`. It

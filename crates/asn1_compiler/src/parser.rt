@@ -38,11 +38,7 @@ pub fn parse_module<'a>(alloc: Global, text: &'a str) -> Result<Module<'a>, Fail
         at: 0,
         nodes: Vec::new(alloc),
     };
-    let (name, tags) = parser.header()?;
-    let exports = parser.exports()?;
-    let imports = parser.imports()?;
-    let mut types = Vec::new(alloc);
-    let mut values = Vec::new(alloc);
+    let mut module = parser.head()?;
     for _ in 0..text.len() {
         if parser.takes("END") {
             break;
@@ -51,28 +47,19 @@ pub fn parse_module<'a>(alloc: Global, text: &'a str) -> Result<Module<'a>, Fail
         match name.kind {
             ItemKind::UpperName => {
                 let of = parser.type_assigned(name)?;
-                types.push(TypeAssignment { name, of })?;
+                module.types.push(TypeAssignment { name, of })?;
             }
             ItemKind::LowerName => {
                 let (of, value) = parser.value_assigned()?;
-                values.push(ValueAssignment { name, of, value })?;
+                module.values.push(ValueAssignment { name, of, value })?;
             }
             _ => return Err(refused(name, "an assignment or END")),
         }
     }
     parser.expect_end()?;
     let Parser { nodes, .. } = parser;
-    Ok(Module {
-        name,
-        tags,
-        exports,
-        imports,
-        imported: Vec::new(alloc),
-        types,
-        values,
-        constants: Vec::new(alloc),
-        nodes,
-    })
+    module.nodes = nodes;
+    Ok(module)
 }
 
 /// The failure of an item that stands where something else is expected.

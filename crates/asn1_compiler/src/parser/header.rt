@@ -4,12 +4,30 @@ use super::{Parser, refused};
 use crate::failure::Failure;
 use crate::item::Item;
 use crate::item_kind::ItemKind;
-use crate::module::Import;
+use crate::module::{Import, Module};
 use crate::tagging::TagDefault;
 
 impl<'a> Parser<'a> {
-    /// Parses up to `BEGIN`: the name of the module, and what it says of its tags.
-    pub(super) fn header(&mut self) -> Result<(Item<'a>, TagDefault), Failure<'a>> {
+    /// Parses up to the first assignment: a module without types and values.
+    pub(super) fn head(&mut self) -> Result<Module<'a>, Failure<'a>> {
+        let (name, tags) = self.header()?;
+        let exports = self.exports()?;
+        let imports = self.imports()?;
+        Ok(Module {
+            name,
+            tags,
+            exports,
+            imports,
+            imported: Vec::new(self.alloc),
+            types: Vec::new(self.alloc),
+            values: Vec::new(self.alloc),
+            constants: Vec::new(self.alloc),
+            nodes: Vec::new(self.alloc),
+        })
+    }
+
+    // Parses up to `BEGIN`: the name of the module, and what it says of its tags.
+    fn header(&mut self) -> Result<(Item<'a>, TagDefault), Failure<'a>> {
         let name = self.expect_kind(ItemKind::UpperName, "the name of a module")?;
         if self.peek().is("{") {
             self.braces()?;
@@ -38,8 +56,8 @@ impl<'a> Parser<'a> {
         Ok(tags)
     }
 
-    /// Parses `EXPORTS`, and returns the names behind it, of which `ALL` is one.
-    pub(super) fn exports(&mut self) -> Result<Vec<Item<'a>>, Failure<'a>> {
+    // Parses `EXPORTS`, and returns the names behind it, of which `ALL` is one.
+    fn exports(&mut self) -> Result<Vec<Item<'a>>, Failure<'a>> {
         let mut names = Vec::new(self.alloc);
         if !self.takes("EXPORTS") {
             return Ok(names);
@@ -58,8 +76,8 @@ impl<'a> Parser<'a> {
         Err(refused(self.peek(), ";"))
     }
 
-    /// Parses `IMPORTS`.
-    pub(super) fn imports(&mut self) -> Result<Vec<Import<'a>>, Failure<'a>> {
+    // Parses `IMPORTS`.
+    fn imports(&mut self) -> Result<Vec<Import<'a>>, Failure<'a>> {
         let mut imports = Vec::new(self.alloc);
         if !self.takes("IMPORTS") {
             return Ok(imports);
