@@ -1,7 +1,7 @@
 //! Files of Rust.
 
-use super::imports::{has_word, push_ghost_use, push_names, push_use};
 use super::directive::{name_of_type, own_type};
+use super::imports::{has_word, push_ghost_use, push_names, push_use};
 use super::piece::{Piece, PieceKind};
 use super::wrap::wrapped;
 use crate::external_type::ExternalType;

@@ -155,7 +155,12 @@ impl SequenceText {
     {
         for parts in 1usize..5 {
             let len = (self.fields.len().saturating_add(parts - 1) / parts).max(1);
-            if len <= PART && self.fields.chunks(len).all(|part| weight_of(part) <= WEIGHT) {
+            if len <= PART
+                && self
+                    .fields
+                    .chunks(len)
+                    .all(|part| weight_of(part) <= WEIGHT)
+            {
                 return len;
             }
         }
