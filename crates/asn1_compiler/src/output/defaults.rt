@@ -89,7 +89,7 @@ fn with_inside<'a>(
     match of.text.split_once(found.text.as_str()) {
         Some((before, after)) => {
             let text = format!(in alloc; "{before}{inside}{after}")?;
-            Ok(of.renamed(alloc, text.as_str())?)
+            Ok(RustType::new(alloc, text.as_str(), of.kind)?)
         }
         None => Err(not_written(value)),
     }

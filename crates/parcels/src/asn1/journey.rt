@@ -41,10 +41,10 @@ pub struct Journey<'a> {
 /// The fields of a [`Journey`] in pairs, in the order in which they are encoded.
 pub type JourneyFields<'a> = (
     JourneyPart1Fields<'a>,
-    (JourneyPart2Fields<'a>, JourneyPart3Fields<'a>),
+    (JourneyPart2Fields<'a>, JourneyPart3Fields),
 );
 
-impl<'a> FromFields<(JourneyPart1<'a>, (JourneyPart2<'a>, JourneyPart3<'a>))> for Journey<'a> {
+impl<'a> FromFields<(JourneyPart1<'a>, (JourneyPart2<'a>, JourneyPart3))> for Journey<'a> {
     ghost fields = { λ v. (
       record { sender = v.sender; receiver = v.receiver },
       (
@@ -55,7 +55,7 @@ impl<'a> FromFields<(JourneyPart1<'a>, (JourneyPart2<'a>, JourneyPart3<'a>))> fo
       ),
     ) };
 
-    fn from_fields(members: (JourneyPart1<'a>, (JourneyPart2<'a>, JourneyPart3<'a>))) -> Self {
+    fn from_fields(members: (JourneyPart1<'a>, (JourneyPart2<'a>, JourneyPart3))) -> Self {
         let (part1, (part2, part3)) = members;
         Journey {
             sender: part1.sender,
@@ -75,11 +75,11 @@ impl<'a> Sequence for Journey<'a> {
         ⟦<JourneyPart2<'a> as FromFields<JourneyPart2Fields<'a>>>⟧.fields (two_fields (field
         (alternative ⟦<SequenceOf<'a, Stop<'a>> as Described>⟧.element)) (optional (alternative
         ⟦<Implicit<SetOf<'a, Property<'a>>, 3> as Described>⟧.element)))) (seen
-        ⟦<JourneyPart3<'a> as FromFields<JourneyPart3Fields<'a>>>⟧.fields (defaulted
+        ⟦<JourneyPart3 as FromFields<JourneyPart3Fields>>⟧.fields (defaulted
         ⟦<Implicit<WithDefault<IntegerOf<u64>, DefaultU64<0>>, 5> as DefaultValue>⟧.is_default
         (alternative
         ⟦<Implicit<WithDefault<IntegerOf<u64>, DefaultU64<0>>, 5> as Described>⟧.element)))))
-        ⟦<Journey<'a> as FromFields<(JourneyPart1<'a>, (JourneyPart2<'a>, JourneyPart3<'a>))>>⟧.fields };
+        ⟦<Journey<'a> as FromFields<(JourneyPart1<'a>, (JourneyPart2<'a>, JourneyPart3))>>⟧.fields };
 
     ghost fits = { (refl, refl) };
 }
@@ -89,11 +89,11 @@ impl<'a, R: Reader<Borrowed = &'a [u8]>> DecodeValue<R> for Journey<'a> {
     type Error = Error;
 
     ghost decode_value_answers = { λ h s result t.
-        ⟦<(JourneyPart1<'a>, (JourneyPart2<'a>, JourneyPart3<'a>)) as Decode<SliceReader<'a>>>⟧.decode_answers s (map_ok
-        ⟦<Journey<'a> as FromFields<(JourneyPart1<'a>, (JourneyPart2<'a>, JourneyPart3<'a>))>>⟧.fields result) t };
+        ⟦<(JourneyPart1<'a>, (JourneyPart2<'a>, JourneyPart3)) as Decode<SliceReader<'a>>>⟧.decode_answers s
+        (map_ok ⟦<Journey<'a> as FromFields<(JourneyPart1<'a>, (JourneyPart2<'a>, JourneyPart3))>>⟧.fields result) t };
 
     fn decode_value(alloc: Global, reader: &mut R, header: Header) -> Result<Self, Error> {
-        decode_sequence::<R, (JourneyPart1<'a>, (JourneyPart2<'a>, JourneyPart3<'a>)), Self>(
+        decode_sequence::<R, (JourneyPart1<'a>, (JourneyPart2<'a>, JourneyPart3)), Self>(
             alloc, reader, header,
         )
     }
@@ -117,23 +117,23 @@ impl<'a, R: Reader<Borrowed = &'a [u8]>> DecodeValue<R> for Journey<'a> {
 impl<'a> EncodeValue for Journey<'a> {
     ghost value_size = { λ v. ⟦<JourneyFields<'a> as Encode>⟧.size (
       ⟦<JourneyPart1<'a> as FromFields<JourneyPart1Fields<'a>>>⟧.fields
-          (⟦<Journey<'a> as FromFields<(JourneyPart1<'a>, (JourneyPart2<'a>, JourneyPart3<'a>))>>⟧.fields v).0,
+          (⟦<Journey<'a> as FromFields<(JourneyPart1<'a>, (JourneyPart2<'a>, JourneyPart3))>>⟧.fields v).0,
       (
         ⟦<JourneyPart2<'a> as FromFields<JourneyPart2Fields<'a>>>⟧.fields
-            (⟦<Journey<'a> as FromFields<(JourneyPart1<'a>, (JourneyPart2<'a>, JourneyPart3<'a>))>>⟧.fields v).1.0,
-        ⟦<JourneyPart3<'a> as FromFields<JourneyPart3Fields<'a>>>⟧.fields
-            (⟦<Journey<'a> as FromFields<(JourneyPart1<'a>, (JourneyPart2<'a>, JourneyPart3<'a>))>>⟧.fields v).1.1,
+            (⟦<Journey<'a> as FromFields<(JourneyPart1<'a>, (JourneyPart2<'a>, JourneyPart3))>>⟧.fields v).1.0,
+        ⟦<JourneyPart3 as FromFields<JourneyPart3Fields>>⟧.fields
+            (⟦<Journey<'a> as FromFields<(JourneyPart1<'a>, (JourneyPart2<'a>, JourneyPart3))>>⟧.fields v).1.1,
       ),
     ) };
 
     ghost encode_value_answers = { λ v. ⟦<JourneyFields<'a> as Encode>⟧.encode_answers (
       ⟦<JourneyPart1<'a> as FromFields<JourneyPart1Fields<'a>>>⟧.fields
-          (⟦<Journey<'a> as FromFields<(JourneyPart1<'a>, (JourneyPart2<'a>, JourneyPart3<'a>))>>⟧.fields v).0,
+          (⟦<Journey<'a> as FromFields<(JourneyPart1<'a>, (JourneyPart2<'a>, JourneyPart3))>>⟧.fields v).0,
       (
         ⟦<JourneyPart2<'a> as FromFields<JourneyPart2Fields<'a>>>⟧.fields
-            (⟦<Journey<'a> as FromFields<(JourneyPart1<'a>, (JourneyPart2<'a>, JourneyPart3<'a>))>>⟧.fields v).1.0,
-        ⟦<JourneyPart3<'a> as FromFields<JourneyPart3Fields<'a>>>⟧.fields
-            (⟦<Journey<'a> as FromFields<(JourneyPart1<'a>, (JourneyPart2<'a>, JourneyPart3<'a>))>>⟧.fields v).1.1,
+            (⟦<Journey<'a> as FromFields<(JourneyPart1<'a>, (JourneyPart2<'a>, JourneyPart3))>>⟧.fields v).1.0,
+        ⟦<JourneyPart3 as FromFields<JourneyPart3Fields>>⟧.fields
+            (⟦<Journey<'a> as FromFields<(JourneyPart1<'a>, (JourneyPart2<'a>, JourneyPart3))>>⟧.fields v).1.1,
       ),
     ) };
 

@@ -10,39 +10,39 @@ use std::alloc::Global;
 
 // Some fields of a Journey.
 #[derive(Drop)]
-pub(crate) struct JourneyPart3<'a> {
+pub(crate) struct JourneyPart3 {
     pub(crate) attempts: Defaulted<Implicit<WithDefault<IntegerOf<u64>, DefaultU64<0>>, 5>>,
 }
 
 // The fields in pairs, in the order in which they are encoded.
-pub(crate) type JourneyPart3Fields<'a> = Defaulted<
+pub(crate) type JourneyPart3Fields = Defaulted<
     Implicit<WithDefault<IntegerOf<u64>, DefaultU64<0>>, 5>,
 >;
 
-impl<'a> FromFields<JourneyPart3Fields<'a>> for JourneyPart3<'a> {
+impl FromFields<JourneyPart3Fields> for JourneyPart3 {
     ghost fields = { λ v. v.attempts };
 
-    fn from_fields(members: JourneyPart3Fields<'a>) -> Self {
+    fn from_fields(members: JourneyPart3Fields) -> Self {
         let attempts = members;
         JourneyPart3 { attempts }
     }
 }
 
-impl<'a, R: Reader<Borrowed = &'a [u8]>> Decode<R> for JourneyPart3<'a> {
+impl<'a, R: Reader<Borrowed = &'a [u8]>> Decode<R> for JourneyPart3 {
     type Error = Error;
 
-    ghost is_next = { λ v. ⟦<JourneyPart3Fields<'a> as Decode<SliceReader<'a>>>⟧.is_next
-        (⟦<JourneyPart3<'a> as FromFields<JourneyPart3Fields<'a>>>⟧.fields v) };
+    ghost is_next = { λ v. ⟦<JourneyPart3Fields as Decode<SliceReader<'a>>>⟧.is_next
+        (⟦<JourneyPart3 as FromFields<JourneyPart3Fields>>⟧.fields v) };
 
-    ghost decode_levels = { ⟦<JourneyPart3Fields<'a> as Decode<SliceReader<'a>>>⟧.decode_levels };
+    ghost decode_levels = { ⟦<JourneyPart3Fields as Decode<SliceReader<'a>>>⟧.decode_levels };
 
     ghost allocates = { false };
 
     ghost decode_answers = { λ s result t.
-        ⟦<JourneyPart3Fields<'a> as Decode<SliceReader<'a>>>⟧.decode_answers s
-        (map_ok ⟦<JourneyPart3<'a> as FromFields<JourneyPart3Fields<'a>>>⟧.fields result) t };
+        ⟦<JourneyPart3Fields as Decode<SliceReader<'a>>>⟧.decode_answers s
+        (map_ok ⟦<JourneyPart3 as FromFields<JourneyPart3Fields>>⟧.fields result) t };
 
     fn decode(alloc: Global, reader: &mut R) -> Result<Self, Error> {
-        decode_fields::<R, JourneyPart3Fields<'a>, Self>(alloc, reader)
+        decode_fields::<R, JourneyPart3Fields, Self>(alloc, reader)
     }
 }
