@@ -1,6 +1,7 @@
 //! The text of the types of Rust.
 
 mod abilities;
+mod alternatives;
 mod choice;
 mod choice_part;
 mod defaults;
@@ -33,11 +34,12 @@ use crate::failure::Failure;
 use crate::link::link_module;
 use crate::module::Module;
 use crate::output::abilities::check_imported;
+use crate::output::alternatives::left_out;
 use crate::output::file::{file_of, library_of, proof_of, root_of};
 use crate::output::naming::names_of;
 use crate::output::pieces::Written;
 use crate::output::summary::external_of;
-use crate::output::types::{left_out, types_in_order};
+use crate::output::types::types_in_order;
 use crate::output::values::{values_file, values_name};
 use crate::parser::parse_module;
 use crate::refusal::Refusal;

@@ -1,7 +1,7 @@
 //! The text of a CHOICE.
 
+use super::alternatives::Alternative;
 use super::template::{Place, fill};
-use super::types::Alternative;
 use std::alloc::{AllocError, Global};
 use std::fmt::Write;
 

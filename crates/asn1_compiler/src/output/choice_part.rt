@@ -1,8 +1,8 @@
 //! The text of a part of a CHOICE.
 
+use super::alternatives::Alternative;
 use super::choice::{lifetime_of, meaning_of, types_of};
 use super::template::{Place, fill};
-use super::types::Alternative;
 use std::alloc::{AllocError, Global};
 
 const PART: &str = "// Some alternatives of a @W.

@@ -1,5 +1,6 @@
 //! The pieces that a module is written in.
 
+use super::alternatives::alternatives;
 use super::choice::ChoiceText;
 use super::choice_part::choice_part_body;
 use super::defaults::{DefaultType, default_type};
@@ -14,7 +15,7 @@ use super::part::part_body;
 use super::piece::{Piece, PieceKind};
 use super::rust_type::{RustKind, RustType};
 use super::sequence::{SequenceText, lifetime_of};
-use super::types::{alternatives, component_types, list_text, tagged_name};
+use super::types::{component_types, list_text, tagged_name};
 use crate::checks::are_numbered;
 use crate::component::{Component, Presence};
 use crate::failure::Failure;

@@ -1,0 +1,77 @@
+//! Alternatives of a CHOICE.
+
+use super::directive::type_name;
+use super::docs::doc_of;
+use super::rust_type::RustType;
+use super::types::component_types;
+use crate::component::Component;
+use crate::failure::Failure;
+use crate::item::Item;
+use crate::module::Module;
+use crate::simple_type::SimpleType;
+use crate::type_node::TypeForm;
+use std::alloc::{AllocError, Global};
+
+/// The type of an alternative.
+#[derive(Drop)]
+pub struct Alternative {
+    /// The name of the variant.
+    pub name: String,
+    /// The lines of its documentation.
+    pub doc: String,
+    /// Its type.
+    pub of: RustType,
+}
+
+/// The alternatives for which the library has a type.
+pub fn alternatives<'a>(
+    alloc: Global,
+    module: &Module<'a>,
+    table: &Vec<RustType>,
+    names: &Vec<String>,
+    components: &Vec<Component<'a>>,
+) -> Result<Vec<Alternative>, Failure<'a>> {
+    let mut found = Vec::new(alloc);
+    let types = component_types(alloc, module, table, names, components)?;
+    for (component, of) in components.iter().zip(types.iter()) {
+        if !is_unknown(module, component.of) {
+            found.push(Alternative {
+                name: type_name(alloc, component.name)?,
+                doc: doc_of(alloc, component.name.comments, "    ", component.name.text)?,
+                of: of.copy(alloc)?,
+            })?;
+        }
+    }
+    Ok(found)
+}
+
+/// The names of the alternatives for which the library has no type.
+pub fn left_out<'a>(alloc: Global, module: &Module<'a>) -> Result<Vec<Item<'a>>, AllocError> {
+    let mut names = Vec::new(alloc);
+    for node in module.nodes.iter() {
+        if let TypeForm::Choice(alternatives) = &node.form {
+            push_unknown(module, alternatives, &mut names)?;
+        }
+    }
+    Ok(names)
+}
+
+fn push_unknown<'a>(
+    module: &Module<'a>,
+    alternatives: &Vec<Component<'a>>,
+    names: &mut Vec<Item<'a>>,
+) -> Result<(), AllocError> {
+    for alternative in alternatives.iter() {
+        if is_unknown(module, alternative.of) {
+            names.push(alternative.name)?;
+        }
+    }
+    Ok(())
+}
+
+fn is_unknown(module: &Module<'_>, index: usize) -> bool {
+    match module.nodes.get(index) {
+        Some(node) => matches!(&node.form, TypeForm::Simple(SimpleType::Unknown(_))),
+        None => false,
+    }
+}
