@@ -1,6 +1,7 @@
 //! Modules that are right.
-use super::refusals::{accepts, module, refusal};
-use crate::checks::same;
+use super::refusals::{accepts, compiled, has_text, module, refusal};
+use crate::checks::{same, same_at};
+use asn1_compiler::compile;
 use std::test::Fail;
 
 #[test]
@@ -47,5 +48,70 @@ fn automatic_tags_are_distinct(rt: HostRuntime) -> Result<(), Fail> {
     let tagged = "A ::= SEQUENCE { a NULL OPTIONAL, b NULL, c [0] NULL }";
     let text = module(alloc, "AUTOMATIC", tagged)?;
     same(&rt, refusal(alloc, &text), Some((2, 35, "b")));
+    Ok(())
+}
+
+#[test]
+fn alternatives_that_the_library_lacks_are_left_out(rt: HostRuntime) -> Result<(), Fail> {
+    let alloc = rt.alloc();
+    let body = "A ::= CHOICE { a UTF8String, b UniversalString, c REAL, d BMPString }";
+    let text = module(alloc, "EXPLICIT", body)?;
+    match compile(alloc, &Vec::new(alloc), text.as_str(), "own") {
+        Ok(compiled) => {
+            same_at(&rt, "count", compiled.left_out.len(), 2);
+            let expected = ["b", "c"];
+            for (at, left_out) in compiled.left_out.iter().enumerate() {
+                same_at(&rt, at, Some(left_out.text), expected.get(at).copied());
+            }
+        }
+        Err(_) => same_at(&rt, "compiled", false, true),
+    }
+    Ok(())
+}
+
+#[test]
+fn integers_without_two_bounds_have_any_size(rt: HostRuntime) -> Result<(), Fail> {
+    let alloc = rt.alloc();
+    let body = "A ::= INTEGER (0..MAX)\nB ::= INTEGER (-5..5)\nC ::= INTEGER (MIN..7)";
+    let text = module(alloc, "EXPLICIT", body)?;
+    match compiled(alloc, &Vec::new(alloc), text.as_str()) {
+        Ok(files) => {
+            has_text(&rt, &files, "src/asn1/a.rt", "pub type A<'a> = IntRef<'a>;");
+            has_text(&rt, &files, "src/asn1/b.rt", "pub type B<'a> = IntRef<'a>;");
+            has_text(&rt, &files, "src/asn1/c.rt", "pub type C<'a> = IntRef<'a>;");
+        }
+        Err(place) => same(&rt, Some(place), None),
+    }
+    Ok(())
+}
+
+#[test]
+fn a_default_may_be_a_type_that_is_written_by_hand(rt: HostRuntime) -> Result<(), Fail> {
+    let alloc = rt.alloc();
+    let body = "A ::= SEQUENCE {\n-- Rust default: Mine\na [0] B DEFAULT { b TRUE } }\nB ::= SEQUENCE { b BOOLEAN }";
+    let text = module(alloc, "EXPLICIT", body)?;
+    match compiled(alloc, &Vec::new(alloc), text.as_str()) {
+        Ok(files) => {
+            has_text(&rt, &files, "src/asn1/a.rt", "use crate::Mine;");
+            has_text(&rt, &files, "src/asn1/a.rt", "pub a: DefaultedTo<Explicit<B<'a>, 0>, Mine>,");
+        }
+        Err(place) => same(&rt, Some(place), None),
+    }
+    Ok(())
+}
+
+#[test]
+fn one_struct_stands_for_a_choice_inside_tags(rt: HostRuntime) -> Result<(), Fail> {
+    let alloc = rt.alloc();
+    let body = "A ::= SEQUENCE { a [0] C, b [1] C }\nC ::= CHOICE { a NULL, b BOOLEAN }";
+    let text = module(alloc, "EXPLICIT", body)?;
+    match compiled(alloc, &Vec::new(alloc), text.as_str()) {
+        Ok(files) => {
+            has_text(&rt, &files, "src/asn1/a.rt", "pub a: Implicit<CTagged<'a>, 0>,");
+            has_text(&rt, &files, "src/asn1/a.rt", "pub b: Implicit<CTagged<'a>, 1>,");
+            has_text(&rt, &files, "src/asn1/c_tagged.rt", "pub struct CTagged<'a> {");
+        }
+        Err(place) => same(&rt, Some(place), None),
+    }
     Ok(())
 }

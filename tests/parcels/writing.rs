@@ -7,7 +7,7 @@ use der_asn1::{
     NamedInteger, ObjectIdentifierRef, Optional, PrintableStringRef, SequenceOf,
     Utf8StringRef, WithDefault,
 };
-use parcels::{Address, Journey, Parcel, Seal, SealTextTagged, Text, Version};
+use parcels::{Address, Journey, Parcel, Seal, TextTagged, Text, Version};
 use spki::AlgorithmIdentifierRef;
 use std::alloc::Global;
 
@@ -61,7 +61,7 @@ fn seal() -> Option<Seal<'static>> {
                 contents: &[],
             })),
         },
-        text: Implicit(SealTextTagged {
+        text: Implicit(TextTagged {
             value: Text::Utf8(Utf8StringRef::new(b"ok")?),
         }),
         extra: Optional(Some(AnyRef {

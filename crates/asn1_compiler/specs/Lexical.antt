@@ -14,6 +14,10 @@ is_digit x = nat_le 48 x && nat_le x 57
 abbrev pub is_name_octet : ℕ → Bool
 is_name_octet x = is_upper x || is_lower x || is_digit x || x == 45
 
+-- letters, digits and `_`, as in words of Rust
+abbrev pub is_word_octet : ℕ → Bool
+is_word_octet x = is_upper x || is_lower x || is_digit x || x == 95
+
 -- the white space of 12.1.6: tab, the four line ends, space
 abbrev pub is_space : ℕ → Bool
 is_space x = (nat_le 9 x && nat_le x 13) || x == 32

@@ -25,6 +25,25 @@ pub fn base_form<'m, 'a>(module: &'m Module<'a>, index: usize) -> Option<&'m Typ
     None
 }
 
+/// The index of the type behind the names of the type with this index; of the last name, if another
+/// crate holds what it stands for.
+pub fn base_of(module: &Module<'_>, index: usize) -> usize {
+    let mut index = index;
+    for _ in module.nodes.iter() {
+        let Some(node) = module.nodes.get(index) else {
+            return index;
+        };
+        match &node.form {
+            TypeForm::Reference => match find_type(module, node.item.text) {
+                Some(of) => index = of,
+                None => return index,
+            },
+            _ => return index,
+        }
+    }
+    index
+}
+
 fn external_form<'m, 'a>(module: &'m Module<'a>, name: &str) -> Option<&'m TypeForm<'a>> {
     match find_external(module, name) {
         Some(of) => Some(&of.form),

@@ -14,8 +14,6 @@ pub struct Module<'a> {
     pub name: Item<'a>,
     /// What it says of its tags.
     pub tags: TagDefault,
-    /// The names that it exports; none if it says nothing of them.
-    pub exports: Vec<Item<'a>>,
     /// The names that it imports.
     pub imports: Vec<Import<'a>>,
     /// The types that it imports, once they are looked up.

@@ -1,6 +1,7 @@
 //! Classes of octets.
 ghost use Rattle.std.specs.Prelude.{◌≡◌};
 ghost use Rattle.asn1_compiler.specs.Lexical.{is_digit, is_lower, is_name_octet, is_space, is_upper};
+ghost use Rattle.asn1_compiler.specs.Lexical.{is_word_octet};
 
 /// Whether the octet is an upper-case letter.
 pub fn is_upper(octet: u8) -> bool
@@ -28,6 +29,13 @@ pub fn is_name_octet(octet: u8) -> bool
     ensures { result ≡ is_name_octet octet }
 {
     is_upper(octet) || is_lower(octet) || is_digit(octet) || octet == b'-'
+}
+
+/// Whether the octet may stand in a word of Rust.
+pub fn is_word_octet(octet: u8) -> bool
+    ensures { result ≡ is_word_octet octet }
+{
+    is_upper(octet) || is_lower(octet) || is_digit(octet) || octet == b'_'
 }
 
 /// Whether the octet is white space.

@@ -134,9 +134,9 @@ fn say_failure<R: AllocGlobal, W: Write>(
     }
 }
 
-/// Writes the files beneath the folder of a crate. Its folders `src/asn1`, `specs/asn1` and
-/// `proofs/asn1` have no other files afterwards. The file `src/lib.rt` is written only if there is
-/// none.
+/// Writes the files beneath the folder of a crate. Its folders `src/asn1` and `specs/asn1` have no
+/// other files afterwards. Other files of `proofs/asn1` stay, since proofs of a person's own methods
+/// of compiled types are there. The file `src/lib.rt` is written only if there is none.
 fn write_files<R: Files + AllocGlobal>(
     rt: &R,
     folder: &str,
@@ -144,7 +144,7 @@ fn write_files<R: Files + AllocGlobal>(
 ) -> io::Result<()> {
     let library = format!(in rt.alloc(); "{folder}/src/lib.rt")?;
     let has_library = fs::exists(rt, library.as_str())?;
-    for part in ["src", "specs", "proofs"] {
+    for part in ["src", "specs"] {
         let own = format!(in rt.alloc(); "{folder}/{part}/asn1")?;
         if fs::exists(rt, own.as_str())? {
             fs::remove_dir_all(rt, own.as_str())?;

@@ -2,6 +2,7 @@
 
 use super::components::{check_alternatives, check_sequence};
 use super::names::find_type;
+use crate::base_form::base_of;
 use crate::external_type::find_external;
 use crate::failure::Failure;
 use crate::module::Module;
@@ -13,7 +14,7 @@ use crate::type_node::{TypeForm, TypeNode};
 use std::alloc::{AllocError, Global};
 
 /// The tags of each type, by its index. Refuses a CHOICE, and an optional component of a SEQUENCE,
-/// whose tags are not distinct from those that they have to be told from.
+/// whose tags are not distinct.
 pub fn tags_in_order<'a>(
     alloc: Global,
     module: &Module<'a>,
@@ -101,22 +102,15 @@ fn tagged<'a>(
 
 /// Whether the type with this index is a CHOICE or ANY without a tag, under any names.
 pub fn has_no_tag(module: &Module<'_>, index: usize) -> bool {
-    let mut index = index;
-    for _ in module.nodes.iter() {
-        let Some(node) = module.nodes.get(index) else {
-            return false;
-        };
-        match &node.form {
-            TypeForm::Choice(_) => return true,
-            TypeForm::Simple(simple) => return simple.tag_number().is_none(),
-            TypeForm::Reference => match find_type(module, node.item.text) {
-                Some(of) => index = of,
-                None => return is_external_without_tag(module, node.item.text),
-            },
-            _ => return false,
-        }
+    let Some(node) = module.nodes.get(base_of(module, index)) else {
+        return false;
+    };
+    match &node.form {
+        TypeForm::Choice(_) => true,
+        TypeForm::Simple(simple) => simple.tag_number().is_none(),
+        TypeForm::Reference => is_external_without_tag(module, node.item.text),
+        _ => false,
     }
-    false
 }
 
 fn is_external_without_tag(module: &Module<'_>, name: &str) -> bool {

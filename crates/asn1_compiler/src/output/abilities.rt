@@ -1,6 +1,7 @@
 //! What types of other crates have to have, to stand in lists.
 
 use super::lists::list_field;
+use crate::base_form::base_of;
 use crate::checks::find_type;
 use crate::external_type::{ExternalType, find_external};
 use crate::item::Item;
@@ -49,22 +50,11 @@ fn check_item<'a>(module: &Module<'a>, index: usize) -> Result<(), Refusal<'a>> 
 
 // The type at the end of the names that begin with the type of this index, and its first item.
 fn end_of_names<'a>(module: &Module<'a>, index: usize) -> (usize, Item<'a>) {
-    let mut index = index;
-    let mut item = Item::END;
-    for _ in module.nodes.iter() {
-        let Some(node) = module.nodes.get(index) else {
-            break;
-        };
-        item = node.item;
-        match &node.form {
-            TypeForm::Reference => match find_type(module, node.item.text) {
-                Some(of) => index = of,
-                None => break,
-            },
-            _ => break,
-        }
+    let base = base_of(module, index);
+    match module.nodes.get(base) {
+        Some(node) => (base, node.item),
+        None => (base, Item::END),
     }
-    (index, item)
 }
 
 // The imported type with the name at the end of names.

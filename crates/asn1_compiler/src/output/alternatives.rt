@@ -28,11 +28,10 @@ pub fn alternatives<'a>(
     alloc: Global,
     module: &Module<'a>,
     table: &Vec<RustType>,
-    names: &Vec<String>,
     components: &Vec<Component<'a>>,
 ) -> Result<Vec<Alternative>, Failure<'a>> {
     let mut found = Vec::new(alloc);
-    let types = component_types(alloc, module, table, names, components)?;
+    let types = component_types(alloc, module, table, components)?;
     for (component, of) in components.iter().zip(types.iter()) {
         if !is_unknown(module, component.of) {
             found.push(Alternative {

@@ -1,10 +1,10 @@
 //! Types of fields that have a default.
 
 use super::directive::{own_type, type_name};
-use super::numbers::base_of;
+use super::enumeration::number_of_item;
 use super::rust_type::RustType;
 use super::template::{Place, fill};
-use crate::base_form::base_form;
+use crate::base_form::{base_form, base_of};
 use crate::constant::{Constant, find_constant};
 use crate::endpoint::Endpoint;
 use crate::failure::Failure;
@@ -22,8 +22,17 @@ use std::alloc::Global;
 pub struct DefaultType {
     /// The type.
     pub of: RustType,
-    /// The text of the type that stands for the default, if the library has none for it.
-    pub own: String,
+    /// The type that stands for the default, if the library has none for it.
+    pub own: Option<OwnDefault>,
+}
+
+/// A type that stands for the default of one field.
+#[derive(Drop)]
+pub struct OwnDefault {
+    /// Its name.
+    pub name: String,
+    /// Its text.
+    pub text: String,
 }
 
 const ITEM: &str = "
@@ -57,7 +66,7 @@ pub fn default_type<'a>(
     if own_type(module, base_of(module, leaf)).is_some() {
         return Ok(DefaultType {
             of: of.copy(alloc)?,
-            own: String::new(alloc),
+            own: None,
         });
     }
     let inside = match base_form(module, leaf) {
@@ -72,10 +81,7 @@ pub fn default_type<'a>(
         _ => return Err(not_written(value)),
     };
     let of = with_inside(alloc, of, found, inside.as_str(), value)?;
-    Ok(DefaultType {
-        of,
-        own: String::new(alloc),
-    })
+    Ok(DefaultType { of, own: None })
 }
 
 // The type `of`, with `inside` in place of the type `found`.
@@ -109,7 +115,7 @@ fn item_default<'a>(
     };
     for (count, item) in items.iter().enumerate() {
         if item.name.text == value.item.text {
-            let number = format!(in alloc; "{}", item_number(item, count))?;
+            let number = format!(in alloc; "{}", number_of_item(item, count)?)?;
             let variant = type_name(alloc, item.name)?;
             let places = [
                 Place::new('N', name),
@@ -118,8 +124,12 @@ fn item_default<'a>(
                 Place::new('V', variant.as_str()),
                 Place::new('I', number.as_str()),
             ];
-            let mut own = String::new(alloc);
-            fill(&mut own, ITEM, &places)?;
+            let mut text = String::new(alloc);
+            fill(&mut text, ITEM, &places)?;
+            let own = Some(OwnDefault {
+                name: String::from_str(alloc, name)?,
+                text,
+            });
             let text = found.text.as_str();
             let inside = format!(in alloc; "WithDefault<{text}, {name}>")?;
             let of = with_inside(alloc, of, found, inside.as_str(), value)?;
@@ -133,13 +143,6 @@ fn item_default<'a>(
 fn inside_of(text: &str) -> Option<&str> {
     let (_, inside) = text.split_once('<')?;
     inside.strip_suffix(">")
-}
-
-fn item_number(item: &NamedNumber<'_>, count: usize) -> u64 {
-    match item.number {
-        Some(Endpoint::Number(number)) => number,
-        _ => count as u64,
-    }
 }
 
 fn not_written<'a>(value: &Value<'a>) -> Failure<'a> {

@@ -4,7 +4,7 @@ use super::docs::without_marks;
 use super::rust_names::{pascal_name, snake_name};
 use crate::item::Item;
 use crate::module::Module;
-use crate::octet_class::{is_digit, is_lower, is_upper};
+use crate::octet_class::{is_digit, is_word_octet};
 use std::alloc::{AllocError, Global};
 
 /// What begins the line of a comment that gives the name of a type, a field or a variant.
@@ -16,9 +16,15 @@ pub const FIELD: &str = "Rust field:";
 /// What begins the line of a comment that gives a type of Rust that is written by hand.
 pub const TYPE: &str = "Rust type:";
 
+/// What begins the line of a comment that gives the type that stands for the default of a component
+/// and is written by hand.
+pub const DEFAULT: &str = "Rust default:";
+
 /// Whether the line of a comment, without its marks, gives a name.
 pub fn is_directive(line: &str) -> bool {
-    line.starts_with(NAME) || line.starts_with(FIELD) || line.starts_with(TYPE)
+    [NAME, FIELD, TYPE, DEFAULT]
+        .iter()
+        .any(|key| line.starts_with(key))
 }
 
 /// The name that a comment gives behind `key`, if it is a name of Rust.
@@ -54,6 +60,12 @@ fn own_type_in<'a>(comments: &'a str) -> Option<&'a str> {
     None
 }
 
+/// The type that stands for the default of the component with this name, if it is written by hand:
+/// the root of the crate has it.
+pub fn own_default<'a>(name: Item<'a>) -> Option<&'a str> {
+    directive(name.comments, DEFAULT)
+}
+
 /// The name of a type of Rust, without its parameters.
 pub fn name_of_type(text: &str) -> &str {
     match text.split_once('<') {
@@ -62,21 +74,13 @@ pub fn name_of_type(text: &str) -> &str {
     }
 }
 
-// Whether a text is a letter and then letters, digits and `_`.
+// Whether a text is letters, digits and `_`, of which the first one is no digit.
 fn is_name(text: &str) -> bool {
     let octets = text.as_bytes();
     match octets.first() {
-        Some(octet) if is_letter(*octet) => octets.iter().all(|it| is_name_octet(*it)),
+        Some(octet) if !is_digit(*octet) => octets.iter().all(|it| is_word_octet(*it)),
         _ => false,
     }
-}
-
-fn is_letter(octet: u8) -> bool {
-    is_upper(octet) || is_lower(octet)
-}
-
-fn is_name_octet(octet: u8) -> bool {
-    is_letter(octet) || is_digit(octet) || octet == b'_'
 }
 
 /// The name of the type or the variant with this name in the module.

@@ -46,7 +46,7 @@ pub fn enumeration_body<'a>(
     let mut numbers = String::new(alloc);
     let mut arms = String::new(alloc);
     for (count, item) in items.iter().enumerate() {
-        let number = number_of(item, count)?;
+        let number = number_of_item(item, count)?;
         let variant = type_name(alloc, item.name)?;
         write!(variants, "    {variant} = {number},\n")?;
         write!(
@@ -73,8 +73,8 @@ pub fn enumeration_body<'a>(
     Ok(text)
 }
 
-// The number of an item; items without numbers are counted.
-fn number_of<'a>(item: &NamedNumber<'a>, count: usize) -> Result<u64, Failure<'a>> {
+/// The number of an item; items without numbers are counted.
+pub fn number_of_item<'a>(item: &NamedNumber<'a>, count: usize) -> Result<u64, Failure<'a>> {
     match item.number {
         Some(Endpoint::Number(number)) if number < 4294967296 => Ok(number),
         None => Ok(count as u64),

@@ -1,11 +1,13 @@
 //! Files of Rust.
 
-use super::directive::{name_of_type, own_type};
+use super::directive::{name_of_type, own_default, own_type};
 use super::imports::{has_word, push_ghost_use, push_names, push_use};
 use super::piece::{Piece, PieceKind};
 use super::wrap::wrapped;
+use crate::component::Component;
 use crate::external_type::ExternalType;
 use crate::module::Module;
+use crate::type_node::TypeForm;
 use std::alloc::{AllocError, Global};
 
 /// A file that the compiler writes.
@@ -67,7 +69,7 @@ const DER: [&str; 21] = [
     "field_refs",
 ];
 
-const DER_ASN1: [&str; 48] = [
+const DER_ASN1: [&str; 49] = [
     "AnyRef",
     "Application",
     "BitStringOf",
@@ -82,6 +84,7 @@ const DER_ASN1: [&str; 48] = [
     "DefaultU64",
     "DefaultValue",
     "Defaulted",
+    "DefaultedTo",
     "Described",
     "DescribedChoice",
     "Either",
@@ -204,6 +207,8 @@ fn push_ghost_lines(
         "Rattle.der_asn1.specs.Item",
         &["decodes_same"],
     )?;
+    let defaulted_to = "Rattle.der_asn1.specs.DefaultedTo";
+    push_ghost_use(alloc, text, code, defaulted_to, &["defaulted_to"])?;
     push_ghost_use(alloc, text, code, "Rattle.der_asn1.specs.Meaning", &MEANING)?;
     if piece.kind == PieceKind::Choice {
         let either = "Rattle.der_asn1.specs.declared.either.Either.TheVariants";
@@ -232,7 +237,27 @@ fn push_own_types(
             names.push(name_of_type(own))?;
         }
     }
+    for node in module.nodes.iter() {
+        if let TypeForm::Sequence(components) = &node.form {
+            push_own_defaults(&mut names, components)?;
+        }
+    }
     push_use(alloc, text, code, "crate", &names)
+}
+
+// Adds the types that are written by hand and stand for the defaults of these components.
+fn push_own_defaults<'a>(
+    names: &mut Vec<&'a str>,
+    components: &Vec<Component<'a>>,
+) -> Result<(), AllocError> {
+    for component in components.iter() {
+        if let Some(default) = own_default(component.name)
+            && !names.iter().any(|name| *name == default)
+        {
+            names.push(default)?;
+        }
+    }
+    Ok(())
 }
 
 // Adds the imports of types of other pieces.

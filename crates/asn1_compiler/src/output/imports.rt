@@ -1,6 +1,6 @@
 //! The `use` lines of a file, from the names in its text.
 
-use crate::octet_class::{is_digit, is_lower, is_upper};
+use crate::octet_class::is_word_octet;
 use std::alloc::{AllocError, Global};
 
 const WIDTH: usize = 100;
@@ -112,11 +112,6 @@ fn is_word_at(octets: &[u8], at: usize, word: &[u8]) -> bool {
 // Whether a word in front of which this octet stands is a part of a word or of a path.
 fn is_bound_octet(octet: u8) -> bool {
     is_word_octet(octet) || octet == b':'
-}
-
-/// Whether an octet may stand in a word of Rust.
-pub fn is_word_octet(octet: u8) -> bool {
-    is_upper(octet) || is_lower(octet) || is_digit(octet) || octet == b'_'
 }
 
 /// Adds a line that imports those of the names for clauses that stand in the text as words.

@@ -1,8 +1,9 @@
 //! Lists that are structs of their own.
 
 use super::directive::{FIELD, directive};
-use super::numbers::base_of;
+use super::sequence::ITEM;
 use super::template::{Place, fill};
+use crate::base_form::base_of;
 use crate::module::Module;
 use crate::type_node::TypeForm;
 use std::alloc::{AllocError, Global};
@@ -74,7 +75,7 @@ impl<'a> Lawful for @N<'a> {
 
 ";
 
-const BOTH: &str = "/// Decodes the list, with the errors of [`@L`].
+const BOTH: &str = "/// Decodes the list, with the errors of [`@O`].
 impl<'a, R: Reader<Borrowed = &'a [u8]>> DecodeValue<R> for @N<'a> {
     type Error = Error;
 
@@ -91,7 +92,7 @@ impl<'a, R: Reader<Borrowed = &'a [u8]>> DecodeValue<R> for @N<'a> {
     }
 }
 
-/// Writes the list, with the errors of [`@L`].
+/// Writes the list, with the errors of [`@O`].
 impl<'a> EncodeValue for @N<'a> {
     ghost value_size = { λ v. ⟦<Items<'a> as EncodeValue>⟧.value_size v.@F };
 
@@ -104,24 +105,6 @@ impl<'a> EncodeValue for @N<'a> {
     fn encode_value<W: Writer>(&self, writer: &mut W) -> Result<(), Error> {
         self.@F.encode_value(writer)
     }
-}
-
-impl<'a> Item for @N<'a> {
-    ghost item = { sequence_item ⟦<@N<'a> as Described>⟧.element };
-}
-
-impl<'a, R: Reader<Borrowed = &'a [u8]>> DecodeItem<R> for @N<'a> {
-    ghost is_item = { sequence_is_item ⟦<@N<'a> as Described>⟧.element refl };
-
-    ghost decodes_items = { decodes_same (sequence_item ⟦<@N<'a> as Described>⟧.element) };
-}
-
-impl<'a> BorrowedItem for @N<'a> {
-    ghost borrowed = { refl };
-}
-
-impl<'a> Nestable for @N<'a> {
-    ghost nestable = { Prim.omega arith };
 }
 ";
 
@@ -146,12 +129,14 @@ pub fn list_body<'t>(
         Place::new('F', field),
         Place::new('T', list),
         Place::new('W', word),
-        Place::new('L', library),
+        Place::new('O', library),
+        Place::new('L', "<'a>"),
     ];
     let mut text = String::new(alloc);
     fill(&mut text, LIST, &places)?;
     fill(&mut text, if is_set { SET } else { SEQUENCE }, &places)?;
     fill(&mut text, BOTH, &places)?;
+    fill(&mut text, ITEM, &places)?;
     Ok(text)
 }
 

@@ -1,6 +1,5 @@
 //! INTEGERs with bounds.
 
-use crate::checks::find_type;
 use crate::constraint::Constraint;
 use crate::endpoint::Endpoint;
 use crate::module::Module;
@@ -47,22 +46,4 @@ fn is_within(number: Option<Endpoint<'_>>, low: u64, high: u64) -> bool {
         Some(Endpoint::Number(number)) => low <= number && number <= high,
         _ => false,
     }
-}
-
-/// The type behind the names of a type.
-pub fn base_of(module: &Module<'_>, index: usize) -> usize {
-    let mut index = index;
-    for _ in module.nodes.iter() {
-        let Some(node) = module.nodes.get(index) else {
-            return index;
-        };
-        match &node.form {
-            TypeForm::Reference => match find_type(module, node.item.text) {
-                Some(of) => index = of,
-                None => return index,
-            },
-            _ => return index,
-        }
-    }
-    index
 }

@@ -1,10 +1,10 @@
 //! The pieces that a module is written in.
 
 use super::alternatives::alternatives;
-use super::choice::ChoiceText;
+use super::choice::{ChoiceText, PART};
 use super::choice_part::choice_part_body;
 use super::defaults::{DefaultType, default_type};
-use super::directive::{field_name, own_type, type_name};
+use super::directive::{field_name, name_of_type, own_default, own_type, type_name};
 use super::docs::doc_of;
 use super::enumeration::enumeration_body;
 use super::field::{Field, FieldPresence};
@@ -73,13 +73,7 @@ impl<'m, 'a> Written<'m, 'a> {
                 let text = ChoiceText {
                     name: String::from_str(alloc, name)?,
                     doc,
-                    alternatives: alternatives(
-                        alloc,
-                        self.module,
-                        self.types,
-                        self.names,
-                        components,
-                    )?,
+                    alternatives: alternatives(alloc, self.module, self.types, components)?,
                 };
                 add_choice(alloc, pieces, &text)?;
                 self.add_numbered_choices(alloc, pieces, components)?;
@@ -163,18 +157,23 @@ impl<'m, 'a> Written<'m, 'a> {
         if of.kind != RustKind::Choice {
             return Ok(());
         }
-        let name = tagged_name(alloc, text_at(self.names, index))?;
+        let name = tagged_name(alloc, of)?;
+        if pieces
+            .iter()
+            .any(|piece| piece.name.as_str() == name.as_str())
+        {
+            return Ok(());
+        }
         let fields = vec![in alloc;
             Field {
                 name: String::from_str(alloc, "value")?,
                 doc: String::from_str(alloc, "    /// The value behind the tag.\n")?,
                 of: of.copy(alloc)?,
                 presence: FieldPresence::Required,
-                own: String::new(alloc),
+                own: None,
             },
         ]?;
-        let choice = of.text.as_str();
-        let choice = choice.strip_suffix("<'a>").unwrap_or(choice);
+        let choice = name_of_type(of.text.as_str());
         let text = SequenceText {
             name,
             lifetime: lifetime_of(&fields),
@@ -246,7 +245,7 @@ impl<'m, 'a> Written<'m, 'a> {
         components: &Vec<Component<'a>>,
     ) -> Result<Vec<Field>, Failure<'a>> {
         let mut fields = Vec::new(alloc);
-        let types = component_types(alloc, self.module, self.types, self.names, components)?;
+        let types = component_types(alloc, self.module, self.types, components)?;
         for (component, of) in components.iter().zip(types.iter()) {
             fields.push(self.field(alloc, name, component, of)?)?;
         }
@@ -260,11 +259,15 @@ impl<'m, 'a> Written<'m, 'a> {
         component: &Component<'a>,
         of: &RustType,
     ) -> Result<Field, Failure<'a>> {
-        let mut own = String::new(alloc);
-        let (presence, of) = match &component.presence {
-            Presence::Required => (FieldPresence::Required, of.copy(alloc)?),
-            Presence::Optional => (FieldPresence::Optional, of.copy(alloc)?),
-            Presence::Default(value) => {
+        let mut own = None;
+        let (presence, of) = match (&component.presence, own_default(component.name)) {
+            (Presence::Required, _) => (FieldPresence::Required, of.copy(alloc)?),
+            (Presence::Optional, _) => (FieldPresence::Optional, of.copy(alloc)?),
+            (Presence::Default(_), Some(default)) => {
+                let presence = FieldPresence::DefaultedTo(String::from_str(alloc, default)?);
+                (presence, of.copy(alloc)?)
+            }
+            (Presence::Default(value), None) => {
                 let end = type_name(alloc, component.name)?;
                 let end = end.as_str();
                 let name = format!(in alloc; "{owner}{end}Default")?;
@@ -277,8 +280,8 @@ impl<'m, 'a> Written<'m, 'a> {
                     value,
                     name.as_str(),
                 )?;
-                let DefaultType { of, own: text } = found;
-                own = text;
+                let DefaultType { of, own: found } = found;
+                own = found;
                 (FieldPresence::Defaulted, of)
             }
         };
@@ -325,8 +328,10 @@ fn add_sequence(
     let body = text.body(alloc)?;
     let mut piece = Piece::new(alloc, name, "Fields", PieceKind::Sequence, body)?;
     for field in text.fields.iter() {
-        if let Some(own) = field.own_name() {
-            piece.names.push(String::from_str(alloc, own)?)?;
+        if let Some(own) = &field.own {
+            piece
+                .names
+                .push(String::from_str(alloc, own.name.as_str())?)?;
         }
     }
     add_piece(pieces, piece)?;
@@ -356,7 +361,7 @@ fn add_choice(alloc: Global, pieces: &mut Vec<Piece>, text: &ChoiceText) -> Resu
     if !text.has_parts() {
         return Ok(());
     }
-    for (count, chunk) in text.alternatives.chunks(3).enumerate() {
+    for (count, chunk) in text.alternatives.chunks(PART).enumerate() {
         let number = count + 1;
         let body = choice_part_body(alloc, name, number, chunk)?;
         let part = format!(in alloc; "{name}Part{number}")?;

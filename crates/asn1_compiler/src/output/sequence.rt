@@ -1,7 +1,7 @@
 //! The text of a SEQUENCE.
 ghost use Rattle.std.specs.Prelude.{◌<◌};
 
-use super::field::Field;
+use super::field::{Field, FieldPresence};
 use super::template::{Place, fill, path, push_pairs};
 use std::alloc::{AllocError, Global};
 
@@ -18,7 +18,7 @@ pub struct SequenceText {
     pub fields: Vec<Field>,
 }
 
-const STRUCT: &str = "@D#[derive(Clone, Copy, Drop)]
+const STRUCT: &str = "@D#[derive(@K)]
 pub struct @N@L {
 @F}
 
@@ -74,7 +74,8 @@ impl@L EncodeValue for @N@L {
 }
 ";
 
-const ITEM: &str = "
+/// What an item of a list needs.
+pub const ITEM: &str = "
 impl@L Item for @N@L {
     ghost item = { sequence_item ⟦<@N@L as Described>⟧.element };
 }
@@ -121,6 +122,7 @@ impl SequenceText {
             Place::new('N', name),
             Place::new('L', lifetime),
             Place::new('D', self.doc.as_str()),
+            Place::new('K', self.derived()),
             Place::new('Q', whole),
             Place::new('A', fields.as_str()),
             Place::new('F', lines.as_str()),
@@ -138,9 +140,21 @@ impl SequenceText {
         fill(&mut text, DECODE, &places)?;
         fill(&mut text, ITEM, &places)?;
         for field in self.fields.iter() {
-            text.push_str(field.own.as_str())?;
+            if let Some(own) = &field.own {
+                text.push_str(own.text.as_str())?;
+            }
         }
         Ok(text)
+    }
+
+    // What the struct derives. A field with a default of its own cannot be copied.
+    fn derived(&self) -> &'static str {
+        let is_own = |field: &Field| matches!(field.presence, FieldPresence::DefaultedTo(_));
+        if self.fields.iter().any(is_own) {
+            "Drop"
+        } else {
+            "Clone, Copy, Drop"
+        }
     }
 
     /// Whether the fields are in parts.

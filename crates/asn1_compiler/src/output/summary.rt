@@ -2,7 +2,6 @@
 
 use super::abilities::has_item;
 use super::directive::type_name;
-use super::imports::is_word_octet;
 use super::naming::text_at;
 use super::pieces::Written;
 use super::types::named_type;
@@ -13,6 +12,7 @@ use crate::external::External;
 use crate::external_type::{ExternalType, bare_form};
 use crate::failure::Failure;
 use crate::module::TypeAssignment;
+use crate::octet_class::is_word_octet;
 use crate::tag_set::TagSet;
 use crate::type_node::TypeForm;
 use std::alloc::{AllocError, Global};

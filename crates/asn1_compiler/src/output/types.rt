@@ -1,7 +1,7 @@
 //! The type of Rust of each type.
 
 use super::alternatives::alternatives;
-use super::directive::own_type;
+use super::directive::{name_of_type, own_type};
 use super::lists::list_field;
 use super::naming::text_at;
 use super::numbers::{bounds, is_closed, is_enumeration};
@@ -9,7 +9,6 @@ use super::rust_type::{RustKind, RustType};
 use crate::checks::{are_numbered, find_type};
 use crate::component::Component;
 use crate::constraint::Constraint;
-use crate::endpoint::Endpoint;
 use crate::external_type::find_external;
 use crate::failure::Failure;
 use crate::module::Module;
@@ -68,7 +67,7 @@ fn type_of<'a>(
         TypeForm::Simple(simple) => {
             Ok(RustType::new(alloc, simple_text(*simple), RustKind::Element)?)
         }
-        TypeForm::Integer(numbers) => integer(alloc, node, numbers, name),
+        TypeForm::Integer(numbers) => Ok(integer(alloc, node, numbers, name)?),
         TypeForm::Enumerated(_) => {
             let text = format!(in alloc; "Enumerated<{name}>")?;
             Ok(RustType::new(alloc, text.as_str(), RustKind::Element)?)
@@ -96,7 +95,7 @@ fn type_of<'a>(
                 Ok(RustType::new(alloc, text.as_str(), RustKind::Element)?)
             }
         },
-        TypeForm::Tagged(prefix, of) => tagged(alloc, module, table, names, node, *prefix, *of),
+        TypeForm::Tagged(prefix, of) => tagged(alloc, module, table, node, *prefix, *of),
     }
 }
 
@@ -139,25 +138,23 @@ fn simple_text(simple: SimpleType) -> &'static str {
     }
 }
 
-fn integer<'a>(
+// The type of an INTEGER. One without two bounds that are 0 or more has any size and sign.
+fn integer(
     alloc: Global,
-    node: &TypeNode<'a>,
-    numbers: &Vec<NamedNumber<'a>>,
+    node: &TypeNode<'_>,
+    numbers: &Vec<NamedNumber<'_>>,
     name: &str,
-) -> Result<RustType, Failure<'a>> {
+) -> Result<RustType, AllocError> {
     if is_closed(node, numbers) {
         let text = format!(in alloc; "NamedInteger<{name}>")?;
-        return Ok(RustType::new(alloc, text.as_str(), RustKind::Element)?);
+        return RustType::new(alloc, text.as_str(), RustKind::Element);
     }
-    if let Some((low, high)) = bounds(node) {
-        let text = format!(in alloc; "IntegerIn<{low}, {high}>")?;
-        return Ok(RustType::new(alloc, text.as_str(), RustKind::Element)?);
-    }
-    match node.constraint {
-        Constraint::None | Constraint::Range(Endpoint::Min, Endpoint::Max) => {
-            Ok(RustType::new(alloc, "IntRef<'a>", RustKind::Element)?)
+    match bounds(node) {
+        Some((low, high)) => {
+            let text = format!(in alloc; "IntegerIn<{low}, {high}>")?;
+            RustType::new(alloc, text.as_str(), RustKind::Element)
         }
-        _ => Err(not_written(node)),
+        None => RustType::new(alloc, "IntRef<'a>", RustKind::Element),
     }
 }
 
@@ -244,7 +241,6 @@ fn tagged<'a>(
     alloc: Global,
     module: &Module<'a>,
     table: &Vec<RustType>,
-    names: &Vec<String>,
     node: &TypeNode<'a>,
     prefix: TagPrefix,
     of: usize,
@@ -253,7 +249,7 @@ fn tagged<'a>(
         return Err(not_written(node));
     };
     if found.kind == RustKind::Choice {
-        let mut inside = tagged_name(alloc, text_at(names, of))?;
+        let mut inside = tagged_name(alloc, found)?;
         if found.has_lifetime {
             inside.push_str("<'a>")?;
         }
@@ -268,8 +264,9 @@ fn tagged<'a>(
     Ok(wrapped(alloc, text, found, prefix.tag)?)
 }
 
-/// The name of the struct that stands for a tag around the CHOICE with this name.
-pub fn tagged_name(alloc: Global, name: &str) -> Result<String, AllocError> {
+/// The name of the struct that stands for this CHOICE inside an explicit tag.
+pub fn tagged_name(alloc: Global, choice: &RustType) -> Result<String, AllocError> {
+    let name = name_of_type(choice.text.as_str());
     format!(in alloc; "{name}Tagged")
 }
 
@@ -302,7 +299,6 @@ pub fn component_types<'a>(
     alloc: Global,
     module: &Module<'a>,
     table: &Vec<RustType>,
-    names: &Vec<String>,
     components: &Vec<Component<'a>>,
 ) -> Result<Vec<RustType>, Failure<'a>> {
     let are_numbered = are_numbered(module, components);
@@ -317,7 +313,7 @@ pub fn component_types<'a>(
                 number: count as u64,
             };
             let prefix = TagPrefix { tag, tagging: None };
-            tagged(alloc, module, table, names, node, prefix, component.of)?
+            tagged(alloc, module, table, node, prefix, component.of)?
         } else {
             copy_at(alloc, table, component.of)?
         };
@@ -343,7 +339,7 @@ fn choice<'a>(
 ) -> Result<RustType, Failure<'a>> {
     let name = text_at(names, index);
     let mut arms = String::new(alloc);
-    for alternative in alternatives(alloc, module, table, names, components)?.iter() {
+    for alternative in alternatives(alloc, module, table, components)?.iter() {
         let variant = alternative.name.as_str();
         let check = alternative.of.check(alloc, "value")?;
         write!(arms, "            {name}::{variant}(value) => {check},\n")?;

@@ -2,6 +2,7 @@
 
 use super::docs::doc_of;
 use super::file::OutputFile;
+use super::imports::push_ghost_use;
 use super::oid_octets::octets_of;
 use super::piece::Piece;
 use super::rust_names::snake_name;
@@ -14,14 +15,15 @@ use std::alloc::{AllocError, Global};
 use std::fmt::Write;
 
 const GHOST_USES: &str = "ghost use Rattle.std.specs.Prelude.{◌≡◌, ◌∷◌, []};
-ghost use Rattle.der_asn1.specs.Arcs.{oid_octets};
+";
 
+const USES: &str = "
 use der_asn1::ObjectIdentifierRef;
 ";
 
 const IDENTIFIER: &str = "
 @Dpub fn @N() -> ObjectIdentifierRef<'static>
-    ensures { result.octets.now ≡ oid_octets (@A[]) }
+    ensures { result.octets.now ≡ @A }
 {
     let Some(value) = ObjectIdentifierRef::new(&[@O]) else {
         unreachable!()
@@ -38,6 +40,9 @@ pub fn name_of(oid: &ObjectIdentifierRef<'_>) -> Option<&'static str> {
     }
 }
 ";
+
+/// The least arc that is too large for the checker to compute octets from it.
+const LARGE: u64 = 1048576;
 
 /// The name of the file, without its ending: one that no type has.
 pub fn values_name(pieces: &Vec<Piece>) -> &'static str {
@@ -75,6 +80,9 @@ pub fn values_file<'a>(
     )?;
     if !functions.is_empty() {
         text.push_str(GHOST_USES)?;
+        let arcs = "Rattle.der_asn1.specs.Arcs";
+        push_ghost_use(alloc, &mut text, functions.as_str(), arcs, &["oid_octets"])?;
+        text.push_str(USES)?;
         push_name_of(alloc, &mut functions, module)?;
     }
     text.push_str(constants.as_str())?;
@@ -155,18 +163,34 @@ fn push_identifier<'a>(
 ) -> Result<(), AllocError> {
     let doc = doc_of(alloc, assigned.name.comments, "", assigned.name.text)?;
     let name = snake_name(alloc, assigned.name.text)?;
-    let mut numbers = String::new(alloc);
-    for arc in arcs.iter() {
-        write!(numbers, "{arc} ∷ ")?;
-    }
+    let meaning = meaning_of(alloc, arcs)?;
     let octets = octets_text(alloc, arcs)?;
     let places = [
         Place::new('D', doc.as_str()),
         Place::new('N', name.as_str()),
-        Place::new('A', numbers.as_str()),
+        Place::new('A', meaning.as_str()),
         Place::new('O', octets.as_str()),
     ];
     fill(out, IDENTIFIER, &places)
+}
+
+// What the clause of an OBJECT IDENTIFIER says of its octets: that they are those of its arcs; or
+// which they are, if an arc is too large for the checker.
+fn meaning_of(alloc: Global, arcs: &Vec<u64>) -> Result<String, AllocError> {
+    if arcs.iter().all(|arc| *arc < LARGE) {
+        let mut text = String::from_str(alloc, "oid_octets (")?;
+        for arc in arcs.iter() {
+            write!(text, "{arc} ∷ ")?;
+        }
+        text.push_str("[])")?;
+        return Ok(text);
+    }
+    let mut text = String::new(alloc);
+    for octet in octets_of(alloc, arcs)?.iter() {
+        write!(text, "{octet} ∷ ")?;
+    }
+    text.push_str("[]")?;
+    Ok(text)
 }
 
 // The octets of an OBJECT IDENTIFIER with commas between them.
@@ -181,7 +205,7 @@ fn octets_text(alloc: Global, arcs: &Vec<u64>) -> Result<String, AllocError> {
     Ok(text)
 }
 
-// Adds the function that tells the names of all OBJECT IDENTIFIERs.
+// Adds the function that returns the names of all OBJECT IDENTIFIERs.
 fn push_name_of(alloc: Global, out: &mut String, module: &Module<'_>) -> Result<(), AllocError> {
     let mut rows = String::new(alloc);
     let mut before: Vec<&Vec<u64>> = Vec::new(alloc);

@@ -11,12 +11,11 @@ impl<'a> Parser<'a> {
     /// Parses up to the first assignment: a module without types and values.
     pub(super) fn head(&mut self) -> Result<Module<'a>, Failure<'a>> {
         let (name, tags) = self.header()?;
-        let exports = self.exports()?;
+        self.skip_exports()?;
         let imports = self.imports()?;
         Ok(Module {
             name,
             tags,
-            exports,
             imports,
             imported: Vec::new(self.alloc),
             types: Vec::new(self.alloc),
@@ -57,18 +56,17 @@ impl<'a> Parser<'a> {
     }
 
     // Parses `EXPORTS`, and returns the names behind it, of which `ALL` is one.
-    fn exports(&mut self) -> Result<Vec<Item<'a>>, Failure<'a>> {
-        let mut names = Vec::new(self.alloc);
+    fn skip_exports(&mut self) -> Result<(), Failure<'a>> {
         if !self.takes("EXPORTS") {
-            return Ok(names);
+            return Ok(());
         }
         for _ in 0..self.items.len() {
             if self.takes(";") {
-                return Ok(names);
+                return Ok(());
             }
             let item = self.next();
             match item.kind {
-                ItemKind::UpperName | ItemKind::LowerName => names.push(item)?,
+                ItemKind::UpperName | ItemKind::LowerName => {}
                 _ if item.is(",") => {}
                 _ => return Err(refused(item, "a name, a comma or ;")),
             }

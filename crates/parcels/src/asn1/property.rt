@@ -16,7 +16,7 @@ use der_asn1::{
 };
 use std::alloc::Global;
 
-/// A property of a kind that its object identifier tells.
+/// A property. Its object identifier says of which kind it is.
 #[derive(Clone, Copy, Drop)]
 pub struct Property<'a> {
     /// kind

@@ -7,7 +7,7 @@ ghost use Rattle.der.specs.Prelude.{map_ok};
 ghost use Rattle.der_asn1.specs.Item.{decodes_same};
 ghost use Rattle.der_asn1.specs.Meaning.{alternative, any_element, field, optional, sequence, sequence_is_item, sequence_item, two_fields};
 
-use crate::asn1::seal_text_tagged::SealTextTagged;
+use crate::asn1::text_tagged::TextTagged;
 use der::{
     Decode, DecodeValue, Encode, EncodeValue, Error, FromFields, Header, Length, Reader, Sequence,
     SliceReader, Writer, decode_sequence, field_refs,
@@ -22,7 +22,7 @@ pub struct Seal<'a> {
     /// algorithm
     pub algorithm: AlgorithmIdentifierRef<'a>,
     /// text
-    pub text: Implicit<SealTextTagged<'a>, 0>,
+    pub text: Implicit<TextTagged<'a>, 0>,
     /// extra
     pub extra: Optional<AnyRef<'a>>,
 }
@@ -30,7 +30,7 @@ pub struct Seal<'a> {
 /// The fields of a [`Seal`] in pairs, in the order in which they are encoded.
 pub type SealFields<'a> = (
     AlgorithmIdentifierRef<'a>,
-    (Implicit<SealTextTagged<'a>, 0>, Optional<AnyRef<'a>>),
+    (Implicit<TextTagged<'a>, 0>, Optional<AnyRef<'a>>),
 );
 
 impl<'a> FromFields<SealFields<'a>> for Seal<'a> {
@@ -49,7 +49,7 @@ impl<'a> FromFields<SealFields<'a>> for Seal<'a> {
 impl<'a> Sequence for Seal<'a> {
     ghost meaning = { sequence (two_fields (field (alternative
         ⟦<AlgorithmIdentifierRef<'a> as Described>⟧.element)) (two_fields (field (alternative
-        ⟦<Implicit<SealTextTagged<'a>, 0> as Described>⟧.element)) (optional any_element)))
+        ⟦<Implicit<TextTagged<'a>, 0> as Described>⟧.element)) (optional any_element)))
         ⟦<Seal<'a> as FromFields<SealFields<'a>>>⟧.fields };
 
     ghost fits = { (refl, refl) };
@@ -69,7 +69,7 @@ impl<'a, R: Reader<Borrowed = &'a [u8]>> DecodeValue<R> for Seal<'a> {
 
     fn is_value(&self) {
         <AlgorithmIdentifierRef<'a> as DecodeValue<R>>::is_value(&self.algorithm);
-        <Implicit<SealTextTagged<'a>, 0> as DecodeValue<R>>::is_value(&self.text);
+        <Implicit<TextTagged<'a>, 0> as DecodeValue<R>>::is_value(&self.text);
         if let Some(value) = &self.extra.0 {
             <AnyRef<'a> as DecodeValue<R>>::is_value(value);
         }

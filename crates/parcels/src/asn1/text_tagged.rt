@@ -1,6 +1,6 @@
 //! Written by asn1_compile from the module Parcels: change the module instead.
 //!
-//! SealTextTagged.
+//! TextTagged.
 ghost use Rattle.std.specs.Prelude.{◌≡◌};
 ghost use Rattle.std.proofs.Common.{arith, refl};
 ghost use Rattle.der.specs.Prelude.{map_ok};
@@ -20,40 +20,40 @@ use std::alloc::Global;
 
 /// What an explicit tag has in it: a [`Text`].
 #[derive(Clone, Copy, Drop)]
-pub struct SealTextTagged<'a> {
+pub struct TextTagged<'a> {
     /// The value behind the tag.
     pub value: Text<'a>,
 }
 
-/// The fields of a [`SealTextTagged`] in pairs, in the order in which they are encoded.
-pub type SealTextTaggedFields<'a> = Text<'a>;
+/// The fields of a [`TextTagged`] in pairs, in the order in which they are encoded.
+pub type TextTaggedFields<'a> = Text<'a>;
 
-impl<'a> FromFields<SealTextTaggedFields<'a>> for SealTextTagged<'a> {
+impl<'a> FromFields<TextTaggedFields<'a>> for TextTagged<'a> {
     ghost fields = { λ v. v.value };
 
-    fn from_fields(members: SealTextTaggedFields<'a>) -> Self {
+    fn from_fields(members: TextTaggedFields<'a>) -> Self {
         let value = members;
-        SealTextTagged { value }
+        TextTagged { value }
     }
 }
 
-impl<'a> Sequence for SealTextTagged<'a> {
+impl<'a> Sequence for TextTagged<'a> {
     ghost meaning = { sequence (field ⟦<Text<'a> as DescribedChoice>⟧.alternative)
-        ⟦<SealTextTagged<'a> as FromFields<SealTextTaggedFields<'a>>>⟧.fields };
+        ⟦<TextTagged<'a> as FromFields<TextTaggedFields<'a>>>⟧.fields };
 
     ghost fits = { (refl, refl) };
 }
 
 /// Decodes the fields one after the other, with the errors of every [`Sequence`].
-impl<'a, R: Reader<Borrowed = &'a [u8]>> DecodeValue<R> for SealTextTagged<'a> {
+impl<'a, R: Reader<Borrowed = &'a [u8]>> DecodeValue<R> for TextTagged<'a> {
     type Error = Error;
 
     ghost decode_value_answers = { λ h s result t.
-        ⟦<SealTextTaggedFields<'a> as Decode<SliceReader<'a>>>⟧.decode_answers s (map_ok
-        ⟦<SealTextTagged<'a> as FromFields<SealTextTaggedFields<'a>>>⟧.fields result) t };
+        ⟦<TextTaggedFields<'a> as Decode<SliceReader<'a>>>⟧.decode_answers s (map_ok
+        ⟦<TextTagged<'a> as FromFields<TextTaggedFields<'a>>>⟧.fields result) t };
 
     fn decode_value(alloc: Global, reader: &mut R, header: Header) -> Result<Self, Error> {
-        decode_sequence::<R, SealTextTaggedFields<'a>, Self>(alloc, reader, header)
+        decode_sequence::<R, TextTaggedFields<'a>, Self>(alloc, reader, header)
     }
 
     fn is_value(&self) {
@@ -67,12 +67,12 @@ impl<'a, R: Reader<Borrowed = &'a [u8]>> DecodeValue<R> for SealTextTagged<'a> {
 }
 
 /// Writes the fields one after the other, with the errors of every [`Sequence`].
-impl<'a> EncodeValue for SealTextTagged<'a> {
-    ghost value_size = { λ v. ⟦<SealTextTaggedFields<'a> as Encode>⟧.size
-        (⟦<SealTextTagged<'a> as FromFields<SealTextTaggedFields<'a>>>⟧.fields v) };
+impl<'a> EncodeValue for TextTagged<'a> {
+    ghost value_size = { λ v. ⟦<TextTaggedFields<'a> as Encode>⟧.size
+        (⟦<TextTagged<'a> as FromFields<TextTaggedFields<'a>>>⟧.fields v) };
 
-    ghost encode_value_answers = { λ v. ⟦<SealTextTaggedFields<'a> as Encode>⟧.encode_answers
-        (⟦<SealTextTagged<'a> as FromFields<SealTextTaggedFields<'a>>>⟧.fields v) };
+    ghost encode_value_answers = { λ v. ⟦<TextTaggedFields<'a> as Encode>⟧.encode_answers
+        (⟦<TextTagged<'a> as FromFields<TextTaggedFields<'a>>>⟧.fields v) };
 
     fn value_len(&self) -> Result<Length, Error> {
         field_refs!(self, value).encoded_len()
@@ -83,21 +83,20 @@ impl<'a> EncodeValue for SealTextTagged<'a> {
     }
 }
 
-impl<'a> Item for SealTextTagged<'a> {
-    ghost item = { sequence_item ⟦<SealTextTagged<'a> as Described>⟧.element };
+impl<'a> Item for TextTagged<'a> {
+    ghost item = { sequence_item ⟦<TextTagged<'a> as Described>⟧.element };
 }
 
-impl<'a, R: Reader<Borrowed = &'a [u8]>> DecodeItem<R> for SealTextTagged<'a> {
-    ghost is_item = { sequence_is_item ⟦<SealTextTagged<'a> as Described>⟧.element refl };
+impl<'a, R: Reader<Borrowed = &'a [u8]>> DecodeItem<R> for TextTagged<'a> {
+    ghost is_item = { sequence_is_item ⟦<TextTagged<'a> as Described>⟧.element refl };
 
-    ghost decodes_items = { decodes_same (sequence_item
-        ⟦<SealTextTagged<'a> as Described>⟧.element) };
+    ghost decodes_items = { decodes_same (sequence_item ⟦<TextTagged<'a> as Described>⟧.element) };
 }
 
-impl<'a> BorrowedItem for SealTextTagged<'a> {
+impl<'a> BorrowedItem for TextTagged<'a> {
     ghost borrowed = { refl };
 }
 
-impl<'a> Nestable for SealTextTagged<'a> {
+impl<'a> Nestable for TextTagged<'a> {
     ghost nestable = { Prim.omega arith };
 }
