@@ -13,6 +13,7 @@ mod defaults;
 mod enumerations;
 mod fields;
 mod forms;
+mod known_values;
 mod lists;
 mod named_bits;
 mod numbers;
