@@ -14,6 +14,9 @@ use std::alloc::Global;
 
 /// An element of any tag: its tag, and its contents borrowed from the input. Used for the type ANY
 /// of older ASN.1 modules, and for values of an open type.
+///
+/// Some universal tags have no variant of [`Tag`], that of UniversalString among them. Decoding an
+/// element with such a tag fails.
 #[derive(Clone, Copy, PartialEq, Eq)]
 pub struct AnyRef<'a> {
     /// The tag of the element.

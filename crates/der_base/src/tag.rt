@@ -17,6 +17,10 @@ use std::fmt;
 /// variants are declared. The derived order compares tags of the same variant by `constructed`,
 /// where `false` is less than `true`. If `constructed` is also equal, `number` decides. The derived
 /// order is not the lexicographic order of the identifier octets.
+///
+/// Of the universal numbers (X.680 8.4), 7 (ObjectDescriptor), 8 (EXTERNAL), 11 (EMBEDDED PDV), 14
+/// (TIME), 15, 25 (GraphicString), 28 (UniversalString), 29 (CHARACTER STRING) and all from 31 on
+/// have no variant. An element with such a tag cannot be read, not even as an element of any type.
 #[derive(Clone, Copy, PartialEq, Eq, PartialOrd, Ord, Hash)]
 pub enum Tag {
     /// `BOOLEAN`, tag number 1.
