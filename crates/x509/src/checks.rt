@@ -3,9 +3,22 @@ ghost use Rattle.std.specs.Prelude.{◌≡◌, ◌↔◌, true, Some};
 ghost use Rattle.x509.specs.Checks.{MatchesCertificateVersion, HasSameAlgorithms, IsSameAlgorithm};
 ghost use Rattle.x509.specs.Checks.{parameters_of, certificate_version_number};
 
+mod attribute;
+mod extension;
+mod extensions;
+mod identifiers;
+mod name;
+mod policies;
+mod presence;
+mod serial_number;
+mod subject;
+mod times;
+
 use crate::asn1::{Certificate, TbsCertificate};
 use der::Tag;
 use der_asn1::AnyRef;
+pub use policies::{first_repeated_policy, has_distinct_policies};
+pub use presence::has_item;
 use spki::AlgorithmIdentifierRef;
 
 // The number of a version: 0, 1 or 2.

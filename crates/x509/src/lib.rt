@@ -1,18 +1,131 @@
-//! Certificates (RFC 5280, 4.1) and certification requests (RFC 2986, 4), borrowed from the input.
-//! Each type is lawful: decoding succeeds exactly if the octets are the encoding of a value.
-//! Nothing is allocated. The types are compiled from `asn1/x509.asn1`, but for [`Version`].
+//! Certificates, revocation lists and their extensions (RFC 5280, 4 and 5), and certification
+//! requests (RFC 2986, 4), borrowed from the input. Each type is lawful: decoding succeeds exactly if
+//! the octets are the encoding of a value. Nothing is allocated. The types are compiled from
+//! `asn1/x509.asn1`, except [`Version`].
 #![tactic(auto)]
 
 mod asn1;
+mod assembly;
 mod checks;
+mod find;
+mod lint;
+mod text;
 mod version;
 
-pub use asn1::{
-    Attribute, AttributeFields, AttributeTypeAndValue, AttributeTypeAndValueFields,
-    AttributeValues, Attributes, CertReq, CertReqFields, CertReqInfo, CertReqInfoFields,
-    CertReqVersion, Certificate, CertificateFields, CrlReason, Extension, ExtensionFields,
-    Extensions, GeneralName, GeneralNames, KeyUsage, KeyUsageBit, Name, OtherName, OtherNameFields,
-    RelativeDistinguishedName, TbsCertificate, TbsCertificateFields, Time, TimeAlternatives,
-    Validity, ValidityFields,
-};
-pub use version::{CertificateVersionGrammar, Version};
+pub use asn1::AccessDescription;
+pub use asn1::Attribute;
+pub use asn1::AttributeFields;
+pub use asn1::AttributeTypeAndValue;
+pub use asn1::AttributeTypeAndValueFields;
+pub use asn1::AttributeValues;
+pub use asn1::Attributes;
+pub use asn1::AuthorityInfoAccessSyntax;
+pub use asn1::AuthorityKeyIdentifier;
+pub use asn1::BaseCrlNumber;
+pub use asn1::BaseDistance;
+pub use asn1::BasicConstraints;
+pub use asn1::CertReq;
+pub use asn1::CertReqFields;
+pub use asn1::CertReqInfo;
+pub use asn1::CertReqInfoFields;
+pub use asn1::CertReqVersion;
+pub use asn1::Certificate;
+pub use asn1::CertificateFields;
+pub use asn1::CertificateIssuer;
+pub use asn1::CertificateList;
+pub use asn1::CertificatePolicies;
+pub use asn1::CertificateSerialNumber;
+pub use asn1::CpsUri;
+pub use asn1::CrlDistributionPoints;
+pub use asn1::CrlNumber;
+pub use asn1::CrlReason;
+pub use asn1::DirectoryString;
+pub use asn1::DirectoryStringTagged;
+pub use asn1::DisplayText;
+pub use asn1::DistributionPoint;
+pub use asn1::DistributionPointName;
+pub use asn1::DistributionPointNameTagged;
+pub use asn1::DomainComponent;
+pub use asn1::EdiPartyName;
+pub use asn1::EmailAddress;
+pub use asn1::ExtKeyUsageSyntax;
+pub use asn1::Extension;
+pub use asn1::ExtensionFields;
+pub use asn1::ExtensionRequest;
+pub use asn1::Extensions;
+pub use asn1::FreshestCrl;
+pub use asn1::GeneralName;
+pub use asn1::GeneralNames;
+pub use asn1::GeneralSubtree;
+pub use asn1::GeneralSubtrees;
+pub use asn1::InhibitAnyPolicy;
+pub use asn1::InvalidityDate;
+pub use asn1::IssuerAltName;
+pub use asn1::IssuingDistributionPoint;
+pub use asn1::KeyIdentifier;
+pub use asn1::KeyPurposeId;
+pub use asn1::KeyUsage;
+pub use asn1::KeyUsageBit;
+pub use asn1::Name;
+pub use asn1::NameConstraints;
+pub use asn1::NoticeReference;
+pub use asn1::OtherName;
+pub use asn1::OtherNameFields;
+pub use asn1::PolicyConstraints;
+pub use asn1::PolicyInformation;
+pub use asn1::PolicyMapping;
+pub use asn1::PolicyMappings;
+pub use asn1::PolicyQualifierInfo;
+pub use asn1::ReasonFlags;
+pub use asn1::ReasonFlagsBit;
+pub use asn1::RelativeDistinguishedName;
+pub use asn1::RevokedCertificate;
+pub use asn1::RevokedCertificates;
+pub use asn1::SignedCertificateTimestampList;
+pub use asn1::SkipCerts;
+pub use asn1::SubjectAltName;
+pub use asn1::SubjectDirectoryAttributes;
+pub use asn1::SubjectInfoAccessSyntax;
+pub use asn1::SubjectKeyIdentifier;
+pub use asn1::TbsCertList;
+pub use asn1::TbsCertificate;
+pub use asn1::TbsCertificateFields;
+pub use asn1::Time;
+pub use asn1::TimeAlternatives;
+pub use asn1::UserNotice;
+pub use asn1::Validity;
+pub use asn1::ValidityFields;
+pub use asn1::X520SerialNumber;
+pub use asn1::X520countryName;
+pub use asn1::X520dnQualifier;
+pub use asn1::X520name;
+pub use asn1::values;
+pub use assembly::WrittenItem;
+pub use assembly::attribute_of;
+pub use assembly::extension_of;
+pub use assembly::sequence_of;
+pub use assembly::set_of;
+pub use checks::first_repeated_policy;
+pub use checks::has_distinct_policies;
+pub use checks::has_item;
+pub use find::FindError;
+pub use find::Known;
+pub use find::KnownAttribute;
+pub use find::KnownExtension;
+pub use find::NameAttributes;
+pub use find::Occurrence;
+pub use find::Typed;
+pub use find::attr;
+pub use find::ext;
+pub use lint::AttributeRule;
+pub use lint::ExtensionRule;
+pub use lint::Finding;
+pub use lint::Lint;
+pub use lint::NameRule;
+pub use lint::Place;
+pub use lint::RULES;
+pub use lint::Rule;
+pub use text::Latin1;
+pub use text::Text;
+pub use version::CertificateVersionGrammar;
+pub use version::Version;

@@ -15,7 +15,7 @@ use der::{
 use der_asn1::{BorrowedItem, DecodeItem, Described, Item, Nestable, ObjectIdentifierRef};
 use std::alloc::Global;
 
-/// An attribute of a certification request (RFC 2986, 4.1), borrowed from the input.
+/// An attribute with its values (RFC 2986, 4.1; RFC 5280, 4.2.1.8), borrowed from the input.
 #[derive(Clone, Copy, Drop)]
 pub struct Attribute<'a> {
     /// The type of the attribute, as an object identifier.

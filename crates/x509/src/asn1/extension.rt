@@ -17,7 +17,7 @@ use der_asn1::{
 };
 use std::alloc::Global;
 
-/// An extension of a certificate (RFC 5280, 4.1 and 4.2), borrowed from the input.
+/// An extension (RFC 5280, 4.1 and 4.2), borrowed from the input.
 #[derive(Clone, Copy, Drop)]
 pub struct Extension<'a> {
     /// The type of the extension, as an object identifier.

@@ -15,7 +15,8 @@ use der::{
 use der_asn1::{BorrowedItem, DecodeItem, Described, Item, Nestable, SequenceOf};
 use std::alloc::Global;
 
-/// The extensions of a certificate (RFC 5280, 4.1), borrowed from the input.
+/// The extensions of a certificate (RFC 5280, 4.1), of a revocation list or of one of its entries
+/// (5.1), borrowed from the input.
 #[derive(Clone, Copy, Drop)]
 pub struct Extensions<'a> {
     /// The list: a SEQUENCE OF its items.

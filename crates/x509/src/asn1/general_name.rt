@@ -9,6 +9,7 @@ ghost use Rattle.der_asn1.specs.Meaning.{alternative, choice_is_item, choice_ite
 ghost use Rattle.der_asn1.specs.declared.either.Either.TheVariants.{First, Second};
 ghost use Rattle.x509.specs.declared.asn1.general_name.GeneralName.TheVariants as variant;
 
+use crate::asn1::edi_party_name::EdiPartyName;
 use crate::asn1::general_name_part1::GeneralNamePart1;
 use crate::asn1::general_name_part2::GeneralNamePart2;
 use crate::asn1::general_name_part3::GeneralNamePart3;
@@ -22,7 +23,7 @@ use der_asn1::{
 use std::alloc::Global;
 
 /// A name of one of nine forms (RFC 5280, 4.2.1.6), borrowed from the input. The contents of
-/// x400Address and ediPartyName are not checked.
+/// x400Address are not checked.
 #[derive(Clone, Copy, Drop)]
 pub enum GeneralName<'a> {
     /// otherName
@@ -36,7 +37,7 @@ pub enum GeneralName<'a> {
     /// directoryName
     DirectoryName(Explicit<Name<'a>, 4>),
     /// ediPartyName
-    EdiPartyName(Implicit<SequenceRef<'a>, 5>),
+    EdiPartyName(Implicit<EdiPartyName<'a>, 5>),
     /// uniformResourceIdentifier
     UniformResourceIdentifier(Implicit<Ia5StringRef<'a>, 6>),
     /// iPAddress

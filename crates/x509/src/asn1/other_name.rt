@@ -16,7 +16,7 @@ use der_asn1::{
 };
 use std::alloc::Global;
 
-/// A name of a form that its object identifier tells (RFC 5280, 4.2.1.6), borrowed from the input.
+/// A name whose form its object identifier gives (RFC 5280, 4.2.1.6), borrowed from the input.
 #[derive(Clone, Copy, Drop)]
 pub struct OtherName<'a> {
     /// The form of the name.

@@ -8,6 +8,7 @@ ghost use Rattle.der_asn1.specs.Item.{decodes_same};
 ghost use Rattle.der_asn1.specs.Meaning.{alternative, defaulted, field, optional, seen, sequence, sequence_is_item, sequence_item, two_fields};
 
 use crate::Version;
+use crate::asn1::certificate_serial_number::CertificateSerialNumber;
 use crate::asn1::extensions::Extensions;
 use crate::asn1::name::Name;
 use crate::asn1::tbs_certificate_part1::{TbsCertificatePart1, TbsCertificatePart1Fields};
@@ -20,7 +21,7 @@ use der::{
 };
 use der_asn1::{
     BitStringRef, BorrowedItem, DecodeItem, DefaultValue, Defaulted, Described, Explicit, Implicit,
-    IntRef, Item, Nestable, Optional,
+    Item, Nestable, Optional,
 };
 use spki::{AlgorithmIdentifierRef, SubjectPublicKeyInfoRef};
 use std::alloc::Global;
@@ -31,7 +32,7 @@ pub struct TbsCertificate<'a> {
     /// The version of the certificate: 1, 2 or 3. The default is 1.
     pub version: Defaulted<Explicit<Version<'a>, 0>>,
     /// The serial number of the certificate.
-    pub serial_number: IntRef<'a>,
+    pub serial_number: CertificateSerialNumber<'a>,
     /// The algorithm of the certificate's signature. The signature itself is not in this part.
     pub signature: AlgorithmIdentifierRef<'a>,
     /// The issuer of the certificate.
@@ -112,7 +113,7 @@ impl<'a> Sequence for TbsCertificate<'a> {
         ⟦<TbsCertificatePart1<'a> as FromFields<TbsCertificatePart1Fields<'a>>>⟧.fields (two_fields
         (two_fields (defaulted ⟦<Explicit<Version<'a>, 0> as DefaultValue>⟧.is_default (alternative
         ⟦<Explicit<Version<'a>, 0> as Described>⟧.element)) (field (alternative
-        ⟦<IntRef<'a> as Described>⟧.element))) (two_fields (field (alternative
+        ⟦<CertificateSerialNumber<'a> as Described>⟧.element))) (two_fields (field (alternative
         ⟦<AlgorithmIdentifierRef<'a> as Described>⟧.element)) (field (alternative
         ⟦<Name<'a> as Described>⟧.element))))) (two_fields (seen
         ⟦<TbsCertificatePart2<'a> as FromFields<TbsCertificatePart2Fields<'a>>>⟧.fields (two_fields
@@ -152,7 +153,7 @@ impl<'a, R: Reader<Borrowed = &'a [u8]>> DecodeValue<R> for TbsCertificate<'a> {
 
     fn is_value(&self) {
         <Explicit<Version<'a>, 0> as DecodeValue<R>>::is_value(&self.version.0);
-        <IntRef<'a> as DecodeValue<R>>::is_value(&self.serial_number);
+        <CertificateSerialNumber<'a> as DecodeValue<R>>::is_value(&self.serial_number);
         <AlgorithmIdentifierRef<'a> as DecodeValue<R>>::is_value(&self.signature);
         <Name<'a> as DecodeValue<R>>::is_value(&self.issuer);
         <Validity as DecodeValue<R>>::is_value(&self.validity);

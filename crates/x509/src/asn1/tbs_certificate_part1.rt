@@ -5,9 +5,10 @@ ghost use Rattle.std.specs.Prelude.{false};
 ghost use Rattle.der.specs.Prelude.{map_ok};
 
 use crate::Version;
+use crate::asn1::certificate_serial_number::CertificateSerialNumber;
 use crate::asn1::name::Name;
 use der::{Decode, Error, FromFields, Reader, SliceReader, decode_fields};
-use der_asn1::{Defaulted, Explicit, IntRef};
+use der_asn1::{Defaulted, Explicit};
 use spki::AlgorithmIdentifierRef;
 use std::alloc::Global;
 
@@ -15,14 +16,17 @@ use std::alloc::Global;
 #[derive(Drop)]
 pub(crate) struct TbsCertificatePart1<'a> {
     pub(crate) version: Defaulted<Explicit<Version<'a>, 0>>,
-    pub(crate) serial_number: IntRef<'a>,
+    pub(crate) serial_number: CertificateSerialNumber<'a>,
     pub(crate) signature: AlgorithmIdentifierRef<'a>,
     pub(crate) issuer: Name<'a>,
 }
 
 // The fields in pairs, in the order in which they are encoded.
 pub(crate) type TbsCertificatePart1Fields<'a> = (
-    (Defaulted<Explicit<Version<'a>, 0>>, IntRef<'a>),
+    (
+        Defaulted<Explicit<Version<'a>, 0>>,
+        CertificateSerialNumber<'a>,
+    ),
     (AlgorithmIdentifierRef<'a>, Name<'a>),
 );
 

@@ -1,0 +1,139 @@
+//! Written by asn1_compile from the module X509: change the module instead.
+//!
+//! AccessDescription.
+ghost use Rattle.std.specs.Prelude.{◌≡◌};
+ghost use Rattle.std.proofs.Common.{arith, refl};
+ghost use Rattle.der.specs.Prelude.{map_ok};
+ghost use Rattle.der_asn1.specs.Item.{decodes_same};
+ghost use Rattle.der_asn1.specs.Meaning.{alternative, field, sequence, sequence_is_item, sequence_item, two_fields};
+
+use crate::asn1::edi_party_name::EdiPartyName;
+use crate::asn1::general_name::GeneralName;
+use crate::asn1::name::Name;
+use crate::asn1::other_name::OtherName;
+use der::{
+    Decode, DecodeValue, Encode, EncodeValue, Error, FromFields, Header, Length, Reader, Sequence,
+    SliceReader, Writer, decode_sequence, field_refs,
+};
+use der_asn1::{
+    BorrowedItem, DecodeItem, Described, DescribedChoice, Explicit, Ia5StringRef, Implicit, Item,
+    Nestable, ObjectIdentifierRef, OctetStringRef, SequenceRef,
+};
+use std::alloc::Global;
+
+/// Where information is found (RFC 5280, 4.2.2.1), borrowed from the input.
+#[derive(Clone, Copy, Drop)]
+pub struct AccessDescription<'a> {
+    /// The kind of the information.
+    pub access_method: ObjectIdentifierRef<'a>,
+    /// The place.
+    pub access_location: GeneralName<'a>,
+}
+
+/// The fields of a [`AccessDescription`] in pairs, in the order in which they are encoded.
+pub type AccessDescriptionFields<'a> = (ObjectIdentifierRef<'a>, GeneralName<'a>);
+
+impl<'a> FromFields<AccessDescriptionFields<'a>> for AccessDescription<'a> {
+    ghost fields = { λ v. (v.access_method, v.access_location) };
+
+    fn from_fields(members: AccessDescriptionFields<'a>) -> Self {
+        let (access_method, access_location) = members;
+        AccessDescription {
+            access_method,
+            access_location,
+        }
+    }
+}
+
+impl<'a> Sequence for AccessDescription<'a> {
+    ghost meaning = { sequence (two_fields (field (alternative
+        ⟦<ObjectIdentifierRef<'a> as Described>⟧.element)) (field
+        ⟦<GeneralName<'a> as DescribedChoice>⟧.alternative))
+        ⟦<AccessDescription<'a> as FromFields<AccessDescriptionFields<'a>>>⟧.fields };
+
+    ghost fits = { (refl, refl) };
+}
+
+/// Decodes the fields one after the other, with the errors of every [`Sequence`].
+impl<'a, R: Reader<Borrowed = &'a [u8]>> DecodeValue<R> for AccessDescription<'a> {
+    type Error = Error;
+
+    ghost decode_value_answers = { λ h s result t.
+        ⟦<AccessDescriptionFields<'a> as Decode<SliceReader<'a>>>⟧.decode_answers s (map_ok
+        ⟦<AccessDescription<'a> as FromFields<AccessDescriptionFields<'a>>>⟧.fields result) t };
+
+    fn decode_value(alloc: Global, reader: &mut R, header: Header) -> Result<Self, Error> {
+        decode_sequence::<R, AccessDescriptionFields<'a>, Self>(alloc, reader, header)
+    }
+
+    fn is_value(&self) {
+        <ObjectIdentifierRef<'a> as DecodeValue<R>>::is_value(&self.access_method);
+        match &self.access_location {
+            GeneralName::OtherName(value) => <Implicit<OtherName<'a>, 0> as DecodeValue<
+                R,
+            >>::is_value(value),
+            GeneralName::Rfc822Name(value) => <Implicit<Ia5StringRef<'a>, 1> as DecodeValue<
+                R,
+            >>::is_value(value),
+            GeneralName::DnsName(value) => <Implicit<Ia5StringRef<'a>, 2> as DecodeValue<
+                R,
+            >>::is_value(value),
+            GeneralName::X400Address(value) => <Implicit<SequenceRef<'a>, 3> as DecodeValue<
+                R,
+            >>::is_value(value),
+            GeneralName::DirectoryName(value) => <Explicit<Name<'a>, 4> as DecodeValue<
+                R,
+            >>::is_value(value),
+            GeneralName::EdiPartyName(value) => <Implicit<EdiPartyName<'a>, 5> as DecodeValue<
+                R,
+            >>::is_value(value),
+            GeneralName::UniformResourceIdentifier(value) => <Implicit<
+                Ia5StringRef<'a>,
+                6,
+            > as DecodeValue<R>>::is_value(value),
+            GeneralName::IpAddress(value) => <Implicit<OctetStringRef<'a>, 7> as DecodeValue<
+                R,
+            >>::is_value(value),
+            GeneralName::RegisteredId(value) => <Implicit<
+                ObjectIdentifierRef<'a>,
+                8,
+            > as DecodeValue<R>>::is_value(value),
+        }
+    }
+}
+
+/// Writes the fields one after the other, with the errors of every [`Sequence`].
+impl<'a> EncodeValue for AccessDescription<'a> {
+    ghost value_size = { λ v. ⟦<AccessDescriptionFields<'a> as Encode>⟧.size
+        (⟦<AccessDescription<'a> as FromFields<AccessDescriptionFields<'a>>>⟧.fields v) };
+
+    ghost encode_value_answers = { λ v. ⟦<AccessDescriptionFields<'a> as Encode>⟧.encode_answers
+        (⟦<AccessDescription<'a> as FromFields<AccessDescriptionFields<'a>>>⟧.fields v) };
+
+    fn value_len(&self) -> Result<Length, Error> {
+        field_refs!(self, (access_method, access_location)).encoded_len()
+    }
+
+    fn encode_value<W: Writer>(&self, writer: &mut W) -> Result<(), Error> {
+        field_refs!(self, (access_method, access_location)).encode(writer)
+    }
+}
+
+impl<'a> Item for AccessDescription<'a> {
+    ghost item = { sequence_item ⟦<AccessDescription<'a> as Described>⟧.element };
+}
+
+impl<'a, R: Reader<Borrowed = &'a [u8]>> DecodeItem<R> for AccessDescription<'a> {
+    ghost is_item = { sequence_is_item ⟦<AccessDescription<'a> as Described>⟧.element refl };
+
+    ghost decodes_items = { decodes_same (sequence_item
+        ⟦<AccessDescription<'a> as Described>⟧.element) };
+}
+
+impl<'a> BorrowedItem for AccessDescription<'a> {
+    ghost borrowed = { refl };
+}
+
+impl<'a> Nestable for AccessDescription<'a> {
+    ghost nestable = { Prim.omega arith };
+}

@@ -1,0 +1,139 @@
+//! Written by asn1_compile from the module X509: change the module instead.
+//!
+//! AuthorityKeyIdentifier.
+ghost use Rattle.std.specs.Prelude.{◌≡◌};
+ghost use Rattle.std.proofs.Common.{arith, refl};
+ghost use Rattle.der.specs.Prelude.{map_ok};
+ghost use Rattle.der_asn1.specs.Item.{decodes_same};
+ghost use Rattle.der_asn1.specs.Meaning.{alternative, optional, sequence, sequence_is_item, sequence_item, two_fields};
+
+use crate::asn1::certificate_serial_number::CertificateSerialNumber;
+use crate::asn1::general_names::GeneralNames;
+use crate::asn1::key_identifier::KeyIdentifier;
+use der::{
+    Decode, DecodeValue, Encode, EncodeValue, Error, FromFields, Header, Length, Reader, Sequence,
+    SliceReader, Writer, decode_sequence, field_refs,
+};
+use der_asn1::{BorrowedItem, DecodeItem, Described, Implicit, Item, Nestable, Optional};
+use std::alloc::Global;
+
+/// Which key of the issuer signed the certificate or the list (RFC 5280, 4.2.1.1 and 5.2.1),
+/// borrowed from the input.
+#[derive(Clone, Copy, Drop)]
+pub struct AuthorityKeyIdentifier<'a> {
+    /// The identifier of the issuer's key, if present.
+    pub key_identifier: Optional<Implicit<KeyIdentifier<'a>, 0>>,
+    /// The issuer of the issuer's certificate, if present. The RFC requires it exactly if the serial
+    /// number is present, but decoding does not check this.
+    pub authority_cert_issuer: Optional<Implicit<GeneralNames<'a>, 1>>,
+    /// The serial number of the issuer's certificate, if present.
+    pub authority_cert_serial_number: Optional<Implicit<CertificateSerialNumber<'a>, 2>>,
+}
+
+/// The fields of a [`AuthorityKeyIdentifier`] in pairs, in the order in which they are encoded.
+pub type AuthorityKeyIdentifierFields<'a> = (
+    Optional<Implicit<KeyIdentifier<'a>, 0>>,
+    (
+        Optional<Implicit<GeneralNames<'a>, 1>>,
+        Optional<Implicit<CertificateSerialNumber<'a>, 2>>,
+    ),
+);
+
+impl<'a> FromFields<AuthorityKeyIdentifierFields<'a>> for AuthorityKeyIdentifier<'a> {
+    ghost fields = { λ v. (v.key_identifier, (v.authority_cert_issuer, v.authority_cert_serial_number)) };
+
+    fn from_fields(members: AuthorityKeyIdentifierFields<'a>) -> Self {
+        let (key_identifier, (authority_cert_issuer, authority_cert_serial_number)) = members;
+        AuthorityKeyIdentifier {
+            key_identifier,
+            authority_cert_issuer,
+            authority_cert_serial_number,
+        }
+    }
+}
+
+impl<'a> Sequence for AuthorityKeyIdentifier<'a> {
+    ghost meaning = { sequence (two_fields (optional (alternative
+        ⟦<Implicit<KeyIdentifier<'a>, 0> as Described>⟧.element)) (two_fields (optional (alternative
+        ⟦<Implicit<GeneralNames<'a>, 1> as Described>⟧.element)) (optional (alternative
+        ⟦<Implicit<CertificateSerialNumber<'a>, 2> as Described>⟧.element))))
+        ⟦<AuthorityKeyIdentifier<'a> as FromFields<AuthorityKeyIdentifierFields<'a>>>⟧.fields };
+
+    ghost fits = { (refl, refl) };
+}
+
+/// Decodes the fields one after the other, with the errors of every [`Sequence`].
+impl<'a, R: Reader<Borrowed = &'a [u8]>> DecodeValue<R> for AuthorityKeyIdentifier<'a> {
+    type Error = Error;
+
+    ghost decode_value_answers = { λ h s result t.
+        ⟦<AuthorityKeyIdentifierFields<'a> as Decode<SliceReader<'a>>>⟧.decode_answers s (map_ok
+        ⟦<AuthorityKeyIdentifier<'a> as FromFields<AuthorityKeyIdentifierFields<'a>>>⟧.fields result) t };
+
+    fn decode_value(alloc: Global, reader: &mut R, header: Header) -> Result<Self, Error> {
+        decode_sequence::<R, AuthorityKeyIdentifierFields<'a>, Self>(alloc, reader, header)
+    }
+
+    fn is_value(&self) {
+        if let Some(value) = &self.key_identifier.0 {
+            <Implicit<KeyIdentifier<'a>, 0> as DecodeValue<R>>::is_value(value);
+        }
+        if let Some(value) = &self.authority_cert_issuer.0 {
+            <Implicit<GeneralNames<'a>, 1> as DecodeValue<R>>::is_value(value);
+        }
+        if let Some(value) = &self.authority_cert_serial_number.0 {
+            <Implicit<CertificateSerialNumber<'a>, 2> as DecodeValue<R>>::is_value(value);
+        }
+    }
+}
+
+/// Writes the fields one after the other, with the errors of every [`Sequence`].
+impl<'a> EncodeValue for AuthorityKeyIdentifier<'a> {
+    ghost value_size = { λ v. ⟦<AuthorityKeyIdentifierFields<'a> as Encode>⟧.size
+        (⟦<AuthorityKeyIdentifier<'a> as FromFields<AuthorityKeyIdentifierFields<'a>>>⟧.fields v) };
+
+    ghost encode_value_answers = { λ v.
+        ⟦<AuthorityKeyIdentifierFields<'a> as Encode>⟧.encode_answers
+        (⟦<AuthorityKeyIdentifier<'a> as FromFields<AuthorityKeyIdentifierFields<'a>>>⟧.fields v) };
+
+    fn value_len(&self) -> Result<Length, Error> {
+        field_refs!(
+            self,
+            (
+                key_identifier,
+                (authority_cert_issuer, authority_cert_serial_number)
+            )
+        )
+        .encoded_len()
+    }
+
+    fn encode_value<W: Writer>(&self, writer: &mut W) -> Result<(), Error> {
+        field_refs!(
+            self,
+            (
+                key_identifier,
+                (authority_cert_issuer, authority_cert_serial_number)
+            )
+        )
+        .encode(writer)
+    }
+}
+
+impl<'a> Item for AuthorityKeyIdentifier<'a> {
+    ghost item = { sequence_item ⟦<AuthorityKeyIdentifier<'a> as Described>⟧.element };
+}
+
+impl<'a, R: Reader<Borrowed = &'a [u8]>> DecodeItem<R> for AuthorityKeyIdentifier<'a> {
+    ghost is_item = { sequence_is_item ⟦<AuthorityKeyIdentifier<'a> as Described>⟧.element refl };
+
+    ghost decodes_items = { decodes_same (sequence_item
+        ⟦<AuthorityKeyIdentifier<'a> as Described>⟧.element) };
+}
+
+impl<'a> BorrowedItem for AuthorityKeyIdentifier<'a> {
+    ghost borrowed = { refl };
+}
+
+impl<'a> Nestable for AuthorityKeyIdentifier<'a> {
+    ghost nestable = { Prim.omega arith };
+}

@@ -1,0 +1,8 @@
+//! Written by asn1_compile from the module X509: change the module instead.
+//!
+//! BaseCrlNumber.
+
+use crate::asn1::crl_number::CrlNumber;
+
+/// The number of the list to which a list has the changes (RFC 5280, 5.2.4).
+pub type BaseCrlNumber<'a> = CrlNumber<'a>;

@@ -1,0 +1,109 @@
+//! Written by asn1_compile from the module X509: change the module instead.
+//!
+//! BasicConstraints.
+ghost use Rattle.std.specs.Prelude.{◌≡◌};
+ghost use Rattle.std.proofs.Common.{arith, refl};
+ghost use Rattle.der.specs.Prelude.{map_ok};
+ghost use Rattle.der_asn1.specs.Item.{decodes_same};
+ghost use Rattle.der_asn1.specs.Meaning.{alternative, defaulted, optional, sequence, sequence_is_item, sequence_item, two_fields};
+
+use der::{
+    Decode, DecodeValue, Encode, EncodeValue, Error, FromFields, Header, Length, Reader, Sequence,
+    SliceReader, Writer, decode_sequence, field_refs,
+};
+use der_asn1::{
+    BooleanRef, BorrowedItem, DecodeItem, DefaultValue, Defaulted, Described, IntRef, Item,
+    Nestable, Optional,
+};
+use std::alloc::Global;
+
+/// Whether the subject is a certification authority, and how many of them may follow it (RFC 5280,
+/// 4.2.1.9), borrowed from the input.
+#[derive(Clone, Copy, Drop)]
+pub struct BasicConstraints<'a> {
+    /// Whether the subject is a certification authority. The default is false.
+    pub ca: Defaulted<BooleanRef<'a>>,
+    /// How many further authorities a chain of certificates may have, if it is limited. That the
+    /// number is not negative is not checked.
+    pub path_len_constraint: Optional<IntRef<'a>>,
+}
+
+/// The fields of a [`BasicConstraints`] in pairs, in the order in which they are encoded.
+pub type BasicConstraintsFields<'a> = (Defaulted<BooleanRef<'a>>, Optional<IntRef<'a>>);
+
+impl<'a> FromFields<BasicConstraintsFields<'a>> for BasicConstraints<'a> {
+    ghost fields = { λ v. (v.ca, v.path_len_constraint) };
+
+    fn from_fields(members: BasicConstraintsFields<'a>) -> Self {
+        let (ca, path_len_constraint) = members;
+        BasicConstraints {
+            ca,
+            path_len_constraint,
+        }
+    }
+}
+
+impl<'a> Sequence for BasicConstraints<'a> {
+    ghost meaning = { sequence (two_fields (defaulted ⟦<BooleanRef<'a> as DefaultValue>⟧.is_default
+        (alternative ⟦<BooleanRef<'a> as Described>⟧.element)) (optional (alternative
+        ⟦<IntRef<'a> as Described>⟧.element)))
+        ⟦<BasicConstraints<'a> as FromFields<BasicConstraintsFields<'a>>>⟧.fields };
+
+    ghost fits = { (refl, refl) };
+}
+
+/// Decodes the fields one after the other, with the errors of every [`Sequence`].
+impl<'a, R: Reader<Borrowed = &'a [u8]>> DecodeValue<R> for BasicConstraints<'a> {
+    type Error = Error;
+
+    ghost decode_value_answers = { λ h s result t.
+        ⟦<BasicConstraintsFields<'a> as Decode<SliceReader<'a>>>⟧.decode_answers s (map_ok
+        ⟦<BasicConstraints<'a> as FromFields<BasicConstraintsFields<'a>>>⟧.fields result) t };
+
+    fn decode_value(alloc: Global, reader: &mut R, header: Header) -> Result<Self, Error> {
+        decode_sequence::<R, BasicConstraintsFields<'a>, Self>(alloc, reader, header)
+    }
+
+    fn is_value(&self) {
+        <BooleanRef<'a> as DecodeValue<R>>::is_value(&self.ca.0);
+        if let Some(value) = &self.path_len_constraint.0 {
+            <IntRef<'a> as DecodeValue<R>>::is_value(value);
+        }
+    }
+}
+
+/// Writes the fields one after the other, with the errors of every [`Sequence`].
+impl<'a> EncodeValue for BasicConstraints<'a> {
+    ghost value_size = { λ v. ⟦<BasicConstraintsFields<'a> as Encode>⟧.size
+        (⟦<BasicConstraints<'a> as FromFields<BasicConstraintsFields<'a>>>⟧.fields v) };
+
+    ghost encode_value_answers = { λ v. ⟦<BasicConstraintsFields<'a> as Encode>⟧.encode_answers
+        (⟦<BasicConstraints<'a> as FromFields<BasicConstraintsFields<'a>>>⟧.fields v) };
+
+    fn value_len(&self) -> Result<Length, Error> {
+        field_refs!(self, (ca, path_len_constraint)).encoded_len()
+    }
+
+    fn encode_value<W: Writer>(&self, writer: &mut W) -> Result<(), Error> {
+        field_refs!(self, (ca, path_len_constraint)).encode(writer)
+    }
+}
+
+impl<'a> Item for BasicConstraints<'a> {
+    ghost item = { sequence_item ⟦<BasicConstraints<'a> as Described>⟧.element };
+}
+
+impl<'a, R: Reader<Borrowed = &'a [u8]>> DecodeItem<R> for BasicConstraints<'a> {
+    ghost is_item = { sequence_is_item ⟦<BasicConstraints<'a> as Described>⟧.element refl };
+
+    ghost decodes_items = { decodes_same (sequence_item
+        ⟦<BasicConstraints<'a> as Described>⟧.element) };
+}
+
+impl<'a> BorrowedItem for BasicConstraints<'a> {
+    ghost borrowed = { refl };
+}
+
+impl<'a> Nestable for BasicConstraints<'a> {
+    ghost nestable = { Prim.omega arith };
+}

@@ -1,0 +1,112 @@
+//! Written by asn1_compile from the module X509: change the module instead.
+//!
+//! CertificateList.
+ghost use Rattle.std.specs.Prelude.{◌≡◌};
+ghost use Rattle.std.proofs.Common.{arith, refl};
+ghost use Rattle.der.specs.Prelude.{map_ok};
+ghost use Rattle.der_asn1.specs.Item.{decodes_same};
+ghost use Rattle.der_asn1.specs.Meaning.{alternative, field, sequence, sequence_is_item, sequence_item, two_fields};
+
+use crate::asn1::tbs_cert_list::TbsCertList;
+use der::{
+    Decode, DecodeValue, Encode, EncodeValue, Error, FromFields, Header, Length, Reader, Sequence,
+    SliceReader, Writer, decode_sequence, field_refs,
+};
+use der_asn1::{BitStringRef, BorrowedItem, DecodeItem, Described, Item, Nestable};
+use spki::AlgorithmIdentifierRef;
+use std::alloc::Global;
+
+/// A list of revoked certificates (RFC 5280, 5.1), borrowed from the input.
+#[derive(Clone, Copy, Drop)]
+pub struct CertificateList<'a> {
+    /// The part of the list that the signature covers.
+    pub tbs_cert_list: TbsCertList<'a>,
+    /// The algorithm of `signature`.
+    pub signature_algorithm: AlgorithmIdentifierRef<'a>,
+    /// The signature of `tbs_cert_list`, as a BIT STRING.
+    pub signature: BitStringRef<'a>,
+}
+
+/// The fields of a [`CertificateList`] in pairs, in the order in which they are encoded.
+pub type CertificateListFields<'a> = (
+    TbsCertList<'a>,
+    (AlgorithmIdentifierRef<'a>, BitStringRef<'a>),
+);
+
+impl<'a> FromFields<CertificateListFields<'a>> for CertificateList<'a> {
+    ghost fields = { λ v. (v.tbs_cert_list, (v.signature_algorithm, v.signature)) };
+
+    fn from_fields(members: CertificateListFields<'a>) -> Self {
+        let (tbs_cert_list, (signature_algorithm, signature)) = members;
+        CertificateList {
+            tbs_cert_list,
+            signature_algorithm,
+            signature,
+        }
+    }
+}
+
+impl<'a> Sequence for CertificateList<'a> {
+    ghost meaning = { sequence (two_fields (field (alternative
+        ⟦<TbsCertList<'a> as Described>⟧.element)) (two_fields (field (alternative
+        ⟦<AlgorithmIdentifierRef<'a> as Described>⟧.element)) (field (alternative
+        ⟦<BitStringRef<'a> as Described>⟧.element))))
+        ⟦<CertificateList<'a> as FromFields<CertificateListFields<'a>>>⟧.fields };
+
+    ghost fits = { (refl, refl) };
+}
+
+/// Decodes the fields one after the other, with the errors of every [`Sequence`].
+impl<'a, R: Reader<Borrowed = &'a [u8]>> DecodeValue<R> for CertificateList<'a> {
+    type Error = Error;
+
+    ghost decode_value_answers = { λ h s result t.
+        ⟦<CertificateListFields<'a> as Decode<SliceReader<'a>>>⟧.decode_answers s (map_ok
+        ⟦<CertificateList<'a> as FromFields<CertificateListFields<'a>>>⟧.fields result) t };
+
+    fn decode_value(alloc: Global, reader: &mut R, header: Header) -> Result<Self, Error> {
+        decode_sequence::<R, CertificateListFields<'a>, Self>(alloc, reader, header)
+    }
+
+    fn is_value(&self) {
+        <TbsCertList<'a> as DecodeValue<R>>::is_value(&self.tbs_cert_list);
+        <AlgorithmIdentifierRef<'a> as DecodeValue<R>>::is_value(&self.signature_algorithm);
+        <BitStringRef<'a> as DecodeValue<R>>::is_value(&self.signature);
+    }
+}
+
+/// Writes the fields one after the other, with the errors of every [`Sequence`].
+impl<'a> EncodeValue for CertificateList<'a> {
+    ghost value_size = { λ v. ⟦<CertificateListFields<'a> as Encode>⟧.size
+        (⟦<CertificateList<'a> as FromFields<CertificateListFields<'a>>>⟧.fields v) };
+
+    ghost encode_value_answers = { λ v. ⟦<CertificateListFields<'a> as Encode>⟧.encode_answers
+        (⟦<CertificateList<'a> as FromFields<CertificateListFields<'a>>>⟧.fields v) };
+
+    fn value_len(&self) -> Result<Length, Error> {
+        field_refs!(self, (tbs_cert_list, (signature_algorithm, signature))).encoded_len()
+    }
+
+    fn encode_value<W: Writer>(&self, writer: &mut W) -> Result<(), Error> {
+        field_refs!(self, (tbs_cert_list, (signature_algorithm, signature))).encode(writer)
+    }
+}
+
+impl<'a> Item for CertificateList<'a> {
+    ghost item = { sequence_item ⟦<CertificateList<'a> as Described>⟧.element };
+}
+
+impl<'a, R: Reader<Borrowed = &'a [u8]>> DecodeItem<R> for CertificateList<'a> {
+    ghost is_item = { sequence_is_item ⟦<CertificateList<'a> as Described>⟧.element refl };
+
+    ghost decodes_items = { decodes_same (sequence_item
+        ⟦<CertificateList<'a> as Described>⟧.element) };
+}
+
+impl<'a> BorrowedItem for CertificateList<'a> {
+    ghost borrowed = { refl };
+}
+
+impl<'a> Nestable for CertificateList<'a> {
+    ghost nestable = { Prim.omega arith };
+}

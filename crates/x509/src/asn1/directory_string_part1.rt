@@ -1,0 +1,92 @@
+//! Written by asn1_compile from the module X509: change the module instead.
+//!
+//! DirectoryStringPart1.
+ghost use Rattle.std.specs.Prelude.{false};
+ghost use Rattle.der.specs.Prelude.{map_ok};
+ghost use Rattle.der_asn1.specs.Meaning.{alternative, choice_of, either};
+
+use der::{Decode, Encode, Error, FromFields, Length, Reader, SliceReader, Tag, Writer};
+use der_asn1::{
+    Choice, Described, DescribedChoice, Either, PrintableStringRef, TeletexStringRef,
+    Utf8StringRef, decode_choice,
+};
+use std::alloc::Global;
+
+// Some alternatives of a DirectoryString.
+#[derive(Drop)]
+pub(crate) struct DirectoryStringPart1<'a> {
+    pub(crate) choice: DirectoryStringPart1Alternatives<'a>,
+}
+
+// The alternatives, as nested choices of two.
+pub(crate) type DirectoryStringPart1Alternatives<'a> = Either<
+    TeletexStringRef<'a>,
+    Either<PrintableStringRef<'a>, Utf8StringRef<'a>>,
+>;
+
+impl<'a> FromFields<DirectoryStringPart1Alternatives<'a>> for DirectoryStringPart1<'a> {
+    ghost fields = { λ v. v.choice };
+
+    fn from_fields(choice: DirectoryStringPart1Alternatives<'a>) -> Self {
+        DirectoryStringPart1 { choice }
+    }
+}
+
+impl<'a> DescribedChoice for DirectoryStringPart1<'a> {
+    ghost alternative = { choice_of (either (alternative
+        ⟦<TeletexStringRef<'a> as Described>⟧.element) (either (alternative
+        ⟦<PrintableStringRef<'a> as Described>⟧.element) (alternative
+        ⟦<Utf8StringRef<'a> as Described>⟧.element))) (λ v. v.choice) };
+}
+
+impl<'a, R: Reader<Borrowed = &'a [u8]>> Decode<R> for DirectoryStringPart1<'a> {
+    type Error = Error;
+
+    ghost is_next = { ⟦<DirectoryStringPart1<'a> as DescribedChoice>⟧.alternative.is_next };
+
+    ghost decode_levels = { ⟦<DirectoryStringPart1<'a> as DescribedChoice>⟧.alternative.levels };
+
+    ghost allocates = { false };
+
+    ghost decode_answers = { λ s result t.
+        ⟦<DirectoryStringPart1Alternatives<'a> as Decode<SliceReader<'a>>>⟧.decode_answers s
+        (map_ok (λ v. v.choice) result) t };
+
+    #[inline(always)]
+    fn decode(alloc: Global, reader: &mut R) -> Result<Self, Error> {
+        decode_choice::<R, DirectoryStringPart1Alternatives<'a>, Self>(alloc, reader)
+    }
+}
+
+impl<'a, R: Reader<Borrowed = &'a [u8]>> Choice<R> for DirectoryStringPart1<'a> {
+    ghost chooses = { ⟦<DirectoryStringPart1<'a> as DescribedChoice>⟧.alternative.tags };
+
+    #[inline(always)]
+    fn can_decode(tag: Tag) -> bool {
+        <DirectoryStringPart1Alternatives<'a> as Choice<R>>::can_decode(tag)
+    }
+
+    ghost begins = { ⟦<DirectoryStringPart1<'a> as DescribedChoice>⟧.alternative.begins };
+}
+
+impl<'a> Encode for DirectoryStringPart1<'a> {
+    ghost encoding = { λ v. ⟦<DirectoryStringPart1Alternatives<'a> as Encode>⟧.encoding v.choice };
+
+    ghost encodable = { λ v.
+        ⟦<DirectoryStringPart1Alternatives<'a> as Encode>⟧.encodable v.choice };
+
+    ghost size = { λ v. ⟦<DirectoryStringPart1Alternatives<'a> as Encode>⟧.size v.choice };
+
+    ghost encode_answers = { λ v.
+        ⟦<DirectoryStringPart1Alternatives<'a> as Encode>⟧.encode_answers v.choice };
+
+    #[inline(always)]
+    fn encoded_len(&self) -> Result<Length, Error> {
+        self.choice.encoded_len()
+    }
+
+    #[inline(always)]
+    fn encode<W: Writer>(&self, writer: &mut W) -> Result<(), Error> {
+        self.choice.encode(writer)
+    }
+}

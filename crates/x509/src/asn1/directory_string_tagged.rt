@@ -1,0 +1,111 @@
+//! Written by asn1_compile from the module X509: change the module instead.
+//!
+//! DirectoryStringTagged.
+ghost use Rattle.std.specs.Prelude.{◌≡◌};
+ghost use Rattle.std.proofs.Common.{arith, refl};
+ghost use Rattle.der.specs.Prelude.{map_ok};
+ghost use Rattle.der_asn1.specs.Item.{decodes_same};
+ghost use Rattle.der_asn1.specs.Meaning.{alternative, field, sequence, sequence_is_item, sequence_item};
+
+use crate::asn1::directory_string::DirectoryString;
+use der::{
+    Decode, DecodeValue, Encode, EncodeValue, Error, FromFields, Header, Length, Reader, Sequence,
+    SliceReader, Writer, decode_sequence, field_refs,
+};
+use der_asn1::{
+    BmpStringRef, BorrowedItem, DecodeItem, Described, DescribedChoice, Item, Nestable,
+    PrintableStringRef, TeletexStringRef, Utf8StringRef,
+};
+use std::alloc::Global;
+
+/// What an explicit tag has in it: a [`DirectoryString`].
+#[derive(Clone, Copy, Drop)]
+pub struct DirectoryStringTagged<'a> {
+    /// The value behind the tag.
+    pub value: DirectoryString<'a>,
+}
+
+/// The fields of a [`DirectoryStringTagged`] in pairs, in the order in which they are encoded.
+pub type DirectoryStringTaggedFields<'a> = DirectoryString<'a>;
+
+impl<'a> FromFields<DirectoryStringTaggedFields<'a>> for DirectoryStringTagged<'a> {
+    ghost fields = { λ v. v.value };
+
+    fn from_fields(members: DirectoryStringTaggedFields<'a>) -> Self {
+        let value = members;
+        DirectoryStringTagged { value }
+    }
+}
+
+impl<'a> Sequence for DirectoryStringTagged<'a> {
+    ghost meaning = { sequence (field ⟦<DirectoryString<'a> as DescribedChoice>⟧.alternative)
+        ⟦<DirectoryStringTagged<'a> as FromFields<DirectoryStringTaggedFields<'a>>>⟧.fields };
+
+    ghost fits = { (refl, refl) };
+}
+
+/// Decodes the fields one after the other, with the errors of every [`Sequence`].
+impl<'a, R: Reader<Borrowed = &'a [u8]>> DecodeValue<R> for DirectoryStringTagged<'a> {
+    type Error = Error;
+
+    ghost decode_value_answers = { λ h s result t.
+        ⟦<DirectoryStringTaggedFields<'a> as Decode<SliceReader<'a>>>⟧.decode_answers s (map_ok
+        ⟦<DirectoryStringTagged<'a> as FromFields<DirectoryStringTaggedFields<'a>>>⟧.fields result) t };
+
+    fn decode_value(alloc: Global, reader: &mut R, header: Header) -> Result<Self, Error> {
+        decode_sequence::<R, DirectoryStringTaggedFields<'a>, Self>(alloc, reader, header)
+    }
+
+    fn is_value(&self) {
+        match &self.value {
+            DirectoryString::TeletexString(value) => <TeletexStringRef<'a> as DecodeValue<
+                R,
+            >>::is_value(value),
+            DirectoryString::PrintableString(value) => <PrintableStringRef<'a> as DecodeValue<
+                R,
+            >>::is_value(value),
+            DirectoryString::Utf8String(value) => <Utf8StringRef<'a> as DecodeValue<R>>::is_value(
+                value,
+            ),
+            DirectoryString::BmpString(value) => <BmpStringRef<'a> as DecodeValue<R>>::is_value(
+                value,
+            ),
+        }
+    }
+}
+
+/// Writes the fields one after the other, with the errors of every [`Sequence`].
+impl<'a> EncodeValue for DirectoryStringTagged<'a> {
+    ghost value_size = { λ v. ⟦<DirectoryStringTaggedFields<'a> as Encode>⟧.size
+        (⟦<DirectoryStringTagged<'a> as FromFields<DirectoryStringTaggedFields<'a>>>⟧.fields v) };
+
+    ghost encode_value_answers = { λ v. ⟦<DirectoryStringTaggedFields<'a> as Encode>⟧.encode_answers
+        (⟦<DirectoryStringTagged<'a> as FromFields<DirectoryStringTaggedFields<'a>>>⟧.fields v) };
+
+    fn value_len(&self) -> Result<Length, Error> {
+        field_refs!(self, value).encoded_len()
+    }
+
+    fn encode_value<W: Writer>(&self, writer: &mut W) -> Result<(), Error> {
+        field_refs!(self, value).encode(writer)
+    }
+}
+
+impl<'a> Item for DirectoryStringTagged<'a> {
+    ghost item = { sequence_item ⟦<DirectoryStringTagged<'a> as Described>⟧.element };
+}
+
+impl<'a, R: Reader<Borrowed = &'a [u8]>> DecodeItem<R> for DirectoryStringTagged<'a> {
+    ghost is_item = { sequence_is_item ⟦<DirectoryStringTagged<'a> as Described>⟧.element refl };
+
+    ghost decodes_items = { decodes_same (sequence_item
+        ⟦<DirectoryStringTagged<'a> as Described>⟧.element) };
+}
+
+impl<'a> BorrowedItem for DirectoryStringTagged<'a> {
+    ghost borrowed = { refl };
+}
+
+impl<'a> Nestable for DirectoryStringTagged<'a> {
+    ghost nestable = { Prim.omega arith };
+}

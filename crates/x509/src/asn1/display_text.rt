@@ -1,0 +1,149 @@
+//! Written by asn1_compile from the module X509: change the module instead.
+//!
+//! DisplayText.
+ghost use Rattle.std.specs.Prelude.{false};
+ghost use Rattle.std.proofs.Common.{refl};
+ghost use Rattle.der.specs.Prelude.{map_ok};
+ghost use Rattle.der_asn1.specs.Item.{decodes_same};
+ghost use Rattle.der_asn1.specs.Meaning.{alternative, choice_is_item, choice_item, choice_of, either};
+ghost use Rattle.der_asn1.specs.declared.either.Either.TheVariants.{First, Second};
+ghost use Rattle.x509.specs.declared.asn1.display_text.DisplayText.TheVariants as variant;
+
+use crate::asn1::display_text_part1::DisplayTextPart1;
+use crate::asn1::display_text_part2::DisplayTextPart2;
+use der::{Decode, Encode, Error, FromFields, Length, Reader, SliceReader, Tag, Writer};
+use der_asn1::{
+    BmpStringRef, BorrowedItem, Choice, DecodeItem, DescribedChoice, Either, Ia5StringRef, Item,
+    Utf8StringRef, VisibleStringRef, decode_choice,
+};
+use std::alloc::Global;
+
+/// A text of a notice (RFC 5280, 4.2.1.4), borrowed from the input. That it has 1 to 200 characters
+/// is not checked.
+#[derive(Clone, Copy, Drop)]
+pub enum DisplayText<'a> {
+    /// ia5String
+    Ia5String(Ia5StringRef<'a>),
+    /// visibleString
+    VisibleString(VisibleStringRef<'a>),
+    /// bmpString
+    BmpString(BmpStringRef<'a>),
+    /// utf8String
+    Utf8String(Utf8StringRef<'a>),
+}
+
+// The alternatives, as nested choices of two.
+pub(crate) type DisplayTextAlternatives<'a> = Either<DisplayTextPart1<'a>, DisplayTextPart2<'a>>;
+
+impl<'a> FromFields<DisplayTextAlternatives<'a>> for DisplayText<'a> {
+    ghost fields = { elim [
+      | variant.Ia5String v ↦ First ((record { choice = First (v) }))
+      | variant.VisibleString v ↦ First ((record { choice = Second (First (v)) }))
+      | variant.BmpString v ↦ First ((record { choice = Second (Second (v)) }))
+      | variant.Utf8String v ↦ Second ((record { choice = v }))
+    ] };
+
+    fn from_fields(alternatives: DisplayTextAlternatives<'a>) -> Self {
+        match alternatives {
+            Either::First(
+                DisplayTextPart1 {
+                    choice: Either::First(value),
+                },
+            ) => DisplayText::Ia5String(value),
+            Either::First(
+                DisplayTextPart1 {
+                    choice: Either::Second(Either::First(value)),
+                },
+            ) => DisplayText::VisibleString(value),
+            Either::First(
+                DisplayTextPart1 {
+                    choice: Either::Second(Either::Second(value)),
+                },
+            ) => DisplayText::BmpString(value),
+            Either::Second(DisplayTextPart2 { choice: value }) => DisplayText::Utf8String(value),
+        }
+    }
+}
+
+impl<'a> DescribedChoice for DisplayText<'a> {
+    ghost alternative = { choice_of (either ⟦<DisplayTextPart1<'a> as DescribedChoice>⟧.alternative
+        ⟦<DisplayTextPart2<'a> as DescribedChoice>⟧.alternative)
+        ⟦<DisplayText<'a> as FromFields<DisplayTextAlternatives<'a>>>⟧.fields };
+}
+
+/// Decodes the alternative whose tag is next, with the errors of [`Either`].
+impl<'a, R: Reader<Borrowed = &'a [u8]>> Decode<R> for DisplayText<'a> {
+    type Error = Error;
+
+    ghost is_next = { ⟦<DisplayText<'a> as DescribedChoice>⟧.alternative.is_next };
+
+    ghost decode_levels = { ⟦<DisplayText<'a> as DescribedChoice>⟧.alternative.levels };
+
+    ghost allocates = { false };
+
+    ghost decode_answers = { λ s result t.
+        ⟦<DisplayTextAlternatives<'a> as Decode<SliceReader<'a>>>⟧.decode_answers s
+        (map_ok ⟦<DisplayText<'a> as FromFields<DisplayTextAlternatives<'a>>>⟧.fields result) t };
+
+    fn decode(alloc: Global, reader: &mut R) -> Result<Self, Error> {
+        decode_choice::<R, DisplayTextAlternatives<'a>, Self>(alloc, reader)
+    }
+}
+
+impl<'a, R: Reader<Borrowed = &'a [u8]>> Choice<R> for DisplayText<'a> {
+    ghost chooses = { ⟦<DisplayText<'a> as DescribedChoice>⟧.alternative.tags };
+
+    fn can_decode(tag: Tag) -> bool {
+        <DisplayTextAlternatives<'a> as Choice<R>>::can_decode(tag)
+    }
+
+    ghost begins = { ⟦<DisplayText<'a> as DescribedChoice>⟧.alternative.begins };
+}
+
+/// Writes the alternative that the value has.
+impl<'a> Encode for DisplayText<'a> {
+    ghost encoding = { λ v. ⟦<DisplayTextAlternatives<'a> as Encode>⟧.encoding
+        (⟦<DisplayText<'a> as FromFields<DisplayTextAlternatives<'a>>>⟧.fields v) };
+
+    ghost encodable = { λ v. ⟦<DisplayTextAlternatives<'a> as Encode>⟧.encodable
+        (⟦<DisplayText<'a> as FromFields<DisplayTextAlternatives<'a>>>⟧.fields v) };
+
+    ghost size = { λ v. ⟦<DisplayTextAlternatives<'a> as Encode>⟧.size
+        (⟦<DisplayText<'a> as FromFields<DisplayTextAlternatives<'a>>>⟧.fields v) };
+
+    ghost encode_answers = { λ v. ⟦<DisplayTextAlternatives<'a> as Encode>⟧.encode_answers
+        (⟦<DisplayText<'a> as FromFields<DisplayTextAlternatives<'a>>>⟧.fields v) };
+
+    fn encoded_len(&self) -> Result<Length, Error> {
+        match self {
+            DisplayText::Ia5String(value) => value.encoded_len(),
+            DisplayText::VisibleString(value) => value.encoded_len(),
+            DisplayText::BmpString(value) => value.encoded_len(),
+            DisplayText::Utf8String(value) => value.encoded_len(),
+        }
+    }
+
+    fn encode<W: Writer>(&self, writer: &mut W) -> Result<(), Error> {
+        match self {
+            DisplayText::Ia5String(value) => value.encode(writer),
+            DisplayText::VisibleString(value) => value.encode(writer),
+            DisplayText::BmpString(value) => value.encode(writer),
+            DisplayText::Utf8String(value) => value.encode(writer),
+        }
+    }
+}
+
+impl<'a> Item for DisplayText<'a> {
+    ghost item = { choice_item ⟦<DisplayText<'a> as DescribedChoice>⟧.alternative };
+}
+
+impl<'a, R: Reader<Borrowed = &'a [u8]>> DecodeItem<R> for DisplayText<'a> {
+    ghost is_item = { choice_is_item ⟦<DisplayText<'a> as DescribedChoice>⟧.alternative refl };
+
+    ghost decodes_items = { decodes_same (choice_item
+        ⟦<DisplayText<'a> as DescribedChoice>⟧.alternative) };
+}
+
+impl<'a> BorrowedItem for DisplayText<'a> {
+    ghost borrowed = { refl };
+}

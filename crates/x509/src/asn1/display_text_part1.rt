@@ -1,0 +1,90 @@
+//! Written by asn1_compile from the module X509: change the module instead.
+//!
+//! DisplayTextPart1.
+ghost use Rattle.std.specs.Prelude.{false};
+ghost use Rattle.der.specs.Prelude.{map_ok};
+ghost use Rattle.der_asn1.specs.Meaning.{alternative, choice_of, either};
+
+use der::{Decode, Encode, Error, FromFields, Length, Reader, SliceReader, Tag, Writer};
+use der_asn1::{
+    BmpStringRef, Choice, Described, DescribedChoice, Either, Ia5StringRef, VisibleStringRef,
+    decode_choice,
+};
+use std::alloc::Global;
+
+// Some alternatives of a DisplayText.
+#[derive(Drop)]
+pub(crate) struct DisplayTextPart1<'a> {
+    pub(crate) choice: DisplayTextPart1Alternatives<'a>,
+}
+
+// The alternatives, as nested choices of two.
+pub(crate) type DisplayTextPart1Alternatives<'a> = Either<
+    Ia5StringRef<'a>,
+    Either<VisibleStringRef<'a>, BmpStringRef<'a>>,
+>;
+
+impl<'a> FromFields<DisplayTextPart1Alternatives<'a>> for DisplayTextPart1<'a> {
+    ghost fields = { λ v. v.choice };
+
+    fn from_fields(choice: DisplayTextPart1Alternatives<'a>) -> Self {
+        DisplayTextPart1 { choice }
+    }
+}
+
+impl<'a> DescribedChoice for DisplayTextPart1<'a> {
+    ghost alternative = { choice_of (either (alternative ⟦<Ia5StringRef<'a> as Described>⟧.element)
+        (either (alternative ⟦<VisibleStringRef<'a> as Described>⟧.element) (alternative
+        ⟦<BmpStringRef<'a> as Described>⟧.element))) (λ v. v.choice) };
+}
+
+impl<'a, R: Reader<Borrowed = &'a [u8]>> Decode<R> for DisplayTextPart1<'a> {
+    type Error = Error;
+
+    ghost is_next = { ⟦<DisplayTextPart1<'a> as DescribedChoice>⟧.alternative.is_next };
+
+    ghost decode_levels = { ⟦<DisplayTextPart1<'a> as DescribedChoice>⟧.alternative.levels };
+
+    ghost allocates = { false };
+
+    ghost decode_answers = { λ s result t.
+        ⟦<DisplayTextPart1Alternatives<'a> as Decode<SliceReader<'a>>>⟧.decode_answers s
+        (map_ok (λ v. v.choice) result) t };
+
+    #[inline(always)]
+    fn decode(alloc: Global, reader: &mut R) -> Result<Self, Error> {
+        decode_choice::<R, DisplayTextPart1Alternatives<'a>, Self>(alloc, reader)
+    }
+}
+
+impl<'a, R: Reader<Borrowed = &'a [u8]>> Choice<R> for DisplayTextPart1<'a> {
+    ghost chooses = { ⟦<DisplayTextPart1<'a> as DescribedChoice>⟧.alternative.tags };
+
+    #[inline(always)]
+    fn can_decode(tag: Tag) -> bool {
+        <DisplayTextPart1Alternatives<'a> as Choice<R>>::can_decode(tag)
+    }
+
+    ghost begins = { ⟦<DisplayTextPart1<'a> as DescribedChoice>⟧.alternative.begins };
+}
+
+impl<'a> Encode for DisplayTextPart1<'a> {
+    ghost encoding = { λ v. ⟦<DisplayTextPart1Alternatives<'a> as Encode>⟧.encoding v.choice };
+
+    ghost encodable = { λ v. ⟦<DisplayTextPart1Alternatives<'a> as Encode>⟧.encodable v.choice };
+
+    ghost size = { λ v. ⟦<DisplayTextPart1Alternatives<'a> as Encode>⟧.size v.choice };
+
+    ghost encode_answers = { λ v.
+        ⟦<DisplayTextPart1Alternatives<'a> as Encode>⟧.encode_answers v.choice };
+
+    #[inline(always)]
+    fn encoded_len(&self) -> Result<Length, Error> {
+        self.choice.encoded_len()
+    }
+
+    #[inline(always)]
+    fn encode<W: Writer>(&self, writer: &mut W) -> Result<(), Error> {
+        self.choice.encode(writer)
+    }
+}

@@ -1,0 +1,107 @@
+//! Written by asn1_compile from the module X509: change the module instead.
+//!
+//! DistributionPointNameTagged.
+ghost use Rattle.std.specs.Prelude.{◌≡◌};
+ghost use Rattle.std.proofs.Common.{arith, refl};
+ghost use Rattle.der.specs.Prelude.{map_ok};
+ghost use Rattle.der_asn1.specs.Item.{decodes_same};
+ghost use Rattle.der_asn1.specs.Meaning.{alternative, field, sequence, sequence_is_item, sequence_item};
+
+use crate::asn1::distribution_point_name::DistributionPointName;
+use crate::asn1::general_names::GeneralNames;
+use crate::asn1::relative_distinguished_name::RelativeDistinguishedName;
+use der::{
+    Decode, DecodeValue, Encode, EncodeValue, Error, FromFields, Header, Length, Reader, Sequence,
+    SliceReader, Writer, decode_sequence, field_refs,
+};
+use der_asn1::{BorrowedItem, DecodeItem, Described, DescribedChoice, Implicit, Item, Nestable};
+use std::alloc::Global;
+
+/// What an explicit tag has in it: a [`DistributionPointName`].
+#[derive(Clone, Copy, Drop)]
+pub struct DistributionPointNameTagged<'a> {
+    /// The value behind the tag.
+    pub value: DistributionPointName<'a>,
+}
+
+/// The fields of a [`DistributionPointNameTagged`] in pairs, in the order in which they are encoded.
+pub type DistributionPointNameTaggedFields<'a> = DistributionPointName<'a>;
+
+impl<'a> FromFields<DistributionPointNameTaggedFields<'a>> for DistributionPointNameTagged<'a> {
+    ghost fields = { λ v. v.value };
+
+    fn from_fields(members: DistributionPointNameTaggedFields<'a>) -> Self {
+        let value = members;
+        DistributionPointNameTagged { value }
+    }
+}
+
+impl<'a> Sequence for DistributionPointNameTagged<'a> {
+    ghost meaning = { sequence (field ⟦<DistributionPointName<'a> as DescribedChoice>⟧.alternative)
+        ⟦<DistributionPointNameTagged<'a> as FromFields<DistributionPointNameTaggedFields<'a>>>⟧.fields };
+
+    ghost fits = { (refl, refl) };
+}
+
+/// Decodes the fields one after the other, with the errors of every [`Sequence`].
+impl<'a, R: Reader<Borrowed = &'a [u8]>> DecodeValue<R> for DistributionPointNameTagged<'a> {
+    type Error = Error;
+
+    ghost decode_value_answers = { λ h s result t.
+        ⟦<DistributionPointNameTaggedFields<'a> as Decode<SliceReader<'a>>>⟧.decode_answers s (map_ok
+        ⟦<DistributionPointNameTagged<'a> as FromFields<DistributionPointNameTaggedFields<'a>>>⟧.fields result) t };
+
+    fn decode_value(alloc: Global, reader: &mut R, header: Header) -> Result<Self, Error> {
+        decode_sequence::<R, DistributionPointNameTaggedFields<'a>, Self>(alloc, reader, header)
+    }
+
+    fn is_value(&self) {
+        match &self.value {
+            DistributionPointName::FullName(value) => <Implicit<GeneralNames<'a>, 0> as DecodeValue<
+                R,
+            >>::is_value(value),
+            DistributionPointName::NameRelativeToCrlIssuer(value) => <Implicit<
+                RelativeDistinguishedName<'a>,
+                1,
+            > as DecodeValue<R>>::is_value(value),
+        }
+    }
+}
+
+/// Writes the fields one after the other, with the errors of every [`Sequence`].
+impl<'a> EncodeValue for DistributionPointNameTagged<'a> {
+    ghost value_size = { λ v. ⟦<DistributionPointNameTaggedFields<'a> as Encode>⟧.size
+        (⟦<DistributionPointNameTagged<'a> as FromFields<DistributionPointNameTaggedFields<'a>>>⟧.fields v) };
+
+    ghost encode_value_answers = { λ v.
+        ⟦<DistributionPointNameTaggedFields<'a> as Encode>⟧.encode_answers
+        (⟦<DistributionPointNameTagged<'a> as FromFields<DistributionPointNameTaggedFields<'a>>>⟧.fields v) };
+
+    fn value_len(&self) -> Result<Length, Error> {
+        field_refs!(self, value).encoded_len()
+    }
+
+    fn encode_value<W: Writer>(&self, writer: &mut W) -> Result<(), Error> {
+        field_refs!(self, value).encode(writer)
+    }
+}
+
+impl<'a> Item for DistributionPointNameTagged<'a> {
+    ghost item = { sequence_item ⟦<DistributionPointNameTagged<'a> as Described>⟧.element };
+}
+
+impl<'a, R: Reader<Borrowed = &'a [u8]>> DecodeItem<R> for DistributionPointNameTagged<'a> {
+    ghost is_item = { sequence_is_item
+        ⟦<DistributionPointNameTagged<'a> as Described>⟧.element refl };
+
+    ghost decodes_items = { decodes_same (sequence_item
+        ⟦<DistributionPointNameTagged<'a> as Described>⟧.element) };
+}
+
+impl<'a> BorrowedItem for DistributionPointNameTagged<'a> {
+    ghost borrowed = { refl };
+}
+
+impl<'a> Nestable for DistributionPointNameTagged<'a> {
+    ghost nestable = { Prim.omega arith };
+}

@@ -1,0 +1,109 @@
+//! Written by asn1_compile from the module X509: change the module instead.
+//!
+//! EdiPartyName.
+ghost use Rattle.std.specs.Prelude.{◌≡◌};
+ghost use Rattle.std.proofs.Common.{arith, refl};
+ghost use Rattle.der.specs.Prelude.{map_ok};
+ghost use Rattle.der_asn1.specs.Item.{decodes_same};
+ghost use Rattle.der_asn1.specs.Meaning.{alternative, field, optional, sequence, sequence_is_item, sequence_item, two_fields};
+
+use crate::asn1::directory_string_tagged::DirectoryStringTagged;
+use der::{
+    Decode, DecodeValue, Encode, EncodeValue, Error, FromFields, Header, Length, Reader, Sequence,
+    SliceReader, Writer, decode_sequence, field_refs,
+};
+use der_asn1::{BorrowedItem, DecodeItem, Described, Implicit, Item, Nestable, Optional};
+use std::alloc::Global;
+
+/// The name of one party in an exchange of business data (RFC 5280, 4.2.1.6), borrowed from the
+/// input.
+#[derive(Clone, Copy, Drop)]
+pub struct EdiPartyName<'a> {
+    /// Who assigned the name, if present.
+    pub name_assigner: Optional<Implicit<DirectoryStringTagged<'a>, 0>>,
+    /// The name.
+    pub party_name: Implicit<DirectoryStringTagged<'a>, 1>,
+}
+
+/// The fields of a [`EdiPartyName`] in pairs, in the order in which they are encoded.
+pub type EdiPartyNameFields<'a> = (
+    Optional<Implicit<DirectoryStringTagged<'a>, 0>>,
+    Implicit<DirectoryStringTagged<'a>, 1>,
+);
+
+impl<'a> FromFields<EdiPartyNameFields<'a>> for EdiPartyName<'a> {
+    ghost fields = { λ v. (v.name_assigner, v.party_name) };
+
+    fn from_fields(members: EdiPartyNameFields<'a>) -> Self {
+        let (name_assigner, party_name) = members;
+        EdiPartyName {
+            name_assigner,
+            party_name,
+        }
+    }
+}
+
+impl<'a> Sequence for EdiPartyName<'a> {
+    ghost meaning = { sequence (two_fields (optional (alternative
+        ⟦<Implicit<DirectoryStringTagged<'a>, 0> as Described>⟧.element)) (field (alternative
+        ⟦<Implicit<DirectoryStringTagged<'a>, 1> as Described>⟧.element)))
+        ⟦<EdiPartyName<'a> as FromFields<EdiPartyNameFields<'a>>>⟧.fields };
+
+    ghost fits = { (refl, refl) };
+}
+
+/// Decodes the fields one after the other, with the errors of every [`Sequence`].
+impl<'a, R: Reader<Borrowed = &'a [u8]>> DecodeValue<R> for EdiPartyName<'a> {
+    type Error = Error;
+
+    ghost decode_value_answers = { λ h s result t.
+        ⟦<EdiPartyNameFields<'a> as Decode<SliceReader<'a>>>⟧.decode_answers s (map_ok
+        ⟦<EdiPartyName<'a> as FromFields<EdiPartyNameFields<'a>>>⟧.fields result) t };
+
+    fn decode_value(alloc: Global, reader: &mut R, header: Header) -> Result<Self, Error> {
+        decode_sequence::<R, EdiPartyNameFields<'a>, Self>(alloc, reader, header)
+    }
+
+    fn is_value(&self) {
+        if let Some(value) = &self.name_assigner.0 {
+            <Implicit<DirectoryStringTagged<'a>, 0> as DecodeValue<R>>::is_value(value);
+        }
+        <Implicit<DirectoryStringTagged<'a>, 1> as DecodeValue<R>>::is_value(&self.party_name);
+    }
+}
+
+/// Writes the fields one after the other, with the errors of every [`Sequence`].
+impl<'a> EncodeValue for EdiPartyName<'a> {
+    ghost value_size = { λ v. ⟦<EdiPartyNameFields<'a> as Encode>⟧.size
+        (⟦<EdiPartyName<'a> as FromFields<EdiPartyNameFields<'a>>>⟧.fields v) };
+
+    ghost encode_value_answers = { λ v. ⟦<EdiPartyNameFields<'a> as Encode>⟧.encode_answers
+        (⟦<EdiPartyName<'a> as FromFields<EdiPartyNameFields<'a>>>⟧.fields v) };
+
+    fn value_len(&self) -> Result<Length, Error> {
+        field_refs!(self, (name_assigner, party_name)).encoded_len()
+    }
+
+    fn encode_value<W: Writer>(&self, writer: &mut W) -> Result<(), Error> {
+        field_refs!(self, (name_assigner, party_name)).encode(writer)
+    }
+}
+
+impl<'a> Item for EdiPartyName<'a> {
+    ghost item = { sequence_item ⟦<EdiPartyName<'a> as Described>⟧.element };
+}
+
+impl<'a, R: Reader<Borrowed = &'a [u8]>> DecodeItem<R> for EdiPartyName<'a> {
+    ghost is_item = { sequence_is_item ⟦<EdiPartyName<'a> as Described>⟧.element refl };
+
+    ghost decodes_items = { decodes_same (sequence_item
+        ⟦<EdiPartyName<'a> as Described>⟧.element) };
+}
+
+impl<'a> BorrowedItem for EdiPartyName<'a> {
+    ghost borrowed = { refl };
+}
+
+impl<'a> Nestable for EdiPartyName<'a> {
+    ghost nestable = { Prim.omega arith };
+}

@@ -1,0 +1,175 @@
+//! Written by asn1_compile from the module X509: change the module instead.
+//!
+//! GeneralSubtree.
+ghost use Rattle.std.specs.Prelude.{◌≡◌};
+ghost use Rattle.std.proofs.Common.{arith, refl};
+ghost use Rattle.der.specs.Prelude.{map_ok};
+ghost use Rattle.der_asn1.specs.Item.{decodes_same};
+ghost use Rattle.der_asn1.specs.Meaning.{alternative, defaulted, field, optional, seen, sequence, sequence_is_item, sequence_item, two_fields};
+
+use crate::asn1::base_distance::BaseDistance;
+use crate::asn1::edi_party_name::EdiPartyName;
+use crate::asn1::general_name::GeneralName;
+use crate::asn1::general_subtree_part1::{GeneralSubtreePart1, GeneralSubtreePart1Fields};
+use crate::asn1::general_subtree_part2::{GeneralSubtreePart2, GeneralSubtreePart2Fields};
+use crate::asn1::name::Name;
+use crate::asn1::other_name::OtherName;
+use der::{
+    Decode, DecodeValue, Encode, EncodeValue, Error, FromFields, Header, Length, Reader, Sequence,
+    SliceReader, Writer, decode_sequence, field_refs,
+};
+use der_asn1::{
+    BorrowedItem, DecodeItem, DefaultU64, DefaultValue, Defaulted, Described, DescribedChoice,
+    Explicit, Ia5StringRef, Implicit, IntegerOf, Item, Nestable, ObjectIdentifierRef,
+    OctetStringRef, Optional, SequenceRef, WithDefault,
+};
+use std::alloc::Global;
+
+/// All names below a name (RFC 5280, 4.2.1.10), borrowed from the input.
+#[derive(Clone, Copy, Drop)]
+pub struct GeneralSubtree<'a> {
+    /// The name.
+    pub base: GeneralName<'a>,
+    /// From which level below the name, as a `u64`. The default is 0, and the RFC allows no other
+    /// number, but decoding does not check this.
+    pub minimum: Defaulted<Implicit<WithDefault<IntegerOf<u64>, DefaultU64<0>>, 0>>,
+    /// To which level below the name, if it is limited. The RFC does not allow a limit, but decoding
+    /// does not check this.
+    pub maximum: Optional<Implicit<BaseDistance<'a>, 1>>,
+}
+
+/// The fields of a [`GeneralSubtree`] in pairs, in the order in which they are encoded.
+pub type GeneralSubtreeFields<'a> = (GeneralSubtreePart1Fields<'a>, GeneralSubtreePart2Fields<'a>);
+
+impl<'a> FromFields<(GeneralSubtreePart1<'a>, GeneralSubtreePart2<'a>)> for GeneralSubtree<'a> {
+    ghost fields = { λ v. (
+      record {
+        base = v.base;
+        minimum = v.minimum;
+      },
+      record { maximum = v.maximum },
+    ) };
+
+    fn from_fields(members: (GeneralSubtreePart1<'a>, GeneralSubtreePart2<'a>)) -> Self {
+        let (part1, part2) = members;
+        GeneralSubtree {
+            base: part1.base,
+            minimum: part1.minimum,
+            maximum: part2.maximum,
+        }
+    }
+}
+
+impl<'a> Sequence for GeneralSubtree<'a> {
+    ghost meaning = { sequence (two_fields (seen
+        ⟦<GeneralSubtreePart1<'a> as FromFields<GeneralSubtreePart1Fields<'a>>>⟧.fields (two_fields
+        (field ⟦<GeneralName<'a> as DescribedChoice>⟧.alternative) (defaulted
+        ⟦<Implicit<WithDefault<IntegerOf<u64>, DefaultU64<0>>, 0> as DefaultValue>⟧.is_default
+        (alternative
+        ⟦<Implicit<WithDefault<IntegerOf<u64>, DefaultU64<0>>, 0> as Described>⟧.element)))) (seen
+        ⟦<GeneralSubtreePart2<'a> as FromFields<GeneralSubtreePart2Fields<'a>>>⟧.fields (optional
+        (alternative ⟦<Implicit<BaseDistance<'a>, 1> as Described>⟧.element))))
+        ⟦<GeneralSubtree<'a> as FromFields<(GeneralSubtreePart1<'a>, GeneralSubtreePart2<'a>)>>⟧.fields };
+
+    ghost fits = { (refl, refl) };
+}
+
+/// Decodes the fields one after the other, with the errors of every [`Sequence`].
+impl<'a, R: Reader<Borrowed = &'a [u8]>> DecodeValue<R> for GeneralSubtree<'a> {
+    type Error = Error;
+
+    ghost decode_value_answers = { λ h s result t.
+        ⟦<(GeneralSubtreePart1<'a>, GeneralSubtreePart2<'a>) as Decode<SliceReader<'a>>>⟧.decode_answers s
+        (map_ok
+        ⟦<GeneralSubtree<'a> as FromFields<(GeneralSubtreePart1<'a>, GeneralSubtreePart2<'a>)>>⟧.fields result) t };
+
+    fn decode_value(alloc: Global, reader: &mut R, header: Header) -> Result<Self, Error> {
+        decode_sequence::<R, (GeneralSubtreePart1<'a>, GeneralSubtreePart2<'a>), Self>(
+            alloc, reader, header,
+        )
+    }
+
+    fn is_value(&self) {
+        match &self.base {
+            GeneralName::OtherName(value) => <Implicit<OtherName<'a>, 0> as DecodeValue<
+                R,
+            >>::is_value(value),
+            GeneralName::Rfc822Name(value) => <Implicit<Ia5StringRef<'a>, 1> as DecodeValue<
+                R,
+            >>::is_value(value),
+            GeneralName::DnsName(value) => <Implicit<Ia5StringRef<'a>, 2> as DecodeValue<
+                R,
+            >>::is_value(value),
+            GeneralName::X400Address(value) => <Implicit<SequenceRef<'a>, 3> as DecodeValue<
+                R,
+            >>::is_value(value),
+            GeneralName::DirectoryName(value) => <Explicit<Name<'a>, 4> as DecodeValue<
+                R,
+            >>::is_value(value),
+            GeneralName::EdiPartyName(value) => <Implicit<EdiPartyName<'a>, 5> as DecodeValue<
+                R,
+            >>::is_value(value),
+            GeneralName::UniformResourceIdentifier(value) => <Implicit<
+                Ia5StringRef<'a>,
+                6,
+            > as DecodeValue<R>>::is_value(value),
+            GeneralName::IpAddress(value) => <Implicit<OctetStringRef<'a>, 7> as DecodeValue<
+                R,
+            >>::is_value(value),
+            GeneralName::RegisteredId(value) => <Implicit<
+                ObjectIdentifierRef<'a>,
+                8,
+            > as DecodeValue<R>>::is_value(value),
+        }
+        <Implicit<WithDefault<IntegerOf<u64>, DefaultU64<0>>, 0> as DecodeValue<R>>::is_value(
+            &self.minimum.0,
+        );
+        if let Some(value) = &self.maximum.0 {
+            <Implicit<BaseDistance<'a>, 1> as DecodeValue<R>>::is_value(value);
+        }
+    }
+}
+
+/// Writes the fields one after the other, with the errors of every [`Sequence`].
+impl<'a> EncodeValue for GeneralSubtree<'a> {
+    ghost value_size = { λ v. ⟦<GeneralSubtreeFields<'a> as Encode>⟧.size (
+      ⟦<GeneralSubtreePart1<'a> as FromFields<GeneralSubtreePart1Fields<'a>>>⟧.fields
+          (⟦<GeneralSubtree<'a> as FromFields<(GeneralSubtreePart1<'a>, GeneralSubtreePart2<'a>)>>⟧.fields v).0,
+      ⟦<GeneralSubtreePart2<'a> as FromFields<GeneralSubtreePart2Fields<'a>>>⟧.fields
+          (⟦<GeneralSubtree<'a> as FromFields<(GeneralSubtreePart1<'a>, GeneralSubtreePart2<'a>)>>⟧.fields v).1,
+    ) };
+
+    ghost encode_value_answers = { λ v. ⟦<GeneralSubtreeFields<'a> as Encode>⟧.encode_answers (
+      ⟦<GeneralSubtreePart1<'a> as FromFields<GeneralSubtreePart1Fields<'a>>>⟧.fields
+          (⟦<GeneralSubtree<'a> as FromFields<(GeneralSubtreePart1<'a>, GeneralSubtreePart2<'a>)>>⟧.fields v).0,
+      ⟦<GeneralSubtreePart2<'a> as FromFields<GeneralSubtreePart2Fields<'a>>>⟧.fields
+          (⟦<GeneralSubtree<'a> as FromFields<(GeneralSubtreePart1<'a>, GeneralSubtreePart2<'a>)>>⟧.fields v).1,
+    ) };
+
+    fn value_len(&self) -> Result<Length, Error> {
+        field_refs!(self, ((base, minimum), maximum)).encoded_len()
+    }
+
+    fn encode_value<W: Writer>(&self, writer: &mut W) -> Result<(), Error> {
+        field_refs!(self, ((base, minimum), maximum)).encode(writer)
+    }
+}
+
+impl<'a> Item for GeneralSubtree<'a> {
+    ghost item = { sequence_item ⟦<GeneralSubtree<'a> as Described>⟧.element };
+}
+
+impl<'a, R: Reader<Borrowed = &'a [u8]>> DecodeItem<R> for GeneralSubtree<'a> {
+    ghost is_item = { sequence_is_item ⟦<GeneralSubtree<'a> as Described>⟧.element refl };
+
+    ghost decodes_items = { decodes_same (sequence_item
+        ⟦<GeneralSubtree<'a> as Described>⟧.element) };
+}
+
+impl<'a> BorrowedItem for GeneralSubtree<'a> {
+    ghost borrowed = { refl };
+}
+
+impl<'a> Nestable for GeneralSubtree<'a> {
+    ghost nestable = { Prim.omega arith };
+}

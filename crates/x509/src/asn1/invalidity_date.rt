@@ -1,0 +1,8 @@
+//! Written by asn1_compile from the module X509: change the module instead.
+//!
+//! InvalidityDate.
+
+use der_asn1::GeneralizedTime;
+
+/// When a private key was lost or a certificate became invalid (RFC 5280, 5.3.2).
+pub type InvalidityDate = GeneralizedTime;

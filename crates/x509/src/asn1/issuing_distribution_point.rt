@@ -1,0 +1,244 @@
+//! Written by asn1_compile from the module X509: change the module instead.
+//!
+//! IssuingDistributionPoint.
+ghost use Rattle.std.specs.Prelude.{◌≡◌};
+ghost use Rattle.std.proofs.Common.{arith, refl};
+ghost use Rattle.der.specs.Prelude.{map_ok};
+ghost use Rattle.der_asn1.specs.Item.{decodes_same};
+ghost use Rattle.der_asn1.specs.Meaning.{alternative, defaulted, optional, seen, sequence, sequence_is_item, sequence_item, two_fields};
+
+use crate::asn1::distribution_point_name_tagged::DistributionPointNameTagged;
+use crate::asn1::issuing_distribution_point_part1::{
+    IssuingDistributionPointPart1, IssuingDistributionPointPart1Fields,
+};
+use crate::asn1::issuing_distribution_point_part2::{
+    IssuingDistributionPointPart2, IssuingDistributionPointPart2Fields,
+};
+use crate::asn1::issuing_distribution_point_part3::{
+    IssuingDistributionPointPart3, IssuingDistributionPointPart3Fields,
+};
+use crate::asn1::reason_flags::ReasonFlags;
+use der::{
+    Decode, DecodeValue, Encode, EncodeValue, Error, FromFields, Header, Length, Reader, Sequence,
+    SliceReader, Writer, decode_sequence, field_refs,
+};
+use der_asn1::{
+    BooleanRef, BorrowedItem, DecodeItem, DefaultValue, Defaulted, Described, Implicit, Item,
+    Nestable, Optional,
+};
+use std::alloc::Global;
+
+/// Which certificates and reasons a revocation list covers (RFC 5280, 5.2.5), borrowed from the
+/// input.
+#[derive(Clone, Copy, Drop)]
+pub struct IssuingDistributionPoint<'a> {
+    /// Where the list is found, if present.
+    pub distribution_point: Optional<Implicit<DistributionPointNameTagged<'a>, 0>>,
+    /// Whether it only covers certificates of users. The default is false.
+    pub only_contains_user_certs: Defaulted<Implicit<BooleanRef<'a>, 1>>,
+    /// Whether it only covers certificates of authorities. The default is false.
+    pub only_contains_ca_certs: Defaulted<Implicit<BooleanRef<'a>, 2>>,
+    /// The reasons that it covers, if it does not cover all.
+    pub only_some_reasons: Optional<Implicit<ReasonFlags<'a>, 3>>,
+    /// Whether it has entries for certificates of other issuers. The default is false.
+    pub indirect_crl: Defaulted<Implicit<BooleanRef<'a>, 4>>,
+    /// Whether it only covers attribute certificates. The default is false.
+    pub only_contains_attribute_certs: Defaulted<Implicit<BooleanRef<'a>, 5>>,
+}
+
+/// The fields of a [`IssuingDistributionPoint`] in pairs, in the order in which they are encoded.
+pub type IssuingDistributionPointFields<'a> = (
+    IssuingDistributionPointPart1Fields<'a>,
+    (
+        IssuingDistributionPointPart2Fields<'a>,
+        IssuingDistributionPointPart3Fields<'a>,
+    ),
+);
+
+impl<'a> FromFields<
+    (
+        IssuingDistributionPointPart1<'a>,
+        (
+            IssuingDistributionPointPart2<'a>,
+            IssuingDistributionPointPart3<'a>,
+        ),
+    ),
+> for IssuingDistributionPoint<'a> {
+    ghost fields = { λ v. (
+      record {
+        distribution_point = v.distribution_point;
+        only_contains_user_certs = v.only_contains_user_certs;
+      },
+      (
+        record {
+          only_contains_ca_certs = v.only_contains_ca_certs;
+          only_some_reasons = v.only_some_reasons;
+        },
+        record {
+          indirect_crl = v.indirect_crl;
+          only_contains_attribute_certs = v.only_contains_attribute_certs;
+        },
+      ),
+    ) };
+
+    fn from_fields(
+        members: (
+            IssuingDistributionPointPart1<'a>,
+            (
+                IssuingDistributionPointPart2<'a>,
+                IssuingDistributionPointPart3<'a>,
+            ),
+        ),
+    ) -> Self {
+        let (part1, (part2, part3)) = members;
+        IssuingDistributionPoint {
+            distribution_point: part1.distribution_point,
+            only_contains_user_certs: part1.only_contains_user_certs,
+            only_contains_ca_certs: part2.only_contains_ca_certs,
+            only_some_reasons: part2.only_some_reasons,
+            indirect_crl: part3.indirect_crl,
+            only_contains_attribute_certs: part3.only_contains_attribute_certs,
+        }
+    }
+}
+
+impl<'a> Sequence for IssuingDistributionPoint<'a> {
+    ghost meaning = { sequence (two_fields (seen
+        ⟦<IssuingDistributionPointPart1<'a> as FromFields<IssuingDistributionPointPart1Fields<'a>>>⟧.fields
+        (two_fields (optional (alternative
+        ⟦<Implicit<DistributionPointNameTagged<'a>, 0> as Described>⟧.element)) (defaulted
+        ⟦<Implicit<BooleanRef<'a>, 1> as DefaultValue>⟧.is_default (alternative
+        ⟦<Implicit<BooleanRef<'a>, 1> as Described>⟧.element)))) (two_fields (seen
+        ⟦<IssuingDistributionPointPart2<'a> as FromFields<IssuingDistributionPointPart2Fields<'a>>>⟧.fields
+        (two_fields (defaulted ⟦<Implicit<BooleanRef<'a>, 2> as DefaultValue>⟧.is_default
+        (alternative ⟦<Implicit<BooleanRef<'a>, 2> as Described>⟧.element)) (optional (alternative
+        ⟦<Implicit<ReasonFlags<'a>, 3> as Described>⟧.element)))) (seen
+        ⟦<IssuingDistributionPointPart3<'a> as FromFields<IssuingDistributionPointPart3Fields<'a>>>⟧.fields
+        (two_fields (defaulted ⟦<Implicit<BooleanRef<'a>, 4> as DefaultValue>⟧.is_default
+        (alternative ⟦<Implicit<BooleanRef<'a>, 4> as Described>⟧.element)) (defaulted
+        ⟦<Implicit<BooleanRef<'a>, 5> as DefaultValue>⟧.is_default (alternative
+        ⟦<Implicit<BooleanRef<'a>, 5> as Described>⟧.element))))))
+        ⟦<IssuingDistributionPoint<'a> as FromFields<(IssuingDistributionPointPart1<'a>,
+        (IssuingDistributionPointPart2<'a>, IssuingDistributionPointPart3<'a>))>>⟧.fields };
+
+    ghost fits = { (refl, refl) };
+}
+
+/// Decodes the fields one after the other, with the errors of every [`Sequence`].
+impl<'a, R: Reader<Borrowed = &'a [u8]>> DecodeValue<R> for IssuingDistributionPoint<'a> {
+    type Error = Error;
+
+    ghost decode_value_answers = { λ h s result t.
+        ⟦<(IssuingDistributionPointPart1<'a>,
+        (IssuingDistributionPointPart2<'a>, IssuingDistributionPointPart3<'a>)) as Decode<SliceReader<'a>>>⟧.decode_answers s
+        (map_ok ⟦<IssuingDistributionPoint<'a> as FromFields<(IssuingDistributionPointPart1<'a>,
+        (IssuingDistributionPointPart2<'a>, IssuingDistributionPointPart3<'a>))>>⟧.fields result) t };
+
+    fn decode_value(alloc: Global, reader: &mut R, header: Header) -> Result<Self, Error> {
+        decode_sequence::<
+            R,
+            (
+                IssuingDistributionPointPart1<'a>,
+                (
+                    IssuingDistributionPointPart2<'a>,
+                    IssuingDistributionPointPart3<'a>,
+                ),
+            ),
+            Self,
+        >(alloc, reader, header)
+    }
+
+    fn is_value(&self) {
+        if let Some(value) = &self.distribution_point.0 {
+            <Implicit<DistributionPointNameTagged<'a>, 0> as DecodeValue<R>>::is_value(value);
+        }
+        <Implicit<BooleanRef<'a>, 1> as DecodeValue<R>>::is_value(&self.only_contains_user_certs.0);
+        <Implicit<BooleanRef<'a>, 2> as DecodeValue<R>>::is_value(&self.only_contains_ca_certs.0);
+        if let Some(value) = &self.only_some_reasons.0 {
+            <Implicit<ReasonFlags<'a>, 3> as DecodeValue<R>>::is_value(value);
+        }
+        <Implicit<BooleanRef<'a>, 4> as DecodeValue<R>>::is_value(&self.indirect_crl.0);
+        <Implicit<BooleanRef<'a>, 5> as DecodeValue<R>>::is_value(
+            &self.only_contains_attribute_certs.0,
+        );
+    }
+}
+
+/// Writes the fields one after the other, with the errors of every [`Sequence`].
+impl<'a> EncodeValue for IssuingDistributionPoint<'a> {
+    ghost value_size = { λ v. ⟦<IssuingDistributionPointFields<'a> as Encode>⟧.size (
+      ⟦<IssuingDistributionPointPart1<'a> as FromFields<IssuingDistributionPointPart1Fields<'a>>>⟧.fields
+          (⟦<IssuingDistributionPoint<'a> as FromFields<(IssuingDistributionPointPart1<'a>,
+        (IssuingDistributionPointPart2<'a>, IssuingDistributionPointPart3<'a>))>>⟧.fields v).0,
+      (
+        ⟦<IssuingDistributionPointPart2<'a> as FromFields<IssuingDistributionPointPart2Fields<'a>>>⟧.fields
+            (⟦<IssuingDistributionPoint<'a> as FromFields<(IssuingDistributionPointPart1<'a>,
+        (IssuingDistributionPointPart2<'a>, IssuingDistributionPointPart3<'a>))>>⟧.fields v).1.0,
+        ⟦<IssuingDistributionPointPart3<'a> as FromFields<IssuingDistributionPointPart3Fields<'a>>>⟧.fields
+            (⟦<IssuingDistributionPoint<'a> as FromFields<(IssuingDistributionPointPart1<'a>,
+        (IssuingDistributionPointPart2<'a>, IssuingDistributionPointPart3<'a>))>>⟧.fields v).1.1,
+      ),
+    ) };
+
+    ghost encode_value_answers = { λ v.
+        ⟦<IssuingDistributionPointFields<'a> as Encode>⟧.encode_answers (
+          ⟦<IssuingDistributionPointPart1<'a> as FromFields<IssuingDistributionPointPart1Fields<'a>>>⟧.fields
+              (⟦<IssuingDistributionPoint<'a> as FromFields<(IssuingDistributionPointPart1<'a>,
+        (IssuingDistributionPointPart2<'a>, IssuingDistributionPointPart3<'a>))>>⟧.fields v).0,
+          (
+            ⟦<IssuingDistributionPointPart2<'a> as FromFields<IssuingDistributionPointPart2Fields<'a>>>⟧.fields
+                (⟦<IssuingDistributionPoint<'a> as FromFields<(IssuingDistributionPointPart1<'a>,
+        (IssuingDistributionPointPart2<'a>, IssuingDistributionPointPart3<'a>))>>⟧.fields v).1.0,
+            ⟦<IssuingDistributionPointPart3<'a> as FromFields<IssuingDistributionPointPart3Fields<'a>>>⟧.fields
+                (⟦<IssuingDistributionPoint<'a> as FromFields<(IssuingDistributionPointPart1<'a>,
+        (IssuingDistributionPointPart2<'a>, IssuingDistributionPointPart3<'a>))>>⟧.fields v).1.1,
+          ),
+        ) };
+
+    fn value_len(&self) -> Result<Length, Error> {
+        field_refs!(
+            self,
+            (
+                (distribution_point, only_contains_user_certs),
+                (
+                    (only_contains_ca_certs, only_some_reasons),
+                    (indirect_crl, only_contains_attribute_certs)
+                )
+            )
+        )
+        .encoded_len()
+    }
+
+    fn encode_value<W: Writer>(&self, writer: &mut W) -> Result<(), Error> {
+        field_refs!(
+            self,
+            (
+                (distribution_point, only_contains_user_certs),
+                (
+                    (only_contains_ca_certs, only_some_reasons),
+                    (indirect_crl, only_contains_attribute_certs)
+                )
+            )
+        )
+        .encode(writer)
+    }
+}
+
+impl<'a> Item for IssuingDistributionPoint<'a> {
+    ghost item = { sequence_item ⟦<IssuingDistributionPoint<'a> as Described>⟧.element };
+}
+
+impl<'a, R: Reader<Borrowed = &'a [u8]>> DecodeItem<R> for IssuingDistributionPoint<'a> {
+    ghost is_item = { sequence_is_item ⟦<IssuingDistributionPoint<'a> as Described>⟧.element refl };
+
+    ghost decodes_items = { decodes_same (sequence_item
+        ⟦<IssuingDistributionPoint<'a> as Described>⟧.element) };
+}
+
+impl<'a> BorrowedItem for IssuingDistributionPoint<'a> {
+    ghost borrowed = { refl };
+}
+
+impl<'a> Nestable for IssuingDistributionPoint<'a> {
+    ghost nestable = { Prim.omega arith };
+}

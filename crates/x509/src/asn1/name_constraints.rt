@@ -1,0 +1,111 @@
+//! Written by asn1_compile from the module X509: change the module instead.
+//!
+//! NameConstraints.
+ghost use Rattle.std.specs.Prelude.{◌≡◌};
+ghost use Rattle.std.proofs.Common.{arith, refl};
+ghost use Rattle.der.specs.Prelude.{map_ok};
+ghost use Rattle.der_asn1.specs.Item.{decodes_same};
+ghost use Rattle.der_asn1.specs.Meaning.{alternative, optional, sequence, sequence_is_item, sequence_item, two_fields};
+
+use crate::asn1::general_subtrees::GeneralSubtrees;
+use der::{
+    Decode, DecodeValue, Encode, EncodeValue, Error, FromFields, Header, Length, Reader, Sequence,
+    SliceReader, Writer, decode_sequence, field_refs,
+};
+use der_asn1::{BorrowedItem, DecodeItem, Described, Implicit, Item, Nestable, Optional};
+use std::alloc::Global;
+
+/// The names that a certification authority may issue certificates for (RFC 5280, 4.2.1.10),
+/// borrowed from the input. That at least one list is present is not checked.
+#[derive(Clone, Copy, Drop)]
+pub struct NameConstraints<'a> {
+    /// The names that are permitted, if they are limited.
+    pub permitted_subtrees: Optional<Implicit<GeneralSubtrees<'a>, 0>>,
+    /// The names that are excluded, if there are any.
+    pub excluded_subtrees: Optional<Implicit<GeneralSubtrees<'a>, 1>>,
+}
+
+/// The fields of a [`NameConstraints`] in pairs, in the order in which they are encoded.
+pub type NameConstraintsFields<'a> = (
+    Optional<Implicit<GeneralSubtrees<'a>, 0>>,
+    Optional<Implicit<GeneralSubtrees<'a>, 1>>,
+);
+
+impl<'a> FromFields<NameConstraintsFields<'a>> for NameConstraints<'a> {
+    ghost fields = { λ v. (v.permitted_subtrees, v.excluded_subtrees) };
+
+    fn from_fields(members: NameConstraintsFields<'a>) -> Self {
+        let (permitted_subtrees, excluded_subtrees) = members;
+        NameConstraints {
+            permitted_subtrees,
+            excluded_subtrees,
+        }
+    }
+}
+
+impl<'a> Sequence for NameConstraints<'a> {
+    ghost meaning = { sequence (two_fields (optional (alternative
+        ⟦<Implicit<GeneralSubtrees<'a>, 0> as Described>⟧.element)) (optional (alternative
+        ⟦<Implicit<GeneralSubtrees<'a>, 1> as Described>⟧.element)))
+        ⟦<NameConstraints<'a> as FromFields<NameConstraintsFields<'a>>>⟧.fields };
+
+    ghost fits = { (refl, refl) };
+}
+
+/// Decodes the fields one after the other, with the errors of every [`Sequence`].
+impl<'a, R: Reader<Borrowed = &'a [u8]>> DecodeValue<R> for NameConstraints<'a> {
+    type Error = Error;
+
+    ghost decode_value_answers = { λ h s result t.
+        ⟦<NameConstraintsFields<'a> as Decode<SliceReader<'a>>>⟧.decode_answers s (map_ok
+        ⟦<NameConstraints<'a> as FromFields<NameConstraintsFields<'a>>>⟧.fields result) t };
+
+    fn decode_value(alloc: Global, reader: &mut R, header: Header) -> Result<Self, Error> {
+        decode_sequence::<R, NameConstraintsFields<'a>, Self>(alloc, reader, header)
+    }
+
+    fn is_value(&self) {
+        if let Some(value) = &self.permitted_subtrees.0 {
+            <Implicit<GeneralSubtrees<'a>, 0> as DecodeValue<R>>::is_value(value);
+        }
+        if let Some(value) = &self.excluded_subtrees.0 {
+            <Implicit<GeneralSubtrees<'a>, 1> as DecodeValue<R>>::is_value(value);
+        }
+    }
+}
+
+/// Writes the fields one after the other, with the errors of every [`Sequence`].
+impl<'a> EncodeValue for NameConstraints<'a> {
+    ghost value_size = { λ v. ⟦<NameConstraintsFields<'a> as Encode>⟧.size
+        (⟦<NameConstraints<'a> as FromFields<NameConstraintsFields<'a>>>⟧.fields v) };
+
+    ghost encode_value_answers = { λ v. ⟦<NameConstraintsFields<'a> as Encode>⟧.encode_answers
+        (⟦<NameConstraints<'a> as FromFields<NameConstraintsFields<'a>>>⟧.fields v) };
+
+    fn value_len(&self) -> Result<Length, Error> {
+        field_refs!(self, (permitted_subtrees, excluded_subtrees)).encoded_len()
+    }
+
+    fn encode_value<W: Writer>(&self, writer: &mut W) -> Result<(), Error> {
+        field_refs!(self, (permitted_subtrees, excluded_subtrees)).encode(writer)
+    }
+}
+
+impl<'a> Item for NameConstraints<'a> {
+    ghost item = { sequence_item ⟦<NameConstraints<'a> as Described>⟧.element };
+}
+
+impl<'a, R: Reader<Borrowed = &'a [u8]>> DecodeItem<R> for NameConstraints<'a> {
+    ghost is_item = { sequence_is_item ⟦<NameConstraints<'a> as Described>⟧.element refl };
+
+    ghost decodes_items = { decodes_same (sequence_item
+        ⟦<NameConstraints<'a> as Described>⟧.element) };
+}
+
+impl<'a> BorrowedItem for NameConstraints<'a> {
+    ghost borrowed = { refl };
+}
+
+impl<'a> Nestable for NameConstraints<'a> {
+    ghost nestable = { Prim.omega arith };
+}

@@ -1,0 +1,115 @@
+//! Written by asn1_compile from the module X509: change the module instead.
+//!
+//! NoticeReference.
+ghost use Rattle.std.specs.Prelude.{◌≡◌};
+ghost use Rattle.std.proofs.Common.{arith, refl};
+ghost use Rattle.der.specs.Prelude.{map_ok};
+ghost use Rattle.der_asn1.specs.Item.{decodes_same};
+ghost use Rattle.der_asn1.specs.Meaning.{alternative, field, sequence, sequence_is_item, sequence_item, two_fields};
+
+use crate::asn1::display_text::DisplayText;
+use der::{
+    Decode, DecodeValue, Encode, EncodeValue, Error, FromFields, Header, Length, Reader, Sequence,
+    SliceReader, Writer, decode_sequence, field_refs,
+};
+use der_asn1::{
+    BmpStringRef, BorrowedItem, DecodeItem, Described, DescribedChoice, Ia5StringRef, IntRef, Item,
+    Nestable, SequenceOf, Utf8StringRef, VisibleStringRef,
+};
+use std::alloc::Global;
+
+/// Notices of an organization, by their numbers (RFC 5280, 4.2.1.4), borrowed from the input.
+#[derive(Clone, Copy, Drop)]
+pub struct NoticeReference<'a> {
+    /// The organization.
+    pub organization: DisplayText<'a>,
+    /// The numbers of the notices.
+    pub notice_numbers: SequenceOf<'a, IntRef<'a>>,
+}
+
+/// The fields of a [`NoticeReference`] in pairs, in the order in which they are encoded.
+pub type NoticeReferenceFields<'a> = (DisplayText<'a>, SequenceOf<'a, IntRef<'a>>);
+
+impl<'a> FromFields<NoticeReferenceFields<'a>> for NoticeReference<'a> {
+    ghost fields = { λ v. (v.organization, v.notice_numbers) };
+
+    fn from_fields(members: NoticeReferenceFields<'a>) -> Self {
+        let (organization, notice_numbers) = members;
+        NoticeReference {
+            organization,
+            notice_numbers,
+        }
+    }
+}
+
+impl<'a> Sequence for NoticeReference<'a> {
+    ghost meaning = { sequence (two_fields (field
+        ⟦<DisplayText<'a> as DescribedChoice>⟧.alternative) (field (alternative
+        ⟦<SequenceOf<'a, IntRef<'a>> as Described>⟧.element)))
+        ⟦<NoticeReference<'a> as FromFields<NoticeReferenceFields<'a>>>⟧.fields };
+
+    ghost fits = { (refl, refl) };
+}
+
+/// Decodes the fields one after the other, with the errors of every [`Sequence`].
+impl<'a, R: Reader<Borrowed = &'a [u8]>> DecodeValue<R> for NoticeReference<'a> {
+    type Error = Error;
+
+    ghost decode_value_answers = { λ h s result t.
+        ⟦<NoticeReferenceFields<'a> as Decode<SliceReader<'a>>>⟧.decode_answers s (map_ok
+        ⟦<NoticeReference<'a> as FromFields<NoticeReferenceFields<'a>>>⟧.fields result) t };
+
+    fn decode_value(alloc: Global, reader: &mut R, header: Header) -> Result<Self, Error> {
+        decode_sequence::<R, NoticeReferenceFields<'a>, Self>(alloc, reader, header)
+    }
+
+    fn is_value(&self) {
+        match &self.organization {
+            DisplayText::Ia5String(value) => <Ia5StringRef<'a> as DecodeValue<R>>::is_value(value),
+            DisplayText::VisibleString(value) => <VisibleStringRef<'a> as DecodeValue<R>>::is_value(
+                value,
+            ),
+            DisplayText::BmpString(value) => <BmpStringRef<'a> as DecodeValue<R>>::is_value(value),
+            DisplayText::Utf8String(value) => <Utf8StringRef<'a> as DecodeValue<R>>::is_value(
+                value,
+            ),
+        }
+        <SequenceOf<'a, IntRef<'a>> as DecodeValue<R>>::is_value(&self.notice_numbers);
+    }
+}
+
+/// Writes the fields one after the other, with the errors of every [`Sequence`].
+impl<'a> EncodeValue for NoticeReference<'a> {
+    ghost value_size = { λ v. ⟦<NoticeReferenceFields<'a> as Encode>⟧.size
+        (⟦<NoticeReference<'a> as FromFields<NoticeReferenceFields<'a>>>⟧.fields v) };
+
+    ghost encode_value_answers = { λ v. ⟦<NoticeReferenceFields<'a> as Encode>⟧.encode_answers
+        (⟦<NoticeReference<'a> as FromFields<NoticeReferenceFields<'a>>>⟧.fields v) };
+
+    fn value_len(&self) -> Result<Length, Error> {
+        field_refs!(self, (organization, notice_numbers)).encoded_len()
+    }
+
+    fn encode_value<W: Writer>(&self, writer: &mut W) -> Result<(), Error> {
+        field_refs!(self, (organization, notice_numbers)).encode(writer)
+    }
+}
+
+impl<'a> Item for NoticeReference<'a> {
+    ghost item = { sequence_item ⟦<NoticeReference<'a> as Described>⟧.element };
+}
+
+impl<'a, R: Reader<Borrowed = &'a [u8]>> DecodeItem<R> for NoticeReference<'a> {
+    ghost is_item = { sequence_is_item ⟦<NoticeReference<'a> as Described>⟧.element refl };
+
+    ghost decodes_items = { decodes_same (sequence_item
+        ⟦<NoticeReference<'a> as Described>⟧.element) };
+}
+
+impl<'a> BorrowedItem for NoticeReference<'a> {
+    ghost borrowed = { refl };
+}
+
+impl<'a> Nestable for NoticeReference<'a> {
+    ghost nestable = { Prim.omega arith };
+}

@@ -1,0 +1,111 @@
+//! Written by asn1_compile from the module X509: change the module instead.
+//!
+//! PolicyConstraints.
+ghost use Rattle.std.specs.Prelude.{◌≡◌};
+ghost use Rattle.std.proofs.Common.{arith, refl};
+ghost use Rattle.der.specs.Prelude.{map_ok};
+ghost use Rattle.der_asn1.specs.Item.{decodes_same};
+ghost use Rattle.der_asn1.specs.Meaning.{alternative, optional, sequence, sequence_is_item, sequence_item, two_fields};
+
+use crate::asn1::skip_certs::SkipCerts;
+use der::{
+    Decode, DecodeValue, Encode, EncodeValue, Error, FromFields, Header, Length, Reader, Sequence,
+    SliceReader, Writer, decode_sequence, field_refs,
+};
+use der_asn1::{BorrowedItem, DecodeItem, Described, Implicit, Item, Nestable, Optional};
+use std::alloc::Global;
+
+/// What a chain of certificates must fulfil as to policies (RFC 5280, 4.2.1.11), borrowed from the
+/// input. That at least one number is present is not checked.
+#[derive(Clone, Copy, Drop)]
+pub struct PolicyConstraints<'a> {
+    /// After how many certificates a policy is required, if present.
+    pub require_explicit_policy: Optional<Implicit<SkipCerts<'a>, 0>>,
+    /// After how many certificates policies may not be mapped, if present.
+    pub inhibit_policy_mapping: Optional<Implicit<SkipCerts<'a>, 1>>,
+}
+
+/// The fields of a [`PolicyConstraints`] in pairs, in the order in which they are encoded.
+pub type PolicyConstraintsFields<'a> = (
+    Optional<Implicit<SkipCerts<'a>, 0>>,
+    Optional<Implicit<SkipCerts<'a>, 1>>,
+);
+
+impl<'a> FromFields<PolicyConstraintsFields<'a>> for PolicyConstraints<'a> {
+    ghost fields = { λ v. (v.require_explicit_policy, v.inhibit_policy_mapping) };
+
+    fn from_fields(members: PolicyConstraintsFields<'a>) -> Self {
+        let (require_explicit_policy, inhibit_policy_mapping) = members;
+        PolicyConstraints {
+            require_explicit_policy,
+            inhibit_policy_mapping,
+        }
+    }
+}
+
+impl<'a> Sequence for PolicyConstraints<'a> {
+    ghost meaning = { sequence (two_fields (optional (alternative
+        ⟦<Implicit<SkipCerts<'a>, 0> as Described>⟧.element)) (optional (alternative
+        ⟦<Implicit<SkipCerts<'a>, 1> as Described>⟧.element)))
+        ⟦<PolicyConstraints<'a> as FromFields<PolicyConstraintsFields<'a>>>⟧.fields };
+
+    ghost fits = { (refl, refl) };
+}
+
+/// Decodes the fields one after the other, with the errors of every [`Sequence`].
+impl<'a, R: Reader<Borrowed = &'a [u8]>> DecodeValue<R> for PolicyConstraints<'a> {
+    type Error = Error;
+
+    ghost decode_value_answers = { λ h s result t.
+        ⟦<PolicyConstraintsFields<'a> as Decode<SliceReader<'a>>>⟧.decode_answers s (map_ok
+        ⟦<PolicyConstraints<'a> as FromFields<PolicyConstraintsFields<'a>>>⟧.fields result) t };
+
+    fn decode_value(alloc: Global, reader: &mut R, header: Header) -> Result<Self, Error> {
+        decode_sequence::<R, PolicyConstraintsFields<'a>, Self>(alloc, reader, header)
+    }
+
+    fn is_value(&self) {
+        if let Some(value) = &self.require_explicit_policy.0 {
+            <Implicit<SkipCerts<'a>, 0> as DecodeValue<R>>::is_value(value);
+        }
+        if let Some(value) = &self.inhibit_policy_mapping.0 {
+            <Implicit<SkipCerts<'a>, 1> as DecodeValue<R>>::is_value(value);
+        }
+    }
+}
+
+/// Writes the fields one after the other, with the errors of every [`Sequence`].
+impl<'a> EncodeValue for PolicyConstraints<'a> {
+    ghost value_size = { λ v. ⟦<PolicyConstraintsFields<'a> as Encode>⟧.size
+        (⟦<PolicyConstraints<'a> as FromFields<PolicyConstraintsFields<'a>>>⟧.fields v) };
+
+    ghost encode_value_answers = { λ v. ⟦<PolicyConstraintsFields<'a> as Encode>⟧.encode_answers
+        (⟦<PolicyConstraints<'a> as FromFields<PolicyConstraintsFields<'a>>>⟧.fields v) };
+
+    fn value_len(&self) -> Result<Length, Error> {
+        field_refs!(self, (require_explicit_policy, inhibit_policy_mapping)).encoded_len()
+    }
+
+    fn encode_value<W: Writer>(&self, writer: &mut W) -> Result<(), Error> {
+        field_refs!(self, (require_explicit_policy, inhibit_policy_mapping)).encode(writer)
+    }
+}
+
+impl<'a> Item for PolicyConstraints<'a> {
+    ghost item = { sequence_item ⟦<PolicyConstraints<'a> as Described>⟧.element };
+}
+
+impl<'a, R: Reader<Borrowed = &'a [u8]>> DecodeItem<R> for PolicyConstraints<'a> {
+    ghost is_item = { sequence_is_item ⟦<PolicyConstraints<'a> as Described>⟧.element refl };
+
+    ghost decodes_items = { decodes_same (sequence_item
+        ⟦<PolicyConstraints<'a> as Described>⟧.element) };
+}
+
+impl<'a> BorrowedItem for PolicyConstraints<'a> {
+    ghost borrowed = { refl };
+}
+
+impl<'a> Nestable for PolicyConstraints<'a> {
+    ghost nestable = { Prim.omega arith };
+}

@@ -1,0 +1,110 @@
+//! Written by asn1_compile from the module X509: change the module instead.
+//!
+//! PolicyInformation.
+ghost use Rattle.std.specs.Prelude.{◌≡◌};
+ghost use Rattle.std.proofs.Common.{arith, refl};
+ghost use Rattle.der.specs.Prelude.{map_ok};
+ghost use Rattle.der_asn1.specs.Item.{decodes_same};
+ghost use Rattle.der_asn1.specs.Meaning.{alternative, field, optional, sequence, sequence_is_item, sequence_item, two_fields};
+
+use crate::asn1::policy_qualifier_info::PolicyQualifierInfo;
+use der::{
+    Decode, DecodeValue, Encode, EncodeValue, Error, FromFields, Header, Length, Reader, Sequence,
+    SliceReader, Writer, decode_sequence, field_refs,
+};
+use der_asn1::{
+    BorrowedItem, DecodeItem, Described, Item, Nestable, ObjectIdentifierRef, Optional, SequenceOf,
+};
+use std::alloc::Global;
+
+/// A policy with its qualifiers (RFC 5280, 4.2.1.4), borrowed from the input.
+#[derive(Clone, Copy, Drop)]
+pub struct PolicyInformation<'a> {
+    /// The object identifier of the policy.
+    pub policy_identifier: ObjectIdentifierRef<'a>,
+    /// Its qualifiers, if present.
+    pub policy_qualifiers: Optional<SequenceOf<'a, PolicyQualifierInfo<'a>>>,
+}
+
+/// The fields of a [`PolicyInformation`] in pairs, in the order in which they are encoded.
+pub type PolicyInformationFields<'a> = (
+    ObjectIdentifierRef<'a>,
+    Optional<SequenceOf<'a, PolicyQualifierInfo<'a>>>,
+);
+
+impl<'a> FromFields<PolicyInformationFields<'a>> for PolicyInformation<'a> {
+    ghost fields = { λ v. (v.policy_identifier, v.policy_qualifiers) };
+
+    fn from_fields(members: PolicyInformationFields<'a>) -> Self {
+        let (policy_identifier, policy_qualifiers) = members;
+        PolicyInformation {
+            policy_identifier,
+            policy_qualifiers,
+        }
+    }
+}
+
+impl<'a> Sequence for PolicyInformation<'a> {
+    ghost meaning = { sequence (two_fields (field (alternative
+        ⟦<ObjectIdentifierRef<'a> as Described>⟧.element)) (optional (alternative
+        ⟦<SequenceOf<'a, PolicyQualifierInfo<'a>> as Described>⟧.element)))
+        ⟦<PolicyInformation<'a> as FromFields<PolicyInformationFields<'a>>>⟧.fields };
+
+    ghost fits = { (refl, refl) };
+}
+
+/// Decodes the fields one after the other, with the errors of every [`Sequence`].
+impl<'a, R: Reader<Borrowed = &'a [u8]>> DecodeValue<R> for PolicyInformation<'a> {
+    type Error = Error;
+
+    ghost decode_value_answers = { λ h s result t.
+        ⟦<PolicyInformationFields<'a> as Decode<SliceReader<'a>>>⟧.decode_answers s (map_ok
+        ⟦<PolicyInformation<'a> as FromFields<PolicyInformationFields<'a>>>⟧.fields result) t };
+
+    fn decode_value(alloc: Global, reader: &mut R, header: Header) -> Result<Self, Error> {
+        decode_sequence::<R, PolicyInformationFields<'a>, Self>(alloc, reader, header)
+    }
+
+    fn is_value(&self) {
+        <ObjectIdentifierRef<'a> as DecodeValue<R>>::is_value(&self.policy_identifier);
+        if let Some(value) = &self.policy_qualifiers.0 {
+            <SequenceOf<'a, PolicyQualifierInfo<'a>> as DecodeValue<R>>::is_value(value);
+        }
+    }
+}
+
+/// Writes the fields one after the other, with the errors of every [`Sequence`].
+impl<'a> EncodeValue for PolicyInformation<'a> {
+    ghost value_size = { λ v. ⟦<PolicyInformationFields<'a> as Encode>⟧.size
+        (⟦<PolicyInformation<'a> as FromFields<PolicyInformationFields<'a>>>⟧.fields v) };
+
+    ghost encode_value_answers = { λ v. ⟦<PolicyInformationFields<'a> as Encode>⟧.encode_answers
+        (⟦<PolicyInformation<'a> as FromFields<PolicyInformationFields<'a>>>⟧.fields v) };
+
+    fn value_len(&self) -> Result<Length, Error> {
+        field_refs!(self, (policy_identifier, policy_qualifiers)).encoded_len()
+    }
+
+    fn encode_value<W: Writer>(&self, writer: &mut W) -> Result<(), Error> {
+        field_refs!(self, (policy_identifier, policy_qualifiers)).encode(writer)
+    }
+}
+
+impl<'a> Item for PolicyInformation<'a> {
+    ghost item = { sequence_item ⟦<PolicyInformation<'a> as Described>⟧.element };
+}
+
+impl<'a, R: Reader<Borrowed = &'a [u8]>> DecodeItem<R> for PolicyInformation<'a> {
+    ghost is_item = { sequence_is_item ⟦<PolicyInformation<'a> as Described>⟧.element refl };
+
+    ghost decodes_items = { decodes_same (sequence_item
+        ⟦<PolicyInformation<'a> as Described>⟧.element) };
+}
+
+impl<'a> BorrowedItem for PolicyInformation<'a> {
+    ghost borrowed = { refl };
+}
+
+impl<'a> Nestable for PolicyInformation<'a> {
+    ghost nestable = { Prim.omega arith };
+}

@@ -1,0 +1,103 @@
+//! Written by asn1_compile from the module X509: change the module instead.
+//!
+//! PolicyMapping.
+ghost use Rattle.std.specs.Prelude.{◌≡◌};
+ghost use Rattle.std.proofs.Common.{arith, refl};
+ghost use Rattle.der.specs.Prelude.{map_ok};
+ghost use Rattle.der_asn1.specs.Item.{decodes_same};
+ghost use Rattle.der_asn1.specs.Meaning.{alternative, field, sequence, sequence_is_item, sequence_item, two_fields};
+
+use der::{
+    Decode, DecodeValue, Encode, EncodeValue, Error, FromFields, Header, Length, Reader, Sequence,
+    SliceReader, Writer, decode_sequence, field_refs,
+};
+use der_asn1::{BorrowedItem, DecodeItem, Described, Item, Nestable, ObjectIdentifierRef};
+use std::alloc::Global;
+
+/// A policy of the issuer, and the subject's policy that equals it (RFC 5280, 4.2.1.5), borrowed
+/// from the input.
+#[derive(Clone, Copy, Drop)]
+pub struct PolicyMapping<'a> {
+    /// The policy of the issuer.
+    pub issuer_domain_policy: ObjectIdentifierRef<'a>,
+    /// The policy of the subject.
+    pub subject_domain_policy: ObjectIdentifierRef<'a>,
+}
+
+/// The fields of a [`PolicyMapping`] in pairs, in the order in which they are encoded.
+pub type PolicyMappingFields<'a> = (ObjectIdentifierRef<'a>, ObjectIdentifierRef<'a>);
+
+impl<'a> FromFields<PolicyMappingFields<'a>> for PolicyMapping<'a> {
+    ghost fields = { λ v. (v.issuer_domain_policy, v.subject_domain_policy) };
+
+    fn from_fields(members: PolicyMappingFields<'a>) -> Self {
+        let (issuer_domain_policy, subject_domain_policy) = members;
+        PolicyMapping {
+            issuer_domain_policy,
+            subject_domain_policy,
+        }
+    }
+}
+
+impl<'a> Sequence for PolicyMapping<'a> {
+    ghost meaning = { sequence (two_fields (field (alternative
+        ⟦<ObjectIdentifierRef<'a> as Described>⟧.element)) (field (alternative
+        ⟦<ObjectIdentifierRef<'a> as Described>⟧.element)))
+        ⟦<PolicyMapping<'a> as FromFields<PolicyMappingFields<'a>>>⟧.fields };
+
+    ghost fits = { (refl, refl) };
+}
+
+/// Decodes the fields one after the other, with the errors of every [`Sequence`].
+impl<'a, R: Reader<Borrowed = &'a [u8]>> DecodeValue<R> for PolicyMapping<'a> {
+    type Error = Error;
+
+    ghost decode_value_answers = { λ h s result t.
+        ⟦<PolicyMappingFields<'a> as Decode<SliceReader<'a>>>⟧.decode_answers s (map_ok
+        ⟦<PolicyMapping<'a> as FromFields<PolicyMappingFields<'a>>>⟧.fields result) t };
+
+    fn decode_value(alloc: Global, reader: &mut R, header: Header) -> Result<Self, Error> {
+        decode_sequence::<R, PolicyMappingFields<'a>, Self>(alloc, reader, header)
+    }
+
+    fn is_value(&self) {
+        <ObjectIdentifierRef<'a> as DecodeValue<R>>::is_value(&self.issuer_domain_policy);
+        <ObjectIdentifierRef<'a> as DecodeValue<R>>::is_value(&self.subject_domain_policy);
+    }
+}
+
+/// Writes the fields one after the other, with the errors of every [`Sequence`].
+impl<'a> EncodeValue for PolicyMapping<'a> {
+    ghost value_size = { λ v. ⟦<PolicyMappingFields<'a> as Encode>⟧.size
+        (⟦<PolicyMapping<'a> as FromFields<PolicyMappingFields<'a>>>⟧.fields v) };
+
+    ghost encode_value_answers = { λ v. ⟦<PolicyMappingFields<'a> as Encode>⟧.encode_answers
+        (⟦<PolicyMapping<'a> as FromFields<PolicyMappingFields<'a>>>⟧.fields v) };
+
+    fn value_len(&self) -> Result<Length, Error> {
+        field_refs!(self, (issuer_domain_policy, subject_domain_policy)).encoded_len()
+    }
+
+    fn encode_value<W: Writer>(&self, writer: &mut W) -> Result<(), Error> {
+        field_refs!(self, (issuer_domain_policy, subject_domain_policy)).encode(writer)
+    }
+}
+
+impl<'a> Item for PolicyMapping<'a> {
+    ghost item = { sequence_item ⟦<PolicyMapping<'a> as Described>⟧.element };
+}
+
+impl<'a, R: Reader<Borrowed = &'a [u8]>> DecodeItem<R> for PolicyMapping<'a> {
+    ghost is_item = { sequence_is_item ⟦<PolicyMapping<'a> as Described>⟧.element refl };
+
+    ghost decodes_items = { decodes_same (sequence_item
+        ⟦<PolicyMapping<'a> as Described>⟧.element) };
+}
+
+impl<'a> BorrowedItem for PolicyMapping<'a> {
+    ghost borrowed = { refl };
+}
+
+impl<'a> Nestable for PolicyMapping<'a> {
+    ghost nestable = { Prim.omega arith };
+}

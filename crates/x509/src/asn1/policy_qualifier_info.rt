@@ -1,0 +1,102 @@
+//! Written by asn1_compile from the module X509: change the module instead.
+//!
+//! PolicyQualifierInfo.
+ghost use Rattle.std.specs.Prelude.{◌≡◌};
+ghost use Rattle.std.proofs.Common.{arith, refl};
+ghost use Rattle.der.specs.Prelude.{map_ok};
+ghost use Rattle.der_asn1.specs.Item.{decodes_same};
+ghost use Rattle.der_asn1.specs.Meaning.{alternative, any_element, field, sequence, sequence_is_item, sequence_item, two_fields};
+
+use der::{
+    Decode, DecodeValue, Encode, EncodeValue, Error, FromFields, Header, Length, Reader, Sequence,
+    SliceReader, Writer, decode_sequence, field_refs,
+};
+use der_asn1::{AnyRef, BorrowedItem, DecodeItem, Described, Item, Nestable, ObjectIdentifierRef};
+use std::alloc::Global;
+
+/// A qualifier of a policy (RFC 5280, 4.2.1.4), borrowed from the input.
+#[derive(Clone, Copy, Drop)]
+pub struct PolicyQualifierInfo<'a> {
+    /// The kind of the qualifier.
+    pub policy_qualifier_id: ObjectIdentifierRef<'a>,
+    /// The qualifier: a CPSuri, a UserNotice, or an element of another type. Its contents are not
+    /// checked.
+    pub qualifier: AnyRef<'a>,
+}
+
+/// The fields of a [`PolicyQualifierInfo`] in pairs, in the order in which they are encoded.
+pub type PolicyQualifierInfoFields<'a> = (ObjectIdentifierRef<'a>, AnyRef<'a>);
+
+impl<'a> FromFields<PolicyQualifierInfoFields<'a>> for PolicyQualifierInfo<'a> {
+    ghost fields = { λ v. (v.policy_qualifier_id, v.qualifier) };
+
+    fn from_fields(members: PolicyQualifierInfoFields<'a>) -> Self {
+        let (policy_qualifier_id, qualifier) = members;
+        PolicyQualifierInfo {
+            policy_qualifier_id,
+            qualifier,
+        }
+    }
+}
+
+impl<'a> Sequence for PolicyQualifierInfo<'a> {
+    ghost meaning = { sequence (two_fields (field (alternative
+        ⟦<ObjectIdentifierRef<'a> as Described>⟧.element)) (field any_element))
+        ⟦<PolicyQualifierInfo<'a> as FromFields<PolicyQualifierInfoFields<'a>>>⟧.fields };
+
+    ghost fits = { (refl, refl) };
+}
+
+/// Decodes the fields one after the other, with the errors of every [`Sequence`].
+impl<'a, R: Reader<Borrowed = &'a [u8]>> DecodeValue<R> for PolicyQualifierInfo<'a> {
+    type Error = Error;
+
+    ghost decode_value_answers = { λ h s result t.
+        ⟦<PolicyQualifierInfoFields<'a> as Decode<SliceReader<'a>>>⟧.decode_answers s (map_ok
+        ⟦<PolicyQualifierInfo<'a> as FromFields<PolicyQualifierInfoFields<'a>>>⟧.fields result) t };
+
+    fn decode_value(alloc: Global, reader: &mut R, header: Header) -> Result<Self, Error> {
+        decode_sequence::<R, PolicyQualifierInfoFields<'a>, Self>(alloc, reader, header)
+    }
+
+    fn is_value(&self) {
+        <ObjectIdentifierRef<'a> as DecodeValue<R>>::is_value(&self.policy_qualifier_id);
+        <AnyRef<'a> as DecodeValue<R>>::is_value(&self.qualifier);
+    }
+}
+
+/// Writes the fields one after the other, with the errors of every [`Sequence`].
+impl<'a> EncodeValue for PolicyQualifierInfo<'a> {
+    ghost value_size = { λ v. ⟦<PolicyQualifierInfoFields<'a> as Encode>⟧.size
+        (⟦<PolicyQualifierInfo<'a> as FromFields<PolicyQualifierInfoFields<'a>>>⟧.fields v) };
+
+    ghost encode_value_answers = { λ v. ⟦<PolicyQualifierInfoFields<'a> as Encode>⟧.encode_answers
+        (⟦<PolicyQualifierInfo<'a> as FromFields<PolicyQualifierInfoFields<'a>>>⟧.fields v) };
+
+    fn value_len(&self) -> Result<Length, Error> {
+        field_refs!(self, (policy_qualifier_id, qualifier)).encoded_len()
+    }
+
+    fn encode_value<W: Writer>(&self, writer: &mut W) -> Result<(), Error> {
+        field_refs!(self, (policy_qualifier_id, qualifier)).encode(writer)
+    }
+}
+
+impl<'a> Item for PolicyQualifierInfo<'a> {
+    ghost item = { sequence_item ⟦<PolicyQualifierInfo<'a> as Described>⟧.element };
+}
+
+impl<'a, R: Reader<Borrowed = &'a [u8]>> DecodeItem<R> for PolicyQualifierInfo<'a> {
+    ghost is_item = { sequence_is_item ⟦<PolicyQualifierInfo<'a> as Described>⟧.element refl };
+
+    ghost decodes_items = { decodes_same (sequence_item
+        ⟦<PolicyQualifierInfo<'a> as Described>⟧.element) };
+}
+
+impl<'a> BorrowedItem for PolicyQualifierInfo<'a> {
+    ghost borrowed = { refl };
+}
+
+impl<'a> Nestable for PolicyQualifierInfo<'a> {
+    ghost nestable = { Prim.omega arith };
+}

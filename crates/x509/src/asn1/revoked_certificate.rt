@@ -1,0 +1,130 @@
+//! Written by asn1_compile from the module X509: change the module instead.
+//!
+//! RevokedCertificate.
+ghost use Rattle.std.specs.Prelude.{◌≡◌};
+ghost use Rattle.std.proofs.Common.{arith, refl};
+ghost use Rattle.der.specs.Prelude.{map_ok};
+ghost use Rattle.der_asn1.specs.Item.{decodes_same};
+ghost use Rattle.der_asn1.specs.Meaning.{alternative, field, optional, sequence, sequence_is_item, sequence_item, two_fields};
+
+use crate::asn1::certificate_serial_number::CertificateSerialNumber;
+use crate::asn1::extensions::Extensions;
+use crate::asn1::time::Time;
+use der::{
+    Decode, DecodeValue, Encode, EncodeValue, Error, FromFields, Header, Length, Reader, Sequence,
+    SliceReader, Writer, decode_sequence, field_refs,
+};
+use der_asn1::{
+    BorrowedItem, DecodeItem, Described, DescribedChoice, GeneralizedTime, Item, Nestable,
+    Optional, UtcTime,
+};
+use std::alloc::Global;
+
+/// An entry of a revocation list (RFC 5280, 5.1.2.6), borrowed from the input.
+#[derive(Clone, Copy, Drop)]
+pub struct RevokedCertificate<'a> {
+    /// The serial number of the certificate.
+    pub user_certificate: CertificateSerialNumber<'a>,
+    /// When it was revoked.
+    pub revocation_date: Time,
+    /// The extensions of the entry, if present. Only version 2 allows them, but decoding does not
+    /// check this.
+    pub crl_entry_extensions: Optional<Extensions<'a>>,
+}
+
+/// The fields of a [`RevokedCertificate`] in pairs, in the order in which they are encoded.
+pub type RevokedCertificateFields<'a> = (
+    CertificateSerialNumber<'a>,
+    (Time, Optional<Extensions<'a>>),
+);
+
+impl<'a> FromFields<RevokedCertificateFields<'a>> for RevokedCertificate<'a> {
+    ghost fields = { λ v. (v.user_certificate, (v.revocation_date, v.crl_entry_extensions)) };
+
+    fn from_fields(members: RevokedCertificateFields<'a>) -> Self {
+        let (user_certificate, (revocation_date, crl_entry_extensions)) = members;
+        RevokedCertificate {
+            user_certificate,
+            revocation_date,
+            crl_entry_extensions,
+        }
+    }
+}
+
+impl<'a> Sequence for RevokedCertificate<'a> {
+    ghost meaning = { sequence (two_fields (field (alternative
+        ⟦<CertificateSerialNumber<'a> as Described>⟧.element)) (two_fields (field
+        ⟦<Time as DescribedChoice>⟧.alternative) (optional (alternative
+        ⟦<Extensions<'a> as Described>⟧.element))))
+        ⟦<RevokedCertificate<'a> as FromFields<RevokedCertificateFields<'a>>>⟧.fields };
+
+    ghost fits = { (refl, refl) };
+}
+
+/// Decodes the fields one after the other, with the errors of every [`Sequence`].
+impl<'a, R: Reader<Borrowed = &'a [u8]>> DecodeValue<R> for RevokedCertificate<'a> {
+    type Error = Error;
+
+    ghost decode_value_answers = { λ h s result t.
+        ⟦<RevokedCertificateFields<'a> as Decode<SliceReader<'a>>>⟧.decode_answers s (map_ok
+        ⟦<RevokedCertificate<'a> as FromFields<RevokedCertificateFields<'a>>>⟧.fields result) t };
+
+    fn decode_value(alloc: Global, reader: &mut R, header: Header) -> Result<Self, Error> {
+        decode_sequence::<R, RevokedCertificateFields<'a>, Self>(alloc, reader, header)
+    }
+
+    fn is_value(&self) {
+        <CertificateSerialNumber<'a> as DecodeValue<R>>::is_value(&self.user_certificate);
+        match &self.revocation_date {
+            Time::UtcTime(value) => <UtcTime as DecodeValue<R>>::is_value(value),
+            Time::GeneralTime(value) => <GeneralizedTime as DecodeValue<R>>::is_value(value),
+        }
+        if let Some(value) = &self.crl_entry_extensions.0 {
+            <Extensions<'a> as DecodeValue<R>>::is_value(value);
+        }
+    }
+}
+
+/// Writes the fields one after the other, with the errors of every [`Sequence`].
+impl<'a> EncodeValue for RevokedCertificate<'a> {
+    ghost value_size = { λ v. ⟦<RevokedCertificateFields<'a> as Encode>⟧.size
+        (⟦<RevokedCertificate<'a> as FromFields<RevokedCertificateFields<'a>>>⟧.fields v) };
+
+    ghost encode_value_answers = { λ v. ⟦<RevokedCertificateFields<'a> as Encode>⟧.encode_answers
+        (⟦<RevokedCertificate<'a> as FromFields<RevokedCertificateFields<'a>>>⟧.fields v) };
+
+    fn value_len(&self) -> Result<Length, Error> {
+        field_refs!(
+            self,
+            (user_certificate, (revocation_date, crl_entry_extensions))
+        )
+        .encoded_len()
+    }
+
+    fn encode_value<W: Writer>(&self, writer: &mut W) -> Result<(), Error> {
+        field_refs!(
+            self,
+            (user_certificate, (revocation_date, crl_entry_extensions))
+        )
+        .encode(writer)
+    }
+}
+
+impl<'a> Item for RevokedCertificate<'a> {
+    ghost item = { sequence_item ⟦<RevokedCertificate<'a> as Described>⟧.element };
+}
+
+impl<'a, R: Reader<Borrowed = &'a [u8]>> DecodeItem<R> for RevokedCertificate<'a> {
+    ghost is_item = { sequence_is_item ⟦<RevokedCertificate<'a> as Described>⟧.element refl };
+
+    ghost decodes_items = { decodes_same (sequence_item
+        ⟦<RevokedCertificate<'a> as Described>⟧.element) };
+}
+
+impl<'a> BorrowedItem for RevokedCertificate<'a> {
+    ghost borrowed = { refl };
+}
+
+impl<'a> Nestable for RevokedCertificate<'a> {
+    ghost nestable = { Prim.omega arith };
+}

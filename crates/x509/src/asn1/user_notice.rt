@@ -1,0 +1,123 @@
+//! Written by asn1_compile from the module X509: change the module instead.
+//!
+//! UserNotice.
+ghost use Rattle.std.specs.Prelude.{◌≡◌};
+ghost use Rattle.std.proofs.Common.{arith, refl};
+ghost use Rattle.der.specs.Prelude.{map_ok};
+ghost use Rattle.der_asn1.specs.Item.{decodes_same};
+ghost use Rattle.der_asn1.specs.Meaning.{alternative, optional, sequence, sequence_is_item, sequence_item, two_fields};
+
+use crate::asn1::display_text::DisplayText;
+use crate::asn1::notice_reference::NoticeReference;
+use der::{
+    Decode, DecodeValue, Encode, EncodeValue, Error, FromFields, Header, Length, Reader, Sequence,
+    SliceReader, Writer, decode_sequence, field_refs,
+};
+use der_asn1::{
+    BmpStringRef, BorrowedItem, DecodeItem, Described, DescribedChoice, Ia5StringRef, Item,
+    Nestable, Optional, Utf8StringRef, VisibleStringRef,
+};
+use std::alloc::Global;
+
+/// A notice to the user of a certificate (RFC 5280, 4.2.1.4), borrowed from the input.
+#[derive(Clone, Copy, Drop)]
+pub struct UserNotice<'a> {
+    /// Where the text of the notice is found, if present.
+    pub notice_ref: Optional<NoticeReference<'a>>,
+    /// The text itself, if present.
+    pub explicit_text: Optional<DisplayText<'a>>,
+}
+
+/// The fields of a [`UserNotice`] in pairs, in the order in which they are encoded.
+pub type UserNoticeFields<'a> = (Optional<NoticeReference<'a>>, Optional<DisplayText<'a>>);
+
+impl<'a> FromFields<UserNoticeFields<'a>> for UserNotice<'a> {
+    ghost fields = { λ v. (v.notice_ref, v.explicit_text) };
+
+    fn from_fields(members: UserNoticeFields<'a>) -> Self {
+        let (notice_ref, explicit_text) = members;
+        UserNotice {
+            notice_ref,
+            explicit_text,
+        }
+    }
+}
+
+impl<'a> Sequence for UserNotice<'a> {
+    ghost meaning = { sequence (two_fields (optional (alternative
+        ⟦<NoticeReference<'a> as Described>⟧.element)) (optional
+        ⟦<DisplayText<'a> as DescribedChoice>⟧.alternative))
+        ⟦<UserNotice<'a> as FromFields<UserNoticeFields<'a>>>⟧.fields };
+
+    ghost fits = { (refl, refl) };
+}
+
+/// Decodes the fields one after the other, with the errors of every [`Sequence`].
+impl<'a, R: Reader<Borrowed = &'a [u8]>> DecodeValue<R> for UserNotice<'a> {
+    type Error = Error;
+
+    ghost decode_value_answers = { λ h s result t.
+        ⟦<UserNoticeFields<'a> as Decode<SliceReader<'a>>>⟧.decode_answers s (map_ok
+        ⟦<UserNotice<'a> as FromFields<UserNoticeFields<'a>>>⟧.fields result) t };
+
+    fn decode_value(alloc: Global, reader: &mut R, header: Header) -> Result<Self, Error> {
+        decode_sequence::<R, UserNoticeFields<'a>, Self>(alloc, reader, header)
+    }
+
+    fn is_value(&self) {
+        if let Some(value) = &self.notice_ref.0 {
+            <NoticeReference<'a> as DecodeValue<R>>::is_value(value);
+        }
+        if let Some(value) = &self.explicit_text.0 {
+            match value {
+                DisplayText::Ia5String(value) => <Ia5StringRef<'a> as DecodeValue<R>>::is_value(
+                    value,
+                ),
+                DisplayText::VisibleString(value) => <VisibleStringRef<'a> as DecodeValue<
+                    R,
+                >>::is_value(value),
+                DisplayText::BmpString(value) => <BmpStringRef<'a> as DecodeValue<R>>::is_value(
+                    value,
+                ),
+                DisplayText::Utf8String(value) => <Utf8StringRef<'a> as DecodeValue<R>>::is_value(
+                    value,
+                ),
+            }
+        }
+    }
+}
+
+/// Writes the fields one after the other, with the errors of every [`Sequence`].
+impl<'a> EncodeValue for UserNotice<'a> {
+    ghost value_size = { λ v. ⟦<UserNoticeFields<'a> as Encode>⟧.size
+        (⟦<UserNotice<'a> as FromFields<UserNoticeFields<'a>>>⟧.fields v) };
+
+    ghost encode_value_answers = { λ v. ⟦<UserNoticeFields<'a> as Encode>⟧.encode_answers
+        (⟦<UserNotice<'a> as FromFields<UserNoticeFields<'a>>>⟧.fields v) };
+
+    fn value_len(&self) -> Result<Length, Error> {
+        field_refs!(self, (notice_ref, explicit_text)).encoded_len()
+    }
+
+    fn encode_value<W: Writer>(&self, writer: &mut W) -> Result<(), Error> {
+        field_refs!(self, (notice_ref, explicit_text)).encode(writer)
+    }
+}
+
+impl<'a> Item for UserNotice<'a> {
+    ghost item = { sequence_item ⟦<UserNotice<'a> as Described>⟧.element };
+}
+
+impl<'a, R: Reader<Borrowed = &'a [u8]>> DecodeItem<R> for UserNotice<'a> {
+    ghost is_item = { sequence_is_item ⟦<UserNotice<'a> as Described>⟧.element refl };
+
+    ghost decodes_items = { decodes_same (sequence_item ⟦<UserNotice<'a> as Described>⟧.element) };
+}
+
+impl<'a> BorrowedItem for UserNotice<'a> {
+    ghost borrowed = { refl };
+}
+
+impl<'a> Nestable for UserNotice<'a> {
+    ghost nestable = { Prim.omega arith };
+}

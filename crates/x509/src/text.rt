@@ -1,0 +1,9 @@
+//! The characters of strings.
+
+mod bmp;
+mod directory;
+mod latin1;
+mod string_text;
+
+pub use latin1::Latin1;
+pub use string_text::Text;
