@@ -1,0 +1,107 @@
+//! Written by asn1_compile from the module PKCS-1: change the module instead.
+//!
+//! OtherPrimeInfo.
+ghost use Rattle.std.specs.Prelude.{◌≡◌};
+ghost use Rattle.std.proofs.Common.{arith, refl};
+ghost use Rattle.der.specs.Prelude.{map_ok};
+ghost use Rattle.der_asn1.specs.Item.{decodes_same};
+ghost use Rattle.der_asn1.specs.Meaning.{alternative, field, sequence, sequence_is_item, sequence_item, two_fields};
+
+use der::{
+    Decode, DecodeValue, Encode, EncodeValue, Error, FromFields, Header, Length, Reader, Sequence,
+    SliceReader, Writer, decode_sequence, field_refs,
+};
+use der_asn1::{BorrowedItem, DecodeItem, Described, IntRef, Item, Nestable};
+use std::alloc::Global;
+
+/// A prime of a private key behind the first two (RFC 8017, A.1.2), borrowed from the input.
+#[derive(Clone, Copy, Drop)]
+pub struct OtherPrimeInfo<'a> {
+    /// The prime factor of n.
+    pub prime: IntRef<'a>,
+    /// The exponent: d mod (prime - 1).
+    pub exponent: IntRef<'a>,
+    /// The coefficient: the inverse of the product of the primes in front of this one, mod the
+    /// prime.
+    pub coefficient: IntRef<'a>,
+}
+
+/// The fields of a [`OtherPrimeInfo`] in pairs, in the order in which they are encoded.
+pub type OtherPrimeInfoFields<'a> = (IntRef<'a>, (IntRef<'a>, IntRef<'a>));
+
+impl<'a> FromFields<OtherPrimeInfoFields<'a>> for OtherPrimeInfo<'a> {
+    ghost fields = { λ v. (v.prime, (v.exponent, v.coefficient)) };
+
+    fn from_fields(members: OtherPrimeInfoFields<'a>) -> Self {
+        let (prime, (exponent, coefficient)) = members;
+        OtherPrimeInfo {
+            prime,
+            exponent,
+            coefficient,
+        }
+    }
+}
+
+impl<'a> Sequence for OtherPrimeInfo<'a> {
+    ghost meaning = { sequence (two_fields (field (alternative ⟦<IntRef<'a> as Described>⟧.element))
+        (two_fields (field (alternative ⟦<IntRef<'a> as Described>⟧.element)) (field (alternative
+        ⟦<IntRef<'a> as Described>⟧.element))))
+        ⟦<OtherPrimeInfo<'a> as FromFields<OtherPrimeInfoFields<'a>>>⟧.fields };
+
+    ghost fits = { (refl, refl) };
+}
+
+/// Decodes the fields one after the other, with the errors of every [`Sequence`].
+impl<'a, R: Reader<Borrowed = &'a [u8]>> DecodeValue<R> for OtherPrimeInfo<'a> {
+    type Error = Error;
+
+    ghost decode_value_answers = { λ h s result t.
+        ⟦<OtherPrimeInfoFields<'a> as Decode<SliceReader<'a>>>⟧.decode_answers s (map_ok
+        ⟦<OtherPrimeInfo<'a> as FromFields<OtherPrimeInfoFields<'a>>>⟧.fields result) t };
+
+    fn decode_value(alloc: Global, reader: &mut R, header: Header) -> Result<Self, Error> {
+        decode_sequence::<R, OtherPrimeInfoFields<'a>, Self>(alloc, reader, header)
+    }
+
+    fn is_value(&self) {
+        <IntRef<'a> as DecodeValue<R>>::is_value(&self.prime);
+        <IntRef<'a> as DecodeValue<R>>::is_value(&self.exponent);
+        <IntRef<'a> as DecodeValue<R>>::is_value(&self.coefficient);
+    }
+}
+
+/// Writes the fields one after the other, with the errors of every [`Sequence`].
+impl<'a> EncodeValue for OtherPrimeInfo<'a> {
+    ghost value_size = { λ v. ⟦<OtherPrimeInfoFields<'a> as Encode>⟧.size
+        (⟦<OtherPrimeInfo<'a> as FromFields<OtherPrimeInfoFields<'a>>>⟧.fields v) };
+
+    ghost encode_value_answers = { λ v. ⟦<OtherPrimeInfoFields<'a> as Encode>⟧.encode_answers
+        (⟦<OtherPrimeInfo<'a> as FromFields<OtherPrimeInfoFields<'a>>>⟧.fields v) };
+
+    fn value_len(&self) -> Result<Length, Error> {
+        field_refs!(self, (prime, (exponent, coefficient))).encoded_len()
+    }
+
+    fn encode_value<W: Writer>(&self, writer: &mut W) -> Result<(), Error> {
+        field_refs!(self, (prime, (exponent, coefficient))).encode(writer)
+    }
+}
+
+impl<'a> Item for OtherPrimeInfo<'a> {
+    ghost item = { sequence_item ⟦<OtherPrimeInfo<'a> as Described>⟧.element };
+}
+
+impl<'a, R: Reader<Borrowed = &'a [u8]>> DecodeItem<R> for OtherPrimeInfo<'a> {
+    ghost is_item = { sequence_is_item ⟦<OtherPrimeInfo<'a> as Described>⟧.element refl };
+
+    ghost decodes_items = { decodes_same (sequence_item
+        ⟦<OtherPrimeInfo<'a> as Described>⟧.element) };
+}
+
+impl<'a> BorrowedItem for OtherPrimeInfo<'a> {
+    ghost borrowed = { refl };
+}
+
+impl<'a> Nestable for OtherPrimeInfo<'a> {
+    ghost nestable = { Prim.omega arith };
+}

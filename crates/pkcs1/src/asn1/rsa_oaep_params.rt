@@ -1,0 +1,137 @@
+//! Written by asn1_compile from the module PKCS-1: change the module instead.
+//!
+//! RsaOaepParams.
+ghost use Rattle.std.specs.Prelude.{◌≡◌};
+ghost use Rattle.std.proofs.Common.{arith, refl};
+ghost use Rattle.der.specs.Prelude.{map_ok};
+ghost use Rattle.der_asn1.specs.Item.{decodes_same};
+ghost use Rattle.der_asn1.specs.DefaultedTo.{defaulted_to};
+ghost use Rattle.der_asn1.specs.Meaning.{seen, sequence, sequence_is_item, sequence_item, two_fields};
+
+use crate::asn1::rsa_oaep_params_part1::{RsaOaepParamsPart1, RsaOaepParamsPart1Fields};
+use crate::asn1::rsa_oaep_params_part2::{RsaOaepParamsPart2, RsaOaepParamsPart2Fields};
+use crate::{EmptyLabelDefault, Mgf1Sha1Default, Sha1Default};
+use der::{
+    Decode, DecodeValue, Encode, EncodeValue, Error, FromFields, Header, Length, Reader, Sequence,
+    SliceReader, Writer, decode_sequence, field_refs,
+};
+use der_asn1::{
+    BorrowedItem, DecodeItem, DefaultOf, DefaultedTo, Described, Explicit, Item, Nestable,
+};
+use spki::AlgorithmIdentifierRef;
+use std::alloc::Global;
+
+/// The parameters of encryption with OAEP (RFC 8017, A.2.1; RFC 4055, 4.1), borrowed from the input.
+#[derive(Drop)]
+pub struct RsaOaepParams<'a> {
+    /// The hash algorithm. The default is SHA-1.
+    pub hash: DefaultedTo<Explicit<AlgorithmIdentifierRef<'a>, 0>, Sha1Default>,
+    /// The mask generation function. The default is MGF1 with SHA-1.
+    pub mask_gen: DefaultedTo<Explicit<AlgorithmIdentifierRef<'a>, 1>, Mgf1Sha1Default>,
+    /// The source of the label. The default is the empty label.
+    pub p_source: DefaultedTo<Explicit<AlgorithmIdentifierRef<'a>, 2>, EmptyLabelDefault>,
+}
+
+/// The fields of a [`RsaOaepParams`] in pairs, in the order in which they are encoded.
+pub type RsaOaepParamsFields<'a> = (RsaOaepParamsPart1Fields<'a>, RsaOaepParamsPart2Fields<'a>);
+
+impl<'a> FromFields<(RsaOaepParamsPart1<'a>, RsaOaepParamsPart2<'a>)> for RsaOaepParams<'a> {
+    ghost fields = { λ v. (
+      record {
+        hash = v.hash;
+        mask_gen = v.mask_gen;
+      },
+      record { p_source = v.p_source },
+    ) };
+
+    fn from_fields(members: (RsaOaepParamsPart1<'a>, RsaOaepParamsPart2<'a>)) -> Self {
+        let (part1, part2) = members;
+        RsaOaepParams {
+            hash: part1.hash,
+            mask_gen: part1.mask_gen,
+            p_source: part2.p_source,
+        }
+    }
+}
+
+impl<'a> Sequence for RsaOaepParams<'a> {
+    ghost meaning = { sequence (two_fields (seen
+        ⟦<RsaOaepParamsPart1<'a> as FromFields<RsaOaepParamsPart1Fields<'a>>>⟧.fields (two_fields
+        (defaulted_to
+        ⟦<Sha1Default as DefaultOf<Explicit<AlgorithmIdentifierRef<'a>, 0>>>⟧.default_contents
+        ⟦<Explicit<AlgorithmIdentifierRef<'a>, 0> as Described>⟧.element (λ v. v.0)) (defaulted_to
+        ⟦<Mgf1Sha1Default as DefaultOf<Explicit<AlgorithmIdentifierRef<'a>, 1>>>⟧.default_contents
+        ⟦<Explicit<AlgorithmIdentifierRef<'a>, 1> as Described>⟧.element (λ v. v.0)))) (seen
+        ⟦<RsaOaepParamsPart2<'a> as FromFields<RsaOaepParamsPart2Fields<'a>>>⟧.fields (defaulted_to
+        ⟦<EmptyLabelDefault as DefaultOf<Explicit<AlgorithmIdentifierRef<'a>, 2>>>⟧.default_contents
+        ⟦<Explicit<AlgorithmIdentifierRef<'a>, 2> as Described>⟧.element (λ v. v.0))))
+        ⟦<RsaOaepParams<'a> as FromFields<(RsaOaepParamsPart1<'a>, RsaOaepParamsPart2<'a>)>>⟧.fields };
+
+    ghost fits = { (refl, refl) };
+}
+
+/// Decodes the fields one after the other, with the errors of every [`Sequence`].
+impl<'a, R: Reader<Borrowed = &'a [u8]>> DecodeValue<R> for RsaOaepParams<'a> {
+    type Error = Error;
+
+    ghost decode_value_answers = { λ h s result t.
+        ⟦<(RsaOaepParamsPart1<'a>, RsaOaepParamsPart2<'a>) as Decode<SliceReader<'a>>>⟧.decode_answers s
+        (map_ok
+        ⟦<RsaOaepParams<'a> as FromFields<(RsaOaepParamsPart1<'a>, RsaOaepParamsPart2<'a>)>>⟧.fields result) t };
+
+    fn decode_value(alloc: Global, reader: &mut R, header: Header) -> Result<Self, Error> {
+        decode_sequence::<R, (RsaOaepParamsPart1<'a>, RsaOaepParamsPart2<'a>), Self>(
+            alloc, reader, header,
+        )
+    }
+
+    fn is_value(&self) {
+        <Explicit<AlgorithmIdentifierRef<'a>, 0> as DecodeValue<R>>::is_value(&self.hash.0);
+        <Explicit<AlgorithmIdentifierRef<'a>, 1> as DecodeValue<R>>::is_value(&self.mask_gen.0);
+        <Explicit<AlgorithmIdentifierRef<'a>, 2> as DecodeValue<R>>::is_value(&self.p_source.0);
+    }
+}
+
+/// Writes the fields one after the other, with the errors of every [`Sequence`].
+impl<'a> EncodeValue for RsaOaepParams<'a> {
+    ghost value_size = { λ v. ⟦<RsaOaepParamsFields<'a> as Encode>⟧.size (
+      ⟦<RsaOaepParamsPart1<'a> as FromFields<RsaOaepParamsPart1Fields<'a>>>⟧.fields
+          (⟦<RsaOaepParams<'a> as FromFields<(RsaOaepParamsPart1<'a>, RsaOaepParamsPart2<'a>)>>⟧.fields v).0,
+      ⟦<RsaOaepParamsPart2<'a> as FromFields<RsaOaepParamsPart2Fields<'a>>>⟧.fields
+          (⟦<RsaOaepParams<'a> as FromFields<(RsaOaepParamsPart1<'a>, RsaOaepParamsPart2<'a>)>>⟧.fields v).1,
+    ) };
+
+    ghost encode_value_answers = { λ v. ⟦<RsaOaepParamsFields<'a> as Encode>⟧.encode_answers (
+      ⟦<RsaOaepParamsPart1<'a> as FromFields<RsaOaepParamsPart1Fields<'a>>>⟧.fields
+          (⟦<RsaOaepParams<'a> as FromFields<(RsaOaepParamsPart1<'a>, RsaOaepParamsPart2<'a>)>>⟧.fields v).0,
+      ⟦<RsaOaepParamsPart2<'a> as FromFields<RsaOaepParamsPart2Fields<'a>>>⟧.fields
+          (⟦<RsaOaepParams<'a> as FromFields<(RsaOaepParamsPart1<'a>, RsaOaepParamsPart2<'a>)>>⟧.fields v).1,
+    ) };
+
+    fn value_len(&self) -> Result<Length, Error> {
+        field_refs!(self, ((hash, mask_gen), p_source)).encoded_len()
+    }
+
+    fn encode_value<W: Writer>(&self, writer: &mut W) -> Result<(), Error> {
+        field_refs!(self, ((hash, mask_gen), p_source)).encode(writer)
+    }
+}
+
+impl<'a> Item for RsaOaepParams<'a> {
+    ghost item = { sequence_item ⟦<RsaOaepParams<'a> as Described>⟧.element };
+}
+
+impl<'a, R: Reader<Borrowed = &'a [u8]>> DecodeItem<R> for RsaOaepParams<'a> {
+    ghost is_item = { sequence_is_item ⟦<RsaOaepParams<'a> as Described>⟧.element refl };
+
+    ghost decodes_items = { decodes_same (sequence_item
+        ⟦<RsaOaepParams<'a> as Described>⟧.element) };
+}
+
+impl<'a> BorrowedItem for RsaOaepParams<'a> {
+    ghost borrowed = { refl };
+}
+
+impl<'a> Nestable for RsaOaepParams<'a> {
+    ghost nestable = { Prim.omega arith };
+}

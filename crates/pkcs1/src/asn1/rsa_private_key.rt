@@ -1,0 +1,236 @@
+//! Written by asn1_compile from the module PKCS-1: change the module instead.
+//!
+//! RsaPrivateKey.
+ghost use Rattle.std.specs.Prelude.{◌≡◌};
+ghost use Rattle.std.proofs.Common.{arith, refl};
+ghost use Rattle.der.specs.Prelude.{map_ok};
+ghost use Rattle.der_asn1.specs.Item.{decodes_same};
+ghost use Rattle.der_asn1.specs.Meaning.{alternative, field, optional, seen, sequence, sequence_is_item, sequence_item, two_fields};
+
+use crate::asn1::other_prime_infos::OtherPrimeInfos;
+use crate::asn1::rsa_private_key_part1::{RsaPrivateKeyPart1, RsaPrivateKeyPart1Fields};
+use crate::asn1::rsa_private_key_part2::{RsaPrivateKeyPart2, RsaPrivateKeyPart2Fields};
+use crate::asn1::rsa_private_key_part3::{RsaPrivateKeyPart3, RsaPrivateKeyPart3Fields};
+use der::{
+    Decode, DecodeValue, Encode, EncodeValue, Error, FromFields, Header, Length, Reader, Sequence,
+    SliceReader, Writer, decode_sequence, field_refs,
+};
+use der_asn1::{BorrowedItem, DecodeItem, Described, IntRef, Item, Nestable, Optional};
+use std::alloc::Global;
+
+/// A private RSA key (RFC 8017, A.1.2), borrowed from the input. That the numbers belong together
+/// is not checked.
+#[derive(Clone, Copy, Drop)]
+pub struct RsaPrivateKey<'a> {
+    /// The version: 0 for a key with two primes, 1 for one with more. Decoding does not check this.
+    pub version: IntRef<'a>,
+    /// The modulus n.
+    pub modulus: IntRef<'a>,
+    /// The public exponent e.
+    pub public_exponent: IntRef<'a>,
+    /// The private exponent d.
+    pub private_exponent: IntRef<'a>,
+    /// The prime factor p of n.
+    pub prime1: IntRef<'a>,
+    /// The prime factor q of n.
+    pub prime2: IntRef<'a>,
+    /// The exponent d mod (p - 1).
+    pub exponent1: IntRef<'a>,
+    /// The exponent d mod (q - 1).
+    pub exponent2: IntRef<'a>,
+    /// The coefficient: the inverse of q mod p.
+    pub coefficient: IntRef<'a>,
+    /// The other primes, if n has more than two. Decoding does not compare this with the version.
+    pub other_prime_infos: Optional<OtherPrimeInfos<'a>>,
+}
+
+/// The fields of a [`RsaPrivateKey`] in pairs, in the order in which they are encoded.
+pub type RsaPrivateKeyFields<'a> = (
+    RsaPrivateKeyPart1Fields<'a>,
+    (RsaPrivateKeyPart2Fields<'a>, RsaPrivateKeyPart3Fields<'a>),
+);
+
+impl<'a> FromFields<
+    (
+        RsaPrivateKeyPart1<'a>,
+        (RsaPrivateKeyPart2<'a>, RsaPrivateKeyPart3<'a>),
+    ),
+> for RsaPrivateKey<'a> {
+    ghost fields = { λ v. (
+      record {
+        version = v.version;
+        modulus = v.modulus;
+        public_exponent = v.public_exponent;
+        private_exponent = v.private_exponent;
+      },
+      (
+        record {
+          prime1 = v.prime1;
+          prime2 = v.prime2;
+          exponent1 = v.exponent1;
+          exponent2 = v.exponent2;
+        },
+        record {
+          coefficient = v.coefficient;
+          other_prime_infos = v.other_prime_infos;
+        },
+      ),
+    ) };
+
+    fn from_fields(
+        members: (
+            RsaPrivateKeyPart1<'a>,
+            (RsaPrivateKeyPart2<'a>, RsaPrivateKeyPart3<'a>),
+        ),
+    ) -> Self {
+        let (part1, (part2, part3)) = members;
+        RsaPrivateKey {
+            version: part1.version,
+            modulus: part1.modulus,
+            public_exponent: part1.public_exponent,
+            private_exponent: part1.private_exponent,
+            prime1: part2.prime1,
+            prime2: part2.prime2,
+            exponent1: part2.exponent1,
+            exponent2: part2.exponent2,
+            coefficient: part3.coefficient,
+            other_prime_infos: part3.other_prime_infos,
+        }
+    }
+}
+
+impl<'a> Sequence for RsaPrivateKey<'a> {
+    ghost meaning = { sequence (two_fields (seen
+        ⟦<RsaPrivateKeyPart1<'a> as FromFields<RsaPrivateKeyPart1Fields<'a>>>⟧.fields (two_fields
+        (two_fields (field (alternative ⟦<IntRef<'a> as Described>⟧.element)) (field (alternative
+        ⟦<IntRef<'a> as Described>⟧.element))) (two_fields (field (alternative
+        ⟦<IntRef<'a> as Described>⟧.element)) (field (alternative
+        ⟦<IntRef<'a> as Described>⟧.element))))) (two_fields (seen
+        ⟦<RsaPrivateKeyPart2<'a> as FromFields<RsaPrivateKeyPart2Fields<'a>>>⟧.fields (two_fields
+        (two_fields (field (alternative ⟦<IntRef<'a> as Described>⟧.element)) (field (alternative
+        ⟦<IntRef<'a> as Described>⟧.element))) (two_fields (field (alternative
+        ⟦<IntRef<'a> as Described>⟧.element)) (field (alternative
+        ⟦<IntRef<'a> as Described>⟧.element))))) (seen
+        ⟦<RsaPrivateKeyPart3<'a> as FromFields<RsaPrivateKeyPart3Fields<'a>>>⟧.fields (two_fields
+        (field (alternative ⟦<IntRef<'a> as Described>⟧.element)) (optional (alternative
+        ⟦<OtherPrimeInfos<'a> as Described>⟧.element))))))
+        ⟦<RsaPrivateKey<'a> as FromFields<(RsaPrivateKeyPart1<'a>,
+        (RsaPrivateKeyPart2<'a>, RsaPrivateKeyPart3<'a>))>>⟧.fields };
+
+    ghost fits = { (refl, refl) };
+}
+
+/// Decodes the fields one after the other, with the errors of every [`Sequence`].
+impl<'a, R: Reader<Borrowed = &'a [u8]>> DecodeValue<R> for RsaPrivateKey<'a> {
+    type Error = Error;
+
+    ghost decode_value_answers = { λ h s result t.
+        ⟦<(RsaPrivateKeyPart1<'a>,
+        (RsaPrivateKeyPart2<'a>, RsaPrivateKeyPart3<'a>)) as Decode<SliceReader<'a>>>⟧.decode_answers s
+        (map_ok ⟦<RsaPrivateKey<'a> as FromFields<(RsaPrivateKeyPart1<'a>,
+        (RsaPrivateKeyPart2<'a>, RsaPrivateKeyPart3<'a>))>>⟧.fields result) t };
+
+    fn decode_value(alloc: Global, reader: &mut R, header: Header) -> Result<Self, Error> {
+        decode_sequence::<
+            R,
+            (
+                RsaPrivateKeyPart1<'a>,
+                (RsaPrivateKeyPart2<'a>, RsaPrivateKeyPart3<'a>),
+            ),
+            Self,
+        >(alloc, reader, header)
+    }
+
+    fn is_value(&self) {
+        <IntRef<'a> as DecodeValue<R>>::is_value(&self.version);
+        <IntRef<'a> as DecodeValue<R>>::is_value(&self.modulus);
+        <IntRef<'a> as DecodeValue<R>>::is_value(&self.public_exponent);
+        <IntRef<'a> as DecodeValue<R>>::is_value(&self.private_exponent);
+        <IntRef<'a> as DecodeValue<R>>::is_value(&self.prime1);
+        <IntRef<'a> as DecodeValue<R>>::is_value(&self.prime2);
+        <IntRef<'a> as DecodeValue<R>>::is_value(&self.exponent1);
+        <IntRef<'a> as DecodeValue<R>>::is_value(&self.exponent2);
+        <IntRef<'a> as DecodeValue<R>>::is_value(&self.coefficient);
+        if let Some(value) = &self.other_prime_infos.0 {
+            <OtherPrimeInfos<'a> as DecodeValue<R>>::is_value(value);
+        }
+    }
+}
+
+/// Writes the fields one after the other, with the errors of every [`Sequence`].
+impl<'a> EncodeValue for RsaPrivateKey<'a> {
+    ghost value_size = { λ v. ⟦<RsaPrivateKeyFields<'a> as Encode>⟧.size (
+      ⟦<RsaPrivateKeyPart1<'a> as FromFields<RsaPrivateKeyPart1Fields<'a>>>⟧.fields
+          (⟦<RsaPrivateKey<'a> as FromFields<(RsaPrivateKeyPart1<'a>,
+        (RsaPrivateKeyPart2<'a>, RsaPrivateKeyPart3<'a>))>>⟧.fields v).0,
+      (
+        ⟦<RsaPrivateKeyPart2<'a> as FromFields<RsaPrivateKeyPart2Fields<'a>>>⟧.fields
+            (⟦<RsaPrivateKey<'a> as FromFields<(RsaPrivateKeyPart1<'a>,
+        (RsaPrivateKeyPart2<'a>, RsaPrivateKeyPart3<'a>))>>⟧.fields v).1.0,
+        ⟦<RsaPrivateKeyPart3<'a> as FromFields<RsaPrivateKeyPart3Fields<'a>>>⟧.fields
+            (⟦<RsaPrivateKey<'a> as FromFields<(RsaPrivateKeyPart1<'a>,
+        (RsaPrivateKeyPart2<'a>, RsaPrivateKeyPart3<'a>))>>⟧.fields v).1.1,
+      ),
+    ) };
+
+    ghost encode_value_answers = { λ v. ⟦<RsaPrivateKeyFields<'a> as Encode>⟧.encode_answers (
+      ⟦<RsaPrivateKeyPart1<'a> as FromFields<RsaPrivateKeyPart1Fields<'a>>>⟧.fields
+          (⟦<RsaPrivateKey<'a> as FromFields<(RsaPrivateKeyPart1<'a>,
+        (RsaPrivateKeyPart2<'a>, RsaPrivateKeyPart3<'a>))>>⟧.fields v).0,
+      (
+        ⟦<RsaPrivateKeyPart2<'a> as FromFields<RsaPrivateKeyPart2Fields<'a>>>⟧.fields
+            (⟦<RsaPrivateKey<'a> as FromFields<(RsaPrivateKeyPart1<'a>,
+        (RsaPrivateKeyPart2<'a>, RsaPrivateKeyPart3<'a>))>>⟧.fields v).1.0,
+        ⟦<RsaPrivateKeyPart3<'a> as FromFields<RsaPrivateKeyPart3Fields<'a>>>⟧.fields
+            (⟦<RsaPrivateKey<'a> as FromFields<(RsaPrivateKeyPart1<'a>,
+        (RsaPrivateKeyPart2<'a>, RsaPrivateKeyPart3<'a>))>>⟧.fields v).1.1,
+      ),
+    ) };
+
+    fn value_len(&self) -> Result<Length, Error> {
+        field_refs!(
+            self,
+            (
+                ((version, modulus), (public_exponent, private_exponent)),
+                (
+                    ((prime1, prime2), (exponent1, exponent2)),
+                    (coefficient, other_prime_infos)
+                )
+            )
+        )
+        .encoded_len()
+    }
+
+    fn encode_value<W: Writer>(&self, writer: &mut W) -> Result<(), Error> {
+        field_refs!(
+            self,
+            (
+                ((version, modulus), (public_exponent, private_exponent)),
+                (
+                    ((prime1, prime2), (exponent1, exponent2)),
+                    (coefficient, other_prime_infos)
+                )
+            )
+        )
+        .encode(writer)
+    }
+}
+
+impl<'a> Item for RsaPrivateKey<'a> {
+    ghost item = { sequence_item ⟦<RsaPrivateKey<'a> as Described>⟧.element };
+}
+
+impl<'a, R: Reader<Borrowed = &'a [u8]>> DecodeItem<R> for RsaPrivateKey<'a> {
+    ghost is_item = { sequence_is_item ⟦<RsaPrivateKey<'a> as Described>⟧.element refl };
+
+    ghost decodes_items = { decodes_same (sequence_item
+        ⟦<RsaPrivateKey<'a> as Described>⟧.element) };
+}
+
+impl<'a> BorrowedItem for RsaPrivateKey<'a> {
+    ghost borrowed = { refl };
+}
+
+impl<'a> Nestable for RsaPrivateKey<'a> {
+    ghost nestable = { Prim.omega arith };
+}

@@ -1,0 +1,101 @@
+//! Written by asn1_compile from the module PKCS-1: change the module instead.
+//!
+//! RsaPublicKey.
+ghost use Rattle.std.specs.Prelude.{◌≡◌};
+ghost use Rattle.std.proofs.Common.{arith, refl};
+ghost use Rattle.der.specs.Prelude.{map_ok};
+ghost use Rattle.der_asn1.specs.Item.{decodes_same};
+ghost use Rattle.der_asn1.specs.Meaning.{alternative, field, sequence, sequence_is_item, sequence_item, two_fields};
+
+use der::{
+    Decode, DecodeValue, Encode, EncodeValue, Error, FromFields, Header, Length, Reader, Sequence,
+    SliceReader, Writer, decode_sequence, field_refs,
+};
+use der_asn1::{BorrowedItem, DecodeItem, Described, IntRef, Item, Nestable};
+use std::alloc::Global;
+
+/// A public RSA key (RFC 8017, A.1.1), borrowed from the input.
+#[derive(Clone, Copy, Drop)]
+pub struct RsaPublicKey<'a> {
+    /// The modulus n.
+    pub modulus: IntRef<'a>,
+    /// The public exponent e.
+    pub public_exponent: IntRef<'a>,
+}
+
+/// The fields of a [`RsaPublicKey`] in pairs, in the order in which they are encoded.
+pub type RsaPublicKeyFields<'a> = (IntRef<'a>, IntRef<'a>);
+
+impl<'a> FromFields<RsaPublicKeyFields<'a>> for RsaPublicKey<'a> {
+    ghost fields = { λ v. (v.modulus, v.public_exponent) };
+
+    fn from_fields(members: RsaPublicKeyFields<'a>) -> Self {
+        let (modulus, public_exponent) = members;
+        RsaPublicKey {
+            modulus,
+            public_exponent,
+        }
+    }
+}
+
+impl<'a> Sequence for RsaPublicKey<'a> {
+    ghost meaning = { sequence (two_fields (field (alternative ⟦<IntRef<'a> as Described>⟧.element))
+        (field (alternative ⟦<IntRef<'a> as Described>⟧.element)))
+        ⟦<RsaPublicKey<'a> as FromFields<RsaPublicKeyFields<'a>>>⟧.fields };
+
+    ghost fits = { (refl, refl) };
+}
+
+/// Decodes the fields one after the other, with the errors of every [`Sequence`].
+impl<'a, R: Reader<Borrowed = &'a [u8]>> DecodeValue<R> for RsaPublicKey<'a> {
+    type Error = Error;
+
+    ghost decode_value_answers = { λ h s result t.
+        ⟦<RsaPublicKeyFields<'a> as Decode<SliceReader<'a>>>⟧.decode_answers s (map_ok
+        ⟦<RsaPublicKey<'a> as FromFields<RsaPublicKeyFields<'a>>>⟧.fields result) t };
+
+    fn decode_value(alloc: Global, reader: &mut R, header: Header) -> Result<Self, Error> {
+        decode_sequence::<R, RsaPublicKeyFields<'a>, Self>(alloc, reader, header)
+    }
+
+    fn is_value(&self) {
+        <IntRef<'a> as DecodeValue<R>>::is_value(&self.modulus);
+        <IntRef<'a> as DecodeValue<R>>::is_value(&self.public_exponent);
+    }
+}
+
+/// Writes the fields one after the other, with the errors of every [`Sequence`].
+impl<'a> EncodeValue for RsaPublicKey<'a> {
+    ghost value_size = { λ v. ⟦<RsaPublicKeyFields<'a> as Encode>⟧.size
+        (⟦<RsaPublicKey<'a> as FromFields<RsaPublicKeyFields<'a>>>⟧.fields v) };
+
+    ghost encode_value_answers = { λ v. ⟦<RsaPublicKeyFields<'a> as Encode>⟧.encode_answers
+        (⟦<RsaPublicKey<'a> as FromFields<RsaPublicKeyFields<'a>>>⟧.fields v) };
+
+    fn value_len(&self) -> Result<Length, Error> {
+        field_refs!(self, (modulus, public_exponent)).encoded_len()
+    }
+
+    fn encode_value<W: Writer>(&self, writer: &mut W) -> Result<(), Error> {
+        field_refs!(self, (modulus, public_exponent)).encode(writer)
+    }
+}
+
+impl<'a> Item for RsaPublicKey<'a> {
+    ghost item = { sequence_item ⟦<RsaPublicKey<'a> as Described>⟧.element };
+}
+
+impl<'a, R: Reader<Borrowed = &'a [u8]>> DecodeItem<R> for RsaPublicKey<'a> {
+    ghost is_item = { sequence_is_item ⟦<RsaPublicKey<'a> as Described>⟧.element refl };
+
+    ghost decodes_items = { decodes_same (sequence_item
+        ⟦<RsaPublicKey<'a> as Described>⟧.element) };
+}
+
+impl<'a> BorrowedItem for RsaPublicKey<'a> {
+    ghost borrowed = { refl };
+}
+
+impl<'a> Nestable for RsaPublicKey<'a> {
+    ghost nestable = { Prim.omega arith };
+}

@@ -1,0 +1,105 @@
+//! Written by asn1_compile from the module PrivateKeys: change the module instead.
+//!
+//! EncryptedPrivateKeyInfo.
+ghost use Rattle.std.specs.Prelude.{◌≡◌};
+ghost use Rattle.std.proofs.Common.{arith, refl};
+ghost use Rattle.der.specs.Prelude.{map_ok};
+ghost use Rattle.der_asn1.specs.Item.{decodes_same};
+ghost use Rattle.der_asn1.specs.Meaning.{alternative, field, sequence, sequence_is_item, sequence_item, two_fields};
+
+use der::{
+    Decode, DecodeValue, Encode, EncodeValue, Error, FromFields, Header, Length, Reader, Sequence,
+    SliceReader, Writer, decode_sequence, field_refs,
+};
+use der_asn1::{BorrowedItem, DecodeItem, Described, Item, Nestable, OctetStringRef};
+use spki::AlgorithmIdentifierRef;
+use std::alloc::Global;
+
+/// An encrypted private key with the algorithm of its encryption (RFC 5958, 3), borrowed from the
+/// input.
+#[derive(Clone, Copy, Drop)]
+pub struct EncryptedPrivateKeyInfo<'a> {
+    /// The algorithm of the encryption.
+    pub encryption_algorithm: AlgorithmIdentifierRef<'a>,
+    /// The octets of the encryption of a PrivateKeyInfo.
+    pub encrypted_data: OctetStringRef<'a>,
+}
+
+/// The fields of a [`EncryptedPrivateKeyInfo`] in pairs, in the order in which they are encoded.
+pub type EncryptedPrivateKeyInfoFields<'a> = (AlgorithmIdentifierRef<'a>, OctetStringRef<'a>);
+
+impl<'a> FromFields<EncryptedPrivateKeyInfoFields<'a>> for EncryptedPrivateKeyInfo<'a> {
+    ghost fields = { λ v. (v.encryption_algorithm, v.encrypted_data) };
+
+    fn from_fields(members: EncryptedPrivateKeyInfoFields<'a>) -> Self {
+        let (encryption_algorithm, encrypted_data) = members;
+        EncryptedPrivateKeyInfo {
+            encryption_algorithm,
+            encrypted_data,
+        }
+    }
+}
+
+impl<'a> Sequence for EncryptedPrivateKeyInfo<'a> {
+    ghost meaning = { sequence (two_fields (field (alternative
+        ⟦<AlgorithmIdentifierRef<'a> as Described>⟧.element)) (field (alternative
+        ⟦<OctetStringRef<'a> as Described>⟧.element)))
+        ⟦<EncryptedPrivateKeyInfo<'a> as FromFields<EncryptedPrivateKeyInfoFields<'a>>>⟧.fields };
+
+    ghost fits = { (refl, refl) };
+}
+
+/// Decodes the fields one after the other, with the errors of every [`Sequence`].
+impl<'a, R: Reader<Borrowed = &'a [u8]>> DecodeValue<R> for EncryptedPrivateKeyInfo<'a> {
+    type Error = Error;
+
+    ghost decode_value_answers = { λ h s result t.
+        ⟦<EncryptedPrivateKeyInfoFields<'a> as Decode<SliceReader<'a>>>⟧.decode_answers s (map_ok
+        ⟦<EncryptedPrivateKeyInfo<'a> as FromFields<EncryptedPrivateKeyInfoFields<'a>>>⟧.fields result) t };
+
+    fn decode_value(alloc: Global, reader: &mut R, header: Header) -> Result<Self, Error> {
+        decode_sequence::<R, EncryptedPrivateKeyInfoFields<'a>, Self>(alloc, reader, header)
+    }
+
+    fn is_value(&self) {
+        <AlgorithmIdentifierRef<'a> as DecodeValue<R>>::is_value(&self.encryption_algorithm);
+        <OctetStringRef<'a> as DecodeValue<R>>::is_value(&self.encrypted_data);
+    }
+}
+
+/// Writes the fields one after the other, with the errors of every [`Sequence`].
+impl<'a> EncodeValue for EncryptedPrivateKeyInfo<'a> {
+    ghost value_size = { λ v. ⟦<EncryptedPrivateKeyInfoFields<'a> as Encode>⟧.size
+        (⟦<EncryptedPrivateKeyInfo<'a> as FromFields<EncryptedPrivateKeyInfoFields<'a>>>⟧.fields v) };
+
+    ghost encode_value_answers = { λ v.
+        ⟦<EncryptedPrivateKeyInfoFields<'a> as Encode>⟧.encode_answers
+        (⟦<EncryptedPrivateKeyInfo<'a> as FromFields<EncryptedPrivateKeyInfoFields<'a>>>⟧.fields v) };
+
+    fn value_len(&self) -> Result<Length, Error> {
+        field_refs!(self, (encryption_algorithm, encrypted_data)).encoded_len()
+    }
+
+    fn encode_value<W: Writer>(&self, writer: &mut W) -> Result<(), Error> {
+        field_refs!(self, (encryption_algorithm, encrypted_data)).encode(writer)
+    }
+}
+
+impl<'a> Item for EncryptedPrivateKeyInfo<'a> {
+    ghost item = { sequence_item ⟦<EncryptedPrivateKeyInfo<'a> as Described>⟧.element };
+}
+
+impl<'a, R: Reader<Borrowed = &'a [u8]>> DecodeItem<R> for EncryptedPrivateKeyInfo<'a> {
+    ghost is_item = { sequence_is_item ⟦<EncryptedPrivateKeyInfo<'a> as Described>⟧.element refl };
+
+    ghost decodes_items = { decodes_same (sequence_item
+        ⟦<EncryptedPrivateKeyInfo<'a> as Described>⟧.element) };
+}
+
+impl<'a> BorrowedItem for EncryptedPrivateKeyInfo<'a> {
+    ghost borrowed = { refl };
+}
+
+impl<'a> Nestable for EncryptedPrivateKeyInfo<'a> {
+    ghost nestable = { Prim.omega arith };
+}

@@ -1,0 +1,102 @@
+//! Written by asn1_compile from the module PrivateKeys: change the module instead.
+//!
+//! PbeParameter.
+ghost use Rattle.std.specs.Prelude.{◌≡◌};
+ghost use Rattle.std.proofs.Common.{arith, refl};
+ghost use Rattle.der.specs.Prelude.{map_ok};
+ghost use Rattle.der_asn1.specs.Item.{decodes_same};
+ghost use Rattle.der_asn1.specs.Meaning.{alternative, field, sequence, sequence_is_item, sequence_item, two_fields};
+
+use der::{
+    Decode, DecodeValue, Encode, EncodeValue, Error, FromFields, Header, Length, Reader, Sequence,
+    SliceReader, Writer, decode_sequence, field_refs,
+};
+use der_asn1::{BorrowedItem, DecodeItem, Described, IntRef, Item, Nestable, OctetStringRef};
+use std::alloc::Global;
+
+/// The parameters of encryption with a password by PBES1 (RFC 8018, A.3), borrowed from the input.
+#[derive(Clone, Copy, Drop)]
+pub struct PbeParameter<'a> {
+    /// The salt, which should have eight octets. Their number is not checked.
+    pub salt: OctetStringRef<'a>,
+    /// The number of iterations. That it is positive is not checked.
+    pub iteration_count: IntRef<'a>,
+}
+
+/// The fields of a [`PbeParameter`] in pairs, in the order in which they are encoded.
+pub type PbeParameterFields<'a> = (OctetStringRef<'a>, IntRef<'a>);
+
+impl<'a> FromFields<PbeParameterFields<'a>> for PbeParameter<'a> {
+    ghost fields = { λ v. (v.salt, v.iteration_count) };
+
+    fn from_fields(members: PbeParameterFields<'a>) -> Self {
+        let (salt, iteration_count) = members;
+        PbeParameter {
+            salt,
+            iteration_count,
+        }
+    }
+}
+
+impl<'a> Sequence for PbeParameter<'a> {
+    ghost meaning = { sequence (two_fields (field (alternative
+        ⟦<OctetStringRef<'a> as Described>⟧.element)) (field (alternative
+        ⟦<IntRef<'a> as Described>⟧.element)))
+        ⟦<PbeParameter<'a> as FromFields<PbeParameterFields<'a>>>⟧.fields };
+
+    ghost fits = { (refl, refl) };
+}
+
+/// Decodes the fields one after the other, with the errors of every [`Sequence`].
+impl<'a, R: Reader<Borrowed = &'a [u8]>> DecodeValue<R> for PbeParameter<'a> {
+    type Error = Error;
+
+    ghost decode_value_answers = { λ h s result t.
+        ⟦<PbeParameterFields<'a> as Decode<SliceReader<'a>>>⟧.decode_answers s (map_ok
+        ⟦<PbeParameter<'a> as FromFields<PbeParameterFields<'a>>>⟧.fields result) t };
+
+    fn decode_value(alloc: Global, reader: &mut R, header: Header) -> Result<Self, Error> {
+        decode_sequence::<R, PbeParameterFields<'a>, Self>(alloc, reader, header)
+    }
+
+    fn is_value(&self) {
+        <OctetStringRef<'a> as DecodeValue<R>>::is_value(&self.salt);
+        <IntRef<'a> as DecodeValue<R>>::is_value(&self.iteration_count);
+    }
+}
+
+/// Writes the fields one after the other, with the errors of every [`Sequence`].
+impl<'a> EncodeValue for PbeParameter<'a> {
+    ghost value_size = { λ v. ⟦<PbeParameterFields<'a> as Encode>⟧.size
+        (⟦<PbeParameter<'a> as FromFields<PbeParameterFields<'a>>>⟧.fields v) };
+
+    ghost encode_value_answers = { λ v. ⟦<PbeParameterFields<'a> as Encode>⟧.encode_answers
+        (⟦<PbeParameter<'a> as FromFields<PbeParameterFields<'a>>>⟧.fields v) };
+
+    fn value_len(&self) -> Result<Length, Error> {
+        field_refs!(self, (salt, iteration_count)).encoded_len()
+    }
+
+    fn encode_value<W: Writer>(&self, writer: &mut W) -> Result<(), Error> {
+        field_refs!(self, (salt, iteration_count)).encode(writer)
+    }
+}
+
+impl<'a> Item for PbeParameter<'a> {
+    ghost item = { sequence_item ⟦<PbeParameter<'a> as Described>⟧.element };
+}
+
+impl<'a, R: Reader<Borrowed = &'a [u8]>> DecodeItem<R> for PbeParameter<'a> {
+    ghost is_item = { sequence_is_item ⟦<PbeParameter<'a> as Described>⟧.element refl };
+
+    ghost decodes_items = { decodes_same (sequence_item
+        ⟦<PbeParameter<'a> as Described>⟧.element) };
+}
+
+impl<'a> BorrowedItem for PbeParameter<'a> {
+    ghost borrowed = { refl };
+}
+
+impl<'a> Nestable for PbeParameter<'a> {
+    ghost nestable = { Prim.omega arith };
+}

@@ -1,0 +1,102 @@
+//! Written by asn1_compile from the module PrivateKeys: change the module instead.
+//!
+//! Pbes2Params.
+ghost use Rattle.std.specs.Prelude.{◌≡◌};
+ghost use Rattle.std.proofs.Common.{arith, refl};
+ghost use Rattle.der.specs.Prelude.{map_ok};
+ghost use Rattle.der_asn1.specs.Item.{decodes_same};
+ghost use Rattle.der_asn1.specs.Meaning.{alternative, field, sequence, sequence_is_item, sequence_item, two_fields};
+
+use der::{
+    Decode, DecodeValue, Encode, EncodeValue, Error, FromFields, Header, Length, Reader, Sequence,
+    SliceReader, Writer, decode_sequence, field_refs,
+};
+use der_asn1::{BorrowedItem, DecodeItem, Described, Item, Nestable};
+use spki::AlgorithmIdentifierRef;
+use std::alloc::Global;
+
+/// The parameters of encryption with a password by PBES2 (RFC 8018, A.4), borrowed from the input.
+#[derive(Clone, Copy, Drop)]
+pub struct Pbes2Params<'a> {
+    /// The algorithm that derives the key from the password.
+    pub key_derivation_func: AlgorithmIdentifierRef<'a>,
+    /// The algorithm of the encryption.
+    pub encryption_scheme: AlgorithmIdentifierRef<'a>,
+}
+
+/// The fields of a [`Pbes2Params`] in pairs, in the order in which they are encoded.
+pub type Pbes2ParamsFields<'a> = (AlgorithmIdentifierRef<'a>, AlgorithmIdentifierRef<'a>);
+
+impl<'a> FromFields<Pbes2ParamsFields<'a>> for Pbes2Params<'a> {
+    ghost fields = { λ v. (v.key_derivation_func, v.encryption_scheme) };
+
+    fn from_fields(members: Pbes2ParamsFields<'a>) -> Self {
+        let (key_derivation_func, encryption_scheme) = members;
+        Pbes2Params {
+            key_derivation_func,
+            encryption_scheme,
+        }
+    }
+}
+
+impl<'a> Sequence for Pbes2Params<'a> {
+    ghost meaning = { sequence (two_fields (field (alternative
+        ⟦<AlgorithmIdentifierRef<'a> as Described>⟧.element)) (field (alternative
+        ⟦<AlgorithmIdentifierRef<'a> as Described>⟧.element)))
+        ⟦<Pbes2Params<'a> as FromFields<Pbes2ParamsFields<'a>>>⟧.fields };
+
+    ghost fits = { (refl, refl) };
+}
+
+/// Decodes the fields one after the other, with the errors of every [`Sequence`].
+impl<'a, R: Reader<Borrowed = &'a [u8]>> DecodeValue<R> for Pbes2Params<'a> {
+    type Error = Error;
+
+    ghost decode_value_answers = { λ h s result t.
+        ⟦<Pbes2ParamsFields<'a> as Decode<SliceReader<'a>>>⟧.decode_answers s (map_ok
+        ⟦<Pbes2Params<'a> as FromFields<Pbes2ParamsFields<'a>>>⟧.fields result) t };
+
+    fn decode_value(alloc: Global, reader: &mut R, header: Header) -> Result<Self, Error> {
+        decode_sequence::<R, Pbes2ParamsFields<'a>, Self>(alloc, reader, header)
+    }
+
+    fn is_value(&self) {
+        <AlgorithmIdentifierRef<'a> as DecodeValue<R>>::is_value(&self.key_derivation_func);
+        <AlgorithmIdentifierRef<'a> as DecodeValue<R>>::is_value(&self.encryption_scheme);
+    }
+}
+
+/// Writes the fields one after the other, with the errors of every [`Sequence`].
+impl<'a> EncodeValue for Pbes2Params<'a> {
+    ghost value_size = { λ v. ⟦<Pbes2ParamsFields<'a> as Encode>⟧.size
+        (⟦<Pbes2Params<'a> as FromFields<Pbes2ParamsFields<'a>>>⟧.fields v) };
+
+    ghost encode_value_answers = { λ v. ⟦<Pbes2ParamsFields<'a> as Encode>⟧.encode_answers
+        (⟦<Pbes2Params<'a> as FromFields<Pbes2ParamsFields<'a>>>⟧.fields v) };
+
+    fn value_len(&self) -> Result<Length, Error> {
+        field_refs!(self, (key_derivation_func, encryption_scheme)).encoded_len()
+    }
+
+    fn encode_value<W: Writer>(&self, writer: &mut W) -> Result<(), Error> {
+        field_refs!(self, (key_derivation_func, encryption_scheme)).encode(writer)
+    }
+}
+
+impl<'a> Item for Pbes2Params<'a> {
+    ghost item = { sequence_item ⟦<Pbes2Params<'a> as Described>⟧.element };
+}
+
+impl<'a, R: Reader<Borrowed = &'a [u8]>> DecodeItem<R> for Pbes2Params<'a> {
+    ghost is_item = { sequence_is_item ⟦<Pbes2Params<'a> as Described>⟧.element refl };
+
+    ghost decodes_items = { decodes_same (sequence_item ⟦<Pbes2Params<'a> as Described>⟧.element) };
+}
+
+impl<'a> BorrowedItem for Pbes2Params<'a> {
+    ghost borrowed = { refl };
+}
+
+impl<'a> Nestable for Pbes2Params<'a> {
+    ghost nestable = { Prim.omega arith };
+}

@@ -1,0 +1,149 @@
+//! Written by asn1_compile from the module PrivateKeys: change the module instead.
+//!
+//! Pbkdf2Params.
+ghost use Rattle.std.specs.Prelude.{◌≡◌};
+ghost use Rattle.std.proofs.Common.{arith, refl};
+ghost use Rattle.der.specs.Prelude.{map_ok};
+ghost use Rattle.der_asn1.specs.Item.{decodes_same};
+ghost use Rattle.der_asn1.specs.DefaultedTo.{defaulted_to};
+ghost use Rattle.der_asn1.specs.Meaning.{alternative, field, optional, seen, sequence, sequence_is_item, sequence_item, two_fields};
+
+use crate::HmacWithSha1Default;
+use crate::asn1::pbkdf2_params_part1::{Pbkdf2ParamsPart1, Pbkdf2ParamsPart1Fields};
+use crate::asn1::pbkdf2_params_part2::{Pbkdf2ParamsPart2, Pbkdf2ParamsPart2Fields};
+use crate::asn1::pbkdf2_salt::Pbkdf2Salt;
+use der::{
+    Decode, DecodeValue, Encode, EncodeValue, Error, FromFields, Header, Length, Reader, Sequence,
+    SliceReader, Writer, decode_sequence, field_refs,
+};
+use der_asn1::{
+    BorrowedItem, DecodeItem, DefaultOf, DefaultedTo, Described, DescribedChoice, IntRef, Item,
+    Nestable, OctetStringRef, Optional,
+};
+use spki::AlgorithmIdentifierRef;
+use std::alloc::Global;
+
+/// The parameters of PBKDF2 (RFC 8018, A.2), borrowed from the input. The RFC requires that the
+/// numbers are positive, which decoding does not check.
+#[derive(Drop)]
+pub struct Pbkdf2Params<'a> {
+    /// The salt.
+    pub salt: Pbkdf2Salt<'a>,
+    /// The number of iterations.
+    pub iteration_count: IntRef<'a>,
+    /// The number of octets of the derived key, if present.
+    pub key_length: Optional<IntRef<'a>>,
+    /// The pseudorandom function. The default is HMAC with SHA-1.
+    pub prf: DefaultedTo<AlgorithmIdentifierRef<'a>, HmacWithSha1Default>,
+}
+
+/// The fields of a [`Pbkdf2Params`] in pairs, in the order in which they are encoded.
+pub type Pbkdf2ParamsFields<'a> = (Pbkdf2ParamsPart1Fields<'a>, Pbkdf2ParamsPart2Fields<'a>);
+
+impl<'a> FromFields<(Pbkdf2ParamsPart1<'a>, Pbkdf2ParamsPart2<'a>)> for Pbkdf2Params<'a> {
+    ghost fields = { λ v. (
+      record {
+        salt = v.salt;
+        iteration_count = v.iteration_count;
+      },
+      record { key_length = v.key_length; prf = v.prf },
+    ) };
+
+    fn from_fields(members: (Pbkdf2ParamsPart1<'a>, Pbkdf2ParamsPart2<'a>)) -> Self {
+        let (part1, part2) = members;
+        Pbkdf2Params {
+            salt: part1.salt,
+            iteration_count: part1.iteration_count,
+            key_length: part2.key_length,
+            prf: part2.prf,
+        }
+    }
+}
+
+impl<'a> Sequence for Pbkdf2Params<'a> {
+    ghost meaning = { sequence (two_fields (seen
+        ⟦<Pbkdf2ParamsPart1<'a> as FromFields<Pbkdf2ParamsPart1Fields<'a>>>⟧.fields (two_fields
+        (field ⟦<Pbkdf2Salt<'a> as DescribedChoice>⟧.alternative) (field (alternative
+        ⟦<IntRef<'a> as Described>⟧.element)))) (seen
+        ⟦<Pbkdf2ParamsPart2<'a> as FromFields<Pbkdf2ParamsPart2Fields<'a>>>⟧.fields (two_fields
+        (optional (alternative ⟦<IntRef<'a> as Described>⟧.element)) (defaulted_to
+        ⟦<HmacWithSha1Default as DefaultOf<AlgorithmIdentifierRef<'a>>>⟧.default_contents
+        ⟦<AlgorithmIdentifierRef<'a> as Described>⟧.element (λ v. v.0)))))
+        ⟦<Pbkdf2Params<'a> as FromFields<(Pbkdf2ParamsPart1<'a>, Pbkdf2ParamsPart2<'a>)>>⟧.fields };
+
+    ghost fits = { (refl, refl) };
+}
+
+/// Decodes the fields one after the other, with the errors of every [`Sequence`].
+impl<'a, R: Reader<Borrowed = &'a [u8]>> DecodeValue<R> for Pbkdf2Params<'a> {
+    type Error = Error;
+
+    ghost decode_value_answers = { λ h s result t.
+        ⟦<(Pbkdf2ParamsPart1<'a>, Pbkdf2ParamsPart2<'a>) as Decode<SliceReader<'a>>>⟧.decode_answers s
+        (map_ok
+        ⟦<Pbkdf2Params<'a> as FromFields<(Pbkdf2ParamsPart1<'a>, Pbkdf2ParamsPart2<'a>)>>⟧.fields result) t };
+
+    fn decode_value(alloc: Global, reader: &mut R, header: Header) -> Result<Self, Error> {
+        decode_sequence::<R, (Pbkdf2ParamsPart1<'a>, Pbkdf2ParamsPart2<'a>), Self>(
+            alloc, reader, header,
+        )
+    }
+
+    fn is_value(&self) {
+        match &self.salt {
+            Pbkdf2Salt::Specified(value) => <OctetStringRef<'a> as DecodeValue<R>>::is_value(value),
+            Pbkdf2Salt::OtherSource(value) => <AlgorithmIdentifierRef<'a> as DecodeValue<
+                R,
+            >>::is_value(value),
+        }
+        <IntRef<'a> as DecodeValue<R>>::is_value(&self.iteration_count);
+        if let Some(value) = &self.key_length.0 {
+            <IntRef<'a> as DecodeValue<R>>::is_value(value);
+        }
+        <AlgorithmIdentifierRef<'a> as DecodeValue<R>>::is_value(&self.prf.0);
+    }
+}
+
+/// Writes the fields one after the other, with the errors of every [`Sequence`].
+impl<'a> EncodeValue for Pbkdf2Params<'a> {
+    ghost value_size = { λ v. ⟦<Pbkdf2ParamsFields<'a> as Encode>⟧.size (
+      ⟦<Pbkdf2ParamsPart1<'a> as FromFields<Pbkdf2ParamsPart1Fields<'a>>>⟧.fields
+          (⟦<Pbkdf2Params<'a> as FromFields<(Pbkdf2ParamsPart1<'a>, Pbkdf2ParamsPart2<'a>)>>⟧.fields v).0,
+      ⟦<Pbkdf2ParamsPart2<'a> as FromFields<Pbkdf2ParamsPart2Fields<'a>>>⟧.fields
+          (⟦<Pbkdf2Params<'a> as FromFields<(Pbkdf2ParamsPart1<'a>, Pbkdf2ParamsPart2<'a>)>>⟧.fields v).1,
+    ) };
+
+    ghost encode_value_answers = { λ v. ⟦<Pbkdf2ParamsFields<'a> as Encode>⟧.encode_answers (
+      ⟦<Pbkdf2ParamsPart1<'a> as FromFields<Pbkdf2ParamsPart1Fields<'a>>>⟧.fields
+          (⟦<Pbkdf2Params<'a> as FromFields<(Pbkdf2ParamsPart1<'a>, Pbkdf2ParamsPart2<'a>)>>⟧.fields v).0,
+      ⟦<Pbkdf2ParamsPart2<'a> as FromFields<Pbkdf2ParamsPart2Fields<'a>>>⟧.fields
+          (⟦<Pbkdf2Params<'a> as FromFields<(Pbkdf2ParamsPart1<'a>, Pbkdf2ParamsPart2<'a>)>>⟧.fields v).1,
+    ) };
+
+    fn value_len(&self) -> Result<Length, Error> {
+        field_refs!(self, ((salt, iteration_count), (key_length, prf))).encoded_len()
+    }
+
+    fn encode_value<W: Writer>(&self, writer: &mut W) -> Result<(), Error> {
+        field_refs!(self, ((salt, iteration_count), (key_length, prf))).encode(writer)
+    }
+}
+
+impl<'a> Item for Pbkdf2Params<'a> {
+    ghost item = { sequence_item ⟦<Pbkdf2Params<'a> as Described>⟧.element };
+}
+
+impl<'a, R: Reader<Borrowed = &'a [u8]>> DecodeItem<R> for Pbkdf2Params<'a> {
+    ghost is_item = { sequence_is_item ⟦<Pbkdf2Params<'a> as Described>⟧.element refl };
+
+    ghost decodes_items = { decodes_same (sequence_item
+        ⟦<Pbkdf2Params<'a> as Described>⟧.element) };
+}
+
+impl<'a> BorrowedItem for Pbkdf2Params<'a> {
+    ghost borrowed = { refl };
+}
+
+impl<'a> Nestable for Pbkdf2Params<'a> {
+    ghost nestable = { Prim.omega arith };
+}

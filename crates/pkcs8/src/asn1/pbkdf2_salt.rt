@@ -1,0 +1,124 @@
+//! Written by asn1_compile from the module PrivateKeys: change the module instead.
+//!
+//! Pbkdf2Salt.
+ghost use Rattle.std.specs.Prelude.{false};
+ghost use Rattle.std.proofs.Common.{refl};
+ghost use Rattle.der.specs.Prelude.{map_ok};
+ghost use Rattle.der_asn1.specs.Item.{decodes_same};
+ghost use Rattle.der_asn1.specs.Meaning.{alternative, choice_is_item, choice_item, choice_of, either};
+ghost use Rattle.der_asn1.specs.declared.either.Either.TheVariants.{First, Second};
+ghost use Rattle.pkcs8.specs.declared.asn1.pbkdf2_salt.Pbkdf2Salt.TheVariants as variant;
+
+use der::{Decode, Encode, Error, FromFields, Length, Reader, SliceReader, Tag, Writer};
+use der_asn1::{
+    BorrowedItem, Choice, DecodeItem, Described, DescribedChoice, Either, Item, OctetStringRef,
+    decode_choice,
+};
+use spki::AlgorithmIdentifierRef;
+use std::alloc::Global;
+
+/// A salt (RFC 8018, A.2), borrowed from the input.
+#[derive(Clone, Copy, Drop)]
+pub enum Pbkdf2Salt<'a> {
+    /// specified
+    Specified(OctetStringRef<'a>),
+    /// otherSource
+    OtherSource(AlgorithmIdentifierRef<'a>),
+}
+
+/// The alternatives, as nested choices of two.
+pub type Pbkdf2SaltAlternatives<'a> = Either<OctetStringRef<'a>, AlgorithmIdentifierRef<'a>>;
+
+impl<'a> FromFields<Pbkdf2SaltAlternatives<'a>> for Pbkdf2Salt<'a> {
+    ghost fields = { elim [
+      | variant.Specified v ↦ First (v)
+      | variant.OtherSource v ↦ Second (v)
+    ] };
+
+    fn from_fields(alternatives: Pbkdf2SaltAlternatives<'a>) -> Self {
+        match alternatives {
+            Either::First(value) => Pbkdf2Salt::Specified(value),
+            Either::Second(value) => Pbkdf2Salt::OtherSource(value),
+        }
+    }
+}
+
+impl<'a> DescribedChoice for Pbkdf2Salt<'a> {
+    ghost alternative = { choice_of (either (alternative
+        ⟦<OctetStringRef<'a> as Described>⟧.element) (alternative
+        ⟦<AlgorithmIdentifierRef<'a> as Described>⟧.element))
+        ⟦<Pbkdf2Salt<'a> as FromFields<Pbkdf2SaltAlternatives<'a>>>⟧.fields };
+}
+
+/// Decodes the alternative whose tag is next, with the errors of [`Either`].
+impl<'a, R: Reader<Borrowed = &'a [u8]>> Decode<R> for Pbkdf2Salt<'a> {
+    type Error = Error;
+
+    ghost is_next = { ⟦<Pbkdf2Salt<'a> as DescribedChoice>⟧.alternative.is_next };
+
+    ghost decode_levels = { ⟦<Pbkdf2Salt<'a> as DescribedChoice>⟧.alternative.levels };
+
+    ghost allocates = { false };
+
+    ghost decode_answers = { λ s result t.
+        ⟦<Pbkdf2SaltAlternatives<'a> as Decode<SliceReader<'a>>>⟧.decode_answers s
+        (map_ok ⟦<Pbkdf2Salt<'a> as FromFields<Pbkdf2SaltAlternatives<'a>>>⟧.fields result) t };
+
+    fn decode(alloc: Global, reader: &mut R) -> Result<Self, Error> {
+        decode_choice::<R, Pbkdf2SaltAlternatives<'a>, Self>(alloc, reader)
+    }
+}
+
+impl<'a, R: Reader<Borrowed = &'a [u8]>> Choice<R> for Pbkdf2Salt<'a> {
+    ghost chooses = { ⟦<Pbkdf2Salt<'a> as DescribedChoice>⟧.alternative.tags };
+
+    fn can_decode(tag: Tag) -> bool {
+        <Pbkdf2SaltAlternatives<'a> as Choice<R>>::can_decode(tag)
+    }
+
+    ghost begins = { ⟦<Pbkdf2Salt<'a> as DescribedChoice>⟧.alternative.begins };
+}
+
+/// Writes the alternative that the value has.
+impl<'a> Encode for Pbkdf2Salt<'a> {
+    ghost encoding = { λ v. ⟦<Pbkdf2SaltAlternatives<'a> as Encode>⟧.encoding
+        (⟦<Pbkdf2Salt<'a> as FromFields<Pbkdf2SaltAlternatives<'a>>>⟧.fields v) };
+
+    ghost encodable = { λ v. ⟦<Pbkdf2SaltAlternatives<'a> as Encode>⟧.encodable
+        (⟦<Pbkdf2Salt<'a> as FromFields<Pbkdf2SaltAlternatives<'a>>>⟧.fields v) };
+
+    ghost size = { λ v. ⟦<Pbkdf2SaltAlternatives<'a> as Encode>⟧.size
+        (⟦<Pbkdf2Salt<'a> as FromFields<Pbkdf2SaltAlternatives<'a>>>⟧.fields v) };
+
+    ghost encode_answers = { λ v. ⟦<Pbkdf2SaltAlternatives<'a> as Encode>⟧.encode_answers
+        (⟦<Pbkdf2Salt<'a> as FromFields<Pbkdf2SaltAlternatives<'a>>>⟧.fields v) };
+
+    fn encoded_len(&self) -> Result<Length, Error> {
+        match self {
+            Pbkdf2Salt::Specified(value) => value.encoded_len(),
+            Pbkdf2Salt::OtherSource(value) => value.encoded_len(),
+        }
+    }
+
+    fn encode<W: Writer>(&self, writer: &mut W) -> Result<(), Error> {
+        match self {
+            Pbkdf2Salt::Specified(value) => value.encode(writer),
+            Pbkdf2Salt::OtherSource(value) => value.encode(writer),
+        }
+    }
+}
+
+impl<'a> Item for Pbkdf2Salt<'a> {
+    ghost item = { choice_item ⟦<Pbkdf2Salt<'a> as DescribedChoice>⟧.alternative };
+}
+
+impl<'a, R: Reader<Borrowed = &'a [u8]>> DecodeItem<R> for Pbkdf2Salt<'a> {
+    ghost is_item = { choice_is_item ⟦<Pbkdf2Salt<'a> as DescribedChoice>⟧.alternative refl };
+
+    ghost decodes_items = { decodes_same (choice_item
+        ⟦<Pbkdf2Salt<'a> as DescribedChoice>⟧.alternative) };
+}
+
+impl<'a> BorrowedItem for Pbkdf2Salt<'a> {
+    ghost borrowed = { refl };
+}

@@ -1,0 +1,109 @@
+//! Written by asn1_compile from the module SEC1: change the module instead.
+//!
+//! CharacteristicTwo.
+ghost use Rattle.std.specs.Prelude.{◌≡◌};
+ghost use Rattle.std.proofs.Common.{arith, refl};
+ghost use Rattle.der.specs.Prelude.{map_ok};
+ghost use Rattle.der_asn1.specs.Item.{decodes_same};
+ghost use Rattle.der_asn1.specs.Meaning.{alternative, any_element, field, sequence, sequence_is_item, sequence_item, two_fields};
+
+use der::{
+    Decode, DecodeValue, Encode, EncodeValue, Error, FromFields, Header, Length, Reader, Sequence,
+    SliceReader, Writer, decode_sequence, field_refs,
+};
+use der_asn1::{
+    AnyRef, BorrowedItem, DecodeItem, Described, IntRef, Item, Nestable, ObjectIdentifierRef,
+};
+use std::alloc::Global;
+
+/// A field of 2^m elements (SEC 1, C.1), borrowed from the input.
+#[derive(Clone, Copy, Drop)]
+pub struct CharacteristicTwo<'a> {
+    /// The power m.
+    pub m: IntRef<'a>,
+    /// The kind of basis.
+    pub basis: ObjectIdentifierRef<'a>,
+    /// What determines a basis of this kind: NULL, a Trinomial or a Pentanomial. Decoding does not
+    /// check this.
+    pub parameters: AnyRef<'a>,
+}
+
+/// The fields of a [`CharacteristicTwo`] in pairs, in the order in which they are encoded.
+pub type CharacteristicTwoFields<'a> = (IntRef<'a>, (ObjectIdentifierRef<'a>, AnyRef<'a>));
+
+impl<'a> FromFields<CharacteristicTwoFields<'a>> for CharacteristicTwo<'a> {
+    ghost fields = { λ v. (v.m, (v.basis, v.parameters)) };
+
+    fn from_fields(members: CharacteristicTwoFields<'a>) -> Self {
+        let (m, (basis, parameters)) = members;
+        CharacteristicTwo {
+            m,
+            basis,
+            parameters,
+        }
+    }
+}
+
+impl<'a> Sequence for CharacteristicTwo<'a> {
+    ghost meaning = { sequence (two_fields (field (alternative ⟦<IntRef<'a> as Described>⟧.element))
+        (two_fields (field (alternative ⟦<ObjectIdentifierRef<'a> as Described>⟧.element))
+        (field any_element)))
+        ⟦<CharacteristicTwo<'a> as FromFields<CharacteristicTwoFields<'a>>>⟧.fields };
+
+    ghost fits = { (refl, refl) };
+}
+
+/// Decodes the fields one after the other, with the errors of every [`Sequence`].
+impl<'a, R: Reader<Borrowed = &'a [u8]>> DecodeValue<R> for CharacteristicTwo<'a> {
+    type Error = Error;
+
+    ghost decode_value_answers = { λ h s result t.
+        ⟦<CharacteristicTwoFields<'a> as Decode<SliceReader<'a>>>⟧.decode_answers s (map_ok
+        ⟦<CharacteristicTwo<'a> as FromFields<CharacteristicTwoFields<'a>>>⟧.fields result) t };
+
+    fn decode_value(alloc: Global, reader: &mut R, header: Header) -> Result<Self, Error> {
+        decode_sequence::<R, CharacteristicTwoFields<'a>, Self>(alloc, reader, header)
+    }
+
+    fn is_value(&self) {
+        <IntRef<'a> as DecodeValue<R>>::is_value(&self.m);
+        <ObjectIdentifierRef<'a> as DecodeValue<R>>::is_value(&self.basis);
+        <AnyRef<'a> as DecodeValue<R>>::is_value(&self.parameters);
+    }
+}
+
+/// Writes the fields one after the other, with the errors of every [`Sequence`].
+impl<'a> EncodeValue for CharacteristicTwo<'a> {
+    ghost value_size = { λ v. ⟦<CharacteristicTwoFields<'a> as Encode>⟧.size
+        (⟦<CharacteristicTwo<'a> as FromFields<CharacteristicTwoFields<'a>>>⟧.fields v) };
+
+    ghost encode_value_answers = { λ v. ⟦<CharacteristicTwoFields<'a> as Encode>⟧.encode_answers
+        (⟦<CharacteristicTwo<'a> as FromFields<CharacteristicTwoFields<'a>>>⟧.fields v) };
+
+    fn value_len(&self) -> Result<Length, Error> {
+        field_refs!(self, (m, (basis, parameters))).encoded_len()
+    }
+
+    fn encode_value<W: Writer>(&self, writer: &mut W) -> Result<(), Error> {
+        field_refs!(self, (m, (basis, parameters))).encode(writer)
+    }
+}
+
+impl<'a> Item for CharacteristicTwo<'a> {
+    ghost item = { sequence_item ⟦<CharacteristicTwo<'a> as Described>⟧.element };
+}
+
+impl<'a, R: Reader<Borrowed = &'a [u8]>> DecodeItem<R> for CharacteristicTwo<'a> {
+    ghost is_item = { sequence_is_item ⟦<CharacteristicTwo<'a> as Described>⟧.element refl };
+
+    ghost decodes_items = { decodes_same (sequence_item
+        ⟦<CharacteristicTwo<'a> as Described>⟧.element) };
+}
+
+impl<'a> BorrowedItem for CharacteristicTwo<'a> {
+    ghost borrowed = { refl };
+}
+
+impl<'a> Nestable for CharacteristicTwo<'a> {
+    ghost nestable = { Prim.omega arith };
+}

@@ -1,0 +1,108 @@
+//! Written by asn1_compile from the module SEC1: change the module instead.
+//!
+//! Curve.
+ghost use Rattle.std.specs.Prelude.{◌≡◌};
+ghost use Rattle.std.proofs.Common.{arith, refl};
+ghost use Rattle.der.specs.Prelude.{map_ok};
+ghost use Rattle.der_asn1.specs.Item.{decodes_same};
+ghost use Rattle.der_asn1.specs.Meaning.{alternative, field, optional, sequence, sequence_is_item, sequence_item, two_fields};
+
+use crate::asn1::field_element::FieldElement;
+use der::{
+    Decode, DecodeValue, Encode, EncodeValue, Error, FromFields, Header, Length, Reader, Sequence,
+    SliceReader, Writer, decode_sequence, field_refs,
+};
+use der_asn1::{BitStringRef, BorrowedItem, DecodeItem, Described, Item, Nestable, Optional};
+use std::alloc::Global;
+
+/// The coefficients of a curve (SEC 1, C.2; RFC 3279, 2.3.5), borrowed from the input.
+#[derive(Clone, Copy, Drop)]
+pub struct Curve<'a> {
+    /// The coefficient a.
+    pub a: FieldElement<'a>,
+    /// The coefficient b.
+    pub b: FieldElement<'a>,
+    /// The octets from which the coefficients were made, if present.
+    pub seed: Optional<BitStringRef<'a>>,
+}
+
+/// The fields of a [`Curve`] in pairs, in the order in which they are encoded.
+pub type CurveFields<'a> = (
+    FieldElement<'a>,
+    (FieldElement<'a>, Optional<BitStringRef<'a>>),
+);
+
+impl<'a> FromFields<CurveFields<'a>> for Curve<'a> {
+    ghost fields = { λ v. (v.a, (v.b, v.seed)) };
+
+    fn from_fields(members: CurveFields<'a>) -> Self {
+        let (a, (b, seed)) = members;
+        Curve { a, b, seed }
+    }
+}
+
+impl<'a> Sequence for Curve<'a> {
+    ghost meaning = { sequence (two_fields (field (alternative
+        ⟦<FieldElement<'a> as Described>⟧.element)) (two_fields (field (alternative
+        ⟦<FieldElement<'a> as Described>⟧.element)) (optional (alternative
+        ⟦<BitStringRef<'a> as Described>⟧.element))))
+        ⟦<Curve<'a> as FromFields<CurveFields<'a>>>⟧.fields };
+
+    ghost fits = { (refl, refl) };
+}
+
+/// Decodes the fields one after the other, with the errors of every [`Sequence`].
+impl<'a, R: Reader<Borrowed = &'a [u8]>> DecodeValue<R> for Curve<'a> {
+    type Error = Error;
+
+    ghost decode_value_answers = { λ h s result t.
+        ⟦<CurveFields<'a> as Decode<SliceReader<'a>>>⟧.decode_answers s (map_ok
+        ⟦<Curve<'a> as FromFields<CurveFields<'a>>>⟧.fields result) t };
+
+    fn decode_value(alloc: Global, reader: &mut R, header: Header) -> Result<Self, Error> {
+        decode_sequence::<R, CurveFields<'a>, Self>(alloc, reader, header)
+    }
+
+    fn is_value(&self) {
+        <FieldElement<'a> as DecodeValue<R>>::is_value(&self.a);
+        <FieldElement<'a> as DecodeValue<R>>::is_value(&self.b);
+        if let Some(value) = &self.seed.0 {
+            <BitStringRef<'a> as DecodeValue<R>>::is_value(value);
+        }
+    }
+}
+
+/// Writes the fields one after the other, with the errors of every [`Sequence`].
+impl<'a> EncodeValue for Curve<'a> {
+    ghost value_size = { λ v. ⟦<CurveFields<'a> as Encode>⟧.size
+        (⟦<Curve<'a> as FromFields<CurveFields<'a>>>⟧.fields v) };
+
+    ghost encode_value_answers = { λ v. ⟦<CurveFields<'a> as Encode>⟧.encode_answers
+        (⟦<Curve<'a> as FromFields<CurveFields<'a>>>⟧.fields v) };
+
+    fn value_len(&self) -> Result<Length, Error> {
+        field_refs!(self, (a, (b, seed))).encoded_len()
+    }
+
+    fn encode_value<W: Writer>(&self, writer: &mut W) -> Result<(), Error> {
+        field_refs!(self, (a, (b, seed))).encode(writer)
+    }
+}
+
+impl<'a> Item for Curve<'a> {
+    ghost item = { sequence_item ⟦<Curve<'a> as Described>⟧.element };
+}
+
+impl<'a, R: Reader<Borrowed = &'a [u8]>> DecodeItem<R> for Curve<'a> {
+    ghost is_item = { sequence_is_item ⟦<Curve<'a> as Described>⟧.element refl };
+
+    ghost decodes_items = { decodes_same (sequence_item ⟦<Curve<'a> as Described>⟧.element) };
+}
+
+impl<'a> BorrowedItem for Curve<'a> {
+    ghost borrowed = { refl };
+}
+
+impl<'a> Nestable for Curve<'a> {
+    ghost nestable = { Prim.omega arith };
+}

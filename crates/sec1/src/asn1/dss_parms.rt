@@ -1,0 +1,101 @@
+//! Written by asn1_compile from the module SEC1: change the module instead.
+//!
+//! DssParms.
+ghost use Rattle.std.specs.Prelude.{◌≡◌};
+ghost use Rattle.std.proofs.Common.{arith, refl};
+ghost use Rattle.der.specs.Prelude.{map_ok};
+ghost use Rattle.der_asn1.specs.Item.{decodes_same};
+ghost use Rattle.der_asn1.specs.Meaning.{alternative, field, sequence, sequence_is_item, sequence_item, two_fields};
+
+use der::{
+    Decode, DecodeValue, Encode, EncodeValue, Error, FromFields, Header, Length, Reader, Sequence,
+    SliceReader, Writer, decode_sequence, field_refs,
+};
+use der_asn1::{BorrowedItem, DecodeItem, Described, IntRef, Item, Nestable};
+use std::alloc::Global;
+
+/// The parameters of DSA keys (RFC 3279, 2.3.2), borrowed from the input.
+#[derive(Clone, Copy, Drop)]
+pub struct DssParms<'a> {
+    /// The modulus p.
+    pub p: IntRef<'a>,
+    /// The order q.
+    pub q: IntRef<'a>,
+    /// The generator g.
+    pub g: IntRef<'a>,
+}
+
+/// The fields of a [`DssParms`] in pairs, in the order in which they are encoded.
+pub type DssParmsFields<'a> = (IntRef<'a>, (IntRef<'a>, IntRef<'a>));
+
+impl<'a> FromFields<DssParmsFields<'a>> for DssParms<'a> {
+    ghost fields = { λ v. (v.p, (v.q, v.g)) };
+
+    fn from_fields(members: DssParmsFields<'a>) -> Self {
+        let (p, (q, g)) = members;
+        DssParms { p, q, g }
+    }
+}
+
+impl<'a> Sequence for DssParms<'a> {
+    ghost meaning = { sequence (two_fields (field (alternative ⟦<IntRef<'a> as Described>⟧.element))
+        (two_fields (field (alternative ⟦<IntRef<'a> as Described>⟧.element)) (field (alternative
+        ⟦<IntRef<'a> as Described>⟧.element))))
+        ⟦<DssParms<'a> as FromFields<DssParmsFields<'a>>>⟧.fields };
+
+    ghost fits = { (refl, refl) };
+}
+
+/// Decodes the fields one after the other, with the errors of every [`Sequence`].
+impl<'a, R: Reader<Borrowed = &'a [u8]>> DecodeValue<R> for DssParms<'a> {
+    type Error = Error;
+
+    ghost decode_value_answers = { λ h s result t.
+        ⟦<DssParmsFields<'a> as Decode<SliceReader<'a>>>⟧.decode_answers s (map_ok
+        ⟦<DssParms<'a> as FromFields<DssParmsFields<'a>>>⟧.fields result) t };
+
+    fn decode_value(alloc: Global, reader: &mut R, header: Header) -> Result<Self, Error> {
+        decode_sequence::<R, DssParmsFields<'a>, Self>(alloc, reader, header)
+    }
+
+    fn is_value(&self) {
+        <IntRef<'a> as DecodeValue<R>>::is_value(&self.p);
+        <IntRef<'a> as DecodeValue<R>>::is_value(&self.q);
+        <IntRef<'a> as DecodeValue<R>>::is_value(&self.g);
+    }
+}
+
+/// Writes the fields one after the other, with the errors of every [`Sequence`].
+impl<'a> EncodeValue for DssParms<'a> {
+    ghost value_size = { λ v. ⟦<DssParmsFields<'a> as Encode>⟧.size
+        (⟦<DssParms<'a> as FromFields<DssParmsFields<'a>>>⟧.fields v) };
+
+    ghost encode_value_answers = { λ v. ⟦<DssParmsFields<'a> as Encode>⟧.encode_answers
+        (⟦<DssParms<'a> as FromFields<DssParmsFields<'a>>>⟧.fields v) };
+
+    fn value_len(&self) -> Result<Length, Error> {
+        field_refs!(self, (p, (q, g))).encoded_len()
+    }
+
+    fn encode_value<W: Writer>(&self, writer: &mut W) -> Result<(), Error> {
+        field_refs!(self, (p, (q, g))).encode(writer)
+    }
+}
+
+impl<'a> Item for DssParms<'a> {
+    ghost item = { sequence_item ⟦<DssParms<'a> as Described>⟧.element };
+}
+
+impl<'a, R: Reader<Borrowed = &'a [u8]>> DecodeItem<R> for DssParms<'a> {
+    ghost is_item = { sequence_is_item ⟦<DssParms<'a> as Described>⟧.element refl };
+
+    ghost decodes_items = { decodes_same (sequence_item ⟦<DssParms<'a> as Described>⟧.element) };
+}
+
+impl<'a> BorrowedItem for DssParms<'a> {
+    ghost borrowed = { refl };
+}
+
+impl<'a> Nestable for DssParms<'a> {
+    ghost nestable = { Prim.omega arith };
+}

@@ -1,0 +1,135 @@
+//! Written by asn1_compile from the module SEC1: change the module instead.
+//!
+//! EcParameters.
+ghost use Rattle.std.specs.Prelude.{false};
+ghost use Rattle.std.proofs.Common.{refl};
+ghost use Rattle.der.specs.Prelude.{map_ok};
+ghost use Rattle.der_asn1.specs.Item.{decodes_same};
+ghost use Rattle.der_asn1.specs.Meaning.{alternative, choice_is_item, choice_item, choice_of, either};
+ghost use Rattle.der_asn1.specs.declared.either.Either.TheVariants.{First, Second};
+ghost use Rattle.sec1.specs.declared.asn1.ec_parameters.EcParameters.TheVariants as variant;
+
+use crate::asn1::specified_ec_domain::SpecifiedEcDomain;
+use der::{Decode, Encode, Error, FromFields, Length, Reader, SliceReader, Tag, Writer};
+use der_asn1::{
+    BorrowedItem, Choice, DecodeItem, Described, DescribedChoice, Either, Item, Null,
+    ObjectIdentifierRef, decode_choice,
+};
+use std::alloc::Global;
+
+/// An elliptic curve (RFC 5480, 2.1.1; SEC 1, C.2). RFC 5480 requires `namedCurve` in certificates;
+/// decoding accepts all three.
+#[derive(Clone, Copy, Drop)]
+pub enum EcParameters<'a> {
+    /// namedCurve
+    NamedCurve(ObjectIdentifierRef<'a>),
+    /// implicitCurve
+    ImplicitCurve(Null<'a>),
+    /// specifiedCurve
+    SpecifiedCurve(SpecifiedEcDomain<'a>),
+}
+
+/// The alternatives, as nested choices of two.
+pub type EcParametersAlternatives<'a> = Either<
+    ObjectIdentifierRef<'a>,
+    Either<Null<'a>, SpecifiedEcDomain<'a>>,
+>;
+
+impl<'a> FromFields<EcParametersAlternatives<'a>> for EcParameters<'a> {
+    ghost fields = { elim [
+      | variant.NamedCurve v ↦ First (v)
+      | variant.ImplicitCurve v ↦ Second (First (v))
+      | variant.SpecifiedCurve v ↦ Second (Second (v))
+    ] };
+
+    fn from_fields(alternatives: EcParametersAlternatives<'a>) -> Self {
+        match alternatives {
+            Either::First(value) => EcParameters::NamedCurve(value),
+            Either::Second(Either::First(value)) => EcParameters::ImplicitCurve(value),
+            Either::Second(Either::Second(value)) => EcParameters::SpecifiedCurve(value),
+        }
+    }
+}
+
+impl<'a> DescribedChoice for EcParameters<'a> {
+    ghost alternative = { choice_of (either (alternative
+        ⟦<ObjectIdentifierRef<'a> as Described>⟧.element) (either (alternative
+        ⟦<Null<'a> as Described>⟧.element) (alternative
+        ⟦<SpecifiedEcDomain<'a> as Described>⟧.element)))
+        ⟦<EcParameters<'a> as FromFields<EcParametersAlternatives<'a>>>⟧.fields };
+}
+
+/// Decodes the alternative whose tag is next, with the errors of [`Either`].
+impl<'a, R: Reader<Borrowed = &'a [u8]>> Decode<R> for EcParameters<'a> {
+    type Error = Error;
+
+    ghost is_next = { ⟦<EcParameters<'a> as DescribedChoice>⟧.alternative.is_next };
+
+    ghost decode_levels = { ⟦<EcParameters<'a> as DescribedChoice>⟧.alternative.levels };
+
+    ghost allocates = { false };
+
+    ghost decode_answers = { λ s result t.
+        ⟦<EcParametersAlternatives<'a> as Decode<SliceReader<'a>>>⟧.decode_answers s
+        (map_ok ⟦<EcParameters<'a> as FromFields<EcParametersAlternatives<'a>>>⟧.fields result) t };
+
+    fn decode(alloc: Global, reader: &mut R) -> Result<Self, Error> {
+        decode_choice::<R, EcParametersAlternatives<'a>, Self>(alloc, reader)
+    }
+}
+
+impl<'a, R: Reader<Borrowed = &'a [u8]>> Choice<R> for EcParameters<'a> {
+    ghost chooses = { ⟦<EcParameters<'a> as DescribedChoice>⟧.alternative.tags };
+
+    fn can_decode(tag: Tag) -> bool {
+        <EcParametersAlternatives<'a> as Choice<R>>::can_decode(tag)
+    }
+
+    ghost begins = { ⟦<EcParameters<'a> as DescribedChoice>⟧.alternative.begins };
+}
+
+/// Writes the alternative that the value has.
+impl<'a> Encode for EcParameters<'a> {
+    ghost encoding = { λ v. ⟦<EcParametersAlternatives<'a> as Encode>⟧.encoding
+        (⟦<EcParameters<'a> as FromFields<EcParametersAlternatives<'a>>>⟧.fields v) };
+
+    ghost encodable = { λ v. ⟦<EcParametersAlternatives<'a> as Encode>⟧.encodable
+        (⟦<EcParameters<'a> as FromFields<EcParametersAlternatives<'a>>>⟧.fields v) };
+
+    ghost size = { λ v. ⟦<EcParametersAlternatives<'a> as Encode>⟧.size
+        (⟦<EcParameters<'a> as FromFields<EcParametersAlternatives<'a>>>⟧.fields v) };
+
+    ghost encode_answers = { λ v. ⟦<EcParametersAlternatives<'a> as Encode>⟧.encode_answers
+        (⟦<EcParameters<'a> as FromFields<EcParametersAlternatives<'a>>>⟧.fields v) };
+
+    fn encoded_len(&self) -> Result<Length, Error> {
+        match self {
+            EcParameters::NamedCurve(value) => value.encoded_len(),
+            EcParameters::ImplicitCurve(value) => value.encoded_len(),
+            EcParameters::SpecifiedCurve(value) => value.encoded_len(),
+        }
+    }
+
+    fn encode<W: Writer>(&self, writer: &mut W) -> Result<(), Error> {
+        match self {
+            EcParameters::NamedCurve(value) => value.encode(writer),
+            EcParameters::ImplicitCurve(value) => value.encode(writer),
+            EcParameters::SpecifiedCurve(value) => value.encode(writer),
+        }
+    }
+}
+
+impl<'a> Item for EcParameters<'a> {
+    ghost item = { choice_item ⟦<EcParameters<'a> as DescribedChoice>⟧.alternative };
+}
+
+impl<'a, R: Reader<Borrowed = &'a [u8]>> DecodeItem<R> for EcParameters<'a> {
+    ghost is_item = { choice_is_item ⟦<EcParameters<'a> as DescribedChoice>⟧.alternative refl };
+
+    ghost decodes_items = { decodes_same (choice_item
+        ⟦<EcParameters<'a> as DescribedChoice>⟧.alternative) };
+}
+
+impl<'a> BorrowedItem for EcParameters<'a> {
+    ghost borrowed = { refl };
+}

@@ -1,0 +1,106 @@
+//! Written by asn1_compile from the module SEC1: change the module instead.
+//!
+//! EcParametersTagged.
+ghost use Rattle.std.specs.Prelude.{◌≡◌};
+ghost use Rattle.std.proofs.Common.{arith, refl};
+ghost use Rattle.der.specs.Prelude.{map_ok};
+ghost use Rattle.der_asn1.specs.Item.{decodes_same};
+ghost use Rattle.der_asn1.specs.Meaning.{alternative, field, sequence, sequence_is_item, sequence_item};
+
+use crate::asn1::ec_parameters::EcParameters;
+use crate::asn1::specified_ec_domain::SpecifiedEcDomain;
+use der::{
+    Decode, DecodeValue, Encode, EncodeValue, Error, FromFields, Header, Length, Reader, Sequence,
+    SliceReader, Writer, decode_sequence, field_refs,
+};
+use der_asn1::{
+    BorrowedItem, DecodeItem, Described, DescribedChoice, Item, Nestable, Null, ObjectIdentifierRef,
+};
+use std::alloc::Global;
+
+/// What an explicit tag has in it: a [`EcParameters`].
+#[derive(Clone, Copy, Drop)]
+pub struct EcParametersTagged<'a> {
+    /// The value behind the tag.
+    pub value: EcParameters<'a>,
+}
+
+/// The fields of a [`EcParametersTagged`] in pairs, in the order in which they are encoded.
+pub type EcParametersTaggedFields<'a> = EcParameters<'a>;
+
+impl<'a> FromFields<EcParametersTaggedFields<'a>> for EcParametersTagged<'a> {
+    ghost fields = { λ v. v.value };
+
+    fn from_fields(members: EcParametersTaggedFields<'a>) -> Self {
+        let value = members;
+        EcParametersTagged { value }
+    }
+}
+
+impl<'a> Sequence for EcParametersTagged<'a> {
+    ghost meaning = { sequence (field ⟦<EcParameters<'a> as DescribedChoice>⟧.alternative)
+        ⟦<EcParametersTagged<'a> as FromFields<EcParametersTaggedFields<'a>>>⟧.fields };
+
+    ghost fits = { (refl, refl) };
+}
+
+/// Decodes the fields one after the other, with the errors of every [`Sequence`].
+impl<'a, R: Reader<Borrowed = &'a [u8]>> DecodeValue<R> for EcParametersTagged<'a> {
+    type Error = Error;
+
+    ghost decode_value_answers = { λ h s result t.
+        ⟦<EcParametersTaggedFields<'a> as Decode<SliceReader<'a>>>⟧.decode_answers s (map_ok
+        ⟦<EcParametersTagged<'a> as FromFields<EcParametersTaggedFields<'a>>>⟧.fields result) t };
+
+    fn decode_value(alloc: Global, reader: &mut R, header: Header) -> Result<Self, Error> {
+        decode_sequence::<R, EcParametersTaggedFields<'a>, Self>(alloc, reader, header)
+    }
+
+    fn is_value(&self) {
+        match &self.value {
+            EcParameters::NamedCurve(value) => <ObjectIdentifierRef<'a> as DecodeValue<
+                R,
+            >>::is_value(value),
+            EcParameters::ImplicitCurve(value) => <Null<'a> as DecodeValue<R>>::is_value(value),
+            EcParameters::SpecifiedCurve(value) => <SpecifiedEcDomain<'a> as DecodeValue<
+                R,
+            >>::is_value(value),
+        }
+    }
+}
+
+/// Writes the fields one after the other, with the errors of every [`Sequence`].
+impl<'a> EncodeValue for EcParametersTagged<'a> {
+    ghost value_size = { λ v. ⟦<EcParametersTaggedFields<'a> as Encode>⟧.size
+        (⟦<EcParametersTagged<'a> as FromFields<EcParametersTaggedFields<'a>>>⟧.fields v) };
+
+    ghost encode_value_answers = { λ v. ⟦<EcParametersTaggedFields<'a> as Encode>⟧.encode_answers
+        (⟦<EcParametersTagged<'a> as FromFields<EcParametersTaggedFields<'a>>>⟧.fields v) };
+
+    fn value_len(&self) -> Result<Length, Error> {
+        field_refs!(self, value).encoded_len()
+    }
+
+    fn encode_value<W: Writer>(&self, writer: &mut W) -> Result<(), Error> {
+        field_refs!(self, value).encode(writer)
+    }
+}
+
+impl<'a> Item for EcParametersTagged<'a> {
+    ghost item = { sequence_item ⟦<EcParametersTagged<'a> as Described>⟧.element };
+}
+
+impl<'a, R: Reader<Borrowed = &'a [u8]>> DecodeItem<R> for EcParametersTagged<'a> {
+    ghost is_item = { sequence_is_item ⟦<EcParametersTagged<'a> as Described>⟧.element refl };
+
+    ghost decodes_items = { decodes_same (sequence_item
+        ⟦<EcParametersTagged<'a> as Described>⟧.element) };
+}
+
+impl<'a> BorrowedItem for EcParametersTagged<'a> {
+    ghost borrowed = { refl };
+}
+
+impl<'a> Nestable for EcParametersTagged<'a> {
+    ghost nestable = { Prim.omega arith };
+}

@@ -1,0 +1,8 @@
+//! Written by asn1_compile from the module SEC1: change the module instead.
+//!
+//! EcPoint.
+
+use der_asn1::OctetStringRef;
+
+/// The octets of a point of a curve (SEC 1, C.2; 2.3.3).
+pub type EcPoint<'a> = OctetStringRef<'a>;

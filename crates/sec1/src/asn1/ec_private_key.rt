@@ -1,0 +1,141 @@
+//! Written by asn1_compile from the module SEC1: change the module instead.
+//!
+//! EcPrivateKey.
+ghost use Rattle.std.specs.Prelude.{◌≡◌};
+ghost use Rattle.std.proofs.Common.{arith, refl};
+ghost use Rattle.der.specs.Prelude.{map_ok};
+ghost use Rattle.der_asn1.specs.Item.{decodes_same};
+ghost use Rattle.der_asn1.specs.Meaning.{alternative, field, optional, seen, sequence, sequence_is_item, sequence_item, two_fields};
+
+use crate::asn1::ec_parameters_tagged::EcParametersTagged;
+use crate::asn1::ec_private_key_part1::{EcPrivateKeyPart1, EcPrivateKeyPart1Fields};
+use crate::asn1::ec_private_key_part2::{EcPrivateKeyPart2, EcPrivateKeyPart2Fields};
+use der::{
+    Decode, DecodeValue, Encode, EncodeValue, Error, FromFields, Header, Length, Reader, Sequence,
+    SliceReader, Writer, decode_sequence, field_refs,
+};
+use der_asn1::{
+    BitStringRef, BorrowedItem, DecodeItem, Described, Explicit, Implicit, IntRef, Item, Nestable,
+    OctetStringRef, Optional,
+};
+use std::alloc::Global;
+
+/// A private key of an elliptic curve (RFC 5915, 3), borrowed from the input.
+#[derive(Clone, Copy, Drop)]
+pub struct EcPrivateKey<'a> {
+    /// The version, which should be 1. Decoding does not check this.
+    pub version: IntRef<'a>,
+    /// The octets of the private key. Their number is not checked.
+    pub private_key: OctetStringRef<'a>,
+    /// The curve, if present.
+    pub parameters: Optional<Implicit<EcParametersTagged<'a>, 0>>,
+    /// The public key, if present. Whether it belongs to the private key is not checked.
+    pub public_key: Optional<Explicit<BitStringRef<'a>, 1>>,
+}
+
+/// The fields of a [`EcPrivateKey`] in pairs, in the order in which they are encoded.
+pub type EcPrivateKeyFields<'a> = (EcPrivateKeyPart1Fields<'a>, EcPrivateKeyPart2Fields<'a>);
+
+impl<'a> FromFields<(EcPrivateKeyPart1<'a>, EcPrivateKeyPart2<'a>)> for EcPrivateKey<'a> {
+    ghost fields = { λ v. (
+      record {
+        version = v.version;
+        private_key = v.private_key;
+      },
+      record { parameters = v.parameters; public_key = v.public_key },
+    ) };
+
+    fn from_fields(members: (EcPrivateKeyPart1<'a>, EcPrivateKeyPart2<'a>)) -> Self {
+        let (part1, part2) = members;
+        EcPrivateKey {
+            version: part1.version,
+            private_key: part1.private_key,
+            parameters: part2.parameters,
+            public_key: part2.public_key,
+        }
+    }
+}
+
+impl<'a> Sequence for EcPrivateKey<'a> {
+    ghost meaning = { sequence (two_fields (seen
+        ⟦<EcPrivateKeyPart1<'a> as FromFields<EcPrivateKeyPart1Fields<'a>>>⟧.fields (two_fields
+        (field (alternative ⟦<IntRef<'a> as Described>⟧.element)) (field (alternative
+        ⟦<OctetStringRef<'a> as Described>⟧.element)))) (seen
+        ⟦<EcPrivateKeyPart2<'a> as FromFields<EcPrivateKeyPart2Fields<'a>>>⟧.fields (two_fields
+        (optional (alternative ⟦<Implicit<EcParametersTagged<'a>, 0> as Described>⟧.element))
+        (optional (alternative ⟦<Explicit<BitStringRef<'a>, 1> as Described>⟧.element)))))
+        ⟦<EcPrivateKey<'a> as FromFields<(EcPrivateKeyPart1<'a>, EcPrivateKeyPart2<'a>)>>⟧.fields };
+
+    ghost fits = { (refl, refl) };
+}
+
+/// Decodes the fields one after the other, with the errors of every [`Sequence`].
+impl<'a, R: Reader<Borrowed = &'a [u8]>> DecodeValue<R> for EcPrivateKey<'a> {
+    type Error = Error;
+
+    ghost decode_value_answers = { λ h s result t.
+        ⟦<(EcPrivateKeyPart1<'a>, EcPrivateKeyPart2<'a>) as Decode<SliceReader<'a>>>⟧.decode_answers s
+        (map_ok
+        ⟦<EcPrivateKey<'a> as FromFields<(EcPrivateKeyPart1<'a>, EcPrivateKeyPart2<'a>)>>⟧.fields result) t };
+
+    fn decode_value(alloc: Global, reader: &mut R, header: Header) -> Result<Self, Error> {
+        decode_sequence::<R, (EcPrivateKeyPart1<'a>, EcPrivateKeyPart2<'a>), Self>(
+            alloc, reader, header,
+        )
+    }
+
+    fn is_value(&self) {
+        <IntRef<'a> as DecodeValue<R>>::is_value(&self.version);
+        <OctetStringRef<'a> as DecodeValue<R>>::is_value(&self.private_key);
+        if let Some(value) = &self.parameters.0 {
+            <Implicit<EcParametersTagged<'a>, 0> as DecodeValue<R>>::is_value(value);
+        }
+        if let Some(value) = &self.public_key.0 {
+            <Explicit<BitStringRef<'a>, 1> as DecodeValue<R>>::is_value(value);
+        }
+    }
+}
+
+/// Writes the fields one after the other, with the errors of every [`Sequence`].
+impl<'a> EncodeValue for EcPrivateKey<'a> {
+    ghost value_size = { λ v. ⟦<EcPrivateKeyFields<'a> as Encode>⟧.size (
+      ⟦<EcPrivateKeyPart1<'a> as FromFields<EcPrivateKeyPart1Fields<'a>>>⟧.fields
+          (⟦<EcPrivateKey<'a> as FromFields<(EcPrivateKeyPart1<'a>, EcPrivateKeyPart2<'a>)>>⟧.fields v).0,
+      ⟦<EcPrivateKeyPart2<'a> as FromFields<EcPrivateKeyPart2Fields<'a>>>⟧.fields
+          (⟦<EcPrivateKey<'a> as FromFields<(EcPrivateKeyPart1<'a>, EcPrivateKeyPart2<'a>)>>⟧.fields v).1,
+    ) };
+
+    ghost encode_value_answers = { λ v. ⟦<EcPrivateKeyFields<'a> as Encode>⟧.encode_answers (
+      ⟦<EcPrivateKeyPart1<'a> as FromFields<EcPrivateKeyPart1Fields<'a>>>⟧.fields
+          (⟦<EcPrivateKey<'a> as FromFields<(EcPrivateKeyPart1<'a>, EcPrivateKeyPart2<'a>)>>⟧.fields v).0,
+      ⟦<EcPrivateKeyPart2<'a> as FromFields<EcPrivateKeyPart2Fields<'a>>>⟧.fields
+          (⟦<EcPrivateKey<'a> as FromFields<(EcPrivateKeyPart1<'a>, EcPrivateKeyPart2<'a>)>>⟧.fields v).1,
+    ) };
+
+    fn value_len(&self) -> Result<Length, Error> {
+        field_refs!(self, ((version, private_key), (parameters, public_key))).encoded_len()
+    }
+
+    fn encode_value<W: Writer>(&self, writer: &mut W) -> Result<(), Error> {
+        field_refs!(self, ((version, private_key), (parameters, public_key))).encode(writer)
+    }
+}
+
+impl<'a> Item for EcPrivateKey<'a> {
+    ghost item = { sequence_item ⟦<EcPrivateKey<'a> as Described>⟧.element };
+}
+
+impl<'a, R: Reader<Borrowed = &'a [u8]>> DecodeItem<R> for EcPrivateKey<'a> {
+    ghost is_item = { sequence_is_item ⟦<EcPrivateKey<'a> as Described>⟧.element refl };
+
+    ghost decodes_items = { decodes_same (sequence_item
+        ⟦<EcPrivateKey<'a> as Described>⟧.element) };
+}
+
+impl<'a> BorrowedItem for EcPrivateKey<'a> {
+    ghost borrowed = { refl };
+}
+
+impl<'a> Nestable for EcPrivateKey<'a> {
+    ghost nestable = { Prim.omega arith };
+}

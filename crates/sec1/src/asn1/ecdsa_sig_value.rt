@@ -1,0 +1,98 @@
+//! Written by asn1_compile from the module SEC1: change the module instead.
+//!
+//! EcdsaSigValue.
+ghost use Rattle.std.specs.Prelude.{◌≡◌};
+ghost use Rattle.std.proofs.Common.{arith, refl};
+ghost use Rattle.der.specs.Prelude.{map_ok};
+ghost use Rattle.der_asn1.specs.Item.{decodes_same};
+ghost use Rattle.der_asn1.specs.Meaning.{alternative, field, sequence, sequence_is_item, sequence_item, two_fields};
+
+use der::{
+    Decode, DecodeValue, Encode, EncodeValue, Error, FromFields, Header, Length, Reader, Sequence,
+    SliceReader, Writer, decode_sequence, field_refs,
+};
+use der_asn1::{BorrowedItem, DecodeItem, Described, IntRef, Item, Nestable};
+use std::alloc::Global;
+
+/// A signature of ECDSA (RFC 3279, 2.2.3), borrowed from the input.
+#[derive(Clone, Copy, Drop)]
+pub struct EcdsaSigValue<'a> {
+    /// The number r.
+    pub r: IntRef<'a>,
+    /// The number s.
+    pub s: IntRef<'a>,
+}
+
+/// The fields of a [`EcdsaSigValue`] in pairs, in the order in which they are encoded.
+pub type EcdsaSigValueFields<'a> = (IntRef<'a>, IntRef<'a>);
+
+impl<'a> FromFields<EcdsaSigValueFields<'a>> for EcdsaSigValue<'a> {
+    ghost fields = { λ v. (v.r, v.s) };
+
+    fn from_fields(members: EcdsaSigValueFields<'a>) -> Self {
+        let (r, s) = members;
+        EcdsaSigValue { r, s }
+    }
+}
+
+impl<'a> Sequence for EcdsaSigValue<'a> {
+    ghost meaning = { sequence (two_fields (field (alternative ⟦<IntRef<'a> as Described>⟧.element))
+        (field (alternative ⟦<IntRef<'a> as Described>⟧.element)))
+        ⟦<EcdsaSigValue<'a> as FromFields<EcdsaSigValueFields<'a>>>⟧.fields };
+
+    ghost fits = { (refl, refl) };
+}
+
+/// Decodes the fields one after the other, with the errors of every [`Sequence`].
+impl<'a, R: Reader<Borrowed = &'a [u8]>> DecodeValue<R> for EcdsaSigValue<'a> {
+    type Error = Error;
+
+    ghost decode_value_answers = { λ h s result t.
+        ⟦<EcdsaSigValueFields<'a> as Decode<SliceReader<'a>>>⟧.decode_answers s (map_ok
+        ⟦<EcdsaSigValue<'a> as FromFields<EcdsaSigValueFields<'a>>>⟧.fields result) t };
+
+    fn decode_value(alloc: Global, reader: &mut R, header: Header) -> Result<Self, Error> {
+        decode_sequence::<R, EcdsaSigValueFields<'a>, Self>(alloc, reader, header)
+    }
+
+    fn is_value(&self) {
+        <IntRef<'a> as DecodeValue<R>>::is_value(&self.r);
+        <IntRef<'a> as DecodeValue<R>>::is_value(&self.s);
+    }
+}
+
+/// Writes the fields one after the other, with the errors of every [`Sequence`].
+impl<'a> EncodeValue for EcdsaSigValue<'a> {
+    ghost value_size = { λ v. ⟦<EcdsaSigValueFields<'a> as Encode>⟧.size
+        (⟦<EcdsaSigValue<'a> as FromFields<EcdsaSigValueFields<'a>>>⟧.fields v) };
+
+    ghost encode_value_answers = { λ v. ⟦<EcdsaSigValueFields<'a> as Encode>⟧.encode_answers
+        (⟦<EcdsaSigValue<'a> as FromFields<EcdsaSigValueFields<'a>>>⟧.fields v) };
+
+    fn value_len(&self) -> Result<Length, Error> {
+        field_refs!(self, (r, s)).encoded_len()
+    }
+
+    fn encode_value<W: Writer>(&self, writer: &mut W) -> Result<(), Error> {
+        field_refs!(self, (r, s)).encode(writer)
+    }
+}
+
+impl<'a> Item for EcdsaSigValue<'a> {
+    ghost item = { sequence_item ⟦<EcdsaSigValue<'a> as Described>⟧.element };
+}
+
+impl<'a, R: Reader<Borrowed = &'a [u8]>> DecodeItem<R> for EcdsaSigValue<'a> {
+    ghost is_item = { sequence_is_item ⟦<EcdsaSigValue<'a> as Described>⟧.element refl };
+
+    ghost decodes_items = { decodes_same (sequence_item
+        ⟦<EcdsaSigValue<'a> as Described>⟧.element) };
+}
+
+impl<'a> BorrowedItem for EcdsaSigValue<'a> {
+    ghost borrowed = { refl };
+}
+
+impl<'a> Nestable for EcdsaSigValue<'a> {
+    ghost nestable = { Prim.omega arith };
+}

@@ -1,0 +1,101 @@
+//! Written by asn1_compile from the module SEC1: change the module instead.
+//!
+//! FieldId.
+ghost use Rattle.std.specs.Prelude.{◌≡◌};
+ghost use Rattle.std.proofs.Common.{arith, refl};
+ghost use Rattle.der.specs.Prelude.{map_ok};
+ghost use Rattle.der_asn1.specs.Item.{decodes_same};
+ghost use Rattle.der_asn1.specs.Meaning.{alternative, any_element, field, sequence, sequence_is_item, sequence_item, two_fields};
+
+use der::{
+    Decode, DecodeValue, Encode, EncodeValue, Error, FromFields, Header, Length, Reader, Sequence,
+    SliceReader, Writer, decode_sequence, field_refs,
+};
+use der_asn1::{AnyRef, BorrowedItem, DecodeItem, Described, Item, Nestable, ObjectIdentifierRef};
+use std::alloc::Global;
+
+/// A field (SEC 1, C.1; RFC 3279, 2.3.5), borrowed from the input.
+#[derive(Clone, Copy, Drop)]
+pub struct FieldId<'a> {
+    /// The type of the field.
+    pub field_type: ObjectIdentifierRef<'a>,
+    /// What determines the field of this type: a Prime-p or a Characteristic-two. Decoding does not
+    /// check this.
+    pub parameters: AnyRef<'a>,
+}
+
+/// The fields of a [`FieldId`] in pairs, in the order in which they are encoded.
+pub type FieldIdFields<'a> = (ObjectIdentifierRef<'a>, AnyRef<'a>);
+
+impl<'a> FromFields<FieldIdFields<'a>> for FieldId<'a> {
+    ghost fields = { λ v. (v.field_type, v.parameters) };
+
+    fn from_fields(members: FieldIdFields<'a>) -> Self {
+        let (field_type, parameters) = members;
+        FieldId {
+            field_type,
+            parameters,
+        }
+    }
+}
+
+impl<'a> Sequence for FieldId<'a> {
+    ghost meaning = { sequence (two_fields (field (alternative
+        ⟦<ObjectIdentifierRef<'a> as Described>⟧.element)) (field any_element))
+        ⟦<FieldId<'a> as FromFields<FieldIdFields<'a>>>⟧.fields };
+
+    ghost fits = { (refl, refl) };
+}
+
+/// Decodes the fields one after the other, with the errors of every [`Sequence`].
+impl<'a, R: Reader<Borrowed = &'a [u8]>> DecodeValue<R> for FieldId<'a> {
+    type Error = Error;
+
+    ghost decode_value_answers = { λ h s result t.
+        ⟦<FieldIdFields<'a> as Decode<SliceReader<'a>>>⟧.decode_answers s (map_ok
+        ⟦<FieldId<'a> as FromFields<FieldIdFields<'a>>>⟧.fields result) t };
+
+    fn decode_value(alloc: Global, reader: &mut R, header: Header) -> Result<Self, Error> {
+        decode_sequence::<R, FieldIdFields<'a>, Self>(alloc, reader, header)
+    }
+
+    fn is_value(&self) {
+        <ObjectIdentifierRef<'a> as DecodeValue<R>>::is_value(&self.field_type);
+        <AnyRef<'a> as DecodeValue<R>>::is_value(&self.parameters);
+    }
+}
+
+/// Writes the fields one after the other, with the errors of every [`Sequence`].
+impl<'a> EncodeValue for FieldId<'a> {
+    ghost value_size = { λ v. ⟦<FieldIdFields<'a> as Encode>⟧.size
+        (⟦<FieldId<'a> as FromFields<FieldIdFields<'a>>>⟧.fields v) };
+
+    ghost encode_value_answers = { λ v. ⟦<FieldIdFields<'a> as Encode>⟧.encode_answers
+        (⟦<FieldId<'a> as FromFields<FieldIdFields<'a>>>⟧.fields v) };
+
+    fn value_len(&self) -> Result<Length, Error> {
+        field_refs!(self, (field_type, parameters)).encoded_len()
+    }
+
+    fn encode_value<W: Writer>(&self, writer: &mut W) -> Result<(), Error> {
+        field_refs!(self, (field_type, parameters)).encode(writer)
+    }
+}
+
+impl<'a> Item for FieldId<'a> {
+    ghost item = { sequence_item ⟦<FieldId<'a> as Described>⟧.element };
+}
+
+impl<'a, R: Reader<Borrowed = &'a [u8]>> DecodeItem<R> for FieldId<'a> {
+    ghost is_item = { sequence_is_item ⟦<FieldId<'a> as Described>⟧.element refl };
+
+    ghost decodes_items = { decodes_same (sequence_item ⟦<FieldId<'a> as Described>⟧.element) };
+}
+
+impl<'a> BorrowedItem for FieldId<'a> {
+    ghost borrowed = { refl };
+}
+
+impl<'a> Nestable for FieldId<'a> {
+    ghost nestable = { Prim.omega arith };
+}

@@ -1,0 +1,101 @@
+//! Written by asn1_compile from the module SEC1: change the module instead.
+//!
+//! Pentanomial.
+ghost use Rattle.std.specs.Prelude.{◌≡◌};
+ghost use Rattle.std.proofs.Common.{arith, refl};
+ghost use Rattle.der.specs.Prelude.{map_ok};
+ghost use Rattle.der_asn1.specs.Item.{decodes_same};
+ghost use Rattle.der_asn1.specs.Meaning.{alternative, field, sequence, sequence_is_item, sequence_item, two_fields};
+
+use der::{
+    Decode, DecodeValue, Encode, EncodeValue, Error, FromFields, Header, Length, Reader, Sequence,
+    SliceReader, Writer, decode_sequence, field_refs,
+};
+use der_asn1::{BorrowedItem, DecodeItem, Described, IntRef, Item, Nestable};
+use std::alloc::Global;
+
+/// The exponents of x^m + x^k3 + x^k2 + x^k1 + 1 (SEC 1, C.1), borrowed from the input.
+#[derive(Clone, Copy, Drop)]
+pub struct Pentanomial<'a> {
+    /// k1
+    pub k1: IntRef<'a>,
+    /// k2
+    pub k2: IntRef<'a>,
+    /// k3
+    pub k3: IntRef<'a>,
+}
+
+/// The fields of a [`Pentanomial`] in pairs, in the order in which they are encoded.
+pub type PentanomialFields<'a> = (IntRef<'a>, (IntRef<'a>, IntRef<'a>));
+
+impl<'a> FromFields<PentanomialFields<'a>> for Pentanomial<'a> {
+    ghost fields = { λ v. (v.k1, (v.k2, v.k3)) };
+
+    fn from_fields(members: PentanomialFields<'a>) -> Self {
+        let (k1, (k2, k3)) = members;
+        Pentanomial { k1, k2, k3 }
+    }
+}
+
+impl<'a> Sequence for Pentanomial<'a> {
+    ghost meaning = { sequence (two_fields (field (alternative ⟦<IntRef<'a> as Described>⟧.element))
+        (two_fields (field (alternative ⟦<IntRef<'a> as Described>⟧.element)) (field (alternative
+        ⟦<IntRef<'a> as Described>⟧.element))))
+        ⟦<Pentanomial<'a> as FromFields<PentanomialFields<'a>>>⟧.fields };
+
+    ghost fits = { (refl, refl) };
+}
+
+/// Decodes the fields one after the other, with the errors of every [`Sequence`].
+impl<'a, R: Reader<Borrowed = &'a [u8]>> DecodeValue<R> for Pentanomial<'a> {
+    type Error = Error;
+
+    ghost decode_value_answers = { λ h s result t.
+        ⟦<PentanomialFields<'a> as Decode<SliceReader<'a>>>⟧.decode_answers s (map_ok
+        ⟦<Pentanomial<'a> as FromFields<PentanomialFields<'a>>>⟧.fields result) t };
+
+    fn decode_value(alloc: Global, reader: &mut R, header: Header) -> Result<Self, Error> {
+        decode_sequence::<R, PentanomialFields<'a>, Self>(alloc, reader, header)
+    }
+
+    fn is_value(&self) {
+        <IntRef<'a> as DecodeValue<R>>::is_value(&self.k1);
+        <IntRef<'a> as DecodeValue<R>>::is_value(&self.k2);
+        <IntRef<'a> as DecodeValue<R>>::is_value(&self.k3);
+    }
+}
+
+/// Writes the fields one after the other, with the errors of every [`Sequence`].
+impl<'a> EncodeValue for Pentanomial<'a> {
+    ghost value_size = { λ v. ⟦<PentanomialFields<'a> as Encode>⟧.size
+        (⟦<Pentanomial<'a> as FromFields<PentanomialFields<'a>>>⟧.fields v) };
+
+    ghost encode_value_answers = { λ v. ⟦<PentanomialFields<'a> as Encode>⟧.encode_answers
+        (⟦<Pentanomial<'a> as FromFields<PentanomialFields<'a>>>⟧.fields v) };
+
+    fn value_len(&self) -> Result<Length, Error> {
+        field_refs!(self, (k1, (k2, k3))).encoded_len()
+    }
+
+    fn encode_value<W: Writer>(&self, writer: &mut W) -> Result<(), Error> {
+        field_refs!(self, (k1, (k2, k3))).encode(writer)
+    }
+}
+
+impl<'a> Item for Pentanomial<'a> {
+    ghost item = { sequence_item ⟦<Pentanomial<'a> as Described>⟧.element };
+}
+
+impl<'a, R: Reader<Borrowed = &'a [u8]>> DecodeItem<R> for Pentanomial<'a> {
+    ghost is_item = { sequence_is_item ⟦<Pentanomial<'a> as Described>⟧.element refl };
+
+    ghost decodes_items = { decodes_same (sequence_item ⟦<Pentanomial<'a> as Described>⟧.element) };
+}
+
+impl<'a> BorrowedItem for Pentanomial<'a> {
+    ghost borrowed = { refl };
+}
+
+impl<'a> Nestable for Pentanomial<'a> {
+    ghost nestable = { Prim.omega arith };
+}

@@ -1,0 +1,181 @@
+//! Written by asn1_compile from the module SEC1: change the module instead.
+//!
+//! SpecifiedEcDomain.
+ghost use Rattle.std.specs.Prelude.{◌≡◌};
+ghost use Rattle.std.proofs.Common.{arith, refl};
+ghost use Rattle.der.specs.Prelude.{map_ok};
+ghost use Rattle.der_asn1.specs.Item.{decodes_same};
+ghost use Rattle.der_asn1.specs.Meaning.{alternative, field, optional, seen, sequence, sequence_is_item, sequence_item, two_fields};
+
+use crate::asn1::curve::Curve;
+use crate::asn1::ec_point::EcPoint;
+use crate::asn1::field_id::FieldId;
+use crate::asn1::specified_ec_domain_part1::{
+    SpecifiedEcDomainPart1, SpecifiedEcDomainPart1Fields,
+};
+use crate::asn1::specified_ec_domain_part2::{
+    SpecifiedEcDomainPart2, SpecifiedEcDomainPart2Fields,
+};
+use der::{
+    Decode, DecodeValue, Encode, EncodeValue, Error, FromFields, Header, Length, Reader, Sequence,
+    SliceReader, Writer, decode_sequence, field_refs,
+};
+use der_asn1::{BorrowedItem, DecodeItem, Described, IntRef, Item, Nestable, Optional};
+use spki::AlgorithmIdentifierRef;
+use std::alloc::Global;
+
+/// A curve that its numbers specify (SEC 1, C.2; RFC 3279, 2.3.5, where it is ECParameters),
+/// borrowed from the input.
+#[derive(Clone, Copy, Drop)]
+pub struct SpecifiedEcDomain<'a> {
+    /// The version, which should be 1, 2 or 3. Decoding does not check this.
+    pub version: IntRef<'a>,
+    /// The field over which the curve is.
+    pub field_id: FieldId<'a>,
+    /// The coefficients of the curve.
+    pub curve: Curve<'a>,
+    /// The base point.
+    pub base: EcPoint<'a>,
+    /// The order of the base point.
+    pub order: IntRef<'a>,
+    /// The cofactor, if present.
+    pub cofactor: Optional<IntRef<'a>>,
+    /// The hash algorithm by which the curve was made, if present.
+    pub hash: Optional<AlgorithmIdentifierRef<'a>>,
+}
+
+/// The fields of a [`SpecifiedEcDomain`] in pairs, in the order in which they are encoded.
+pub type SpecifiedEcDomainFields<'a> = (
+    SpecifiedEcDomainPart1Fields<'a>,
+    SpecifiedEcDomainPart2Fields<'a>,
+);
+
+impl<'a> FromFields<(SpecifiedEcDomainPart1<'a>, SpecifiedEcDomainPart2<'a>)>
+    for SpecifiedEcDomain<'a> {
+    ghost fields = { λ v. (
+      record {
+        version = v.version;
+        field_id = v.field_id;
+        curve = v.curve;
+        base = v.base;
+      },
+      record { order = v.order; cofactor = v.cofactor; hash = v.hash },
+    ) };
+
+    fn from_fields(members: (SpecifiedEcDomainPart1<'a>, SpecifiedEcDomainPart2<'a>)) -> Self {
+        let (part1, part2) = members;
+        SpecifiedEcDomain {
+            version: part1.version,
+            field_id: part1.field_id,
+            curve: part1.curve,
+            base: part1.base,
+            order: part2.order,
+            cofactor: part2.cofactor,
+            hash: part2.hash,
+        }
+    }
+}
+
+impl<'a> Sequence for SpecifiedEcDomain<'a> {
+    ghost meaning = { sequence (two_fields (seen
+        ⟦<SpecifiedEcDomainPart1<'a> as FromFields<SpecifiedEcDomainPart1Fields<'a>>>⟧.fields
+        (two_fields (two_fields (field (alternative ⟦<IntRef<'a> as Described>⟧.element)) (field
+        (alternative ⟦<FieldId<'a> as Described>⟧.element))) (two_fields (field (alternative
+        ⟦<Curve<'a> as Described>⟧.element)) (field (alternative
+        ⟦<EcPoint<'a> as Described>⟧.element))))) (seen
+        ⟦<SpecifiedEcDomainPart2<'a> as FromFields<SpecifiedEcDomainPart2Fields<'a>>>⟧.fields
+        (two_fields (field (alternative ⟦<IntRef<'a> as Described>⟧.element)) (two_fields (optional
+        (alternative ⟦<IntRef<'a> as Described>⟧.element)) (optional (alternative
+        ⟦<AlgorithmIdentifierRef<'a> as Described>⟧.element))))))
+        ⟦<SpecifiedEcDomain<'a> as FromFields<(SpecifiedEcDomainPart1<'a>, SpecifiedEcDomainPart2<'a>)>>⟧.fields };
+
+    ghost fits = { (refl, refl) };
+}
+
+/// Decodes the fields one after the other, with the errors of every [`Sequence`].
+impl<'a, R: Reader<Borrowed = &'a [u8]>> DecodeValue<R> for SpecifiedEcDomain<'a> {
+    type Error = Error;
+
+    ghost decode_value_answers = { λ h s result t.
+        ⟦<(SpecifiedEcDomainPart1<'a>, SpecifiedEcDomainPart2<'a>) as Decode<SliceReader<'a>>>⟧.decode_answers s
+        (map_ok
+        ⟦<SpecifiedEcDomain<'a> as FromFields<(SpecifiedEcDomainPart1<'a>, SpecifiedEcDomainPart2<'a>)>>⟧.fields result) t };
+
+    fn decode_value(alloc: Global, reader: &mut R, header: Header) -> Result<Self, Error> {
+        decode_sequence::<R, (SpecifiedEcDomainPart1<'a>, SpecifiedEcDomainPart2<'a>), Self>(
+            alloc, reader, header,
+        )
+    }
+
+    fn is_value(&self) {
+        <IntRef<'a> as DecodeValue<R>>::is_value(&self.version);
+        <FieldId<'a> as DecodeValue<R>>::is_value(&self.field_id);
+        <Curve<'a> as DecodeValue<R>>::is_value(&self.curve);
+        <EcPoint<'a> as DecodeValue<R>>::is_value(&self.base);
+        <IntRef<'a> as DecodeValue<R>>::is_value(&self.order);
+        if let Some(value) = &self.cofactor.0 {
+            <IntRef<'a> as DecodeValue<R>>::is_value(value);
+        }
+        if let Some(value) = &self.hash.0 {
+            <AlgorithmIdentifierRef<'a> as DecodeValue<R>>::is_value(value);
+        }
+    }
+}
+
+/// Writes the fields one after the other, with the errors of every [`Sequence`].
+impl<'a> EncodeValue for SpecifiedEcDomain<'a> {
+    ghost value_size = { λ v. ⟦<SpecifiedEcDomainFields<'a> as Encode>⟧.size (
+      ⟦<SpecifiedEcDomainPart1<'a> as FromFields<SpecifiedEcDomainPart1Fields<'a>>>⟧.fields
+          (⟦<SpecifiedEcDomain<'a> as FromFields<(SpecifiedEcDomainPart1<'a>, SpecifiedEcDomainPart2<'a>)>>⟧.fields v).0,
+      ⟦<SpecifiedEcDomainPart2<'a> as FromFields<SpecifiedEcDomainPart2Fields<'a>>>⟧.fields
+          (⟦<SpecifiedEcDomain<'a> as FromFields<(SpecifiedEcDomainPart1<'a>, SpecifiedEcDomainPart2<'a>)>>⟧.fields v).1,
+    ) };
+
+    ghost encode_value_answers = { λ v. ⟦<SpecifiedEcDomainFields<'a> as Encode>⟧.encode_answers (
+      ⟦<SpecifiedEcDomainPart1<'a> as FromFields<SpecifiedEcDomainPart1Fields<'a>>>⟧.fields
+          (⟦<SpecifiedEcDomain<'a> as FromFields<(SpecifiedEcDomainPart1<'a>, SpecifiedEcDomainPart2<'a>)>>⟧.fields v).0,
+      ⟦<SpecifiedEcDomainPart2<'a> as FromFields<SpecifiedEcDomainPart2Fields<'a>>>⟧.fields
+          (⟦<SpecifiedEcDomain<'a> as FromFields<(SpecifiedEcDomainPart1<'a>, SpecifiedEcDomainPart2<'a>)>>⟧.fields v).1,
+    ) };
+
+    fn value_len(&self) -> Result<Length, Error> {
+        field_refs!(
+            self,
+            (
+                ((version, field_id), (curve, base)),
+                (order, (cofactor, hash))
+            )
+        )
+        .encoded_len()
+    }
+
+    fn encode_value<W: Writer>(&self, writer: &mut W) -> Result<(), Error> {
+        field_refs!(
+            self,
+            (
+                ((version, field_id), (curve, base)),
+                (order, (cofactor, hash))
+            )
+        )
+        .encode(writer)
+    }
+}
+
+impl<'a> Item for SpecifiedEcDomain<'a> {
+    ghost item = { sequence_item ⟦<SpecifiedEcDomain<'a> as Described>⟧.element };
+}
+
+impl<'a, R: Reader<Borrowed = &'a [u8]>> DecodeItem<R> for SpecifiedEcDomain<'a> {
+    ghost is_item = { sequence_is_item ⟦<SpecifiedEcDomain<'a> as Described>⟧.element refl };
+
+    ghost decodes_items = { decodes_same (sequence_item
+        ⟦<SpecifiedEcDomain<'a> as Described>⟧.element) };
+}
+
+impl<'a> BorrowedItem for SpecifiedEcDomain<'a> {
+    ghost borrowed = { refl };
+}
+
+impl<'a> Nestable for SpecifiedEcDomain<'a> {
+    ghost nestable = { Prim.omega arith };
+}
