@@ -1,0 +1,130 @@
+//! Written by asn1_compile from the module OCSP: change the module instead.
+//!
+//! BasicOcspResponse.
+ghost use Rattle.std.specs.Prelude.{◌≡◌};
+ghost use Rattle.std.proofs.Common.{arith, refl};
+ghost use Rattle.der.specs.Prelude.{map_ok};
+ghost use Rattle.der_asn1.specs.Item.{decodes_same};
+ghost use Rattle.der_asn1.specs.Meaning.{alternative, field, optional, sequence, sequence_is_item, sequence_item, two_fields};
+
+use crate::asn1::certificates::Certificates;
+use crate::asn1::response_data::ResponseData;
+use der::{
+    Decode, DecodeValue, Encode, EncodeValue, Error, FromFields, Header, Length, Reader, Sequence,
+    SliceReader, Writer, decode_sequence, field_refs,
+};
+use der_asn1::{
+    BitStringRef, BorrowedItem, DecodeItem, Described, Explicit, Item, Nestable, Optional,
+};
+use spki::AlgorithmIdentifierRef;
+use std::alloc::Global;
+
+/// A basic response (RFC 6960, 4.2.1), borrowed from the input.
+#[derive(Clone, Copy, Drop)]
+pub struct BasicOcspResponse<'a> {
+    /// The part of the response that the signature covers.
+    pub tbs_response_data: ResponseData<'a>,
+    /// The algorithm of `signature`.
+    pub signature_algorithm: AlgorithmIdentifierRef<'a>,
+    /// The signature of `tbs_response_data`, as a BIT STRING.
+    pub signature: BitStringRef<'a>,
+    /// The certificates that help to verify the signature, if present.
+    pub certs: Optional<Explicit<Certificates<'a>, 0>>,
+}
+
+/// The fields of a [`BasicOcspResponse`] in pairs, in the order in which they are encoded.
+pub type BasicOcspResponseFields<'a> = (
+    (ResponseData<'a>, AlgorithmIdentifierRef<'a>),
+    (BitStringRef<'a>, Optional<Explicit<Certificates<'a>, 0>>),
+);
+
+impl<'a> FromFields<BasicOcspResponseFields<'a>> for BasicOcspResponse<'a> {
+    ghost fields = { λ v. ((v.tbs_response_data, v.signature_algorithm), (v.signature, v.certs)) };
+
+    fn from_fields(members: BasicOcspResponseFields<'a>) -> Self {
+        let ((tbs_response_data, signature_algorithm), (signature, certs)) = members;
+        BasicOcspResponse {
+            tbs_response_data,
+            signature_algorithm,
+            signature,
+            certs,
+        }
+    }
+}
+
+impl<'a> Sequence for BasicOcspResponse<'a> {
+    ghost meaning = { sequence (two_fields (two_fields (field (alternative
+        ⟦<ResponseData<'a> as Described>⟧.element)) (field (alternative
+        ⟦<AlgorithmIdentifierRef<'a> as Described>⟧.element))) (two_fields (field (alternative
+        ⟦<BitStringRef<'a> as Described>⟧.element)) (optional (alternative
+        ⟦<Explicit<Certificates<'a>, 0> as Described>⟧.element))))
+        ⟦<BasicOcspResponse<'a> as FromFields<BasicOcspResponseFields<'a>>>⟧.fields };
+
+    ghost fits = { (refl, refl) };
+}
+
+/// Decodes the fields one after the other, with the errors of every [`Sequence`].
+impl<'a, R: Reader<Borrowed = &'a [u8]>> DecodeValue<R> for BasicOcspResponse<'a> {
+    type Error = Error;
+
+    ghost decode_value_answers = { λ h s result t.
+        ⟦<BasicOcspResponseFields<'a> as Decode<SliceReader<'a>>>⟧.decode_answers s (map_ok
+        ⟦<BasicOcspResponse<'a> as FromFields<BasicOcspResponseFields<'a>>>⟧.fields result) t };
+
+    fn decode_value(alloc: Global, reader: &mut R, header: Header) -> Result<Self, Error> {
+        decode_sequence::<R, BasicOcspResponseFields<'a>, Self>(alloc, reader, header)
+    }
+
+    fn is_value(&self) {
+        <ResponseData<'a> as DecodeValue<R>>::is_value(&self.tbs_response_data);
+        <AlgorithmIdentifierRef<'a> as DecodeValue<R>>::is_value(&self.signature_algorithm);
+        <BitStringRef<'a> as DecodeValue<R>>::is_value(&self.signature);
+        if let Some(value) = &self.certs.0 {
+            <Explicit<Certificates<'a>, 0> as DecodeValue<R>>::is_value(value);
+        }
+    }
+}
+
+/// Writes the fields one after the other, with the errors of every [`Sequence`].
+impl<'a> EncodeValue for BasicOcspResponse<'a> {
+    ghost value_size = { λ v. ⟦<BasicOcspResponseFields<'a> as Encode>⟧.size
+        (⟦<BasicOcspResponse<'a> as FromFields<BasicOcspResponseFields<'a>>>⟧.fields v) };
+
+    ghost encode_value_answers = { λ v. ⟦<BasicOcspResponseFields<'a> as Encode>⟧.encode_answers
+        (⟦<BasicOcspResponse<'a> as FromFields<BasicOcspResponseFields<'a>>>⟧.fields v) };
+
+    fn value_len(&self) -> Result<Length, Error> {
+        field_refs!(
+            self,
+            ((tbs_response_data, signature_algorithm), (signature, certs))
+        )
+        .encoded_len()
+    }
+
+    fn encode_value<W: Writer>(&self, writer: &mut W) -> Result<(), Error> {
+        field_refs!(
+            self,
+            ((tbs_response_data, signature_algorithm), (signature, certs))
+        )
+        .encode(writer)
+    }
+}
+
+impl<'a> Item for BasicOcspResponse<'a> {
+    ghost item = { sequence_item ⟦<BasicOcspResponse<'a> as Described>⟧.element };
+}
+
+impl<'a, R: Reader<Borrowed = &'a [u8]>> DecodeItem<R> for BasicOcspResponse<'a> {
+    ghost is_item = { sequence_is_item ⟦<BasicOcspResponse<'a> as Described>⟧.element refl };
+
+    ghost decodes_items = { decodes_same (sequence_item
+        ⟦<BasicOcspResponse<'a> as Described>⟧.element) };
+}
+
+impl<'a> BorrowedItem for BasicOcspResponse<'a> {
+    ghost borrowed = { refl };
+}
+
+impl<'a> Nestable for BasicOcspResponse<'a> {
+    ghost nestable = { Prim.omega arith };
+}

@@ -1,0 +1,130 @@
+//! Written by asn1_compile from the module OCSP: change the module instead.
+//!
+//! CertId.
+ghost use Rattle.std.specs.Prelude.{◌≡◌};
+ghost use Rattle.std.proofs.Common.{arith, refl};
+ghost use Rattle.der.specs.Prelude.{map_ok};
+ghost use Rattle.der_asn1.specs.Item.{decodes_same};
+ghost use Rattle.der_asn1.specs.Meaning.{alternative, field, sequence, sequence_is_item, sequence_item, two_fields};
+
+use der::{
+    Decode, DecodeValue, Encode, EncodeValue, Error, FromFields, Header, Length, Reader, Sequence,
+    SliceReader, Writer, decode_sequence, field_refs,
+};
+use der_asn1::{BorrowedItem, DecodeItem, Described, Item, Nestable, OctetStringRef};
+use spki::AlgorithmIdentifierRef;
+use std::alloc::Global;
+use x509::CertificateSerialNumber;
+
+/// What identifies a certificate (RFC 6960, 4.1.1), borrowed from the input.
+#[derive(Clone, Copy, Drop)]
+pub struct CertId<'a> {
+    /// The algorithm of the two hashes.
+    pub hash_algorithm: AlgorithmIdentifierRef<'a>,
+    /// The hash of the issuer's name.
+    pub issuer_name_hash: OctetStringRef<'a>,
+    /// The hash of the issuer's public key.
+    pub issuer_key_hash: OctetStringRef<'a>,
+    /// The serial number of the certificate.
+    pub serial_number: CertificateSerialNumber<'a>,
+}
+
+/// The fields of a [`CertId`] in pairs, in the order in which they are encoded.
+pub type CertIdFields<'a> = (
+    (AlgorithmIdentifierRef<'a>, OctetStringRef<'a>),
+    (OctetStringRef<'a>, CertificateSerialNumber<'a>),
+);
+
+impl<'a> FromFields<CertIdFields<'a>> for CertId<'a> {
+    ghost fields = { λ v. ((v.hash_algorithm, v.issuer_name_hash), (v.issuer_key_hash, v.serial_number)) };
+
+    fn from_fields(members: CertIdFields<'a>) -> Self {
+        let ((hash_algorithm, issuer_name_hash), (issuer_key_hash, serial_number)) = members;
+        CertId {
+            hash_algorithm,
+            issuer_name_hash,
+            issuer_key_hash,
+            serial_number,
+        }
+    }
+}
+
+impl<'a> Sequence for CertId<'a> {
+    ghost meaning = { sequence (two_fields (two_fields (field (alternative
+        ⟦<AlgorithmIdentifierRef<'a> as Described>⟧.element)) (field (alternative
+        ⟦<OctetStringRef<'a> as Described>⟧.element))) (two_fields (field (alternative
+        ⟦<OctetStringRef<'a> as Described>⟧.element)) (field (alternative
+        ⟦<CertificateSerialNumber<'a> as Described>⟧.element))))
+        ⟦<CertId<'a> as FromFields<CertIdFields<'a>>>⟧.fields };
+
+    ghost fits = { (refl, refl) };
+}
+
+/// Decodes the fields one after the other, with the errors of every [`Sequence`].
+impl<'a, R: Reader<Borrowed = &'a [u8]>> DecodeValue<R> for CertId<'a> {
+    type Error = Error;
+
+    ghost decode_value_answers = { λ h s result t.
+        ⟦<CertIdFields<'a> as Decode<SliceReader<'a>>>⟧.decode_answers s (map_ok
+        ⟦<CertId<'a> as FromFields<CertIdFields<'a>>>⟧.fields result) t };
+
+    fn decode_value(alloc: Global, reader: &mut R, header: Header) -> Result<Self, Error> {
+        decode_sequence::<R, CertIdFields<'a>, Self>(alloc, reader, header)
+    }
+
+    fn is_value(&self) {
+        <AlgorithmIdentifierRef<'a> as DecodeValue<R>>::is_value(&self.hash_algorithm);
+        <OctetStringRef<'a> as DecodeValue<R>>::is_value(&self.issuer_name_hash);
+        <OctetStringRef<'a> as DecodeValue<R>>::is_value(&self.issuer_key_hash);
+        <CertificateSerialNumber<'a> as DecodeValue<R>>::is_value(&self.serial_number);
+    }
+}
+
+/// Writes the fields one after the other, with the errors of every [`Sequence`].
+impl<'a> EncodeValue for CertId<'a> {
+    ghost value_size = { λ v. ⟦<CertIdFields<'a> as Encode>⟧.size
+        (⟦<CertId<'a> as FromFields<CertIdFields<'a>>>⟧.fields v) };
+
+    ghost encode_value_answers = { λ v. ⟦<CertIdFields<'a> as Encode>⟧.encode_answers
+        (⟦<CertId<'a> as FromFields<CertIdFields<'a>>>⟧.fields v) };
+
+    fn value_len(&self) -> Result<Length, Error> {
+        field_refs!(
+            self,
+            (
+                (hash_algorithm, issuer_name_hash),
+                (issuer_key_hash, serial_number)
+            )
+        )
+        .encoded_len()
+    }
+
+    fn encode_value<W: Writer>(&self, writer: &mut W) -> Result<(), Error> {
+        field_refs!(
+            self,
+            (
+                (hash_algorithm, issuer_name_hash),
+                (issuer_key_hash, serial_number)
+            )
+        )
+        .encode(writer)
+    }
+}
+
+impl<'a> Item for CertId<'a> {
+    ghost item = { sequence_item ⟦<CertId<'a> as Described>⟧.element };
+}
+
+impl<'a, R: Reader<Borrowed = &'a [u8]>> DecodeItem<R> for CertId<'a> {
+    ghost is_item = { sequence_is_item ⟦<CertId<'a> as Described>⟧.element refl };
+
+    ghost decodes_items = { decodes_same (sequence_item ⟦<CertId<'a> as Described>⟧.element) };
+}
+
+impl<'a> BorrowedItem for CertId<'a> {
+    ghost borrowed = { refl };
+}
+
+impl<'a> Nestable for CertId<'a> {
+    ghost nestable = { Prim.omega arith };
+}

@@ -1,0 +1,135 @@
+//! Written by asn1_compile from the module OCSP: change the module instead.
+//!
+//! CertStatus.
+ghost use Rattle.std.specs.Prelude.{false};
+ghost use Rattle.std.proofs.Common.{refl};
+ghost use Rattle.der.specs.Prelude.{map_ok};
+ghost use Rattle.der_asn1.specs.Item.{decodes_same};
+ghost use Rattle.der_asn1.specs.Meaning.{alternative, choice_is_item, choice_item, choice_of, either};
+ghost use Rattle.der_asn1.specs.declared.either.Either.TheVariants.{First, Second};
+ghost use Rattle.ocsp.specs.declared.asn1.cert_status.CertStatus.TheVariants as variant;
+
+use crate::asn1::revoked_info::RevokedInfo;
+use crate::asn1::unknown_info::UnknownInfo;
+use der::{Decode, Encode, Error, FromFields, Length, Reader, SliceReader, Tag, Writer};
+use der_asn1::{
+    BorrowedItem, Choice, DecodeItem, Described, DescribedChoice, Either, Implicit, Item, Null,
+    decode_choice,
+};
+use std::alloc::Global;
+
+/// Whether a certificate is revoked (RFC 6960, 4.2.1), borrowed from the input.
+#[derive(Clone, Copy, Drop)]
+pub enum CertStatus<'a> {
+    /// good
+    Good(Implicit<Null<'a>, 0>),
+    /// revoked
+    Revoked(Implicit<RevokedInfo, 1>),
+    /// unknown
+    Unknown(Implicit<UnknownInfo<'a>, 2>),
+}
+
+/// The alternatives, as nested choices of two.
+pub type CertStatusAlternatives<'a> = Either<
+    Implicit<Null<'a>, 0>,
+    Either<Implicit<RevokedInfo, 1>, Implicit<UnknownInfo<'a>, 2>>,
+>;
+
+impl<'a> FromFields<CertStatusAlternatives<'a>> for CertStatus<'a> {
+    ghost fields = { elim [
+      | variant.Good v ↦ First (v)
+      | variant.Revoked v ↦ Second (First (v))
+      | variant.Unknown v ↦ Second (Second (v))
+    ] };
+
+    fn from_fields(alternatives: CertStatusAlternatives<'a>) -> Self {
+        match alternatives {
+            Either::First(value) => CertStatus::Good(value),
+            Either::Second(Either::First(value)) => CertStatus::Revoked(value),
+            Either::Second(Either::Second(value)) => CertStatus::Unknown(value),
+        }
+    }
+}
+
+impl<'a> DescribedChoice for CertStatus<'a> {
+    ghost alternative = { choice_of (either (alternative
+        ⟦<Implicit<Null<'a>, 0> as Described>⟧.element) (either (alternative
+        ⟦<Implicit<RevokedInfo, 1> as Described>⟧.element) (alternative
+        ⟦<Implicit<UnknownInfo<'a>, 2> as Described>⟧.element)))
+        ⟦<CertStatus<'a> as FromFields<CertStatusAlternatives<'a>>>⟧.fields };
+}
+
+/// Decodes the alternative whose tag is next, with the errors of [`Either`].
+impl<'a, R: Reader<Borrowed = &'a [u8]>> Decode<R> for CertStatus<'a> {
+    type Error = Error;
+
+    ghost is_next = { ⟦<CertStatus<'a> as DescribedChoice>⟧.alternative.is_next };
+
+    ghost decode_levels = { ⟦<CertStatus<'a> as DescribedChoice>⟧.alternative.levels };
+
+    ghost allocates = { false };
+
+    ghost decode_answers = { λ s result t.
+        ⟦<CertStatusAlternatives<'a> as Decode<SliceReader<'a>>>⟧.decode_answers s
+        (map_ok ⟦<CertStatus<'a> as FromFields<CertStatusAlternatives<'a>>>⟧.fields result) t };
+
+    fn decode(alloc: Global, reader: &mut R) -> Result<Self, Error> {
+        decode_choice::<R, CertStatusAlternatives<'a>, Self>(alloc, reader)
+    }
+}
+
+impl<'a, R: Reader<Borrowed = &'a [u8]>> Choice<R> for CertStatus<'a> {
+    ghost chooses = { ⟦<CertStatus<'a> as DescribedChoice>⟧.alternative.tags };
+
+    fn can_decode(tag: Tag) -> bool {
+        <CertStatusAlternatives<'a> as Choice<R>>::can_decode(tag)
+    }
+
+    ghost begins = { ⟦<CertStatus<'a> as DescribedChoice>⟧.alternative.begins };
+}
+
+/// Writes the alternative that the value has.
+impl<'a> Encode for CertStatus<'a> {
+    ghost encoding = { λ v. ⟦<CertStatusAlternatives<'a> as Encode>⟧.encoding
+        (⟦<CertStatus<'a> as FromFields<CertStatusAlternatives<'a>>>⟧.fields v) };
+
+    ghost encodable = { λ v. ⟦<CertStatusAlternatives<'a> as Encode>⟧.encodable
+        (⟦<CertStatus<'a> as FromFields<CertStatusAlternatives<'a>>>⟧.fields v) };
+
+    ghost size = { λ v. ⟦<CertStatusAlternatives<'a> as Encode>⟧.size
+        (⟦<CertStatus<'a> as FromFields<CertStatusAlternatives<'a>>>⟧.fields v) };
+
+    ghost encode_answers = { λ v. ⟦<CertStatusAlternatives<'a> as Encode>⟧.encode_answers
+        (⟦<CertStatus<'a> as FromFields<CertStatusAlternatives<'a>>>⟧.fields v) };
+
+    fn encoded_len(&self) -> Result<Length, Error> {
+        match self {
+            CertStatus::Good(value) => value.encoded_len(),
+            CertStatus::Revoked(value) => value.encoded_len(),
+            CertStatus::Unknown(value) => value.encoded_len(),
+        }
+    }
+
+    fn encode<W: Writer>(&self, writer: &mut W) -> Result<(), Error> {
+        match self {
+            CertStatus::Good(value) => value.encode(writer),
+            CertStatus::Revoked(value) => value.encode(writer),
+            CertStatus::Unknown(value) => value.encode(writer),
+        }
+    }
+}
+
+impl<'a> Item for CertStatus<'a> {
+    ghost item = { choice_item ⟦<CertStatus<'a> as DescribedChoice>⟧.alternative };
+}
+
+impl<'a, R: Reader<Borrowed = &'a [u8]>> DecodeItem<R> for CertStatus<'a> {
+    ghost is_item = { choice_is_item ⟦<CertStatus<'a> as DescribedChoice>⟧.alternative refl };
+
+    ghost decodes_items = { decodes_same (choice_item
+        ⟦<CertStatus<'a> as DescribedChoice>⟧.alternative) };
+}
+
+impl<'a> BorrowedItem for CertStatus<'a> {
+    ghost borrowed = { refl };
+}

@@ -1,0 +1,91 @@
+//! Written by asn1_compile from the module OCSP: change the module instead.
+//!
+//! Certificates.
+ghost use Rattle.std.specs.Prelude.{◌≡◌, false};
+ghost use Rattle.std.proofs.Common.{arith, refl};
+ghost use Rattle.der.specs.Prelude.{map_ok};
+ghost use Rattle.der_asn1.specs.Item.{decodes_same};
+ghost use Rattle.der_asn1.specs.Meaning.{renamed, sequence_is_item, sequence_item};
+
+use der::{
+    DecodeValue, EncodeValue, Error, FromFields, Header, Length, Reader, Sequence, SliceReader,
+    Writer, decode_wrapped,
+};
+use der_asn1::{BorrowedItem, DecodeItem, Described, Item, Nestable, SequenceOf};
+use std::alloc::Global;
+use x509::Certificate;
+
+/// Certificates that help to verify a signature, first to last.
+#[derive(Clone, Copy, Drop)]
+pub struct Certificates<'a> {
+    /// The list: a SEQUENCE OF its items.
+    pub items: SequenceOf<'a, Certificate<'a>>,
+}
+
+// The list of which the value consists.
+type Items<'a> = SequenceOf<'a, Certificate<'a>>;
+
+impl<'a> FromFields<Items<'a>> for Certificates<'a> {
+    ghost fields = { λ v. v.items };
+
+    fn from_fields(items: Items<'a>) -> Self {
+        Certificates { items }
+    }
+}
+
+impl<'a> Sequence for Certificates<'a> {
+    ghost meaning = { renamed ⟦<Items<'a> as Described>⟧.element (λ v. v.items) };
+
+    ghost fits = { (refl, refl) };
+}
+
+/// Decodes the list, with the errors of [`SequenceOf`].
+impl<'a, R: Reader<Borrowed = &'a [u8]>> DecodeValue<R> for Certificates<'a> {
+    type Error = Error;
+
+    ghost decode_value_answers = { λ h s result t.
+        ⟦<Items<'a> as DecodeValue<SliceReader<'a>>>⟧.decode_value_answers h s
+        (map_ok (λ v. v.items) result) t };
+
+    fn decode_value(alloc: Global, reader: &mut R, header: Header) -> Result<Self, Error> {
+        decode_wrapped::<R, Items<'a>, Self>(alloc, reader, header)
+    }
+
+    fn is_value(&self) {
+        <Items<'a> as DecodeValue<R>>::is_value(&self.items);
+    }
+}
+
+/// Writes the list, with the errors of [`SequenceOf`].
+impl<'a> EncodeValue for Certificates<'a> {
+    ghost value_size = { λ v. ⟦<Items<'a> as EncodeValue>⟧.value_size v.items };
+
+    ghost encode_value_answers = { λ v. ⟦<Items<'a> as EncodeValue>⟧.encode_value_answers v.items };
+
+    fn value_len(&self) -> Result<Length, Error> {
+        self.items.value_len()
+    }
+
+    fn encode_value<W: Writer>(&self, writer: &mut W) -> Result<(), Error> {
+        self.items.encode_value(writer)
+    }
+}
+
+impl<'a> Item for Certificates<'a> {
+    ghost item = { sequence_item ⟦<Certificates<'a> as Described>⟧.element };
+}
+
+impl<'a, R: Reader<Borrowed = &'a [u8]>> DecodeItem<R> for Certificates<'a> {
+    ghost is_item = { sequence_is_item ⟦<Certificates<'a> as Described>⟧.element refl };
+
+    ghost decodes_items = { decodes_same (sequence_item
+        ⟦<Certificates<'a> as Described>⟧.element) };
+}
+
+impl<'a> BorrowedItem for Certificates<'a> {
+    ghost borrowed = { refl };
+}
+
+impl<'a> Nestable for Certificates<'a> {
+    ghost nestable = { Prim.omega arith };
+}

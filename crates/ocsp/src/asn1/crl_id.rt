@@ -1,0 +1,121 @@
+//! Written by asn1_compile from the module OCSP: change the module instead.
+//!
+//! CrlId.
+ghost use Rattle.std.specs.Prelude.{◌≡◌};
+ghost use Rattle.std.proofs.Common.{arith, refl};
+ghost use Rattle.der.specs.Prelude.{map_ok};
+ghost use Rattle.der_asn1.specs.Item.{decodes_same};
+ghost use Rattle.der_asn1.specs.Meaning.{alternative, optional, sequence, sequence_is_item, sequence_item, two_fields};
+
+use der::{
+    Decode, DecodeValue, Encode, EncodeValue, Error, FromFields, Header, Length, Reader, Sequence,
+    SliceReader, Writer, decode_sequence, field_refs,
+};
+use der_asn1::{
+    BorrowedItem, DecodeItem, Described, Explicit, GeneralizedTime, Ia5StringRef, IntRef, Item,
+    Nestable, Optional,
+};
+use std::alloc::Global;
+
+/// The CRL in which a certificate is found (RFC 6960, 4.4.2), borrowed from the input.
+#[derive(Clone, Copy, Drop)]
+pub struct CrlId<'a> {
+    /// Where the CRL can be found, if present.
+    pub crl_url: Optional<Explicit<Ia5StringRef<'a>, 0>>,
+    /// The number of the CRL, if present.
+    pub crl_num: Optional<Explicit<IntRef<'a>, 1>>,
+    /// When the CRL was issued, if present.
+    pub crl_time: Optional<Explicit<GeneralizedTime, 2>>,
+}
+
+/// The fields of a [`CrlId`] in pairs, in the order in which they are encoded.
+pub type CrlIdFields<'a> = (
+    Optional<Explicit<Ia5StringRef<'a>, 0>>,
+    (
+        Optional<Explicit<IntRef<'a>, 1>>,
+        Optional<Explicit<GeneralizedTime, 2>>,
+    ),
+);
+
+impl<'a> FromFields<CrlIdFields<'a>> for CrlId<'a> {
+    ghost fields = { λ v. (v.crl_url, (v.crl_num, v.crl_time)) };
+
+    fn from_fields(members: CrlIdFields<'a>) -> Self {
+        let (crl_url, (crl_num, crl_time)) = members;
+        CrlId {
+            crl_url,
+            crl_num,
+            crl_time,
+        }
+    }
+}
+
+impl<'a> Sequence for CrlId<'a> {
+    ghost meaning = { sequence (two_fields (optional (alternative
+        ⟦<Explicit<Ia5StringRef<'a>, 0> as Described>⟧.element)) (two_fields (optional (alternative
+        ⟦<Explicit<IntRef<'a>, 1> as Described>⟧.element)) (optional (alternative
+        ⟦<Explicit<GeneralizedTime, 2> as Described>⟧.element))))
+        ⟦<CrlId<'a> as FromFields<CrlIdFields<'a>>>⟧.fields };
+
+    ghost fits = { (refl, refl) };
+}
+
+/// Decodes the fields one after the other, with the errors of every [`Sequence`].
+impl<'a, R: Reader<Borrowed = &'a [u8]>> DecodeValue<R> for CrlId<'a> {
+    type Error = Error;
+
+    ghost decode_value_answers = { λ h s result t.
+        ⟦<CrlIdFields<'a> as Decode<SliceReader<'a>>>⟧.decode_answers s (map_ok
+        ⟦<CrlId<'a> as FromFields<CrlIdFields<'a>>>⟧.fields result) t };
+
+    fn decode_value(alloc: Global, reader: &mut R, header: Header) -> Result<Self, Error> {
+        decode_sequence::<R, CrlIdFields<'a>, Self>(alloc, reader, header)
+    }
+
+    fn is_value(&self) {
+        if let Some(value) = &self.crl_url.0 {
+            <Explicit<Ia5StringRef<'a>, 0> as DecodeValue<R>>::is_value(value);
+        }
+        if let Some(value) = &self.crl_num.0 {
+            <Explicit<IntRef<'a>, 1> as DecodeValue<R>>::is_value(value);
+        }
+        if let Some(value) = &self.crl_time.0 {
+            <Explicit<GeneralizedTime, 2> as DecodeValue<R>>::is_value(value);
+        }
+    }
+}
+
+/// Writes the fields one after the other, with the errors of every [`Sequence`].
+impl<'a> EncodeValue for CrlId<'a> {
+    ghost value_size = { λ v. ⟦<CrlIdFields<'a> as Encode>⟧.size
+        (⟦<CrlId<'a> as FromFields<CrlIdFields<'a>>>⟧.fields v) };
+
+    ghost encode_value_answers = { λ v. ⟦<CrlIdFields<'a> as Encode>⟧.encode_answers
+        (⟦<CrlId<'a> as FromFields<CrlIdFields<'a>>>⟧.fields v) };
+
+    fn value_len(&self) -> Result<Length, Error> {
+        field_refs!(self, (crl_url, (crl_num, crl_time))).encoded_len()
+    }
+
+    fn encode_value<W: Writer>(&self, writer: &mut W) -> Result<(), Error> {
+        field_refs!(self, (crl_url, (crl_num, crl_time))).encode(writer)
+    }
+}
+
+impl<'a> Item for CrlId<'a> {
+    ghost item = { sequence_item ⟦<CrlId<'a> as Described>⟧.element };
+}
+
+impl<'a, R: Reader<Borrowed = &'a [u8]>> DecodeItem<R> for CrlId<'a> {
+    ghost is_item = { sequence_is_item ⟦<CrlId<'a> as Described>⟧.element refl };
+
+    ghost decodes_items = { decodes_same (sequence_item ⟦<CrlId<'a> as Described>⟧.element) };
+}
+
+impl<'a> BorrowedItem for CrlId<'a> {
+    ghost borrowed = { refl };
+}
+
+impl<'a> Nestable for CrlId<'a> {
+    ghost nestable = { Prim.omega arith };
+}

@@ -1,0 +1,105 @@
+//! Written by asn1_compile from the module OCSP: change the module instead.
+//!
+//! OcspRequest.
+ghost use Rattle.std.specs.Prelude.{◌≡◌};
+ghost use Rattle.std.proofs.Common.{arith, refl};
+ghost use Rattle.der.specs.Prelude.{map_ok};
+ghost use Rattle.der_asn1.specs.Item.{decodes_same};
+ghost use Rattle.der_asn1.specs.Meaning.{alternative, field, optional, sequence, sequence_is_item, sequence_item, two_fields};
+
+use crate::asn1::signature::Signature;
+use crate::asn1::tbs_request::TbsRequest;
+use der::{
+    Decode, DecodeValue, Encode, EncodeValue, Error, FromFields, Header, Length, Reader, Sequence,
+    SliceReader, Writer, decode_sequence, field_refs,
+};
+use der_asn1::{BorrowedItem, DecodeItem, Described, Explicit, Item, Nestable, Optional};
+use std::alloc::Global;
+
+/// A request for the status of certificates (RFC 6960, 4.1.1), borrowed from the input.
+#[derive(Clone, Copy, Drop)]
+pub struct OcspRequest<'a> {
+    /// The part of the request that the signature covers.
+    pub tbs_request: TbsRequest<'a>,
+    /// The signature of `tbs_request`, if present.
+    pub optional_signature: Optional<Explicit<Signature<'a>, 0>>,
+}
+
+/// The fields of a [`OcspRequest`] in pairs, in the order in which they are encoded.
+pub type OcspRequestFields<'a> = (TbsRequest<'a>, Optional<Explicit<Signature<'a>, 0>>);
+
+impl<'a> FromFields<OcspRequestFields<'a>> for OcspRequest<'a> {
+    ghost fields = { λ v. (v.tbs_request, v.optional_signature) };
+
+    fn from_fields(members: OcspRequestFields<'a>) -> Self {
+        let (tbs_request, optional_signature) = members;
+        OcspRequest {
+            tbs_request,
+            optional_signature,
+        }
+    }
+}
+
+impl<'a> Sequence for OcspRequest<'a> {
+    ghost meaning = { sequence (two_fields (field (alternative
+        ⟦<TbsRequest<'a> as Described>⟧.element)) (optional (alternative
+        ⟦<Explicit<Signature<'a>, 0> as Described>⟧.element)))
+        ⟦<OcspRequest<'a> as FromFields<OcspRequestFields<'a>>>⟧.fields };
+
+    ghost fits = { (refl, refl) };
+}
+
+/// Decodes the fields one after the other, with the errors of every [`Sequence`].
+impl<'a, R: Reader<Borrowed = &'a [u8]>> DecodeValue<R> for OcspRequest<'a> {
+    type Error = Error;
+
+    ghost decode_value_answers = { λ h s result t.
+        ⟦<OcspRequestFields<'a> as Decode<SliceReader<'a>>>⟧.decode_answers s (map_ok
+        ⟦<OcspRequest<'a> as FromFields<OcspRequestFields<'a>>>⟧.fields result) t };
+
+    fn decode_value(alloc: Global, reader: &mut R, header: Header) -> Result<Self, Error> {
+        decode_sequence::<R, OcspRequestFields<'a>, Self>(alloc, reader, header)
+    }
+
+    fn is_value(&self) {
+        <TbsRequest<'a> as DecodeValue<R>>::is_value(&self.tbs_request);
+        if let Some(value) = &self.optional_signature.0 {
+            <Explicit<Signature<'a>, 0> as DecodeValue<R>>::is_value(value);
+        }
+    }
+}
+
+/// Writes the fields one after the other, with the errors of every [`Sequence`].
+impl<'a> EncodeValue for OcspRequest<'a> {
+    ghost value_size = { λ v. ⟦<OcspRequestFields<'a> as Encode>⟧.size
+        (⟦<OcspRequest<'a> as FromFields<OcspRequestFields<'a>>>⟧.fields v) };
+
+    ghost encode_value_answers = { λ v. ⟦<OcspRequestFields<'a> as Encode>⟧.encode_answers
+        (⟦<OcspRequest<'a> as FromFields<OcspRequestFields<'a>>>⟧.fields v) };
+
+    fn value_len(&self) -> Result<Length, Error> {
+        field_refs!(self, (tbs_request, optional_signature)).encoded_len()
+    }
+
+    fn encode_value<W: Writer>(&self, writer: &mut W) -> Result<(), Error> {
+        field_refs!(self, (tbs_request, optional_signature)).encode(writer)
+    }
+}
+
+impl<'a> Item for OcspRequest<'a> {
+    ghost item = { sequence_item ⟦<OcspRequest<'a> as Described>⟧.element };
+}
+
+impl<'a, R: Reader<Borrowed = &'a [u8]>> DecodeItem<R> for OcspRequest<'a> {
+    ghost is_item = { sequence_is_item ⟦<OcspRequest<'a> as Described>⟧.element refl };
+
+    ghost decodes_items = { decodes_same (sequence_item ⟦<OcspRequest<'a> as Described>⟧.element) };
+}
+
+impl<'a> BorrowedItem for OcspRequest<'a> {
+    ghost borrowed = { refl };
+}
+
+impl<'a> Nestable for OcspRequest<'a> {
+    ghost nestable = { Prim.omega arith };
+}

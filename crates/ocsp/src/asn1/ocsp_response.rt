@@ -1,0 +1,112 @@
+//! Written by asn1_compile from the module OCSP: change the module instead.
+//!
+//! OcspResponse.
+ghost use Rattle.std.specs.Prelude.{◌≡◌};
+ghost use Rattle.std.proofs.Common.{arith, refl};
+ghost use Rattle.der.specs.Prelude.{map_ok};
+ghost use Rattle.der_asn1.specs.Item.{decodes_same};
+ghost use Rattle.der_asn1.specs.Meaning.{alternative, field, optional, sequence, sequence_is_item, sequence_item, two_fields};
+
+use crate::asn1::ocsp_response_status::OcspResponseStatus;
+use crate::asn1::response_bytes::ResponseBytes;
+use der::{
+    Decode, DecodeValue, Encode, EncodeValue, Error, FromFields, Header, Length, Reader, Sequence,
+    SliceReader, Writer, decode_sequence, field_refs,
+};
+use der_asn1::{
+    BorrowedItem, DecodeItem, Described, Enumerated, Explicit, Item, Nestable, Optional,
+};
+use std::alloc::Global;
+
+/// A response (RFC 6960, 4.2.1), borrowed from the input.
+#[derive(Clone, Copy, Drop)]
+pub struct OcspResponse<'a> {
+    /// Whether the request was successful, or why it was not.
+    pub response_status: Enumerated<OcspResponseStatus>,
+    /// The response itself, if present. Only a successful request has one, but decoding does not
+    /// check this.
+    pub response_bytes: Optional<Explicit<ResponseBytes<'a>, 0>>,
+}
+
+/// The fields of a [`OcspResponse`] in pairs, in the order in which they are encoded.
+pub type OcspResponseFields<'a> = (
+    Enumerated<OcspResponseStatus>,
+    Optional<Explicit<ResponseBytes<'a>, 0>>,
+);
+
+impl<'a> FromFields<OcspResponseFields<'a>> for OcspResponse<'a> {
+    ghost fields = { λ v. (v.response_status, v.response_bytes) };
+
+    fn from_fields(members: OcspResponseFields<'a>) -> Self {
+        let (response_status, response_bytes) = members;
+        OcspResponse {
+            response_status,
+            response_bytes,
+        }
+    }
+}
+
+impl<'a> Sequence for OcspResponse<'a> {
+    ghost meaning = { sequence (two_fields (field (alternative
+        ⟦<Enumerated<OcspResponseStatus> as Described>⟧.element)) (optional (alternative
+        ⟦<Explicit<ResponseBytes<'a>, 0> as Described>⟧.element)))
+        ⟦<OcspResponse<'a> as FromFields<OcspResponseFields<'a>>>⟧.fields };
+
+    ghost fits = { (refl, refl) };
+}
+
+/// Decodes the fields one after the other, with the errors of every [`Sequence`].
+impl<'a, R: Reader<Borrowed = &'a [u8]>> DecodeValue<R> for OcspResponse<'a> {
+    type Error = Error;
+
+    ghost decode_value_answers = { λ h s result t.
+        ⟦<OcspResponseFields<'a> as Decode<SliceReader<'a>>>⟧.decode_answers s (map_ok
+        ⟦<OcspResponse<'a> as FromFields<OcspResponseFields<'a>>>⟧.fields result) t };
+
+    fn decode_value(alloc: Global, reader: &mut R, header: Header) -> Result<Self, Error> {
+        decode_sequence::<R, OcspResponseFields<'a>, Self>(alloc, reader, header)
+    }
+
+    fn is_value(&self) {
+        <Enumerated<OcspResponseStatus> as DecodeValue<R>>::is_value(&self.response_status);
+        if let Some(value) = &self.response_bytes.0 {
+            <Explicit<ResponseBytes<'a>, 0> as DecodeValue<R>>::is_value(value);
+        }
+    }
+}
+
+/// Writes the fields one after the other, with the errors of every [`Sequence`].
+impl<'a> EncodeValue for OcspResponse<'a> {
+    ghost value_size = { λ v. ⟦<OcspResponseFields<'a> as Encode>⟧.size
+        (⟦<OcspResponse<'a> as FromFields<OcspResponseFields<'a>>>⟧.fields v) };
+
+    ghost encode_value_answers = { λ v. ⟦<OcspResponseFields<'a> as Encode>⟧.encode_answers
+        (⟦<OcspResponse<'a> as FromFields<OcspResponseFields<'a>>>⟧.fields v) };
+
+    fn value_len(&self) -> Result<Length, Error> {
+        field_refs!(self, (response_status, response_bytes)).encoded_len()
+    }
+
+    fn encode_value<W: Writer>(&self, writer: &mut W) -> Result<(), Error> {
+        field_refs!(self, (response_status, response_bytes)).encode(writer)
+    }
+}
+
+impl<'a> Item for OcspResponse<'a> {
+    ghost item = { sequence_item ⟦<OcspResponse<'a> as Described>⟧.element };
+}
+
+impl<'a, R: Reader<Borrowed = &'a [u8]>> DecodeItem<R> for OcspResponse<'a> {
+    ghost is_item = { sequence_is_item ⟦<OcspResponse<'a> as Described>⟧.element refl };
+
+    ghost decodes_items = { decodes_same (sequence_item
+        ⟦<OcspResponse<'a> as Described>⟧.element) };
+}
+
+impl<'a> BorrowedItem for OcspResponse<'a> {
+    ghost borrowed = { refl };
+}
+
+impl<'a> Nestable for OcspResponse<'a> {
+    ghost nestable = { Prim.omega arith };
+}

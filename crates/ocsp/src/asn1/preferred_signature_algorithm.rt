@@ -1,0 +1,111 @@
+//! Written by asn1_compile from the module OCSP: change the module instead.
+//!
+//! PreferredSignatureAlgorithm.
+ghost use Rattle.std.specs.Prelude.{◌≡◌};
+ghost use Rattle.std.proofs.Common.{arith, refl};
+ghost use Rattle.der.specs.Prelude.{map_ok};
+ghost use Rattle.der_asn1.specs.Item.{decodes_same};
+ghost use Rattle.der_asn1.specs.Meaning.{alternative, field, optional, sequence, sequence_is_item, sequence_item, two_fields};
+
+use der::{
+    Decode, DecodeValue, Encode, EncodeValue, Error, FromFields, Header, Length, Reader, Sequence,
+    SliceReader, Writer, decode_sequence, field_refs,
+};
+use der_asn1::{BorrowedItem, DecodeItem, Described, Item, Nestable, Optional};
+use spki::AlgorithmIdentifierRef;
+use std::alloc::Global;
+
+/// An algorithm of signatures that a client prefers (RFC 6960, 4.4.7.1), borrowed from the input.
+#[derive(Clone, Copy, Drop)]
+pub struct PreferredSignatureAlgorithm<'a> {
+    /// The algorithm of the signature.
+    pub sig_identifier: AlgorithmIdentifierRef<'a>,
+    /// The algorithm of the public key in the responder's certificate, if present. In 4.4.7.1 the
+    /// RFC names the field pubKeyAlgIdentifier.
+    pub cert_identifier: Optional<AlgorithmIdentifierRef<'a>>,
+}
+
+/// The fields of a [`PreferredSignatureAlgorithm`] in pairs, in the order in which they are encoded.
+pub type PreferredSignatureAlgorithmFields<'a> = (
+    AlgorithmIdentifierRef<'a>,
+    Optional<AlgorithmIdentifierRef<'a>>,
+);
+
+impl<'a> FromFields<PreferredSignatureAlgorithmFields<'a>> for PreferredSignatureAlgorithm<'a> {
+    ghost fields = { λ v. (v.sig_identifier, v.cert_identifier) };
+
+    fn from_fields(members: PreferredSignatureAlgorithmFields<'a>) -> Self {
+        let (sig_identifier, cert_identifier) = members;
+        PreferredSignatureAlgorithm {
+            sig_identifier,
+            cert_identifier,
+        }
+    }
+}
+
+impl<'a> Sequence for PreferredSignatureAlgorithm<'a> {
+    ghost meaning = { sequence (two_fields (field (alternative
+        ⟦<AlgorithmIdentifierRef<'a> as Described>⟧.element)) (optional (alternative
+        ⟦<AlgorithmIdentifierRef<'a> as Described>⟧.element)))
+        ⟦<PreferredSignatureAlgorithm<'a> as FromFields<PreferredSignatureAlgorithmFields<'a>>>⟧.fields };
+
+    ghost fits = { (refl, refl) };
+}
+
+/// Decodes the fields one after the other, with the errors of every [`Sequence`].
+impl<'a, R: Reader<Borrowed = &'a [u8]>> DecodeValue<R> for PreferredSignatureAlgorithm<'a> {
+    type Error = Error;
+
+    ghost decode_value_answers = { λ h s result t.
+        ⟦<PreferredSignatureAlgorithmFields<'a> as Decode<SliceReader<'a>>>⟧.decode_answers s (map_ok
+        ⟦<PreferredSignatureAlgorithm<'a> as FromFields<PreferredSignatureAlgorithmFields<'a>>>⟧.fields result) t };
+
+    fn decode_value(alloc: Global, reader: &mut R, header: Header) -> Result<Self, Error> {
+        decode_sequence::<R, PreferredSignatureAlgorithmFields<'a>, Self>(alloc, reader, header)
+    }
+
+    fn is_value(&self) {
+        <AlgorithmIdentifierRef<'a> as DecodeValue<R>>::is_value(&self.sig_identifier);
+        if let Some(value) = &self.cert_identifier.0 {
+            <AlgorithmIdentifierRef<'a> as DecodeValue<R>>::is_value(value);
+        }
+    }
+}
+
+/// Writes the fields one after the other, with the errors of every [`Sequence`].
+impl<'a> EncodeValue for PreferredSignatureAlgorithm<'a> {
+    ghost value_size = { λ v. ⟦<PreferredSignatureAlgorithmFields<'a> as Encode>⟧.size
+        (⟦<PreferredSignatureAlgorithm<'a> as FromFields<PreferredSignatureAlgorithmFields<'a>>>⟧.fields v) };
+
+    ghost encode_value_answers = { λ v.
+        ⟦<PreferredSignatureAlgorithmFields<'a> as Encode>⟧.encode_answers
+        (⟦<PreferredSignatureAlgorithm<'a> as FromFields<PreferredSignatureAlgorithmFields<'a>>>⟧.fields v) };
+
+    fn value_len(&self) -> Result<Length, Error> {
+        field_refs!(self, (sig_identifier, cert_identifier)).encoded_len()
+    }
+
+    fn encode_value<W: Writer>(&self, writer: &mut W) -> Result<(), Error> {
+        field_refs!(self, (sig_identifier, cert_identifier)).encode(writer)
+    }
+}
+
+impl<'a> Item for PreferredSignatureAlgorithm<'a> {
+    ghost item = { sequence_item ⟦<PreferredSignatureAlgorithm<'a> as Described>⟧.element };
+}
+
+impl<'a, R: Reader<Borrowed = &'a [u8]>> DecodeItem<R> for PreferredSignatureAlgorithm<'a> {
+    ghost is_item = { sequence_is_item
+        ⟦<PreferredSignatureAlgorithm<'a> as Described>⟧.element refl };
+
+    ghost decodes_items = { decodes_same (sequence_item
+        ⟦<PreferredSignatureAlgorithm<'a> as Described>⟧.element) };
+}
+
+impl<'a> BorrowedItem for PreferredSignatureAlgorithm<'a> {
+    ghost borrowed = { refl };
+}
+
+impl<'a> Nestable for PreferredSignatureAlgorithm<'a> {
+    ghost nestable = { Prim.omega arith };
+}

@@ -1,0 +1,104 @@
+//! Written by asn1_compile from the module OCSP: change the module instead.
+//!
+//! Request.
+ghost use Rattle.std.specs.Prelude.{◌≡◌};
+ghost use Rattle.std.proofs.Common.{arith, refl};
+ghost use Rattle.der.specs.Prelude.{map_ok};
+ghost use Rattle.der_asn1.specs.Item.{decodes_same};
+ghost use Rattle.der_asn1.specs.Meaning.{alternative, field, optional, sequence, sequence_is_item, sequence_item, two_fields};
+
+use crate::asn1::cert_id::CertId;
+use der::{
+    Decode, DecodeValue, Encode, EncodeValue, Error, FromFields, Header, Length, Reader, Sequence,
+    SliceReader, Writer, decode_sequence, field_refs,
+};
+use der_asn1::{BorrowedItem, DecodeItem, Described, Explicit, Item, Nestable, Optional};
+use std::alloc::Global;
+use x509::Extensions;
+
+/// A certificate whose status is requested (RFC 6960, 4.1.1), borrowed from the input.
+#[derive(Clone, Copy, Drop)]
+pub struct Request<'a> {
+    /// The certificate.
+    pub req_cert: CertId<'a>,
+    /// The extensions, if present.
+    pub single_request_extensions: Optional<Explicit<Extensions<'a>, 0>>,
+}
+
+/// The fields of a [`Request`] in pairs, in the order in which they are encoded.
+pub type RequestFields<'a> = (CertId<'a>, Optional<Explicit<Extensions<'a>, 0>>);
+
+impl<'a> FromFields<RequestFields<'a>> for Request<'a> {
+    ghost fields = { λ v. (v.req_cert, v.single_request_extensions) };
+
+    fn from_fields(members: RequestFields<'a>) -> Self {
+        let (req_cert, single_request_extensions) = members;
+        Request {
+            req_cert,
+            single_request_extensions,
+        }
+    }
+}
+
+impl<'a> Sequence for Request<'a> {
+    ghost meaning = { sequence (two_fields (field (alternative ⟦<CertId<'a> as Described>⟧.element))
+        (optional (alternative ⟦<Explicit<Extensions<'a>, 0> as Described>⟧.element)))
+        ⟦<Request<'a> as FromFields<RequestFields<'a>>>⟧.fields };
+
+    ghost fits = { (refl, refl) };
+}
+
+/// Decodes the fields one after the other, with the errors of every [`Sequence`].
+impl<'a, R: Reader<Borrowed = &'a [u8]>> DecodeValue<R> for Request<'a> {
+    type Error = Error;
+
+    ghost decode_value_answers = { λ h s result t.
+        ⟦<RequestFields<'a> as Decode<SliceReader<'a>>>⟧.decode_answers s (map_ok
+        ⟦<Request<'a> as FromFields<RequestFields<'a>>>⟧.fields result) t };
+
+    fn decode_value(alloc: Global, reader: &mut R, header: Header) -> Result<Self, Error> {
+        decode_sequence::<R, RequestFields<'a>, Self>(alloc, reader, header)
+    }
+
+    fn is_value(&self) {
+        <CertId<'a> as DecodeValue<R>>::is_value(&self.req_cert);
+        if let Some(value) = &self.single_request_extensions.0 {
+            <Explicit<Extensions<'a>, 0> as DecodeValue<R>>::is_value(value);
+        }
+    }
+}
+
+/// Writes the fields one after the other, with the errors of every [`Sequence`].
+impl<'a> EncodeValue for Request<'a> {
+    ghost value_size = { λ v. ⟦<RequestFields<'a> as Encode>⟧.size
+        (⟦<Request<'a> as FromFields<RequestFields<'a>>>⟧.fields v) };
+
+    ghost encode_value_answers = { λ v. ⟦<RequestFields<'a> as Encode>⟧.encode_answers
+        (⟦<Request<'a> as FromFields<RequestFields<'a>>>⟧.fields v) };
+
+    fn value_len(&self) -> Result<Length, Error> {
+        field_refs!(self, (req_cert, single_request_extensions)).encoded_len()
+    }
+
+    fn encode_value<W: Writer>(&self, writer: &mut W) -> Result<(), Error> {
+        field_refs!(self, (req_cert, single_request_extensions)).encode(writer)
+    }
+}
+
+impl<'a> Item for Request<'a> {
+    ghost item = { sequence_item ⟦<Request<'a> as Described>⟧.element };
+}
+
+impl<'a, R: Reader<Borrowed = &'a [u8]>> DecodeItem<R> for Request<'a> {
+    ghost is_item = { sequence_is_item ⟦<Request<'a> as Described>⟧.element refl };
+
+    ghost decodes_items = { decodes_same (sequence_item ⟦<Request<'a> as Described>⟧.element) };
+}
+
+impl<'a> BorrowedItem for Request<'a> {
+    ghost borrowed = { refl };
+}
+
+impl<'a> Nestable for Request<'a> {
+    ghost nestable = { Prim.omega arith };
+}

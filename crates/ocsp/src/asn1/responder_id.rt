@@ -1,0 +1,125 @@
+//! Written by asn1_compile from the module OCSP: change the module instead.
+//!
+//! ResponderId.
+ghost use Rattle.std.specs.Prelude.{false};
+ghost use Rattle.std.proofs.Common.{refl};
+ghost use Rattle.der.specs.Prelude.{map_ok};
+ghost use Rattle.der_asn1.specs.Item.{decodes_same};
+ghost use Rattle.der_asn1.specs.Meaning.{alternative, choice_is_item, choice_item, choice_of, either};
+ghost use Rattle.der_asn1.specs.declared.either.Either.TheVariants.{First, Second};
+ghost use Rattle.ocsp.specs.declared.asn1.responder_id.ResponderId.TheVariants as variant;
+
+use crate::asn1::key_hash::KeyHash;
+use der::{Decode, Encode, Error, FromFields, Length, Reader, SliceReader, Tag, Writer};
+use der_asn1::{
+    BorrowedItem, Choice, DecodeItem, Described, DescribedChoice, Either, Explicit, Item,
+    decode_choice,
+};
+use std::alloc::Global;
+use x509::Name;
+
+/// The one who signed a response (RFC 6960, 4.2.1), borrowed from the input.
+#[derive(Clone, Copy, Drop)]
+pub enum ResponderId<'a> {
+    /// byName
+    ByName(Explicit<Name<'a>, 1>),
+    /// byKey
+    ByKey(Explicit<KeyHash<'a>, 2>),
+}
+
+/// The alternatives, as nested choices of two.
+pub type ResponderIdAlternatives<'a> = Either<Explicit<Name<'a>, 1>, Explicit<KeyHash<'a>, 2>>;
+
+impl<'a> FromFields<ResponderIdAlternatives<'a>> for ResponderId<'a> {
+    ghost fields = { elim [
+      | variant.ByName v ↦ First (v)
+      | variant.ByKey v ↦ Second (v)
+    ] };
+
+    fn from_fields(alternatives: ResponderIdAlternatives<'a>) -> Self {
+        match alternatives {
+            Either::First(value) => ResponderId::ByName(value),
+            Either::Second(value) => ResponderId::ByKey(value),
+        }
+    }
+}
+
+impl<'a> DescribedChoice for ResponderId<'a> {
+    ghost alternative = { choice_of (either (alternative
+        ⟦<Explicit<Name<'a>, 1> as Described>⟧.element) (alternative
+        ⟦<Explicit<KeyHash<'a>, 2> as Described>⟧.element))
+        ⟦<ResponderId<'a> as FromFields<ResponderIdAlternatives<'a>>>⟧.fields };
+}
+
+/// Decodes the alternative whose tag is next, with the errors of [`Either`].
+impl<'a, R: Reader<Borrowed = &'a [u8]>> Decode<R> for ResponderId<'a> {
+    type Error = Error;
+
+    ghost is_next = { ⟦<ResponderId<'a> as DescribedChoice>⟧.alternative.is_next };
+
+    ghost decode_levels = { ⟦<ResponderId<'a> as DescribedChoice>⟧.alternative.levels };
+
+    ghost allocates = { false };
+
+    ghost decode_answers = { λ s result t.
+        ⟦<ResponderIdAlternatives<'a> as Decode<SliceReader<'a>>>⟧.decode_answers s
+        (map_ok ⟦<ResponderId<'a> as FromFields<ResponderIdAlternatives<'a>>>⟧.fields result) t };
+
+    fn decode(alloc: Global, reader: &mut R) -> Result<Self, Error> {
+        decode_choice::<R, ResponderIdAlternatives<'a>, Self>(alloc, reader)
+    }
+}
+
+impl<'a, R: Reader<Borrowed = &'a [u8]>> Choice<R> for ResponderId<'a> {
+    ghost chooses = { ⟦<ResponderId<'a> as DescribedChoice>⟧.alternative.tags };
+
+    fn can_decode(tag: Tag) -> bool {
+        <ResponderIdAlternatives<'a> as Choice<R>>::can_decode(tag)
+    }
+
+    ghost begins = { ⟦<ResponderId<'a> as DescribedChoice>⟧.alternative.begins };
+}
+
+/// Writes the alternative that the value has.
+impl<'a> Encode for ResponderId<'a> {
+    ghost encoding = { λ v. ⟦<ResponderIdAlternatives<'a> as Encode>⟧.encoding
+        (⟦<ResponderId<'a> as FromFields<ResponderIdAlternatives<'a>>>⟧.fields v) };
+
+    ghost encodable = { λ v. ⟦<ResponderIdAlternatives<'a> as Encode>⟧.encodable
+        (⟦<ResponderId<'a> as FromFields<ResponderIdAlternatives<'a>>>⟧.fields v) };
+
+    ghost size = { λ v. ⟦<ResponderIdAlternatives<'a> as Encode>⟧.size
+        (⟦<ResponderId<'a> as FromFields<ResponderIdAlternatives<'a>>>⟧.fields v) };
+
+    ghost encode_answers = { λ v. ⟦<ResponderIdAlternatives<'a> as Encode>⟧.encode_answers
+        (⟦<ResponderId<'a> as FromFields<ResponderIdAlternatives<'a>>>⟧.fields v) };
+
+    fn encoded_len(&self) -> Result<Length, Error> {
+        match self {
+            ResponderId::ByName(value) => value.encoded_len(),
+            ResponderId::ByKey(value) => value.encoded_len(),
+        }
+    }
+
+    fn encode<W: Writer>(&self, writer: &mut W) -> Result<(), Error> {
+        match self {
+            ResponderId::ByName(value) => value.encode(writer),
+            ResponderId::ByKey(value) => value.encode(writer),
+        }
+    }
+}
+
+impl<'a> Item for ResponderId<'a> {
+    ghost item = { choice_item ⟦<ResponderId<'a> as DescribedChoice>⟧.alternative };
+}
+
+impl<'a, R: Reader<Borrowed = &'a [u8]>> DecodeItem<R> for ResponderId<'a> {
+    ghost is_item = { choice_is_item ⟦<ResponderId<'a> as DescribedChoice>⟧.alternative refl };
+
+    ghost decodes_items = { decodes_same (choice_item
+        ⟦<ResponderId<'a> as DescribedChoice>⟧.alternative) };
+}
+
+impl<'a> BorrowedItem for ResponderId<'a> {
+    ghost borrowed = { refl };
+}

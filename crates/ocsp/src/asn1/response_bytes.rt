@@ -1,0 +1,105 @@
+//! Written by asn1_compile from the module OCSP: change the module instead.
+//!
+//! ResponseBytes.
+ghost use Rattle.std.specs.Prelude.{◌≡◌};
+ghost use Rattle.std.proofs.Common.{arith, refl};
+ghost use Rattle.der.specs.Prelude.{map_ok};
+ghost use Rattle.der_asn1.specs.Item.{decodes_same};
+ghost use Rattle.der_asn1.specs.Meaning.{alternative, field, sequence, sequence_is_item, sequence_item, two_fields};
+
+use der::{
+    Decode, DecodeValue, Encode, EncodeValue, Error, FromFields, Header, Length, Reader, Sequence,
+    SliceReader, Writer, decode_sequence, field_refs,
+};
+use der_asn1::{
+    BorrowedItem, DecodeItem, Described, Item, Nestable, ObjectIdentifierRef, OctetStringRef,
+};
+use std::alloc::Global;
+
+/// The octets of a response (RFC 6960, 4.2.1), borrowed from the input.
+#[derive(Clone, Copy, Drop)]
+pub struct ResponseBytes<'a> {
+    /// The type of the response.
+    pub response_type: ObjectIdentifierRef<'a>,
+    /// The encoding of the response, which is not checked. For id-pkix-ocsp-basic it is that of a
+    /// BasicOCSPResponse.
+    pub response: OctetStringRef<'a>,
+}
+
+/// The fields of a [`ResponseBytes`] in pairs, in the order in which they are encoded.
+pub type ResponseBytesFields<'a> = (ObjectIdentifierRef<'a>, OctetStringRef<'a>);
+
+impl<'a> FromFields<ResponseBytesFields<'a>> for ResponseBytes<'a> {
+    ghost fields = { λ v. (v.response_type, v.response) };
+
+    fn from_fields(members: ResponseBytesFields<'a>) -> Self {
+        let (response_type, response) = members;
+        ResponseBytes {
+            response_type,
+            response,
+        }
+    }
+}
+
+impl<'a> Sequence for ResponseBytes<'a> {
+    ghost meaning = { sequence (two_fields (field (alternative
+        ⟦<ObjectIdentifierRef<'a> as Described>⟧.element)) (field (alternative
+        ⟦<OctetStringRef<'a> as Described>⟧.element)))
+        ⟦<ResponseBytes<'a> as FromFields<ResponseBytesFields<'a>>>⟧.fields };
+
+    ghost fits = { (refl, refl) };
+}
+
+/// Decodes the fields one after the other, with the errors of every [`Sequence`].
+impl<'a, R: Reader<Borrowed = &'a [u8]>> DecodeValue<R> for ResponseBytes<'a> {
+    type Error = Error;
+
+    ghost decode_value_answers = { λ h s result t.
+        ⟦<ResponseBytesFields<'a> as Decode<SliceReader<'a>>>⟧.decode_answers s (map_ok
+        ⟦<ResponseBytes<'a> as FromFields<ResponseBytesFields<'a>>>⟧.fields result) t };
+
+    fn decode_value(alloc: Global, reader: &mut R, header: Header) -> Result<Self, Error> {
+        decode_sequence::<R, ResponseBytesFields<'a>, Self>(alloc, reader, header)
+    }
+
+    fn is_value(&self) {
+        <ObjectIdentifierRef<'a> as DecodeValue<R>>::is_value(&self.response_type);
+        <OctetStringRef<'a> as DecodeValue<R>>::is_value(&self.response);
+    }
+}
+
+/// Writes the fields one after the other, with the errors of every [`Sequence`].
+impl<'a> EncodeValue for ResponseBytes<'a> {
+    ghost value_size = { λ v. ⟦<ResponseBytesFields<'a> as Encode>⟧.size
+        (⟦<ResponseBytes<'a> as FromFields<ResponseBytesFields<'a>>>⟧.fields v) };
+
+    ghost encode_value_answers = { λ v. ⟦<ResponseBytesFields<'a> as Encode>⟧.encode_answers
+        (⟦<ResponseBytes<'a> as FromFields<ResponseBytesFields<'a>>>⟧.fields v) };
+
+    fn value_len(&self) -> Result<Length, Error> {
+        field_refs!(self, (response_type, response)).encoded_len()
+    }
+
+    fn encode_value<W: Writer>(&self, writer: &mut W) -> Result<(), Error> {
+        field_refs!(self, (response_type, response)).encode(writer)
+    }
+}
+
+impl<'a> Item for ResponseBytes<'a> {
+    ghost item = { sequence_item ⟦<ResponseBytes<'a> as Described>⟧.element };
+}
+
+impl<'a, R: Reader<Borrowed = &'a [u8]>> DecodeItem<R> for ResponseBytes<'a> {
+    ghost is_item = { sequence_is_item ⟦<ResponseBytes<'a> as Described>⟧.element refl };
+
+    ghost decodes_items = { decodes_same (sequence_item
+        ⟦<ResponseBytes<'a> as Described>⟧.element) };
+}
+
+impl<'a> BorrowedItem for ResponseBytes<'a> {
+    ghost borrowed = { refl };
+}
+
+impl<'a> Nestable for ResponseBytes<'a> {
+    ghost nestable = { Prim.omega arith };
+}

@@ -1,0 +1,213 @@
+//! Written by asn1_compile from the module OCSP: change the module instead.
+//!
+//! ResponseData.
+ghost use Rattle.std.specs.Prelude.{◌≡◌};
+ghost use Rattle.std.proofs.Common.{arith, refl};
+ghost use Rattle.der.specs.Prelude.{map_ok};
+ghost use Rattle.der_asn1.specs.Item.{decodes_same};
+ghost use Rattle.der_asn1.specs.Meaning.{alternative, defaulted, field, optional, seen, sequence, sequence_is_item, sequence_item, two_fields};
+
+use crate::asn1::key_hash::KeyHash;
+use crate::asn1::responder_id::ResponderId;
+use crate::asn1::response_data_part1::{ResponseDataPart1, ResponseDataPart1Fields};
+use crate::asn1::response_data_part2::{ResponseDataPart2, ResponseDataPart2Fields};
+use crate::asn1::response_data_part3::{ResponseDataPart3, ResponseDataPart3Fields};
+use crate::asn1::single_response::SingleResponse;
+use der::{
+    Decode, DecodeValue, Encode, EncodeValue, Error, FromFields, Header, Length, Reader, Sequence,
+    SliceReader, Writer, decode_sequence, field_refs,
+};
+use der_asn1::{
+    BorrowedItem, DecodeItem, DefaultU64, DefaultValue, Defaulted, Described, DescribedChoice,
+    Explicit, GeneralizedTime, IntegerOf, Item, Nestable, Optional, SequenceOf, WithDefault,
+};
+use std::alloc::Global;
+use x509::{Extensions, Name};
+
+/// The part of a response that its signature covers (RFC 6960, 4.2.1), borrowed from the input.
+#[derive(Clone, Copy, Drop)]
+pub struct ResponseData<'a> {
+    /// The version. The default is version 1, whose number is 0. Decoding accepts every number from
+    /// 0 to 2^64 - 1.
+    pub version: Defaulted<Explicit<WithDefault<IntegerOf<u64>, DefaultU64<0>>, 0>>,
+    /// The one who signed the response.
+    pub responder_id: ResponderId<'a>,
+    /// When the response was signed.
+    pub produced_at: GeneralizedTime,
+    /// The status of each certificate.
+    pub responses: SequenceOf<'a, SingleResponse<'a>>,
+    /// The extensions, if present.
+    pub response_extensions: Optional<Explicit<Extensions<'a>, 1>>,
+}
+
+/// The fields of a [`ResponseData`] in pairs, in the order in which they are encoded.
+pub type ResponseDataFields<'a> = (
+    ResponseDataPart1Fields<'a>,
+    (ResponseDataPart2Fields<'a>, ResponseDataPart3Fields<'a>),
+);
+
+impl<'a> FromFields<
+    (
+        ResponseDataPart1<'a>,
+        (ResponseDataPart2<'a>, ResponseDataPart3<'a>),
+    ),
+> for ResponseData<'a> {
+    ghost fields = { λ v. (
+      record { version = v.version; responder_id = v.responder_id },
+      (
+        record {
+          produced_at = v.produced_at;
+          responses = v.responses;
+        },
+        record { response_extensions = v.response_extensions },
+      ),
+    ) };
+
+    fn from_fields(
+        members: (
+            ResponseDataPart1<'a>,
+            (ResponseDataPart2<'a>, ResponseDataPart3<'a>),
+        ),
+    ) -> Self {
+        let (part1, (part2, part3)) = members;
+        ResponseData {
+            version: part1.version,
+            responder_id: part1.responder_id,
+            produced_at: part2.produced_at,
+            responses: part2.responses,
+            response_extensions: part3.response_extensions,
+        }
+    }
+}
+
+impl<'a> Sequence for ResponseData<'a> {
+    ghost meaning = { sequence (two_fields (seen
+        ⟦<ResponseDataPart1<'a> as FromFields<ResponseDataPart1Fields<'a>>>⟧.fields (two_fields
+        (defaulted
+        ⟦<Explicit<WithDefault<IntegerOf<u64>, DefaultU64<0>>, 0> as DefaultValue>⟧.is_default
+        (alternative
+        ⟦<Explicit<WithDefault<IntegerOf<u64>, DefaultU64<0>>, 0> as Described>⟧.element)) (field
+        ⟦<ResponderId<'a> as DescribedChoice>⟧.alternative))) (two_fields (seen
+        ⟦<ResponseDataPart2<'a> as FromFields<ResponseDataPart2Fields<'a>>>⟧.fields (two_fields
+        (field (alternative ⟦<GeneralizedTime as Described>⟧.element)) (field (alternative
+        ⟦<SequenceOf<'a, SingleResponse<'a>> as Described>⟧.element)))) (seen
+        ⟦<ResponseDataPart3<'a> as FromFields<ResponseDataPart3Fields<'a>>>⟧.fields (optional
+        (alternative ⟦<Explicit<Extensions<'a>, 1> as Described>⟧.element)))))
+        ⟦<ResponseData<'a> as FromFields<(ResponseDataPart1<'a>,
+        (ResponseDataPart2<'a>, ResponseDataPart3<'a>))>>⟧.fields };
+
+    ghost fits = { (refl, refl) };
+}
+
+/// Decodes the fields one after the other, with the errors of every [`Sequence`].
+impl<'a, R: Reader<Borrowed = &'a [u8]>> DecodeValue<R> for ResponseData<'a> {
+    type Error = Error;
+
+    ghost decode_value_answers = { λ h s result t.
+        ⟦<(ResponseDataPart1<'a>,
+        (ResponseDataPart2<'a>, ResponseDataPart3<'a>)) as Decode<SliceReader<'a>>>⟧.decode_answers s
+        (map_ok ⟦<ResponseData<'a> as FromFields<(ResponseDataPart1<'a>,
+        (ResponseDataPart2<'a>, ResponseDataPart3<'a>))>>⟧.fields result) t };
+
+    fn decode_value(alloc: Global, reader: &mut R, header: Header) -> Result<Self, Error> {
+        decode_sequence::<
+            R,
+            (
+                ResponseDataPart1<'a>,
+                (ResponseDataPart2<'a>, ResponseDataPart3<'a>),
+            ),
+            Self,
+        >(alloc, reader, header)
+    }
+
+    fn is_value(&self) {
+        <Explicit<WithDefault<IntegerOf<u64>, DefaultU64<0>>, 0> as DecodeValue<R>>::is_value(
+            &self.version.0,
+        );
+        match &self.responder_id {
+            ResponderId::ByName(value) => <Explicit<Name<'a>, 1> as DecodeValue<R>>::is_value(
+                value,
+            ),
+            ResponderId::ByKey(value) => <Explicit<KeyHash<'a>, 2> as DecodeValue<R>>::is_value(
+                value,
+            ),
+        }
+        <GeneralizedTime as DecodeValue<R>>::is_value(&self.produced_at);
+        <SequenceOf<'a, SingleResponse<'a>> as DecodeValue<R>>::is_value(&self.responses);
+        if let Some(value) = &self.response_extensions.0 {
+            <Explicit<Extensions<'a>, 1> as DecodeValue<R>>::is_value(value);
+        }
+    }
+}
+
+/// Writes the fields one after the other, with the errors of every [`Sequence`].
+impl<'a> EncodeValue for ResponseData<'a> {
+    ghost value_size = { λ v. ⟦<ResponseDataFields<'a> as Encode>⟧.size (
+      ⟦<ResponseDataPart1<'a> as FromFields<ResponseDataPart1Fields<'a>>>⟧.fields
+          (⟦<ResponseData<'a> as FromFields<(ResponseDataPart1<'a>,
+        (ResponseDataPart2<'a>, ResponseDataPart3<'a>))>>⟧.fields v).0,
+      (
+        ⟦<ResponseDataPart2<'a> as FromFields<ResponseDataPart2Fields<'a>>>⟧.fields
+            (⟦<ResponseData<'a> as FromFields<(ResponseDataPart1<'a>,
+        (ResponseDataPart2<'a>, ResponseDataPart3<'a>))>>⟧.fields v).1.0,
+        ⟦<ResponseDataPart3<'a> as FromFields<ResponseDataPart3Fields<'a>>>⟧.fields
+            (⟦<ResponseData<'a> as FromFields<(ResponseDataPart1<'a>,
+        (ResponseDataPart2<'a>, ResponseDataPart3<'a>))>>⟧.fields v).1.1,
+      ),
+    ) };
+
+    ghost encode_value_answers = { λ v. ⟦<ResponseDataFields<'a> as Encode>⟧.encode_answers (
+      ⟦<ResponseDataPart1<'a> as FromFields<ResponseDataPart1Fields<'a>>>⟧.fields
+          (⟦<ResponseData<'a> as FromFields<(ResponseDataPart1<'a>,
+        (ResponseDataPart2<'a>, ResponseDataPart3<'a>))>>⟧.fields v).0,
+      (
+        ⟦<ResponseDataPart2<'a> as FromFields<ResponseDataPart2Fields<'a>>>⟧.fields
+            (⟦<ResponseData<'a> as FromFields<(ResponseDataPart1<'a>,
+        (ResponseDataPart2<'a>, ResponseDataPart3<'a>))>>⟧.fields v).1.0,
+        ⟦<ResponseDataPart3<'a> as FromFields<ResponseDataPart3Fields<'a>>>⟧.fields
+            (⟦<ResponseData<'a> as FromFields<(ResponseDataPart1<'a>,
+        (ResponseDataPart2<'a>, ResponseDataPart3<'a>))>>⟧.fields v).1.1,
+      ),
+    ) };
+
+    fn value_len(&self) -> Result<Length, Error> {
+        field_refs!(
+            self,
+            (
+                (version, responder_id),
+                ((produced_at, responses), response_extensions)
+            )
+        )
+        .encoded_len()
+    }
+
+    fn encode_value<W: Writer>(&self, writer: &mut W) -> Result<(), Error> {
+        field_refs!(
+            self,
+            (
+                (version, responder_id),
+                ((produced_at, responses), response_extensions)
+            )
+        )
+        .encode(writer)
+    }
+}
+
+impl<'a> Item for ResponseData<'a> {
+    ghost item = { sequence_item ⟦<ResponseData<'a> as Described>⟧.element };
+}
+
+impl<'a, R: Reader<Borrowed = &'a [u8]>> DecodeItem<R> for ResponseData<'a> {
+    ghost is_item = { sequence_is_item ⟦<ResponseData<'a> as Described>⟧.element refl };
+
+    ghost decodes_items = { decodes_same (sequence_item
+        ⟦<ResponseData<'a> as Described>⟧.element) };
+}
+
+impl<'a> BorrowedItem for ResponseData<'a> {
+    ghost borrowed = { refl };
+}
+
+impl<'a> Nestable for ResponseData<'a> {
+    ghost nestable = { Prim.omega arith };
+}

@@ -1,0 +1,110 @@
+//! Written by asn1_compile from the module OCSP: change the module instead.
+//!
+//! RevokedInfo.
+ghost use Rattle.std.specs.Prelude.{◌≡◌};
+ghost use Rattle.std.proofs.Common.{arith, refl};
+ghost use Rattle.der.specs.Prelude.{map_ok};
+ghost use Rattle.der_asn1.specs.Item.{decodes_same};
+ghost use Rattle.der_asn1.specs.Meaning.{alternative, field, optional, sequence, sequence_is_item, sequence_item, two_fields};
+
+use der::{
+    Decode, DecodeValue, Encode, EncodeValue, Error, FromFields, Header, Length, Reader, Sequence,
+    SliceReader, Writer, decode_sequence, field_refs,
+};
+use der_asn1::{
+    BorrowedItem, DecodeItem, Described, Enumerated, Explicit, GeneralizedTime, Item, Nestable,
+    Optional,
+};
+use std::alloc::Global;
+use x509::CrlReason;
+
+/// When and why a certificate was revoked (RFC 6960, 4.2.1), borrowed from the input.
+#[derive(Clone, Copy, Drop)]
+pub struct RevokedInfo {
+    /// When it was revoked.
+    pub revocation_time: GeneralizedTime,
+    /// Why it was revoked, if present.
+    pub revocation_reason: Optional<Explicit<Enumerated<CrlReason>, 0>>,
+}
+
+/// The fields of a [`RevokedInfo`] in pairs, in the order in which they are encoded.
+pub type RevokedInfoFields = (
+    GeneralizedTime,
+    Optional<Explicit<Enumerated<CrlReason>, 0>>,
+);
+
+impl FromFields<RevokedInfoFields> for RevokedInfo {
+    ghost fields = { λ v. (v.revocation_time, v.revocation_reason) };
+
+    fn from_fields(members: RevokedInfoFields) -> Self {
+        let (revocation_time, revocation_reason) = members;
+        RevokedInfo {
+            revocation_time,
+            revocation_reason,
+        }
+    }
+}
+
+impl Sequence for RevokedInfo {
+    ghost meaning = { sequence (two_fields (field (alternative
+        ⟦<GeneralizedTime as Described>⟧.element)) (optional (alternative
+        ⟦<Explicit<Enumerated<CrlReason>, 0> as Described>⟧.element)))
+        ⟦<RevokedInfo as FromFields<RevokedInfoFields>>⟧.fields };
+
+    ghost fits = { (refl, refl) };
+}
+
+/// Decodes the fields one after the other, with the errors of every [`Sequence`].
+impl<'a, R: Reader<Borrowed = &'a [u8]>> DecodeValue<R> for RevokedInfo {
+    type Error = Error;
+
+    ghost decode_value_answers = { λ h s result t.
+        ⟦<RevokedInfoFields as Decode<SliceReader<'a>>>⟧.decode_answers s (map_ok
+        ⟦<RevokedInfo as FromFields<RevokedInfoFields>>⟧.fields result) t };
+
+    fn decode_value(alloc: Global, reader: &mut R, header: Header) -> Result<Self, Error> {
+        decode_sequence::<R, RevokedInfoFields, Self>(alloc, reader, header)
+    }
+
+    fn is_value(&self) {
+        <GeneralizedTime as DecodeValue<R>>::is_value(&self.revocation_time);
+        if let Some(value) = &self.revocation_reason.0 {
+            <Explicit<Enumerated<CrlReason>, 0> as DecodeValue<R>>::is_value(value);
+        }
+    }
+}
+
+/// Writes the fields one after the other, with the errors of every [`Sequence`].
+impl EncodeValue for RevokedInfo {
+    ghost value_size = { λ v. ⟦<RevokedInfoFields as Encode>⟧.size
+        (⟦<RevokedInfo as FromFields<RevokedInfoFields>>⟧.fields v) };
+
+    ghost encode_value_answers = { λ v. ⟦<RevokedInfoFields as Encode>⟧.encode_answers
+        (⟦<RevokedInfo as FromFields<RevokedInfoFields>>⟧.fields v) };
+
+    fn value_len(&self) -> Result<Length, Error> {
+        field_refs!(self, (revocation_time, revocation_reason)).encoded_len()
+    }
+
+    fn encode_value<W: Writer>(&self, writer: &mut W) -> Result<(), Error> {
+        field_refs!(self, (revocation_time, revocation_reason)).encode(writer)
+    }
+}
+
+impl Item for RevokedInfo {
+    ghost item = { sequence_item ⟦<RevokedInfo as Described>⟧.element };
+}
+
+impl<'a, R: Reader<Borrowed = &'a [u8]>> DecodeItem<R> for RevokedInfo {
+    ghost is_item = { sequence_is_item ⟦<RevokedInfo as Described>⟧.element refl };
+
+    ghost decodes_items = { decodes_same (sequence_item ⟦<RevokedInfo as Described>⟧.element) };
+}
+
+impl<'a> BorrowedItem for RevokedInfo {
+    ghost borrowed = { refl };
+}
+
+impl Nestable for RevokedInfo {
+    ghost nestable = { Prim.omega arith };
+}

@@ -1,0 +1,102 @@
+//! Written by asn1_compile from the module OCSP: change the module instead.
+//!
+//! ServiceLocator.
+ghost use Rattle.std.specs.Prelude.{◌≡◌};
+ghost use Rattle.std.proofs.Common.{arith, refl};
+ghost use Rattle.der.specs.Prelude.{map_ok};
+ghost use Rattle.der_asn1.specs.Item.{decodes_same};
+ghost use Rattle.der_asn1.specs.Meaning.{alternative, field, optional, sequence, sequence_is_item, sequence_item, two_fields};
+
+use der::{
+    Decode, DecodeValue, Encode, EncodeValue, Error, FromFields, Header, Length, Reader, Sequence,
+    SliceReader, Writer, decode_sequence, field_refs,
+};
+use der_asn1::{BorrowedItem, DecodeItem, Described, Item, Nestable, Optional};
+use std::alloc::Global;
+use x509::{AuthorityInfoAccessSyntax, Name};
+
+/// Where a responder sends a request that another one has to answer (RFC 6960, 4.4.6), borrowed from
+/// the input.
+#[derive(Clone, Copy, Drop)]
+pub struct ServiceLocator<'a> {
+    /// The issuer of the certificate.
+    pub issuer: Name<'a>,
+    /// Where the responder for the certificate is, if present.
+    pub locator: Optional<AuthorityInfoAccessSyntax<'a>>,
+}
+
+/// The fields of a [`ServiceLocator`] in pairs, in the order in which they are encoded.
+pub type ServiceLocatorFields<'a> = (Name<'a>, Optional<AuthorityInfoAccessSyntax<'a>>);
+
+impl<'a> FromFields<ServiceLocatorFields<'a>> for ServiceLocator<'a> {
+    ghost fields = { λ v. (v.issuer, v.locator) };
+
+    fn from_fields(members: ServiceLocatorFields<'a>) -> Self {
+        let (issuer, locator) = members;
+        ServiceLocator { issuer, locator }
+    }
+}
+
+impl<'a> Sequence for ServiceLocator<'a> {
+    ghost meaning = { sequence (two_fields (field (alternative ⟦<Name<'a> as Described>⟧.element))
+        (optional (alternative ⟦<AuthorityInfoAccessSyntax<'a> as Described>⟧.element)))
+        ⟦<ServiceLocator<'a> as FromFields<ServiceLocatorFields<'a>>>⟧.fields };
+
+    ghost fits = { (refl, refl) };
+}
+
+/// Decodes the fields one after the other, with the errors of every [`Sequence`].
+impl<'a, R: Reader<Borrowed = &'a [u8]>> DecodeValue<R> for ServiceLocator<'a> {
+    type Error = Error;
+
+    ghost decode_value_answers = { λ h s result t.
+        ⟦<ServiceLocatorFields<'a> as Decode<SliceReader<'a>>>⟧.decode_answers s (map_ok
+        ⟦<ServiceLocator<'a> as FromFields<ServiceLocatorFields<'a>>>⟧.fields result) t };
+
+    fn decode_value(alloc: Global, reader: &mut R, header: Header) -> Result<Self, Error> {
+        decode_sequence::<R, ServiceLocatorFields<'a>, Self>(alloc, reader, header)
+    }
+
+    fn is_value(&self) {
+        <Name<'a> as DecodeValue<R>>::is_value(&self.issuer);
+        if let Some(value) = &self.locator.0 {
+            <AuthorityInfoAccessSyntax<'a> as DecodeValue<R>>::is_value(value);
+        }
+    }
+}
+
+/// Writes the fields one after the other, with the errors of every [`Sequence`].
+impl<'a> EncodeValue for ServiceLocator<'a> {
+    ghost value_size = { λ v. ⟦<ServiceLocatorFields<'a> as Encode>⟧.size
+        (⟦<ServiceLocator<'a> as FromFields<ServiceLocatorFields<'a>>>⟧.fields v) };
+
+    ghost encode_value_answers = { λ v. ⟦<ServiceLocatorFields<'a> as Encode>⟧.encode_answers
+        (⟦<ServiceLocator<'a> as FromFields<ServiceLocatorFields<'a>>>⟧.fields v) };
+
+    fn value_len(&self) -> Result<Length, Error> {
+        field_refs!(self, (issuer, locator)).encoded_len()
+    }
+
+    fn encode_value<W: Writer>(&self, writer: &mut W) -> Result<(), Error> {
+        field_refs!(self, (issuer, locator)).encode(writer)
+    }
+}
+
+impl<'a> Item for ServiceLocator<'a> {
+    ghost item = { sequence_item ⟦<ServiceLocator<'a> as Described>⟧.element };
+}
+
+impl<'a, R: Reader<Borrowed = &'a [u8]>> DecodeItem<R> for ServiceLocator<'a> {
+    ghost is_item = { sequence_is_item ⟦<ServiceLocator<'a> as Described>⟧.element refl };
+
+    ghost decodes_items = { decodes_same (sequence_item
+        ⟦<ServiceLocator<'a> as Described>⟧.element) };
+}
+
+impl<'a> BorrowedItem for ServiceLocator<'a> {
+    ghost borrowed = { refl };
+}
+
+impl<'a> Nestable for ServiceLocator<'a> {
+    ghost nestable = { Prim.omega arith };
+}

@@ -1,0 +1,115 @@
+//! Written by asn1_compile from the module OCSP: change the module instead.
+//!
+//! Signature.
+ghost use Rattle.std.specs.Prelude.{◌≡◌};
+ghost use Rattle.std.proofs.Common.{arith, refl};
+ghost use Rattle.der.specs.Prelude.{map_ok};
+ghost use Rattle.der_asn1.specs.Item.{decodes_same};
+ghost use Rattle.der_asn1.specs.Meaning.{alternative, field, optional, sequence, sequence_is_item, sequence_item, two_fields};
+
+use crate::asn1::certificates::Certificates;
+use der::{
+    Decode, DecodeValue, Encode, EncodeValue, Error, FromFields, Header, Length, Reader, Sequence,
+    SliceReader, Writer, decode_sequence, field_refs,
+};
+use der_asn1::{
+    BitStringRef, BorrowedItem, DecodeItem, Described, Explicit, Item, Nestable, Optional,
+};
+use spki::AlgorithmIdentifierRef;
+use std::alloc::Global;
+
+/// The signature of a request (RFC 6960, 4.1.1), borrowed from the input.
+#[derive(Clone, Copy, Drop)]
+pub struct Signature<'a> {
+    /// The algorithm of `signature`.
+    pub signature_algorithm: AlgorithmIdentifierRef<'a>,
+    /// The signature, as a BIT STRING.
+    pub signature: BitStringRef<'a>,
+    /// The certificates that help to verify the signature, if present.
+    pub certs: Optional<Explicit<Certificates<'a>, 0>>,
+}
+
+/// The fields of a [`Signature`] in pairs, in the order in which they are encoded.
+pub type SignatureFields<'a> = (
+    AlgorithmIdentifierRef<'a>,
+    (BitStringRef<'a>, Optional<Explicit<Certificates<'a>, 0>>),
+);
+
+impl<'a> FromFields<SignatureFields<'a>> for Signature<'a> {
+    ghost fields = { λ v. (v.signature_algorithm, (v.signature, v.certs)) };
+
+    fn from_fields(members: SignatureFields<'a>) -> Self {
+        let (signature_algorithm, (signature, certs)) = members;
+        Signature {
+            signature_algorithm,
+            signature,
+            certs,
+        }
+    }
+}
+
+impl<'a> Sequence for Signature<'a> {
+    ghost meaning = { sequence (two_fields (field (alternative
+        ⟦<AlgorithmIdentifierRef<'a> as Described>⟧.element)) (two_fields (field (alternative
+        ⟦<BitStringRef<'a> as Described>⟧.element)) (optional (alternative
+        ⟦<Explicit<Certificates<'a>, 0> as Described>⟧.element))))
+        ⟦<Signature<'a> as FromFields<SignatureFields<'a>>>⟧.fields };
+
+    ghost fits = { (refl, refl) };
+}
+
+/// Decodes the fields one after the other, with the errors of every [`Sequence`].
+impl<'a, R: Reader<Borrowed = &'a [u8]>> DecodeValue<R> for Signature<'a> {
+    type Error = Error;
+
+    ghost decode_value_answers = { λ h s result t.
+        ⟦<SignatureFields<'a> as Decode<SliceReader<'a>>>⟧.decode_answers s (map_ok
+        ⟦<Signature<'a> as FromFields<SignatureFields<'a>>>⟧.fields result) t };
+
+    fn decode_value(alloc: Global, reader: &mut R, header: Header) -> Result<Self, Error> {
+        decode_sequence::<R, SignatureFields<'a>, Self>(alloc, reader, header)
+    }
+
+    fn is_value(&self) {
+        <AlgorithmIdentifierRef<'a> as DecodeValue<R>>::is_value(&self.signature_algorithm);
+        <BitStringRef<'a> as DecodeValue<R>>::is_value(&self.signature);
+        if let Some(value) = &self.certs.0 {
+            <Explicit<Certificates<'a>, 0> as DecodeValue<R>>::is_value(value);
+        }
+    }
+}
+
+/// Writes the fields one after the other, with the errors of every [`Sequence`].
+impl<'a> EncodeValue for Signature<'a> {
+    ghost value_size = { λ v. ⟦<SignatureFields<'a> as Encode>⟧.size
+        (⟦<Signature<'a> as FromFields<SignatureFields<'a>>>⟧.fields v) };
+
+    ghost encode_value_answers = { λ v. ⟦<SignatureFields<'a> as Encode>⟧.encode_answers
+        (⟦<Signature<'a> as FromFields<SignatureFields<'a>>>⟧.fields v) };
+
+    fn value_len(&self) -> Result<Length, Error> {
+        field_refs!(self, (signature_algorithm, (signature, certs))).encoded_len()
+    }
+
+    fn encode_value<W: Writer>(&self, writer: &mut W) -> Result<(), Error> {
+        field_refs!(self, (signature_algorithm, (signature, certs))).encode(writer)
+    }
+}
+
+impl<'a> Item for Signature<'a> {
+    ghost item = { sequence_item ⟦<Signature<'a> as Described>⟧.element };
+}
+
+impl<'a, R: Reader<Borrowed = &'a [u8]>> DecodeItem<R> for Signature<'a> {
+    ghost is_item = { sequence_is_item ⟦<Signature<'a> as Described>⟧.element refl };
+
+    ghost decodes_items = { decodes_same (sequence_item ⟦<Signature<'a> as Described>⟧.element) };
+}
+
+impl<'a> BorrowedItem for Signature<'a> {
+    ghost borrowed = { refl };
+}
+
+impl<'a> Nestable for Signature<'a> {
+    ghost nestable = { Prim.omega arith };
+}

@@ -1,0 +1,216 @@
+//! Written by asn1_compile from the module OCSP: change the module instead.
+//!
+//! TbsRequest.
+ghost use Rattle.std.specs.Prelude.{◌≡◌};
+ghost use Rattle.std.proofs.Common.{arith, refl};
+ghost use Rattle.der.specs.Prelude.{map_ok};
+ghost use Rattle.der_asn1.specs.Item.{decodes_same};
+ghost use Rattle.der_asn1.specs.Meaning.{alternative, defaulted, field, optional, seen, sequence, sequence_is_item, sequence_item, two_fields};
+
+use crate::asn1::general_name_tagged::GeneralNameTagged;
+use crate::asn1::request::Request;
+use crate::asn1::tbs_request_part1::{TbsRequestPart1, TbsRequestPart1Fields};
+use crate::asn1::tbs_request_part2::{TbsRequestPart2, TbsRequestPart2Fields};
+use crate::asn1::tbs_request_part3::{TbsRequestPart3, TbsRequestPart3Fields};
+use crate::asn1::tbs_request_part4::{TbsRequestPart4, TbsRequestPart4Fields};
+use der::{
+    Decode, DecodeValue, Encode, EncodeValue, Error, FromFields, Header, Length, Reader, Sequence,
+    SliceReader, Writer, decode_sequence, field_refs,
+};
+use der_asn1::{
+    BorrowedItem, DecodeItem, DefaultU64, DefaultValue, Defaulted, Described, Explicit, Implicit,
+    IntegerOf, Item, Nestable, Optional, SequenceOf, WithDefault,
+};
+use std::alloc::Global;
+use x509::Extensions;
+
+/// The part of a request that its signature covers (RFC 6960, 4.1.1), borrowed from the input.
+#[derive(Clone, Copy, Drop)]
+pub struct TbsRequest<'a> {
+    /// The version. The default is version 1, whose number is 0. Decoding accepts every number from
+    /// 0 to 2^64 - 1.
+    pub version: Defaulted<Explicit<WithDefault<IntegerOf<u64>, DefaultU64<0>>, 0>>,
+    /// The name of the requestor, if present.
+    pub requestor_name: Optional<Implicit<GeneralNameTagged<'a>, 1>>,
+    /// The certificates whose status is requested. That there is at least one is not checked.
+    pub request_list: SequenceOf<'a, Request<'a>>,
+    /// The extensions, if present.
+    pub request_extensions: Optional<Explicit<Extensions<'a>, 2>>,
+}
+
+/// The fields of a [`TbsRequest`] in pairs, in the order in which they are encoded.
+pub type TbsRequestFields<'a> = (
+    (TbsRequestPart1Fields, TbsRequestPart2Fields<'a>),
+    (TbsRequestPart3Fields<'a>, TbsRequestPart4Fields<'a>),
+);
+
+impl<'a> FromFields<
+    (
+        (TbsRequestPart1, TbsRequestPart2<'a>),
+        (TbsRequestPart3<'a>, TbsRequestPart4<'a>),
+    ),
+> for TbsRequest<'a> {
+    ghost fields = { λ v. (
+      (
+        record {
+          version = v.version;
+        },
+        record { requestor_name = v.requestor_name },
+      ),
+      (
+        record {
+          request_list = v.request_list;
+        },
+        record { request_extensions = v.request_extensions },
+      ),
+    ) };
+
+    fn from_fields(
+        members: (
+            (TbsRequestPart1, TbsRequestPart2<'a>),
+            (TbsRequestPart3<'a>, TbsRequestPart4<'a>),
+        ),
+    ) -> Self {
+        let ((part1, part2), (part3, part4)) = members;
+        TbsRequest {
+            version: part1.version,
+            requestor_name: part2.requestor_name,
+            request_list: part3.request_list,
+            request_extensions: part4.request_extensions,
+        }
+    }
+}
+
+impl<'a> Sequence for TbsRequest<'a> {
+    ghost meaning = { sequence (two_fields (two_fields (seen
+        ⟦<TbsRequestPart1 as FromFields<TbsRequestPart1Fields>>⟧.fields (defaulted
+        ⟦<Explicit<WithDefault<IntegerOf<u64>, DefaultU64<0>>, 0> as DefaultValue>⟧.is_default
+        (alternative
+        ⟦<Explicit<WithDefault<IntegerOf<u64>, DefaultU64<0>>, 0> as Described>⟧.element))) (seen
+        ⟦<TbsRequestPart2<'a> as FromFields<TbsRequestPart2Fields<'a>>>⟧.fields (optional
+        (alternative ⟦<Implicit<GeneralNameTagged<'a>, 1> as Described>⟧.element)))) (two_fields
+        (seen ⟦<TbsRequestPart3<'a> as FromFields<TbsRequestPart3Fields<'a>>>⟧.fields (field
+        (alternative ⟦<SequenceOf<'a, Request<'a>> as Described>⟧.element))) (seen
+        ⟦<TbsRequestPart4<'a> as FromFields<TbsRequestPart4Fields<'a>>>⟧.fields (optional
+        (alternative ⟦<Explicit<Extensions<'a>, 2> as Described>⟧.element)))))
+        ⟦<TbsRequest<'a> as FromFields<((TbsRequestPart1, TbsRequestPart2<'a>),
+        (TbsRequestPart3<'a>, TbsRequestPart4<'a>))>>⟧.fields };
+
+    ghost fits = { (refl, refl) };
+}
+
+/// Decodes the fields one after the other, with the errors of every [`Sequence`].
+impl<'a, R: Reader<Borrowed = &'a [u8]>> DecodeValue<R> for TbsRequest<'a> {
+    type Error = Error;
+
+    ghost decode_value_answers = { λ h s result t.
+        ⟦<((TbsRequestPart1, TbsRequestPart2<'a>),
+        (TbsRequestPart3<'a>, TbsRequestPart4<'a>)) as Decode<SliceReader<'a>>>⟧.decode_answers s
+        (map_ok ⟦<TbsRequest<'a> as FromFields<((TbsRequestPart1, TbsRequestPart2<'a>),
+        (TbsRequestPart3<'a>, TbsRequestPart4<'a>))>>⟧.fields result) t };
+
+    fn decode_value(alloc: Global, reader: &mut R, header: Header) -> Result<Self, Error> {
+        decode_sequence::<
+            R,
+            (
+                (TbsRequestPart1, TbsRequestPart2<'a>),
+                (TbsRequestPart3<'a>, TbsRequestPart4<'a>),
+            ),
+            Self,
+        >(alloc, reader, header)
+    }
+
+    fn is_value(&self) {
+        <Explicit<WithDefault<IntegerOf<u64>, DefaultU64<0>>, 0> as DecodeValue<R>>::is_value(
+            &self.version.0,
+        );
+        if let Some(value) = &self.requestor_name.0 {
+            <Implicit<GeneralNameTagged<'a>, 1> as DecodeValue<R>>::is_value(value);
+        }
+        <SequenceOf<'a, Request<'a>> as DecodeValue<R>>::is_value(&self.request_list);
+        if let Some(value) = &self.request_extensions.0 {
+            <Explicit<Extensions<'a>, 2> as DecodeValue<R>>::is_value(value);
+        }
+    }
+}
+
+/// Writes the fields one after the other, with the errors of every [`Sequence`].
+impl<'a> EncodeValue for TbsRequest<'a> {
+    ghost value_size = { λ v. ⟦<TbsRequestFields<'a> as Encode>⟧.size (
+      (
+        ⟦<TbsRequestPart1 as FromFields<TbsRequestPart1Fields>>⟧.fields
+            (⟦<TbsRequest<'a> as FromFields<((TbsRequestPart1, TbsRequestPart2<'a>),
+        (TbsRequestPart3<'a>, TbsRequestPart4<'a>))>>⟧.fields v).0.0,
+        ⟦<TbsRequestPart2<'a> as FromFields<TbsRequestPart2Fields<'a>>>⟧.fields
+            (⟦<TbsRequest<'a> as FromFields<((TbsRequestPart1, TbsRequestPart2<'a>),
+        (TbsRequestPart3<'a>, TbsRequestPart4<'a>))>>⟧.fields v).0.1,
+      ),
+      (
+        ⟦<TbsRequestPart3<'a> as FromFields<TbsRequestPart3Fields<'a>>>⟧.fields
+            (⟦<TbsRequest<'a> as FromFields<((TbsRequestPart1, TbsRequestPart2<'a>),
+        (TbsRequestPart3<'a>, TbsRequestPart4<'a>))>>⟧.fields v).1.0,
+        ⟦<TbsRequestPart4<'a> as FromFields<TbsRequestPart4Fields<'a>>>⟧.fields
+            (⟦<TbsRequest<'a> as FromFields<((TbsRequestPart1, TbsRequestPart2<'a>),
+        (TbsRequestPart3<'a>, TbsRequestPart4<'a>))>>⟧.fields v).1.1,
+      ),
+    ) };
+
+    ghost encode_value_answers = { λ v. ⟦<TbsRequestFields<'a> as Encode>⟧.encode_answers (
+      (
+        ⟦<TbsRequestPart1 as FromFields<TbsRequestPart1Fields>>⟧.fields
+            (⟦<TbsRequest<'a> as FromFields<((TbsRequestPart1, TbsRequestPart2<'a>),
+        (TbsRequestPart3<'a>, TbsRequestPart4<'a>))>>⟧.fields v).0.0,
+        ⟦<TbsRequestPart2<'a> as FromFields<TbsRequestPart2Fields<'a>>>⟧.fields
+            (⟦<TbsRequest<'a> as FromFields<((TbsRequestPart1, TbsRequestPart2<'a>),
+        (TbsRequestPart3<'a>, TbsRequestPart4<'a>))>>⟧.fields v).0.1,
+      ),
+      (
+        ⟦<TbsRequestPart3<'a> as FromFields<TbsRequestPart3Fields<'a>>>⟧.fields
+            (⟦<TbsRequest<'a> as FromFields<((TbsRequestPart1, TbsRequestPart2<'a>),
+        (TbsRequestPart3<'a>, TbsRequestPart4<'a>))>>⟧.fields v).1.0,
+        ⟦<TbsRequestPart4<'a> as FromFields<TbsRequestPart4Fields<'a>>>⟧.fields
+            (⟦<TbsRequest<'a> as FromFields<((TbsRequestPart1, TbsRequestPart2<'a>),
+        (TbsRequestPart3<'a>, TbsRequestPart4<'a>))>>⟧.fields v).1.1,
+      ),
+    ) };
+
+    fn value_len(&self) -> Result<Length, Error> {
+        field_refs!(
+            self,
+            (
+                (version, requestor_name),
+                (request_list, request_extensions)
+            )
+        )
+        .encoded_len()
+    }
+
+    fn encode_value<W: Writer>(&self, writer: &mut W) -> Result<(), Error> {
+        field_refs!(
+            self,
+            (
+                (version, requestor_name),
+                (request_list, request_extensions)
+            )
+        )
+        .encode(writer)
+    }
+}
+
+impl<'a> Item for TbsRequest<'a> {
+    ghost item = { sequence_item ⟦<TbsRequest<'a> as Described>⟧.element };
+}
+
+impl<'a, R: Reader<Borrowed = &'a [u8]>> DecodeItem<R> for TbsRequest<'a> {
+    ghost is_item = { sequence_is_item ⟦<TbsRequest<'a> as Described>⟧.element refl };
+
+    ghost decodes_items = { decodes_same (sequence_item ⟦<TbsRequest<'a> as Described>⟧.element) };
+}
+
+impl<'a> BorrowedItem for TbsRequest<'a> {
+    ghost borrowed = { refl };
+}
+
+impl<'a> Nestable for TbsRequest<'a> {
+    ghost nestable = { Prim.omega arith };
+}

@@ -1,0 +1,163 @@
+//! Written by asn1_compile from the module OCSP: change the module instead.
+//!
+//! The values of the module.
+ghost use Rattle.std.specs.Prelude.{◌≡◌, ◌∷◌, []};
+ghost use Rattle.der_asn1.specs.Arcs.{oid_octets};
+
+use der_asn1::ObjectIdentifierRef;
+
+/// A purpose of keys: the signature of responses (RFC 6960, 4.2.2.2).
+pub fn id_kp_ocsp_signing() -> ObjectIdentifierRef<'static>
+    ensures { result.octets.now ≡ oid_octets (1 ∷ 3 ∷ 6 ∷ 1 ∷ 5 ∷ 5 ∷ 7 ∷ 3 ∷ 9 ∷ []) }
+{
+    let Some(value) = ObjectIdentifierRef::new(&[0x2B, 0x06, 0x01, 0x05, 0x05, 0x07, 0x03, 0x09])
+    else {
+        unreachable!()
+    };
+    value
+}
+
+/// The types of responses and extensions (RFC 6960, B.1).
+pub fn id_pkix_ocsp() -> ObjectIdentifierRef<'static>
+    ensures { result.octets.now ≡ oid_octets (1 ∷ 3 ∷ 6 ∷ 1 ∷ 5 ∷ 5 ∷ 7 ∷ 48 ∷ 1 ∷ []) }
+{
+    let Some(value) = ObjectIdentifierRef::new(&[0x2B, 0x06, 0x01, 0x05, 0x05, 0x07, 0x30, 0x01])
+    else {
+        unreachable!()
+    };
+    value
+}
+
+/// A response whose octets are a BasicOCSPResponse (RFC 6960, 4.2.1).
+pub fn id_pkix_ocsp_basic() -> ObjectIdentifierRef<'static>
+    ensures { result.octets.now ≡ oid_octets (1 ∷ 3 ∷ 6 ∷ 1 ∷ 5 ∷ 5 ∷ 7 ∷ 48 ∷ 1 ∷ 1 ∷ []) }
+{
+    let Some(value) = ObjectIdentifierRef::new(&[
+        0x2B, 0x06, 0x01, 0x05, 0x05, 0x07, 0x30, 0x01, 0x01,
+    ]) else {
+        unreachable!()
+    };
+    value
+}
+
+/// An extension whose value is a Nonce (RFC 6960, 4.4.1).
+pub fn id_pkix_ocsp_nonce() -> ObjectIdentifierRef<'static>
+    ensures { result.octets.now ≡ oid_octets (1 ∷ 3 ∷ 6 ∷ 1 ∷ 5 ∷ 5 ∷ 7 ∷ 48 ∷ 1 ∷ 2 ∷ []) }
+{
+    let Some(value) = ObjectIdentifierRef::new(&[
+        0x2B, 0x06, 0x01, 0x05, 0x05, 0x07, 0x30, 0x01, 0x02,
+    ]) else {
+        unreachable!()
+    };
+    value
+}
+
+/// An extension whose value is a CrlID (RFC 6960, 4.4.2).
+pub fn id_pkix_ocsp_crl() -> ObjectIdentifierRef<'static>
+    ensures { result.octets.now ≡ oid_octets (1 ∷ 3 ∷ 6 ∷ 1 ∷ 5 ∷ 5 ∷ 7 ∷ 48 ∷ 1 ∷ 3 ∷ []) }
+{
+    let Some(value) = ObjectIdentifierRef::new(&[
+        0x2B, 0x06, 0x01, 0x05, 0x05, 0x07, 0x30, 0x01, 0x03,
+    ]) else {
+        unreachable!()
+    };
+    value
+}
+
+/// An extension whose value is AcceptableResponses (RFC 6960, 4.4.3).
+pub fn id_pkix_ocsp_response() -> ObjectIdentifierRef<'static>
+    ensures { result.octets.now ≡ oid_octets (1 ∷ 3 ∷ 6 ∷ 1 ∷ 5 ∷ 5 ∷ 7 ∷ 48 ∷ 1 ∷ 4 ∷ []) }
+{
+    let Some(value) = ObjectIdentifierRef::new(&[
+        0x2B, 0x06, 0x01, 0x05, 0x05, 0x07, 0x30, 0x01, 0x04,
+    ]) else {
+        unreachable!()
+    };
+    value
+}
+
+/// An extension of certificates whose value is NULL (RFC 6960, 4.2.2.2.1).
+pub fn id_pkix_ocsp_nocheck() -> ObjectIdentifierRef<'static>
+    ensures { result.octets.now ≡ oid_octets (1 ∷ 3 ∷ 6 ∷ 1 ∷ 5 ∷ 5 ∷ 7 ∷ 48 ∷ 1 ∷ 5 ∷ []) }
+{
+    let Some(value) = ObjectIdentifierRef::new(&[
+        0x2B, 0x06, 0x01, 0x05, 0x05, 0x07, 0x30, 0x01, 0x05,
+    ]) else {
+        unreachable!()
+    };
+    value
+}
+
+/// An extension whose value is an ArchiveCutoff (RFC 6960, 4.4.4).
+pub fn id_pkix_ocsp_archive_cutoff() -> ObjectIdentifierRef<'static>
+    ensures { result.octets.now ≡ oid_octets (1 ∷ 3 ∷ 6 ∷ 1 ∷ 5 ∷ 5 ∷ 7 ∷ 48 ∷ 1 ∷ 6 ∷ []) }
+{
+    let Some(value) = ObjectIdentifierRef::new(&[
+        0x2B, 0x06, 0x01, 0x05, 0x05, 0x07, 0x30, 0x01, 0x06,
+    ]) else {
+        unreachable!()
+    };
+    value
+}
+
+/// An extension whose value is a ServiceLocator (RFC 6960, 4.4.6).
+pub fn id_pkix_ocsp_service_locator() -> ObjectIdentifierRef<'static>
+    ensures { result.octets.now ≡ oid_octets (1 ∷ 3 ∷ 6 ∷ 1 ∷ 5 ∷ 5 ∷ 7 ∷ 48 ∷ 1 ∷ 7 ∷ []) }
+{
+    let Some(value) = ObjectIdentifierRef::new(&[
+        0x2B, 0x06, 0x01, 0x05, 0x05, 0x07, 0x30, 0x01, 0x07,
+    ]) else {
+        unreachable!()
+    };
+    value
+}
+
+/// An extension whose value is PreferredSignatureAlgorithms (RFC 6960, 4.4.7).
+pub fn id_pkix_ocsp_pref_sig_algs() -> ObjectIdentifierRef<'static>
+    ensures { result.octets.now ≡ oid_octets (1 ∷ 3 ∷ 6 ∷ 1 ∷ 5 ∷ 5 ∷ 7 ∷ 48 ∷ 1 ∷ 8 ∷ []) }
+{
+    let Some(value) = ObjectIdentifierRef::new(&[
+        0x2B, 0x06, 0x01, 0x05, 0x05, 0x07, 0x30, 0x01, 0x08,
+    ]) else {
+        unreachable!()
+    };
+    value
+}
+
+/// An extension whose value is NULL (RFC 6960, 4.4.8).
+pub fn id_pkix_ocsp_extended_revoke() -> ObjectIdentifierRef<'static>
+    ensures { result.octets.now ≡ oid_octets (1 ∷ 3 ∷ 6 ∷ 1 ∷ 5 ∷ 5 ∷ 7 ∷ 48 ∷ 1 ∷ 9 ∷ []) }
+{
+    let Some(value) = ObjectIdentifierRef::new(&[
+        0x2B, 0x06, 0x01, 0x05, 0x05, 0x07, 0x30, 0x01, 0x09,
+    ]) else {
+        unreachable!()
+    };
+    value
+}
+
+/// The name that the module has for an OBJECT IDENTIFIER; the first one if it has several.
+pub fn name_of(oid: &ObjectIdentifierRef<'_>) -> Option<&'static str> {
+    match oid.octets() {
+        [0x2B, 0x06, 0x01, 0x05, 0x05, 0x07, 0x03, 0x09] => Some("id-kp-OCSPSigning"),
+        [0x2B, 0x06, 0x01, 0x05, 0x05, 0x07, 0x30, 0x01] => Some("id-pkix-ocsp"),
+        [0x2B, 0x06, 0x01, 0x05, 0x05, 0x07, 0x30, 0x01, 0x01] => Some("id-pkix-ocsp-basic"),
+        [0x2B, 0x06, 0x01, 0x05, 0x05, 0x07, 0x30, 0x01, 0x02] => Some("id-pkix-ocsp-nonce"),
+        [0x2B, 0x06, 0x01, 0x05, 0x05, 0x07, 0x30, 0x01, 0x03] => Some("id-pkix-ocsp-crl"),
+        [0x2B, 0x06, 0x01, 0x05, 0x05, 0x07, 0x30, 0x01, 0x04] => Some("id-pkix-ocsp-response"),
+        [0x2B, 0x06, 0x01, 0x05, 0x05, 0x07, 0x30, 0x01, 0x05] => Some("id-pkix-ocsp-nocheck"),
+        [0x2B, 0x06, 0x01, 0x05, 0x05, 0x07, 0x30, 0x01, 0x06] => Some(
+            "id-pkix-ocsp-archive-cutoff",
+        ),
+        [0x2B, 0x06, 0x01, 0x05, 0x05, 0x07, 0x30, 0x01, 0x07] => Some(
+            "id-pkix-ocsp-service-locator",
+        ),
+        [0x2B, 0x06, 0x01, 0x05, 0x05, 0x07, 0x30, 0x01, 0x08] => Some(
+            "id-pkix-ocsp-pref-sig-algs",
+        ),
+        [0x2B, 0x06, 0x01, 0x05, 0x05, 0x07, 0x30, 0x01, 0x09] => Some(
+            "id-pkix-ocsp-extended-revoke",
+        ),
+        _ => None,
+    }
+}

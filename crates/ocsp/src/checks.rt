@@ -1,0 +1,22 @@
+//! Checks of a response that decoding does not make.
+ghost use Rattle.std.specs.Prelude.{◌≡◌, ◌↔◌, true};
+ghost use Rattle.ocsp.specs.Responses.{MatchesResponseStatus};
+
+use crate::asn1::{OcspResponse, OcspResponseStatus};
+
+impl OcspResponse<'_> {
+    /// Whether the response itself is present exactly if the request was successful (RFC 6960,
+    /// 4.2.1). Decoding does not check this.
+    pub fn has_response_of_status(&self) -> bool
+        ensures { (result ≡ true) ↔ MatchesResponseStatus self.now }
+    {
+        match self.response_status.item() {
+            OcspResponseStatus::Successful => self.response_bytes.0.is_some(),
+            OcspResponseStatus::MalformedRequest => self.response_bytes.0.is_none(),
+            OcspResponseStatus::InternalError => self.response_bytes.0.is_none(),
+            OcspResponseStatus::TryLater => self.response_bytes.0.is_none(),
+            OcspResponseStatus::SigRequired => self.response_bytes.0.is_none(),
+            OcspResponseStatus::Unauthorized => self.response_bytes.0.is_none(),
+        }
+    }
+}
