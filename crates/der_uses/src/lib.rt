@@ -2,6 +2,9 @@
 #![tactic(auto)]
 
 pub mod algorithm_identifier;
+pub mod certificate;
+#[cfg(test)]
+mod certificate_tests;
 pub mod contents;
 pub mod fields;
 pub mod front;
