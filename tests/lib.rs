@@ -15,6 +15,8 @@ mod fixtures;
 #[cfg(test)]
 mod keys;
 #[cfg(test)]
+mod ocsp;
+#[cfg(test)]
 mod parcels;
 #[cfg(test)]
 mod readers;

@@ -4,24 +4,32 @@ use crate::fixtures::errors::incomplete;
 use der::{DecodeBytes, Encode, Error, ErrorKind, Length, Tag, TagNumber};
 use der_asn1::{Ia5StringRef, Implicit};
 use std::alloc::Global;
-use x509::{GeneralName, GeneralNames};
+use x509::{DirectoryString, EdiPartyName, GeneralName, GeneralNames};
 
 // One name of each form, each of which is written by hand: 1.2.3.4 with the UTF8String AB, a@b,
-// example.org, an element without contents, the empty name, an element without contents, x:y,
-// 127.0.0.1 and 1.2.3.4.
-static NAMES: [u8; 62] = [
-    0x30, 0x3C, //
+// example.org, an element without contents, the empty name, a party with the name x, x:y, 127.0.0.1
+// and 1.2.3.4.
+static NAMES: [u8; 67] = [
+    0x30, 0x41, //
     0xA0, 0x0B, 0x06, 0x03, 0x2A, 0x03, 0x04, 0xA0, 0x04, 0x0C, 0x02, 0x41, 0x42, //
     0x81, 0x03, 0x61, 0x40, 0x62, //
     0x82, 0x0B, 0x65, 0x78, 0x61, 0x6D, 0x70, 0x6C, 0x65, 0x2E, 0x6F, 0x72, 0x67, //
     0xA3, 0x00, //
     0xA4, 0x02, 0x30, 0x00, //
-    0xA5, 0x00, //
+    0xA5, 0x05, 0xA1, 0x03, 0x0C, 0x01, 0x78, //
     0x86, 0x03, 0x78, 0x3A, 0x79, //
     0x87, 0x04, 0x7F, 0x00, 0x00, 0x01, //
     0x88, 0x03, 0x2A, 0x03, 0x04, //
     0x82, 0x03, 0x61, 0x2E, 0x62,
 ];
+
+// The number of octets of the name of a party, if it is a UTF8String.
+fn party_len(party: &EdiPartyName<'_>) -> usize {
+    match &party.party_name.0.value {
+        DirectoryString::Utf8String(text) => text.as_str().len(),
+        _ => 0,
+    }
+}
 
 // The number of a name's form, and the number of the octets that identify it.
 fn form(name: &GeneralName<'_>) -> (u32, usize) {
@@ -31,7 +39,7 @@ fn form(name: &GeneralName<'_>) -> (u32, usize) {
         GeneralName::DnsName(name) => (2, name.0.octets().len()),
         GeneralName::X400Address(name) => (3, name.0.octets().len()),
         GeneralName::DirectoryName(name) => (4, name.0.levels.octets().len()),
-        GeneralName::EdiPartyName(name) => (5, name.0.octets().len()),
+        GeneralName::EdiPartyName(name) => (5, party_len(&name.0)),
         GeneralName::UniformResourceIdentifier(name) => (6, name.0.octets().len()),
         GeneralName::IpAddress(name) => (7, name.0.octets().len()),
         GeneralName::RegisteredId(name) => (8, name.0.octets().len()),
@@ -51,7 +59,7 @@ fn names_of_every_form_are_read_and_written_as_they_were(rt: HostRuntime) {
         (2, 11),
         (3, 0),
         (4, 0),
-        (5, 0),
+        (5, 1),
         (6, 3),
         (7, 4),
         (8, 3),
@@ -89,7 +97,7 @@ fn refusal(alloc: Global, place: usize, octet: u8) -> Option<Error> {
 }
 
 // The tag of the second name is octet 15, the text of the third begins at octet 22 and ends at 33,
-// and the identifier of the ninth begins at octet 54 and ends at 57.
+// and the identifier of the ninth begins at octet 59 and ends at 62.
 #[test]
 fn wrong_names_are_refused_where_they_are(rt: HostRuntime) {
     let tag = Tag::ContextSpecific {
@@ -106,8 +114,8 @@ fn wrong_names_are_refused_where_they_are(rt: HostRuntime) {
     let identifier = ErrorKind::Value {
         tag: Tag::ObjectIdentifier,
     };
-    same_at(&rt, "a zero first", refusal(rt.alloc(), 54, 0x80), Some(identifier.at(Length::new(57))));
-    same_at(&rt, "too long", refusal(rt.alloc(), 58, 0x05), Some(incomplete(63, 62, 62)));
+    same_at(&rt, "a zero first", refusal(rt.alloc(), 59, 0x80), Some(identifier.at(Length::new(62))));
+    same_at(&rt, "too long", refusal(rt.alloc(), 63, 0x05), Some(incomplete(68, 67, 67)));
 }
 
 #[test]
@@ -117,7 +125,7 @@ fn a_name_is_written(rt: HostRuntime) {
         return;
     };
     match GeneralName::DnsName(Implicit(text)).to_der(rt.alloc()) {
-        Ok(written) => holds(&rt, written.as_slice() == &NAMES[57..]),
+        Ok(written) => holds(&rt, written.as_slice() == &NAMES[62..]),
         Err(_) => holds(&rt, false),
     }
 }

@@ -1,15 +1,15 @@
 //! The constants of the types of keys and certificates, which no clause can name, and the functions
 //! that return the same. The tags are those of the ASN.1 modules.
 use crate::checks::holds;
-use crate::fixtures::constants::tags_agree;
+use crate::fixtures::constants::{grammar_tags_agree, tags_agree};
 use der::Tag;
 use der_asn1::NamedInteger;
 use pkcs8::{PrivateKeyAttribute, PrivateKeyAttributes, PrivateKeyInfo};
 use spki::{AlgorithmIdentifierRef, SubjectPublicKeyInfoRef};
 use x509::{
     Attribute, AttributeTypeAndValue, AttributeValues, CertReq, CertReqInfo, CertReqVersion,
-    Certificate, Extension, Extensions, Name, RelativeDistinguishedName, TbsCertificate,
-    Validity,
+    Certificate, CertificateList, CertificateVersionGrammar, Extension, Extensions, Name,
+    RelativeDistinguishedName, RevokedCertificate, TbsCertList, TbsCertificate, Validity,
 };
 
 // RFC 5280, 4.1: all SEQUENCEs, except a version.
@@ -21,6 +21,15 @@ fn types_of_certificates_report_equal_tags(rt: HostRuntime) {
     holds(&rt, tags_agree::<Extensions>(Tag::Sequence, true));
     holds(&rt, tags_agree::<Extension>(Tag::Sequence, true));
     holds(&rt, tags_agree::<x509::Version>(Tag::Integer, false));
+    holds(&rt, grammar_tags_agree::<CertificateVersionGrammar>(Tag::Integer));
+}
+
+// RFC 5280, 5.1.
+#[test]
+fn types_of_revocation_lists_report_equal_tags(rt: HostRuntime) {
+    holds(&rt, tags_agree::<CertificateList>(Tag::Sequence, true));
+    holds(&rt, tags_agree::<TbsCertList>(Tag::Sequence, true));
+    holds(&rt, tags_agree::<RevokedCertificate>(Tag::Sequence, true));
 }
 
 // RFC 5280, 4.1.2.4: a name is a SEQUENCE of SETs of SEQUENCEs.
