@@ -1,5 +1,6 @@
 /* Certificates in sequence, read with OpenSSL and with mbedTLS, and walked: each function returns
- * their number. And one certificate, written |times| times with OpenSSL. */
+ * their number. One certificate, written |times| times with OpenSSL. And a revocation list, of which
+ * the number of entries is returned. */
 #include <openssl/x509.h>
 #include <stdint.h>
 
@@ -31,6 +32,21 @@ uint64_t openssl_written(const uint8_t *octets, size_t len, uint64_t times)
         count += 1;
     }
     X509_free(certificate);
+    return count;
+}
+
+uint64_t openssl_revocation_list(const uint8_t *octets, size_t len)
+{
+    const unsigned char *upcoming = octets;
+    X509_CRL *list = d2i_X509_CRL(NULL, &upcoming, (long)len);
+    if (list == NULL)
+        return 0;
+    STACK_OF(X509_REVOKED) *entries = X509_CRL_get_REVOKED(list);
+    uint64_t count = 0;
+    for (int at = 0; at < sk_X509_REVOKED_num(entries); at += 1)
+        if (X509_REVOKED_get0_serialNumber(sk_X509_REVOKED_value(entries, at)) != NULL)
+            count += 1;
+    X509_CRL_free(list);
     return count;
 }
 

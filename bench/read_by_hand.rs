@@ -1,5 +1,5 @@
-//! Certificates (RFC 5280, 4.1), read by hand with an index, without a reader. It rejects what the
-//! library rejects: each tag, length and form, each date, default and order is checked.
+//! Certificates and revocation lists (RFC 5280, 4.1 and 5.1), read by hand with an index, without a
+//! reader. It rejects what the library rejects: each tag, length and form, each date, default and order is checked.
 use crate::hand::{element_at, long_length_at};
 
 pub const BOOLEAN: u8 = 0x01;
@@ -15,6 +15,7 @@ pub const VERSION: u8 = 0xA0;
 pub const ISSUER_ID: u8 = 0x81;
 pub const SUBJECT_ID: u8 = 0x82;
 pub const EXTENSIONS: u8 = 0xA3;
+pub const LIST_EXTENSIONS: u8 = 0xA0;
 
 /// An algorithm, and its parameters: the first octet and the contents of their element.
 pub struct Algorithm<'a> {
@@ -147,7 +148,7 @@ pub fn certificate<'a>(left: &mut Left<'a>) -> Option<Certificate<'a>> {
     let public_key = public_key(&mut inner)?;
     let issuer_id = inner.perhaps(ISSUER_ID, is_bits)?;
     let subject_id = inner.perhaps(SUBJECT_ID, is_bits)?;
-    let extensions = extensions(&mut inner)?;
+    let extensions = extensions(&mut inner, EXTENSIONS)?;
     inner.whole(())?;
     let (algorithm, signature) = (algorithm(&mut outer)?, outer.formed(BIT_STRING, is_bits)?);
     outer.whole(Certificate {
@@ -165,6 +166,57 @@ pub fn certificate<'a>(left: &mut Left<'a>) -> Option<Certificate<'a>> {
         algorithm,
         signature,
     })
+}
+
+/// The entries of a revocation list: contents whose elements were all checked, and passed to `pass`.
+#[inline(never)]
+pub fn revocation_list(bytes: &[u8], mut pass: impl FnMut(&[u8])) -> Option<()> {
+    let mut left = Left::of(bytes);
+    let mut outer = left.part(SEQUENCE)?;
+    left.whole(())?;
+    let mut inner = outer.part(SEQUENCE)?;
+    if inner.begins(INTEGER) && !matches!(inner.contents(INTEGER)?, [0..3]) {
+        return None;
+    }
+    algorithm(&mut inner)?;
+    name(&mut inner)?;
+    time(&mut inner)?;
+    if inner.begins(UTC_TIME) || inner.begins(GENERALIZED_TIME) {
+        time(&mut inner)?;
+    }
+    let entries = match inner.begins(SEQUENCE) {
+        true => inner.contents(SEQUENCE)?,
+        false => &[],
+    };
+    let mut items = Left::of(entries);
+    while !items.is_empty() {
+        entry(&mut items)?;
+    }
+    extensions(&mut inner, LIST_EXTENSIONS)?;
+    inner.whole(())?;
+    algorithm(&mut outer)?;
+    outer.formed(BIT_STRING, is_bits)?;
+    outer.whole(())?;
+    let mut items = Left::of(entries);
+    while !items.is_empty() {
+        pass(entry(&mut items)?);
+    }
+    Some(())
+}
+
+/// The serial number of the next entry of a revocation list.
+#[inline(always)]
+fn entry<'a>(left: &mut Left<'a>) -> Option<&'a [u8]> {
+    let mut part = left.part(SEQUENCE)?;
+    let serial_number = part.formed(INTEGER, is_integer)?;
+    time(&mut part)?;
+    if part.begins(SEQUENCE) {
+        let mut items = part.part(SEQUENCE)?;
+        while !items.is_empty() {
+            extension(&mut items)?;
+        }
+    }
+    part.whole(serial_number)
 }
 
 /// The version: 1 for version 2, and 2 for version 3; version 1 is not written.
@@ -230,23 +282,28 @@ fn attribute(left: &mut Left<'_>) -> Option<()> {
     part.whole(())
 }
 
-/// The contents of the extensions, if there are any.
+/// The contents of the extensions behind the tag `first`, if there are any.
 #[inline(always)]
-fn extensions<'a>(left: &mut Left<'a>) -> Option<Option<&'a [u8]>> {
-    if !left.begins(EXTENSIONS) {
+fn extensions<'a>(left: &mut Left<'a>, first: u8) -> Option<Option<&'a [u8]>> {
+    if !left.begins(first) {
         return Some(None);
     }
-    let mut part = left.part(EXTENSIONS)?;
+    let mut part = left.part(first)?;
     let contents = part.contents(SEQUENCE)?;
     let mut items = Left::of(contents);
     while !items.is_empty() {
-        let mut item = items.part(SEQUENCE)?;
-        item.formed(OBJECT_IDENTIFIER, is_identifier)?;
-        item.perhaps(BOOLEAN, is_true)?;
-        item.contents(OCTET_STRING)?;
-        item.whole(())?;
+        extension(&mut items)?;
     }
     part.whole(Some(contents))
+}
+
+#[inline(always)]
+fn extension(left: &mut Left<'_>) -> Option<()> {
+    let mut item = left.part(SEQUENCE)?;
+    item.formed(OBJECT_IDENTIFIER, is_identifier)?;
+    item.perhaps(BOOLEAN, is_true)?;
+    item.contents(OCTET_STRING)?;
+    item.whole(())
 }
 
 /// Whether a BOOLEAN is true; false is the default, which is not written.

@@ -1,5 +1,5 @@
-//! Reads and writes certificates with the proved library, by hand, with OpenSSL and with mbedTLS,
-//! and prints the time for one each. First each certificate is read with each octet in turn changed
+//! Reads and writes certificates, and reads revocation lists, with the proved library, by hand, with
+//! OpenSSL and with mbedTLS, and prints the time for one certificate or one entry each. First each certificate is read with each octet in turn changed
 //! to each other value, by the library and by hand, which must reject the same. Files after `--`
 //! are used for that alone.
 #[allow(dead_code, reason = "other drivers use the rest")]
@@ -8,6 +8,7 @@ mod common;
 mod elements;
 #[allow(dead_code, reason = "as above")]
 mod hand;
+mod lists;
 #[allow(dead_code, reason = "as above")]
 mod put;
 #[allow(dead_code, reason = "as above")]
@@ -153,7 +154,41 @@ fn print_row_writing_key(name: &str, file: &[u8]) {
     print_row(&format!("its key by to_der, {name}"), 1, TIMES, &ways);
 }
 
+/// Prints the rows of revocation lists of growing size. The library and the code by hand must reject
+/// the same if an octet of a short list is changed.
+fn print_rows_reading_lists() {
+    let short = lists::revocation_list(4);
+    let mut changed = short.clone();
+    for at in 0..short.len() {
+        for by in 1..=255 {
+            changed[at] = short[at] ^ by;
+            let (library, hand) = (ways::read_list(&changed), ways::read_list_by_hand(&changed));
+            assert_eq!(library, hand, "a list at {at}");
+        }
+        changed[at] = short[at];
+    }
+    for entries in [1_000, 10_000, 100_000] {
+        let list = lists::revocation_list(entries);
+        let bytes = &list[..];
+        let ways: Vec<Way<'_>> = vec![
+            ("library", Box::new(|| ways::read_list(black_box(bytes)))),
+            (
+                "by hand",
+                Box::new(|| ways::read_list_by_hand(black_box(bytes))),
+            ),
+            ("OpenSSL", Box::new(|| ways::read_list_by_openssl(bytes))),
+        ];
+        print_row(
+            "an entry of a revocation list, read",
+            entries,
+            entries as u64,
+            &ways,
+        );
+    }
+}
+
 fn main() {
+    print_rows_reading_lists();
     let mut is_measured = true;
     for path in std::env::args().skip(1) {
         if path == "--" {

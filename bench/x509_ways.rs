@@ -1,7 +1,7 @@
 //! The work of x509.rs, in several ways.
 use crate::common::Totals;
 use crate::put::pass;
-use crate::read_by_hand::{Certificate, Left, PublicKey, certificate, public_key};
+use crate::read_by_hand::{Certificate, Left, PublicKey, certificate, public_key, revocation_list};
 use crate::write_by_hand;
 use std::hint::black_box;
 
@@ -11,6 +11,7 @@ mod other {
     // Slices are passed as pointers and then lengths; the allocator has size 0 and is not passed.
     unsafe extern "C" {
         pub fn der_bench_certificates(_: *const u8, _: usize) -> Totals;
+        pub fn der_bench_revocation_list(_: *const u8, _: usize) -> Totals;
         pub fn der_bench_certificate_to_slice(
             _: *const u8,
             _: usize,
@@ -28,6 +29,7 @@ mod other {
         ) -> Totals;
         pub fn der_bench_public_key_to_der(_: *const u8, _: usize, _: u64) -> Totals;
         pub fn openssl_certificates(_: *const u8, _: usize) -> u64;
+        pub fn openssl_revocation_list(_: *const u8, _: usize) -> u64;
         pub fn openssl_written(_: *const u8, _: usize, _: u64) -> u64;
         #[cfg(mbedtls)]
         pub fn mbedtls_certificates(_: *const u8, _: usize) -> u64;
@@ -57,6 +59,25 @@ pub fn read_by_hand(bytes: &[u8]) -> Totals {
     totals
 }
 
+pub fn read_list(bytes: &[u8]) -> Totals {
+    // SAFETY: the pointer and the length are those of a slice, which the call only reads.
+    unsafe { other::der_bench_revocation_list(bytes.as_ptr(), bytes.len()) }
+}
+
+pub fn read_list_by_hand(bytes: &[u8]) -> Totals {
+    let mut totals = Totals::default();
+    let pass = |serial_number: &[u8]| {
+        let first = serial_number.first().copied().unwrap_or(0);
+        totals.elements = totals.elements.wrapping_add(1);
+        totals.contents = totals.contents.wrapping_add(serial_number.len() as u64);
+        totals.octet_sum = totals.octet_sum.wrapping_add(first as u64);
+    };
+    match revocation_list(bytes, pass) {
+        Some(()) => totals,
+        None => Totals::default(),
+    }
+}
+
 /// Ways that return the number of elements alone.
 macro_rules! counting {
     ($name:ident, $other:ident $(, $times:ident)?) => {
@@ -75,6 +96,7 @@ counting!(read_by_openssl, openssl_certificates);
 #[cfg(mbedtls)]
 counting!(read_by_mbedtls, mbedtls_certificates);
 counting!(walked, walked_certificates);
+counting!(read_list_by_openssl, openssl_revocation_list);
 counting!(written_by_openssl, openssl_written, times);
 
 /// The ways of the library to write what it read from the octets.

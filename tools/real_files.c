@@ -3,9 +3,11 @@
  *     real_files KIND FILE ..    each as it is
  *     real_files KIND! FILE ..   also with each octet in turn changed to each other value, cut at each length,
  *                                and with octets after it
+ *     real_files e FILE ..       the extensions of each certificate; with l in place of e, of each revocation list
  *
  * A line for each file has what it is read as: 0 refused, 1 written back to the same octets, 2 to others; and, where
- * it is changed, how many of the changes were refused and how many read. A cut, or octets after, are never read. */
+ * it is changed, how many of the changes were refused and how many read. A cut, or octets after, are never read.
+ * Of extensions, how many of a known type are written back to the same octets, and how many are not. */
 #include <stdint.h>
 #include <stdio.h>
 #include <stdlib.h>
@@ -14,7 +16,12 @@
 
 enum { ROOM = 1 << 20, PAGE = 1 << 12, REFUSED = 0, SAME = 1 };
 
+struct totals {
+    uint64_t elements, contents, octet_sum;
+};
+
 uint8_t der_bench_reads_back(uint8_t kind, const uint8_t *octets, size_t len);
+struct totals der_bench_extensions(uint8_t is_list, const uint8_t *octets, size_t len);
 
 static uint8_t *space;
 
@@ -84,6 +91,11 @@ int main(int count, char **words)
             return 2;
         size_t len = fread(octets, 1, ROOM / 2, file);
         fclose(file);
+        if (words[1][0] == 'e' || words[1][0] == 'l') {
+            struct totals seen = der_bench_extensions(words[1][0] == 'l', octets, len);
+            printf("%s %zu %d %d\n", words[i], len, (int)seen.elements, (int)seen.contents);
+            continue;
+        }
         printf("%s %zu %d", words[i], len, read_back(kind, octets, len));
         if (strchr(words[1], '!') != NULL) {
             change(kind, words[i], octets, len);

@@ -1,5 +1,5 @@
 //! The functions whose speed `bench/` measures: walks over elements, decoding of keys,
-//! certificates, byte strings and texts, comparison of elements, reading of messages with
+//! certificates, revocation lists, byte strings and texts, comparison of elements, reading of messages with
 //! indefinite lengths, and writing. Also the functions with which `tools/real_files` reads files
 //! and writes them back.
 #![tactic(auto)]
@@ -7,11 +7,13 @@
 mod again;
 mod certificates;
 mod decode;
+mod extensions;
 mod files;
 mod headers;
 mod keys;
 mod nested;
 mod orders;
+mod revocation_lists;
 mod scan;
 mod sets;
 mod strings;
