@@ -1,4 +1,4 @@
--- Lemmas on the encodings of the items of a certificate's lists: their fields can be told apart.
+-- Lemmas on the encodings of the items of a certificate's lists: equal encodings have equal fields.
 use Rattle.std.proofs.Common.{◌≡◌, ℕ, Bool, true, false, List, [], ◌∷◌, ◌++◌, if◌then◌else◌, refl, sym, ap, ◌∙◌}
 use Rattle.der.specs.Prelude.{Boolean, ObjectIdentifier, OctetString, Sequence, Set, Tag, element_octets}
 use Rattle.der.proofs.DelimitedLemmas.{element_front, elements_delimited}

@@ -6,7 +6,7 @@ ghost use Rattle.der_asn1.specs.Arcs.{oid_octets};
 
 use der_asn1::ObjectIdentifierRef;
 
-/// Object identifiers of RFC 5280.
+/// The arc of the identifiers of RFC 5280 (appendix A).
 pub fn id_pkix() -> ObjectIdentifierRef<'static>
     ensures { result.octets.now ≡ oid_octets (1 ∷ 3 ∷ 6 ∷ 1 ∷ 5 ∷ 5 ∷ 7 ∷ []) }
 {
@@ -16,7 +16,7 @@ pub fn id_pkix() -> ObjectIdentifierRef<'static>
     value
 }
 
-/// id-pe
+/// The arc of extensions of private use (RFC 5280, 4.2.2).
 pub fn id_pe() -> ObjectIdentifierRef<'static>
     ensures { result.octets.now ≡ oid_octets (1 ∷ 3 ∷ 6 ∷ 1 ∷ 5 ∷ 5 ∷ 7 ∷ 1 ∷ []) }
 {
@@ -26,7 +26,7 @@ pub fn id_pe() -> ObjectIdentifierRef<'static>
     value
 }
 
-/// id-pe-authorityInfoAccess
+/// The extension authorityInfoAccess (RFC 5280, 4.2.2.1).
 pub fn id_pe_authority_info_access() -> ObjectIdentifierRef<'static>
     ensures { result.octets.now ≡ oid_octets (1 ∷ 3 ∷ 6 ∷ 1 ∷ 5 ∷ 5 ∷ 7 ∷ 1 ∷ 1 ∷ []) }
 {
@@ -37,7 +37,7 @@ pub fn id_pe_authority_info_access() -> ObjectIdentifierRef<'static>
     value
 }
 
-/// id-pe-subjectInfoAccess
+/// The extension subjectInfoAccess (RFC 5280, 4.2.2.2).
 pub fn id_pe_subject_info_access() -> ObjectIdentifierRef<'static>
     ensures { result.octets.now ≡ oid_octets (1 ∷ 3 ∷ 6 ∷ 1 ∷ 5 ∷ 5 ∷ 7 ∷ 1 ∷ 11 ∷ []) }
 {
@@ -48,7 +48,7 @@ pub fn id_pe_subject_info_access() -> ObjectIdentifierRef<'static>
     value
 }
 
-/// id-qt
+/// The arc of qualifiers of policies (RFC 5280, 4.2.1.4).
 pub fn id_qt() -> ObjectIdentifierRef<'static>
     ensures { result.octets.now ≡ oid_octets (1 ∷ 3 ∷ 6 ∷ 1 ∷ 5 ∷ 5 ∷ 7 ∷ 2 ∷ []) }
 {
@@ -58,7 +58,7 @@ pub fn id_qt() -> ObjectIdentifierRef<'static>
     value
 }
 
-/// id-qt-cps
+/// A qualifier that is a CPSuri (RFC 5280, 4.2.1.4).
 pub fn id_qt_cps() -> ObjectIdentifierRef<'static>
     ensures { result.octets.now ≡ oid_octets (1 ∷ 3 ∷ 6 ∷ 1 ∷ 5 ∷ 5 ∷ 7 ∷ 2 ∷ 1 ∷ []) }
 {
@@ -69,7 +69,7 @@ pub fn id_qt_cps() -> ObjectIdentifierRef<'static>
     value
 }
 
-/// id-qt-unotice
+/// A qualifier that is a UserNotice (RFC 5280, 4.2.1.4).
 pub fn id_qt_unotice() -> ObjectIdentifierRef<'static>
     ensures { result.octets.now ≡ oid_octets (1 ∷ 3 ∷ 6 ∷ 1 ∷ 5 ∷ 5 ∷ 7 ∷ 2 ∷ 2 ∷ []) }
 {
@@ -80,7 +80,7 @@ pub fn id_qt_unotice() -> ObjectIdentifierRef<'static>
     value
 }
 
-/// id-kp
+/// The arc of purposes of keys (RFC 5280, 4.2.1.12).
 pub fn id_kp() -> ObjectIdentifierRef<'static>
     ensures { result.octets.now ≡ oid_octets (1 ∷ 3 ∷ 6 ∷ 1 ∷ 5 ∷ 5 ∷ 7 ∷ 3 ∷ []) }
 {
@@ -90,7 +90,7 @@ pub fn id_kp() -> ObjectIdentifierRef<'static>
     value
 }
 
-/// id-kp-serverAuth
+/// The purpose of a TLS server (RFC 5280, 4.2.1.12).
 pub fn id_kp_server_auth() -> ObjectIdentifierRef<'static>
     ensures { result.octets.now ≡ oid_octets (1 ∷ 3 ∷ 6 ∷ 1 ∷ 5 ∷ 5 ∷ 7 ∷ 3 ∷ 1 ∷ []) }
 {
@@ -101,7 +101,7 @@ pub fn id_kp_server_auth() -> ObjectIdentifierRef<'static>
     value
 }
 
-/// id-kp-clientAuth
+/// The purpose of a TLS client (RFC 5280, 4.2.1.12).
 pub fn id_kp_client_auth() -> ObjectIdentifierRef<'static>
     ensures { result.octets.now ≡ oid_octets (1 ∷ 3 ∷ 6 ∷ 1 ∷ 5 ∷ 5 ∷ 7 ∷ 3 ∷ 2 ∷ []) }
 {
@@ -112,7 +112,7 @@ pub fn id_kp_client_auth() -> ObjectIdentifierRef<'static>
     value
 }
 
-/// id-kp-codeSigning
+/// The purpose of signing programs (RFC 5280, 4.2.1.12).
 pub fn id_kp_code_signing() -> ObjectIdentifierRef<'static>
     ensures { result.octets.now ≡ oid_octets (1 ∷ 3 ∷ 6 ∷ 1 ∷ 5 ∷ 5 ∷ 7 ∷ 3 ∷ 3 ∷ []) }
 {
@@ -123,7 +123,7 @@ pub fn id_kp_code_signing() -> ObjectIdentifierRef<'static>
     value
 }
 
-/// id-kp-emailProtection
+/// The purpose of protecting e-mail (RFC 5280, 4.2.1.12).
 pub fn id_kp_email_protection() -> ObjectIdentifierRef<'static>
     ensures { result.octets.now ≡ oid_octets (1 ∷ 3 ∷ 6 ∷ 1 ∷ 5 ∷ 5 ∷ 7 ∷ 3 ∷ 4 ∷ []) }
 {
@@ -134,7 +134,7 @@ pub fn id_kp_email_protection() -> ObjectIdentifierRef<'static>
     value
 }
 
-/// id-kp-timeStamping
+/// The purpose of signing timestamps (RFC 5280, 4.2.1.12).
 pub fn id_kp_time_stamping() -> ObjectIdentifierRef<'static>
     ensures { result.octets.now ≡ oid_octets (1 ∷ 3 ∷ 6 ∷ 1 ∷ 5 ∷ 5 ∷ 7 ∷ 3 ∷ 8 ∷ []) }
 {
@@ -145,7 +145,7 @@ pub fn id_kp_time_stamping() -> ObjectIdentifierRef<'static>
     value
 }
 
-/// id-kp-OCSPSigning
+/// The purpose of signing OCSP responses (RFC 5280, 4.2.1.12).
 pub fn id_kp_ocsp_signing() -> ObjectIdentifierRef<'static>
     ensures { result.octets.now ≡ oid_octets (1 ∷ 3 ∷ 6 ∷ 1 ∷ 5 ∷ 5 ∷ 7 ∷ 3 ∷ 9 ∷ []) }
 {
@@ -156,7 +156,7 @@ pub fn id_kp_ocsp_signing() -> ObjectIdentifierRef<'static>
     value
 }
 
-/// id-ad
+/// The arc of access methods (RFC 5280, 4.2.2).
 pub fn id_ad() -> ObjectIdentifierRef<'static>
     ensures { result.octets.now ≡ oid_octets (1 ∷ 3 ∷ 6 ∷ 1 ∷ 5 ∷ 5 ∷ 7 ∷ 48 ∷ []) }
 {
@@ -166,7 +166,7 @@ pub fn id_ad() -> ObjectIdentifierRef<'static>
     value
 }
 
-/// id-ad-ocsp
+/// Access to an OCSP responder (RFC 5280, 4.2.2.1).
 pub fn id_ad_ocsp() -> ObjectIdentifierRef<'static>
     ensures { result.octets.now ≡ oid_octets (1 ∷ 3 ∷ 6 ∷ 1 ∷ 5 ∷ 5 ∷ 7 ∷ 48 ∷ 1 ∷ []) }
 {
@@ -177,7 +177,7 @@ pub fn id_ad_ocsp() -> ObjectIdentifierRef<'static>
     value
 }
 
-/// id-ad-caIssuers
+/// Access to certificates of the issuer (RFC 5280, 4.2.2.1).
 pub fn id_ad_ca_issuers() -> ObjectIdentifierRef<'static>
     ensures { result.octets.now ≡ oid_octets (1 ∷ 3 ∷ 6 ∷ 1 ∷ 5 ∷ 5 ∷ 7 ∷ 48 ∷ 2 ∷ []) }
 {
@@ -188,7 +188,7 @@ pub fn id_ad_ca_issuers() -> ObjectIdentifierRef<'static>
     value
 }
 
-/// id-ad-timeStamping
+/// Access to a timestamp authority (RFC 5280, 4.2.2.2).
 pub fn id_ad_time_stamping() -> ObjectIdentifierRef<'static>
     ensures { result.octets.now ≡ oid_octets (1 ∷ 3 ∷ 6 ∷ 1 ∷ 5 ∷ 5 ∷ 7 ∷ 48 ∷ 3 ∷ []) }
 {
@@ -199,7 +199,7 @@ pub fn id_ad_time_stamping() -> ObjectIdentifierRef<'static>
     value
 }
 
-/// id-ad-caRepository
+/// Access to the repository of an authority (RFC 5280, 4.2.2.2).
 pub fn id_ad_ca_repository() -> ObjectIdentifierRef<'static>
     ensures { result.octets.now ≡ oid_octets (1 ∷ 3 ∷ 6 ∷ 1 ∷ 5 ∷ 5 ∷ 7 ∷ 48 ∷ 5 ∷ []) }
 {
@@ -210,7 +210,7 @@ pub fn id_ad_ca_repository() -> ObjectIdentifierRef<'static>
     value
 }
 
-/// id-ce
+/// The arc of extensions (RFC 5280, 4.2.1).
 pub fn id_ce() -> ObjectIdentifierRef<'static>
     ensures { result.octets.now ≡ oid_octets (2 ∷ 5 ∷ 29 ∷ []) }
 {
@@ -220,7 +220,7 @@ pub fn id_ce() -> ObjectIdentifierRef<'static>
     value
 }
 
-/// id-ce-subjectDirectoryAttributes
+/// The extension subjectDirectoryAttributes (RFC 5280, 4.2.1.8).
 pub fn id_ce_subject_directory_attributes() -> ObjectIdentifierRef<'static>
     ensures { result.octets.now ≡ oid_octets (2 ∷ 5 ∷ 29 ∷ 9 ∷ []) }
 {
@@ -230,7 +230,7 @@ pub fn id_ce_subject_directory_attributes() -> ObjectIdentifierRef<'static>
     value
 }
 
-/// id-ce-subjectKeyIdentifier
+/// The extension subjectKeyIdentifier (RFC 5280, 4.2.1.2).
 pub fn id_ce_subject_key_identifier() -> ObjectIdentifierRef<'static>
     ensures { result.octets.now ≡ oid_octets (2 ∷ 5 ∷ 29 ∷ 14 ∷ []) }
 {
@@ -240,7 +240,7 @@ pub fn id_ce_subject_key_identifier() -> ObjectIdentifierRef<'static>
     value
 }
 
-/// id-ce-keyUsage
+/// The extension keyUsage (RFC 5280, 4.2.1.3).
 pub fn id_ce_key_usage() -> ObjectIdentifierRef<'static>
     ensures { result.octets.now ≡ oid_octets (2 ∷ 5 ∷ 29 ∷ 15 ∷ []) }
 {
@@ -250,7 +250,7 @@ pub fn id_ce_key_usage() -> ObjectIdentifierRef<'static>
     value
 }
 
-/// id-ce-subjectAltName
+/// The extension subjectAltName (RFC 5280, 4.2.1.6).
 pub fn id_ce_subject_alt_name() -> ObjectIdentifierRef<'static>
     ensures { result.octets.now ≡ oid_octets (2 ∷ 5 ∷ 29 ∷ 17 ∷ []) }
 {
@@ -260,7 +260,7 @@ pub fn id_ce_subject_alt_name() -> ObjectIdentifierRef<'static>
     value
 }
 
-/// id-ce-issuerAltName
+/// The extension issuerAltName (RFC 5280, 4.2.1.7 and 5.2.2).
 pub fn id_ce_issuer_alt_name() -> ObjectIdentifierRef<'static>
     ensures { result.octets.now ≡ oid_octets (2 ∷ 5 ∷ 29 ∷ 18 ∷ []) }
 {
@@ -270,7 +270,7 @@ pub fn id_ce_issuer_alt_name() -> ObjectIdentifierRef<'static>
     value
 }
 
-/// id-ce-basicConstraints
+/// The extension basicConstraints (RFC 5280, 4.2.1.9).
 pub fn id_ce_basic_constraints() -> ObjectIdentifierRef<'static>
     ensures { result.octets.now ≡ oid_octets (2 ∷ 5 ∷ 29 ∷ 19 ∷ []) }
 {
@@ -280,7 +280,7 @@ pub fn id_ce_basic_constraints() -> ObjectIdentifierRef<'static>
     value
 }
 
-/// id-ce-cRLNumber
+/// The extension cRLNumber of a revocation list (RFC 5280, 5.2.3).
 pub fn id_ce_c_rl_number() -> ObjectIdentifierRef<'static>
     ensures { result.octets.now ≡ oid_octets (2 ∷ 5 ∷ 29 ∷ 20 ∷ []) }
 {
@@ -290,7 +290,7 @@ pub fn id_ce_c_rl_number() -> ObjectIdentifierRef<'static>
     value
 }
 
-/// id-ce-cRLReasons
+/// The extension reasonCode of an entry of a revocation list (RFC 5280, 5.3.1).
 pub fn id_ce_c_rl_reasons() -> ObjectIdentifierRef<'static>
     ensures { result.octets.now ≡ oid_octets (2 ∷ 5 ∷ 29 ∷ 21 ∷ []) }
 {
@@ -300,7 +300,7 @@ pub fn id_ce_c_rl_reasons() -> ObjectIdentifierRef<'static>
     value
 }
 
-/// id-ce-invalidityDate
+/// The extension invalidityDate of an entry of a revocation list (RFC 5280, 5.3.2).
 pub fn id_ce_invalidity_date() -> ObjectIdentifierRef<'static>
     ensures { result.octets.now ≡ oid_octets (2 ∷ 5 ∷ 29 ∷ 24 ∷ []) }
 {
@@ -310,7 +310,7 @@ pub fn id_ce_invalidity_date() -> ObjectIdentifierRef<'static>
     value
 }
 
-/// id-ce-deltaCRLIndicator
+/// The extension deltaCRLIndicator of a revocation list (RFC 5280, 5.2.4).
 pub fn id_ce_delta_crl_indicator() -> ObjectIdentifierRef<'static>
     ensures { result.octets.now ≡ oid_octets (2 ∷ 5 ∷ 29 ∷ 27 ∷ []) }
 {
@@ -320,7 +320,7 @@ pub fn id_ce_delta_crl_indicator() -> ObjectIdentifierRef<'static>
     value
 }
 
-/// id-ce-issuingDistributionPoint
+/// The extension issuingDistributionPoint of a revocation list (RFC 5280, 5.2.5).
 pub fn id_ce_issuing_distribution_point() -> ObjectIdentifierRef<'static>
     ensures { result.octets.now ≡ oid_octets (2 ∷ 5 ∷ 29 ∷ 28 ∷ []) }
 {
@@ -330,7 +330,7 @@ pub fn id_ce_issuing_distribution_point() -> ObjectIdentifierRef<'static>
     value
 }
 
-/// id-ce-certificateIssuer
+/// The extension certificateIssuer of an entry of a revocation list (RFC 5280, 5.3.3).
 pub fn id_ce_certificate_issuer() -> ObjectIdentifierRef<'static>
     ensures { result.octets.now ≡ oid_octets (2 ∷ 5 ∷ 29 ∷ 29 ∷ []) }
 {
@@ -340,7 +340,7 @@ pub fn id_ce_certificate_issuer() -> ObjectIdentifierRef<'static>
     value
 }
 
-/// id-ce-nameConstraints
+/// The extension nameConstraints (RFC 5280, 4.2.1.10).
 pub fn id_ce_name_constraints() -> ObjectIdentifierRef<'static>
     ensures { result.octets.now ≡ oid_octets (2 ∷ 5 ∷ 29 ∷ 30 ∷ []) }
 {
@@ -350,7 +350,7 @@ pub fn id_ce_name_constraints() -> ObjectIdentifierRef<'static>
     value
 }
 
-/// id-ce-cRLDistributionPoints
+/// The extension cRLDistributionPoints (RFC 5280, 4.2.1.13).
 pub fn id_ce_c_rl_distribution_points() -> ObjectIdentifierRef<'static>
     ensures { result.octets.now ≡ oid_octets (2 ∷ 5 ∷ 29 ∷ 31 ∷ []) }
 {
@@ -360,7 +360,7 @@ pub fn id_ce_c_rl_distribution_points() -> ObjectIdentifierRef<'static>
     value
 }
 
-/// id-ce-certificatePolicies
+/// The extension certificatePolicies (RFC 5280, 4.2.1.4).
 pub fn id_ce_certificate_policies() -> ObjectIdentifierRef<'static>
     ensures { result.octets.now ≡ oid_octets (2 ∷ 5 ∷ 29 ∷ 32 ∷ []) }
 {
@@ -370,7 +370,7 @@ pub fn id_ce_certificate_policies() -> ObjectIdentifierRef<'static>
     value
 }
 
-/// anyPolicy
+/// The policy that stands for all policies (RFC 5280, 4.2.1.4).
 pub fn any_policy() -> ObjectIdentifierRef<'static>
     ensures { result.octets.now ≡ oid_octets (2 ∷ 5 ∷ 29 ∷ 32 ∷ 0 ∷ []) }
 {
@@ -380,7 +380,7 @@ pub fn any_policy() -> ObjectIdentifierRef<'static>
     value
 }
 
-/// id-ce-policyMappings
+/// The extension policyMappings (RFC 5280, 4.2.1.5).
 pub fn id_ce_policy_mappings() -> ObjectIdentifierRef<'static>
     ensures { result.octets.now ≡ oid_octets (2 ∷ 5 ∷ 29 ∷ 33 ∷ []) }
 {
@@ -390,7 +390,7 @@ pub fn id_ce_policy_mappings() -> ObjectIdentifierRef<'static>
     value
 }
 
-/// id-ce-authorityKeyIdentifier
+/// The extension authorityKeyIdentifier (RFC 5280, 4.2.1.1 and 5.2.1).
 pub fn id_ce_authority_key_identifier() -> ObjectIdentifierRef<'static>
     ensures { result.octets.now ≡ oid_octets (2 ∷ 5 ∷ 29 ∷ 35 ∷ []) }
 {
@@ -400,7 +400,7 @@ pub fn id_ce_authority_key_identifier() -> ObjectIdentifierRef<'static>
     value
 }
 
-/// id-ce-policyConstraints
+/// The extension policyConstraints (RFC 5280, 4.2.1.11).
 pub fn id_ce_policy_constraints() -> ObjectIdentifierRef<'static>
     ensures { result.octets.now ≡ oid_octets (2 ∷ 5 ∷ 29 ∷ 36 ∷ []) }
 {
@@ -410,7 +410,7 @@ pub fn id_ce_policy_constraints() -> ObjectIdentifierRef<'static>
     value
 }
 
-/// id-ce-extKeyUsage
+/// The extension extKeyUsage (RFC 5280, 4.2.1.12).
 pub fn id_ce_ext_key_usage() -> ObjectIdentifierRef<'static>
     ensures { result.octets.now ≡ oid_octets (2 ∷ 5 ∷ 29 ∷ 37 ∷ []) }
 {
@@ -420,7 +420,7 @@ pub fn id_ce_ext_key_usage() -> ObjectIdentifierRef<'static>
     value
 }
 
-/// anyExtendedKeyUsage
+/// The purpose that stands for all purposes (RFC 5280, 4.2.1.12).
 pub fn any_extended_key_usage() -> ObjectIdentifierRef<'static>
     ensures { result.octets.now ≡ oid_octets (2 ∷ 5 ∷ 29 ∷ 37 ∷ 0 ∷ []) }
 {
@@ -430,7 +430,7 @@ pub fn any_extended_key_usage() -> ObjectIdentifierRef<'static>
     value
 }
 
-/// id-ce-freshestCRL
+/// The extension freshestCRL (RFC 5280, 4.2.1.15 and 5.2.6).
 pub fn id_ce_freshest_crl() -> ObjectIdentifierRef<'static>
     ensures { result.octets.now ≡ oid_octets (2 ∷ 5 ∷ 29 ∷ 46 ∷ []) }
 {
@@ -440,7 +440,7 @@ pub fn id_ce_freshest_crl() -> ObjectIdentifierRef<'static>
     value
 }
 
-/// id-ce-inhibitAnyPolicy
+/// The extension inhibitAnyPolicy (RFC 5280, 4.2.1.14).
 pub fn id_ce_inhibit_any_policy() -> ObjectIdentifierRef<'static>
     ensures { result.octets.now ≡ oid_octets (2 ∷ 5 ∷ 29 ∷ 54 ∷ []) }
 {
@@ -474,7 +474,7 @@ pub fn id_extension_request() -> ObjectIdentifierRef<'static>
     value
 }
 
-/// id-at
+/// The arc of attribute types (RFC 5280, appendix A).
 pub fn id_at() -> ObjectIdentifierRef<'static>
     ensures { result.octets.now ≡ oid_octets (2 ∷ 5 ∷ 4 ∷ []) }
 {
@@ -484,7 +484,7 @@ pub fn id_at() -> ObjectIdentifierRef<'static>
     value
 }
 
-/// id-at-commonName
+/// The attribute with the common name (RFC 5280, appendix A).
 pub fn id_at_common_name() -> ObjectIdentifierRef<'static>
     ensures { result.octets.now ≡ oid_octets (2 ∷ 5 ∷ 4 ∷ 3 ∷ []) }
 {
@@ -494,7 +494,7 @@ pub fn id_at_common_name() -> ObjectIdentifierRef<'static>
     value
 }
 
-/// id-at-surname
+/// The attribute with the surname (RFC 5280, appendix A).
 pub fn id_at_surname() -> ObjectIdentifierRef<'static>
     ensures { result.octets.now ≡ oid_octets (2 ∷ 5 ∷ 4 ∷ 4 ∷ []) }
 {
@@ -504,7 +504,7 @@ pub fn id_at_surname() -> ObjectIdentifierRef<'static>
     value
 }
 
-/// id-at-serialNumber
+/// The attribute with the serial number of a device (RFC 5280, appendix A).
 pub fn id_at_serial_number() -> ObjectIdentifierRef<'static>
     ensures { result.octets.now ≡ oid_octets (2 ∷ 5 ∷ 4 ∷ 5 ∷ []) }
 {
@@ -514,7 +514,7 @@ pub fn id_at_serial_number() -> ObjectIdentifierRef<'static>
     value
 }
 
-/// id-at-countryName
+/// The attribute with the country (RFC 5280, appendix A).
 pub fn id_at_country_name() -> ObjectIdentifierRef<'static>
     ensures { result.octets.now ≡ oid_octets (2 ∷ 5 ∷ 4 ∷ 6 ∷ []) }
 {
@@ -524,7 +524,7 @@ pub fn id_at_country_name() -> ObjectIdentifierRef<'static>
     value
 }
 
-/// id-at-localityName
+/// The attribute with the locality (RFC 5280, appendix A).
 pub fn id_at_locality_name() -> ObjectIdentifierRef<'static>
     ensures { result.octets.now ≡ oid_octets (2 ∷ 5 ∷ 4 ∷ 7 ∷ []) }
 {
@@ -534,7 +534,7 @@ pub fn id_at_locality_name() -> ObjectIdentifierRef<'static>
     value
 }
 
-/// id-at-stateOrProvinceName
+/// The attribute with the state or province (RFC 5280, appendix A).
 pub fn id_at_state_or_province_name() -> ObjectIdentifierRef<'static>
     ensures { result.octets.now ≡ oid_octets (2 ∷ 5 ∷ 4 ∷ 8 ∷ []) }
 {
@@ -544,7 +544,7 @@ pub fn id_at_state_or_province_name() -> ObjectIdentifierRef<'static>
     value
 }
 
-/// id-at-organizationName
+/// The attribute with the organization (RFC 5280, appendix A).
 pub fn id_at_organization_name() -> ObjectIdentifierRef<'static>
     ensures { result.octets.now ≡ oid_octets (2 ∷ 5 ∷ 4 ∷ 10 ∷ []) }
 {
@@ -554,7 +554,7 @@ pub fn id_at_organization_name() -> ObjectIdentifierRef<'static>
     value
 }
 
-/// id-at-organizationalUnitName
+/// The attribute with the organizational unit (RFC 5280, appendix A).
 pub fn id_at_organizational_unit_name() -> ObjectIdentifierRef<'static>
     ensures { result.octets.now ≡ oid_octets (2 ∷ 5 ∷ 4 ∷ 11 ∷ []) }
 {
@@ -564,7 +564,7 @@ pub fn id_at_organizational_unit_name() -> ObjectIdentifierRef<'static>
     value
 }
 
-/// id-at-title
+/// The attribute with the title (RFC 5280, appendix A).
 pub fn id_at_title() -> ObjectIdentifierRef<'static>
     ensures { result.octets.now ≡ oid_octets (2 ∷ 5 ∷ 4 ∷ 12 ∷ []) }
 {
@@ -574,7 +574,7 @@ pub fn id_at_title() -> ObjectIdentifierRef<'static>
     value
 }
 
-/// id-at-name
+/// The attribute with the name (RFC 5280, appendix A).
 pub fn id_at_name() -> ObjectIdentifierRef<'static>
     ensures { result.octets.now ≡ oid_octets (2 ∷ 5 ∷ 4 ∷ 41 ∷ []) }
 {
@@ -584,7 +584,7 @@ pub fn id_at_name() -> ObjectIdentifierRef<'static>
     value
 }
 
-/// id-at-givenName
+/// The attribute with the given name (RFC 5280, appendix A).
 pub fn id_at_given_name() -> ObjectIdentifierRef<'static>
     ensures { result.octets.now ≡ oid_octets (2 ∷ 5 ∷ 4 ∷ 42 ∷ []) }
 {
@@ -594,7 +594,7 @@ pub fn id_at_given_name() -> ObjectIdentifierRef<'static>
     value
 }
 
-/// id-at-initials
+/// The attribute with the initials (RFC 5280, appendix A).
 pub fn id_at_initials() -> ObjectIdentifierRef<'static>
     ensures { result.octets.now ≡ oid_octets (2 ∷ 5 ∷ 4 ∷ 43 ∷ []) }
 {
@@ -604,7 +604,7 @@ pub fn id_at_initials() -> ObjectIdentifierRef<'static>
     value
 }
 
-/// id-at-generationQualifier
+/// The attribute with the generation qualifier (RFC 5280, appendix A).
 pub fn id_at_generation_qualifier() -> ObjectIdentifierRef<'static>
     ensures { result.octets.now ≡ oid_octets (2 ∷ 5 ∷ 4 ∷ 44 ∷ []) }
 {
@@ -614,7 +614,7 @@ pub fn id_at_generation_qualifier() -> ObjectIdentifierRef<'static>
     value
 }
 
-/// id-at-dnQualifier
+/// The attribute with the qualifier of a distinguished name (RFC 5280, appendix A).
 pub fn id_at_dn_qualifier() -> ObjectIdentifierRef<'static>
     ensures { result.octets.now ≡ oid_octets (2 ∷ 5 ∷ 4 ∷ 46 ∷ []) }
 {
@@ -624,7 +624,7 @@ pub fn id_at_dn_qualifier() -> ObjectIdentifierRef<'static>
     value
 }
 
-/// id-at-pseudonym
+/// The attribute with the pseudonym (RFC 5280, appendix A).
 pub fn id_at_pseudonym() -> ObjectIdentifierRef<'static>
     ensures { result.octets.now ≡ oid_octets (2 ∷ 5 ∷ 4 ∷ 65 ∷ []) }
 {
