@@ -209,3 +209,43 @@ fn an_earlier_time_is_less(rt: HostRuntime) {
         }
     }
 }
+
+// Times and their seconds since 1970, as `date -u +%s` prints them.
+fn times_with_seconds() -> [(DateTime, i64); 8] {
+    [
+        (date_time((0, 1, 1), (0, 0, 0)), -62167219200),
+        (date_time((1901, 12, 13), (20, 45, 52)), -2147483648),
+        (date_time((1969, 12, 31), (23, 59, 59)), -1),
+        (date_time((1970, 1, 1), (0, 0, 0)), 0),
+        (date_time((2000, 2, 29), (12, 30, 0)), 951827400),
+        (date_time((2001, 9, 9), (1, 46, 40)), 1000000000),
+        (date_time((2100, 3, 1), (0, 0, 0)), 4107542400),
+        (date_time((9999, 12, 31), (23, 59, 59)), 253402300799),
+    ]
+}
+
+fn date_time(date: (u16, u8, u8), time: (u8, u8, u8)) -> DateTime {
+    DateTime {
+        year: date.0,
+        month: date.1,
+        day: date.2,
+        hour: time.0,
+        minute: time.1,
+        second: time.2,
+    }
+}
+
+#[test]
+fn seconds_since_1970(rt: HostRuntime) {
+    for (row, (time, seconds)) in times_with_seconds().into_iter().enumerate() {
+        same_at(&rt, row, time.unix_seconds(), seconds);
+        same_at(&rt, row, DateTime::from_unix_seconds(seconds), Some(time));
+    }
+}
+
+#[test]
+fn seconds_of_no_year(rt: HostRuntime) {
+    for (row, seconds) in [i64::MIN, -62167219201, 253402300800, i64::MAX].into_iter().enumerate() {
+        same_at(&rt, row, DateTime::from_unix_seconds(seconds), None);
+    }
+}

@@ -8,6 +8,7 @@ pub mod IntegerReadLemmas
 pub mod RangeLemmas
 pub mod EnumerationLemmas
 pub mod TimeLemmas
+pub mod UnixTimeLemmas
 pub mod SetOfLemmas
 pub mod ArcLemmas
 pub mod ListAnswerLemmas

@@ -31,6 +31,7 @@ pub mod AnyLaws
 pub mod Either
 pub mod EitherLaws
 pub mod Times
+pub mod UnixTime
 pub mod SetOf
 pub mod Arcs
 pub mod Alphabets

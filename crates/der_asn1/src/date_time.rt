@@ -37,7 +37,7 @@ impl DateTime {
 }
 
 // The number of days of the month.
-fn days_in(year: u16, month: u8) -> u8
+pub(crate) fn days_in(year: u16, month: u8) -> u8
     ensures { result ≡ days_of year month }
 {
     match month {
@@ -48,7 +48,7 @@ fn days_in(year: u16, month: u8) -> u8
 }
 
 // Whether the year has 366 days.
-fn is_leap(year: u16) -> bool
+pub(crate) fn is_leap(year: u16) -> bool
     ensures { result ≡ is_leap_year year }
 {
     year % 4 == 0 && (year % 100 != 0 || year % 400 == 0)

@@ -68,6 +68,7 @@ mod teletex_string;
 mod time_format;
 mod time_octets;
 mod time_of;
+mod unix_time;
 mod utc_time;
 mod utf8_string;
 mod visible_string;
