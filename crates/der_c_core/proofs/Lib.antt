@@ -1,0 +1,15 @@
+pub mod CodeLemmas
+pub mod CompareLemmas
+pub mod EndLemmas
+pub mod MeetLemmas
+pub mod PartLemmas
+pub mod ReadLemmas
+pub mod ShortLemmas
+pub mod ShortWriteLemmas
+pub mod TagWordLemmas
+pub mod TextLemmas
+pub mod TreeLemmas
+pub mod TreeWalkLemmas
+pub mod WordLemmas
+pub mod WriterCallLemmas
+pub mod SetOrderLemmas

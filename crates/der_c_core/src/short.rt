@@ -1,0 +1,111 @@
+//! Elements that are there as a whole, with a short header. The functions here build no errors: what
+//! they do not accept is read again by the general functions.
+ghost use Rattle.std.specs.Prelude.{◌≡◌, ◌<◌, true, IfSome};
+ghost use Rattle.der_c_core.specs.CReader.{reader_state};
+ghost use Rattle.der_c_core.specs.Short.{IsPlain, IsShortHeader, IsShortElement};
+
+use crate::reader::DerReader;
+use crate::tag::universal;
+use der_core::Reader;
+
+/// An element that is there as a whole, with a tag of one octet and a definite length.
+#[derive(Clone, Copy)]
+pub(crate) struct ShortElement {
+    /// The octet of the identifier.
+    pub(crate) first: u8,
+    /// The position at which the contents begin.
+    pub(crate) from: usize,
+    /// The position at which the contents end.
+    pub(crate) to: usize,
+}
+
+/// A header with a tag of one octet and a definite length.
+#[derive(Clone, Copy)]
+pub(crate) struct ShortHeader {
+    /// The octet of the identifier.
+    pub(crate) first: u8,
+    /// How many octets the header has.
+    pub(crate) size: usize,
+    /// How many octets of contents follow it.
+    pub(crate) count: usize,
+}
+
+// The next element, if it is there as a whole and its header is short. The reader does not move.
+#[inline(always)]
+pub(crate) fn short_element(reader: &DerReader<'_>) -> Option<ShortElement>
+    ensures { IfSome result (λ e. IsShortElement e.first e.from e.to (reader_state reader.now)) }
+{
+    let header = short_header(reader)?;
+    let from = reader.position + header.size;
+    let to = from + header.count;
+    if to > reader.end as usize {
+        return None;
+    }
+    Some(ShortElement {
+        first: header.first,
+        from,
+        to,
+    })
+}
+
+// The next header, if it has a tag of one octet and a definite length of at most three octets.
+#[inline(always)]
+fn short_header(reader: &DerReader<'_>) -> Option<ShortHeader>
+    ensures { IfSome result (λ h. IsShortHeader h (reader_state reader.now)) }
+{
+    let Ok(next) = reader.remaining() else {
+        return None;
+    };
+    if next.len() < 2 || !is_identifier(next[0]) {
+        return None;
+    }
+    let (first, length) = (next[0], next[1]);
+    if length < 128 {
+        return Some(ShortHeader {
+            first,
+            size: 2,
+            count: length as usize,
+        });
+    }
+    if length == 0x81 && next.len() > 2 {
+        let count = number_of(next[2]);
+        if count >= 128 {
+            return Some(ShortHeader {
+                first,
+                size: 3,
+                count,
+            });
+        }
+    }
+    if length == 0x82 && next.len() > 3 {
+        let (high, low) = (number_of(next[2]), number_of(next[3]));
+        if high > 0 {
+            return Some(ShortHeader {
+                first,
+                size: 4,
+                count: high * 256 + low,
+            });
+        }
+    }
+    None
+}
+
+// An octet as a number.
+#[inline(always)]
+fn number_of(octet: u8) -> usize
+    ensures same { result ≡ octet }
+    ensures small { result < 256 }
+{
+    octet as usize
+}
+
+// Whether this octet is a whole identifier, under any rules, and the word of its tag.
+#[inline(always)]
+pub(crate) fn is_identifier(octet: u8) -> bool
+    ensures { result ≡ true → IsPlain octet }
+{
+    if octet < 0x40 {
+        return universal(octet).is_some();
+    }
+    octet % 32 < 31
+}
