@@ -1,0 +1,9 @@
+pub mod CharacterLemmas
+pub mod ValueLemmas
+pub mod DottedLemmas
+pub mod OidArcLemmas
+pub mod OidIsLemmas
+pub mod OidTextLemmas
+pub mod TimeLemmas
+pub mod WriteLemmas
+pub mod DecimalLemmas

@@ -1,0 +1,33 @@
+-- What a call of a writer that answers kind 0 implies, and which octets decide a BIT STRING.
+use Rattle.std.proofs.Common.{◌≡◌, ℕ, suc, ◌-◌, ◌≤◌, List, [], ◌∷◌, length, get_or, Result, Ok, Err, refl, ap, ◌∙◌, arith}
+use Rattle.der_base.specs.declared.error.Error.{Error}
+use Rattle.der_core.specs.Writer.{WriterState}
+use Rattle.der_asn1.specs.Forms.{bits_form, has_low_zeros}
+use Rattle.der_c_core.specs.ErrorCode.{no_error}
+use Rattle.der_c_core.specs.CReader.{answer_code}
+use Rattle.der_c_core.specs.WriterCalls.{WritesOctets, WritesHeader, no_tag, of_tag}
+use Rattle.der_c_core.specs.declared.error.DerError.{DerError}
+use Rattle.der_c_values.proofs.ValueLemmas.{refused_some}
+
+answer_kind_zero : (answer : Result (Unit {0}) Error) {r : DerError} → r ≡ answer_code answer → r.kind ≡ 0 → r ≡ no_error
+answer_kind_zero (Ok v) reported none = reported
+answer_kind_zero (Err e) reported none = refused_some e reported none
+
+-- a result of kind 0 is no error
+pub octets_kind_zero : {octets : List ℕ} {s t : WriterState} {r : DerError} → WritesOctets octets s r t → r.kind ≡ 0 → r ≡ no_error
+octets_kind_zero written none = answer_kind_zero written.answer written.reported none
+
+pub header_kind_zero : {word n : ℕ} {s t : WriterState} {r : DerError} → WritesHeader word n s r t → r.kind ≡ 0 → r ≡ no_error
+header_kind_zero (no_tag none refused) zero = refused_some _ refused.reported zero
+header_kind_zero (of_tag tag answer is writes reported) zero = answer_kind_zero answer reported zero
+
+last_decides : (n : ℕ) (os : List ℕ) → 1 ≤ length os → has_low_zeros n (get_or os (length os - 1) 0 ∷ []) ≡ has_low_zeros n os
+last_decides n [] h = absurd (omega arith)
+last_decides n (o ∷ []) h = refl
+last_decides n (o ∷ p ∷ os) h =
+    let e : length (o ∷ p ∷ os) - 1 ≡ suc (length (p ∷ os) - 1) = omega arith in
+    ap (λ k. has_low_zeros n (get_or (o ∷ p ∷ os) k 0 ∷ [])) e ∙ last_decides n (p ∷ os) (omega arith)
+
+-- the last octet alone decides whether octets with unused bits are a BIT STRING
+pub last_bits : (n : ℕ) (os : List ℕ) → 1 ≤ length os → bits_form (n ∷ get_or os (length os - 1) 0 ∷ []) ≡ bits_form (n ∷ os)
+last_bits n os h = rw (last_decides n os h) refl

@@ -1,0 +1,6 @@
+use Rattle.std.proofs.Common.{sym, ◌∙◌}
+use Rattle.der_c_values.specs.WriteCalls.{of_value}
+use Rattle.der_c_values.proofs.write_checked.der_write_integer.Goals as goal
+
+pub returns-clause-writes : goal.returns-clause-writes
+returns-clause-writes c = of_value (sym c.matches_grammar.ensures ∙ c.if-not-matches_grammar.false) c.der_write_element.ensures.writes

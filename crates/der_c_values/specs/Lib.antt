@@ -1,0 +1,11 @@
+pub mod Characters
+pub mod Dotted
+pub mod OidArcs
+pub mod StringTypes
+pub mod TimeValues
+pub mod ValueCalls
+pub mod ValueContents
+pub mod WriteCalls
+pub mod WriteOidText
+pub use Rattle.der_asn1.specs.Forms
+pub use Rattle.der_asn1.specs.Integer
