@@ -1,0 +1,12 @@
+pub mod Calls
+pub mod Certificate
+pub mod Constraints
+pub mod Fields
+pub mod FindCalls
+pub mod Items
+pub mod Known
+pub mod PrivateKey
+pub mod Request
+pub mod RevocationList
+pub mod Revoked
+pub mod Times

@@ -1,0 +1,35 @@
+//! Algorithms with their parameters.
+ghost use Rattle.der_c_x509.specs.Fields.{IsAlgorithmOf};
+
+use crate::any::{DerAny, optional_any_of};
+use crate::strings::span_of;
+use der_c_core::DerSpan;
+use spki::AlgorithmIdentifierRef;
+
+/// An AlgorithmIdentifier (RFC 5280, 4.1.1.2): an algorithm with its parameters.
+#[repr(C)]
+#[derive(Clone, Copy)]
+pub struct DerAlgorithm<'a> {
+    /// The contents octets of the algorithm's OBJECT IDENTIFIER.
+    pub identifier: DerSpan<'a>,
+    /// The parameters. The tag is 0 if they are absent.
+    pub parameters: DerAny<'a>,
+}
+
+impl DerAlgorithm<'_> {
+    /// No algorithm.
+    pub const EMPTY: DerAlgorithm<'static> = DerAlgorithm {
+        identifier: DerSpan::EMPTY,
+        parameters: DerAny::EMPTY,
+    };
+}
+
+// An algorithm as a struct of C.
+pub(crate) fn algorithm_of<'a>(value: &AlgorithmIdentifierRef<'a>) -> DerAlgorithm<'a>
+    ensures { IsAlgorithmOf value.now result }
+{
+    DerAlgorithm {
+        identifier: span_of(&value.oid),
+        parameters: optional_any_of(&value.parameters.0),
+    }
+}

@@ -1,0 +1,110 @@
+//! Whether the subject may issue certificates.
+ghost use Rattle.std.specs.Prelude.{◌≡◌};
+ghost use Rattle.x509.specs.ExtensionChecks.{id_ce};
+ghost use Rattle.x509.specs.Find.{FindsExtension, WholeRead};
+ghost use Rattle.der_c_x509.specs.Constraints.{IsConstraintsAnswer, IsPathLengthAnswer, ReadsConstraints};
+ghost use Rattle.der_c_x509.specs.FindCalls.{FindsIn, RefusesList};
+
+use crate::find::find_known;
+use der::{Decode, DecodeValue, ErrorKind, FixedTag, ReadValue, SliceReader, Tag, WrittenValue};
+use der_asn1::{IntRef, IntegerNumber, Item, Optional};
+use der_c_core::{DerError, c_error};
+use std::alloc::Global;
+use x509::{BasicConstraints, Extension, Known, ext};
+
+/// The extension basicConstraints (RFC 5280, 4.2.1.9).
+#[repr(C)]
+#[derive(Clone, Copy)]
+pub struct DerBasicConstraints {
+    /// How many further authorities may follow in a chain of certificates; 0 if there is no limit.
+    pub path_length: u64,
+    /// Whether the certificate has the extension.
+    pub present: bool,
+    /// Whether the extension is critical; false if it is absent.
+    pub critical: bool,
+    /// Whether the subject is a certification authority; false if the extension is absent.
+    pub is_authority: bool,
+    /// Whether `path_length` is a limit.
+    pub has_path_length: bool,
+}
+
+impl DerBasicConstraints {
+    /// No such extension.
+    pub const EMPTY: DerBasicConstraints = DerBasicConstraints {
+        path_length: 0,
+        present: false,
+        critical: false,
+        is_authority: false,
+        has_path_length: false,
+    };
+}
+
+// The limit as a number; `None` if there is one that is not from 0 to 2^64 - 1.
+fn path_length_of(value: &Optional<IntRef<'_>>) -> Option<(bool, u64)>
+    ensures { IsPathLengthAnswer (λ v. v.octets.now) value.now.0 result }
+{
+    match &value.0 {
+        Some(number) => {
+            let length = u64::from_contents(number.octets())?;
+            Some((true, length))
+        }
+        None => Some((false, 0)),
+    }
+}
+
+// The extension as a struct of C; `None` if its limit is not from 0 to 2^64 - 1.
+fn constraints_of<'a>(found: &Option<Known<BasicConstraints<'a>>>) -> Option<DerBasicConstraints>
+    ensures { IsConstraintsAnswer found.now result }
+{
+    match found {
+        Some(known) => {
+            let (has_path_length, path_length) = path_length_of(&known.value.path_len_constraint)?;
+            Some(DerBasicConstraints {
+                path_length,
+                present: true,
+                critical: known.critical,
+                is_authority: known.value.ca.0.is_true(),
+                has_path_length,
+            })
+        }
+        None => Some(DerBasicConstraints::EMPTY),
+    }
+}
+
+/// Finds basicConstraints in the contents of a list of extensions, and reads it into `constraints`.
+/// It is not an error if the extension is absent.
+///
+/// A call that fails leaves `constraints` unchanged. Fails with:
+///
+/// - the error of the first extension of the list that cannot be decoded; there is none in the
+///   contents that `der_certificate_read` returns;
+/// - `SetDuplicate` without a position, if the list has the extension more than once;
+/// - the error of decoding the value of the extension, whose position counts from the start of this
+///   value;
+/// - `Value` with the tag INTEGER, without a position, if the limit is negative or above 2^64 - 1.
+pub fn der_basic_constraints<'a>(
+    alloc: Global,
+    extensions: &'a [u8],
+    constraints: &mut DerBasicConstraints,
+) -> DerError
+    ensures { ReadsConstraints (FindsIn
+        (RefusesList ⟦<Extension<'a> as Decode<SliceReader<'a>>>⟧.decode_answers)
+        (FindsExtension ⟦<Extension<'a> as Item>⟧.item.valid ⟦<Extension<'a> as Item>⟧.item.octets
+        (WholeRead ⟦<BasicConstraints<'a> as FixedTag>⟧.tag_is
+        ⟦<BasicConstraints<'a> as ReadValue>⟧.valid
+        ⟦<BasicConstraints<'a> as WrittenValue>⟧.contents
+        ⟦<BasicConstraints<'a> as ReadValue>⟧.allocates
+        ⟦<BasicConstraints<'a> as DecodeValue<SliceReader<'a>>>⟧.decode_value_answers) (id_ce 19))
+        extensions.now) result constraints.old constraints.new }
+{
+    match find_known::<ext::BasicConstraints>(alloc, extensions) {
+        Ok(found) => match constraints_of(&found) {
+            Some(value) => {
+                *constraints = value;
+                DerError::NONE
+            }
+            None => c_error(Tag::Integer.value_error().to_error()),
+        },
+        Err(error) => error,
+    }
+}

@@ -1,0 +1,91 @@
+//! What a key may be used for.
+ghost use Rattle.std.specs.Prelude.{◌≡◌, ◌<◌, ◌^◌};
+ghost use Rattle.der_asn1.specs.NamedBits.{has_bit};
+ghost use Rattle.x509.specs.ExtensionChecks.{id_ce};
+ghost use Rattle.x509.specs.Find.{FindsExtension, WholeRead};
+ghost use Rattle.der_c_x509.specs.FindCalls.{FindsIn, ReadsKnown, RefusesList};
+ghost use Rattle.der_c_x509.specs.Known.{IsKeyUsageOf, first_bits};
+
+use crate::find::find_known;
+use der::{Decode, DecodeValue, FixedTag, ReadValue, SliceReader, WrittenValue};
+use der_asn1::{Item, NamedBitsRef};
+use der_c_core::DerError;
+use std::alloc::Global;
+use x509::{Extension, Known, ext};
+
+/// The extension keyUsage (RFC 5280, 4.2.1.3).
+#[repr(C)]
+#[derive(Clone, Copy)]
+pub struct DerKeyUsage {
+    /// The bits 0 to 15: bit n as `1 << n`. The RFC gives the bits 0 to 8 a meaning, from
+    /// digitalSignature (`1 << 0`) to decipherOnly (`1 << 8`). 0 if the extension is absent.
+    pub bits: u16,
+    /// Whether the certificate has the extension.
+    pub present: bool,
+    /// Whether the extension is critical; false if it is absent.
+    pub critical: bool,
+}
+
+impl DerKeyUsage {
+    /// No such extension.
+    pub const EMPTY: DerKeyUsage = DerKeyUsage {
+        bits: 0,
+        present: false,
+        critical: false,
+    };
+}
+
+// The bits 0 to 15 as a number.
+fn bits_of_usage(usage: &NamedBitsRef<'_>) -> u16
+    ensures { result ≡ first_bits 16 usage.now.octets.now }
+{
+    let mut bits: u16 = 0;
+    for n in 0..16u32 {
+        if usage.has_bit(n) {
+            bits += 1 << n;
+        }
+    }
+    bits
+}
+
+// The extension as a struct of C.
+fn key_usage_of<'a>(found: &Option<Known<NamedBitsRef<'a>>>) -> DerKeyUsage
+    ensures { IsKeyUsageOf (λ v. v.octets.now) found.now result }
+{
+    match found {
+        Some(known) => DerKeyUsage {
+            bits: bits_of_usage(&known.value),
+            present: true,
+            critical: known.critical,
+        },
+        None => DerKeyUsage::EMPTY,
+    }
+}
+
+/// Finds keyUsage in the contents of a list of extensions, and reads it into `usage`. It is not an
+/// error if the extension is absent.
+///
+/// A call that fails leaves `usage` unchanged. Fails with:
+///
+/// - the error of the first extension of the list that cannot be decoded; there is none in the
+///   contents that `der_certificate_read` returns;
+/// - `SetDuplicate` without a position, if the list has the extension more than once;
+/// - the error of decoding the value of the extension, whose position counts from the start of this
+///   value.
+pub fn der_key_usage<'a>(alloc: Global, extensions: &'a [u8], usage: &mut DerKeyUsage) -> DerError
+    ensures { ReadsKnown (FindsIn
+        (RefusesList ⟦<Extension<'a> as Decode<SliceReader<'a>>>⟧.decode_answers)
+        (FindsExtension ⟦<Extension<'a> as Item>⟧.item.valid ⟦<Extension<'a> as Item>⟧.item.octets
+        (WholeRead ⟦<NamedBitsRef<'a> as FixedTag>⟧.tag_is ⟦<NamedBitsRef<'a> as ReadValue>⟧.valid
+        ⟦<NamedBitsRef<'a> as WrittenValue>⟧.contents ⟦<NamedBitsRef<'a> as ReadValue>⟧.allocates
+        ⟦<NamedBitsRef<'a> as DecodeValue<SliceReader<'a>>>⟧.decode_value_answers) (id_ce 15))
+        extensions.now) (IsKeyUsageOf (λ v. v.octets.now)) result usage.old usage.new }
+{
+    match find_known::<ext::KeyUsage>(alloc, extensions) {
+        Ok(found) => {
+            *usage = key_usage_of(&found);
+            DerError::NONE
+        }
+        Err(error) => error,
+    }
+}

@@ -1,0 +1,41 @@
+//! Certificates, requests, keys and revocation lists as structs of C. The crate `der_c` exports the
+//! calls.
+//!
+//! Nothing is validated: no signature, no chain of certificates, no time. No function allocates.
+#![tactic(auto)]
+
+mod algorithm;
+mod any;
+mod attribute;
+mod basic_constraints;
+mod certificate;
+mod extension;
+mod find;
+mod general_name;
+mod key_usage;
+mod next;
+mod private_key;
+mod public_key;
+mod request;
+mod revocation_list;
+mod revoked;
+mod shapes;
+mod signed;
+mod strings;
+mod subject_names;
+mod time;
+
+pub use algorithm::DerAlgorithm;
+pub use any::DerAny;
+pub use attribute::{DerAttribute, der_next_attribute};
+pub use basic_constraints::{DerBasicConstraints, der_basic_constraints};
+pub use certificate::{DerCertificate, der_certificate_read};
+pub use extension::{DerExtension, der_next_extension};
+pub use general_name::{DerGeneralName, der_next_general_name};
+pub use key_usage::{DerKeyUsage, der_key_usage};
+pub use private_key::{DerPrivateKey, der_private_key_read};
+pub use public_key::{DerPublicKey, der_public_key_read};
+pub use request::{DerRequest, der_request_read};
+pub use revocation_list::{DerRevocationList, der_crl_read};
+pub use revoked::{DerRevoked, der_next_revoked};
+pub use subject_names::{DerGeneralNames, der_subject_alternative_name};

@@ -1,0 +1,116 @@
+//! Certification requests.
+ghost use Rattle.std.specs.Prelude.{◌≡◌, ◌<◌, ◌^◌, false, length};
+ghost use Rattle.der.specs.Prelude.{element_octets};
+ghost use Rattle.x509.specs.Find.{WholeRead};
+ghost use Rattle.der_c_x509.specs.Calls.{ReadsWhole};
+ghost use Rattle.der_c_x509.specs.Request.{IsRequestOf};
+
+use crate::algorithm::{DerAlgorithm, algorithm_of};
+use crate::public_key::{DerPublicKey, public_key_of};
+use crate::signed::{field_between, signed_part_of};
+use crate::strings::bits_of;
+use der::{
+    DecodeValue, Encode, EncodeRef, FixedTag, ReadValue, SliceReader, WrittenValue, field_refs,
+};
+use der_asn1::lawful_from_der;
+use der_c_core::{DerBits, DerError, DerSpan, c_error};
+use spki::SubjectPublicKeyInfoRef;
+use std::alloc::Global;
+use x509::{CertReq, CertReqInfo};
+
+/// A certification request (PKCS #10; RFC 2986, 4). All octets are borrowed from the input. The
+/// version of a request is always 1.
+#[repr(C)]
+#[derive(Clone, Copy)]
+pub struct DerRequest<'a> {
+    /// The octets that the signature covers: the whole element CertificationRequestInfo, with its
+    /// header.
+    pub signed_part: DerSpan<'a>,
+    /// The contents octets of the Name of the subject.
+    pub subject: DerSpan<'a>,
+    /// The public key of the subject.
+    pub public_key: DerPublicKey<'a>,
+    /// The contents octets of the SET OF attributes. The values of each attribute are not checked.
+    pub attributes: DerSpan<'a>,
+    /// The algorithm of `signature`.
+    pub signature_algorithm: DerAlgorithm<'a>,
+    /// The signature of the signed part. It is not verified.
+    pub signature: DerBits<'a>,
+}
+
+impl DerRequest<'_> {
+    /// No request.
+    pub const EMPTY: DerRequest<'static> = DerRequest {
+        signed_part: DerSpan::EMPTY,
+        subject: DerSpan::EMPTY,
+        public_key: DerPublicKey::EMPTY,
+        attributes: DerSpan::EMPTY,
+        signature_algorithm: DerAlgorithm::EMPTY,
+        signature: DerBits::EMPTY,
+    };
+}
+
+// A request as a struct of C. `octets` are its encoding.
+fn request_of<'a>(octets: &'a [u8], value: &CertReq<'a>) -> DerRequest<'a>
+    requires short { length octets.now < 2 ^ 32 }
+    requires valid { ⟦<CertReq<'a> as ReadValue>⟧.valid value.now }
+    requires whole { octets.now ≡ element_octets ⟦<CertReq<'a> as FixedTag>⟧.tag_is
+        (⟦<CertReq<'a> as WrittenValue>⟧.contents value.now) }
+    ensures { IsRequestOf ⟦<CertReqInfo<'a> as Encode>⟧.encoding
+        ⟦<SubjectPublicKeyInfoRef<'a> as Encode>⟧.encoding value.now result }
+{
+    let signed = &value.info;
+    let rest = field_refs!(value, (algorithm, signature));
+    let signed_part = signed_part_of(octets, signed, &rest);
+    let key = &signed.public_key;
+    let key_octets = field_between(
+        signed_part.octets,
+        &field_refs!(signed, (version, subject)),
+        key,
+        &EncodeRef(&signed.attributes),
+    );
+    DerRequest {
+        signed_part,
+        subject: DerSpan {
+            octets: signed.subject.levels.octets(),
+        },
+        public_key: public_key_of(key_octets.octets, key),
+        attributes: DerSpan {
+            octets: signed.attributes.0.octets(),
+        },
+        signature_algorithm: algorithm_of(&value.algorithm),
+        signature: bits_of(&value.signature),
+    }
+}
+
+/// Reads a certification request into `request`. `octets` must be the DER encoding of one request
+/// (RFC 2986, 4).
+///
+/// A call that fails leaves `request` unchanged. Fails with:
+///
+/// - `Overflow` without a position, if there are more than 4294967295 octets;
+/// - the error of the first octets that are not those of a request; its position, if it
+///   has one, counts from the start of `octets`;
+/// - `TrailingData`, if octets follow the request.
+///
+/// The errors are exactly those of `x509::CertReq::from_der`.
+pub fn der_request_read<'a>(
+    alloc: Global,
+    octets: &'a [u8],
+    request: &mut DerRequest<'a>,
+) -> DerError
+    ensures { ReadsWhole (WholeRead ⟦<CertReq<'a> as FixedTag>⟧.tag_is
+        ⟦<CertReq<'a> as ReadValue>⟧.valid ⟦<CertReq<'a> as WrittenValue>⟧.contents false
+        ⟦<CertReq<'a> as DecodeValue<SliceReader<'a>>>⟧.decode_value_answers)
+        (IsRequestOf ⟦<CertReqInfo<'a> as Encode>⟧.encoding
+        ⟦<SubjectPublicKeyInfoRef<'a> as Encode>⟧.encoding) octets.now result request.old
+        request.new }
+{
+    match lawful_from_der::<CertReq<'a>>(alloc, octets) {
+        Ok(value) => {
+            *request = request_of(octets, &value);
+            DerError::NONE
+        }
+        Err(error) => c_error(error),
+    }
+}

@@ -1,0 +1,71 @@
+//! The sizes and alignments that `bindings/c/der.h` promises to programs in C.
+use crate::algorithm::DerAlgorithm;
+use crate::any::DerAny;
+use crate::attribute::DerAttribute;
+use crate::basic_constraints::DerBasicConstraints;
+use crate::certificate::DerCertificate;
+use crate::extension::DerExtension;
+use crate::general_name::DerGeneralName;
+use crate::key_usage::DerKeyUsage;
+use crate::private_key::DerPrivateKey;
+use crate::public_key::DerPublicKey;
+use crate::request::DerRequest;
+use crate::revocation_list::DerRevocationList;
+use crate::revoked::DerRevoked;
+use crate::subject_names::DerGeneralNames;
+
+const _: () = prove!(size_of::<DerAny<'static>>() == 24);
+
+const _: () = prove!(align_of::<DerAny<'static>>() == 8);
+
+const _: () = prove!(size_of::<DerAlgorithm<'static>>() == 40);
+
+const _: () = prove!(align_of::<DerAlgorithm<'static>>() == 8);
+
+const _: () = prove!(size_of::<DerPublicKey<'static>>() == 80);
+
+const _: () = prove!(align_of::<DerPublicKey<'static>>() == 8);
+
+const _: () = prove!(size_of::<DerCertificate<'static>>() == 336);
+
+const _: () = prove!(align_of::<DerCertificate<'static>>() == 8);
+
+const _: () = prove!(size_of::<DerExtension<'static>>() == 40);
+
+const _: () = prove!(align_of::<DerExtension<'static>>() == 8);
+
+const _: () = prove!(size_of::<DerAttribute<'static>>() == 40);
+
+const _: () = prove!(align_of::<DerAttribute<'static>>() == 8);
+
+const _: () = prove!(size_of::<DerGeneralName<'static>>() == 64);
+
+const _: () = prove!(align_of::<DerGeneralName<'static>>() == 8);
+
+const _: () = prove!(size_of::<DerKeyUsage>() == 4);
+
+const _: () = prove!(align_of::<DerKeyUsage>() == 2);
+
+const _: () = prove!(size_of::<DerGeneralNames<'static>>() == 24);
+
+const _: () = prove!(align_of::<DerGeneralNames<'static>>() == 8);
+
+const _: () = prove!(size_of::<DerBasicConstraints>() == 16);
+
+const _: () = prove!(align_of::<DerBasicConstraints>() == 8);
+
+const _: () = prove!(size_of::<DerRequest<'static>>() == 192);
+
+const _: () = prove!(align_of::<DerRequest<'static>>() == 8);
+
+const _: () = prove!(size_of::<DerPrivateKey<'static>>() == 104);
+
+const _: () = prove!(align_of::<DerPrivateKey<'static>>() == 8);
+
+const _: () = prove!(size_of::<DerRevocationList<'static>>() == 192);
+
+const _: () = prove!(align_of::<DerRevocationList<'static>>() == 8);
+
+const _: () = prove!(size_of::<DerRevoked<'static>>() == 48);
+
+const _: () = prove!(align_of::<DerRevoked<'static>>() == 8);

@@ -1,0 +1,111 @@
+//! The part of a certificate, a request or a revocation list that its signature covers.
+ghost use Rattle.std.specs.Prelude.{◌≡◌, ◌<◌, ◌^◌, ◌++◌, ℕ, List, length};
+ghost use Rattle.der.specs.Prelude.{Sequence, element_octets, header_octets};
+
+use der::{Encode, EncodeRef};
+use der_c_core::DerSpan;
+
+// The octets of the signed part. `octets` are a SEQUENCE that begins with it; `rest` are the other
+// fields.
+pub(crate) fn signed_part_of<'a, T: Encode, U: Encode>(
+    octets: &'a [u8],
+    _signed: &T,
+    rest: &U,
+) -> DerSpan<'a>
+    requires whole { octets.now
+        ≡ element_octets Sequence (T.encoding _signed.now ++ U.encoding rest.now) }
+    requires short { length octets.now < 2 ^ 32 }
+    requires rest { U.encodable rest.now }
+    ensures { result.octets.now ≡ T.encoding _signed.now }
+{
+    let start = header_count(octets);
+    let end = octets.len() - count_of(rest);
+    DerSpan {
+        octets: &octets[start..end],
+    }
+}
+
+// The octets of a field of a SEQUENCE: `value`, with the fields `first` in front of it, and `rest`
+// behind it.
+pub(crate) fn field_between<'a, F: Encode, T: Encode, U: Encode>(
+    octets: &'a [u8],
+    _first: &F,
+    value: &T,
+    rest: &U,
+) -> DerSpan<'a>
+    requires whole { octets.now ≡ element_octets Sequence
+        (F.encoding _first.now ++ (T.encoding value.now ++ U.encoding rest.now)) }
+    requires short { length octets.now < 2 ^ 32 }
+    requires value { T.encodable value.now }
+    requires rest { U.encodable rest.now }
+    ensures { result.octets.now ≡ T.encoding value.now }
+{
+    part_before(octets, value, rest)
+}
+
+// The octets of a field of a SEQUENCE: `value`, with the fields `first` and `second` in front of
+// it, and `third` and `rest` behind it. The fields in the middle are encoded in two pairs.
+pub(crate) fn field_in_middle<'a, F: Encode, S: Encode, T: Encode, V: Encode, U: Encode>(
+    octets: &'a [u8],
+    _first: &F,
+    _second: &S,
+    value: &T,
+    third: &V,
+    rest: &U,
+) -> DerSpan<'a>
+    requires whole { octets.now ≡ element_octets Sequence (F.encoding _first.now
+        ++ ((S.encoding _second.now ++ (T.encoding value.now ++ V.encoding third.now))
+        ++ U.encoding rest.now)) }
+    requires short { length octets.now < 2 ^ 32 }
+    requires value { T.encodable value.now }
+    requires third { V.encodable third.now }
+    requires rest { U.encodable rest.now }
+    ensures { result.octets.now ≡ T.encoding value.now }
+{
+    part_before(octets, value, &(EncodeRef(third), EncodeRef(rest)))
+}
+
+// The octets of a value in front of `rest`, with which `octets` end.
+fn part_before<'a, T: Encode, U: Encode>(octets: &'a [u8], value: &T, rest: &U) -> DerSpan<'a>
+    requires ends { (front : List ℕ)
+        × (octets.now ≡ front ++ (T.encoding value.now ++ U.encoding rest.now)) }
+    requires short { length octets.now < 2 ^ 32 }
+    requires value { T.encodable value.now }
+    requires rest { U.encodable rest.now }
+    ensures { result.octets.now ≡ T.encoding value.now }
+{
+    let count = count_of(value);
+    let end = octets.len() - count_of(rest);
+    DerSpan {
+        octets: &octets[end - count..end],
+    }
+}
+
+// The number of octets of the header with which the encoding of a SEQUENCE begins.
+fn header_count(octets: &[u8]) -> usize
+    ensures { (n : ℕ) (more : List ℕ) → octets.now ≡ header_octets Sequence n ++ more
+        → result ≡ length (header_octets Sequence n) }
+{
+    match octets {
+        [_, length, ..] => {
+            if *length < 0x80 {
+                2
+            } else {
+                2 + (*length - 0x80) as usize
+            }
+        }
+        _ => 0,
+    }
+}
+
+// The number of octets of the encoding of a value.
+fn count_of<T: Encode>(value: &T) -> usize
+    requires encodable { T.encodable value.now }
+    requires short { length (T.encoding value.now) < 2 ^ 32 }
+    ensures { result ≡ length (T.encoding value.now) }
+{
+    match value.encoded_len() {
+        Ok(length) => u32::from(length) as usize,
+        Err(_) => unreachable!(),
+    }
+}
