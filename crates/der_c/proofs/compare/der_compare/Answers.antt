@@ -1,6 +1,0 @@
-use Rattle.std.proofs.Common.{refl}
-use Rattle.der_c.specs.CompareCall.{refused}
-use Rattle.der_c.proofs.compare.der_compare.Goals as goal
-
-pub returns-in-Err : goal.returns-in-Err
-returns-in-Err c = refused c.in-Err.error c.in-Err.ensures.refused c.c_error.ensures refl

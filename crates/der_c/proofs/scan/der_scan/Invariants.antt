@@ -1,4 +1,0 @@
-use Rattle.der_c.proofs.scan.der_scan.Given as goal
-
-abbrev pub ghosts-scan_counted : goal.ghosts-scan_counted
-ghosts-scan_counted a = record { name = a.blank.name; parts = a.blank.parts }

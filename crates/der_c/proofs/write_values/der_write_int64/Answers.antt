@@ -1,0 +1,6 @@
+use Rattle.std.proofs.Common.{rules, w64}
+use Rattle.std.proofs.lemmas.Int.{to_z-of_z}
+use Rattle.der_c.proofs.write_values.der_write_int64.Goals as goal
+
+pub returns-clause-writes : goal.returns-clause-writes
+returns-clause-writes c = rw (to_z-of_z w64 c.args.value (search rules)) at c.der_write_int64.ensures.writes

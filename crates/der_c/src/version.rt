@@ -1,0 +1,11 @@
+//! The version of the library.
+ghost use Rattle.std.specs.Prelude.{◌≡◌};
+
+/// Returns the version: 10000 times the major number, plus 100 times the minor number, plus the
+/// patch number. It is `DER_VERSION` of the header that belongs to this library.
+#[unsafe(no_mangle)]
+pub extern "C" fn der_version() -> u32
+    ensures { result ≡ 200 }
+{
+    200
+}

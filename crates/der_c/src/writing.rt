@@ -1,0 +1,145 @@
+//! Writing, for C.
+ghost use Rattle.std.specs.Prelude.{◌≡◌, length};
+ghost use Rattle.der_core.specs.Writer.{fresh_state, failed_state};
+ghost use Rattle.der_c_core.specs.CWriter.{writer_state, KeepsOpen};
+ghost use Rattle.der_c_core.specs.WriterCalls.{WritesOctets, WritesHeader, WritesElement, Measures};
+ghost use Rattle.der_c_core.specs.Part.{BeginsElement, EndsElement, FinishesWriting};
+
+use der_c_core::{DerError, DerMark, DerWriter};
+
+/// Makes `writer` a writer into `octets`, from their start. `writer` writes at most 4294967295
+/// octets, even if there are more `octets`.
+#[unsafe(no_mangle)]
+pub extern "C" fn der_writer_init<'a>(octets: &'a mut [u8], writer: &mut DerWriter<'a>)
+    ensures fresh { writer_state writer.new ≡ fresh_state octets.old octets.entry.ghost_name }
+    ensures none_open { writer.new.innermost ≡ 0 }
+{
+    der_c_core::der_writer_init(octets, writer)
+}
+
+/// How many octets `writer` has written.
+#[unsafe(no_mangle)]
+pub extern "C" fn der_written(writer: &DerWriter<'_>) -> usize
+    ensures { result ≡ length (writer_state writer.now).octets }
+{
+    der_c_core::der_written(writer)
+}
+
+/// Succeeds if `writer` has not failed and no element is open.
+///
+/// The position of each error is that of `writer`, the number of octets written. Fails with:
+///
+/// - `Failed`, if `writer` has failed;
+/// - kind 23, if an element was begun and not ended.
+#[unsafe(no_mangle)]
+pub extern "C" fn der_writer_finish(writer: &DerWriter<'_>) -> DerError
+    ensures { FinishesWriting writer.now result }
+{
+    der_c_core::der_writer_finish(writer)
+}
+
+/// Makes `writer` fail: every later call on it fails with `Failed`. The octets written remain.
+#[unsafe(no_mangle)]
+pub extern "C" fn der_writer_fail(writer: &mut DerWriter<'_>)
+    ensures fails { writer_state writer.new ≡ failed_state (writer_state writer.old) }
+    ensures keeps_open { KeepsOpen writer.old writer.new }
+{
+    der_c_core::der_writer_fail(writer)
+}
+
+/// Writes `octets` unchanged.
+///
+/// A call that fails writes nothing, and `writer` has failed after it. Fails with `Failed`,
+/// `Overflow` and `Overlength`, as `der_core::Writer::write` does.
+#[unsafe(no_mangle)]
+pub extern "C" fn der_write(writer: &mut DerWriter<'_>, octets: &[u8]) -> DerError
+    ensures writes { WritesOctets octets.now (writer_state writer.old) result (writer_state writer.new) }
+    ensures keeps_open { KeepsOpen writer.old writer.new }
+{
+    der_c_core::der_write(writer, octets)
+}
+
+/// Writes the header of an element with the tag `tag` and `length` octets of contents.
+///
+/// After a call that fails, `writer` has failed. Such a call may have written the first octets of
+/// the header; they remain. Fails with:
+///
+/// - `TagNumberInvalid` without a position, if `tag` is not a valid tag word (the first octet of
+///   the identifier, plus 256 times the tag number if that is 31 or more) and `writer` has not
+///   failed;
+/// - the errors of [`der_write`].
+#[unsafe(no_mangle)]
+pub extern "C" fn der_write_header(writer: &mut DerWriter<'_>, tag: u64, length: u32) -> DerError
+    ensures writes { WritesHeader tag length (writer_state writer.old) result (writer_state writer.new) }
+    ensures keeps_open { KeepsOpen writer.old writer.new }
+{
+    der_c_core::der_write_header(writer, tag, length)
+}
+
+/// Writes an element: a header with the tag `tag`, a word as [`der_write_header`] takes it, and
+/// then `contents`.
+///
+/// After a call that fails, `writer` has failed. Such a call may have written the header or its
+/// first octets; they remain. Fails with:
+///
+/// - `Overflow` without a position, if there are more than 4294967295 octets of contents and `writer`
+///   has not failed;
+/// - the errors of [`der_write_header`] and [`der_write`].
+#[unsafe(no_mangle)]
+pub extern "C" fn der_write_element(
+    writer: &mut DerWriter<'_>,
+    tag: u64,
+    contents: &[u8],
+) -> DerError
+    ensures writes { WritesElement tag contents.now (writer_state writer.old) result
+        (writer_state writer.new) }
+    ensures keeps_open { KeepsOpen writer.old writer.new }
+{
+    der_c_core::der_write_element(writer, tag, contents)
+}
+
+/// Sets `count` to the number of octets of a whole element, header and contents, with the tag `tag`
+/// and `length` octets of contents.
+///
+/// A call that fails leaves `count` unchanged. Fails with:
+///
+/// - `TagNumberInvalid` without a position, if `tag` is not a valid tag word (the first octet of
+///   the identifier, plus 256 times the tag number if that is 31 or more);
+/// - `Overflow` without a position, if the element has more than 4294967295 octets.
+#[unsafe(no_mangle)]
+pub extern "C" fn der_element_length(tag: u64, length: u32, count: &mut u32) -> DerError
+    ensures { Measures tag length result count.old count.new }
+{
+    der_c_core::der_element_length(tag, length, count)
+}
+
+/// Begins an element with the tag `tag`: writes its header, with one octet reserved for the length,
+/// and sets `mark` to where its contents begin. All octets that are written after this call and
+/// before [`der_end`] are its contents.
+///
+/// A call that fails leaves `mark` unchanged, and `writer` has failed after it. Fails with
+/// `TagNumberInvalid`, `Failed`, `Overflow` and `Overlength`, as
+/// [`der_write_header`] does.
+#[unsafe(no_mangle)]
+pub extern "C" fn der_begin(writer: &mut DerWriter<'_>, tag: u64, mark: &mut DerMark) -> DerError
+    ensures { BeginsElement tag writer.old result mark.old mark.new writer.new }
+{
+    der_c_core::der_begin(writer, tag, mark)
+}
+
+/// Ends the element that `mark` marks, which must be the innermost open element. Writes the length
+/// of the contents into the octet just before them. If the contents have 128 octets or more, their
+/// length needs more octets, and the contents are moved to make space.
+///
+/// A call that fails moves and writes nothing, and `writer` has failed after it. Fails with:
+///
+/// - `Failed` at the position of `writer`, if `writer` had already failed;
+/// - kind 23 at the position of `writer`, if the element is not the innermost open element;
+/// - `Overlength` or `Overflow`, as by [`der_write`], if the length needs more
+///   octets and there is no space for them.
+#[unsafe(no_mangle)]
+pub extern "C" fn der_end(writer: &mut DerWriter<'_>, mark: &DerMark) -> DerError
+    ensures { EndsElement mark.now writer.old result writer.new }
+{
+    der_c_core::der_end(writer, mark)
+}
