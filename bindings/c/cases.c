@@ -1,9 +1,9 @@
 /* Prints what the program der_tool prints, using the C library:
  * cases head|tlv [--ber] HEX, or order HEX HEX. */
-#include <der.h>
 #include <stdio.h>
 #include <stdlib.h>
 #include <string.h>
+#include <yotremul/der.h>
 
 static size_t octets_of(const char *hex, uint8_t *octets)
 {
@@ -42,8 +42,8 @@ static void print_tag(der_tag tag)
 
 static int head(const uint8_t *octets, size_t count, bool ber)
 {
-    der_reader reader = DER_READER;
-    der_header header = DER_HEADER;
+    der_reader reader = DER_READER_INIT;
+    der_header header = DER_HEADER_INIT;
     der_error error = der_reader_init(octets, count, ber, &reader);
     if (!error.kind)
         error = der_read_header(&reader, &header);
@@ -60,8 +60,8 @@ static int head(const uint8_t *octets, size_t count, bool ber)
 
 static int tlv(const uint8_t *octets, size_t count, bool ber)
 {
-    der_reader reader = DER_READER;
-    der_header header = DER_HEADER;
+    der_reader reader = DER_READER_INIT;
+    der_header header = DER_HEADER_INIT;
     der_error error = der_reader_init(octets, count, ber, &reader);
     if (!error.kind)
         error = der_read_header(&reader, &header);

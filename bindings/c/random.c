@@ -1,16 +1,12 @@
 /* Reads random octets with the library and with an independent parser, written from X.690 alone,
  * and stops at the first difference: random COUNT. What is read is also written again, and read as
  * a tree. */
-#include <der.h>
 #include <stdio.h>
 #include <stdlib.h>
 #include <string.h>
+#include <yotremul/der.h>
 
-typedef struct {
-    der_error error;
-    der_tag tag;
-    uint32_t head, length;
-} answer;
+#include "oracle.h"
 
 static uint64_t state = 0x9E3779B97F4A7C15;
 
@@ -22,77 +18,6 @@ static uint32_t draw(uint32_t below)
     return (uint32_t)(state >> 32) % below;
 }
 
-static answer refuse(uint8_t kind, uint32_t position)
-{
-    answer it = {{kind, true, 0, 0, position, 0, 0}, 0, 0, 0};
-    return it;
-}
-
-static answer cut(uint64_t expected, uint32_t count, uint32_t position)
-{
-    answer it = refuse(DER_INCOMPLETE, position);
-    it.error.first = (uint32_t)expected;
-    it.error.second = count;
-    if (expected > UINT32_MAX)
-        it.error = (der_error){DER_OVERFLOW, false, 0, 0, 0, 0, 0};
-    return it;
-}
-
-/* the first element of the octets under DER, by the independent parser */
-static answer by_hand(const uint8_t *octets, uint32_t count)
-{
-    static const char universal[] = "\1\2\3\4\5\6\11\12\14\15\22\23\24\25\26\27\30\32\33\36\60\61";
-    uint64_t number = 0, length = 0, least;
-    uint32_t at = 1, k;
-    if (count == 0)
-        return cut(1, 0, 0);
-    if (octets[0] < 64 && (octets[0] == 0 || !strchr(universal, octets[0]))) {
-        answer it = refuse(octets[0] == 31 ? DER_TAG_NUMBER_INVALID : DER_TAG_UNKNOWN, 1);
-        it.error.first = octets[0] == 31 ? 0 : octets[0];
-        return it;
-    }
-    if (octets[0] % 32 == 31) {
-        for (;;) {
-            if (at == count)
-                return cut((uint64_t)count + 1, count, count);
-            number = number * 128 + octets[at] % 128;
-            /* the smallest number that continues so, and the only one that ends so */
-            if (octets[at] < 128 ? number < 31 || number > UINT32_MAX : number == 0 || number * 128 > UINT32_MAX)
-                return refuse(DER_TAG_NUMBER_INVALID, at + 1);
-            if (octets[at++] < 128)
-                break;
-        }
-    }
-    if (at == count)
-        return cut((uint64_t)count + 1, count, count);
-    answer wrong = refuse(DER_LENGTH, at + 1);
-    wrong.error.actual = octets[0];
-    wrong.error.second = (uint32_t)number;
-    k = octets[at++];
-    if (k == 128)
-        return refuse(DER_INDEFINITE_LENGTH, at);
-    if (k > 132)
-        return wrong;
-    if (k < 128) {
-        length = k;
-    } else {
-        k -= 128;
-        least = k == 1 ? 128 : (uint64_t)1 << 8 * (k - 1);
-        for (; k; k--) {
-            if (at == count)
-                return cut((uint64_t)count + 1, count, count);
-            length = length * 256 + octets[at++];
-        }
-        wrong.error.position = at;
-        if (length < least)
-            return wrong;
-    }
-    if (at + length > count)
-        return cut(at + length, count, at);
-    answer it = {{0, false, 0, 0, 0, 0, 0}, octets[0] + 256 * number, at, (uint32_t)length};
-    return it;
-}
-
 static void stop(const char *why, const uint8_t *octets, uint32_t count)
 {
     fprintf(stderr, "random: %s:", why);
@@ -102,11 +27,19 @@ static void stop(const char *why, const uint8_t *octets, uint32_t count)
     exit(1);
 }
 
+static der_reader reader_of(const uint8_t *octets, uint32_t count, bool ber)
+{
+    der_reader reader = DER_READER_INIT;
+    if (der_reader_init(octets, count, ber, &reader).kind)
+        stop("a reader", octets, count);
+    return reader;
+}
+
 static size_t walk(der_reader *reader, int depth, der_node *nodes, size_t at, bool *is_refused)
 {
     while (!*is_refused && !der_is_finished(reader)) {
-        der_element element = DER_ELEMENT;
-        der_reader inside = DER_READER;
+        der_element element = DER_ELEMENT_INIT;
+        der_reader inside = DER_READER_INIT;
         if (der_read_element(reader, &element).kind) {
             *is_refused = true;
             break;
@@ -133,20 +66,17 @@ static bool is_same(const der_node *a, const der_node *b)
 static void see_tree(const uint8_t *octets, uint32_t count, bool ber)
 {
     static der_node nodes[128], others[128];
-    der_reader reader = DER_READER, copy = DER_READER;
+    der_reader reader = reader_of(octets, count, ber), copy = reader;
     size_t number = 0;
     bool is_refused = false;
-    der_reader_init(octets, count, ber, &reader);
-    der_reader_init(octets, count, ber, &copy);
     der_error error = der_read_tree(&reader, nodes, 128, &number);
     size_t wanted = walk(&copy, 0, others, 0, &is_refused);
     if ((error.kind != 0) != is_refused || number != wanted)
         stop("a tree", octets, count);
     /* space for exactly that number of nodes, and for one less */
     for (size_t capacity = number; !is_refused && capacity + 1 >= number && capacity <= number; capacity--) {
-        der_reader again = DER_READER;
+        der_reader again = reader_of(octets, count, ber);
         size_t reported = 0;
-        der_reader_init(octets, count, ber, &again);
         error = der_read_tree(&again, others + 64, capacity, &reported);
         if (error.kind != (capacity < number ? DER_OVERLENGTH : 0) || reported != capacity ||
             der_finish(&again).kind != (capacity < number ? DER_FAILED : 0))
@@ -162,15 +92,15 @@ static void see_tree(const uint8_t *octets, uint32_t count, bool ber)
 static void see_parts(der_tag tag, uint32_t length, uint32_t capacity)
 {
     static uint8_t written[1100], wanted[1100], contents[1024];
-    der_writer writer = DER_WRITER, other = DER_WRITER;
-    size_t outer = 0, inner = 0;
+    der_writer writer = DER_WRITER_INIT, other = DER_WRITER_INIT;
+    der_mark outer = DER_MARK_INIT, inner = DER_MARK_INIT;
     uint32_t inside = 0, whole = 0;
     for (uint32_t i = 0; i < length; i++)
         contents[i] = (uint8_t)draw(256);
     memset(written, 0xEE, sizeof written);
     memset(wanted, 0xEE, sizeof wanted);
-    der_element_length(tag, length, &inside);
-    der_element_length(DER_SEQUENCE, inside + 2, &whole);
+    if (der_element_length(tag, length, &inside).kind || der_element_length(DER_SEQUENCE, inside + 2, &whole).kind)
+        stop("a length", contents, length);
     der_writer_init(wanted, sizeof wanted, &other);
     der_write_header(&other, DER_SEQUENCE, inside + 2);
     der_write_element(&other, tag, contents, length);
@@ -179,24 +109,22 @@ static void see_parts(der_tag tag, uint32_t length, uint32_t capacity)
     der_begin(&writer, DER_SEQUENCE, &outer);
     der_begin(&writer, tag, &inner);
     der_write(&writer, contents, length);
-    der_end(&writer, inner);
+    der_end(&writer, &inner);
     der_write_element(&writer, DER_NULL, NULL, 0);
-    der_end(&writer, outer);
+    der_end(&writer, &outer);
     bool is_refused = der_writer_finish(&writer).kind != 0;
     if (is_refused != (capacity < whole) || (!is_refused && (der_written(&writer) != whole || memcmp(written, wanted, whole))))
         stop("an element with another inside", contents, length);
     for (uint32_t i = capacity; i < sizeof written; i++)
         if (written[i] != 0xEE)
             stop("an octet after the buffer", contents, length);
-    if (!is_refused && (der_end(&writer, 0).kind != DER_OVERLENGTH || der_end(&writer, 1).kind != DER_FAILED))
-        stop("an end without a begin", contents, length);
 }
 
 /* the function that docs/BINDINGS.md shows */
-static bool join(const der_reader *reader, const der_element *string, uint8_t *out, size_t capacity, size_t *count)
+static bool join(der_reader *reader, const der_element *string, uint8_t *out, size_t capacity, size_t *count)
 {
-    der_reader inside = DER_READER;
-    der_element segment = DER_ELEMENT;
+    der_reader inside = DER_READER_INIT;
+    der_element segment = DER_ELEMENT_INIT;
     if (!string->constructed) {
         if (string->length > capacity - *count)
             return false;
@@ -219,10 +147,9 @@ static void see_segments(void)
     static const uint8_t wanted[] = {0xAA, 0xBB, 0xCC, 0xDD};
     uint8_t out[4];
     for (size_t capacity = 3; capacity <= 4; capacity++) {
-        der_reader reader = DER_READER;
-        der_element string = DER_ELEMENT;
+        der_reader reader = reader_of(octets, sizeof octets, true);
+        der_element string = DER_ELEMENT_INIT;
         size_t count = 0;
-        der_reader_init(octets, sizeof octets, true, &reader);
         if (der_expect(&reader, DER_OCTET_STRING, &string).kind || der_finish(&reader).kind ||
             join(&reader, &string, out, capacity, &count) != (capacity == 4))
             stop("segments", octets, sizeof octets);
@@ -231,22 +158,22 @@ static void see_segments(void)
     }
 }
 
-/* a text is truncated to its space; a tag that is none is left out; no error has the text "no
+/* a text is truncated to its space, with a zero octet after it; a tag that is none is left out; no error has the text "no
  * error" */
 static void see_texts(void)
 {
     static const char wanted[] = "unexpected ASN.1 DER tag: expected INTEGER, got NULL";
     static const char unknown[] = "unexpected ASN.1 DER tag: got NULL";
     static const uint8_t octets[] = {5, 0};
-    der_reader reader = DER_READER;
-    der_element element = DER_ELEMENT;
+    der_reader reader = reader_of(octets, sizeof octets, false);
+    der_element element = DER_ELEMENT_INIT;
     char text[160];
-    der_reader_init(octets, sizeof octets, false, &reader);
     der_error error = der_expect(&reader, DER_INTEGER, &element);
     for (size_t capacity = 0; capacity < sizeof text; capacity++) {
         memset(text, '#', sizeof text);
-        size_t count = der_error_text(error, text, capacity), whole = sizeof wanted - 1;
-        if (count != (capacity < whole ? capacity : whole) || memcmp(text, wanted, count) || text[count] != '#')
+        size_t count = der_error_text(error, text, capacity), space = capacity ? capacity - 1 : 0;
+        if (count != (space < sizeof wanted - 1 ? space : sizeof wanted - 1) || memcmp(text, wanted, count) ||
+            text[count] != (capacity ? 0 : '#') || text[count + 1] != '#')
             stop("a text", octets, sizeof octets);
     }
     /* 7 is not a tag */
@@ -269,11 +196,10 @@ int main(int argc, char **argv)
         uint32_t count = draw(24);
         for (uint32_t j = 0; j < count; j++)
             octets[j] = draw(3) ? often[draw(sizeof often)] : (uint8_t)draw(256);
-        der_reader reader = DER_READER;
-        der_element element = DER_ELEMENT;
-        der_reader_init(octets, count, false, &reader);
+        der_reader reader = reader_of(octets, count, false);
+        der_element element = DER_ELEMENT_INIT;
         der_error error = der_read_element(&reader, &element);
-        answer wanted = by_hand(octets, count);
+        answer wanted = by_hand(octets, 0, count, false);
         if (memcmp(&error, &wanted.error, sizeof error))
             stop("an error", octets, count);
         if (!error.kind) {
@@ -281,12 +207,11 @@ int main(int argc, char **argv)
             if (element.tag != wanted.tag || element.contents_start != wanted.head || element.length != wanted.length ||
                 element.contents != octets + wanted.head || element.constructed != octets[0] / 32 % 2)
                 stop("an element", octets, count);
-            der_writer writer = DER_WRITER;
+            der_writer writer = DER_WRITER_INIT;
             uint32_t whole = 0;
             der_writer_init(written, sizeof written, &writer);
             der_write_element(&writer, element.tag, element.contents, element.length);
-            der_element_length(element.tag, (uint32_t)element.length, &whole);
-            if (der_writer_finish(&writer).kind || der_written(&writer) != wanted.head + wanted.length ||
+            if (der_element_length(element.tag, (uint32_t)element.length, &whole).kind || der_writer_finish(&writer).kind || der_written(&writer) != wanted.head + wanted.length ||
                 whole != wanted.head + wanted.length || memcmp(written, octets, whole))
                 stop("an element that was written", octets, count);
         }

@@ -55,7 +55,7 @@ fn type_of(element: &Element) -> String {
 fn print_all(mut reader: Reader, depth: usize) -> Result<(), Error> {
     while !reader.is_finished() {
         let element = reader.read()?;
-        let (start, after) = element.positions();
+        let (start, after) = (element.start(), element.contents_start());
         let length = match element.is_indefinite() {
             true => "l=inf ".to_owned(),
             false => format!("l={:4}", element.contents().len()),

@@ -1,4 +1,4 @@
-use der_c::{ErrorKind, Reader, Tag, Writer, compare, element_length};
+use der_c::{Error, ErrorKind, Reader, Tag, Writer, compare, element_length};
 use std::cmp::Ordering;
 
 #[test]
@@ -188,7 +188,108 @@ fn elements_are_written_inside_others() {
     let mut buffer = [0; 8];
     let mut writer = Writer::new(&mut buffer);
     assert_eq!(
-        writer.inside(Tag(7), |_| Ok(())).unwrap_err().kind(),
+        writer.inside(Tag(7), |_| Ok::<_, Error>(())).unwrap_err().kind(),
         ErrorKind::TagNumberInvalid
     );
+}
+
+#[test]
+fn an_absent_element_changes_nothing() {
+    let mut reader = Reader::der(&[2, 1, 7]).unwrap();
+    assert_eq!(reader.optional(Tag::BOOLEAN).unwrap(), None);
+    assert_eq!(reader.position(), 0);
+    assert_eq!(reader.optional(Tag::INTEGER).unwrap().unwrap().contents(), [7]);
+    assert_eq!(reader.optional(Tag::INTEGER).unwrap(), None);
+    assert_eq!(reader.position(), 3);
+    reader.finish().unwrap();
+}
+
+#[test]
+fn an_error_makes_the_reader_fail() {
+    for octets in [&[0x30, 5, 2, 1, 7][..], &[4, 0x84, 255, 255, 255, 255, 2, 1, 7]] {
+        let mut reader = Reader::der(octets).unwrap();
+        let error = reader.enter(Tag(octets[0].into())).unwrap_err();
+        let mut other = Reader::der(octets).unwrap();
+        assert_eq!(other.expect(Tag(octets[0].into())).unwrap_err(), error);
+        assert_eq!(reader.expect(Tag::INTEGER).unwrap_err().kind(), ErrorKind::Failed);
+        assert_eq!(reader.finish().unwrap_err().kind(), ErrorKind::Failed);
+    }
+}
+
+#[test]
+fn whole_octets_of_an_element() {
+    let octets = [5, 0, 0x24, 0x80, 4, 1, 9, 0, 0, 5, 0];
+    let mut reader = Reader::ber(&octets).unwrap();
+    reader.skip().unwrap();
+    let string = reader.read().unwrap();
+    assert_eq!(reader.octets_of(&string).unwrap(), &octets[2..9]);
+    let other = [5, 0];
+    assert_eq!(
+        Reader::der(&other).unwrap().octets_of(&string).unwrap_err().kind(),
+        ErrorKind::Reader
+    );
+}
+
+#[derive(Debug, PartialEq)]
+enum Mine {
+    Refused(Error),
+    Mine,
+}
+
+impl From<Error> for Mine {
+    fn from(error: Error) -> Self {
+        Mine::Refused(error)
+    }
+}
+
+#[test]
+fn an_error_inside_makes_the_writer_fail() {
+    let mut buffer = [0; 16];
+    let mut writer = Writer::new(&mut buffer);
+    let answer = writer.inside(Tag::SEQUENCE, |inside| {
+        inside.element(Tag::NULL, &[])?;
+        Err(Mine::Mine)
+    });
+    assert_eq!(answer, Err(Mine::Mine));
+    assert_eq!(writer.finish().unwrap_err().kind(), ErrorKind::Failed);
+}
+
+#[test]
+fn a_buffer_need_not_be_initialised() {
+    let mut buffer = [core::mem::MaybeUninit::uninit(); 8];
+    let mut writer = Writer::uninit(&mut buffer);
+    writer
+        .inside(Tag::SEQUENCE, |inside| inside.element(Tag::INTEGER, &[7]))
+        .unwrap();
+    assert_eq!(writer.finish().unwrap(), [0x30, 3, 2, 1, 7]);
+}
+
+#[test]
+fn a_set_is_sorted() {
+    let mut buffer = [0; 32];
+    let mut writer = Writer::new(&mut buffer);
+    let mut elements: [&[u8]; 3] = [&[2, 1, 9], &[2, 2, 1, 0], &[2, 1, 3]];
+    writer.set_of(Tag::SET, &mut elements).unwrap();
+    assert_eq!(writer.finish().unwrap(), [0x31, 10, 2, 1, 3, 2, 1, 9, 2, 2, 1, 0]);
+}
+
+#[test]
+fn values_are_printed() {
+    assert_eq!(Tag::context(31, false).to_string(), "[31]");
+    assert_eq!(format!("{:?}", Tag::UTF8_STRING), "Tag(UTF8String)");
+    let element = Reader::der(&[4, 2, 0xAB, 1]).unwrap().read().unwrap();
+    assert_eq!(
+        format!("{element:?}"),
+        "Element { tag: Tag(OCTET STRING), start: 0, contents: ab01 }"
+    );
+}
+
+/// Readers, writers and errors go to other threads.
+#[test]
+fn threads() {
+    fn is_send<T: Send + Sync>() {}
+    is_send::<Reader>();
+    is_send::<Writer>();
+    is_send::<Error>();
+    is_send::<der_c::Certificate>();
 }

@@ -1,12 +1,12 @@
 /* Prints the elements of a file as `openssl asn1parse -inform DER` does, up to and including types.
  *
- *     cc example.c $(pkg-config --cflags --libs der_c) -o example
- *     ./example FILE [ber]
+ *     cc asn1parse.c $(pkg-config --cflags --libs der_c) -o asn1parse
+ *     ./asn1parse FILE [ber]
  */
-#include <der.h>
 #include <stdio.h>
 #include <stdlib.h>
 #include <string.h>
+#include <yotremul/der.h>
 
 static const char *const universal[32] = {
     "EOC", "BOOLEAN", "INTEGER", "BIT STRING", "OCTET STRING", "NULL", "OBJECT", "OBJECT DESCRIPTOR",
@@ -31,8 +31,8 @@ static void print_type(der_tag tag)
 static der_error print_all(der_reader *reader, int depth)
 {
     while (!der_is_finished(reader)) {
-        der_element element = DER_ELEMENT;
-        der_reader inside = DER_READER;
+        der_element element = DER_ELEMENT_INIT;
+        der_reader inside = DER_READER_INIT;
         der_error error = der_read_element(reader, &element);
         if (error.kind != DER_OK)
             return error;
@@ -83,7 +83,7 @@ int main(int argc, char **argv)
         perror(argv[1]);
         return 2;
     }
-    der_reader reader = DER_READER;
+    der_reader reader = DER_READER_INIT;
     der_error error = der_reader_init(octets, length, argc > 2 && strcmp(argv[2], "ber") == 0, &reader);
     if (error.kind == DER_OK)
         error = print_all(&reader, 0);

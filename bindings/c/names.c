@@ -1,0 +1,41 @@
+/* Prints the DNS names of a certificate, a line each. The certificate is read, and nothing about it
+ * is verified.
+ *
+ *     cc names.c $(pkg-config --cflags --libs der_c) -o names
+ *     ./names CERTIFICATE
+ */
+#include "files.h"
+
+/* A name comes from the certificate, so octets that are not printable are escaped. */
+static void print_name(der_span name)
+{
+    for (size_t i = 0; i < name.length; i++)
+        if (name.octets[i] > 32 && name.octets[i] < 127 && name.octets[i] != '\\')
+            putchar(name.octets[i]);
+        else
+            printf("\\%02X", name.octets[i]);
+    putchar('\n');
+}
+
+int main(int argc, char **argv)
+{
+    static uint8_t space[FILE_SPACE];
+    der_certificate certificate = DER_CERTIFICATE_INIT;
+    der_names found = DER_NAMES_INIT;
+    der_reader names = DER_READER_INIT;
+    if (argc != 2)
+        give_up("usage: names CERTIFICATE");
+    der_span file = read_file(argv[1], space);
+    must(der_certificate_read(file.octets, file.length, &certificate));
+    must(der_subject_alternative_name(certificate.extensions.octets, certificate.extensions.length, &found));
+    if (!found.present)
+        return 0;
+    must(der_reader_init(found.names.octets, found.names.length, false, &names));
+    while (!der_is_finished(&names)) {
+        der_general_name name = DER_GENERAL_NAME_INIT;
+        must(der_next_general_name(&names, &name));
+        if (name.kind == DER_DNS_NAME)
+            print_name(name.contents);
+    }
+    return 0;
+}

@@ -1,0 +1,140 @@
+//! Extensions.
+use crate::error::{Error, answer};
+use crate::name::GeneralNames;
+use crate::octets::Hex;
+use crate::oid::Oid;
+use crate::reader::Reader;
+use crate::sys::{self, RawConstraints, RawExtension, RawNames, RawUsage};
+use core::fmt;
+use core::iter::FusedIterator;
+
+/// An extension (RFC 5280, 4.2). Its value is not checked.
+#[derive(Clone, Copy, PartialEq, Eq)]
+pub struct Extension<'a> {
+    /// The type of the extension.
+    pub identifier: Oid<'a>,
+    /// The value: the contents of the OCTET STRING.
+    pub value: &'a [u8],
+    /// Whether an application that does not process the extension must reject the certificate.
+    pub critical: bool,
+}
+
+impl fmt::Debug for Extension<'_> {
+    fn fmt(&self, f: &mut fmt::Formatter<'_>) -> fmt::Result {
+        f.debug_struct("Extension")
+            .field("identifier", &self.identifier)
+            .field("value", &Hex(self.value))
+            .field("critical", &self.critical)
+            .finish()
+    }
+}
+
+/// What keyUsage says (RFC 5280, 4.2.1.3).
+#[derive(Clone, Copy, PartialEq, Eq, Debug)]
+pub struct KeyUsage {
+    /// Bit n of the extension as `1 << n`: digitalSignature is 1, keyCertSign is 32.
+    pub bits: u16,
+    /// Whether the extension is critical.
+    pub critical: bool,
+}
+
+/// What basicConstraints says (RFC 5280, 4.2.1.9).
+#[derive(Clone, Copy, PartialEq, Eq, Debug)]
+pub struct BasicConstraints {
+    /// Whether the subject may issue certificates.
+    pub is_authority: bool,
+    /// How many certificates of authorities may follow in a chain, if that is limited.
+    pub path_length: Option<u64>,
+    /// Whether the extension is critical.
+    pub critical: bool,
+}
+
+/// The extensions of a certificate, a list that is iterated.
+#[derive(Clone, Copy, PartialEq, Eq)]
+pub struct Extensions<'a> {
+    pub(crate) contents: &'a [u8],
+}
+
+impl<'a> Extensions<'a> {
+    /// The keyUsage extension, if it is there.
+    ///
+    /// # Errors
+    ///
+    /// [`Duplicate`](crate::ErrorKind::Duplicate) if it is there more than once; the error of its
+    /// value, whose position counts from the start of that value.
+    pub fn key_usage(&self) -> Result<Option<KeyUsage>, Error> {
+        let mut raw = RawUsage::default();
+        // SAFETY: pointer and length describe a slice, and the call only reads it.
+        answer(unsafe { sys::der_key_usage(self.contents.as_ptr(), self.contents.len(), &mut raw) })?;
+        Ok(raw.present.then_some(KeyUsage {
+            bits: raw.bits,
+            critical: raw.critical,
+        }))
+    }
+
+    /// The basicConstraints extension, if it is there. Fails as [`key_usage`](Self::key_usage) does.
+    pub fn basic_constraints(&self) -> Result<Option<BasicConstraints>, Error> {
+        let mut raw = RawConstraints::default();
+        // SAFETY: as above.
+        answer(unsafe { sys::der_basic_constraints(self.contents.as_ptr(), self.contents.len(), &mut raw) })?;
+        Ok(raw.present.then_some(BasicConstraints {
+            is_authority: raw.is_authority,
+            path_length: raw.has_path_length.then_some(raw.path_length),
+            critical: raw.critical,
+        }))
+    }
+
+    /// The names of the subjectAltName extension, if it is there. Fails as
+    /// [`key_usage`](Self::key_usage) does.
+    pub fn subject_alternative_name(&self) -> Result<Option<GeneralNames<'a>>, Error> {
+        let mut raw = RawNames::EMPTY;
+        // SAFETY: pointer and length describe a slice, which the names borrow for 'a.
+        answer(unsafe { sys::der_subject_alternative_name(self.contents.as_ptr(), self.contents.len(), &mut raw) })?;
+        Ok(raw.present.then(|| GeneralNames {
+            contents: raw.names.octets(),
+        }))
+    }
+}
+
+impl fmt::Debug for Extensions<'_> {
+    fn fmt(&self, f: &mut fmt::Formatter<'_>) -> fmt::Result {
+        f.debug_list().entries(*self).finish()
+    }
+}
+
+impl<'a> IntoIterator for Extensions<'a> {
+    type Item = Result<Extension<'a>, Error>;
+    type IntoIter = ExtensionIter<'a>;
+
+    fn into_iter(self) -> ExtensionIter<'a> {
+        ExtensionIter {
+            reader: Reader::der(self.contents),
+        }
+    }
+}
+
+/// The extensions of a list, in order; the iterator ends after an error.
+#[derive(Clone, Debug)]
+pub struct ExtensionIter<'a> {
+    reader: Result<Reader<'a>, Error>,
+}
+
+impl<'a> Iterator for ExtensionIter<'a> {
+    type Item = Result<Extension<'a>, Error>;
+
+    fn next(&mut self) -> Option<Self::Item> {
+        crate::items::next(&mut self.reader, |reader| {
+            let mut raw = RawExtension::EMPTY;
+            answer(sys::der_next_extension(&mut reader.0, &mut raw))?;
+            Ok(Extension {
+                identifier: Oid {
+                    contents: raw.identifier.octets(),
+                },
+                value: raw.value.octets(),
+                critical: raw.critical,
+            })
+        })
+    }
+}
+
+impl FusedIterator for ExtensionIter<'_> {}

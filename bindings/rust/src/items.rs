@@ -1,0 +1,19 @@
+//! Lists that are read item by item.
+use crate::error::Error;
+use crate::reader::Reader;
+
+/// The next item of a list. After an error there is no other item.
+pub(crate) fn next<'a, T>(
+    reader: &mut Result<Reader<'a>, Error>,
+    read: impl FnOnce(&mut Reader<'a>) -> Result<T, Error>,
+) -> Option<Result<T, Error>> {
+    let item = match reader {
+        Ok(reader) if reader.is_finished() => return None,
+        Ok(reader) => read(reader),
+        Err(error) => Err(*error),
+    };
+    if item.is_err() {
+        *reader = Reader::der(&[]);
+    }
+    Some(item)
+}

@@ -1,0 +1,264 @@
+//! Names of subjects and issuers, and general names.
+use crate::certificate::Any;
+use crate::error::{Error, answer};
+use crate::octets::Hex;
+use crate::oid::Oid;
+use crate::reader::Reader;
+use crate::sys::{self, RawAttribute, RawGeneralName};
+use crate::tag::Tag;
+use crate::value::Text;
+use core::fmt::{self, Write};
+use core::iter::FusedIterator;
+
+/// An attribute of a name. Its value is not checked.
+#[derive(Clone, Copy, PartialEq, Eq, Debug)]
+pub struct Attribute<'a> {
+    /// The type of the attribute.
+    pub identifier: Oid<'a>,
+    /// The value.
+    pub value: Any<'a>,
+}
+
+impl<'a> Attribute<'a> {
+    /// The characters of the value, if it is a string of a type with characters.
+    pub fn text(&self) -> Option<Text<'a>> {
+        Text::of(self.value.tag, self.value.contents)
+    }
+}
+
+/// A name (RFC 5280, 4.1.2.4): levels, from the root of the directory, of attributes each.
+#[derive(Clone, Copy, PartialEq, Eq)]
+pub struct Name<'a> {
+    pub(crate) contents: &'a [u8],
+}
+
+impl<'a> Name<'a> {
+    /// All attributes, level by level.
+    pub fn attributes(&self) -> Attributes<'a> {
+        Attributes {
+            levels: Reader::der(self.contents),
+            level: Reader::der(&[]),
+        }
+    }
+
+    /// The reader of each level.
+    fn levels(&self) -> impl Iterator<Item = Reader<'a>> + Clone {
+        let mut reader = Reader::der(self.contents);
+        core::iter::from_fn(move || crate::items::next(&mut reader, |it| it.enter(Tag::SET))?.ok())
+    }
+}
+
+/// The attributes of a [`Name`]; the iterator ends after an error.
+#[derive(Clone, Debug)]
+pub struct Attributes<'a> {
+    levels: Result<Reader<'a>, Error>,
+    level: Result<Reader<'a>, Error>,
+}
+
+impl<'a> Iterator for Attributes<'a> {
+    type Item = Result<Attribute<'a>, Error>;
+
+    fn next(&mut self) -> Option<Self::Item> {
+        loop {
+            if let Some(found) = crate::items::next(&mut self.level, next_attribute) {
+                return Some(found);
+            }
+            match crate::items::next(&mut self.levels, |it| it.enter(Tag::SET))? {
+                Ok(level) => self.level = Ok(level),
+                Err(error) => return Some(Err(error)),
+            }
+        }
+    }
+}
+
+impl FusedIterator for Attributes<'_> {}
+
+fn next_attribute<'a>(reader: &mut Reader<'a>) -> Result<Attribute<'a>, Error> {
+    let mut raw = RawAttribute::EMPTY;
+    answer(sys::der_next_attribute(&mut reader.0, &mut raw))?;
+    Ok(Attribute {
+        identifier: Oid {
+            contents: raw.identifier.octets(),
+        },
+        value: Any {
+            tag: Tag(raw.value.tag),
+            contents: raw.value.contents.octets(),
+        },
+    })
+}
+
+/// The short names of attribute types (RFC 4514, 3).
+const SHORT_NAMES: [(&[u8], &str); 9] = [
+    (b"\x55\x04\x03", "CN"),
+    (b"\x55\x04\x07", "L"),
+    (b"\x55\x04\x08", "ST"),
+    (b"\x55\x04\x0A", "O"),
+    (b"\x55\x04\x0B", "OU"),
+    (b"\x55\x04\x06", "C"),
+    (b"\x55\x04\x09", "STREET"),
+    (b"\x09\x92\x26\x89\x93\xF2\x2C\x64\x01\x19", "DC"),
+    (b"\x09\x92\x26\x89\x93\xF2\x2C\x64\x01\x01", "UID"),
+];
+
+/// Prints the name as RFC 4514 does: the last level first, special characters escaped. Control
+/// characters are escaped too. The value of a type without a short name, or one that is no string, is
+/// its contents octets in hexadecimal.
+///
+/// No memory is taken: each level is found from the start again, so the time to print a name grows
+/// with the square of its number of levels.
+impl fmt::Display for Name<'_> {
+    fn fmt(&self, f: &mut fmt::Formatter<'_>) -> fmt::Result {
+        let count = self.levels().count();
+        for at in (0..count).rev() {
+            if at + 1 < count {
+                f.write_char(',')?;
+            }
+            for (place, attribute) in self.levels().nth(at).into_iter().flat_map(attributes_of).enumerate() {
+                if place > 0 {
+                    f.write_char('+')?;
+                }
+                write_attribute(f, &attribute)?;
+            }
+        }
+        Ok(())
+    }
+}
+
+/// The attributes of one level, up to an error.
+fn attributes_of<'a>(level: Reader<'a>) -> impl Iterator<Item = Attribute<'a>> {
+    let mut level = Ok(level);
+    core::iter::from_fn(move || crate::items::next(&mut level, next_attribute)?.ok())
+}
+
+fn write_attribute(f: &mut fmt::Formatter<'_>, attribute: &Attribute<'_>) -> fmt::Result {
+    let known = SHORT_NAMES
+        .iter()
+        .find(|(octets, _)| *octets == attribute.identifier.contents);
+    match (known, attribute.text()) {
+        (Some((_, name)), Some(text)) => {
+            write!(f, "{name}=")?;
+            write_escaped(f, &text)
+        }
+        (Some((_, name)), None) => write!(f, "{name}=#{:?}", Hex(attribute.value.contents)),
+        (None, _) => write!(f, "{}=#{:?}", attribute.identifier, Hex(attribute.value.contents)),
+    }
+}
+
+/// Writes a text with the escapes of RFC 4514, 2.4.
+fn write_escaped(f: &mut fmt::Formatter<'_>, text: &Text<'_>) -> fmt::Result {
+    let last = text.chars().count().saturating_sub(1);
+    for (at, it) in text.chars().enumerate() {
+        let is_at_edge = it == ' ' && (at == 0 || at == last) || it == '#' && at == 0;
+        if is_at_edge || matches!(it, ',' | '+' | '"' | '\\' | '<' | '>' | ';' | '=') {
+            write!(f, "\\{it}")?;
+        } else if it.is_control() {
+            let mut space = [0; 4];
+            it.encode_utf8(&mut space)
+                .bytes()
+                .try_for_each(|octet| write!(f, "\\{octet:02X}"))?;
+        } else {
+            f.write_char(it)?;
+        }
+    }
+    Ok(())
+}
+
+impl fmt::Debug for Name<'_> {
+    fn fmt(&self, f: &mut fmt::Formatter<'_>) -> fmt::Result {
+        write!(f, "Name({self})")
+    }
+}
+
+/// A general name (RFC 5280, 4.2.1.6). The characters of names are those of an IA5String.
+#[derive(Clone, Copy, PartialEq, Eq, Debug)]
+#[non_exhaustive]
+pub enum GeneralName<'a> {
+    /// A name of another form.
+    Other(Oid<'a>, Any<'a>),
+    /// A mail address.
+    Mail(&'a str),
+    /// A DNS name.
+    Dns(&'a str),
+    /// The contents octets of an x400Address, which are not checked.
+    X400(&'a [u8]),
+    /// A name of the directory.
+    Directory(Name<'a>),
+    /// An ediPartyName, whose fields are not given.
+    EdiParty,
+    /// A URI.
+    Uri(&'a str),
+    /// The octets of an IP address: 4 or 16, if the certificate is right.
+    Ip(&'a [u8]),
+    /// A registered OBJECT IDENTIFIER.
+    Registered(Oid<'a>),
+}
+
+/// A list of general names.
+#[derive(Clone, Copy, PartialEq, Eq)]
+pub struct GeneralNames<'a> {
+    pub(crate) contents: &'a [u8],
+}
+
+impl fmt::Debug for GeneralNames<'_> {
+    fn fmt(&self, f: &mut fmt::Formatter<'_>) -> fmt::Result {
+        f.debug_list().entries(*self).finish()
+    }
+}
+
+impl<'a> IntoIterator for GeneralNames<'a> {
+    type Item = Result<GeneralName<'a>, Error>;
+    type IntoIter = GeneralNameIter<'a>;
+
+    fn into_iter(self) -> GeneralNameIter<'a> {
+        GeneralNameIter {
+            reader: Reader::der(self.contents),
+        }
+    }
+}
+
+/// The names of a list, in order; the iterator ends after an error.
+#[derive(Clone, Debug)]
+pub struct GeneralNameIter<'a> {
+    reader: Result<Reader<'a>, Error>,
+}
+
+impl<'a> Iterator for GeneralNameIter<'a> {
+    type Item = Result<GeneralName<'a>, Error>;
+
+    fn next(&mut self) -> Option<Self::Item> {
+        crate::items::next(&mut self.reader, |reader| {
+            let mut raw = RawGeneralName::EMPTY;
+            answer(sys::der_next_general_name(&mut reader.0, &mut raw))?;
+            Ok(GeneralName::of(&raw))
+        })
+    }
+}
+
+impl FusedIterator for GeneralNameIter<'_> {}
+
+impl<'a> GeneralName<'a> {
+    fn of(raw: &RawGeneralName<'a>) -> Self {
+        let contents = raw.contents.octets();
+        // the call has seen that these are characters of 7 bits
+        let text = core::str::from_utf8(contents).unwrap_or_default();
+        match raw.kind {
+            0 => GeneralName::Other(
+                Oid {
+                    contents: raw.identifier.octets(),
+                },
+                Any {
+                    tag: Tag(raw.value.tag),
+                    contents: raw.value.contents.octets(),
+                },
+            ),
+            1 => GeneralName::Mail(text),
+            2 => GeneralName::Dns(text),
+            3 => GeneralName::X400(contents),
+            4 => GeneralName::Directory(Name { contents }),
+            5 => GeneralName::EdiParty,
+            6 => GeneralName::Uri(text),
+            7 => GeneralName::Ip(contents),
+            _ => GeneralName::Registered(Oid { contents }),
+        }
+    }
+}

@@ -1,0 +1,234 @@
+//! Reading.
+use crate::element::{Element, Header};
+use crate::error::{Error, answer};
+use crate::sys::{self, Node, RawElement, RawHeader, RawReader, RawSpan};
+use crate::tag::Tag;
+use core::fmt;
+use core::iter::FusedIterator;
+
+/// A reader of octets. It is a small value: a copy reads on independently.
+///
+/// Any error makes the reader fail, and every later call on it fails with
+/// [`ErrorKind::Failed`](crate::ErrorKind::Failed); so a function may check once, by
+/// [`finish`](Self::finish). Two errors leave the reader where it was:
+/// [`TagUnexpected`](crate::ErrorKind::TagUnexpected), and [`Reader`](crate::ErrorKind::Reader) for
+/// an element of another reader.
+///
+/// ```
+/// use der_c::{Reader, Tag};
+/// # fn main() -> Result<(), der_c::Error> {
+/// let mut reader = Reader::der(&[0x30, 3, 2, 1, 7])?;
+/// let mut inside = reader.enter(Tag::SEQUENCE)?;
+/// assert_eq!(inside.expect(Tag::INTEGER)?.contents(), [7]);
+/// assert_eq!(inside.optional(Tag::BOOLEAN)?, None);
+/// inside.finish()?;
+/// reader.finish()
+/// # }
+/// ```
+#[derive(Clone, Copy)]
+pub struct Reader<'a>(pub(crate) RawReader<'a>);
+
+// SAFETY: a reader consists of numbers and a `&[u8]`.
+unsafe impl Send for Reader<'_> {}
+// SAFETY: as above.
+unsafe impl Sync for Reader<'_> {}
+
+impl<'a> Reader<'a> {
+    /// A reader under the Distinguished Encoding Rules.
+    ///
+    /// # Errors
+    ///
+    /// `Overflow` if there are more than 4294967295 octets.
+    pub fn der(octets: &'a [u8]) -> Result<Self, Error> {
+        Self::new(octets, false)
+    }
+
+    /// A reader under the Basic Encoding Rules: it also reads indefinite lengths.
+    ///
+    /// # Errors
+    ///
+    /// `Overflow` if there are more than 4294967295 octets.
+    pub fn ber(octets: &'a [u8]) -> Result<Self, Error> {
+        Self::new(octets, true)
+    }
+
+    fn new(octets: &'a [u8], ber: bool) -> Result<Self, Error> {
+        let mut raw = RawReader::EMPTY;
+        // SAFETY: pointer and length describe a slice, which the reader borrows for 'a.
+        answer(unsafe { sys::der_reader_init(octets.as_ptr(), octets.len(), ber, &mut raw) })?;
+        Ok(Reader(raw))
+    }
+
+    /// Reads the next header.
+    #[inline]
+    pub fn header(&mut self) -> Result<Header, Error> {
+        let mut raw = RawHeader::default();
+        answer(sys::der_read_header(&mut self.0, &mut raw))?;
+        Ok(Header::from(raw))
+    }
+
+    /// Consumes the next element.
+    #[inline]
+    pub fn skip(&mut self) -> Result<(), Error> {
+        answer(sys::der_skip(&mut self.0))
+    }
+
+    /// Returns the number of octets of indefinite-length contents, end-of-contents octets included,
+    /// and consumes them. The reader has to be just after octet `0x80`, and read under BER.
+    pub fn scan(&mut self) -> Result<u32, Error> {
+        let mut count = 0;
+        answer(sys::der_scan(&mut self.0, &mut count))?;
+        Ok(count)
+    }
+
+    /// Reads the next element.
+    #[inline]
+    pub fn read(&mut self) -> Result<Element<'a>, Error> {
+        let mut element = RawElement::EMPTY;
+        answer(sys::der_read_element(&mut self.0, &mut element))?;
+        Ok(Element(element))
+    }
+
+    /// Reads the next element, which must have this tag; another tag is an error that leaves the
+    /// reader where it was.
+    #[inline]
+    pub fn expect(&mut self, tag: Tag) -> Result<Element<'a>, Error> {
+        let mut element = RawElement::EMPTY;
+        answer(sys::der_expect(&mut self.0, tag.0, &mut element))?;
+        Ok(Element(element))
+    }
+
+    /// Reads the next element if there is one and it has this tag. Otherwise returns `None`, and the
+    /// reader stays where it was.
+    #[inline]
+    pub fn optional(&mut self, tag: Tag) -> Result<Option<Element<'a>>, Error> {
+        let (mut element, mut present) = (RawElement::EMPTY, false);
+        answer(sys::der_optional(&mut self.0, tag.0, &mut element, &mut present))?;
+        Ok(present.then_some(Element(element)))
+    }
+
+    /// Consumes the next element, which must have this tag, and returns a reader of its contents.
+    /// Fails as [`expect`](Self::expect) does, and if the element is inside 64 others.
+    #[inline]
+    pub fn enter(&mut self, tag: Tag) -> Result<Reader<'a>, Error> {
+        let mut inside = RawReader::EMPTY;
+        answer(sys::der_enter(&mut self.0, tag.0, &mut inside))?;
+        Ok(Reader(inside))
+    }
+
+    /// A reader of the contents of an element that this reader, or a copy of it, has read.
+    #[inline]
+    pub fn open(&mut self, element: &Element<'a>) -> Result<Reader<'a>, Error> {
+        let mut inside = RawReader::EMPTY;
+        answer(sys::der_open(&mut self.0, &element.0, &mut inside))?;
+        Ok(Reader(inside))
+    }
+
+    /// All octets of an element that this reader, or a copy of it, has read: its header, contents
+    /// and end-of-contents octets, as they are signed or hashed.
+    pub fn octets_of(&self, element: &Element<'a>) -> Result<&'a [u8], Error> {
+        let mut span = RawSpan::EMPTY;
+        answer(sys::der_element_octets(&self.0, &element.0, &mut span))?;
+        Ok(span.octets())
+    }
+
+    /// Where the reader is, in octets from the start of the input.
+    #[inline]
+    pub fn position(&self) -> usize {
+        // The result that a call of `der_position` has: only the library sets this field.
+        self.0.position
+    }
+
+    /// Whether no octets are left.
+    #[inline]
+    pub fn is_finished(&self) -> bool {
+        // The result that a call of `der_is_finished` has: only the library sets these fields.
+        self.0.position == self.0.end as usize
+    }
+
+    /// Fails if octets are left or the reader has failed.
+    pub fn finish(self) -> Result<(), Error> {
+        answer(sys::der_finish(&self.0))
+    }
+
+    /// The elements that are left.
+    pub fn elements(self) -> Elements<'a> {
+        self.into_iter()
+    }
+
+    /// Fills `nodes` with all elements that are left and those inside them, each before those
+    /// inside it, and returns their number.
+    pub fn tree(mut self, nodes: &mut [Node]) -> Result<usize, Error> {
+        let mut count = 0;
+        // SAFETY: pointer and length describe a slice, and the call only writes it.
+        answer(unsafe { sys::der_read_tree(&mut self.0, nodes.as_mut_ptr(), nodes.len(), &mut count) })?;
+        Ok(count)
+    }
+}
+
+/// Two readers are equal if the same calls on them have the same results: they read the same slice,
+/// under the same rules, at the same place.
+impl PartialEq for Reader<'_> {
+    fn eq(&self, other: &Self) -> bool {
+        let place = |it: &RawReader| (it.octets, it.length, it.position, it.end, it.depth, it.ber, it.failed);
+        place(&self.0) == place(&other.0)
+    }
+}
+
+impl Eq for Reader<'_> {}
+
+impl fmt::Debug for Reader<'_> {
+    fn fmt(&self, f: &mut fmt::Formatter<'_>) -> fmt::Result {
+        f.debug_struct("Reader")
+            .field("position", &self.0.position)
+            .field("end", &self.0.end)
+            .field("rules", &if self.0.ber { "BER" } else { "DER" })
+            .field("failed", &self.0.failed)
+            .finish()
+    }
+}
+
+/// The elements that are left in a [`Reader`]; the iterator ends after an error.
+///
+/// ```
+/// use der_c::Reader;
+/// # fn main() -> Result<(), der_c::Error> {
+/// for element in Reader::der(&[2, 1, 7, 5, 0])? {
+///     println!("{}", element?.tag());
+/// }
+/// # Ok(())
+/// # }
+/// ```
+#[derive(Clone, Debug)]
+pub struct Elements<'a> {
+    reader: Reader<'a>,
+    is_refused: bool,
+}
+
+impl<'a> IntoIterator for Reader<'a> {
+    type Item = Result<Element<'a>, Error>;
+    type IntoIter = Elements<'a>;
+
+    fn into_iter(self) -> Elements<'a> {
+        Elements {
+            reader: self,
+            is_refused: false,
+        }
+    }
+}
+
+impl<'a> Iterator for Elements<'a> {
+    type Item = Result<Element<'a>, Error>;
+
+    #[inline]
+    fn next(&mut self) -> Option<Self::Item> {
+        if self.is_refused || self.reader.is_finished() {
+            return None;
+        }
+        let read = self.reader.read();
+        self.is_refused = read.is_err();
+        Some(read)
+    }
+}
+
+impl FusedIterator for Elements<'_> {}

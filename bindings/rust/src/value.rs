@@ -1,0 +1,315 @@
+//! Values: bits, texts and times, and the calls that read and write values.
+use crate::error::{Error, answer};
+use crate::octets::Hex;
+use crate::oid::Oid;
+use crate::reader::Reader;
+use crate::sys::{self, RawBits, RawSpan, RawText, RawTime};
+use crate::tag::Tag;
+use crate::writer::Writer;
+use core::fmt;
+use core::iter::FusedIterator;
+
+/// The bits of a BIT STRING (X.690 8.6), borrowed from the input.
+#[derive(Clone, Copy, PartialEq, Eq, Hash)]
+pub struct Bits<'a> {
+    /// The octets that hold the bits, the first bit in the most significant place.
+    pub octets: &'a [u8],
+    /// How many of the low bits of the last octet are not part of the string.
+    pub unused: u8,
+}
+
+impl<'a> From<RawBits<'a>> for Bits<'a> {
+    fn from(raw: RawBits<'a>) -> Self {
+        Bits {
+            octets: raw.octets(),
+            unused: raw.unused,
+        }
+    }
+}
+
+impl fmt::Debug for Bits<'_> {
+    fn fmt(&self, f: &mut fmt::Formatter<'_>) -> fmt::Result {
+        f.debug_struct("Bits")
+            .field("octets", &Hex(self.octets))
+            .field("unused", &self.unused)
+            .finish()
+    }
+}
+
+/// The types of strings with characters.
+const STRING_TYPES: [Tag; 7] = [
+    Tag::UTF8_STRING,
+    Tag::NUMERIC_STRING,
+    Tag::PRINTABLE_STRING,
+    Tag::TELETEX_STRING,
+    Tag::IA5_STRING,
+    Tag::VISIBLE_STRING,
+    Tag::BMP_STRING,
+];
+
+/// A string of one of the types with characters, borrowed from the input. Its characters are those
+/// of its type.
+#[derive(Clone, Copy, PartialEq, Eq, Hash)]
+pub struct Text<'a> {
+    octets: &'a [u8],
+    string_type: Tag,
+}
+
+impl<'a> Text<'a> {
+    /// The text with these contents, if this is the tag of a type with characters and the contents
+    /// are characters. Whether they are of the alphabet of the type is not checked.
+    pub(crate) fn of(string_type: Tag, octets: &'a [u8]) -> Option<Self> {
+        let text = Text { octets, string_type };
+        let mut characters = text.chars();
+        characters.by_ref().for_each(drop);
+        (STRING_TYPES.contains(&string_type) && characters.0.length == 0).then_some(text)
+    }
+
+    /// The contents octets.
+    pub fn octets(&self) -> &'a [u8] {
+        self.octets
+    }
+
+    /// The type, as its universal tag.
+    pub fn string_type(&self) -> Tag {
+        self.string_type
+    }
+
+    /// The characters. Those of a TeletexString are read as ISO 8859-1.
+    pub fn chars(&self) -> Characters<'a> {
+        Characters(RawText {
+            octets: self.octets.as_ptr(),
+            length: self.octets.len(),
+            string_type: self.string_type.0,
+            borrow: core::marker::PhantomData,
+        })
+    }
+}
+
+impl fmt::Display for Text<'_> {
+    fn fmt(&self, f: &mut fmt::Formatter<'_>) -> fmt::Result {
+        use fmt::Write;
+        self.chars().try_for_each(|it| f.write_char(it))
+    }
+}
+
+impl fmt::Debug for Text<'_> {
+    fn fmt(&self, f: &mut fmt::Formatter<'_>) -> fmt::Result {
+        use fmt::Write;
+        write!(f, "{}(\"", self.string_type)?;
+        self.chars()
+            .flat_map(char::escape_debug)
+            .try_for_each(|it| f.write_char(it))?;
+        f.write_str("\")")
+    }
+}
+
+/// The characters of a [`Text`].
+#[derive(Clone)]
+pub struct Characters<'a>(RawText<'a>);
+
+impl Iterator for Characters<'_> {
+    type Item = char;
+
+    fn next(&mut self) -> Option<char> {
+        let mut number = 0;
+        let is_there = sys::der_next_character(&mut self.0, &mut number);
+        is_there.then_some(char::from_u32(number)).flatten()
+    }
+}
+
+impl FusedIterator for Characters<'_> {}
+
+/// A time in UTC, in the years 0 to 9999.
+#[derive(Clone, Copy, PartialEq, Eq, PartialOrd, Ord, Hash, Debug)]
+pub struct Time {
+    /// The year.
+    pub year: u16,
+    /// The month, from 1 to 12.
+    pub month: u8,
+    /// The day of the month, from 1 to 31.
+    pub day: u8,
+    /// The hour, from 0 to 23.
+    pub hour: u8,
+    /// The minute, from 0 to 59.
+    pub minute: u8,
+    /// The second, from 0 to 59.
+    pub second: u8,
+}
+
+/// Prints the time as RFC 3339 does: `2026-11-26T23:05:00Z`.
+impl fmt::Display for Time {
+    fn fmt(&self, f: &mut fmt::Formatter<'_>) -> fmt::Result {
+        let Time {
+            year,
+            month,
+            day,
+            hour,
+            minute,
+            second,
+        } = self;
+        write!(f, "{year:04}-{month:02}-{day:02}T{hour:02}:{minute:02}:{second:02}Z")
+    }
+}
+
+/// Values. Each call reads the next element, which must have `tag`, and checks its contents by X.690.
+/// Another tag than the type's own is that of a value with an IMPLICIT tag. They fail as
+/// [`expect`](Reader::expect) does, and with [`Value`](crate::ErrorKind::Value) after the element if
+/// its contents are not those of a value of the type.
+impl<'a> Reader<'a> {
+    /// Reads a BOOLEAN.
+    pub fn boolean(&mut self, tag: Tag) -> Result<bool, Error> {
+        let mut value = false;
+        answer(sys::der_read_boolean(&mut self.0, tag.0, &mut value))?;
+        Ok(value)
+    }
+
+    /// Reads an INTEGER from 0 to 2^64 - 1.
+    pub fn uint64(&mut self, tag: Tag) -> Result<u64, Error> {
+        let mut value = 0;
+        answer(sys::der_read_uint64(&mut self.0, tag.0, &mut value))?;
+        Ok(value)
+    }
+
+    /// Reads an INTEGER from -2^63 to 2^63 - 1, or an ENUMERATED.
+    pub fn int64(&mut self, tag: Tag) -> Result<i64, Error> {
+        let mut value = 0;
+        answer(sys::der_read_int64(&mut self.0, tag.0, &mut value))?;
+        Ok(value)
+    }
+
+    /// Reads an INTEGER of any size, as octets in two's complement, the most significant first.
+    pub fn integer(&mut self, tag: Tag) -> Result<&'a [u8], Error> {
+        let mut span = RawSpan::EMPTY;
+        answer(sys::der_read_integer(&mut self.0, tag.0, &mut span))?;
+        Ok(span.octets())
+    }
+
+    /// Reads a BIT STRING.
+    pub fn bit_string(&mut self, tag: Tag) -> Result<Bits<'a>, Error> {
+        let mut bits = RawBits::EMPTY;
+        answer(sys::der_read_bit_string(&mut self.0, tag.0, &mut bits))?;
+        Ok(bits.into())
+    }
+
+    /// Reads a NULL.
+    pub fn null(&mut self, tag: Tag) -> Result<(), Error> {
+        answer(sys::der_read_null(&mut self.0, tag.0))
+    }
+
+    /// Reads an OBJECT IDENTIFIER.
+    pub fn oid(&mut self, tag: Tag) -> Result<Oid<'a>, Error> {
+        let mut span = RawSpan::EMPTY;
+        answer(sys::der_read_oid(&mut self.0, tag.0, &mut span))?;
+        Ok(Oid {
+            contents: span.octets(),
+        })
+    }
+
+    /// Reads a string of the type that this universal tag names: UTF8String, NumericString,
+    /// PrintableString, TeletexString, IA5String, VisibleString or BMPString.
+    pub fn text(&mut self, tag: Tag, string_type: Tag) -> Result<Text<'a>, Error> {
+        let mut text = RawText::EMPTY;
+        answer(sys::der_read_text(&mut self.0, tag.0, string_type.0, &mut text))?;
+        let span = RawSpan {
+            octets: text.octets,
+            length: text.length,
+            borrow: text.borrow,
+        };
+        Ok(Text {
+            octets: span.octets(),
+            string_type,
+        })
+    }
+
+    /// Reads a UTCTime or a GeneralizedTime, which this universal tag names, and also returns its
+    /// seconds since 1970-01-01T00:00:00Z.
+    pub fn time(&mut self, tag: Tag, time_type: Tag) -> Result<(Time, i64), Error> {
+        let mut raw = RawTime::default();
+        answer(sys::der_read_time(&mut self.0, tag.0, time_type.0, &mut raw))?;
+        let time = Time {
+            year: raw.year,
+            month: raw.month,
+            day: raw.day,
+            hour: raw.hour,
+            minute: raw.minute,
+            second: raw.second,
+        };
+        Ok((time, raw.seconds))
+    }
+}
+
+/// Values. Each call writes one element with this tag. They fail as [`element`](Writer::element)
+/// does, and with [`Value`](crate::ErrorKind::Value) if the argument is no value of the type.
+impl Writer<'_> {
+    /// Writes a BOOLEAN.
+    pub fn boolean(&mut self, tag: Tag, value: bool) -> Result<(), Error> {
+        answer(sys::der_write_boolean(&mut self.0, tag.0, value))
+    }
+
+    /// Writes an INTEGER.
+    pub fn uint64(&mut self, tag: Tag, value: u64) -> Result<(), Error> {
+        answer(sys::der_write_uint64(&mut self.0, tag.0, value))
+    }
+
+    /// Writes an INTEGER or an ENUMERATED.
+    pub fn int64(&mut self, tag: Tag, value: i64) -> Result<(), Error> {
+        answer(sys::der_write_int64(&mut self.0, tag.0, value))
+    }
+
+    /// Writes an INTEGER of any size, from its octets in two's complement, as few as possible.
+    pub fn integer(&mut self, tag: Tag, octets: &[u8]) -> Result<(), Error> {
+        // SAFETY: pointer and length describe a slice, and the call only reads it.
+        answer(unsafe { sys::der_write_integer(&mut self.0, tag.0, octets.as_ptr(), octets.len()) })
+    }
+
+    /// Writes a BIT STRING.
+    pub fn bit_string(&mut self, tag: Tag, bits: Bits<'_>) -> Result<(), Error> {
+        let Bits { octets, unused } = bits;
+        // SAFETY: as above.
+        answer(unsafe { sys::der_write_bit_string(&mut self.0, tag.0, octets.as_ptr(), octets.len(), unused) })
+    }
+
+    /// Writes a NULL.
+    pub fn null(&mut self, tag: Tag) -> Result<(), Error> {
+        answer(sys::der_write_null(&mut self.0, tag.0))
+    }
+
+    /// Writes an OBJECT IDENTIFIER.
+    pub fn oid_of(&mut self, tag: Tag, oid: Oid<'_>) -> Result<(), Error> {
+        let contents = oid.contents();
+        // SAFETY: as above.
+        answer(unsafe { sys::der_write_oid(&mut self.0, tag.0, contents.as_ptr(), contents.len()) })
+    }
+
+    /// Writes an OBJECT IDENTIFIER that is given in dotted notation.
+    pub fn oid(&mut self, tag: Tag, text: &str) -> Result<(), Error> {
+        // SAFETY: as above.
+        answer(unsafe { sys::der_write_oid_text(&mut self.0, tag.0, text.as_ptr(), text.len()) })
+    }
+
+    /// Writes a string of the type that this universal tag names, from its contents octets.
+    pub fn text(&mut self, tag: Tag, string_type: Tag, octets: &[u8]) -> Result<(), Error> {
+        // SAFETY: as above.
+        answer(unsafe { sys::der_write_text(&mut self.0, tag.0, string_type.0, octets.as_ptr(), octets.len()) })
+    }
+
+    /// Writes a time of the type that this universal tag names, UTCTime or GeneralizedTime.
+    pub fn time(&mut self, tag: Tag, time_type: Tag, time: Time) -> Result<(), Error> {
+        let raw = RawTime {
+            seconds: 0,
+            year: time.year,
+            month: time.month,
+            day: time.day,
+            hour: time.hour,
+            minute: time.minute,
+            second: time.second,
+        };
+        answer(sys::der_write_time(&mut self.0, tag.0, time_type.0, &raw))
+    }
+
+    /// Writes a time that is given in seconds since 1970-01-01T00:00:00Z.
+    pub fn time_seconds(&mut self, tag: Tag, time_type: Tag, seconds: i64) -> Result<(), Error> {
+        answer(sys::der_write_time_seconds(&mut self.0, tag.0, time_type.0, seconds))
+    }
+}

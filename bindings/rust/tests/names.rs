@@ -1,0 +1,80 @@
+use der_c::{Bits, Error, Request, Tag, Writer};
+
+/// A level of a name: for each attribute its type in dotted notation and its value, a UTF8String.
+type Level<'a> = &'a [(&'a str, &'a str)];
+
+fn write_level(writer: &mut Writer, level: Level) -> Result<(), Error> {
+    writer.inside(Tag::SET, |attributes| {
+        for (identifier, text) in level {
+            attributes.inside(Tag::SEQUENCE, |attribute| {
+                attribute.oid(Tag::OBJECT_IDENTIFIER, identifier)?;
+                attribute.text(Tag::UTF8_STRING, Tag::UTF8_STRING, text.as_bytes())
+            })?;
+        }
+        Ok(())
+    })
+}
+
+/// The algorithm Ed25519 (RFC 8410, 3).
+fn write_algorithm(writer: &mut Writer) -> Result<(), Error> {
+    writer.inside(Tag::SEQUENCE, |algorithm| {
+        algorithm.oid(Tag::OBJECT_IDENTIFIER, "1.3.101.112")
+    })
+}
+
+fn write_zeros(writer: &mut Writer) -> Result<(), Error> {
+    let octets = &[0; 32];
+    writer.bit_string(Tag::BIT_STRING, Bits { octets, unused: 0 })
+}
+
+/// A request for this name, with a key and a signature of zeros (RFC 2986, 4).
+fn request(levels: &[Level]) -> Vec<u8> {
+    let mut space = [0; 512];
+    let mut writer = Writer::new(&mut space);
+    let written = writer.inside(Tag::SEQUENCE, |request| {
+        request.inside(Tag::SEQUENCE, |part| {
+            part.uint64(Tag::INTEGER, 0)?;
+            part.inside(Tag::SEQUENCE, |name| {
+                levels.iter().try_for_each(|it| write_level(name, it))
+            })?;
+            part.inside(Tag::SEQUENCE, |key| {
+                write_algorithm(key)?;
+                write_zeros(key)
+            })?;
+            part.element(Tag::context(0, true), &[])
+        })?;
+        write_algorithm(request)?;
+        write_zeros(request)
+    });
+    written.unwrap();
+    writer.finish().unwrap().to_vec()
+}
+
+const LEVELS: [Level; 3] = [
+    &[("2.5.4.6", "DE")],
+    &[("2.5.4.10", "A,B"), ("2.5.4.11", " x ")],
+    &[("2.5.4.3", "#ä\u{7}=")],
+];
+
+#[test]
+fn a_name_is_printed_as_rfc_4514_says() {
+    let octets = request(&LEVELS);
+    let name = Request::from_der(&octets).unwrap().subject;
+    assert_eq!(name.to_string(), r"CN=\#ä\07\=,O=A\,B+OU=\ x\ ,C=DE");
+    assert_eq!(Request::from_der(&request(&[])).unwrap().subject.to_string(), "");
+}
+
+#[test]
+fn the_attributes_of_a_name_are_in_order() {
+    let octets = request(&LEVELS);
+    let name = Request::from_der(&octets).unwrap().subject;
+    let attributes = name.attributes().map(|it| {
+        let it = it.unwrap();
+        (it.identifier.to_string(), it.text().unwrap().to_string())
+    });
+    let wanted = LEVELS.concat();
+    let wanted = wanted
+        .iter()
+        .map(|(identifier, text)| (identifier.to_string(), text.to_string()));
+    assert!(attributes.eq(wanted));
+}
