@@ -1,7 +1,7 @@
 /* What calls.rs measures of C: the same work with the library's functions and by hand. Each
  * function returns what it read or wrote, so that all can be compared. */
-#include <der.h>
 #include <string.h>
+#include <yotremul/der.h>
 
 typedef struct {
     uint64_t elements, contents, octet_sum;
@@ -27,9 +27,10 @@ static inline void pass(totals *reported, const uint8_t *contents, size_t length
 totals calls_walk(const uint8_t *octets, size_t length)
 {
     totals reported = {0, 0, 0};
-    der_reader reader = DER_READER;
-    der_element element = DER_ELEMENT;
-    der_reader_init(octets, length, false, &reader);
+    der_reader reader = DER_READER_INIT;
+    der_element element = DER_ELEMENT_INIT;
+    if (der_reader_init(octets, length, false, &reader).kind)
+        return reported;
     while (!der_is_finished(&reader) && !der_read_element(&reader, &element).kind)
         pass(&reported, element.contents, element.length);
     return reported;
@@ -37,12 +38,12 @@ totals calls_walk(const uint8_t *octets, size_t length)
 
 static bool walk_part(der_reader *reader, int levels, totals *reported)
 {
-    der_element element = DER_ELEMENT;
+    der_element element = DER_ELEMENT_INIT;
     while (!der_is_finished(reader)) {
         if (der_read_element(reader, &element).kind)
             return false;
         if (element.constructed && levels > 0) {
-            der_reader inside = DER_READER;
+            der_reader inside = DER_READER_INIT;
             pass(reported, NULL, 0);
             if (der_open(reader, &element, &inside).kind || !walk_part(&inside, levels - 1, reported))
                 return false;
@@ -56,8 +57,9 @@ static bool walk_part(der_reader *reader, int levels, totals *reported)
 totals calls_nested(const uint8_t *octets, size_t length)
 {
     totals reported = {0, 0, 0};
-    der_reader reader = DER_READER;
-    der_reader_init(octets, length, false, &reader);
+    der_reader reader = DER_READER_INIT;
+    if (der_reader_init(octets, length, false, &reader).kind)
+        return reported;
     walk_part(&reader, LEVELS, &reported);
     return reported;
 }
@@ -67,9 +69,10 @@ totals calls_tree(const uint8_t *octets, size_t length)
 {
     static der_node nodes[512];
     totals reported = {0, 0, 0};
-    der_reader reader = DER_READER, inside = DER_READER;
-    der_element element = DER_ELEMENT;
-    der_reader_init(octets, length, false, &reader);
+    der_reader reader = DER_READER_INIT, inside = DER_READER_INIT;
+    der_element element = DER_ELEMENT_INIT;
+    if (der_reader_init(octets, length, false, &reader).kind)
+        return reported;
     while (!der_is_finished(&reader)) {
         size_t count = 0;
         if (der_read_element(&reader, &element).kind || der_open(&reader, &element, &inside).kind ||
@@ -84,8 +87,8 @@ totals calls_tree(const uint8_t *octets, size_t length)
 
 static bool read_key(der_reader *reader, totals *reported)
 {
-    der_reader key = DER_READER, identifier = DER_READER;
-    der_element algorithm = DER_ELEMENT, month = DER_ELEMENT, own = DER_ELEMENT;
+    der_reader key = DER_READER_INIT, identifier = DER_READER_INIT;
+    der_element algorithm = DER_ELEMENT_INIT, month = DER_ELEMENT_INIT, own = DER_ELEMENT_INIT;
     if (der_enter(reader, DER_SEQUENCE, &key).kind || der_enter(&key, DER_SEQUENCE, &identifier).kind ||
         der_expect(&identifier, DER_OCTET_STRING, &algorithm).kind ||
         der_expect(&identifier, DER_OCTET_STRING, &month).kind || month.length != 1 || month.contents[0] > 11 ||
@@ -100,8 +103,9 @@ static bool read_key(der_reader *reader, totals *reported)
 totals calls_keys(const uint8_t *octets, size_t length)
 {
     totals reported = {0, 0, 0};
-    der_reader reader = DER_READER;
-    der_reader_init(octets, length, false, &reader);
+    der_reader reader = DER_READER_INIT;
+    if (der_reader_init(octets, length, false, &reader).kind)
+        return reported;
     while (!der_is_finished(&reader) && read_key(&reader, &reported))
         ;
     return reported;
@@ -116,7 +120,7 @@ static totals written(const der_writer *writer, totals reported)
 totals calls_headers(const wanted *all, size_t count, uint8_t *out, size_t space)
 {
     totals reported = {0, 0, 0};
-    der_writer writer = DER_WRITER;
+    der_writer writer = DER_WRITER_INIT;
     der_writer_init(out, space, &writer);
     for (const wanted *it = all; it < all + count; it++, reported.elements++) {
         der_tag tag = DER_CLASS_TAG((uint64_t)it->class * 64 + (it->constructed ? 32 : 0), it->number);
@@ -135,7 +139,7 @@ static inline void set_octets(uint8_t *octets, uint64_t number)
 totals calls_elements(const uint64_t *numbers, size_t count, uint8_t *out, size_t space)
 {
     totals reported = {0, 0, 0};
-    der_writer writer = DER_WRITER;
+    der_writer writer = DER_WRITER_INIT;
     der_writer_init(out, space, &writer);
     for (size_t i = 0; i < count; i++, reported.elements++) {
         uint8_t octets[8];
@@ -160,7 +164,7 @@ static inline bool write_four(der_writer *writer, uint64_t number)
 totals calls_sequences(const uint64_t *numbers, size_t count, uint8_t *out, size_t space)
 {
     totals reported = {0, 0, 0};
-    der_writer writer = DER_WRITER;
+    der_writer writer = DER_WRITER_INIT;
     der_writer_init(out, space, &writer);
     for (size_t i = 0; i < count; i++, reported.elements++) {
         uint32_t length = 0;
@@ -175,12 +179,12 @@ totals calls_sequences(const uint64_t *numbers, size_t count, uint8_t *out, size
 totals calls_parts(const uint64_t *numbers, size_t count, uint8_t *out, size_t space)
 {
     totals reported = {0, 0, 0};
-    der_writer writer = DER_WRITER;
+    der_writer writer = DER_WRITER_INIT;
     der_writer_init(out, space, &writer);
     for (size_t i = 0; i < count; i++, reported.elements++) {
-        size_t start = 0;
-        if (der_begin(&writer, DER_SEQUENCE, &start).kind || !write_four(&writer, numbers[i]) ||
-            der_end(&writer, start).kind)
+        der_mark mark = DER_MARK_INIT;
+        if (der_begin(&writer, DER_SEQUENCE, &mark).kind || !write_four(&writer, numbers[i]) ||
+            der_end(&writer, &mark).kind)
             return reported;
     }
     return written(&writer, reported);

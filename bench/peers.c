@@ -1,0 +1,210 @@
+/* The library for C beside mbedTLS and OpenSSL, over certificates of files: peers FILE ..
+ * Each row is a walk over all elements, a tree of all elements, or a certificate read into a struct.
+ * Prints `row|count|way|ns` for the fastest of the rounds, for each element or certificate. */
+#define _POSIX_C_SOURCE 199309L /* clock_gettime */
+#include <mbedtls/asn1.h>
+#include <mbedtls/x509_crt.h>
+#include <openssl/asn1.h>
+#include <openssl/x509.h>
+#include <stdio.h>
+#include <stdlib.h>
+#include <time.h>
+#include <yotremul/der.h>
+
+enum { ROUNDS = 40, NODES = 4096, FILES = 4096, LEVELS = 64 };
+
+typedef struct {
+    const uint8_t *octets;
+    size_t length;
+} file;
+
+static file files[FILES];
+static size_t file_count;
+
+static void give_up(const char *why)
+{
+    fprintf(stderr, "peers: %s\n", why);
+    exit(1);
+}
+
+/* Walks: the number of elements, which all ways have to agree on. */
+
+static size_t library_part(der_reader *reader, int levels)
+{
+    der_element element = DER_ELEMENT_INIT;
+    size_t count = 0;
+    while (!der_is_finished(reader)) {
+        if (der_read_element(reader, &element).kind)
+            give_up("the library refuses a certificate");
+        count++;
+        if (element.constructed && levels > 0) {
+            der_reader inside = DER_READER_INIT;
+            if (der_open(reader, &element, &inside).kind)
+                give_up("the library does not open a part");
+            count += library_part(&inside, levels - 1);
+        }
+    }
+    return count;
+}
+
+static size_t library_walk(const file *it)
+{
+    der_reader reader = DER_READER_INIT;
+    if (der_reader_init(it->octets, it->length, false, &reader).kind)
+        give_up("a file is too long");
+    return library_part(&reader, LEVELS);
+}
+
+static size_t library_tree(const file *it)
+{
+    static der_node nodes[NODES];
+    der_reader reader = DER_READER_INIT;
+    size_t count = 0;
+    if (der_reader_init(it->octets, it->length, false, &reader).kind ||
+        der_read_tree(&reader, nodes, NODES, &count).kind)
+        give_up("the library reads no tree");
+    return count;
+}
+
+static size_t mbedtls_part(unsigned char **at, const unsigned char *end, int levels)
+{
+    size_t count = 0, length;
+    while (*at < end) {
+        unsigned char tag = *(*at)++;
+        if (mbedtls_asn1_get_len(at, end, &length))
+            give_up("mbedTLS refuses a certificate");
+        count++;
+        if (tag & MBEDTLS_ASN1_CONSTRUCTED && levels > 0)
+            count += mbedtls_part(at, *at + length, levels - 1);
+        else
+            *at += length;
+    }
+    return count;
+}
+
+static size_t mbedtls_walk(const file *it)
+{
+    unsigned char *at = (unsigned char *)it->octets;
+    return mbedtls_part(&at, it->octets + it->length, LEVELS);
+}
+
+static size_t openssl_part(const unsigned char **at, const unsigned char *end, int levels)
+{
+    size_t count = 0;
+    while (*at < end) {
+        long length;
+        int tag, class;
+        int form = ASN1_get_object(at, &length, &tag, &class, end - *at);
+        if (form & 0x80)
+            give_up("OpenSSL refuses a certificate");
+        count++;
+        if (form & V_ASN1_CONSTRUCTED && levels > 0)
+            count += openssl_part(at, *at + length, levels - 1);
+        else
+            *at += length;
+    }
+    return count;
+}
+
+static size_t openssl_walk(const file *it)
+{
+    const unsigned char *at = it->octets;
+    return openssl_part(&at, it->octets + it->length, LEVELS);
+}
+
+/* Certificates: 1 for each. */
+
+static size_t library_certificate(const file *it)
+{
+    der_certificate certificate = DER_CERTIFICATE_INIT;
+    if (der_certificate_read(it->octets, it->length, &certificate).kind)
+        give_up("the library refuses a certificate");
+    return 1;
+}
+
+static size_t mbedtls_certificate(const file *it)
+{
+    mbedtls_x509_crt certificate;
+    mbedtls_x509_crt_init(&certificate);
+    if (mbedtls_x509_crt_parse_der(&certificate, it->octets, it->length))
+        give_up("mbedTLS refuses a certificate");
+    mbedtls_x509_crt_free(&certificate);
+    return 1;
+}
+
+static size_t openssl_certificate(const file *it)
+{
+    const unsigned char *at = it->octets;
+    X509 *certificate = d2i_X509(NULL, &at, (long)it->length);
+    if (!certificate)
+        give_up("OpenSSL refuses a certificate");
+    X509_free(certificate);
+    return 1;
+}
+
+typedef struct {
+    const char *row, *name;
+    size_t (*run)(const file *);
+} way;
+
+static const way ways[] = {
+    {"elements and parts", "library", library_walk},    {"elements and parts", "mbedTLS", mbedtls_walk},
+    {"elements and parts", "OpenSSL", openssl_walk},    {"tree", "library", library_tree},
+    {"tree", "mbedTLS", mbedtls_walk},                  {"tree", "OpenSSL", openssl_walk},
+    {"certificate", "library", library_certificate},    {"certificate", "mbedTLS", mbedtls_certificate},
+    {"certificate", "OpenSSL", openssl_certificate},
+};
+enum { WAYS = sizeof ways / sizeof *ways };
+
+static double seconds(void)
+{
+    struct timespec now;
+    clock_gettime(CLOCK_MONOTONIC, &now);
+    return (double)now.tv_sec + 1e-9 * (double)now.tv_nsec;
+}
+
+static file read_file(const char *path)
+{
+    static uint8_t buffer[1 << 20];
+    FILE *from = fopen(path, "rb");
+    size_t length = from ? fread(buffer, 1, sizeof buffer, from) : 0;
+    uint8_t *octets = malloc(length ? length : 1);
+    if (!from || !octets || !length)
+        give_up(path);
+    for (size_t i = 0; i < length; i++)
+        octets[i] = buffer[i];
+    fclose(from);
+    return (file){octets, length};
+}
+
+int main(int argc, char **argv)
+{
+    double least[WAYS];
+    size_t counts[WAYS] = {0};
+    for (int i = 1; i < argc && file_count < FILES; i++) {
+        file it = read_file(argv[i]);
+        mbedtls_x509_crt certificate;
+        mbedtls_x509_crt_init(&certificate);
+        /* those that mbedTLS does not read, as of a curve that it lacks, are left out for all */
+        if (mbedtls_x509_crt_parse_der(&certificate, it.octets, it.length) == 0)
+            files[file_count++] = it;
+        mbedtls_x509_crt_free(&certificate);
+    }
+    for (int round = 0; round < ROUNDS; round++)
+        for (int i = 0; i < WAYS; i++) {
+            double start = seconds();
+            size_t count = 0;
+            for (size_t k = 0; k < file_count; k++)
+                count += ways[i].run(&files[k]);
+            double time = seconds() - start;
+            if (round == 0 || time < least[i])
+                least[i] = time;
+            counts[i] = count;
+        }
+    for (int i = 0; i < WAYS; i++) {
+        if (counts[i] != counts[i / 3 * 3])
+            give_up("the ways do not agree on how many there are");
+        printf("%s|%zu|%s|%.3f\n", ways[i].row, counts[i], ways[i].name, 1e9 * least[i] / (double)counts[i]);
+    }
+    return 0;
+}
