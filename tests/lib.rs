@@ -3,6 +3,8 @@
 #![tactic(auto)]
 
 #[cfg(test)]
+mod answers;
+#[cfg(test)]
 mod asn1;
 #[cfg(test)]
 mod asn1_compiler;
